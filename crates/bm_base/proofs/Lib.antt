@@ -1,0 +1,5 @@
+pub mod MapLaws
+pub mod SortedLaws
+pub mod Placing
+pub mod Ties
+pub mod Differences

@@ -1,0 +1,42 @@
+-- A sorted vector that changes stands for a map that changes.
+use Rattle.std.specs.Prelude.{◌≡◌, ℕ, Bool, List, [], length, Option, T}
+use Rattle.std.specs.FinMap.{find, put, is_sorted}
+use Rattle.std.specs.FinMap.Entries.{is_sorted-put}
+use Rattle.std.specs.List.Retain.{IsFiltered}
+use Rattle.std.proofs.Common.{refl, sym, ap, subst, ◌∙◌}
+use Rattle.bm_base.specs.Map.{Map, Order, entries, empty, get, insert, len, same_entries_map}
+use Rattle.bm_base.specs.OfSorted.{of_sorted, entries-of_sorted, list-of_sorted}
+use Rattle.bm_base.proofs.MapLaws.{is_sorted-items_where_true}
+
+module _ {K X : Type 0} (o : Order K) where
+  pub len-of_sorted : (es : List (K × X)) → T (is_sorted o.cmp es) → len (of_sorted {o = o} es) ≡ length es
+  unfolding len
+  len-of_sorted es h = ap length (entries-of_sorted o es h)
+
+  pub get-of_sorted : (es : List (K × X)) (q : K) → T (is_sorted o.cmp es) → get (of_sorted {o = o} es) q ≡ find o.cmp q es
+  unfolding get
+  get-of_sorted es q h = ap (find o.cmp q) (list-of_sorted o es h)
+
+  of_sorted-put : (es : List (K × X)) (k : K) (v : X) → T (is_sorted o.cmp es) → of_sorted {o = o} (put o.cmp k v es) ≡ insert (of_sorted es) k v
+  unfolding insert
+  of_sorted-put es k v h = same_entries_map _ _ (list-of_sorted o (put o.cmp k v es) (is_sorted-put o.cmp o.total k v es h) ∙ ap (put o.cmp k v) (sym (list-of_sorted o es h)))
+
+  -- the same, as a change of a list that stands for a map has it
+  pub sorted_by-put : (es fs : List (K × X)) (k : K) (v : X) → fs ≡ put o.cmp k v es → T (is_sorted o.cmp es) → T (is_sorted o.cmp fs)
+  sorted_by-put es fs k v e h = subst (λ xs. T (is_sorted o.cmp xs)) (sym e) (is_sorted-put o.cmp o.total k v es h)
+
+  pub insert_by-put : (es fs : List (K × X)) (k : K) (v : X) (m : Map o X) → fs ≡ put o.cmp k v es → T (is_sorted o.cmp es) → of_sorted es ≡ m → of_sorted fs ≡ insert m k v
+  insert_by-put es fs k v m e h is = ap (of_sorted {o = o}) e ∙ of_sorted-put es k v h ∙ ap (λ n. insert n k v) is
+
+  pub entries_shown : (es : List (K × X)) (m : Map o X) → T (is_sorted o.cmp es) → of_sorted es ≡ m → entries m ≡ es
+  entries_shown es m h is = ap entries (sym is) ∙ entries-of_sorted o es h
+
+  pub sorted_by-filtered : {P : Type 0} (R : P → K × X → Bool → P → Type 0) (f : P) (es fs : List (K × X)) → IsFiltered R f es fs → T (is_sorted o.cmp es) → T (is_sorted o.cmp fs)
+  sorted_by-filtered R f es fs told h = subst (λ xs. T (is_sorted o.cmp xs)) (sym told.4) (is_sorted-items_where_true o.cmp told.0 es h)
+
+  pub filtered_shown : {P : Type 0} (R : P → K × X → Bool → P → Type 0) (f : P) (es fs : List (K × X)) (m : Map o X) → T (is_sorted o.cmp es) → of_sorted es ≡ m
+      → IsFiltered R f es fs → IsFiltered R f (entries m) (entries (of_sorted {o = o} fs))
+  filtered_shown R f es fs m h is told =
+      let from : es ≡ entries m = sym (entries_shown es m h is) in
+      let to : fs ≡ entries (of_sorted {o = o} fs) = sym (entries-of_sorted o fs (sorted_by-filtered R f es fs told h)) in
+      subst (λ xs. IsFiltered R f xs (entries (of_sorted {o = o} fs))) from (subst (λ ys. IsFiltered R f es ys) to told)

@@ -1,0 +1,169 @@
+-- What each event makes of a state. Whether it is accepted is said in Refusals.
+-- Source: HDFS Architecture guide, "Data Replication" and "Data Disk Failure, Heartbeats and Re-Replication"; Hadoop 2's
+-- BlockManager (processReport, addStoredBlock, markBlockAsCorrupt, removeBlock) and BlockInfo; GFS paper, section 4.
+use Rattle.std.specs.Prelude.{ℕ, Bool, false, not, ◌&&◌, ◌||◌, if◌then◌else◌, ◌==◌, List, [], ◌∷◌, map}
+use Rattle.std.specs.Option.{option_map_or}
+use Rattle.std.specs.List.{list_any}
+use Rattle.bm_base.specs.declared.replica.ReplicaId.{ReplicaId}
+use Rattle.bm_base.specs.declared.replica.Tag.{Tag}
+use Rattle.bm_base.specs.declared.replica.Tag.TheVariants.{Good, Stale, Bad, Stray}
+use Rattle.bm_base.specs.declared.replica.Marks.{Marks}
+use Rattle.bm_base.specs.declared.replica.Stamp.{Stamp}
+use Rattle.bm_base.specs.declared.storage.StorageInfo.{StorageInfo}
+use Rattle.bm_base.specs.declared.event.Entry.{Entry}
+use Rattle.bm_base.specs.declared.event.Remaining.{Remaining}
+use Rattle.bm_base.specs.declared.event.Event.{Event}
+use Rattle.bm_base.specs.declared.event.Event.TheVariants.{Register, Dead, StorageFailed, Heartbeat, AddBlock, DeleteBlock, SetReplication, Restamp, Received, Deleted, Corrupt, FullReport}
+use Rattle.bm_base.specs.Map.{Map, by_number, get, insert, insert_all, keep, revise, revise_at, remove}
+use Rattle.bm_base.specs.State.{Cluster, Holdings, State, replica_at}
+use Rattle.bm_base.specs.Replicas.{is_good, is_bad, stands_on, are_sisters}
+
+abbrev pub same_stamp : Stamp → Stamp → Bool
+same_stamp a b = (a.generation == b.generation) && (a.len == b.len)
+
+-- Entering a reported replica. "Was" speaks of the holdings that are handed in.
+
+unfoldable pub was_bad : Holdings → ReplicaId → Bool
+was_bad H p = option_map_or (λ m. is_bad m.tag) (get H.replicas p) false
+
+unfoldable pub was_excess : Holdings → ReplicaId → Bool
+was_excess H p = option_map_or (λ m. m.excess) (get H.replicas p) false
+
+-- stray where the block is not known; else bad if it was bad; else good if the stamp is the block's; else stale
+unfoldable pub entered_tag : Holdings → ReplicaId → Stamp → Tag
+entered_tag H p stamp = option_map_or (λ i. if was_bad H p then Bad else if same_stamp stamp i.stamp then Good else Stale) (get H.blocks p.block) Stray
+
+-- in excess if it was and is good now; not ordered
+unfoldable pub entered : Holdings → ReplicaId → Stamp → Marks
+entered H p stamp = record {
+  tag = entered_tag H p stamp;
+  excess = is_good (entered_tag H p stamp) && was_excess H p;
+  ordered = false;
+}
+
+-- whether q is a replica of the same block on another storage of p's node
+unfoldable pub is_replaced : Cluster → ReplicaId → ReplicaId → Bool
+is_replaced C p q = (q.block == p.block) && are_sisters C p.storage q.storage
+
+-- the replica is there, those that it replaces leave, and the transfer to it has arrived
+unfoldable pub enter : Cluster → Holdings → ReplicaId → Stamp → Holdings
+enter C H p stamp = record H {
+  replicas = insert (keep H.replicas (λ q _. not (is_replaced C p q))) p (entered H p stamp);
+  pending = remove H.pending p;
+}
+
+-- A full report of storage s.
+
+unfoldable pub is_named : List Entry → ℕ → Bool
+is_named es b = list_any (λ e. e.id == b) es
+
+-- whether a replica leaves by the report: one on s that it does not name, or one of a named block on another storage of the node
+unfoldable pub leaves_by_report : Cluster → ℕ → List Entry → ReplicaId → Bool
+leaves_by_report C s es q = if q.storage == s then not (is_named es q.block) else is_named es q.block && are_sisters C s q.storage
+
+-- Each named replica is entered, the last entry of a block counting, since it is inserted last; others leave as said,
+-- and the transfers to the named replicas have arrived. "Was" speaks of the holdings before the report.
+unfoldable pub report : Cluster → Holdings → ℕ → List Entry → Holdings
+report C H s es = record H {
+  replicas =
+    insert_all (keep H.replicas (λ q _. not (leaves_by_report C s es q)))
+      (map (λ e. (replica_at e.id s, entered H (replica_at e.id s) e.stamp)) es);
+  pending = keep H.pending (λ q _. not ((q.storage == s) && is_named es q.block));
+}
+
+-- Blocks.
+
+unfoldable pub without_pending : Holdings → ℕ → Holdings
+without_pending H b = record H { pending = keep H.pending (λ q _. not (q.block == b)) }
+
+-- the marks of the block's replicas changed
+unfoldable pub revise_block : Holdings → ℕ → (Marks → Marks) → Holdings
+revise_block H b f = record H { replicas = revise H.replicas (λ q m. if q.block == b then f m else m) }
+
+abbrev pub as_stray : Marks → Marks
+as_stray m = record m { tag = Stray; excess = false }
+
+abbrev pub as_bad : Marks → Marks
+as_bad m = record m { tag = Bad; excess = false }
+
+abbrev pub as_stale : Marks → Marks
+as_stale m = record m { tag = (if is_good m.tag then Stale else m.tag); excess = false }
+
+-- the block is known, with the replicas that are there
+unfoldable pub add_block : Holdings → ℕ → Stamp → ℕ → Holdings
+add_block H b stamp repl = record H { blocks = insert H.blocks b (record { stamp = stamp; repl = repl }) }
+
+-- the block is not known any more, its replicas are stray, and its transfers leave
+unfoldable pub delete_block : Holdings → ℕ → Holdings
+delete_block H b = let G = without_pending (revise_block H b as_stray) b in record G { blocks = remove G.blocks b }
+
+unfoldable pub set_replication : Holdings → ℕ → ℕ → Holdings
+set_replication H b repl = record H { blocks = revise_at H.blocks b (λ i. record i { repl = repl }) }
+
+-- the block has another stamp, its good replicas are stale, and its transfers leave
+unfoldable pub restamp : Holdings → ℕ → Stamp → Holdings
+restamp H b stamp =
+    let G = without_pending (revise_block H b as_stale) b in
+    record G { blocks = revise_at G.blocks b (λ i. record i { stamp = stamp }) }
+
+-- the replica is bad, if it is there
+unfoldable pub make_bad : Holdings → ReplicaId → Holdings
+make_bad H p = record H { replicas = revise_at H.replicas p as_bad }
+
+unfoldable pub remove_replica : Holdings → ReplicaId → Holdings
+remove_replica H p = record H { replicas = remove H.replicas p }
+
+-- the replicas on the storages that pass leave, and so do the transfers to them
+unfoldable pub without_storages : Holdings → (ℕ → Bool) → Holdings
+without_storages H gone = record H {
+  replicas = keep H.replicas (λ q _. not (gone q.storage));
+  pending = keep H.pending (λ q _. not (gone q.storage));
+}
+
+-- The cluster.
+
+-- the node and its storages are there, with no room yet
+unfoldable pub register : Cluster → ℕ → ℕ → List ℕ → Cluster
+register C n rack ss = record {
+  nodes = insert C.nodes n rack;
+  storages = insert_all C.storages (map (λ s. (s, record { node = n; remaining = 0 })) ss);
+}
+
+-- the room on storages that are there, one told after another, so that the last of a storage counts
+abbrev pub set_remaining : Map by_number StorageInfo → List Remaining → Map by_number StorageInfo
+set_remaining m [] = m
+set_remaining m (r ∷ rs) = set_remaining (revise_at m r.storage (λ i. record i { remaining = r.remaining })) rs
+
+unfoldable pub heartbeat : Cluster → List Remaining → Cluster
+heartbeat C rs = record C { storages = set_remaining C.storages rs }
+
+unfoldable pub without_node : Cluster → ℕ → Cluster
+without_node C n = record { nodes = remove C.nodes n; storages = keep C.storages (λ s _. not (stands_on C n s)) }
+
+unfoldable pub without_storage : Cluster → ℕ → Cluster
+without_storage C s = record C { storages = remove C.storages s }
+
+-- what an event makes of the cluster
+unfoldable pub change_cluster : Cluster → Event → Cluster
+change_cluster C (Register n rack ss) = register C n rack ss
+change_cluster C (Dead n) = without_node C n
+change_cluster C (StorageFailed s) = without_storage C s
+change_cluster C (Heartbeat n rs) = heartbeat C rs
+change_cluster C _ = C
+
+-- what an event makes of the blocks and replicas, where the cluster is C before it
+unfoldable pub change_held : Cluster → Holdings → Event → Holdings
+change_held C H (Dead n) = without_storages H (stands_on C n)
+change_held C H (StorageFailed s) = without_storages H (λ t. t == s)
+change_held C H (AddBlock b stamp repl) = add_block H b stamp repl
+change_held C H (DeleteBlock b) = delete_block H b
+change_held C H (SetReplication b repl) = set_replication H b repl
+change_held C H (Restamp b stamp) = restamp H b stamp
+change_held C H (Received s b stamp) = enter C H (replica_at b s) stamp
+change_held C H (Deleted s b) = remove_replica H (replica_at b s)
+change_held C H (Corrupt s b) = make_bad H (replica_at b s)
+change_held C H (FullReport s es) = report C H s es
+change_held C H _ = H
+
+abbrev pub change : State → Event → State
+change M e = record M { cluster = change_cluster M.cluster e; held = change_held M.cluster M.held e }

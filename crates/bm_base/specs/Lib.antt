@@ -1,0 +1,27 @@
+-- The definitions of the whole state machine, from the ground up.
+-- Words of maps and lists.
+pub mod Conjunction
+pub mod Map
+pub mod OfSorted
+pub mod Place
+pub mod Lists
+-- The state, and words on it.
+pub mod State
+pub mod Codes
+pub mod Replicas
+pub mod Levels
+pub mod Queries
+pub mod Lawful
+pub mod Shards
+pub mod Versions
+-- What changes it: events, and the steps of a round.
+pub mod Events
+pub mod Excess
+pub mod Transfers
+pub mod Deletes
+pub mod Rounds
+-- What calls answer.
+pub mod Refusals
+pub mod Configuration
+pub mod Calls
+pub mod Answering

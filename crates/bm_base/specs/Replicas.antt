@@ -1,0 +1,64 @@
+-- Words on replicas and on where they stand.
+-- Source: HDFS Architecture guide, "Replica Placement"; Hadoop 2's NumberReplicas.
+use Rattle.std.specs.Prelude.{ℕ, Bool, true, false, not, ◌&&◌, ◌==◌, nat_lt, List, map, filter, filter_map, length, Option, option_and_then, option_map}
+use Rattle.std.specs.Option.{option_map_or}
+use Rattle.bm_base.specs.declared.replica.Tag.{Tag}
+use Rattle.bm_base.specs.declared.replica.Tag.TheVariants.{Good, Stale, Bad, Stray}
+use Rattle.bm_base.specs.declared.replica.Marks.{Marks}
+use Rattle.bm_base.specs.Map.{get, entries}
+use Rattle.bm_base.specs.State.{Cluster, Holdings}
+use Rattle.bm_base.specs.Lists.{distinct}
+
+abbrev pub is_good : Tag → Bool
+is_good Good = true
+is_good _ = false
+
+abbrev pub is_bad : Tag → Bool
+is_bad Bad = true
+is_bad _ = false
+
+abbrev pub is_stray : Tag → Bool
+is_stray Stray = true
+is_stray _ = false
+
+-- stale or bad
+abbrev pub is_corrupt : Tag → Bool
+is_corrupt Stale = true
+is_corrupt Bad = true
+is_corrupt _ = false
+
+-- good, and not in excess
+abbrev pub is_live : Marks → Bool
+is_live m = is_good m.tag && not m.excess
+
+-- the node of a storage, and its rack
+unfoldable pub node_of : Cluster → ℕ → Option ℕ
+node_of C s = option_map (λ i. i.node) (get C.storages s)
+
+unfoldable pub rack_of : Cluster → ℕ → Option ℕ
+rack_of C s = option_and_then (λ n. get C.nodes n) (node_of C s)
+
+-- whether storage s stands on node n
+unfoldable pub stands_on : Cluster → ℕ → ℕ → Bool
+stands_on C n s = option_map_or (λ m. m == n) (node_of C s) false
+
+-- whether two storages are different ones of one node
+unfoldable pub are_sisters : Cluster → ℕ → ℕ → Bool
+are_sisters C s t = not (t == s) && option_map_or (λ n. stands_on C n t) (node_of C s) false
+
+-- the storages of the block's replicas whose marks pass, rising
+unfoldable pub storages_where : (Marks → Bool) → Holdings → ℕ → List ℕ
+storages_where p H b = map (λ e. e.0.storage) (filter (λ e. (e.0.block == b) && p e.1) (entries H.replicas))
+
+-- The storages of the block's live replicas. Today no node takes its replicas out of these; the cluster is handed in,
+-- since where a replica stands may come to matter.
+abbrev pub live : Cluster → Holdings → ℕ → List ℕ
+live C H b = storages_where is_live H b
+
+-- the racks on which storages stand, each once, rising
+unfoldable pub racks : Cluster → List ℕ → List ℕ
+racks C ss = distinct (filter_map (rack_of C) ss)
+
+-- the alive nodes stand on two racks or more
+unfoldable pub is_multi_rack : Cluster → Bool
+is_multi_rack C = nat_lt 1 (length (distinct (map (λ e. e.1) (entries C.nodes))))

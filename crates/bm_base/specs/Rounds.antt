@@ -1,0 +1,44 @@
+-- A round's last step and a whole round: what it commands, and what it leaves.
+-- Source: HDFS Architecture guide, "Data Replication": commands are answers to DataNodes; Hadoop 2's PendingReplicationBlocks.
+use Rattle.std.specs.Prelude.{ℕ, ◌+◌, Bool, true, ◌&&◌, if◌then◌else◌, ◌==◌, nat_lt, List, map, filter, length}
+use Rattle.std.specs.List.{list_any}
+use Rattle.bm_base.specs.declared.replica.ReplicaId.{ReplicaId}
+use Rattle.bm_base.specs.declared.commands.Transfer.{Transfer}
+use Rattle.bm_base.specs.declared.commands.Delete.{Delete}
+use Rattle.bm_base.specs.declared.commands.NodeCommands.{NodeCommands}
+use Rattle.bm_base.specs.declared.commands.Commands.{Commands}
+use Rattle.bm_base.specs.Map.{insert_all, revise, keys}
+use Rattle.bm_base.specs.State.{Cluster, Holdings, State, replica_at}
+use Rattle.bm_base.specs.Replicas.{stands_on}
+use Rattle.bm_base.specs.Excess.{started}
+use Rattle.bm_base.specs.Transfers.{transfers}
+use Rattle.bm_base.specs.Deletes.{deletes}
+
+-- Step 7.
+
+unfoldable pub node_commands : Cluster → List Transfer → List Delete → ℕ → NodeCommands
+node_commands C ts ds n = record { node = n; transfers = filter (λ t. stands_on C n t.source) ts; deletes = filter (λ d. stands_on C n d.storage) ds }
+
+abbrev pub has_commands : NodeCommands → Bool
+has_commands k = nat_lt 0 (length k.transfers + length k.deletes)
+
+-- the commands of round r by node, for the nodes that have one
+unfoldable pub commands_of : Cluster → ℕ → List Transfer → List Delete → Commands
+commands_of C r ts ds = record { round = r; nodes = filter has_commands (map (node_commands C ts ds) (keys C.nodes)) }
+
+unfoldable pub is_commanded : List Delete → ReplicaId → Bool
+is_commanded ds q = list_any (λ d. (d.storage == q.storage) && (d.block == q.block)) ds
+
+-- the replicas to be deleted are ordered, and the transfers are on their way since round r
+unfoldable pub finished : ℕ → Holdings → List Transfer → List Delete → Holdings
+finished r H ts ds = record H {
+  replicas = revise H.replicas (λ q m. if is_commanded ds q then record m { ordered = true } else m);
+  pending = insert_all H.pending (map (λ t. (replica_at t.block t.target, r)) ts);
+}
+
+-- what the next round of a state commands, and the state after it
+unfoldable pub round_commands : State → Commands
+round_commands M = let N = started M in commands_of N.cluster N.round (transfers N.limits N.cluster N.held) (deletes N.limits N.cluster N.held)
+
+unfoldable pub round_change : State → State
+round_change M = let N = started M in record N { held = finished N.round N.held (transfers N.limits N.cluster N.held) (deletes N.limits N.cluster N.held) }

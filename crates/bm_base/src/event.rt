@@ -1,0 +1,78 @@
+// What DataNodes and the namespace tell the block manager.
+use crate::ids::{BlockId, NodeId, Rack, StorageId};
+use crate::items::Items;
+use crate::replica::Stamp;
+
+/// One line of a full block report.
+#[derive(Clone, Copy, Debug, PartialEq, Eq)]
+pub struct Entry {
+    pub id: BlockId,
+    pub stamp: Stamp,
+}
+
+/// The room on a storage, as a heartbeat tells it.
+#[derive(Clone, Copy, Debug, PartialEq, Eq)]
+pub struct Remaining {
+    pub storage: StorageId,
+    /// In bytes.
+    pub remaining: u64,
+}
+
+/// What a DataNode or the namespace tells. Each variant names the refusals that it may meet, in the order in which
+/// they are looked for; `CallsSpent` may follow each of them.
+#[derive(Debug, Drop)]
+pub enum Event {
+    /// A DataNode comes with its storages, which have no room until a heartbeat tells of some.
+    /// `NodeKnown`; `StorageKnown` where a storage is known or named twice; `TooMany` past 256 nodes or 1,024 storages.
+    Register {
+        node: NodeId,
+        rack: Rack,
+        storages: Items<StorageId>,
+    },
+    /// A DataNode is dead: it leaves with its storages, their replicas and the transfers to them. `UnknownNode`.
+    Dead { node: NodeId },
+    /// A storage has failed: it leaves with its replicas and the transfers to it. `UnknownStorage`.
+    StorageFailed { storage: StorageId },
+    /// The room on storages of a DataNode; the last value for a storage counts.
+    /// `UnknownNode`; `UnknownStorage`; `NotItsStorage` where a storage is another node's.
+    Heartbeat {
+        node: NodeId,
+        remaining: Items<Remaining>,
+    },
+    /// A file has a new block, of which so many replicas are wanted.
+    /// `BlockKnown`; `StillStored` where a stray replica of the number is there; `BadReplication` outside 1 to 16.
+    AddBlock {
+        id: BlockId,
+        stamp: Stamp,
+        repl: u32,
+    },
+    /// A block belongs to no file any more: its replicas become stray. `UnknownBlock`.
+    DeleteBlock { id: BlockId },
+    /// Another number of replicas is wanted. `UnknownBlock`; `BadReplication` outside 1 to 16.
+    SetReplication { id: BlockId, repl: u32 },
+    /// A block has a new version: its good replicas become stale. `UnknownBlock`; `OldGeneration` where the
+    /// generation is not greater than the block's.
+    Restamp { id: BlockId, stamp: Stamp },
+    /// A DataNode has received a replica. `UnknownStorage`.
+    Received {
+        storage: StorageId,
+        id: BlockId,
+        stamp: Stamp,
+    },
+    /// A DataNode has deleted a replica. `UnknownStorage`.
+    Deleted { storage: StorageId, id: BlockId },
+    /// A reader has found a replica corrupt. `UnknownStorage`; `UnknownBlock`.
+    Corrupt { storage: StorageId, id: BlockId },
+    /// All replicas on a storage; the last entry of a block counts. `UnknownStorage`; `TooMany` past 65,536 entries.
+    FullReport {
+        storage: StorageId,
+        entries: Items<Entry>,
+    },
+}
+
+/// What an accepted event did: how many replicas, of any tag, are there after it and were not before, and the reverse.
+#[derive(Clone, Copy, Debug, PartialEq, Eq)]
+pub struct Done {
+    pub added: u128,
+    pub removed: u128,
+}

@@ -1,0 +1,28 @@
+//! What every crate of the block manager speaks of: identifiers, stamps, tags, events, calls, answers and refusals.
+//!
+//! `specs/` holds the definitions of the whole state machine, to which each crate above is proved.
+#![tactic(auto)]
+
+mod call;
+mod commands;
+mod config;
+mod event;
+mod ids;
+mod items;
+mod level;
+mod refusal;
+mod replica;
+mod sorted_map;
+mod storage;
+
+pub use call::{Answer, Call};
+pub use commands::{Commands, Delete, NodeCommands, Transfer};
+pub use config::Config;
+pub use event::{Done, Entry, Event, Remaining};
+pub use ids::{BlockId, Gen, NodeId, Rack, StorageId};
+pub use items::Items;
+pub use level::Level;
+pub use refusal::Refusal;
+pub use replica::{BlockInfo, Marks, Replica, ReplicaId, Stamp, Tag};
+pub use sorted_map::{NumberMap, ReplicaMap};
+pub use storage::StorageInfo;

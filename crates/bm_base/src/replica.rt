@@ -1,0 +1,56 @@
+// Blocks and their replicas.
+use crate::ids::{BlockId, Gen, StorageId};
+
+/// Which version of a block it is, and how long it is.
+#[derive(Clone, Copy, Debug, PartialEq, Eq)]
+pub struct Stamp {
+    pub generation: Gen,
+    /// In bytes.
+    pub len: u64,
+}
+
+/// What is known of a block.
+#[derive(Clone, Copy, Debug, PartialEq, Eq)]
+pub struct BlockInfo {
+    pub stamp: Stamp,
+    /// How many live replicas are wanted, 1 to 16.
+    pub repl: u32,
+}
+
+/// What a replica is worth.
+#[derive(Clone, Copy, Debug, PartialEq, Eq)]
+pub enum Tag {
+    /// Of a known block, with the block's stamp.
+    Good,
+    /// Of a known block, with another stamp than the block's.
+    Stale,
+    /// Of a known block, and reported as corrupt since it is there.
+    Bad,
+    /// Of no known block.
+    Stray,
+}
+
+/// Which replica it is: a block on a storage. The order is by block, then by storage.
+#[derive(Clone, Copy, Debug, PartialEq, Eq, PartialOrd, Ord)]
+pub struct ReplicaId {
+    pub block: BlockId,
+    pub storage: StorageId,
+}
+
+/// What is known of a replica.
+#[derive(Clone, Copy, Debug, PartialEq, Eq)]
+pub struct Marks {
+    pub tag: Tag,
+    /// One replica too many: it no longer counts, and is to be deleted. Only good replicas are in excess.
+    pub excess: bool,
+    /// Its deletion was commanded, and it was not reported since.
+    pub ordered: bool,
+}
+
+/// A replica as a query shows it.
+#[derive(Clone, Copy, Debug, PartialEq, Eq)]
+pub struct Replica {
+    pub block: BlockId,
+    pub storage: StorageId,
+    pub tag: Tag,
+}
