@@ -1,0 +1,43 @@
+-- Checks one after another.
+use Rattle.std.proofs.Common.{◌≡◌, ℕ, ◌<◌, ◌≢◌, Option, Some, None, Result, Ok, Err, refl, sym, ap, ◌∙◌, arith, cond, Bool, true, false}
+use Rattle.std.specs.Prelude.{nat_le}
+use Rattle.std.proofs.lemmas.Bool.Decides.{nat_tests}
+use Rattle.bm_base.specs.declared.event.Event.{Event}
+use Rattle.bm_base.specs.declared.refusal.Refusal.{Refusal}
+use Rattle.bm_base.specs.declared.refusal.Refusal.TheVariants.{CallsSpent}
+use Rattle.bm_base.specs.State.{State}
+use Rattle.bm_base.specs.Refusals.{◌before◌, refusal_of, first_of, cluster_checks, block_checks, calls_spent, last_number}
+use Rattle.bm_base.specs.Answering.{checked}
+
+checked-before_err : (x y : Option Refusal) (r : Refusal) → checked x ≡ Err r → checked (x before y) ≡ Err r
+checked-before_err None y r e = cc
+checked-before_err (Some s) y r e = e
+
+before-passed : (x y : Option Refusal) (u : Unit {0}) → checked x ≡ Ok u → (x before y) ≡ y
+before-passed None y u e = refl
+before-passed (Some s) y u e = cc
+
+pub refused_by_cluster : (M : State) (e : Event) (r : Refusal) → checked (first_of (cluster_checks M.cluster e)) ≡ Err r → checked (refusal_of M e) ≡ Err r
+unfolding refusal_of
+refused_by_cluster M e r h = checked-before_err (first_of (cluster_checks M.cluster e)) _ r h
+
+pub passed_by_cluster : (M : State) (e : Event) (u : Unit {0}) → checked (first_of (cluster_checks M.cluster e)) ≡ Ok u
+  → refusal_of M e ≡ (first_of (block_checks M.held e) before calls_spent M)
+unfolding refusal_of
+passed_by_cluster M e u h = before-passed (first_of (cluster_checks M.cluster e)) _ u h
+
+pub refused_by_blocks : (M : State) (e : Event) (u : Unit {0}) (r : Refusal) → checked (first_of (cluster_checks M.cluster e)) ≡ Ok u → checked (first_of (block_checks M.held e)) ≡ Err r
+  → checked (refusal_of M e) ≡ Err r
+refused_by_blocks M e u r h k = ap checked (passed_by_cluster M e u h) ∙ checked-before_err (first_of (block_checks M.held e)) _ r k
+
+pub passed_by_both : (M : State) (e : Event) (u v : Unit {0}) → checked (first_of (cluster_checks M.cluster e)) ≡ Ok u → checked (first_of (block_checks M.held e)) ≡ Ok v
+  → refusal_of M e ≡ calls_spent M
+passed_by_both M e u v h k = passed_by_cluster M e u h ∙ before-passed (first_of (block_checks M.held e)) _ v k
+
+pub calls_spent-last : (M : State) → M.calls ≡ last_number → calls_spent M ≡ Some CallsSpent
+unfolding calls_spent
+calls_spent-last M e = ap (λ n. cond (nat_le last_number n) (Some CallsSpent) None) e
+
+pub calls_spent-below : (M : State) → M.calls < last_number → calls_spent M ≡ None
+unfolding calls_spent
+calls_spent-below M lt = grind (arith, nat_tests, lt)

@@ -1,0 +1,49 @@
+// Calls as values: one call, and lists of calls.
+ghost use Rattle.std.specs.Prelude.{◌≡◌, IfOk, OnErr, All};
+ghost use Rattle.bm_base.specs.Answering.{MayAnswer, MayAnswerAll, state_left, state_left_by};
+ghost use Rattle.bm_manager.specs.Built.{IsBuiltCall};
+
+use std::alloc::AllocError;
+
+use bm_base::{Answer, Call, Items};
+
+use crate::manager::Manager;
+
+impl Manager {
+    /// Makes one call. Its answer is the definition's, or, where the definition refuses nothing and the call is one that
+    /// takes memory, `Memory`; a call refused for want of memory leaves the state as it was.
+    pub fn answer(&mut self, call: &Call) -> Answer
+        requires { IsBuiltCall call.now }
+        ensures answer { MayAnswer self.old call.now result }
+        ensures state { self.new ≡ state_left self.old call.now result }
+    {
+        match call {
+            Call::Apply(event) => match self.apply(event) {
+                Ok(done) => Answer::Done(done),
+                Err(refusal) => Answer::Refused(refusal),
+            },
+            Call::Places(id) => match self.places(*id) {
+                Ok(storages) => Answer::Storages(storages),
+                Err(refusal) => Answer::Refused(refusal),
+            },
+            Call::Calls => Answer::Number(self.calls()),
+            _ => unreachable!(),
+        }
+    }
+
+    /// Makes the calls one after another, and gives the answer of each: a run of the definition, in which a call that was
+    /// refused for want of memory is passed over. An `Err` comes before the first call, where there is no room for the answers.
+    pub fn answer_all(&mut self, calls: &[Call]) -> Result<Items<Answer>, AllocError>
+        requires { All IsBuiltCall calls.now }
+        ensures answers { IfOk result (λ answers. MayAnswerAll self.old calls.now answers) }
+        ensures state { IfOk result (λ answers. self.new ≡ state_left_by self.old calls.now answers) }
+        ensures unchanged { OnErr result (self.new ≡ self.old) }
+    {
+        let mut answers = Vec::with_capacity(self.alloc(), calls.len())?;
+        for call in calls {
+            let answer = self.answer(call);
+            let _ = answers.push(answer);
+        }
+        Ok(Items::from_vec(answers))
+    }
+}

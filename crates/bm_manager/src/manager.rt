@@ -1,0 +1,176 @@
+// The manager: one call after another.
+ghost use Rattle.std.specs.Prelude.{◌≡◌, ◌<◌, None, IfOk, IfErr, OnOk, OnErr};
+ghost use Rattle.bm_base.specs.State.{first_state};
+ghost use Rattle.bm_base.specs.Queries as queries;
+ghost use Rattle.bm_base.specs.Refusals.{refusal_of, block_refusal, last_number};
+ghost use Rattle.bm_base.specs.Configuration.{config_refusal};
+ghost use Rattle.bm_base.specs.Calls.{done_by, after_event};
+ghost use Rattle.bm_base.specs.Answering.{checked, Refuses};
+ghost use Rattle.bm_base.specs.declared.event.Event.TheVariants as event_of;
+ghost use Rattle.bm_manager.specs.Built.{IsBuilt};
+
+use std::alloc::{AllocError, Global};
+use std::marker::Model;
+
+use bm_base::{
+    BlockId, Config, Done, Event, Items, NodeId, Rack, Refusal, ReplicaId, Stamp, StorageId,
+};
+
+use crate::holdings::Holdings;
+use crate::topology::Topology;
+
+/// Knows on which storages every block lies, and decides about replication for a cluster.
+///
+/// A contract sees it as the state of the definitions: the limits of its configuration, the cluster, the blocks and their
+/// replicas, the round and the number of accepted calls.
+#[derive(Drop)]
+pub struct Manager {
+    alloc: Global,
+    config: Config,
+    topology: Topology,
+    holdings: Holdings,
+    round: u64,
+    calls: u64,
+}
+
+impl Model for Manager {
+    ghost use Rattle.bm_base.specs.State.{State, limits_of};
+    ghost use Rattle.bm_base.specs.Codes.{coded_state};
+
+    ghost Value = { State };
+
+    ghost coded = { coded_state };
+
+    ghost view = { λ m. record {
+        limits = limits_of m.config;
+        cluster = m.topology;
+        held = m.holdings;
+        round = m.round;
+        calls = m.calls;
+    } };
+}
+
+impl Manager {
+    /// An empty manager: no node, no block, and the numbers of the configuration. `BadConfig` where the configuration is
+    /// outside its ranges; `Memory`.
+    pub fn new(alloc: Global, config: Config) -> Result<Manager, Refusal>
+        ensures allowed { OnOk result (config_refusal config ≡ None) }
+        ensures state { IfOk result (λ m. m ≡ first_state config) }
+        ensures refused { IfErr result (Refuses (config_refusal config)) }
+    {
+        config.check()?;
+        Ok(Manager {
+            alloc,
+            config,
+            topology: Topology::new(alloc),
+            holdings: Holdings::new(alloc),
+            round: config.first_round,
+            calls: config.first_call,
+        })
+    }
+
+    /// The allocator of all that a manager holds and answers.
+    pub(crate) fn alloc(&self) -> Global {
+        self.alloc
+    }
+
+    /// How many calls were accepted, from `first_call` on. Takes no memory.
+    pub fn calls(&self) -> u64
+        ensures { result ≡ self.now.calls }
+    {
+        self.calls
+    }
+
+    /// The storages of the block's good replicas, in excess or not, rising. `UnknownBlock`; `Memory`.
+    #[tactic(auto, unfolding(bm_base::specs::Refusals::block_refusal))]
+    pub fn places(&self, id: BlockId) -> Result<Items<StorageId>, Refusal>
+        ensures known { OnOk result (block_refusal self.now.held id ≡ None) }
+        ensures places { IfOk result (λ v. v ≡ queries.places self.now.held id) }
+        ensures refused { IfErr result (Refuses (block_refusal self.now.held id)) }
+    {
+        if !self.holdings.knows_block(id) {
+            return Err(Refusal::UnknownBlock);
+        }
+        Ok(self.holdings.places(self.alloc, id)?)
+    }
+
+    /// Takes one event. The refusals are those of its variant in their order, then `CallsSpent` where the number of accepted
+    /// calls is at its last value, then `Memory`; a refused event changes nothing.
+    pub fn apply(&mut self, event: &Event) -> Result<Done, Refusal>
+        requires { IsBuilt event.now }
+        ensures accepted { OnOk result (refusal_of self.old event.now ≡ None) }
+        ensures done { IfOk result (λ d. d ≡ done_by self.old event.now) }
+        ensures state { OnOk result (self.new ≡ after_event self.old event.now) }
+        ensures refused { IfErr result (Refuses (refusal_of self.old event.now)) }
+        ensures unchanged { OnErr result (self.new ≡ self.old) }
+    {
+        self.check(event)?;
+        match event {
+            Event::Register {
+                node,
+                rack,
+                storages,
+            } => Ok(self.register(*node, *rack, storages.as_slice())?),
+            Event::AddBlock { id, stamp, repl } => Ok(self.add_block(*id, *stamp, *repl)?),
+            Event::Received { storage, id, stamp } => Ok(self.receive(*storage, *id, stamp)?),
+            _ => unreachable!(),
+        }
+    }
+
+    #[tactic(auto, unfolding(bm_base::specs::Calls::after_event, bm_base::specs::Calls::done_by, bm_base::specs::Calls::done, bm_base::specs::Events::change_cluster, bm_base::specs::Events::change_held), using(crate::proofs::Counts::same_replicas))]
+    fn register(&mut self, node: NodeId, rack: Rack, storages: &[StorageId]) -> Result<Done, AllocError>
+        requires { self.old.calls < last_number }
+        ensures done { IfOk result (λ d. d ≡ done_by self.old (event_of.Register node rack storages.now)) }
+        ensures state { OnOk result (self.new ≡ after_event self.old (event_of.Register node rack storages.now)) }
+        ensures unchanged { OnErr result (self.new ≡ self.old) }
+    {
+        self.topology.register(node, rack, storages)?;
+        self.calls += 1;
+        Ok(Done {
+            added: 0,
+            removed: 0,
+        })
+    }
+
+    #[tactic(auto, unfolding(bm_base::specs::Calls::after_event, bm_base::specs::Calls::done_by, bm_base::specs::Calls::done, bm_base::specs::Events::add_block, bm_base::specs::Events::change_cluster, bm_base::specs::Events::change_held), using(crate::proofs::Counts::same_replicas))]
+    fn add_block(&mut self, id: BlockId, stamp: Stamp, repl: u32) -> Result<Done, AllocError>
+        requires { self.old.calls < last_number }
+        ensures done { IfOk result (λ d. d ≡ done_by self.old (event_of.AddBlock id stamp repl)) }
+        ensures state { OnOk result (self.new ≡ after_event self.old (event_of.AddBlock id stamp repl)) }
+        ensures unchanged { OnErr result (self.new ≡ self.old) }
+    {
+        self.holdings.add_block(id, stamp, repl)?;
+        self.calls += 1;
+        Ok(Done {
+            added: 0,
+            removed: 0,
+        })
+    }
+
+    #[tactic(auto, unfolding(bm_base::specs::Calls::after_event, bm_base::specs::Calls::done_by, bm_base::specs::Events::change_cluster, bm_base::specs::Events::change_held))]
+    fn receive(&mut self, storage: StorageId, id: BlockId, stamp: &Stamp) -> Result<Done, AllocError>
+        requires { self.old.calls < last_number }
+        ensures done { IfOk result (λ d. d ≡ done_by self.old (event_of.Received storage id stamp.now)) }
+        ensures state { OnOk result (self.new ≡ after_event self.old (event_of.Received storage id stamp.now)) }
+        ensures unchanged { OnErr result (self.new ≡ self.old) }
+    {
+        let replica = ReplicaId { block: id, storage };
+        let done = self.holdings.receive(&self.topology, &replica, stamp)?;
+        self.calls += 1;
+        Ok(done)
+    }
+
+    /// The first refusal of an event.
+    #[tactic(auto, unfolding(bm_base::specs::Refusals::refusal_of, bm_base::specs::Refusals::calls_spent))]
+    fn check(&self, event: &Event) -> Result<(), Refusal>
+        ensures refusal { result ≡ checked (refusal_of self.now event.now) }
+        ensures room { OnOk result (self.now.calls < last_number) }
+    {
+        self.topology.check(event)?;
+        self.holdings.check(event)?;
+        if self.calls == u64::MAX {
+            return Err(Refusal::CallsSpent);
+        }
+        Ok(())
+    }
+}
