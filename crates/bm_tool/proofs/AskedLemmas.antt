@@ -1,0 +1,14 @@
+-- What a line asks, by its length.
+use Rattle.std.proofs.Common.{◌≡◌, ℕ, ◌<◌, ◌≤◌, List, length, refl}
+use Rattle.std.proofs.lemmas.Bool.{lt-ltb, le-ltb}
+use Rattle.bm_tool.specs.CallOf.{call_of}
+use Rattle.bm_tool.specs.Text.{max_line, asked, asked_by}
+use Rattle.bm_tool.specs.declared.reply.Asked.TheVariants.{Long}
+
+pub asked-long : (line : List ℕ) → max_line < length line → Long ≡ asked line
+unfolding asked
+asked-long line h = rw (lt-ltb max_line (length line) h) refl
+
+pub asked-short : (line : List ℕ) → length line ≤ max_line → asked_by (call_of line) ≡ asked line
+unfolding asked
+asked-short line h = rw (le-ltb max_line (length line) h) refl

@@ -1,0 +1,6 @@
+pub mod LineLemmas
+pub mod TextLemmas
+pub mod AskedLemmas
+pub mod ProgressLemmas
+pub mod RunLemmas
+pub mod Reading

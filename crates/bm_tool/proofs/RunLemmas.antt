@@ -1,0 +1,122 @@
+-- A whole run: what was read and handed on.
+use Rattle.std.proofs.Common.{◌≡◌, ℕ, zero, suc, ◌+◌, ◌<◌, ◌≤◌, List, [], ◌∷◌, ◌++◌, length, take, drop, refl, sym, ap, ◌∙◌, append_assoc, append-nil, arith, inl, inr}
+use Rattle.std.specs.Prelude.{Option, Some, None, Result, IfOk, IfErr, IfSome, OnOk}
+use Rattle.std.specs.Io.KnownBytes.{Appends, Consumes, Keeps, IsAtEnd}
+use Rattle.std.proofs.lemmas.List.{take-append-drop}
+use Rattle.std.proofs.lemmas.Result.{IfOk-weaker, IfErr-weaker, MatchResult-from_both}
+use Rattle.std.proofs.Math.Seq.{take-append-add}
+use Rattle.bm_base.specs.declared.config.Config.{Config}
+use Rattle.bm_base.specs.State.{State, first_state}
+use Rattle.bm_tool.specs.declared.session.Session.{Session}
+use Rattle.bm_tool.specs.declared.fault.Summary.{Summary}
+use Rattle.bm_tool.specs.declared.fault.Fault.{Fault}
+use Rattle.bm_tool.specs.declared.fault.Fault.TheVariants as fault
+use Rattle.bm_tool.specs.Lines.{lines_of}
+use Rattle.bm_tool.specs.Text.{max_lines, max_bytes, texts, text}
+use Rattle.bm_tool.specs.Starting.{StartFault}
+use Rattle.bm_tool.specs.Progress.{Progress, Stopped, PieceFault, IsSummary}
+use Rattle.bm_tool.specs.Outcome.{Faulted, Leaves, FaultCounts, HasCause}
+use Rattle.bm_tool.proofs.LineLemmas.{whole_lines-split}
+use Rattle.bm_tool.proofs.ProgressLemmas.{Appends-nil, stopped_more}
+
+-- ---- known bytes
+
+pub Consumes-nil : (known : Option (List ℕ)) → Consumes known known []
+Consumes-nil None = tt
+Consumes-nil (Some xs) = refl
+
+pub Consumes-then : (a b c : Option (List ℕ)) (xs ys : List ℕ) → Consumes a b xs → Consumes b c ys → Consumes a c (xs ++ ys)
+Consumes-then None b c xs ys p q = tt
+Consumes-then (Some old) None c xs ys p q = absurd p
+Consumes-then (Some old) (Some mid) None xs ys p q = absurd q
+Consumes-then (Some old) (Some mid) (Some new) xs ys p q = rw (p, q) (sym (append_assoc xs ys new))
+
+pub Consumes-keeps : (a b c : Option (List ℕ)) (xs : List ℕ) → Consumes a b xs → Keeps b c → Consumes a c xs
+Consumes-keeps None b c xs p q = tt
+Consumes-keeps (Some old) None c xs p q = absurd p
+Consumes-keeps (Some old) (Some mid) None xs p q = absurd q
+Consumes-keeps (Some old) (Some mid) (Some new) xs p q = rw q p
+
+-- ---- parts of lists
+
+pub take_whole : {A : Type 0} (n : ℕ) (xs : List A) → length xs ≤ n → take n xs ≡ xs
+take_whole zero [] h = refl
+take_whole (suc n) [] h = refl
+take_whole zero (x ∷ xs) h = absurd (omega arith)
+take_whole (suc n) (x ∷ xs) h = ap (λ ys. x ∷ ys) (take_whole n xs (omega arith))
+
+pub take-take : (m n : ℕ) (xs : List ℕ) → m ≤ n → take m (take n xs) ≡ take m xs
+take-take zero n xs h = refl
+take-take (suc m) zero xs h = absurd (omega arith)
+take-take (suc m) (suc n) [] h = refl
+take-take (suc m) (suc n) (x ∷ xs) h = ap (λ ys. x ∷ ys) (take-take m n xs (omega arith))
+
+-- what is taken of what was read: all that there is room for
+pub take_room : (xs ys : List ℕ) (most room n : ℕ) → length xs + room ≡ most → room ≤ n → take most (xs ++ take n ys) ≡ xs ++ take room ys
+take_room xs ys most room n e h = rw (← e, take-append-add xs (take n ys) room, take-take room n ys h) refl
+
+-- ---- the outcome
+
+-- a run that did not begin has read and written nothing
+pub faulted_at_start : (config : Config) (old : Option (List ℕ)) (f : Fault) → StartFault config f → Faulted config [] old old f
+unfolding texts
+faulted_at_start config old fault.Config h = (h, refl, refl)
+faulted_at_start config old fault.Read h = absurd h
+faulted_at_start config old fault.Write h = tt
+faulted_at_start config old fault.Memory h = (0, Appends-nil old)
+faulted_at_start config old fault.TooMuch h = absurd h
+
+pub counts_at_start : (config : Config) (reads writes : ℕ) (f : Fault) → StartFault config f → FaultCounts reads reads writes writes f
+counts_at_start config reads writes fault.Config h = (refl, refl)
+counts_at_start config reads writes fault.Read h = absurd h
+counts_at_start config reads writes fault.Write h = absurd h
+counts_at_start config reads writes fault.Memory h = (refl, refl)
+counts_at_start config reads writes fault.TooMuch h = absurd h
+
+-- the bytes that were handed on are the first of the input
+pub faulted_of_piece : (config : Config) (bytes more all : List ℕ) (old new : Option (List ℕ)) (before now : ℕ) (f : Fault) → all ≡ bytes ++ more → take max_bytes all ≡ bytes
+    → PieceFault (first_state config) old new bytes before now f → Faulted config all old new f
+faulted_of_piece config bytes more all old new before now fault.Config e t h = absurd h
+faulted_of_piece config bytes more all old new before now fault.Read e t h = absurd h
+faulted_of_piece config bytes more all old new before now fault.Write e t h = tt
+faulted_of_piece config bytes more all old new before now fault.Memory e t h = rw e (stopped_more _ old new bytes more h.1)
+faulted_of_piece config bytes more all old new before now fault.TooMuch e t h = (inr (rw t h.1.0), rw t h.1.1)
+
+pub counts_of_piece : (M : State) (start new : Option (List ℕ)) (bytes : List ℕ) (reads reads' before now : ℕ) (f : Fault) → reads' ≡ reads → PieceFault M start new bytes before now f → FaultCounts reads reads' before now f
+counts_of_piece M start new bytes reads reads' before now fault.Config e h = absurd h
+counts_of_piece M start new bytes reads reads' before now fault.Read e h = absurd h
+counts_of_piece M start new bytes reads reads' before now fault.Write e h = (e, h)
+counts_of_piece M start new bytes reads reads' before now fault.Memory e h = (e, h.0)
+counts_of_piece M start new bytes reads reads' before now fault.TooMuch e h = (e, h.0)
+
+-- too many bytes: all lines of those that are taken are answered
+pub too_many_bytes : (config : Config) (all bytes : List ℕ) (old new : Option (List ℕ)) (s : Session) → take max_bytes all ≡ bytes → max_bytes < length all
+    → Progress (first_state config) old new s bytes → Faulted config all old new fault.TooMuch
+too_many_bytes config all bytes old new s t many p =
+    (inl many, rw (t, whole_lines-split p.splits, take_whole max_lines p.lines (omega (arith, p.count, s.few))) p.wrote)
+
+pub finished_leaves : (config : Config) (input : List ℕ) (left old new : Option (List ℕ)) (before now : ℕ) (result : Result Summary Fault) → IsAtEnd left → length input ≤ max_bytes
+    → IfOk result (λ summary. Appends old new (texts (first_state config) (lines_of input)) × IsSummary (first_state config) (lines_of input) summary)
+    → IfErr result (PieceFault (first_state config) old new input before now) → Leaves config input left old new result
+finished_leaves config input left old new before now result at_end bounded ok err =
+    MatchResult-from_both result _ _
+    (IfOk-weaker result _ _ (λ summary h. record { at_end = at_end; bounded = bounded; wrote = h.0; counted = h.1 }) ok)
+    (IfErr-weaker result _ _ (λ f h. faulted_of_piece config input [] input old new before now f (sym (append-nil input)) (take_whole max_bytes input bounded) h) err)
+
+pub finished_causes : (M : State) (start new : Option (List ℕ)) (bytes : List ℕ) (reads reads' before now : ℕ) (result : Result Summary Fault) → reads' ≡ reads → OnOk result (now ≡ before)
+    → IfErr result (PieceFault M start new bytes before now) → HasCause reads reads' before now result
+finished_causes M start new bytes reads reads' before now result same ok err =
+    MatchResult-from_both result _ _ (IfOk-weaker result _ _ (λ _ h. (same, h)) ok) (IfErr-weaker result _ _ (λ f h. counts_of_piece M start new bytes reads reads' before now f same h) err)
+
+pub room_split : (xs ys : List ℕ) (room n : ℕ) → room ≤ n → xs ++ take n ys ≡ (xs ++ take room ys) ++ drop room (take n ys)
+room_split xs ys room n h = rw (← take-take room n ys h, append_assoc, take-append-drop) refl
+
+-- all that the reader told was read
+pub text_of_known : (config : Config) (before left : Option (List ℕ)) (input : List ℕ) (old new : Option (List ℕ)) (result : Result Summary Fault) → Consumes before left input → IsAtEnd left
+    → IfOk result (λ summary. Appends old new (texts (first_state config) (lines_of input)) × IsSummary (first_state config) (lines_of input) summary)
+    → OnOk result (IfSome before (λ xs. Appends old new (text config xs)))
+text_of_known config None left input old new result c e ok = IfOk-weaker result _ _ (λ _ _. tt) ok
+text_of_known config (Some xs) None input old new result c e ok = absurd c
+text_of_known config (Some xs) (Some ys) input old new result c e ok =
+    let all : xs ≡ input = c ∙ rw e (append-nil input) in
+    IfOk-weaker result _ _ (λ _ h. rw all h.0) ok

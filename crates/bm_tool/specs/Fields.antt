@@ -1,0 +1,40 @@
+-- What the fields of a line's object hold.
+use Rattle.std.specs.Prelude.{ℕ, ◌^◌, List, [], ◌∷◌, if◌then◌else◌, nat_lt, Option, Some, None, option_map, option_and_then}
+use Rattle.serde_json.specs.Data.{Data, Items, no_items, item}
+use Rattle.serde_json.specs.Find.{get, as_number, as_u64, as_array}
+use Rattle.bm_base.specs.declared.replica.Stamp.{Stamp}
+
+-- a whole number below 2^64
+abbrev pub number_in : Data → Option ℕ
+number_in d = option_and_then as_u64 (as_number d)
+
+abbrev pub number_field : List ℕ → Data → Option ℕ
+number_field name d = option_and_then number_in (get name d)
+
+abbrev pub below_32 : ℕ → Option ℕ
+below_32 n = if nat_lt n (2 ^ 32) then Some n else None
+
+-- a whole number below 2^32
+abbrev pub small_in : Data → Option ℕ
+small_in d = option_and_then below_32 (number_in d)
+
+abbrev pub small_field : List ℕ → Data → Option ℕ
+small_field name d = option_and_then below_32 (number_field name d)
+
+-- f of each, or None where one has none
+abbrev pub each : {A B : Type 0} → (A → Option B) → List A → Option (List B)
+each f [] = Some []
+each f (x ∷ xs) = option_and_then (λ y. option_map (λ ys. y ∷ ys) (each f xs)) (f x)
+
+-- the items of an array as a list
+abbrev pub listed : Items → List Data
+listed no_items = []
+listed (item d ds) = d ∷ listed ds
+
+-- a list of whole numbers below 2^32
+abbrev pub small_list_field : List ℕ → Data → Option (List ℕ)
+small_list_field name d = option_and_then (λ items. each small_in (listed items)) (option_and_then as_array (get name d))
+
+abbrev pub stamp_from : Option ℕ → Option ℕ → Option Stamp
+stamp_from (Some generation) (Some len) = Some (record { generation = generation; len = len })
+stamp_from _ _ = None

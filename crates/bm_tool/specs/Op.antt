@@ -1,0 +1,13 @@
+-- The names of the calls in an input line.
+use Rattle.std.specs.Prelude.{ℕ, List, if◌then◌else◌, Option, Some, None, codes}
+use Rattle.std.specs.Str.{bytes_eq}
+use Rattle.bm_tool.specs.declared.op.Op.{Op}
+use Rattle.bm_tool.specs.declared.op.Op.TheVariants.{Register, Add, Received, ListPlaces}
+
+abbrev pub op_of : List ℕ → Option Op
+op_of name =
+    if bytes_eq name (codes "register") then Some Register
+    else (if bytes_eq name (codes "add") then Some Add
+    else (if bytes_eq name (codes "received") then Some Received
+    else (if bytes_eq name (codes "list_places") then Some ListPlaces
+    else None)))

@@ -1,0 +1,46 @@
+-- What a run that read an input leaves.
+use Rattle.std.specs.Prelude.{◌≡◌, ℕ, ◌+◌, ◌<◌, ◌≤◌, ◌⊎◌, List, [], length, take, Option, Some, Result, MatchResult}
+use Rattle.std.specs.Io.KnownBytes.{Appends, IsAtEnd}
+use Rattle.bm_base.specs.declared.config.Config.{Config}
+use Rattle.bm_base.specs.declared.refusal.Refusal.TheVariants.{BadConfig}
+use Rattle.bm_base.specs.Configuration.{config_refusal}
+use Rattle.bm_base.specs.State.{first_state}
+use Rattle.bm_tool.specs.declared.fault.Summary.{Summary}
+use Rattle.bm_tool.specs.declared.fault.Fault.{Fault}
+use Rattle.bm_tool.specs.declared.fault.Fault.TheVariants as fault
+use Rattle.bm_tool.specs.Lines.{lines_of, whole_lines}
+use Rattle.bm_tool.specs.Text.{max_lines, max_bytes, texts, text}
+use Rattle.bm_tool.specs.Progress.{Stopped, IsSummary}
+
+-- more bytes or lines were read than a run takes
+abbrev pub IsTooMuch : List ℕ → Type 0
+IsTooMuch input = (max_bytes < length input) ⊎ (max_lines < length (lines_of (take max_bytes input)))
+
+-- the input was read to its end, and all of it is answered
+pub record Finished (config : Config) (input : List ℕ) (left old new : Option (List ℕ)) (summary : Summary) : Type 0 where
+  pub at_end : IsAtEnd left
+  pub bounded : length input ≤ max_bytes
+  pub wrote : Appends old new (text config input)
+  pub counted : IsSummary (first_state config) (lines_of input) summary
+
+-- what stands written after each fault
+abbrev pub Faulted : Config → List ℕ → Option (List ℕ) → Option (List ℕ) → Fault → Type 0
+Faulted config input old new fault.Config = (config_refusal config ≡ Some BadConfig) × (input ≡ []) × (new ≡ old)
+Faulted config input old new fault.Read = Appends old new (texts (first_state config) (whole_lines input))
+Faulted config input old new fault.Write = Unit {0}
+Faulted config input old new fault.Memory = Stopped (first_state config) old new input
+Faulted config input old new fault.TooMuch = IsTooMuch input × Appends old new (texts (first_state config) (take max_lines (whole_lines (take max_bytes input))))
+
+abbrev pub Leaves : Config → List ℕ → Option (List ℕ) → Option (List ℕ) → Option (List ℕ) → Result Summary Fault → Type 0
+Leaves config input left old new result = MatchResult result (Finished config input left old new) (Faulted config input old new)
+
+-- the failures of the reader and of the writer, before and after
+abbrev pub FaultCounts : ℕ → ℕ → ℕ → ℕ → Fault → Type 0
+FaultCounts reads reads' writes writes' fault.Config = (reads' ≡ reads) × (writes' ≡ writes)
+FaultCounts reads reads' writes writes' fault.Read = (reads' ≡ reads + 1) × (writes' ≡ writes)
+FaultCounts reads reads' writes writes' fault.Write = (reads' ≡ reads) × (writes' ≡ writes + 1)
+FaultCounts reads reads' writes writes' fault.Memory = (reads' ≡ reads) × (writes' ≡ writes)
+FaultCounts reads reads' writes writes' fault.TooMuch = (reads' ≡ reads) × (writes' ≡ writes)
+
+abbrev pub HasCause : ℕ → ℕ → ℕ → ℕ → Result Summary Fault → Type 0
+HasCause reads reads' writes writes' result = MatchResult result (λ _. (reads' ≡ reads) × (writes' ≡ writes)) (FaultCounts reads reads' writes writes')

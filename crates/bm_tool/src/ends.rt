@@ -1,0 +1,119 @@
+// Readers and writers that count their failures.
+ghost use Rattle.std.specs.Prelude.{◌≡◌, ◌+◌, ◌^◌, ◌<◌, ℕ, Bool, true, List, Option, OnOk, OnErr, is_err, if◌then◌else◌};
+ghost use Rattle.std.specs.Io.{ReadsAtMost};
+ghost use Rattle.std.specs.Io.KnownBytes.{Appends, Keeps, ReadConsumes};
+ghost use Rattle.bm_tool.specs.Ends.{Counts};
+
+use std::io;
+use std::io::{Read, Write};
+
+/// Where bytes come from.
+pub trait Source {
+    /// The bytes that are left, where they are known.
+    ghost remaining: { Self → Option (List ℕ) };
+
+    /// How many reads have failed.
+    ghost faults: { Self → ℕ };
+
+    fn read(&mut self, buf: &mut [u8]) -> io::Result<usize>
+        requires { faults self.old + 1 < 2 ^ 64 }
+        ensures bound { ReadsAtMost result buf.new }
+        ensures bytes { ReadConsumes (remaining self.old) (remaining self.new) result buf.new }
+        ensures cause { Counts (faults self.old) (faults self.new) result };
+}
+
+/// Where bytes go.
+pub trait Sink {
+    /// The bytes that are held, where they are known.
+    ghost contents: { Self → Option (List ℕ) };
+
+    /// How many writes and flushes have failed.
+    ghost faults: { Self → ℕ };
+
+    /// Whether nothing was written since the last flush.
+    ghost is_flushed: { Self → Bool };
+
+    fn write_all(&mut self, bytes: &[u8]) -> io::Result<()>
+        requires { faults self.old + 1 < 2 ^ 64 }
+        ensures bytes { OnOk result (Appends (contents self.old) (contents self.new) bytes.now) }
+        ensures cause { Counts (faults self.old) (faults self.new) result };
+
+    fn flush(&mut self) -> io::Result<()>
+        requires { faults self.old + 1 < 2 ^ 64 }
+        ensures bytes { Keeps (contents self.old) (contents self.new) }
+        ensures flushed { OnOk result (is_flushed self.new ≡ true) }
+        ensures cause { Counts (faults self.old) (faults self.new) result };
+}
+
+/// A reader or a writer of std, with a count of its failures.
+#[derive(Drop)]
+pub struct Counted<T> {
+    inner: T,
+    faults: u64,
+    is_flushed: bool,
+}
+
+impl<T> Counted<T> {
+    ghost use Rattle.bm_tool.specs.Counted.{inner_of, faults_of};
+
+    pub fn new(inner: T) -> Counted<T>
+        ensures inner { inner_of result ≡ inner }
+        ensures faults { faults_of result ≡ 0 }
+    {
+        Counted {
+            inner,
+            faults: 0,
+            is_flushed: false,
+        }
+    }
+
+    pub fn into_inner(self) -> T
+        ensures { result ≡ inner_of self }
+    {
+        self.inner
+    }
+}
+
+impl<R: Read> Source for Counted<R> {
+    ghost use Rattle.bm_tool.specs.Counted.{inner_of, faults_of};
+
+    ghost remaining = { λ c. R.remaining (inner_of c) };
+
+    ghost faults = { λ c. faults_of c };
+
+    fn read(&mut self, buf: &mut [u8]) -> io::Result<usize> {
+        let result = self.inner.read(buf);
+        if result.is_err() {
+            self.faults += 1;
+        }
+        result
+    }
+}
+
+impl<W: Write> Sink for Counted<W> {
+    ghost use Rattle.bm_tool.specs.Counted.{inner_of, faults_of, is_flushed};
+
+    ghost contents = { λ c. W.contents (inner_of c) };
+
+    ghost faults = { λ c. faults_of c };
+
+    ghost is_flushed = { λ c. is_flushed c };
+
+    fn write_all(&mut self, bytes: &[u8]) -> io::Result<()> {
+        self.is_flushed = false;
+        let result = self.inner.write_all(bytes);
+        if result.is_err() {
+            self.faults += 1;
+        }
+        result
+    }
+
+    fn flush(&mut self) -> io::Result<()> {
+        let result = self.inner.flush();
+        self.is_flushed = result.is_ok();
+        if result.is_err() {
+            self.faults += 1;
+        }
+        result
+    }
+}

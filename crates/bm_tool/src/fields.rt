@@ -1,0 +1,66 @@
+// The fields of a line's object.
+ghost use Rattle.std.specs.Prelude.{◌≡◌, IfOk, option_map, option_and_then, map};
+ghost use Rattle.serde_json.specs.Find.{as_array, get};
+ghost use Rattle.serde_json.specs.View.{view, items_view};
+ghost use Rattle.bm_tool.specs.Fields.{number_field, small_in, small_field, each, small_list_field};
+
+use std::alloc::{AllocError, Global};
+
+use bm_base::StorageId;
+use serde_json::Value;
+
+/// A whole number below 2^64.
+pub fn number_field(value: &Value, name: &str) -> Option<u64>
+    ensures { result ≡ number_field name.now (view value.now) }
+{
+    value.get(name).and_then(Value::as_u64)
+}
+
+/// A whole number below 2^32.
+pub fn small_field(value: &Value, name: &str) -> Option<u32>
+    ensures { result ≡ small_field name.now (view value.now) }
+{
+    let number = number_field(value, name)?;
+    u32::try_from(number).ok()
+}
+
+fn small_in(value: &Value) -> Option<u32>
+    ensures { result ≡ small_in (view value.now) }
+{
+    let number = value.as_u64()?;
+    u32::try_from(number).ok()
+}
+
+/// A list of storage numbers.
+pub fn storages_field(
+    alloc: Global,
+    value: &Value,
+    name: &str,
+) -> Result<Option<Vec<StorageId>>, AllocError>
+    ensures { IfOk result (λ o. option_map (λ v. v.items) o ≡ small_list_field name.now (view value.now)) }
+{
+    match list_field(value, name) {
+        Some(items) => storages_of(alloc, items.as_slice()),
+        None => Ok(None),
+    }
+}
+
+fn list_field<'v>(value: &'v Value, name: &str) -> Option<&'v Vec<Value>>
+    ensures { option_map (λ v. items_view v.now.items) result
+        ≡ option_and_then as_array (get name.now (view value.now)) }
+{
+    value.get(name).and_then(Value::as_array)
+}
+
+fn storages_of(alloc: Global, items: &[Value]) -> Result<Option<Vec<StorageId>>, AllocError>
+    ensures { IfOk result (λ o. option_map (λ v. v.items) o ≡ each small_in (map view items.now)) }
+{
+    let mut storages = Vec::new(alloc);
+    for item in items {
+        match small_in(item) {
+            Some(number) => storages.push(StorageId(number))?,
+            None => return Ok(None),
+        }
+    }
+    Ok(Some(storages))
+}

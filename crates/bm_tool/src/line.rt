@@ -1,0 +1,67 @@
+// The line that is being read.
+ghost use Rattle.std.specs.Prelude.{◌≡◌, ◌++◌, ◌<◌, [], List, ℕ, length, OnOk, IsTrue, ◌↔◌, IfSome, IfNone, take, drop, ◌∷◌, ◌+◌, false, not};
+ghost use Rattle.bm_tool.specs.Lines.{IsPart, line_end};
+
+use std::alloc::{AllocError, Global};
+
+pub const MAX_LINE: usize = 4_194_304;
+
+pub const LINE_END: u8 = b'\n';
+
+/// The bytes of a line so far, or that there are too many.
+#[derive(Drop)]
+pub struct Line {
+    pub bytes: Vec<u8>,
+    pub is_long: bool,
+}
+
+impl Line {
+    ghost use Rattle.bm_tool.specs.Held.{Holds, is_begun};
+
+    pub fn new(alloc: Global) -> Line
+        ensures holds { Holds result [] }
+        ensures begun { is_begun result ≡ false }
+    {
+        Line {
+            bytes: Vec::new(alloc),
+            is_long: false,
+        }
+    }
+
+    /// Adds bytes that have no line end.
+    pub fn add(&mut self, part: &[u8]) -> Result<(), AllocError>
+        ensures { OnOk result ((rest : List ℕ) → Holds self.old rest → Holds self.new (rest ++ part.now)) }
+    {
+        if self.is_long || part.len() > MAX_LINE.saturating_sub(self.bytes.len()) {
+            self.is_long = true;
+            self.bytes.clear();
+            return Ok(());
+        }
+        self.bytes.extend_from_slice(part)
+    }
+
+    pub fn clear(&mut self)
+        ensures holds { Holds self.new [] }
+        ensures begun { is_begun self.new ≡ false }
+    {
+        self.bytes.clear();
+        self.is_long = false;
+    }
+
+    pub fn is_empty(&self) -> bool
+        ensures holds { (rest : List ℕ) → Holds self.now rest → IsTrue result ↔ (rest ≡ []) }
+        ensures begun { result ≡ not (is_begun self.now) }
+    {
+        !self.is_long && self.bytes.is_empty()
+    }
+}
+
+/// Where the first line end stands.
+pub fn line_end(bytes: &[u8]) -> Option<usize>
+    ensures none { IfNone result (IsPart bytes.now) }
+    ensures part { IfSome result (λ at. IsPart (take at bytes.now)) }
+    ensures split { IfSome result (λ at. bytes.now ≡ take at bytes.now ++ line_end ∷ drop (at + 1) bytes.now) }
+    ensures within { IfSome result (λ at. at < length bytes.now) }
+{
+    bytes.iter().position(|byte| *byte == LINE_END)
+}

@@ -1,0 +1,25 @@
+// The names of the calls in an input line.
+ghost use Rattle.std.specs.Prelude.{◌≡◌};
+ghost use Rattle.bm_tool.specs.Op.{op_of};
+
+/// Which call a line names.
+#[derive(Clone, Copy, Debug, PartialEq, Eq)]
+pub enum Op {
+    Register,
+    Add,
+    Received,
+    ListPlaces,
+}
+
+/// The call of this name, where there is one.
+pub fn op_of(name: &str) -> Option<Op>
+    ensures { result ≡ op_of name.now }
+{
+    match name {
+        "register" => Some(Op::Register),
+        "add" => Some(Op::Add),
+        "received" => Some(Op::Received),
+        "list_places" => Some(Op::ListPlaces),
+        _ => None,
+    }
+}

@@ -1,0 +1,181 @@
+// The state of a run between two reads.
+ghost use Rattle.std.specs.Prelude.{◌≡◌, true, ◌≤◌, ◌<◌, ◌+◌, ◌^◌, ◌∷◌, [], ◌++◌, ℕ, List, Option, length, None, IfOk, OnOk, IfErr};
+ghost use Rattle.bm_base.specs.State.{State, first_state};
+ghost use Rattle.bm_base.specs.Configuration.{config_refusal};
+ghost use Rattle.bm_tool.specs.Held.{is_begun};
+ghost use Rattle.bm_tool.specs.Starting.{StartFault};
+
+use std::alloc::Global;
+
+use bm_base::{Config, Refusal};
+use bm_manager::Manager;
+
+use crate::ends::Sink;
+use crate::fault::{Fault, Summary};
+use crate::line::{Line, line_end};
+use crate::reply::{asked_by, reply_to};
+
+const MAX_LINES: u64 = 1_048_576;
+
+/// The manager, the line that is being read, and how many lines were answered and refused.
+#[derive(Drop)]
+pub struct Session {
+    pub alloc: Global,
+    pub manager: Manager,
+    pub line: Line,
+    pub lines: u64,
+    pub refused: u64,
+    ghost few: { lines ≤ 1_048_576 },
+    ghost counted: { refused ≤ lines },
+    ghost begun: { is_begun line ≡ true → lines < 1_048_576 },
+}
+
+impl Session {
+    ghost use Rattle.bm_tool.specs.Lines.{line_end, lines_of};
+    ghost use Rattle.bm_tool.specs.Text.{max_lines, texts};
+    ghost use Rattle.std.specs.Io.KnownBytes.{Appends};
+    ghost use Rattle.bm_tool.specs.Progress.{Progress, LineFault, PieceFault, IsSummary};
+
+    /// Nothing is read and nothing answered yet.
+    pub fn new(alloc: Global, config: &Config) -> Result<Session, Fault>
+        ensures allowed { OnOk result (config_refusal config.now ≡ None) }
+        ensures ok { IfOk result (λ s. (start : Option (List ℕ)) → Progress (first_state config.now) start start s []) }
+        ensures err { IfErr result (StartFault config.now) }
+    {
+        let manager = manager_of(alloc, config)?;
+        Ok(Session {
+            alloc,
+            manager,
+            line: Line::new(alloc),
+            lines: 0,
+            refused: 0,
+        })
+    }
+
+    /// Answers the line that is held, and begins the next.
+    pub fn end_line<W: Sink>(
+        &mut self,
+        writer: &mut W,
+    ) -> Result<(), Fault>
+        requires room { W.faults writer.old + 1 < 2 ^ 64 }
+        requires few { self.old.lines < max_lines }
+        ensures ok { OnOk result ((M : State) (start : Option (List ℕ)) (bytes : List ℕ)
+            → Progress M start (W.contents writer.old) self.old bytes
+            → Progress M start (W.contents writer.new) self.new (bytes ++ line_end ∷ [])) }
+        ensures faults { OnOk result (W.faults writer.new ≡ W.faults writer.old) }
+        ensures err { IfErr result (LineFault (W.contents writer.old) (W.contents writer.new)
+            (W.faults writer.old) (W.faults writer.new)) }
+    {
+        let asked = asked_by(self.alloc, &self.line)?;
+        let reply = reply_to(self.alloc, &mut self.manager, &asked)?;
+        if writer.write_all(reply.text.as_bytes()).is_err() {
+            return Err(Fault::Write);
+        }
+        self.line.clear();
+        self.lines += 1;
+        self.refused += u64::from(reply.is_refused);
+        Ok(())
+    }
+
+    /// Takes the bytes up to the first line end, and gives back those behind it.
+    fn take_line<'p, W: Sink>(
+        &mut self,
+        piece: &'p [u8],
+        writer: &mut W,
+    ) -> Result<&'p [u8], Fault>
+        requires room { W.faults writer.old + 1 < 2 ^ 64 }
+        requires few { self.old.lines < max_lines }
+        requires more { 0 < length piece.now }
+        ensures ok { IfOk result (λ left. (M : State) (start : Option (List ℕ)) (bytes : List ℕ)
+            → Progress M start (W.contents writer.old) self.old bytes
+            → (taken : List ℕ) × (piece.now ≡ taken ++ left.now)
+            × Progress M start (W.contents writer.new) self.new (bytes ++ taken)) }
+        ensures shorter { IfOk result (λ left. length left.now < length piece.now) }
+        ensures faults { OnOk result (W.faults writer.new ≡ W.faults writer.old) }
+        ensures err { IfErr result (λ f. (M : State) (start : Option (List ℕ)) (bytes : List ℕ)
+            → Progress M start (W.contents writer.old) self.old bytes
+            → PieceFault M start (W.contents writer.new) (bytes ++ piece.now)
+            (W.faults writer.old) (W.faults writer.new) f) }
+    {
+        match line_end(piece) {
+            Some(at) => {
+                self.line.add(&piece[..at])?;
+                self.end_line(writer)?;
+                Ok(&piece[at + 1..])
+            }
+            None => {
+                self.line.add(piece)?;
+                Ok(&piece[piece.len()..])
+            }
+        }
+    }
+
+    /// Answers all lines whose end is in the piece, and keeps the rest.
+    pub fn take_piece<W: Sink>(
+        &mut self,
+        piece: &[u8],
+        writer: &mut W,
+    ) -> Result<(), Fault>
+        requires room { W.faults writer.old + 1 < 2 ^ 64 }
+        ensures ok { OnOk result ((M : State) (start : Option (List ℕ)) (bytes : List ℕ)
+            → Progress M start (W.contents writer.old) self.old bytes
+            → Progress M start (W.contents writer.new) self.new (bytes ++ piece.now)) }
+        ensures faults { OnOk result (W.faults writer.new ≡ W.faults writer.old) }
+        ensures err { IfErr result (λ f. (M : State) (start : Option (List ℕ)) (bytes : List ℕ)
+            → Progress M start (W.contents writer.old) self.old bytes
+            → PieceFault M start (W.contents writer.new) (bytes ++ piece.now)
+            (W.faults writer.old) (W.faults writer.new) f) }
+    {
+        let mut left = piece;
+        while !left.is_empty() {
+            if self.lines == MAX_LINES {
+                return Err(Fault::TooMuch);
+            }
+            left = self.take_line(left, writer)?;
+        }
+        Ok(())
+    }
+
+    /// Answers the rest, if there is one, and flushes.
+    pub fn finish<W: Sink>(
+        &mut self,
+        writer: &mut W,
+    ) -> Result<Summary, Fault>
+        requires room { W.faults writer.old + 1 < 2 ^ 64 }
+        ensures ok { IfOk result (λ summary. (M : State) (start : Option (List ℕ)) (bytes : List ℕ)
+            → Progress M start (W.contents writer.old) self.old bytes
+            → Appends start (W.contents writer.new) (texts M (lines_of bytes))
+            × IsSummary M (lines_of bytes) summary) }
+        ensures flushed { OnOk result (W.is_flushed writer.new ≡ true) }
+        ensures faults { OnOk result (W.faults writer.new ≡ W.faults writer.old) }
+        ensures err { IfErr result (λ f. (M : State) (start : Option (List ℕ)) (bytes : List ℕ)
+            → Progress M start (W.contents writer.old) self.old bytes
+            → PieceFault M start (W.contents writer.new) bytes
+            (W.faults writer.old) (W.faults writer.new) f) }
+    {
+        if !self.line.is_empty() {
+            self.end_line(writer)?;
+        }
+        if writer.flush().is_err() {
+            return Err(Fault::Write);
+        }
+        Ok(Summary {
+            lines: self.lines,
+            accepted: self.lines - self.refused,
+            refused: self.refused,
+        })
+    }
+}
+
+/// A manager with this configuration, which is checked here and nowhere else.
+fn manager_of(alloc: Global, config: &Config) -> Result<Manager, Fault>
+    ensures allowed { OnOk result (config_refusal config.now ≡ None) }
+    ensures ok { IfOk result (λ m. m ≡ first_state config.now) }
+    ensures err { IfErr result (StartFault config.now) }
+{
+    match Manager::new(alloc, *config) {
+        Ok(manager) => Ok(manager),
+        Err(Refusal::BadConfig) => Err(Fault::Config),
+        Err(_) => Err(Fault::Memory),
+    }
+}

@@ -1,0 +1,60 @@
+// A whole run, from a reader to a writer.
+ghost use Rattle.std.specs.Prelude.{◌≡◌, ◌+◌, ◌<◌, ◌^◌, ℕ, List, None, IfSome, OnOk, true};
+ghost use Rattle.std.specs.Io.KnownBytes.{Appends, Consumes};
+ghost use Rattle.bm_base.specs.Configuration.{config_refusal};
+ghost use Rattle.bm_tool.specs.Text.{text};
+ghost use Rattle.bm_tool.specs.Outcome.{Leaves, HasCause};
+
+use std::alloc::Global;
+
+use bm_base::Config;
+
+use crate::ends::{Sink, Source};
+use crate::fault::{Fault, Summary};
+use crate::session::Session;
+
+const MAX_BYTES: usize = 1_073_741_824;
+
+const PIECE: usize = 8192;
+
+/// Answers each line of the input by a line of the output.
+pub fn run<R: Source, W: Sink, H>(
+    _rt: &H,
+    alloc: Global,
+    reader: &mut R,
+    writer: &mut W,
+    config: &Config,
+) -> Result<Summary, Fault>
+    requires reads { R.faults reader.old + 1 < 2 ^ 64 }
+    requires writes { W.faults writer.old + 1 < 2 ^ 64 }
+    ensures allowed { OnOk result (config_refusal config.now ≡ None) }
+    // Where the reader tells its bytes, what is written is their text.
+    ensures text { OnOk result (IfSome (R.remaining reader.old) (λ input.
+        Appends (W.contents writer.old) (W.contents writer.new) (text config.now input))) }
+    // What was read, and what stands written for it.
+    ensures leaves { (input : List ℕ) × Consumes (R.remaining reader.old) (R.remaining reader.new) input
+        × Leaves config.now input (R.remaining reader.new) (W.contents writer.old) (W.contents writer.new) result }
+    ensures flushed { OnOk result (W.is_flushed writer.new ≡ true) }
+    // A fault of the reader or the writer comes only where a read, or a write or the flush, failed.
+    ensures cause { HasCause (R.faults reader.old) (R.faults reader.new)
+        (W.faults writer.old) (W.faults writer.new) result }
+{
+    let mut session = Session::new(alloc, config)?;
+    let mut buffer = [0u8; PIECE];
+    let mut count = 0usize;
+    loop {
+        let Ok(n) = reader.read(&mut buffer) else {
+            return Err(Fault::Read);
+        };
+        if n == 0 {
+            return session.finish(writer);
+        }
+        let room = MAX_BYTES - count;
+        if n > room {
+            session.take_piece(&buffer[..room], writer)?;
+            return Err(Fault::TooMuch);
+        }
+        session.take_piece(&buffer[..n], writer)?;
+        count += n;
+    }
+}
