@@ -1,0 +1,129 @@
+// With ample memory each call that takes some is accepted, and answers what the worked examples say.
+use crate::Manager;
+use bm_base::{
+    Answer, BlockId, Call, Config, Event, Gen, Items, NodeId, Rack, Refusal, Stamp, StorageId,
+};
+use std::alloc::{AllocError, Global};
+use std::test::Fail;
+
+fn stamp(generation: u64) -> Stamp {
+    Stamp {
+        generation: Gen(generation),
+        len: 10,
+    }
+}
+
+fn register(alloc: Global, node: u32, storages: &[StorageId]) -> Result<Call, AllocError> {
+    let storages = Vec::from_slice(alloc, storages)?;
+    Ok(Call::Apply(Event::Register {
+        node: NodeId(node),
+        rack: Rack(1),
+        storages: Items::from_vec(storages),
+    }))
+}
+
+fn received(storage: u32, generation: u64) -> Call {
+    Call::Apply(Event::Received {
+        storage: StorageId(storage),
+        id: BlockId(7),
+        stamp: stamp(generation),
+    })
+}
+
+/// The counts of an accepted event, or the number of a refusal, or the places.
+fn shown(alloc: Global, answer: &Answer) -> Result<String, AllocError> {
+    match answer {
+        Answer::Done(done) => {
+            let added = done.added;
+            let removed = done.removed;
+            format!(in alloc; "ok {added} {removed}")
+        }
+        Answer::Refused(refusal) => {
+            let number = refusal.number();
+            format!(in alloc; "refused {number}")
+        }
+        Answer::Storages(storages) => {
+            let mut line = String::from_str(alloc, "places")?;
+            for storage in storages.as_slice() {
+                let number = storage.0;
+                write!(line, " {number}")?;
+            }
+            Ok(line)
+        }
+        Answer::Number(number) => format!(in alloc; "{number}"),
+        _ => String::from_str(alloc, "another answer"),
+    }
+}
+
+#[test]
+fn a_list_of_calls_is_answered_call_by_call(rt: HostRuntime) -> Result<(), Fail> {
+    let alloc = rt.alloc();
+    let mut manager = Manager::new(alloc, Config::standard())?;
+    let calls = vec![in alloc;
+        register(alloc, 1, [StorageId(11), StorageId(12)].as_slice())?,
+        register(alloc, 1, [StorageId(13)].as_slice())?,
+        register(alloc, 2, [StorageId(21)].as_slice())?,
+        Call::Apply(Event::AddBlock { id: BlockId(7), stamp: stamp(1), repl: 3 }),
+        received(11, 1),
+        received(12, 1),
+        received(21, 1),
+        Call::Places(BlockId(7)),
+        received(12, 0),
+        received(99, 1),
+        Call::Places(BlockId(7)),
+        Call::Places(BlockId(8)),
+        Call::Calls
+    ]?;
+    let wanted = [
+        "ok 0 0",
+        "refused 2",
+        "ok 0 0",
+        "ok 0 0",
+        "ok 1 0",
+        "ok 1 1",
+        "ok 1 0",
+        "places 12 21",
+        "ok 0 0",
+        "refused 3",
+        "places 21",
+        "refused 5",
+        "7",
+    ];
+    let answers = manager.answer_all(calls.as_slice())?;
+    assert_eq!(rt; answers.as_slice().len(), wanted.len());
+    for (answer, want) in answers.as_slice().iter().zip(wanted.iter()) {
+        let line = shown(alloc, answer)?;
+        assert_eq!(rt; line.as_str(), *want);
+    }
+    Ok(())
+}
+
+#[test]
+fn a_bad_configuration_is_refused(rt: HostRuntime) {
+    let alloc = rt.alloc();
+    let standard = Config::standard();
+    for config in [
+        Config { shards: 0, ..standard },
+        Config { shards: 65, ..standard },
+        Config { workers: 0, ..standard },
+        Config { workers: 17, ..standard },
+        Config { work: 0, ..standard },
+        Config { work: 1001, ..standard },
+        Config { invalidate: 0, ..standard },
+        Config { invalidate: 1_000_001, ..standard },
+        Config { pend: 0, ..standard },
+        Config { pend: 1_000_001, ..standard },
+    ] {
+        assert!(rt; matches!(Manager::new(alloc, config), Err(Refusal::BadConfig)));
+    }
+    let most = Config {
+        shards: 64,
+        workers: 16,
+        work: 1000,
+        invalidate: 1_000_000,
+        pend: 1_000_000,
+        first_round: u64::MAX,
+        first_call: u64::MAX,
+    };
+    assert!(rt; Manager::new(alloc, most).is_ok());
+}

@@ -1,0 +1,6 @@
+// What no clause says: that with memory to spare runs succeed, the worked examples, lines as people write them, and streams
+// that fail. Each expected line is written by hand from the rules in docs/FORMATS.md.
+mod calls;
+mod lines;
+mod streams;
+mod support;

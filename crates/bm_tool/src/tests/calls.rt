@@ -1,0 +1,177 @@
+// The calls of the tool: accepted, and refused with each later check failing too.
+use std::test::Fail;
+
+use bm_base::Config;
+
+use crate::tests::support::{FIRST_PATH, FIRST_PATH_ANSWERS, run_over, run_with};
+use crate::{Fault, Summary};
+
+#[test]
+fn empty_input(rt: HostRuntime) {
+    let (result, text) = run_over(&rt, rt.alloc(), b"");
+    let summary = Summary {
+        lines: 0,
+        accepted: 0,
+        refused: 0,
+    };
+    assert_eq!(rt; result, Ok(summary));
+    assert!(rt; text.is_empty());
+}
+
+#[test]
+fn four_lines(rt: HostRuntime) {
+    let (result, text) = run_over(&rt, rt.alloc(), FIRST_PATH.as_bytes());
+    let summary = Summary {
+        lines: 4,
+        accepted: 4,
+        refused: 0,
+    };
+    assert_eq!(rt; result, Ok(summary));
+    assert_eq!(rt; text.as_slice(), FIRST_PATH_ANSWERS.as_bytes());
+}
+
+#[test]
+fn register_is_refused_in_the_order_of_its_checks(rt: HostRuntime) -> Result<(), Fail> {
+    let alloc = rt.alloc();
+    let mut input = Vec::new(alloc);
+    input.extend_from_slice(b"{\"op\":\"register\",\"node\":1,\"rack\":1,\"storages\":[11,12]}\n")?;
+    // The node is known, a storage is named twice and known, and there are too many.
+    input.extend_from_slice(b"{\"op\":\"register\",\"node\":1,\"rack\":1,\"storages\":[11,11")?;
+    push_storages(&mut input, 2000, 1023)?;
+    input.extend_from_slice(b"]}\n")?;
+    // A storage is named twice, and there are too many.
+    input.extend_from_slice(b"{\"op\":\"register\",\"node\":2,\"rack\":1,\"storages\":[13,13")?;
+    push_storages(&mut input, 2000, 1023)?;
+    input.extend_from_slice(b"]}\n")?;
+    // A storage is known, and there are too many.
+    input.extend_from_slice(b"{\"op\":\"register\",\"node\":2,\"rack\":1,\"storages\":[12")?;
+    push_storages(&mut input, 2000, 1023)?;
+    input.extend_from_slice(b"]}\n")?;
+    // One storage too many, and then as many as may be.
+    input.extend_from_slice(b"{\"op\":\"register\",\"node\":2,\"rack\":1,\"storages\":[13")?;
+    push_storages(&mut input, 2000, 1022)?;
+    input.extend_from_slice(b"]}\n{\"op\":\"register\",\"node\":2,\"rack\":1,\"storages\":[13")?;
+    push_storages(&mut input, 2000, 1021)?;
+    input.extend_from_slice(b"]}\n{\"op\":\"register\",\"node\":3,\"rack\":1,\"storages\":[14]}\n")?;
+    input.extend_from_slice(b"{\"op\":\"register\",\"node\":3,\"rack\":1,\"storages\":[]}\n")?;
+    let (result, text) = run_over(&rt, alloc, input.as_slice());
+    let answers = "ok 0 0\nrefused 2 NodeKnown\nrefused 4 StorageKnown\nrefused 4 StorageKnown\nrefused 10 TooMany\nok 0 0\nrefused 10 TooMany\nok 0 0\n";
+    assert_eq!(rt; text.as_slice(), answers.as_bytes());
+    let summary = Summary {
+        lines: 8,
+        accepted: 3,
+        refused: 5,
+    };
+    assert_eq!(rt; result, Ok(summary));
+    Ok(())
+}
+
+/// So many storage numbers from `first` on, each behind a comma.
+fn push_storages(input: &mut Vec<u8>, first: u32, count: u32) -> Result<(), Fail> {
+    for number in 0..count {
+        let text = format!(in *input.allocator(); ",{}", first.saturating_add(number))?;
+        input.extend_from_slice(text.as_bytes())?;
+    }
+    Ok(())
+}
+
+#[test]
+fn nodes_are_counted(rt: HostRuntime) -> Result<(), Fail> {
+    let alloc = rt.alloc();
+    let mut input = Vec::new(alloc);
+    let mut answers = Vec::new(alloc);
+    for node in 1..257 {
+        let line = format!(in alloc; "{{\"op\":\"register\",\"node\":{node},\"rack\":{node},\"storages\":[]}}\n")?;
+        input.extend_from_slice(line.as_bytes())?;
+        answers.extend_from_slice(b"ok 0 0\n")?;
+    }
+    input.extend_from_slice(b"{\"op\":\"register\",\"node\":257,\"rack\":1,\"storages\":[]}\n")?;
+    answers.extend_from_slice(b"refused 10 TooMany\n")?;
+    let (result, text) = run_over(&rt, alloc, input.as_slice());
+    assert!(rt; result.is_ok());
+    assert_eq!(rt; text.as_slice(), answers.as_slice());
+    Ok(())
+}
+
+#[test]
+fn add_and_received_are_refused_in_the_order_of_their_checks(rt: HostRuntime) {
+    let input = "{\"op\":\"register\",\"node\":1,\"rack\":1,\"storages\":[11,12]}
+{\"op\":\"add\",\"id\":7,\"gen\":1,\"len\":10,\"repl\":3}
+{\"op\":\"add\",\"id\":7,\"gen\":1,\"len\":10,\"repl\":0}
+{\"op\":\"received\",\"storage\":11,\"id\":8,\"gen\":1,\"len\":10}
+{\"op\":\"add\",\"id\":8,\"gen\":1,\"len\":10,\"repl\":17}
+{\"op\":\"add\",\"id\":9,\"gen\":1,\"len\":10,\"repl\":17}
+{\"op\":\"add\",\"id\":9,\"gen\":1,\"len\":10,\"repl\":0}
+{\"op\":\"add\",\"id\":9,\"gen\":1,\"len\":10,\"repl\":16}
+{\"op\":\"add\",\"id\":10,\"gen\":1,\"len\":10,\"repl\":1}
+{\"op\":\"received\",\"storage\":99,\"id\":7,\"gen\":1,\"len\":10}
+{\"op\":\"list_places\",\"id\":8}
+{\"op\":\"list_places\",\"id\":7}
+";
+    let answers = "ok 0 0\nok 0 0\nrefused 6 BlockKnown\nok 1 0\nrefused 7 StillStored\nrefused 8 BadReplication\nrefused 8 BadReplication\nok 0 0\nok 0 0\nrefused 3 UnknownStorage\nrefused 5 UnknownBlock\nplaces 7\n";
+    let (result, text) = run_over(&rt, rt.alloc(), input.as_bytes());
+    assert!(rt; result.is_ok());
+    assert_eq!(rt; text.as_slice(), answers.as_bytes());
+}
+
+#[test]
+fn a_replica_is_good_by_its_stamp_and_moves_between_sister_storages(rt: HostRuntime) {
+    let input = "{\"op\":\"register\",\"node\":1,\"rack\":1,\"storages\":[11,12]}
+{\"op\":\"register\",\"node\":2,\"rack\":1,\"storages\":[21]}
+{\"op\":\"add\",\"id\":7,\"gen\":1,\"len\":10,\"repl\":3}
+{\"op\":\"received\",\"storage\":21,\"id\":7,\"gen\":1,\"len\":10}
+{\"op\":\"received\",\"storage\":11,\"id\":7,\"gen\":1,\"len\":10}
+{\"op\":\"list_places\",\"id\":7}
+{\"op\":\"received\",\"storage\":12,\"id\":7,\"gen\":1,\"len\":10}
+{\"op\":\"list_places\",\"id\":7}
+{\"op\":\"received\",\"storage\":12,\"id\":7,\"gen\":2,\"len\":10}
+{\"op\":\"list_places\",\"id\":7}
+{\"op\":\"received\",\"storage\":12,\"id\":7,\"gen\":1,\"len\":11}
+{\"op\":\"list_places\",\"id\":7}
+{\"op\":\"received\",\"storage\":12,\"id\":7,\"gen\":1,\"len\":10}
+{\"op\":\"list_places\",\"id\":7}
+";
+    let answers = "ok 0 0\nok 0 0\nok 0 0\nok 1 0\nok 1 0\nplaces 7; 11; 21\nok 1 1\nplaces 7; 12; 21\nok 0 0\nplaces 7; 21\nok 0 0\nplaces 7; 21\nok 0 0\nplaces 7; 12; 21\n";
+    let (result, text) = run_over(&rt, rt.alloc(), input.as_bytes());
+    assert!(rt; result.is_ok());
+    assert_eq!(rt; text.as_slice(), answers.as_bytes());
+}
+
+#[test]
+fn calls_run_out(rt: HostRuntime) {
+    let config = Config {
+        first_call: 18_446_744_073_709_551_614,
+        ..Config::standard()
+    };
+    let input = "{\"op\":\"add\",\"id\":7,\"gen\":1,\"len\":10,\"repl\":3}
+{\"op\":\"add\",\"id\":8,\"gen\":1,\"len\":10,\"repl\":3}
+{\"op\":\"register\",\"node\":1,\"rack\":1,\"storages\":[]}
+{\"op\":\"add\",\"id\":7,\"gen\":1,\"len\":10,\"repl\":3}
+{\"op\":\"received\",\"storage\":1,\"id\":7,\"gen\":1,\"len\":10}
+{\"op\":\"list_places\",\"id\":7}
+{\"op\":\"list_places\",\"id\":8}
+";
+    let answers = "ok 0 0\nrefused 13 CallsSpent\nrefused 13 CallsSpent\nrefused 6 BlockKnown\nrefused 3 UnknownStorage\nplaces 7\nrefused 5 UnknownBlock\n";
+    let (result, text) = run_with(&rt, rt.alloc(), &config, input.as_bytes());
+    assert!(rt; result.is_ok());
+    assert_eq!(rt; text.as_slice(), answers.as_bytes());
+    let spent = Config {
+        first_call: u64::MAX,
+        ..Config::standard()
+    };
+    let (result, text) = run_with(&rt, rt.alloc(), &spent, FIRST_PATH.as_bytes());
+    assert!(rt; result.is_ok());
+    let answers = "refused 13 CallsSpent\nrefused 13 CallsSpent\nrefused 3 UnknownStorage\nrefused 5 UnknownBlock\n";
+    assert_eq!(rt; text.as_slice(), answers.as_bytes());
+}
+
+#[test]
+fn a_configuration_is_refused_before_anything_is_read(rt: HostRuntime) {
+    let config = Config {
+        shards: 0,
+        ..Config::standard()
+    };
+    let (result, text) = run_with(&rt, rt.alloc(), &config, FIRST_PATH.as_bytes());
+    assert_eq!(rt; result, Err(Fault::Config));
+    assert!(rt; text.is_empty());
+}

@@ -1,0 +1,8 @@
+-- By computing: more steps than a tactic may take.
+use Rattle.std.proofs.Common.{refl}
+use Rattle.worked_rows.specs.Runs.{run_of}
+use Rattle.worked_rows.proofs.limits.no_1025th_storage.Goals as goal
+
+pub returns : goal.returns
+unfolding run_of
+returns c = refl

@@ -1,0 +1,71 @@
+-- How urgently blocks want replicas.
+use Rattle.std.specs.Prelude.{List, [], ◌∷◌, ◌++◌}
+use Rattle.bm_base.specs.declared.call.Call.{Call}
+use Rattle.bm_base.specs.declared.call.Answer.{Answer}
+use Rattle.bm_base.specs.declared.level.Level.TheVariants.{Highest, VeryUnderReplicated, UnderReplicated, BadlyDistributed, NoLiveReplica}
+use Rattle.bm_base.specs.declared.refusal.Refusal.TheVariants.{UnknownBlock, BadReplication}
+use Rattle.worked_rows.specs.Script.{◌gives◌, HoldsOnCluster, usual, dead, add_block, set_replication, received, level, round, list_missing, list_excess, ok, at_level, at_no_level, commands, copies_by, copy, deletes_by, delete, blocks, replica_ids, refused}
+
+abbrev pub block_without_replicas_is_missing : Type 0
+block_without_replicas_is_missing = HoldsOnCluster usual (
+    add_block 7 3 gives ok 0 0
+    ∷ list_missing gives blocks (7 ∷ [])
+    ∷ level 7 gives at_level NoLiveReplica
+    ∷ round gives commands 1 []
+    ∷ [])
+
+abbrev pub levels_follow_replication : Type 0
+levels_follow_replication = HoldsOnCluster usual (
+    add_block 7 6 gives ok 0 0
+    ∷ received 11 7 gives ok 1 0
+    ∷ received 31 7 gives ok 1 0
+    ∷ level 7 gives at_level UnderReplicated
+    ∷ set_replication 7 7 gives ok 0 0
+    ∷ level 7 gives at_level VeryUnderReplicated
+    ∷ set_replication 7 2 gives ok 0 0
+    ∷ level 7 gives at_no_level
+    ∷ set_replication 7 17 gives refused BadReplication
+    ∷ set_replication 7 0 gives refused BadReplication
+    ∷ set_replication 6 0 gives refused UnknownBlock
+    ∷ [])
+
+-- both replicas of a block stand on one of the two racks
+abbrev pub on_one_rack : List (Call × Answer)
+on_one_rack =
+    add_block 7 2 gives ok 0 0
+    ∷ received 11 7 gives ok 1 0
+    ∷ received 21 7 gives ok 1 0
+    ∷ level 7 gives at_level BadlyDistributed
+    ∷ []
+
+abbrev pub badly_distributed_block_gets_second_rack : Type 0
+badly_distributed_block_gets_second_rack = HoldsOnCluster usual (on_one_rack ++ (
+    round gives commands 1 (copies_by 1 (copy 7 11 31 ∷ []) ∷ [])
+    ∷ received 31 7 gives ok 1 0
+    ∷ round gives commands 2 (deletes_by 2 (delete 21 7 ∷ []) ∷ [])
+    ∷ []))
+
+abbrev pub one_rack_is_enough_where_no_other_is_alive : Type 0
+one_rack_is_enough_where_no_other_is_alive = HoldsOnCluster usual (on_one_rack ++ (
+    dead 3 gives ok 0 0
+    ∷ dead 4 gives ok 0 0
+    ∷ level 7 gives at_no_level
+    ∷ []))
+
+abbrev pub queue_follows_death : Type 0
+queue_follows_death = HoldsOnCluster (record usual { invalidate = 1 }) (
+    add_block 1 2 gives ok 0 0
+    ∷ add_block 2 2 gives ok 0 0
+    ∷ received 11 1 gives ok 1 0
+    ∷ received 31 1 gives ok 1 0
+    ∷ received 41 1 gives ok 1 0
+    ∷ received 11 2 gives ok 1 0
+    ∷ received 31 2 gives ok 1 0
+    ∷ received 41 2 gives ok 1 0
+    ∷ round gives commands 1 (deletes_by 4 (delete 41 1 ∷ []) ∷ [])
+    ∷ list_excess gives replica_ids ((1, 41) ∷ (2, 41) ∷ [])
+    ∷ dead 1 gives ok 0 2
+    ∷ level 2 gives at_level Highest
+    ∷ round gives commands 2 (copies_by 3 (copy 1 31 21 ∷ []) ∷ copies_by 4 (copy 2 41 21 ∷ []) ∷ [])
+    ∷ level 2 gives at_level BadlyDistributed
+    ∷ [])

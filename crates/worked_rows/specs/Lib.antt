@@ -1,0 +1,9 @@
+-- Worked rows: scripts and their answers, computed by the definitions of the state machine.
+pub mod Runs
+pub mod Script
+pub mod Levels
+pub mod Copies
+pub mod Deletes
+pub mod Reports
+pub mod Refusals
+pub mod Limits

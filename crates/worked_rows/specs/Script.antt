@@ -1,0 +1,193 @@
+-- The words of scripts: calls of a manager, each beside the answer that it gives.
+use Rattle.std.specs.Prelude.{◌≡◌, ℕ, List, [], ◌∷◌, ◌++◌, map, Some, None}
+use Rattle.bm_base.specs.declared.config.Config.{Config}
+use Rattle.bm_base.specs.declared.replica.Stamp.{Stamp}
+use Rattle.bm_base.specs.declared.replica.Tag.{Tag}
+use Rattle.bm_base.specs.declared.replica.Replica.{Replica}
+use Rattle.bm_base.specs.declared.level.Level.{Level}
+use Rattle.bm_base.specs.declared.event.Entry.{Entry}
+use Rattle.bm_base.specs.declared.event.Remaining.{Remaining}
+use Rattle.bm_base.specs.declared.event.Event.TheVariants as event
+use Rattle.bm_base.specs.declared.commands.Transfer.{Transfer}
+use Rattle.bm_base.specs.declared.commands.Delete.{Delete}
+use Rattle.bm_base.specs.declared.commands.NodeCommands.{NodeCommands}
+use Rattle.bm_base.specs.declared.refusal.Refusal.{Refusal}
+use Rattle.bm_base.specs.declared.call.Call.{Call}
+use Rattle.bm_base.specs.declared.call.Call.TheVariants as call
+use Rattle.bm_base.specs.declared.call.Answer.{Answer}
+use Rattle.bm_base.specs.declared.call.Answer.TheVariants as answer
+use Rattle.bm_base.specs.State.{replica_at}
+use Rattle.bm_base.specs.Configuration.{standard}
+use Rattle.worked_rows.specs.Runs.{run_of}
+
+-- a call beside its answer
+infix 68 ◌gives◌
+abbrev pub ◌gives◌ : Call → Answer → Call × Answer
+k gives a = (k, a)
+
+-- the calls of a script answer as it says, from the first state of a configuration on
+abbrev pub Holds : Config → List (Call × Answer) → Type 0
+Holds config script = run_of config (map (λ l. l.0) script) ≡ map (λ l. l.1) script
+
+-- Parts of calls and of answers. Every block is 10 bytes long, and its generation is 1 where none is said.
+
+abbrev pub stamp : ℕ → Stamp
+stamp generation = record { generation = generation; len = 10 }
+
+abbrev pub entry : ℕ → ℕ → Entry
+entry block generation = record { id = block; stamp = stamp generation }
+
+abbrev pub remaining : ℕ → ℕ → Remaining
+remaining storage bytes = record { storage = storage; remaining = bytes }
+
+abbrev pub replica : ℕ → ℕ → Tag → Replica
+replica block storage tag = record { block = block; storage = storage; tag = tag }
+
+-- copy a block from a storage to another
+abbrev pub copy : ℕ → ℕ → ℕ → Transfer
+copy block source target = record { block = block; stamp = stamp 1; source = source; target = target }
+
+-- delete a block from a storage
+abbrev pub delete : ℕ → ℕ → Delete
+delete storage block = record { storage = storage; block = block }
+
+-- what a node is commanded that has transfers alone, or deletes alone
+abbrev pub copies_by : ℕ → List Transfer → NodeCommands
+copies_by node transfers = record { node = node; transfers = transfers; deletes = [] }
+
+abbrev pub deletes_by : ℕ → List Delete → NodeCommands
+deletes_by node deletes = record { node = node; transfers = []; deletes = deletes }
+
+-- Calls, each with its fields in the order of the event.
+
+abbrev pub register : ℕ → ℕ → List ℕ → Call
+register node rack storages = call.Apply (event.Register node rack storages)
+
+abbrev pub dead : ℕ → Call
+dead node = call.Apply (event.Dead node)
+
+abbrev pub storage_failed : ℕ → Call
+storage_failed storage = call.Apply (event.StorageFailed storage)
+
+abbrev pub heartbeat : ℕ → List Remaining → Call
+heartbeat node rs = call.Apply (event.Heartbeat node rs)
+
+abbrev pub add_block : ℕ → ℕ → Call
+add_block block replication = call.Apply (event.AddBlock block (stamp 1) replication)
+
+abbrev pub delete_block : ℕ → Call
+delete_block block = call.Apply (event.DeleteBlock block)
+
+abbrev pub set_replication : ℕ → ℕ → Call
+set_replication block replication = call.Apply (event.SetReplication block replication)
+
+abbrev pub restamp : ℕ → ℕ → Call
+restamp block generation = call.Apply (event.Restamp block (stamp generation))
+
+abbrev pub received : ℕ → ℕ → Call
+received storage block = call.Apply (event.Received storage block (stamp 1))
+
+abbrev pub received_version : ℕ → ℕ → ℕ → Call
+received_version storage block generation = call.Apply (event.Received storage block (stamp generation))
+
+abbrev pub deleted : ℕ → ℕ → Call
+deleted storage block = call.Apply (event.Deleted storage block)
+
+abbrev pub corrupt : ℕ → ℕ → Call
+corrupt storage block = call.Apply (event.Corrupt storage block)
+
+abbrev pub report : ℕ → List Entry → Call
+report storage block_entries = call.Apply (event.FullReport storage block_entries)
+
+abbrev pub round : Call
+round = call.Round
+
+abbrev pub list_replicas : Call
+list_replicas = call.Replicas
+
+abbrev pub list_corrupt : Call
+list_corrupt = call.Corrupt
+
+abbrev pub list_excess : Call
+list_excess = call.Excess
+
+abbrev pub list_missing : Call
+list_missing = call.Missing
+
+abbrev pub list_storage : ℕ → Call
+list_storage storage = call.BlocksOn storage
+
+abbrev pub places : ℕ → Call
+places block = call.Places block
+
+abbrev pub level : ℕ → Call
+level block = call.LevelOf block
+
+abbrev pub count_calls : Call
+count_calls = call.Calls
+
+abbrev pub count_rounds : Call
+count_rounds = call.Rounds
+
+-- Answers.
+
+-- an event was accepted, and so many replicas came and went
+abbrev pub ok : ℕ → ℕ → Answer
+ok added removed = answer.Done (record { added = added; removed = removed })
+
+-- a round was accepted: its number, and what it commands the nodes
+abbrev pub commands : ℕ → List NodeCommands → Answer
+commands number nodes = answer.Commanded (record { round = number; nodes = nodes })
+
+abbrev pub replicas : List Replica → Answer
+replicas rs = answer.Replicas rs
+
+-- replicas as (block, storage)
+abbrev pub replica_ids : List (ℕ × ℕ) → Answer
+replica_ids ps = answer.ReplicaIds (map (λ p. replica_at p.0 p.1) ps)
+
+abbrev pub blocks : List ℕ → Answer
+blocks bs = answer.Blocks bs
+
+abbrev pub storages : List ℕ → Answer
+storages ss = answer.Storages ss
+
+abbrev pub at_level : Level → Answer
+at_level urgency = answer.LevelIs (Some urgency)
+
+abbrev pub at_no_level : Answer
+at_no_level = answer.LevelIs None
+
+abbrev pub number : ℕ → Answer
+number n = answer.Number n
+
+abbrev pub refused : Refusal → Answer
+refused r = answer.Refused r
+
+-- How scripts begin.
+
+-- three shards and two workers, the rest standard
+abbrev pub usual : Config
+usual = record standard { shards = 3; workers = 2 }
+
+-- four nodes, the first two on rack 1 and the others on rack 2, each with one storage
+abbrev pub registrations : List (Call × Answer)
+registrations =
+    register 1 1 (11 ∷ []) gives ok 0 0
+    ∷ register 2 1 (21 ∷ []) gives ok 0 0
+    ∷ register 3 2 (31 ∷ []) gives ok 0 0
+    ∷ register 4 2 (41 ∷ []) gives ok 0 0
+    ∷ []
+
+-- each storage has remaining for 1,000 bytes
+abbrev pub heartbeats : List (Call × Answer)
+heartbeats =
+    heartbeat 1 (remaining 11 1000 ∷ []) gives ok 0 0
+    ∷ heartbeat 2 (remaining 21 1000 ∷ []) gives ok 0 0
+    ∷ heartbeat 3 (remaining 31 1000 ∷ []) gives ok 0 0
+    ∷ heartbeat 4 (remaining 41 1000 ∷ []) gives ok 0 0
+    ∷ []
+
+-- a script on these four nodes
+abbrev pub HoldsOnCluster : Config → List (Call × Answer) → Type 0
+HoldsOnCluster config script = Holds config (registrations ++ heartbeats ++ script)
