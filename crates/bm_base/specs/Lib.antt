@@ -24,4 +24,5 @@ pub mod Rounds
 pub mod Refusals
 pub mod Configuration
 pub mod Calls
+pub mod Runs
 pub mod Answering

@@ -1,18 +1,20 @@
 // The line that is being read.
-ghost use Rattle.std.specs.Prelude.{◌≡◌, ◌++◌, ◌<◌, [], List, ℕ, length, OnOk, IsTrue, ◌↔◌, IfSome, IfNone, take, drop, ◌∷◌, ◌+◌, false, not};
+ghost use Rattle.std.specs.Prelude.{◌≡◌, ◌++◌, ◌<◌, ◌≤◌, [], List, ℕ, length, OnOk, IsTrue, ◌↔◌, IfSome, IfNone, take, drop, ◌∷◌, ◌+◌, false, not};
 ghost use Rattle.bm_tool.specs.Lines.{IsPart, line_end};
 
 use std::alloc::{AllocError, Global};
 
+/// The bytes of the longest line that is read, without its line end.
 pub const MAX_LINE: usize = 4_194_304;
 
 pub const LINE_END: u8 = b'\n';
 
-/// The bytes of a line so far, or that there are too many.
+/// The bytes of a line so far, or that there are too many. It never holds more than the longest line.
 #[derive(Drop)]
 pub struct Line {
     pub bytes: Vec<u8>,
     pub is_long: bool,
+    ghost bounded: { length bytes.items ≤ 4_194_304 },
 }
 
 impl Line {

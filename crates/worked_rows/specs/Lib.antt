@@ -1,5 +1,4 @@
 -- Worked rows: scripts and their answers, computed by the definitions of the state machine.
-pub mod Runs
 pub mod Script
 pub mod Levels
 pub mod Copies

@@ -18,7 +18,7 @@ use Rattle.bm_base.specs.declared.call.Answer.{Answer}
 use Rattle.bm_base.specs.declared.call.Answer.TheVariants as answer
 use Rattle.bm_base.specs.State.{replica_at}
 use Rattle.bm_base.specs.Configuration.{standard}
-use Rattle.worked_rows.specs.Runs.{run_of}
+use Rattle.bm_base.specs.Runs.{run_of}
 
 -- a call beside its answer
 infix 68 ◌gives◌

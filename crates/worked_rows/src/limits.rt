@@ -1,5 +1,5 @@
 // How many nodes, storages and report entries there may be.
-#![tactic(auto, unfolding(crate::specs::Runs::run_of))]
+#![tactic(auto, unfolding(bm_base::specs::Runs::run_of))]
 
 ghost use Rattle.worked_rows.specs.Limits as row;
 
