@@ -1,5 +1,6 @@
 -- What a call may answer where memory may lack: the words of contracts.
 use Rattle.std.specs.Prelude.{◌≡◌, Bool, true, false, not, ◌&&◌, if◌then◌else◌, ◌⊎◌, IsTrue, List, [], ◌∷◌, Option, Some, None, Result, Ok, Err}
+use Rattle.bm_base.specs.declared.event.Event.{Event}
 use Rattle.bm_base.specs.declared.event.Event.TheVariants.{Heartbeat, DeleteBlock, SetReplication, Restamp, Deleted, Corrupt}
 use Rattle.bm_base.specs.declared.refusal.Refusal.{Refusal}
 use Rattle.bm_base.specs.declared.refusal.Refusal.TheVariants.{Memory}
@@ -15,24 +16,31 @@ abbrev pub checked : Option Refusal → Result (Unit {0}) Refusal
 checked None = Ok tt
 checked (Some r) = Err r
 
--- A call may be refused so: by the definition's refusal, and where there is none, for want of memory.
-abbrev pub Refuses : Option Refusal → Refusal → Type 0
-Refuses None e = e ≡ Memory
-Refuses (Some r) e = e ≡ r
+-- How a call may be refused: by the definition's refusal; where there is none, for want of memory, if the call takes some; else
+-- not at all.
+abbrev pub Refuses : Option Refusal → Bool → Refusal → Type 0
+Refuses (Some r) takes e = e ≡ r
+Refuses None true e = e ≡ Memory
+Refuses None false e = ⊥
 
 -- whether an answer says that memory lacked
 abbrev pub wants_memory : Answer → Bool
 wants_memory (answer.Refused Memory) = true
 wants_memory _ = false
 
--- whether a call that nothing refuses may answer Memory
+-- whether an event takes memory, so that where nothing refuses it memory may lack
+abbrev pub takes_memory : Event → Bool
+takes_memory (Heartbeat n rs) = false
+takes_memory (DeleteBlock b) = false
+takes_memory (SetReplication b repl) = false
+takes_memory (Restamp b stamp) = false
+takes_memory (Deleted s b) = false
+takes_memory (Corrupt s b) = false
+takes_memory _ = true
+
+-- the same of a call
 abbrev pub may_want_memory : Call → Bool
-may_want_memory (call.Apply (Heartbeat n rs)) = false
-may_want_memory (call.Apply (DeleteBlock b)) = false
-may_want_memory (call.Apply (SetReplication b repl)) = false
-may_want_memory (call.Apply (Restamp b stamp)) = false
-may_want_memory (call.Apply (Deleted s b)) = false
-may_want_memory (call.Apply (Corrupt s b)) = false
+may_want_memory (call.Apply e) = takes_memory e
 may_want_memory (call.LevelOf b) = false
 may_want_memory call.Calls = false
 may_want_memory call.Rounds = false

@@ -12,7 +12,7 @@ use Rattle.bm_base.specs.Map.{Map, contains_key, entries}
 use Rattle.bm_base.specs.State.{Holdings, State, by_replica}
 use Rattle.bm_base.specs.Levels.{level}
 use Rattle.bm_base.specs.Queries.{all_replicas, corrupt_replicas, excess_replicas, missing_blocks, blocks_on, places}
-use Rattle.bm_base.specs.Events.{change_held, change}
+use Rattle.bm_base.specs.Events.{change_holdings, change}
 use Rattle.bm_base.specs.Rounds.{round_commands, round_change}
 use Rattle.bm_base.specs.Refusals.{refusal_of, round_refusal, storage_refusal, block_refusal}
 
@@ -26,7 +26,7 @@ done H G = record { added = new_replicas H.replicas G.replicas; removed = new_re
 
 -- what an event answers that nothing refuses
 unfoldable pub done_by : State → Event → Done
-done_by M e = done M.held (change_held M.cluster M.held e)
+done_by M e = done M.holdings (change_holdings M.cluster M.holdings e)
 
 -- one call more is accepted
 abbrev pub counted : State → State
@@ -48,13 +48,13 @@ refused_or M None next = next
 unfoldable pub step : State → Call → Answer × State
 step M (call.Apply e) = refused_or M (refusal_of M e) (answer.Done (done_by M e), after_event M e)
 step M call.Round = refused_or M (round_refusal M) (answer.Commanded (round_commands M), after_round M)
-step M call.Replicas = (answer.Replicas (all_replicas M.held), M)
-step M call.Corrupt = (answer.ReplicaIds (corrupt_replicas M.held), M)
-step M call.Excess = (answer.ReplicaIds (excess_replicas M.held), M)
-step M call.Missing = (answer.Blocks (missing_blocks M.cluster M.held), M)
-step M (call.BlocksOn s) = refused_or M (storage_refusal M.cluster s) (answer.Blocks (blocks_on M.held s), M)
-step M (call.Places b) = refused_or M (block_refusal M.held b) (answer.Storages (places M.held b), M)
-step M (call.LevelOf b) = refused_or M (block_refusal M.held b) (answer.LevelIs (level M.cluster M.held b), M)
+step M call.Replicas = (answer.Replicas (all_replicas M.holdings), M)
+step M call.Corrupt = (answer.ReplicaIds (corrupt_replicas M.holdings), M)
+step M call.Excess = (answer.ReplicaIds (excess_replicas M.holdings), M)
+step M call.Missing = (answer.Blocks (missing_blocks M.cluster M.holdings), M)
+step M (call.BlocksOn s) = refused_or M (storage_refusal M.cluster s) (answer.Blocks (blocks_on M.holdings s), M)
+step M (call.Places b) = refused_or M (block_refusal M.holdings b) (answer.Storages (places M.holdings b), M)
+step M (call.LevelOf b) = refused_or M (block_refusal M.holdings b) (answer.LevelIs (level M.cluster M.holdings b), M)
 step M call.Calls = (answer.Number M.calls, M)
 step M call.Rounds = (answer.Number M.round, M)
 

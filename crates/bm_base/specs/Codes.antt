@@ -9,7 +9,7 @@ use Rattle.bm_base.specs.declared.replica.Stamp.{Stamp}
 use Rattle.bm_base.specs.declared.replica.BlockInfo.{BlockInfo}
 use Rattle.bm_base.specs.declared.storage.StorageInfo.{StorageInfo}
 use Rattle.bm_base.specs.Map.{Map, by_number, code}
-use Rattle.bm_base.specs.State.{Cluster, Holdings, Limits, State, by_replica}
+use Rattle.bm_base.specs.State.{Cluster, Holdings, RoundLimits, State, by_replica}
 
 abbrev pub number_of_tag : Tag → ℕ
 number_of_tag Good = 0
@@ -60,13 +60,13 @@ coded_holdings =
       (coded× (code coded_ℕ coded_block) (coded× (code coded_replica_id coded_marks) (code coded_replica_id coded_ℕ)))
       (λ H. (H.blocks, (H.replicas, H.pending))) (λ t. record { blocks = t.0; replicas = t.1.0; pending = t.1.1 }) (λ _. refl)
 
-abbrev pub coded_limits : Coded Limits
+abbrev pub coded_limits : Coded RoundLimits
 coded_limits =
     code_by (ℕ × (ℕ × ℕ)) (coded× coded_ℕ (coded× coded_ℕ coded_ℕ))
       (λ l. (l.work, (l.invalidate, l.pend))) (λ t. record { work = t.0; invalidate = t.1.0; pend = t.1.1 }) (λ _. refl)
 
 abbrev pub coded_state : Coded State
 coded_state =
-    code_by ((Limits × Cluster) × (Holdings × (ℕ × ℕ))) (coded× (coded× coded_limits coded_cluster) (coded× coded_holdings (coded× coded_ℕ coded_ℕ)))
-      (λ M. ((M.limits, M.cluster), (M.held, (M.round, M.calls))))
-      (λ t. record { limits = t.0.0; cluster = t.0.1; held = t.1.0; round = t.1.1.0; calls = t.1.1.1 }) (λ _. refl)
+    code_by ((RoundLimits × Cluster) × (Holdings × (ℕ × ℕ))) (coded× (coded× coded_limits coded_cluster) (coded× coded_holdings (coded× coded_ℕ coded_ℕ)))
+      (λ M. ((M.limits, M.cluster), (M.holdings, (M.round, M.calls))))
+      (λ t. record { limits = t.0.0; cluster = t.0.1; holdings = t.1.0; round = t.1.1.0; calls = t.1.1.1 }) (λ _. refl)

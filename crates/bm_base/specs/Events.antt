@@ -1,7 +1,7 @@
 -- What each event makes of a state. Whether it is accepted is said in Refusals.
 -- Source: HDFS Architecture guide, "Data Replication" and "Data Disk Failure, Heartbeats and Re-Replication"; Hadoop 2's
 -- BlockManager (processReport, addStoredBlock, markBlockAsCorrupt, removeBlock) and BlockInfo; GFS paper, section 4.
-use Rattle.std.specs.Prelude.{ℕ, Bool, false, not, ◌&&◌, ◌||◌, if◌then◌else◌, ◌==◌, List, [], ◌∷◌, map}
+use Rattle.std.specs.Prelude.{ℕ, Bool, false, not, ◌&&◌, if◌then◌else◌, ◌==◌, List, [], ◌∷◌, map}
 use Rattle.std.specs.Option.{option_map_or}
 use Rattle.std.specs.List.{list_any}
 use Rattle.bm_base.specs.declared.replica.ReplicaId.{ReplicaId}
@@ -16,7 +16,7 @@ use Rattle.bm_base.specs.declared.event.Event.{Event}
 use Rattle.bm_base.specs.declared.event.Event.TheVariants.{Register, Dead, StorageFailed, Heartbeat, AddBlock, DeleteBlock, SetReplication, Restamp, Received, Deleted, Corrupt, FullReport}
 use Rattle.bm_base.specs.Map.{Map, by_number, get, insert, insert_all, keep, revise, revise_at, remove}
 use Rattle.bm_base.specs.State.{Cluster, Holdings, State, replica_at}
-use Rattle.bm_base.specs.Replicas.{is_good, is_bad, stands_on, are_sisters}
+use Rattle.bm_base.specs.Replicas.{is_good, is_bad, has_storage, are_sisters}
 
 abbrev pub same_stamp : Stamp → Stamp → Bool
 same_stamp a b = (a.generation == b.generation) && (a.len == b.len)
@@ -41,14 +41,14 @@ entered H p stamp = record {
   ordered = false;
 }
 
--- whether q is a replica of the same block on another storage of p's node
-unfoldable pub is_replaced : Cluster → ReplicaId → ReplicaId → Bool
-is_replaced C p q = (q.block == p.block) && are_sisters C p.storage q.storage
+-- whether p, once it is entered, replaces q: a replica of the same block on another storage of the node
+unfoldable pub replaces : Cluster → ReplicaId → ReplicaId → Bool
+replaces C p q = (q.block == p.block) && are_sisters C p.storage q.storage
 
 -- the replica is there, those that it replaces leave, and the transfer to it has arrived
 unfoldable pub enter : Cluster → Holdings → ReplicaId → Stamp → Holdings
 enter C H p stamp = record H {
-  replicas = insert (keep H.replicas (λ q _. not (is_replaced C p q))) p (entered H p stamp);
+  replicas = insert (keep H.replicas (λ q _. not (replaces C p q))) p (entered H p stamp);
   pending = remove H.pending p;
 }
 
@@ -80,16 +80,19 @@ without_pending H b = record H { pending = keep H.pending (λ q _. not (q.block 
 unfoldable pub revise_block : Holdings → ℕ → (Marks → Marks) → Holdings
 revise_block H b f = record H { replicas = revise H.replicas (λ q m. if q.block == b then f m else m) }
 
+-- of a deleted block
 abbrev pub as_stray : Marks → Marks
 as_stray m = record m { tag = Stray; excess = false }
 
+-- of a replica found corrupt
 abbrev pub as_bad : Marks → Marks
 as_bad m = record m { tag = Bad; excess = false }
 
-abbrev pub as_stale : Marks → Marks
-as_stale m = record m { tag = (if is_good m.tag then Stale else m.tag); excess = false }
+-- of a block with another stamp
+abbrev pub as_restamped : Marks → Marks
+as_restamped m = record m { tag = (if is_good m.tag then Stale else m.tag); excess = false }
 
--- the block is known, with the replicas that are there
+-- the block is known; where nothing refuses, it has no replica yet
 unfoldable pub add_block : Holdings → ℕ → Stamp → ℕ → Holdings
 add_block H b stamp repl = record H { blocks = insert H.blocks b (record { stamp = stamp; repl = repl }) }
 
@@ -100,10 +103,10 @@ delete_block H b = let G = without_pending (revise_block H b as_stray) b in reco
 unfoldable pub set_replication : Holdings → ℕ → ℕ → Holdings
 set_replication H b repl = record H { blocks = revise_at H.blocks b (λ i. record i { repl = repl }) }
 
--- the block has another stamp, its good replicas are stale, and its transfers leave
+-- the block has another stamp, its good replicas are stale and none is in excess, and its transfers leave
 unfoldable pub restamp : Holdings → ℕ → Stamp → Holdings
 restamp H b stamp =
-    let G = without_pending (revise_block H b as_stale) b in
+    let G = without_pending (revise_block H b as_restamped) b in
     record G { blocks = revise_at G.blocks b (λ i. record i { stamp = stamp }) }
 
 -- the replica is bad, if it is there
@@ -122,14 +125,14 @@ without_storages H gone = record H {
 
 -- The cluster.
 
--- the node and its storages are there, with no room yet
+-- the node and its storages are there, with no remaining bytes yet
 unfoldable pub register : Cluster → ℕ → ℕ → List ℕ → Cluster
 register C n rack ss = record {
   nodes = insert C.nodes n rack;
   storages = insert_all C.storages (map (λ s. (s, record { node = n; remaining = 0 })) ss);
 }
 
--- the room on storages that are there, one told after another, so that the last of a storage counts
+-- the remaining bytes of storages that are there, one told after another, so that the last of a storage counts
 abbrev pub set_remaining : Map by_number StorageInfo → List Remaining → Map by_number StorageInfo
 set_remaining m [] = m
 set_remaining m (r ∷ rs) = set_remaining (revise_at m r.storage (λ i. record i { remaining = r.remaining })) rs
@@ -138,7 +141,7 @@ unfoldable pub heartbeat : Cluster → List Remaining → Cluster
 heartbeat C rs = record C { storages = set_remaining C.storages rs }
 
 unfoldable pub without_node : Cluster → ℕ → Cluster
-without_node C n = record { nodes = remove C.nodes n; storages = keep C.storages (λ s _. not (stands_on C n s)) }
+without_node C n = record { nodes = remove C.nodes n; storages = keep C.storages (λ s _. not (has_storage C n s)) }
 
 unfoldable pub without_storage : Cluster → ℕ → Cluster
 without_storage C s = record C { storages = remove C.storages s }
@@ -152,18 +155,18 @@ change_cluster C (Heartbeat n rs) = heartbeat C rs
 change_cluster C _ = C
 
 -- what an event makes of the blocks and replicas, where the cluster is C before it
-unfoldable pub change_held : Cluster → Holdings → Event → Holdings
-change_held C H (Dead n) = without_storages H (stands_on C n)
-change_held C H (StorageFailed s) = without_storages H (λ t. t == s)
-change_held C H (AddBlock b stamp repl) = add_block H b stamp repl
-change_held C H (DeleteBlock b) = delete_block H b
-change_held C H (SetReplication b repl) = set_replication H b repl
-change_held C H (Restamp b stamp) = restamp H b stamp
-change_held C H (Received s b stamp) = enter C H (replica_at b s) stamp
-change_held C H (Deleted s b) = remove_replica H (replica_at b s)
-change_held C H (Corrupt s b) = make_bad H (replica_at b s)
-change_held C H (FullReport s es) = report C H s es
-change_held C H _ = H
+unfoldable pub change_holdings : Cluster → Holdings → Event → Holdings
+change_holdings C H (Dead n) = without_storages H (has_storage C n)
+change_holdings C H (StorageFailed s) = without_storages H (λ t. t == s)
+change_holdings C H (AddBlock b stamp repl) = add_block H b stamp repl
+change_holdings C H (DeleteBlock b) = delete_block H b
+change_holdings C H (SetReplication b repl) = set_replication H b repl
+change_holdings C H (Restamp b stamp) = restamp H b stamp
+change_holdings C H (Received s b stamp) = enter C H (replica_at b s) stamp
+change_holdings C H (Deleted s b) = remove_replica H (replica_at b s)
+change_holdings C H (Corrupt s b) = make_bad H (replica_at b s)
+change_holdings C H (FullReport s es) = report C H s es
+change_holdings C H _ = H
 
 abbrev pub change : State → Event → State
-change M e = record M { cluster = change_cluster M.cluster e; held = change_held M.cluster M.held e }
+change M e = record M { cluster = change_cluster M.cluster e; holdings = change_holdings M.cluster M.holdings e }

@@ -1,5 +1,5 @@
 -- Which call is refused, and why: the checks in their order, and the first that fails.
-use Rattle.std.specs.Prelude.{ℕ, ◌+◌, Bool, false, not, ◌&&◌, ◌||◌, if◌then◌else◌, ◌==◌, nat_lt, nat_le, List, [], ◌∷◌, length, Option, Some, None, option_map}
+use Rattle.std.specs.Prelude.{ℕ, ◌+◌, Bool, false, not, ◌&&◌, ◌||◌, if◌then◌else◌, ◌==◌, nat_lt, nat_le, List, [], ◌∷◌, length, Option, Some, None}
 use Rattle.std.specs.Option.{option_map_or}
 use Rattle.std.specs.List.{list_any}
 use Rattle.bm_base.specs.declared.replica.Stamp.{Stamp}
@@ -10,7 +10,7 @@ use Rattle.bm_base.specs.declared.refusal.Refusal.TheVariants.{UnknownNode, Node
 use Rattle.bm_base.specs.Map.{get, contains_key, entries, len}
 use Rattle.bm_base.specs.State.{Cluster, Holdings, State}
 use Rattle.bm_base.specs.Lists.{has_repeats}
-use Rattle.bm_base.specs.Replicas.{is_stray, stands_on}
+use Rattle.bm_base.specs.Replicas.{is_stray, has_storage}
 
 abbrev pub refusal_number : Refusal → ℕ
 refusal_number UnknownNode = 1
@@ -29,12 +29,12 @@ refusal_number CallsSpent = 13
 refusal_number Memory = 14
 refusal_number BadConfig = 15
 
--- a check: the refusal, and the test by which it is met
+-- a check: the refusal, and the test by which it is due
 infix 5 ◌when◌
 abbrev pub ◌when◌ : Refusal → Bool → Refusal × Bool
 r when b = (r, b)
 
--- the refusal of the first check that is met
+-- the refusal of the first check whose test holds
 abbrev pub first_of : List (Refusal × Bool) → Option Refusal
 first_of [] = None
 first_of (c ∷ cs) = if c.1 then Some c.0 else first_of cs
@@ -58,8 +58,11 @@ knows_block H b = contains_key H.blocks b
 unfoldable pub is_still_stored : Holdings → ℕ → Bool
 is_still_stored H b = list_any (λ e. (e.0.block == b) && is_stray e.1.tag) (entries H.replicas)
 
+abbrev pub max_replication : ℕ
+max_replication = 16
+
 abbrev pub is_bad_replication : ℕ → Bool
-is_bad_replication repl = (repl == 0) || nat_lt 16 repl
+is_bad_replication repl = (repl == 0) || nat_lt max_replication repl
 
 -- whether the generation is not greater than the block's
 unfoldable pub is_old : Holdings → ℕ → Stamp → Bool
@@ -78,7 +81,7 @@ max_entries = 65536
 abbrev pub last_number : ℕ
 last_number = 18446744073709551615
 
--- The checks of an event on the cluster, in their order. Every number of these stands before those of the checks on the blocks.
+-- The checks of an event on the cluster, in the order of their numbers, all of which are below those of its checks on the blocks.
 unfoldable pub cluster_checks : Cluster → Event → List (Refusal × Bool)
 cluster_checks C (Register n rack ss) =
     (NodeKnown when knows_node C n)
@@ -90,7 +93,7 @@ cluster_checks C (StorageFailed s) = (UnknownStorage when not (knows_storage C s
 cluster_checks C (Heartbeat n rs) =
     (UnknownNode when not (knows_node C n))
     ∷ (UnknownStorage when list_any (λ r. not (knows_storage C r.storage)) rs)
-    ∷ (NotItsStorage when list_any (λ r. not (stands_on C n r.storage)) rs)
+    ∷ (NotItsStorage when list_any (λ r. not (has_storage C n r.storage)) rs)
     ∷ []
 cluster_checks C (Received s b stamp) = (UnknownStorage when not (knows_storage C s)) ∷ []
 cluster_checks C (Deleted s b) = (UnknownStorage when not (knows_storage C s)) ∷ []
@@ -117,7 +120,7 @@ calls_spent M = first_of ((CallsSpent when nat_le last_number M.calls) ∷ [])
 
 -- the first refusal of an event, want of memory aside
 unfoldable pub refusal_of : State → Event → Option Refusal
-refusal_of M e = first_of (cluster_checks M.cluster e) before first_of (block_checks M.held e) before calls_spent M
+refusal_of M e = first_of (cluster_checks M.cluster e) before first_of (block_checks M.holdings e) before calls_spent M
 
 -- that of a round
 unfoldable pub round_refusal : State → Option Refusal

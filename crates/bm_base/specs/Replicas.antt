@@ -1,5 +1,5 @@
 -- Words on replicas and on where they stand.
--- Source: HDFS Architecture guide, "Replica Placement"; Hadoop 2's NumberReplicas.
+-- Source: HDFS Architecture guide, "Replica Placement: The First Baby Steps"; Hadoop 2's NumberReplicas.
 use Rattle.std.specs.Prelude.{ℕ, Bool, true, false, not, ◌&&◌, ◌==◌, nat_lt, List, map, filter, filter_map, length, Option, option_and_then, option_map}
 use Rattle.std.specs.Option.{option_map_or}
 use Rattle.bm_base.specs.declared.replica.Tag.{Tag}
@@ -38,20 +38,20 @@ node_of C s = option_map (λ i. i.node) (get C.storages s)
 unfoldable pub rack_of : Cluster → ℕ → Option ℕ
 rack_of C s = option_and_then (λ n. get C.nodes n) (node_of C s)
 
--- whether storage s stands on node n
-unfoldable pub stands_on : Cluster → ℕ → ℕ → Bool
-stands_on C n s = option_map_or (λ m. m == n) (node_of C s) false
+-- whether storage s is one of node n
+unfoldable pub has_storage : Cluster → ℕ → ℕ → Bool
+has_storage C n s = option_map_or (λ m. m == n) (node_of C s) false
 
 -- whether two storages are different ones of one node
 unfoldable pub are_sisters : Cluster → ℕ → ℕ → Bool
-are_sisters C s t = not (t == s) && option_map_or (λ n. stands_on C n t) (node_of C s) false
+are_sisters C s t = not (t == s) && option_map_or (λ n. has_storage C n t) (node_of C s) false
 
 -- the storages of the block's replicas whose marks pass, rising
 unfoldable pub storages_where : (Marks → Bool) → Holdings → ℕ → List ℕ
 storages_where p H b = map (λ e. e.0.storage) (filter (λ e. (e.0.block == b) && p e.1) (entries H.replicas))
 
--- The storages of the block's live replicas. Today no node takes its replicas out of these; the cluster is handed in,
--- since where a replica stands may come to matter.
+-- The storages of the block's live replicas. The cluster is handed in beside the holdings and not read: which replicas are
+-- live is decided here alone, and does not depend on where they stand.
 abbrev pub live : Cluster → Holdings → ℕ → List ℕ
 live C H b = storages_where is_live H b
 

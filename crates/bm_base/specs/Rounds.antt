@@ -1,5 +1,12 @@
--- A round's last step and a whole round: what it commands, and what it leaves.
--- Source: HDFS Architecture guide, "Data Replication": commands are answers to DataNodes; Hadoop 2's PendingReplicationBlocks.
+-- A whole round: what it commands, and what it leaves. In order:
+--     1. the round number grows by one, and transfers that are too old leave (Excess)
+--     2. replicas in excess are marked anew (Excess)
+--     3. copies are wished for, by level and block (Transfers)
+--     4. for each wish a source and a target are chosen, if there are (Transfers)
+--     5. deletes are chosen, for each node so many (Deletes)
+--     6. what was chosen is commanded and stands in the state (here)
+-- Source: HDFS Architecture guide, "The Communication Protocols": commands are answers to DataNodes; Hadoop 2's
+-- PendingReplicationBlocks.
 use Rattle.std.specs.Prelude.{ℕ, ◌+◌, Bool, true, ◌&&◌, if◌then◌else◌, ◌==◌, nat_lt, List, map, filter, length}
 use Rattle.std.specs.List.{list_any}
 use Rattle.bm_base.specs.declared.replica.ReplicaId.{ReplicaId}
@@ -9,15 +16,13 @@ use Rattle.bm_base.specs.declared.commands.NodeCommands.{NodeCommands}
 use Rattle.bm_base.specs.declared.commands.Commands.{Commands}
 use Rattle.bm_base.specs.Map.{insert_all, revise, keys}
 use Rattle.bm_base.specs.State.{Cluster, Holdings, State, replica_at}
-use Rattle.bm_base.specs.Replicas.{stands_on}
+use Rattle.bm_base.specs.Replicas.{has_storage}
 use Rattle.bm_base.specs.Excess.{started}
 use Rattle.bm_base.specs.Transfers.{transfers}
 use Rattle.bm_base.specs.Deletes.{deletes}
 
--- Step 7.
-
 unfoldable pub node_commands : Cluster → List Transfer → List Delete → ℕ → NodeCommands
-node_commands C ts ds n = record { node = n; transfers = filter (λ t. stands_on C n t.source) ts; deletes = filter (λ d. stands_on C n d.storage) ds }
+node_commands C ts ds n = record { node = n; transfers = filter (λ t. has_storage C n t.source) ts; deletes = filter (λ d. has_storage C n d.storage) ds }
 
 abbrev pub has_commands : NodeCommands → Bool
 has_commands k = nat_lt 0 (length k.transfers + length k.deletes)
@@ -38,7 +43,7 @@ finished r H ts ds = record H {
 
 -- what the next round of a state commands, and the state after it
 unfoldable pub round_commands : State → Commands
-round_commands M = let N = started M in commands_of N.cluster N.round (transfers N.limits N.cluster N.held) (deletes N.limits N.cluster N.held)
+round_commands M = let N = started M in commands_of N.cluster N.round (transfers N.limits N.cluster N.holdings) (deletes N.limits N.cluster N.holdings)
 
 unfoldable pub round_change : State → State
-round_change M = let N = started M in record N { held = finished N.round N.held (transfers N.limits N.cluster N.held) (deletes N.limits N.cluster N.held) }
+round_change M = let N = started M in record N { holdings = finished N.round N.holdings (transfers N.limits N.cluster N.holdings) (deletes N.limits N.cluster N.holdings) }

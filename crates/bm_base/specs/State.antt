@@ -1,5 +1,5 @@
 -- The state of a block manager: one set of marked replicas, and what stands beside it.
--- Source: the block map of Hadoop 2's BlockManager and BlockInfo; HDFS Architecture guide, "Data Replication".
+-- Source: the block map of Hadoop 2 (BlocksMap, BlockInfo); HDFS Architecture guide, "Data Replication".
 use Rattle.std.specs.Prelude.{◌≡◌, ℕ}
 use Rattle.std.specs.declared.cmp.Ordering.{Ordering}
 use Rattle.std.specs.declared.cmp.Ordering.TheVariants.{Equal}
@@ -48,19 +48,19 @@ pub record Holdings : Type 0 where
   -- by block and target, the round in which the transfer was commanded
   pub pending : Map by_replica ℕ
 
--- what of a configuration an answer may depend on: neither shards nor workers
-pub record Limits : Type 0 where
+-- the configured values by which rounds choose; no answer depends on shards and workers
+pub record RoundLimits : Type 0 where
   pub work : ℕ
   pub invalidate : ℕ
   pub pend : ℕ
 
-abbrev pub limits_of : Config → Limits
+abbrev pub limits_of : Config → RoundLimits
 limits_of c = record { work = c.work; invalidate = c.invalidate; pend = c.pend }
 
 pub record State : Type 0 where
-  pub limits : Limits
+  pub limits : RoundLimits
   pub cluster : Cluster
-  pub held : Holdings
+  pub holdings : Holdings
   -- the number of the last round
   pub round : ℕ
   -- how many calls were accepted
@@ -73,4 +73,4 @@ unfoldable pub empty_holdings : Holdings
 empty_holdings = record { blocks = empty; replicas = empty; pending = empty }
 
 abbrev pub first_state : Config → State
-first_state c = record { limits = limits_of c; cluster = empty_cluster; held = empty_holdings; round = c.first_round; calls = c.first_call }
+first_state c = record { limits = limits_of c; cluster = empty_cluster; holdings = empty_holdings; round = c.first_round; calls = c.first_call }

@@ -14,4 +14,4 @@ table H = map (λ b. (b, take max_places (places H b))) (keys H.blocks)
 
 -- a version: after how many accepted calls it was taken, and the table then
 unfoldable pub version : State → ℕ × List (ℕ × List ℕ)
-version M = (M.calls, table M.held)
+version M = (M.calls, table M.holdings)

@@ -10,7 +10,7 @@ pub struct Entry {
     pub stamp: Stamp,
 }
 
-/// The room on a storage, as a heartbeat tells it.
+/// The free bytes of a storage, as a heartbeat tells them.
 #[derive(Clone, Copy, Debug, PartialEq, Eq)]
 pub struct Remaining {
     pub storage: StorageId,
@@ -22,7 +22,7 @@ pub struct Remaining {
 /// they are looked for; `CallsSpent` may follow each of them.
 #[derive(Debug, Drop)]
 pub enum Event {
-    /// A DataNode comes with its storages, which have no room until a heartbeat tells of some.
+    /// A DataNode comes with its storages, which have no remaining bytes until a heartbeat tells of some.
     /// `NodeKnown`; `StorageKnown` where a storage is known or named twice; `TooMany` past 256 nodes or 1,024 storages.
     Register {
         node: NodeId,
@@ -33,7 +33,7 @@ pub enum Event {
     Dead { node: NodeId },
     /// A storage has failed: it leaves with its replicas and the transfers to it. `UnknownStorage`.
     StorageFailed { storage: StorageId },
-    /// The room on storages of a DataNode; the last value for a storage counts.
+    /// The remaining bytes of storages of a DataNode; the last value for a storage counts.
     /// `UnknownNode`; `UnknownStorage`; `NotItsStorage` where a storage is another node's.
     Heartbeat {
         node: NodeId,

@@ -29,7 +29,7 @@ impl Model for Gen {
     ghost inverse = { λ n. record { 0 = n } };
 }
 
-/// The number of a storage (a disk of a DataNode), any u32, unlike that of every other storage of the cluster.
+/// The number of a storage (a disk of a DataNode), any u32, unique in the cluster.
 #[derive(Clone, Copy, Debug, PartialEq, Eq, PartialOrd, Ord)]
 pub struct StorageId(pub u32);
 

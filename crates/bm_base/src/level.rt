@@ -2,18 +2,19 @@
 ghost use Rattle.std.specs.Prelude.{◌≡◌};
 ghost use Rattle.bm_base.specs.Levels.{level_number};
 
-/// How urgently a block wants replicas: the five queues of under-replicated blocks, the most urgent first.
+/// Why a block wants replicas: the five queues of under-replicated blocks, by
+/// number.
 #[derive(Clone, Copy, Debug, PartialEq, Eq, PartialOrd, Ord)]
 pub enum Level {
     /// 0: one live replica is left, and more are wanted.
     Highest,
-    /// 1: fewer than a third of the wanted replicas are live.
+    /// 1: two or more replicas are live, and fewer than a third of those wanted.
     VeryUnderReplicated,
-    /// 2: some wanted replicas are missing.
+    /// 2: a third or more of the wanted replicas are live, and not all.
     UnderReplicated,
-    /// 3: there are enough replicas, and all of them stand on one rack of several.
+    /// 3: enough replicas are live, more than one is wanted, and all of them stand on one rack although the cluster has several.
     BadlyDistributed,
-    /// 4: no live replica is left to copy from.
+    /// 4: more are wanted and none is live, so there is nothing to copy from.
     NoLiveReplica,
 }
 

@@ -24,7 +24,7 @@ pub enum Tag {
     Good,
     /// Of a known block, with another stamp than the block's.
     Stale,
-    /// Of a known block, and reported as corrupt since it is there.
+    /// Of a known block, and found corrupt since it came; a later report does not clear it.
     Bad,
     /// Of no known block.
     Stray,

@@ -22,17 +22,17 @@ unfolding refusal_of
 refused_by_cluster M e r h = checked-before_err (first_of (cluster_checks M.cluster e)) _ r h
 
 pub passed_by_cluster : (M : State) (e : Event) (u : Unit {0}) → checked (first_of (cluster_checks M.cluster e)) ≡ Ok u
-  → refusal_of M e ≡ (first_of (block_checks M.held e) before calls_spent M)
+  → refusal_of M e ≡ (first_of (block_checks M.holdings e) before calls_spent M)
 unfolding refusal_of
 passed_by_cluster M e u h = before-passed (first_of (cluster_checks M.cluster e)) _ u h
 
-pub refused_by_blocks : (M : State) (e : Event) (u : Unit {0}) (r : Refusal) → checked (first_of (cluster_checks M.cluster e)) ≡ Ok u → checked (first_of (block_checks M.held e)) ≡ Err r
+pub refused_by_blocks : (M : State) (e : Event) (u : Unit {0}) (r : Refusal) → checked (first_of (cluster_checks M.cluster e)) ≡ Ok u → checked (first_of (block_checks M.holdings e)) ≡ Err r
   → checked (refusal_of M e) ≡ Err r
-refused_by_blocks M e u r h k = ap checked (passed_by_cluster M e u h) ∙ checked-before_err (first_of (block_checks M.held e)) _ r k
+refused_by_blocks M e u r h k = ap checked (passed_by_cluster M e u h) ∙ checked-before_err (first_of (block_checks M.holdings e)) _ r k
 
-pub passed_by_both : (M : State) (e : Event) (u v : Unit {0}) → checked (first_of (cluster_checks M.cluster e)) ≡ Ok u → checked (first_of (block_checks M.held e)) ≡ Ok v
+pub passed_by_both : (M : State) (e : Event) (u v : Unit {0}) → checked (first_of (cluster_checks M.cluster e)) ≡ Ok u → checked (first_of (block_checks M.holdings e)) ≡ Ok v
   → refusal_of M e ≡ calls_spent M
-passed_by_both M e u v h k = passed_by_cluster M e u h ∙ before-passed (first_of (block_checks M.held e)) _ v k
+passed_by_both M e u v h k = passed_by_cluster M e u h ∙ before-passed (first_of (block_checks M.holdings e)) _ v k
 
 pub calls_spent-last : (M : State) → M.calls ≡ last_number → calls_spent M ≡ Some CallsSpent
 unfolding calls_spent

@@ -16,13 +16,6 @@ use Rattle.bm_base.specs.Refusals.{refusal_of, block_refusal}
 use Rattle.bm_base.specs.Answering.{Refuses, MayAnswer, state_left, may_want_memory, is_refused, wants_memory}
 use Rattle.bm_manager.specs.Built.{IsBuilt}
 
-pub built_may_want : (e : Event) → IsBuilt e → may_want_memory (call.Apply e) ≡ true
-built_may_want (Register n rack ss) h = refl
-built_may_want (AddBlock b stamp repl) h = refl
-built_may_want (Received s b stamp) h = refl
-built_may_want (FullReport s es) h = refl
-built_may_want _ h = absurd h
-
 -- a call whose definition refuses by o, and else answers x.0 and leaves x.1
 module _ (M : State) (k : Call) (o : Option Refusal) (x : Answer × State) (s : step M k ≡ refused_or M o x) where
   pub ok_answer : (a : Answer) → o ≡ None → a ≡ x.0 → MayAnswer M k a
@@ -31,29 +24,32 @@ module _ (M : State) (k : Call) (o : Option Refusal) (x : Answer × State) (s : 
   pub ok_left : (N : State) → o ≡ None → N ≡ x.1 → N ≡ (step M k).1
   ok_left N none is = is ∙ sym (ap (λ y. y.1) (s ∙ ap (λ q. refused_or M q x) none))
 
-  err_answer_by : (q : Option Refusal) → o ≡ q → (r : Refusal) → may_want_memory k ≡ true → is_refused x.0 ≡ false → Refuses q r → MayAnswer M k (answer.Refused r)
-  err_answer_by None e r may fine h = inr ((λ i. may i && not (is_refused (s i).0)) ∙ ap (λ p. not (is_refused (refused_or M p x).0)) e ∙ ap not fine, ap answer.Refused h)
-  err_answer_by (Some t) e r may fine h = inl (ap answer.Refused h ∙ sym (ap (λ y. y.0) (s ∙ ap (λ p. refused_or M p x) e)))
+  err_answer_by : (q : Option Refusal) (b : Bool) → o ≡ q → may_want_memory k ≡ b → (r : Refusal) → is_refused x.0 ≡ false → Refuses q b r → MayAnswer M k (answer.Refused r)
+  err_answer_by None true e may r fine h =
+      inr ((λ i. may i && not (is_refused (s i).0)) ∙ ap (λ p. not (is_refused (refused_or M p x).0)) e ∙ ap not fine, ap answer.Refused h)
+  err_answer_by None false e may r fine h = absurd h
+  err_answer_by (Some t) b e may r fine h = inl (ap answer.Refused h ∙ sym (ap (λ y. y.0) (s ∙ ap (λ p. refused_or M p x) e)))
 
-  pub err_answer : (r : Refusal) → may_want_memory k ≡ true → is_refused x.0 ≡ false → Refuses o r → MayAnswer M k (answer.Refused r)
-  err_answer r may fine h = err_answer_by o refl r may fine h
+  pub err_answer : (r : Refusal) → is_refused x.0 ≡ false → Refuses o (may_want_memory k) r → MayAnswer M k (answer.Refused r)
+  err_answer r fine h = err_answer_by o (may_want_memory k) refl refl r fine h
 
   same_either : (b : Bool) (y : State) → y ≡ M → M ≡ (if b then M else y)
   same_either true y e = refl
   same_either false y e = sym e
 
-  err_left_by : (q : Option Refusal) → o ≡ q → (r : Refusal) → Refuses q r → M ≡ state_left M k (answer.Refused r)
-  err_left_by None e r h = ap (λ t. state_left M k (answer.Refused t)) (sym h)
-  err_left_by (Some t) e r h = same_either (wants_memory (answer.Refused r)) (step M k).1 (ap (λ y. y.1) (s ∙ ap (λ p. refused_or M p x) e))
+  err_left_by : (q : Option Refusal) (b : Bool) → o ≡ q → (r : Refusal) → Refuses q b r → M ≡ state_left M k (answer.Refused r)
+  err_left_by None true e r h = ap (λ t. state_left M k (answer.Refused t)) (sym h)
+  err_left_by None false e r h = absurd h
+  err_left_by (Some t) b e r h = same_either (wants_memory (answer.Refused r)) (step M k).1 (ap (λ y. y.1) (s ∙ ap (λ p. refused_or M p x) e))
 
-  pub err_left : (N : State) (r : Refusal) → Refuses o r → N ≡ M → N ≡ state_left M k (answer.Refused r)
-  err_left N r h is = is ∙ err_left_by o refl r h
+  pub err_left : (N : State) (r : Refusal) → Refuses o (may_want_memory k) r → N ≡ M → N ≡ state_left M k (answer.Refused r)
+  err_left N r h is = is ∙ err_left_by o (may_want_memory k) refl r h
 
 pub step_apply : (M : State) (e : Event) → step M (call.Apply e) ≡ refused_or M (refusal_of M e) (answer.Done (done_by M e), after_event M e)
 unfolding step
 step_apply M e = refl
 
-pub step_places : (M : State) (b : ℕ) → step M (call.Places b) ≡ refused_or M (block_refusal M.held b) (answer.Storages (places M.held b), M)
+pub step_places : (M : State) (b : ℕ) → step M (call.Places b) ≡ refused_or M (block_refusal M.holdings b) (answer.Storages (places M.holdings b), M)
 unfolding step
 step_places M b = refl
 

@@ -245,7 +245,7 @@ fn check_replication(repl: u32) -> Result<(), Refusal>
 
 /// Takes out the block's replicas on other storages of the node.
 fn drop_replaced(replicas: &mut ReplicaMap<Marks>, topology: &Topology, replica: &ReplicaId)
-    ensures { replicas.new ≡ map.keep replicas.old (λ q _. not (events.is_replaced topology.now replica.now q)) }
+    ensures { replicas.new ≡ map.keep replicas.old (λ q _. not (events.replaces topology.now replica.now q)) }
 {
     replicas.retain(|(other, _)| {
         !(other.block == replica.block && topology.are_sisters(replica.storage, other.storage))

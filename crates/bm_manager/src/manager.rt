@@ -1,11 +1,11 @@
 // The manager: one call after another.
-ghost use Rattle.std.specs.Prelude.{◌≡◌, ◌<◌, None, IfOk, IfErr, OnOk, OnErr};
+ghost use Rattle.std.specs.Prelude.{◌≡◌, ◌<◌, true, None, IfOk, IfErr, OnOk, OnErr};
 ghost use Rattle.bm_base.specs.State.{first_state};
 ghost use Rattle.bm_base.specs.Queries as queries;
 ghost use Rattle.bm_base.specs.Refusals.{refusal_of, block_refusal, last_number};
 ghost use Rattle.bm_base.specs.Configuration.{config_refusal};
 ghost use Rattle.bm_base.specs.Calls.{done_by, after_event};
-ghost use Rattle.bm_base.specs.Answering.{checked, Refuses};
+ghost use Rattle.bm_base.specs.Answering.{checked, Refuses, takes_memory};
 ghost use Rattle.bm_base.specs.declared.event.Event.TheVariants as event_of;
 ghost use Rattle.bm_manager.specs.Built.{IsBuilt};
 
@@ -44,7 +44,7 @@ impl Model for Manager {
     ghost view = { λ m. record {
         limits = limits_of m.config;
         cluster = m.topology;
-        held = m.holdings;
+        holdings = m.holdings;
         round = m.round;
         calls = m.calls;
     } };
@@ -56,7 +56,7 @@ impl Manager {
     pub fn new(alloc: Global, config: Config) -> Result<Manager, Refusal>
         ensures allowed { OnOk result (config_refusal config ≡ None) }
         ensures state { IfOk result (λ m. m ≡ first_state config) }
-        ensures refused { IfErr result (Refuses (config_refusal config)) }
+        ensures refused { IfErr result (Refuses (config_refusal config) true) }
     {
         config.check()?;
         Ok(Manager {
@@ -84,9 +84,9 @@ impl Manager {
     /// The storages of the block's good replicas, in excess or not, rising. `UnknownBlock`; `Memory`.
     #[tactic(auto, unfolding(bm_base::specs::Refusals::block_refusal))]
     pub fn places(&self, id: BlockId) -> Result<Items<StorageId>, Refusal>
-        ensures known { OnOk result (block_refusal self.now.held id ≡ None) }
-        ensures places { IfOk result (λ v. v ≡ queries.places self.now.held id) }
-        ensures refused { IfErr result (Refuses (block_refusal self.now.held id)) }
+        ensures known { OnOk result (block_refusal self.now.holdings id ≡ None) }
+        ensures places { IfOk result (λ v. v ≡ queries.places self.now.holdings id) }
+        ensures refused { IfErr result (Refuses (block_refusal self.now.holdings id) true) }
     {
         if !self.holdings.knows_block(id) {
             return Err(Refusal::UnknownBlock);
@@ -101,7 +101,7 @@ impl Manager {
         ensures accepted { OnOk result (refusal_of self.old event.now ≡ None) }
         ensures done { IfOk result (λ d. d ≡ done_by self.old event.now) }
         ensures state { OnOk result (self.new ≡ after_event self.old event.now) }
-        ensures refused { IfErr result (Refuses (refusal_of self.old event.now)) }
+        ensures refused { IfErr result (Refuses (refusal_of self.old event.now) (takes_memory event.now)) }
         ensures unchanged { OnErr result (self.new ≡ self.old) }
     {
         self.check(event)?;
@@ -117,7 +117,7 @@ impl Manager {
         }
     }
 
-    #[tactic(auto, unfolding(bm_base::specs::Calls::after_event, bm_base::specs::Calls::done_by, bm_base::specs::Calls::done, bm_base::specs::Events::change_cluster, bm_base::specs::Events::change_held), using(crate::proofs::Counts::same_replicas))]
+    #[tactic(auto, unfolding(bm_base::specs::Calls::after_event, bm_base::specs::Calls::done_by, bm_base::specs::Calls::done, bm_base::specs::Events::change_cluster, bm_base::specs::Events::change_holdings), using(crate::proofs::Counts::same_replicas))]
     fn register(&mut self, node: NodeId, rack: Rack, storages: &[StorageId]) -> Result<Done, AllocError>
         requires { self.old.calls < last_number }
         ensures done { IfOk result (λ d. d ≡ done_by self.old (event_of.Register node rack storages.now)) }
@@ -132,7 +132,7 @@ impl Manager {
         })
     }
 
-    #[tactic(auto, unfolding(bm_base::specs::Calls::after_event, bm_base::specs::Calls::done_by, bm_base::specs::Calls::done, bm_base::specs::Events::add_block, bm_base::specs::Events::change_cluster, bm_base::specs::Events::change_held), using(crate::proofs::Counts::same_replicas))]
+    #[tactic(auto, unfolding(bm_base::specs::Calls::after_event, bm_base::specs::Calls::done_by, bm_base::specs::Calls::done, bm_base::specs::Events::add_block, bm_base::specs::Events::change_cluster, bm_base::specs::Events::change_holdings), using(crate::proofs::Counts::same_replicas))]
     fn add_block(&mut self, id: BlockId, stamp: Stamp, repl: u32) -> Result<Done, AllocError>
         requires { self.old.calls < last_number }
         ensures done { IfOk result (λ d. d ≡ done_by self.old (event_of.AddBlock id stamp repl)) }
@@ -147,7 +147,7 @@ impl Manager {
         })
     }
 
-    #[tactic(auto, unfolding(bm_base::specs::Calls::after_event, bm_base::specs::Calls::done_by, bm_base::specs::Events::change_cluster, bm_base::specs::Events::change_held))]
+    #[tactic(auto, unfolding(bm_base::specs::Calls::after_event, bm_base::specs::Calls::done_by, bm_base::specs::Events::change_cluster, bm_base::specs::Events::change_holdings))]
     fn receive(&mut self, storage: StorageId, id: BlockId, stamp: &Stamp) -> Result<Done, AllocError>
         requires { self.old.calls < last_number }
         ensures done { IfOk result (λ d. d ≡ done_by self.old (event_of.Received storage id stamp.now)) }

@@ -74,9 +74,9 @@ impl Topology {
         self.storages.get(u64::from(storage.0)).is_some()
     }
 
-    #[tactic(auto, unfolding(bm_base::specs::Replicas::stands_on))]
-    fn stands_on(&self, node: NodeId, storage: StorageId) -> bool
-        ensures { result ≡ replicas.stands_on self.now node storage }
+    #[tactic(auto, unfolding(bm_base::specs::Replicas::has_storage))]
+    fn has_storage(&self, node: NodeId, storage: StorageId) -> bool
+        ensures { result ≡ replicas.has_storage self.now node storage }
     {
         match self.node_of(storage) {
             Some(its_node) => its_node == node,
@@ -93,7 +93,7 @@ impl Topology {
             return false;
         }
         match self.node_of(a) {
-            Some(node) => self.stands_on(node, b),
+            Some(node) => self.has_storage(node, b),
             None => false,
         }
     }
@@ -131,9 +131,9 @@ impl Topology {
     }
 
     fn has_stranger(&self, node: NodeId, remaining: &[Remaining]) -> bool
-        ensures { result ≡ list_any (λ r. not (replicas.stands_on self.now node r.storage)) remaining.now }
+        ensures { result ≡ list_any (λ r. not (replicas.has_storage self.now node r.storage)) remaining.now }
     {
-        remaining.iter().any(|r| !self.stands_on(node, r.storage))
+        remaining.iter().any(|r| !self.has_storage(node, r.storage))
     }
 
     #[tactic(auto, unfolding(bm_base::specs::Refusals::cluster_checks))]

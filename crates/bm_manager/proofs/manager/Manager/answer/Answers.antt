@@ -3,8 +3,7 @@ use Rattle.bm_base.specs.State.{State}
 use Rattle.bm_base.specs.declared.call.Answer.TheVariants as answer
 use Rattle.bm_base.specs.Answering.{MayAnswer, state_left}
 use Rattle.bm_base.specs.Calls.{step}
-use Rattle.bm_manager.specs.Built.{IsBuiltCall}
-use Rattle.bm_manager.proofs.Runs.{ok_answer, ok_left, err_answer, err_left, step_apply, step_places, step_calls, built_may_want}
+use Rattle.bm_manager.proofs.Runs.{ok_answer, ok_left, err_answer, err_left, step_apply, step_places, step_calls}
 use Rattle.bm_manager.proofs.manager.Manager.answer.Goals as goal
 
 pub returns-in-Ok-clause-answer : goal.returns-in-Ok-clause-answer
@@ -22,7 +21,7 @@ pub returns-in-Err-clause-answer : goal.returns-in-Err-clause-answer
 returns-in-Err-clause-answer c =
     let M = c.args.self.now in
     subst (λ k. MayAnswer M k (answer.Refused c.in-Err.refusal)) (sym c.in-Apply.is)
-      (err_answer M _ _ _ (step_apply M c.in-Apply.event) c.in-Err.refusal (built_may_want c.in-Apply.event (subst IsBuiltCall c.in-Apply.is c.requires)) refl c.in-Err.ensures.refused)
+      (err_answer M _ _ _ (step_apply M c.in-Apply.event) c.in-Err.refusal refl c.in-Err.ensures.refused)
 
 pub returns-in-Err-clause-state : goal.returns-in-Err-clause-state
 returns-in-Err-clause-state c =
@@ -44,7 +43,7 @@ pub returns-in-Err-places-clause-answer : goal.returns-in-Err-places-clause-answ
 returns-in-Err-places-clause-answer c =
     let M = c.args.self.now in
     subst (λ k. MayAnswer M k (answer.Refused c.in-Err-places.refusal)) (sym c.in-Places.is)
-      (err_answer M _ _ _ (step_places M c.in-Places.id) c.in-Err-places.refusal refl refl c.in-Err-places.ensures.refused)
+      (err_answer M _ _ _ (step_places M c.in-Places.id) c.in-Err-places.refusal refl c.in-Err-places.ensures.refused)
 
 pub returns-in-Err-places-clause-state : goal.returns-in-Err-places-clause-state
 returns-in-Err-places-clause-state c =

@@ -4,7 +4,7 @@ use Rattle.bm_base.specs.declared.call.Call.{Call}
 use Rattle.bm_base.specs.declared.call.Answer.{Answer}
 use Rattle.bm_base.specs.declared.level.Level.TheVariants.{NoLiveReplica}
 use Rattle.bm_base.specs.declared.refusal.Refusal.TheVariants.{BlockKnown, StillStored, OldGeneration}
-use Rattle.worked_rows.specs.Script.{◌gives◌, HoldsOnCluster, usual, dead, add_block, delete_block, restamp, received, received_version, deleted, corrupt, report, level, round, places, list_corrupt, list_missing, list_excess, ok, at_level, commands, copies_by, copy, deletes_by, delete, blocks, storages, replica_ids, entry, refused}
+use Rattle.worked_examples.specs.Script.{◌gives◌, HoldsOnCluster, usual, dead, add_block, delete_block, restamp, received, received_version, deleted, corrupt, report, level, round, places, list_corrupt, list_missing, list_excess, ok, at_level, commands, copies_by, copy, deletes_by, delete, blocks, storages, replica_ids, entry, refused}
 
 -- a block has a replica more than wanted
 abbrev pub one_in_excess : List (Call × Answer)

@@ -1,28 +1,28 @@
 // How urgently blocks want replicas.
 #![tactic(auto, unfolding(bm_base::specs::Runs::run_of))]
 
-ghost use Rattle.worked_rows.specs.Levels as row;
+ghost use Rattle.worked_examples.specs.Levels as example;
 
 /// A block that no storage has is missing, and a round can copy nothing.
 pub fn block_without_replicas_is_missing()
-    ensures { row.block_without_replicas_is_missing }
+    ensures { example.block_without_replicas_is_missing }
 {}
 
 /// Two replicas are a third of six, but not of seven, and enough for two. A replication past 16 or of 0 is refused, and
 /// that of an unknown block.
 pub fn levels_follow_replication()
-    ensures { row.levels_follow_replication }
+    ensures { example.levels_follow_replication }
 {}
 
 /// A block with enough replicas, all on one rack, is copied to the other rack; then one of the rack with two is deleted.
 /// Where only one rack is alive, nothing is to be done.
 pub fn badly_distributed_block_gets_second_rack()
-    ensures second_rack { row.badly_distributed_block_gets_second_rack }
-    ensures only_rack { row.one_rack_is_enough_where_no_other_is_alive }
+    ensures second_rack { example.badly_distributed_block_gets_second_rack }
+    ensures only_rack { example.one_rack_is_enough_where_no_other_is_alive }
 {}
 
 /// A node's death makes two blocks urgent whose other live replicas stood on it. In the next round the replica in excess
 /// whose deletion was not commanded counts again, so that its block is merely badly distributed; both are copied.
 pub fn queue_follows_death()
-    ensures { row.queue_follows_death }
+    ensures { example.queue_follows_death }
 {}

@@ -2,7 +2,7 @@
 use Rattle.std.specs.Prelude.{ℕ, zero, suc, ◌+◌, ◌-◌, ◌*◌, List, [], ◌∷◌, ◌++◌, map, replicate}
 use Rattle.bm_base.specs.declared.replica.Tag.TheVariants.{Good}
 use Rattle.bm_base.specs.declared.refusal.Refusal.TheVariants.{UnknownNode, NodeKnown, UnknownStorage, StorageKnown, TooMany, CallsSpent}
-use Rattle.worked_rows.specs.Script.{◌gives◌, Holds, usual, register, dead, storage_failed, report, entry, list_replicas, add_block, ok, replicas, replica, refused}
+use Rattle.worked_examples.specs.Script.{◌gives◌, Holds, usual, register, dead, storage_failed, report, entry, list_replicas, add_block, ok, replicas, replica, refused}
 
 -- so many numbers from the first on
 abbrev pub numbers_from : ℕ → ℕ → List ℕ

@@ -4,8 +4,8 @@ use Rattle.bm_base.specs.declared.call.Call.{Call}
 use Rattle.bm_base.specs.declared.call.Answer.{Answer}
 use Rattle.bm_base.specs.declared.replica.Tag.TheVariants.{Good, Stale, Bad, Stray}
 use Rattle.bm_base.specs.declared.refusal.Refusal.TheVariants.{UnknownStorage}
-use Rattle.worked_rows.specs.Script.{◌gives◌, Holds, HoldsOnCluster, usual, register, heartbeat, remaining, add_block, received, corrupt, report, entry, round, places, list_replicas, list_corrupt, list_excess, list_storage, ok, commands, deletes_by, delete, replicas, replica, replica_ids, blocks, storages, refused}
-use Rattle.worked_rows.specs.Deletes.{one_in_excess}
+use Rattle.worked_examples.specs.Script.{◌gives◌, Holds, HoldsOnCluster, usual, register, heartbeat, remaining, add_block, received, corrupt, report, entry, round, places, list_replicas, list_corrupt, list_excess, list_storage, ok, commands, deletes_by, delete, replicas, replica, replica_ids, blocks, storages, refused}
+use Rattle.worked_examples.specs.Deletes.{one_in_excess}
 
 abbrev pub four_lines : Type 0
 four_lines = Holds usual (

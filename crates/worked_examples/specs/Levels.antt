@@ -4,7 +4,7 @@ use Rattle.bm_base.specs.declared.call.Call.{Call}
 use Rattle.bm_base.specs.declared.call.Answer.{Answer}
 use Rattle.bm_base.specs.declared.level.Level.TheVariants.{Highest, VeryUnderReplicated, UnderReplicated, BadlyDistributed, NoLiveReplica}
 use Rattle.bm_base.specs.declared.refusal.Refusal.TheVariants.{UnknownBlock, BadReplication}
-use Rattle.worked_rows.specs.Script.{◌gives◌, HoldsOnCluster, usual, dead, add_block, set_replication, received, level, round, list_missing, list_excess, ok, at_level, at_no_level, commands, copies_by, copy, deletes_by, delete, blocks, replica_ids, refused}
+use Rattle.worked_examples.specs.Script.{◌gives◌, HoldsOnCluster, usual, dead, add_block, set_replication, received, level, round, list_missing, list_excess, ok, at_level, at_no_level, commands, copies_by, copy, deletes_by, delete, blocks, replica_ids, refused}
 
 abbrev pub block_without_replicas_is_missing : Type 0
 block_without_replicas_is_missing = HoldsOnCluster usual (

@@ -1,20 +1,20 @@
 // How many nodes, storages and report entries there may be.
 #![tactic(auto, unfolding(bm_base::specs::Runs::run_of))]
 
-ghost use Rattle.worked_rows.specs.Limits as row;
+ghost use Rattle.worked_examples.specs.Limits as example;
 
 /// Of 256 alive nodes one has to die before another may register.
 pub fn no_257th_node()
-    ensures { row.no_257th_node }
+    ensures { example.no_257th_node }
 {}
 
 /// There may be 1,024 storages. A further node may then come without any, and with one once a storage has failed.
 pub fn no_1025th_storage()
-    ensures { row.no_1025th_storage }
+    ensures { example.no_1025th_storage }
 {}
 
 /// A report may have 65,536 entries, repeats included, and no more.
 pub fn no_report_of_65537_entries()
-    ensures too_many { row.no_report_of_65537_entries }
-    ensures as_many_as_may_be { row.report_of_65536_entries }
+    ensures too_many { example.no_report_of_65537_entries }
+    ensures as_many_as_may_be { example.report_of_65536_entries }
 {}

@@ -4,7 +4,7 @@ use Rattle.bm_base.specs.declared.replica.Tag.TheVariants.{Stray}
 use Rattle.bm_base.specs.declared.refusal.Refusal.TheVariants.{UnknownNode, NodeKnown, UnknownStorage, StorageKnown, UnknownBlock, BlockKnown, StillStored, BadReplication, OldGeneration, NotItsStorage, RoundsSpent, CallsSpent, BadConfig}
 use Rattle.bm_base.specs.declared.config.Config.{Config}
 use Rattle.bm_base.specs.Configuration.{config_refusal}
-use Rattle.worked_rows.specs.Script.{◌gives◌, Holds, HoldsOnCluster, usual, register, dead, storage_failed, heartbeat, remaining, add_block, delete_block, set_replication, restamp, received, deleted, corrupt, report, round, list_replicas, list_storage, places, level, count_calls, count_rounds, ok, commands, replicas, replica, storages, number, refused}
+use Rattle.worked_examples.specs.Script.{◌gives◌, Holds, HoldsOnCluster, usual, register, dead, storage_failed, heartbeat, remaining, add_block, delete_block, set_replication, restamp, received, deleted, corrupt, report, round, list_replicas, list_storage, places, level, count_calls, count_rounds, ok, commands, replicas, replica, storages, number, refused}
 
 abbrev pub refusals_are_named : Type 0
 refusals_are_named = HoldsOnCluster usual (

@@ -1,0 +1,12 @@
+//! Worked examples: calls of a block manager beside the answers that they give, each computed by the definitions of `bm_base`.
+//!
+//! The answers were worked out by hand from the rules in words. So each example checks the definitions, to which the block
+//! manager is proved. No function here does anything: its contract is the example.
+#![tactic(auto)]
+
+pub mod copies;
+pub mod deletes;
+pub mod levels;
+pub mod limits;
+pub mod refusals;
+pub mod reports;
