@@ -1,6 +1,6 @@
 -- A whole run: what was read and handed on.
 use Rattle.std.proofs.Common.{◌≡◌, ℕ, zero, suc, ◌+◌, ◌<◌, ◌≤◌, List, [], ◌∷◌, ◌++◌, length, take, drop, refl, sym, ap, ◌∙◌, append_assoc, append-nil, arith, inl, inr}
-use Rattle.std.specs.Prelude.{Option, Some, None, Result, IfOk, IfErr, IfSome, OnOk}
+use Rattle.std.specs.Prelude.{Option, Some, None, Result, Ok, Err, IfOk, IfErr, IfSome, OnOk}
 use Rattle.std.specs.Io.KnownBytes.{Appends, Consumes, Keeps, IsAtEnd}
 use Rattle.std.proofs.lemmas.List.{take-append-drop}
 use Rattle.std.proofs.lemmas.Result.{IfOk-weaker, IfErr-weaker, MatchResult-from_both}
@@ -15,7 +15,8 @@ use Rattle.bm_tool.specs.Lines.{lines_of}
 use Rattle.bm_tool.specs.Text.{max_lines, max_bytes, texts, text}
 use Rattle.bm_tool.specs.Starting.{StartFault}
 use Rattle.bm_tool.specs.Progress.{Progress, Stopped, PieceFault, IsSummary}
-use Rattle.bm_tool.specs.Outcome.{Faulted, Leaves, FaultCounts, HasCause}
+use Rattle.bm_tool.specs.Outcome.{Faulted, Leaves, FaultCounts, HasCause, ConfigOfFault, ChecksConfig}
+use Rattle.bm_base.specs.Configuration.{config_refusal}
 use Rattle.bm_tool.proofs.LineLemmas.{whole_lines-split}
 use Rattle.bm_tool.proofs.ProgressLemmas.{Appends-nil, stopped_more}
 
@@ -60,7 +61,7 @@ take_room xs ys most room n e h = rw (← e, take-append-add xs (take n ys) room
 -- a run that did not begin has read and written nothing
 pub faulted_at_start : (config : Config) (old : Option (List ℕ)) (f : Fault) → StartFault config f → Faulted config [] old old f
 unfolding texts
-faulted_at_start config old fault.Config h = (h, refl, refl)
+faulted_at_start config old fault.Config h = (refl, refl)
 faulted_at_start config old fault.Read h = absurd h
 faulted_at_start config old fault.Write h = tt
 faulted_at_start config old fault.Memory h = (0, Appends-nil old)
@@ -72,6 +73,27 @@ counts_at_start config reads writes fault.Read h = absurd h
 counts_at_start config reads writes fault.Write h = absurd h
 counts_at_start config reads writes fault.Memory h = (refl, refl)
 counts_at_start config reads writes fault.TooMuch h = absurd h
+
+pub config_at_start : (config : Config) (f : Fault) → StartFault config f → ConfigOfFault config f
+config_at_start config fault.Config h = h
+config_at_start config fault.Read h = absurd h
+config_at_start config fault.Write h = absurd h
+config_at_start config fault.Memory h = h
+config_at_start config fault.TooMuch h = absurd h
+
+-- a run that began was configured well
+pub config_of_piece : (config : Config) (start new : Option (List ℕ)) (bytes : List ℕ) (before now : ℕ) (f : Fault) → config_refusal config ≡ None
+  → PieceFault (first_state config) start new bytes before now f → ConfigOfFault config f
+config_of_piece config start new bytes before now fault.Config allowed h = absurd h
+config_of_piece config start new bytes before now fault.Read allowed h = allowed
+config_of_piece config start new bytes before now fault.Write allowed h = allowed
+config_of_piece config start new bytes before now fault.Memory allowed h = allowed
+config_of_piece config start new bytes before now fault.TooMuch allowed h = allowed
+
+pub config_of_finished : (config : Config) (start new : Option (List ℕ)) (bytes : List ℕ) (before now : ℕ) (result : Result Summary Fault) → config_refusal config ≡ None
+  → IfErr result (PieceFault (first_state config) start new bytes before now) → ChecksConfig config result
+config_of_finished config start new bytes before now (Ok s) allowed h = allowed
+config_of_finished config start new bytes before now (Err f) allowed h = config_of_piece config start new bytes before now f allowed h
 
 -- the bytes that were handed on are the first of the input
 pub faulted_of_piece : (config : Config) (bytes more all : List ℕ) (old new : Option (List ℕ)) (before now : ℕ) (f : Fault) → all ≡ bytes ++ more → take max_bytes all ≡ bytes

@@ -1,5 +1,5 @@
 -- What a run that read an input leaves.
-use Rattle.std.specs.Prelude.{◌≡◌, ℕ, ◌+◌, ◌<◌, ◌≤◌, ◌⊎◌, List, [], length, take, Option, Some, Result, MatchResult}
+use Rattle.std.specs.Prelude.{◌≡◌, ℕ, ◌+◌, ◌<◌, ◌≤◌, ◌⊎◌, List, [], length, take, Option, Some, None, Result, MatchResult}
 use Rattle.std.specs.Io.KnownBytes.{Appends, IsAtEnd}
 use Rattle.bm_base.specs.declared.config.Config.{Config}
 use Rattle.bm_base.specs.declared.refusal.Refusal.TheVariants.{BadConfig}
@@ -25,7 +25,7 @@ pub record Finished (config : Config) (input : List ℕ) (left old new : Option 
 
 -- what stands written after each fault
 abbrev pub Faulted : Config → List ℕ → Option (List ℕ) → Option (List ℕ) → Fault → Type 0
-Faulted config input old new fault.Config = (config_refusal config ≡ Some BadConfig) × (input ≡ []) × (new ≡ old)
+Faulted config input old new fault.Config = (input ≡ []) × (new ≡ old)
 Faulted config input old new fault.Read = Appends old new (texts (first_state config) (whole_lines input))
 Faulted config input old new fault.Write = Unit {0}
 Faulted config input old new fault.Memory = Stopped (first_state config) old new input
@@ -44,3 +44,12 @@ FaultCounts reads reads' writes writes' fault.TooMuch = (reads' ≡ reads) × (w
 
 abbrev pub HasCause : ℕ → ℕ → ℕ → ℕ → Result Summary Fault → Type 0
 HasCause reads reads' writes writes' result = MatchResult result (λ _. (reads' ≡ reads) × (writes' ≡ writes)) (FaultCounts reads reads' writes writes')
+
+-- whether the configuration was the cause of a fault
+abbrev pub ConfigOfFault : Config → Fault → Type 0
+ConfigOfFault config fault.Config = config_refusal config ≡ Some BadConfig
+ConfigOfFault config _ = config_refusal config ≡ None
+
+-- a run refuses the configuration exactly where it is outside its ranges
+abbrev pub ChecksConfig : Config → Result Summary Fault → Type 0
+ChecksConfig config result = MatchResult result (λ _. config_refusal config ≡ None) (ConfigOfFault config)

@@ -1,5 +1,5 @@
 // Readers and writers that count their failures.
-ghost use Rattle.std.specs.Prelude.{◌≡◌, ◌+◌, ◌^◌, ◌<◌, ℕ, Bool, true, List, Option, OnOk, OnErr, is_err, if◌then◌else◌};
+ghost use Rattle.std.specs.Prelude.{◌≡◌, ◌+◌, ◌^◌, ◌<◌, ℕ, Bool, true, false, List, Option, OnOk, OnErr, is_err, if◌then◌else◌};
 ghost use Rattle.std.specs.Io.{ReadsAtMost};
 ghost use Rattle.std.specs.Io.KnownBytes.{Appends, Keeps, ReadConsumes};
 ghost use Rattle.bm_tool.specs.Ends.{Counts};
@@ -36,6 +36,7 @@ pub trait Sink {
     fn write_all(&mut self, bytes: &[u8]) -> io::Result<()>
         requires { faults self.old + 1 < 2 ^ 64 }
         ensures bytes { OnOk result (Appends (contents self.old) (contents self.new) bytes.now) }
+        ensures unflushed { is_flushed self.new ≡ false }
         ensures cause { Counts (faults self.old) (faults self.new) result };
 
     fn flush(&mut self) -> io::Result<()>

@@ -1,9 +1,8 @@
 // A whole run, from a reader to a writer.
-ghost use Rattle.std.specs.Prelude.{◌≡◌, ◌+◌, ◌<◌, ◌^◌, ℕ, List, None, IfSome, OnOk, true};
+ghost use Rattle.std.specs.Prelude.{◌≡◌, ◌+◌, ◌<◌, ◌^◌, ℕ, List, IfSome, OnOk, true};
 ghost use Rattle.std.specs.Io.KnownBytes.{Appends, Consumes};
-ghost use Rattle.bm_base.specs.Configuration.{config_refusal};
 ghost use Rattle.bm_tool.specs.Text.{text};
-ghost use Rattle.bm_tool.specs.Outcome.{Leaves, HasCause};
+ghost use Rattle.bm_tool.specs.Outcome.{Leaves, HasCause, ChecksConfig};
 
 use std::alloc::Global;
 
@@ -27,7 +26,8 @@ pub fn run<R: Source, W: Sink, H>(
 ) -> Result<Summary, Fault>
     requires reads { R.faults reader.old + 1 < 2 ^ 64 }
     requires writes { W.faults writer.old + 1 < 2 ^ 64 }
-    ensures allowed { OnOk result (config_refusal config.now ≡ None) }
+    // The configuration is refused exactly where it is outside its ranges.
+    ensures config { ChecksConfig config.now result }
     // Where the reader tells its bytes, what is written is their text.
     ensures text { OnOk result (IfSome (R.remaining reader.old) (λ input.
         Appends (W.contents writer.old) (W.contents writer.new) (text config.now input))) }

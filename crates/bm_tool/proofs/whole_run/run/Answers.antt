@@ -4,7 +4,7 @@ use Rattle.std.proofs.lemmas.Result.{err_from_is_err_and, IfOk-weaker, IfErr-wea
 use Rattle.bm_base.specs.State.{State, first_state}
 use Rattle.bm_tool.specs.Text.{max_bytes}
 use Rattle.bm_tool.proofs.LineLemmas.{whole_lines-split}
-use Rattle.bm_tool.proofs.RunLemmas.{Consumes-nil, Consumes-then, Consumes-keeps, take_whole, take_room, room_split, faulted_at_start, counts_at_start, faulted_of_piece, counts_of_piece, too_many_bytes, finished_leaves, finished_causes, text_of_known}
+use Rattle.bm_tool.proofs.RunLemmas.{Consumes-nil, Consumes-then, Consumes-keeps, take_whole, take_room, room_split, faulted_at_start, counts_at_start, config_at_start, config_of_piece, config_of_finished, faulted_of_piece, counts_of_piece, too_many_bytes, finished_leaves, finished_causes, text_of_known}
 use Rattle.bm_tool.proofs.whole_run.run.Goals as goal
 
 pub returns-in_err-session-clause-leaves : goal.returns-in_err-session-clause-leaves
@@ -16,6 +16,29 @@ pub returns-in_err-session-clause-cause : goal.returns-in_err-session-clause-cau
 returns-in_err-session-clause-cause g c =
     let e = err_from_is_err_and c.from_residual.result c.from_residual.ensures.1 in
     rw (e.1, e.2) (counts_at_start c.args.config.now _ _ _ c.in_err-session.ensures.err)
+
+pub returns-in_err-session-clause-config : goal.returns-in_err-session-clause-config
+returns-in_err-session-clause-config g c =
+    let e = err_from_is_err_and c.from_residual.result c.from_residual.ensures.1 in
+    rw (e.1, e.2) (config_at_start c.args.config.now _ c.in_err-session.ensures.err)
+
+pub returns-then-n-eq0-clause-config : goal.returns-then-n-eq0-clause-config
+returns-then-n-eq0-clause-config g c =
+    let q = c.loop-n.invariant.progress in
+    let M : State = first_state c.args.config.now in
+    config_of_finished c.args.config.now _ _ q.0 _ _ c.finish.result c.in_ok-session.ensures.allowed (IfErr-weaker c.finish.result _ _ (λ f h. h M _ q.0 q.3) c.finish.ensures.err)
+
+pub returns-in_err-take_piece-clause-config : goal.returns-in_err-take_piece-clause-config
+returns-in_err-take_piece-clause-config g c =
+    let e = err_from_is_err_and c.from_residual-in_err-take_piece.result c.from_residual-in_err-take_piece.ensures.1 in
+    let q = c.loop-n.invariant.progress in
+    rw (e.1, e.2) (config_of_piece c.args.config.now _ _ _ _ _ _ c.in_ok-session.ensures.allowed (c.in_err-take_piece.ensures.err (first_state c.args.config.now) _ q.0 q.3))
+
+pub returns-in_err-take_piece-2-clause-config : goal.returns-in_err-take_piece-2-clause-config
+returns-in_err-take_piece-2-clause-config g c =
+    let e = err_from_is_err_and c.from_residual-in_err-take_piece-2.result c.from_residual-in_err-take_piece-2.ensures.1 in
+    let q = c.loop-n.invariant.progress in
+    rw (e.1, e.2) (config_of_piece c.args.config.now _ _ _ _ _ _ c.in_ok-session.ensures.allowed (c.in_err-take_piece-2.ensures.err (first_state c.args.config.now) _ q.0 q.3))
 
 pub loop-n-init : goal.loop-n-init
 loop-n-init g c = record {
