@@ -2,11 +2,11 @@
 --     get-.., gets     what `get` answers after each change, and the set of these
 --     same_map         maps that answer alike are equal
 --     entries-keep, keep-filter, remove-filter     entries filtered are a map kept
-use Rattle.std.specs.Prelude.{◌≡◌, ℕ, Bool, true, false, cond, not, if◌then◌else◌, ◌&&◌, List, [], ◌∷◌, filter, length, Option, Some, None, option_and_then, option_map, T}
+use Rattle.std.specs.Prelude.{◌≡◌, Bool, true, false, cond, not, if◌then◌else◌, List, [], ◌∷◌, filter, Option, Some, None, option_and_then, option_map, T}
 use Rattle.std.specs.declared.cmp.Ordering.{Ordering}
 use Rattle.std.specs.declared.cmp.Ordering.TheVariants.{Less, Equal, Greater}
 use Rattle.std.specs.Ordering.{eq_by_cmp, is_eq, is_lt}
-use Rattle.std.specs.FinMap.{find, put, is_sorted}
+use Rattle.std.specs.FinMap.{find, is_sorted}
 use Rattle.std.specs.FinMap.Entries.{find-put, same_entries, below_all}
 use Rattle.std.specs.List.{items_where_true}
 use Rattle.std.proofs.Common.{refl, sym, ap, subst, ◌∙◌}

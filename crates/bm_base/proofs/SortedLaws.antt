@@ -1,10 +1,10 @@
 -- A sorted vector that changes stands for a map that changes.
-use Rattle.std.specs.Prelude.{◌≡◌, ℕ, Bool, List, [], length, Option, T}
+use Rattle.std.specs.Prelude.{◌≡◌, Bool, List, length, T}
 use Rattle.std.specs.FinMap.{find, put, is_sorted}
 use Rattle.std.specs.FinMap.Entries.{is_sorted-put}
 use Rattle.std.specs.List.Retain.{IsFiltered}
-use Rattle.std.proofs.Common.{refl, sym, ap, subst, ◌∙◌}
-use Rattle.bm_base.specs.Map.{Map, Order, entries, empty, get, insert, len, same_entries_map}
+use Rattle.std.proofs.Common.{sym, ap, subst, ◌∙◌}
+use Rattle.bm_base.specs.Map.{Map, Order, entries, get, insert, len, same_entries_map}
 use Rattle.bm_base.specs.OfSorted.{of_sorted, entries-of_sorted, list-of_sorted}
 use Rattle.bm_base.proofs.MapLaws.{is_sorted-items_where_true}
 

@@ -38,7 +38,7 @@ coded_replica_id = code_by (ℕ × ℕ) (coded× coded_ℕ coded_ℕ) (λ p. (p.
 abbrev pub coded_marks : Coded Marks
 coded_marks =
     code_by (Tag × (Bool × Bool)) (coded× coded_tag (coded× coded_bool coded_bool))
-      (λ m. (m.tag, (m.excess, m.ordered))) (λ t. record { tag = t.0; excess = t.1.0; ordered = t.1.1 }) (λ _. refl)
+    (λ m. (m.tag, (m.excess, m.ordered))) (λ t. record { tag = t.0; excess = t.1.0; ordered = t.1.1 }) (λ _. refl)
 
 abbrev pub coded_stamp : Coded Stamp
 coded_stamp = code_by (ℕ × ℕ) (coded× coded_ℕ coded_ℕ) (λ s. (s.generation, s.len)) (λ t. record { generation = t.0; len = t.1 }) (λ _. refl)
@@ -52,21 +52,21 @@ coded_storage = code_by (ℕ × ℕ) (coded× coded_ℕ coded_ℕ) (λ i. (i.nod
 abbrev pub coded_cluster : Coded Cluster
 coded_cluster =
     code_by (Map by_number ℕ × Map by_number StorageInfo) (coded× (code coded_ℕ coded_ℕ) (code coded_ℕ coded_storage))
-      (λ C. (C.nodes, C.storages)) (λ t. record { nodes = t.0; storages = t.1 }) (λ _. refl)
+    (λ C. (C.nodes, C.storages)) (λ t. record { nodes = t.0; storages = t.1 }) (λ _. refl)
 
 abbrev pub coded_holdings : Coded Holdings
 coded_holdings =
     code_by (Map by_number BlockInfo × (Map by_replica Marks × Map by_replica ℕ))
-      (coded× (code coded_ℕ coded_block) (coded× (code coded_replica_id coded_marks) (code coded_replica_id coded_ℕ)))
-      (λ H. (H.blocks, (H.replicas, H.pending))) (λ t. record { blocks = t.0; replicas = t.1.0; pending = t.1.1 }) (λ _. refl)
+    (coded× (code coded_ℕ coded_block) (coded× (code coded_replica_id coded_marks) (code coded_replica_id coded_ℕ)))
+    (λ H. (H.blocks, (H.replicas, H.pending))) (λ t. record { blocks = t.0; replicas = t.1.0; pending = t.1.1 }) (λ _. refl)
 
 abbrev pub coded_limits : Coded RoundLimits
 coded_limits =
     code_by (ℕ × (ℕ × ℕ)) (coded× coded_ℕ (coded× coded_ℕ coded_ℕ))
-      (λ l. (l.work, (l.invalidate, l.pend))) (λ t. record { work = t.0; invalidate = t.1.0; pend = t.1.1 }) (λ _. refl)
+    (λ l. (l.work, (l.invalidate, l.pend))) (λ t. record { work = t.0; invalidate = t.1.0; pend = t.1.1 }) (λ _. refl)
 
 abbrev pub coded_state : Coded State
 coded_state =
     code_by ((RoundLimits × Cluster) × (Holdings × (ℕ × ℕ))) (coded× (coded× coded_limits coded_cluster) (coded× coded_holdings (coded× coded_ℕ coded_ℕ)))
-      (λ M. ((M.limits, M.cluster), (M.holdings, (M.round, M.calls))))
-      (λ t. record { limits = t.0.0; cluster = t.0.1; holdings = t.1.0; round = t.1.1.0; calls = t.1.1.1 }) (λ _. refl)
+    (λ M. ((M.limits, M.cluster), (M.holdings, (M.round, M.calls))))
+    (λ t. record { limits = t.0.0; cluster = t.0.1; holdings = t.1.0; round = t.1.1.0; calls = t.1.1.1 }) (λ _. refl)

@@ -66,7 +66,7 @@ leaves_by_report C s es q = if q.storage == s then not (is_named es q.block) els
 unfoldable pub report : Cluster → Holdings → ℕ → List Entry → Holdings
 report C H s es = record H {
   replicas =
-    insert_all (keep H.replicas (λ q _. not (leaves_by_report C s es q)))
+      insert_all (keep H.replicas (λ q _. not (leaves_by_report C s es q)))
       (map (λ e. (replica_at e.id s, entered H (replica_at e.id s) e.stamp)) es);
   pending = keep H.pending (λ q _. not ((q.storage == s) && is_named es q.block));
 }

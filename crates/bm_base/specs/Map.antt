@@ -7,7 +7,7 @@
 --     revise m f       each value changed by its key.     revise_at m k f      the value at one key changed, if it is there
 --     insert_all m es  the entries one after another, so that the last of a key counts
 -- The laws stand in proofs/MapLaws.
-use Rattle.std.specs.Prelude.{◌≡◌, ℕ, Bool, if◌then◌else◌, ◌&&◌, List, [], ◌∷◌, map, length, is_some, Option, Some, None, T}
+use Rattle.std.specs.Prelude.{◌≡◌, ℕ, Bool, if◌then◌else◌, List, [], ◌∷◌, map, length, is_some, Option, Some, None, T}
 use Rattle.std.specs.declared.cmp.Ordering.{Ordering}
 use Rattle.std.specs.declared.cmp.Ordering.TheVariants.{Equal}
 use Rattle.std.specs.Ordering.{eq_by_cmp, is_lt, nat_cmp}

@@ -22,7 +22,7 @@ replica_cmp p q = ordering_then (nat_cmp p.block q.block) (nat_cmp p.storage q.s
 pub replica_cmp-same : (p q : ReplicaId) → replica_cmp p q ≡ Equal → p ≡ q
 replica_cmp-same p q h =
     ap (λ (x : ℕ × ℕ). record { block = x.0; storage = x.1 })
-      (exact_pairs nat_cmp nat_cmp exact_unsigned exact_unsigned (p.block, p.storage) (q.block, q.storage) h)
+    (exact_pairs nat_cmp nat_cmp exact_unsigned exact_unsigned (p.block, p.storage) (q.block, q.storage) h)
 
 abbrev pub by_replica : Order ReplicaId
 by_replica = record {

@@ -30,9 +30,13 @@ pub enum Event {
         storages: Items<StorageId>,
     },
     /// A DataNode is dead: it leaves with its storages, their replicas and the transfers to them. `UnknownNode`.
-    Dead { node: NodeId },
+    Dead {
+        node: NodeId,
+    },
     /// A storage has failed: it leaves with its replicas and the transfers to it. `UnknownStorage`.
-    StorageFailed { storage: StorageId },
+    StorageFailed {
+        storage: StorageId,
+    },
     /// The remaining bytes of storages of a DataNode; the last value for a storage counts.
     /// `UnknownNode`; `UnknownStorage`; `NotItsStorage` where a storage is another node's.
     Heartbeat {
@@ -47,12 +51,20 @@ pub enum Event {
         repl: u32,
     },
     /// A block belongs to no file any more: its replicas become stray. `UnknownBlock`.
-    DeleteBlock { id: BlockId },
+    DeleteBlock {
+        id: BlockId,
+    },
     /// Another number of replicas is wanted. `UnknownBlock`; `BadReplication` outside 1 to 16.
-    SetReplication { id: BlockId, repl: u32 },
+    SetReplication {
+        id: BlockId,
+        repl: u32,
+    },
     /// A block has a new version: its good replicas become stale. `UnknownBlock`; `OldGeneration` where the
     /// generation is not greater than the block's.
-    Restamp { id: BlockId, stamp: Stamp },
+    Restamp {
+        id: BlockId,
+        stamp: Stamp,
+    },
     /// A DataNode has received a replica. `UnknownStorage`.
     Received {
         storage: StorageId,
@@ -60,9 +72,15 @@ pub enum Event {
         stamp: Stamp,
     },
     /// A DataNode has deleted a replica. `UnknownStorage`.
-    Deleted { storage: StorageId, id: BlockId },
+    Deleted {
+        storage: StorageId,
+        id: BlockId,
+    },
     /// A reader has found a replica corrupt. `UnknownStorage`; `UnknownBlock`.
-    Corrupt { storage: StorageId, id: BlockId },
+    Corrupt {
+        storage: StorageId,
+        id: BlockId,
+    },
     /// All replicas on a storage; the last entry of a block counts. `UnknownStorage`; `TooMany` past 65,536 entries.
     FullReport {
         storage: StorageId,
