@@ -1,5 +1,5 @@
 -- Checks one after another.
-use Rattle.std.proofs.Common.{◌≡◌, ℕ, ◌<◌, ◌≢◌, Option, Some, None, Result, Ok, Err, refl, sym, ap, ◌∙◌, arith, cond, Bool, true, false}
+use Rattle.std.proofs.Common.{◌≡◌, ◌<◌, Option, Some, None, Ok, Err, refl, ap, ◌∙◌, arith, cond}
 use Rattle.std.specs.Prelude.{nat_le}
 use Rattle.std.proofs.lemmas.Bool.Decides.{nat_tests}
 use Rattle.bm_base.specs.declared.event.Event.{Event}
@@ -22,16 +22,16 @@ unfolding refusal_of
 refused_by_cluster M e r h = checked-before_err (first_of (cluster_checks M.cluster e)) _ r h
 
 pub passed_by_cluster : (M : State) (e : Event) (u : Unit {0}) → checked (first_of (cluster_checks M.cluster e)) ≡ Ok u
-  → refusal_of M e ≡ (first_of (block_checks M.holdings e) before calls_spent M)
+    → refusal_of M e ≡ (first_of (block_checks M.holdings e) before calls_spent M)
 unfolding refusal_of
 passed_by_cluster M e u h = before-passed (first_of (cluster_checks M.cluster e)) _ u h
 
 pub refused_by_blocks : (M : State) (e : Event) (u : Unit {0}) (r : Refusal) → checked (first_of (cluster_checks M.cluster e)) ≡ Ok u → checked (first_of (block_checks M.holdings e)) ≡ Err r
-  → checked (refusal_of M e) ≡ Err r
+    → checked (refusal_of M e) ≡ Err r
 refused_by_blocks M e u r h k = ap checked (passed_by_cluster M e u h) ∙ checked-before_err (first_of (block_checks M.holdings e)) _ r k
 
 pub passed_by_both : (M : State) (e : Event) (u v : Unit {0}) → checked (first_of (cluster_checks M.cluster e)) ≡ Ok u → checked (first_of (block_checks M.holdings e)) ≡ Ok v
-  → refusal_of M e ≡ calls_spent M
+    → refusal_of M e ≡ calls_spent M
 passed_by_both M e u v h k = passed_by_cluster M e u h ∙ before-passed (first_of (block_checks M.holdings e)) _ v k
 
 pub calls_spent-last : (M : State) → M.calls ≡ last_number → calls_spent M ≡ Some CallsSpent

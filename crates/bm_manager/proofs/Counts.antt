@@ -1,10 +1,10 @@
 -- Counting the pairs that came and went.
-use Rattle.std.proofs.Common.{◌≡◌, ℕ, ◌+◌, fold, Bool, true, false, cond, not, T, List, [], ◌∷◌, Option, Some, None, is_some, count_by, refl, sym, ap, subst, ◌∙◌, Ordering, Equal, is_eq, arith}
+use Rattle.std.proofs.Common.{◌≡◌, ◌+◌, fold, Bool, true, false, cond, not, List, [], ◌∷◌, Option, Some, is_some, count_by, refl, ap, ◌∙◌, is_eq}
 use Rattle.std.specs.FinMap.{find}
 use Rattle.std.specs.Ordering.{eq_by_cmp}
 use Rattle.std.proofs.lemmas.Cmp.{tied_itself}
 use Rattle.bm_base.specs.declared.replica.Marks.{Marks}
-use Rattle.bm_base.specs.Map.{Map, Order, get, entries, contains_key}
+use Rattle.bm_base.specs.Map.{Map, Order, get, entries}
 use Rattle.bm_base.specs.State.{by_replica}
 use Rattle.bm_base.specs.Calls.{new_replicas}
 
@@ -14,7 +14,7 @@ found_more true x o h = refl
 found_more false x o h = h
 
 none_missing : {K X : Type 0} (o : Order K) (es fs : List (K × X)) → ((q : K) → is_some (find o.cmp q es) ≡ true → is_some (find o.cmp q fs) ≡ true)
-  → count_by (λ e. not (is_some (find o.cmp e.0 fs))) es ≡ 0
+    → count_by (λ e. not (is_some (find o.cmp e.0 fs))) es ≡ 0
 none_missing o [] fs h = refl
 none_missing o (e ∷ es) fs h =
     let here : is_some (find o.cmp e.0 (e ∷ es)) ≡ true = ap (λ r. is_some (cond (is_eq r) (Some e.1) (find o.cmp e.0 es))) (tied_itself o.total e.0) in

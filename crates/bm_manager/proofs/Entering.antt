@@ -1,5 +1,5 @@
 -- Entering a replica in place: it is set first, which may want memory, and then the block's other replicas on the node leave.
-use Rattle.std.proofs.Common.{◌≡◌, ℕ, ◌-◌, ◌≤◌, Bool, true, false, not, ◌&&◌, refl, sym, ap, ◌∙◌, eq-eqb, arith}
+use Rattle.std.proofs.Common.{◌≡◌, ℕ, ◌-◌, ◌≤◌, Bool, true, false, not, ◌&&◌, refl, ap, ◌∙◌, eq-eqb, arith}
 use Rattle.std.specs.Prelude.{◌==◌}
 use Rattle.bm_base.specs.declared.replica.ReplicaId.{ReplicaId}
 use Rattle.bm_base.specs.declared.replica.Marks.{Marks}
@@ -46,8 +46,8 @@ pub record IsInPlace (C : Cluster) (H : Holdings) (p : ReplicaId) (stamp : Stamp
   pub replicas : dropped ≡ (enter C H p stamp).replicas
 
 pub in_place : (C : Cluster) (H : Holdings) (p : ReplicaId) (stamp : Stamp) (K ins dropped : Map by_replica Marks) (marks : Marks) (before with_it after : ℕ)
-  → K ≡ H.replicas → marks ≡ entered H p stamp → ins ≡ insert K p marks → dropped ≡ keep ins (λ q _. not (replaces C p q))
-  → before ≡ len K → with_it ≡ len ins → after ≡ len dropped → IsInPlace C H p stamp dropped before with_it after
+    → K ≡ H.replicas → marks ≡ entered H p stamp → ins ≡ insert K p marks → dropped ≡ keep ins (λ q _. not (replaces C p q))
+    → before ≡ len K → with_it ≡ len ins → after ≡ len dropped → IsInPlace C H p stamp dropped before with_it after
 in_place C H p stamp K ins dropped marks before with_it after k m i d b w a =
     let set : ins ≡ insert H.replicas p (entered H p stamp) = i ∙ (λ j. insert (k j) p (m j)) in
     let out : dropped ≡ (enter C H p stamp).replicas = d ∙ ap (λ x. keep x (λ q _. not (replaces C p q))) set ∙ set_then_drop C H p stamp in

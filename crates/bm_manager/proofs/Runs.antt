@@ -1,10 +1,8 @@
 -- One call against the definition.
-use Rattle.std.proofs.Common.{◌≡◌, ◌⊎◌, ℕ, Bool, true, false, Option, Some, None, refl, sym, ap, subst, ◌∙◌, inl, inr}
-use Rattle.std.specs.Prelude.{IsTrue, not, ◌&&◌, if◌then◌else◌}
+use Rattle.std.proofs.Common.{◌≡◌, ℕ, Bool, true, false, Option, Some, None, refl, sym, ap, ◌∙◌, inl, inr}
+use Rattle.std.specs.Prelude.{not, ◌&&◌, if◌then◌else◌}
 use Rattle.bm_base.specs.declared.event.Event.{Event}
-use Rattle.bm_base.specs.declared.event.Event.TheVariants.{Register, AddBlock, Received, FullReport}
 use Rattle.bm_base.specs.declared.refusal.Refusal.{Refusal}
-use Rattle.bm_base.specs.declared.refusal.Refusal.TheVariants.{Memory}
 use Rattle.bm_base.specs.declared.call.Call.{Call}
 use Rattle.bm_base.specs.declared.call.Call.TheVariants as call
 use Rattle.bm_base.specs.declared.call.Answer.{Answer}
@@ -14,7 +12,6 @@ use Rattle.bm_base.specs.Queries.{places}
 use Rattle.bm_base.specs.Calls.{step, refused_or, done_by, after_event}
 use Rattle.bm_base.specs.Refusals.{refusal_of, block_refusal}
 use Rattle.bm_base.specs.Answering.{Refuses, MayAnswer, state_left, may_want_memory, is_refused, wants_memory}
-use Rattle.bm_manager.specs.Built.{IsBuilt}
 
 -- a call whose definition refuses by o, and else answers x.0 and leaves x.1
 module _ (M : State) (k : Call) (o : Option Refusal) (x : Answer × State) (s : step M k ≡ refused_or M o x) where

@@ -3,11 +3,9 @@ ghost use Rattle.std.specs.Prelude.{◌≡◌, IfOk, OnErr, All};
 ghost use Rattle.bm_base.specs.Answering.{MayAnswer, MayAnswerAll, state_left, state_left_by};
 ghost use Rattle.bm_manager.specs.Built.{IsBuiltCall};
 
-use std::alloc::AllocError;
-
-use bm_base::{Answer, Call, Items};
-
 use crate::manager::Manager;
+use bm_base::{Answer, Call, Items};
+use std::alloc::AllocError;
 
 impl Manager {
     /// Makes one call. Its answer is the definition's, or, where the definition refuses nothing and the call is one that

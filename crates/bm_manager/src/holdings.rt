@@ -8,14 +8,13 @@ ghost use Rattle.bm_base.specs.Refusals.{first_of, block_checks, knows_block, is
 ghost use Rattle.bm_base.specs.Calls.{done};
 ghost use Rattle.bm_base.specs.Answering.{checked};
 
+use crate::topology::Topology;
+use bm_base::{
+    BlockId, BlockInfo, Done, Event, Items, Marks, NumberMap, Refusal, ReplicaId, ReplicaMap,
+    Stamp, StorageId, Tag,
+};
 use std::alloc::{AllocError, Global};
 use std::marker::Model;
-
-use bm_base::{
-    BlockId, BlockInfo, Done, Event, Items, Marks, NumberMap, Refusal, ReplicaId, ReplicaMap, Stamp, StorageId, Tag,
-};
-
-use crate::topology::Topology;
 
 const MAX_REPLICATION: u32 = 16;
 
@@ -61,10 +60,8 @@ impl Holdings {
     fn is_still_stored(&self, id: BlockId) -> bool
         ensures { result ≡ is_still_stored self.now id }
     {
-        self.replicas
-            .entries()
-            .iter()
-            .any(|(replica, marks)| replica.block == id && matches!(marks.tag, Tag::Stray))
+        self.replicas.entries().iter().any(|(replica, marks)| replica.block == id
+            && matches!(marks.tag, Tag::Stray))
     }
 
     #[tactic(auto, unfolding(bm_base::specs::Events::was_bad))]

@@ -9,15 +9,13 @@ ghost use Rattle.bm_base.specs.Answering.{checked, Refuses, takes_memory};
 ghost use Rattle.bm_base.specs.declared.event.Event.TheVariants as event_of;
 ghost use Rattle.bm_manager.specs.Built.{IsBuilt};
 
-use std::alloc::{AllocError, Global};
-use std::marker::Model;
-
+use crate::holdings::Holdings;
+use crate::topology::Topology;
 use bm_base::{
     BlockId, Config, Done, Event, Items, NodeId, Rack, Refusal, ReplicaId, Stamp, StorageId,
 };
-
-use crate::holdings::Holdings;
-use crate::topology::Topology;
+use std::alloc::{AllocError, Global};
+use std::marker::Model;
 
 /// Knows on which storages every block lies, and decides about replication for a cluster.
 ///
@@ -42,11 +40,11 @@ impl Model for Manager {
     ghost coded = { coded_state };
 
     ghost view = { λ m. record {
-        limits = limits_of m.config;
-        cluster = m.topology;
-        holdings = m.holdings;
-        round = m.round;
-        calls = m.calls;
+      limits = limits_of m.config;
+      cluster = m.topology;
+      holdings = m.holdings;
+      round = m.round;
+      calls = m.calls;
     } };
 }
 
@@ -118,7 +116,12 @@ impl Manager {
     }
 
     #[tactic(auto, unfolding(bm_base::specs::Calls::after_event, bm_base::specs::Calls::done_by, bm_base::specs::Calls::done, bm_base::specs::Events::change_cluster, bm_base::specs::Events::change_holdings), using(crate::proofs::Counts::same_replicas))]
-    fn register(&mut self, node: NodeId, rack: Rack, storages: &[StorageId]) -> Result<Done, AllocError>
+    fn register(
+        &mut self,
+        node: NodeId,
+        rack: Rack,
+        storages: &[StorageId],
+    ) -> Result<Done, AllocError>
         requires { self.old.calls < last_number }
         ensures done { IfOk result (λ d. d ≡ done_by self.old (event_of.Register node rack storages.now)) }
         ensures state { OnOk result (self.new ≡ after_event self.old (event_of.Register node rack storages.now)) }
@@ -148,7 +151,12 @@ impl Manager {
     }
 
     #[tactic(auto, unfolding(bm_base::specs::Calls::after_event, bm_base::specs::Calls::done_by, bm_base::specs::Events::change_cluster, bm_base::specs::Events::change_holdings))]
-    fn receive(&mut self, storage: StorageId, id: BlockId, stamp: &Stamp) -> Result<Done, AllocError>
+    fn receive(
+        &mut self,
+        storage: StorageId,
+        id: BlockId,
+        stamp: &Stamp,
+    ) -> Result<Done, AllocError>
         requires { self.old.calls < last_number }
         ensures done { IfOk result (λ d. d ≡ done_by self.old (event_of.Received storage id stamp.now)) }
         ensures state { OnOk result (self.new ≡ after_event self.old (event_of.Received storage id stamp.now)) }

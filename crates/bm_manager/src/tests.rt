@@ -1,4 +1,7 @@
 // With ample memory each call that takes some is accepted, and answers what the worked examples say.
+ghost use Rattle.std.specs.Prelude.{IfOk};
+ghost use Rattle.bm_manager.specs.Built.{IsBuiltCall};
+
 use crate::Manager;
 use bm_base::{
     Answer, BlockId, Call, Config, Event, Gen, Items, NodeId, Rack, Refusal, Stamp, StorageId,
@@ -13,7 +16,9 @@ fn stamp(generation: u64) -> Stamp {
     }
 }
 
-fn register(alloc: Global, node: u32, storages: &[StorageId]) -> Result<Call, AllocError> {
+fn register(alloc: Global, node: u32, storages: &[StorageId]) -> Result<Call, AllocError>
+    ensures { IfOk result IsBuiltCall }
+{
     let storages = Vec::from_slice(alloc, storages)?;
     Ok(Call::Apply(Event::Register {
         node: NodeId(node),
@@ -22,7 +27,9 @@ fn register(alloc: Global, node: u32, storages: &[StorageId]) -> Result<Call, Al
     }))
 }
 
-fn received(storage: u32, generation: u64) -> Call {
+fn received(storage: u32, generation: u64) -> Call
+    ensures { IsBuiltCall result }
+{
     Call::Apply(Event::Received {
         storage: StorageId(storage),
         id: BlockId(7),
@@ -63,7 +70,11 @@ fn a_list_of_calls_is_answered_call_by_call(rt: HostRuntime) -> Result<(), Fail>
         register(alloc, 1, [StorageId(11), StorageId(12)].as_slice())?,
         register(alloc, 1, [StorageId(13)].as_slice())?,
         register(alloc, 2, [StorageId(21)].as_slice())?,
-        Call::Apply(Event::AddBlock { id: BlockId(7), stamp: stamp(1), repl: 3 }),
+        Call::Apply(Event::AddBlock {
+            id: BlockId(7),
+            stamp: stamp(1),
+            repl: 3
+        }),
         received(11, 1),
         received(12, 1),
         received(21, 1),
@@ -72,7 +83,7 @@ fn a_list_of_calls_is_answered_call_by_call(rt: HostRuntime) -> Result<(), Fail>
         received(99, 1),
         Call::Places(BlockId(7)),
         Call::Places(BlockId(8)),
-        Call::Calls
+        Call::Calls,
     ]?;
     let wanted = [
         "ok 0 0",
@@ -103,16 +114,46 @@ fn a_bad_configuration_is_refused(rt: HostRuntime) {
     let alloc = rt.alloc();
     let standard = Config::standard();
     for config in [
-        Config { shards: 0, ..standard },
-        Config { shards: 65, ..standard },
-        Config { workers: 0, ..standard },
-        Config { workers: 17, ..standard },
-        Config { work: 0, ..standard },
-        Config { work: 1001, ..standard },
-        Config { invalidate: 0, ..standard },
-        Config { invalidate: 1_000_001, ..standard },
-        Config { pend: 0, ..standard },
-        Config { pend: 1_000_001, ..standard },
+        Config {
+            shards: 0,
+            ..standard
+        },
+        Config {
+            shards: 65,
+            ..standard
+        },
+        Config {
+            workers: 0,
+            ..standard
+        },
+        Config {
+            workers: 17,
+            ..standard
+        },
+        Config {
+            work: 0,
+            ..standard
+        },
+        Config {
+            work: 1001,
+            ..standard
+        },
+        Config {
+            invalidate: 0,
+            ..standard
+        },
+        Config {
+            invalidate: 1_000_001,
+            ..standard
+        },
+        Config {
+            pend: 0,
+            ..standard
+        },
+        Config {
+            pend: 1_000_001,
+            ..standard
+        },
     ] {
         assert!(rt; matches!(Manager::new(alloc, config), Err(Refusal::BadConfig)));
     }

@@ -10,10 +10,9 @@ ghost use Rattle.bm_base.specs.Refusals.{first_of, cluster_checks, knows_node, k
 ghost use Rattle.bm_base.specs.Answering.{checked};
 ghost use Rattle.bm_base.specs.declared.event.Event.TheVariants as event;
 
+use bm_base::{Event, NodeId, NumberMap, Rack, Refusal, Remaining, StorageId, StorageInfo};
 use std::alloc::{AllocError, Global};
 use std::marker::Model;
-
-use bm_base::{Event, NodeId, NumberMap, Rack, Refusal, Remaining, StorageId, StorageInfo};
 
 const MAX_NODES: usize = 256;
 
@@ -137,7 +136,12 @@ impl Topology {
     }
 
     #[tactic(auto, unfolding(bm_base::specs::Refusals::cluster_checks))]
-    fn check_register(&self, node: NodeId, rack: Rack, storages: &[StorageId]) -> Result<(), Refusal>
+    fn check_register(
+        &self,
+        node: NodeId,
+        rack: Rack,
+        storages: &[StorageId],
+    ) -> Result<(), Refusal>
         ensures { result ≡ checked (first_of (cluster_checks self.now (event.Register node rack storages.now))) }
     {
         if self.knows_node(node) {

@@ -29,5 +29,5 @@ listed-items [] = refl
 listed-items (d ∷ ds) = ap (λ xs. d ∷ xs) (listed-items ds)
 
 pub small_list_field-items : (name : List ℕ) (vs : List Value) (d : Data) → Some (items_view vs) ≡ option_and_then as_array (get name d)
-  → each small_in (map view vs) ≡ small_list_field name d
+    → each small_in (map view vs) ≡ small_list_field name d
 small_list_field-items name vs d e = rw (← e, listed-items) refl

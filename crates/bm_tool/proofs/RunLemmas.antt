@@ -14,7 +14,7 @@ use Rattle.bm_tool.specs.declared.fault.Fault.TheVariants as fault
 use Rattle.bm_tool.specs.Lines.{lines_of}
 use Rattle.bm_tool.specs.Text.{max_lines, max_bytes, texts, text}
 use Rattle.bm_tool.specs.Starting.{StartFault}
-use Rattle.bm_tool.specs.Progress.{Progress, Stopped, PieceFault, IsSummary}
+use Rattle.bm_tool.specs.Progress.{Progress, PieceFault, IsSummary}
 use Rattle.bm_tool.specs.Outcome.{Faulted, Leaves, FaultCounts, HasCause, ConfigOfFault, ChecksConfig}
 use Rattle.bm_base.specs.Configuration.{config_refusal}
 use Rattle.bm_tool.proofs.LineLemmas.{whole_lines-split}
@@ -83,7 +83,7 @@ config_at_start config fault.TooMuch h = absurd h
 
 -- a run that began was configured well
 pub config_of_piece : (config : Config) (start new : Option (List ℕ)) (bytes : List ℕ) (before now : ℕ) (f : Fault) → config_refusal config ≡ None
-  → PieceFault (first_state config) start new bytes before now f → ConfigOfFault config f
+    → PieceFault (first_state config) start new bytes before now f → ConfigOfFault config f
 config_of_piece config start new bytes before now fault.Config allowed h = absurd h
 config_of_piece config start new bytes before now fault.Read allowed h = allowed
 config_of_piece config start new bytes before now fault.Write allowed h = allowed
@@ -91,7 +91,7 @@ config_of_piece config start new bytes before now fault.Memory allowed h = allow
 config_of_piece config start new bytes before now fault.TooMuch allowed h = allowed
 
 pub config_of_finished : (config : Config) (start new : Option (List ℕ)) (bytes : List ℕ) (before now : ℕ) (result : Result Summary Fault) → config_refusal config ≡ None
-  → IfErr result (PieceFault (first_state config) start new bytes before now) → ChecksConfig config result
+    → IfErr result (PieceFault (first_state config) start new bytes before now) → ChecksConfig config result
 config_of_finished config start new bytes before now (Ok s) allowed h = allowed
 config_of_finished config start new bytes before now (Err f) allowed h = config_of_piece config start new bytes before now f allowed h
 

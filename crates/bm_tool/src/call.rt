@@ -5,13 +5,11 @@ ghost use Rattle.bm_manager.specs.Built.{IsBuiltCall};
 ghost use Rattle.bm_tool.specs.Fields.{stamp_from};
 ghost use Rattle.bm_tool.specs.CallOf.{register_from, add_from, received_from, stamp_fields, call_in, call_of, view_of};
 
-use std::alloc::{AllocError, Global};
-
-use bm_base::{BlockId, Call, Event, Gen, Items, NodeId, Rack, Stamp, StorageId};
-use serde_json::Value;
-
 use crate::fields::{number_field, small_field, storages_field};
 use crate::op::{Op, op_of};
+use bm_base::{BlockId, Call, Event, Gen, Items, NodeId, Rack, Stamp, StorageId};
+use serde_json::Value;
+use std::alloc::{AllocError, Global};
 
 /// The call that a line asks for, or `None` where it asks for none.
 pub fn call_of(alloc: Global, line: &[u8]) -> Result<Option<Call>, AllocError>

@@ -4,10 +4,9 @@ ghost use Rattle.serde_json.specs.Find.{as_array, get};
 ghost use Rattle.serde_json.specs.View.{view, items_view};
 ghost use Rattle.bm_tool.specs.Fields.{number_field, small_in, small_field, each, small_list_field};
 
-use std::alloc::{AllocError, Global};
-
 use bm_base::StorageId;
 use serde_json::Value;
+use std::alloc::{AllocError, Global};
 
 /// A whole number below 2^64.
 pub fn number_field(value: &Value, name: &str) -> Option<u64>

@@ -14,15 +14,13 @@ mod session;
 mod status;
 mod whole_run;
 
-use std::io;
-use std::io::{BufWriter, Write};
-use std::process::ExitCode;
-
 use bm_base::Config;
-
 use ends::Counted;
 use fault::{Fault, Summary};
 use status::fault_text;
+use std::io;
+use std::io::{BufWriter, Write};
+use std::process::ExitCode;
 use whole_run::run;
 
 /// Ends with status 0, or, after a fault, with its text on standard error and status 1.

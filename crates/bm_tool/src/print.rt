@@ -2,9 +2,8 @@
 ghost use Rattle.std.specs.Prelude.{◌≡◌, ◌++◌, IfOk, OnOk, string_bytes};
 ghost use Rattle.bm_tool.specs.Print.{answer_text, places_text, numbers_text, refusal_name};
 
-use std::alloc::{AllocError, Global};
-
 use bm_base::{Answer, BlockId, Call, Refusal, StorageId};
+use std::alloc::{AllocError, Global};
 
 /// The name of a refusal, as it stands in an output line.
 fn name_of(refusal: Refusal) -> &'static str

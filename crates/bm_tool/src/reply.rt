@@ -7,14 +7,12 @@ ghost use Rattle.bm_tool.specs.Lines.{ended};
 ghost use Rattle.bm_tool.specs.Print.{answer_text};
 ghost use Rattle.bm_tool.specs.Text.{asked, asked_text, asked_next, asked_refused};
 
-use std::alloc::{AllocError, Global};
-
-use bm_base::{Answer, Call, Refusal};
-use bm_manager::Manager;
-
 use crate::call::call_of;
 use crate::line::Line;
 use crate::print::line_of;
+use bm_base::{Answer, Call, Refusal};
+use bm_manager::Manager;
+use std::alloc::{AllocError, Global};
 
 /// What a line asks.
 #[derive(Drop)]
@@ -48,11 +46,7 @@ pub fn asked_by(alloc: Global, line: &Line) -> Result<Asked, AllocError>
 }
 
 /// Makes the call, if there is one. Where memory runs out, the manager may have taken it.
-pub fn reply_to(
-    alloc: Global,
-    manager: &mut Manager,
-    asked: &Asked,
-) -> Result<Reply, AllocError>
+pub fn reply_to(alloc: Global, manager: &mut Manager, asked: &Asked) -> Result<Reply, AllocError>
     requires { IsBuiltAsked asked.now }
     ensures text { IfOk result (λ r. string_bytes r.text ≡ ended (asked_text manager.old asked.now)) }
     ensures refused { IfOk result (λ r. r.is_refused ≡ asked_refused manager.old asked.now) }

@@ -5,15 +5,13 @@ ghost use Rattle.bm_base.specs.Configuration.{config_refusal};
 ghost use Rattle.bm_tool.specs.Held.{is_begun};
 ghost use Rattle.bm_tool.specs.Starting.{StartFault};
 
-use std::alloc::Global;
-
-use bm_base::{Config, Refusal};
-use bm_manager::Manager;
-
 use crate::ends::Sink;
 use crate::fault::{Fault, Summary};
 use crate::line::{Line, line_end};
 use crate::reply::{asked_by, reply_to};
+use bm_base::{Config, Refusal};
+use bm_manager::Manager;
+use std::alloc::Global;
 
 const MAX_LINES: u64 = 1_048_576;
 
@@ -53,10 +51,7 @@ impl Session {
     }
 
     /// Answers the line that is held, and begins the next.
-    pub fn end_line<W: Sink>(
-        &mut self,
-        writer: &mut W,
-    ) -> Result<(), Fault>
+    pub fn end_line<W: Sink>(&mut self, writer: &mut W) -> Result<(), Fault>
         requires room { W.faults writer.old + 1 < 2 ^ 64 }
         requires few { self.old.lines < max_lines }
         ensures ok { OnOk result ((M : State) (start : Option (List ℕ)) (bytes : List ℕ)
@@ -78,11 +73,7 @@ impl Session {
     }
 
     /// Takes the bytes up to the first line end, and gives back those behind it.
-    fn take_line<'p, W: Sink>(
-        &mut self,
-        piece: &'p [u8],
-        writer: &mut W,
-    ) -> Result<&'p [u8], Fault>
+    fn take_line<'p, W: Sink>(&mut self, piece: &'p [u8], writer: &mut W) -> Result<&'p [u8], Fault>
         requires room { W.faults writer.old + 1 < 2 ^ 64 }
         requires few { self.old.lines < max_lines }
         requires more { 0 < length piece.now }
@@ -111,11 +102,7 @@ impl Session {
     }
 
     /// Answers all lines whose end is in the piece, and keeps the rest.
-    pub fn take_piece<W: Sink>(
-        &mut self,
-        piece: &[u8],
-        writer: &mut W,
-    ) -> Result<(), Fault>
+    pub fn take_piece<W: Sink>(&mut self, piece: &[u8], writer: &mut W) -> Result<(), Fault>
         requires room { W.faults writer.old + 1 < 2 ^ 64 }
         ensures ok { OnOk result ((M : State) (start : Option (List ℕ)) (bytes : List ℕ)
             → Progress M start (W.contents writer.old) self.old bytes
@@ -137,10 +124,7 @@ impl Session {
     }
 
     /// Answers the rest, if there is one, and flushes.
-    pub fn finish<W: Sink>(
-        &mut self,
-        writer: &mut W,
-    ) -> Result<Summary, Fault>
+    pub fn finish<W: Sink>(&mut self, writer: &mut W) -> Result<Summary, Fault>
         requires room { W.faults writer.old + 1 < 2 ^ 64 }
         ensures ok { IfOk result (λ summary. (M : State) (start : Option (List ℕ)) (bytes : List ℕ)
             → Progress M start (W.contents writer.old) self.old bytes

@@ -4,13 +4,11 @@ ghost use Rattle.std.specs.Io.KnownBytes.{Appends, Consumes};
 ghost use Rattle.bm_tool.specs.Text.{text};
 ghost use Rattle.bm_tool.specs.Outcome.{Leaves, HasCause, ChecksConfig};
 
-use std::alloc::Global;
-
-use bm_base::Config;
-
 use crate::ends::{Sink, Source};
 use crate::fault::{Fault, Summary};
 use crate::session::Session;
+use bm_base::Config;
+use std::alloc::Global;
 
 const MAX_BYTES: usize = 1_073_741_824;
 

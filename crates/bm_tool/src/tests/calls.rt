@@ -1,10 +1,8 @@
 // The calls of the tool: accepted, and refused with each later check failing too.
-use std::test::Fail;
-
-use bm_base::Config;
-
 use crate::tests::support::{FIRST_PATH, FIRST_PATH_ANSWERS, run_over, run_with};
 use crate::{Fault, Summary};
+use bm_base::Config;
+use std::test::Fail;
 
 #[test]
 fn empty_input(rt: HostRuntime) {
@@ -52,10 +50,13 @@ fn register_is_refused_in_the_order_of_its_checks(rt: HostRuntime) -> Result<(),
     push_storages(&mut input, 2000, 1022)?;
     input.extend_from_slice(b"]}\n{\"op\":\"register\",\"node\":2,\"rack\":1,\"storages\":[13")?;
     push_storages(&mut input, 2000, 1021)?;
-    input.extend_from_slice(b"]}\n{\"op\":\"register\",\"node\":3,\"rack\":1,\"storages\":[14]}\n")?;
+    input.extend_from_slice(
+        b"]}\n{\"op\":\"register\",\"node\":3,\"rack\":1,\"storages\":[14]}\n",
+    )?;
     input.extend_from_slice(b"{\"op\":\"register\",\"node\":3,\"rack\":1,\"storages\":[]}\n")?;
     let (result, text) = run_over(&rt, alloc, input.as_slice());
-    let answers = "ok 0 0\nrefused 2 NodeKnown\nrefused 4 StorageKnown\nrefused 4 StorageKnown\nrefused 10 TooMany\nok 0 0\nrefused 10 TooMany\nok 0 0\n";
+    let answers =
+        "ok 0 0\nrefused 2 NodeKnown\nrefused 4 StorageKnown\nrefused 4 StorageKnown\nrefused 10 TooMany\nok 0 0\nrefused 10 TooMany\nok 0 0\n";
     assert_eq!(rt; text.as_slice(), answers.as_bytes());
     let summary = Summary {
         lines: 8,
@@ -81,7 +82,9 @@ fn nodes_are_counted(rt: HostRuntime) -> Result<(), Fail> {
     let mut input = Vec::new(alloc);
     let mut answers = Vec::new(alloc);
     for node in 1..257 {
-        let line = format!(in alloc; "{{\"op\":\"register\",\"node\":{node},\"rack\":{node},\"storages\":[]}}\n")?;
+        let line = format!(in alloc;
+            "{{\"op\":\"register\",\"node\":{node},\"rack\":{node},\"storages\":[]}}\n"
+        )?;
         input.extend_from_slice(line.as_bytes())?;
         answers.extend_from_slice(b"ok 0 0\n")?;
     }
@@ -108,7 +111,8 @@ fn add_and_received_are_refused_in_the_order_of_their_checks(rt: HostRuntime) {
 {\"op\":\"list_places\",\"id\":8}
 {\"op\":\"list_places\",\"id\":7}
 ";
-    let answers = "ok 0 0\nok 0 0\nrefused 6 BlockKnown\nok 1 0\nrefused 7 StillStored\nrefused 8 BadReplication\nrefused 8 BadReplication\nok 0 0\nok 0 0\nrefused 3 UnknownStorage\nrefused 5 UnknownBlock\nplaces 7\n";
+    let answers =
+        "ok 0 0\nok 0 0\nrefused 6 BlockKnown\nok 1 0\nrefused 7 StillStored\nrefused 8 BadReplication\nrefused 8 BadReplication\nok 0 0\nok 0 0\nrefused 3 UnknownStorage\nrefused 5 UnknownBlock\nplaces 7\n";
     let (result, text) = run_over(&rt, rt.alloc(), input.as_bytes());
     assert!(rt; result.is_ok());
     assert_eq!(rt; text.as_slice(), answers.as_bytes());
@@ -131,7 +135,8 @@ fn a_replica_is_good_by_its_stamp_and_moves_between_sister_storages(rt: HostRunt
 {\"op\":\"received\",\"storage\":12,\"id\":7,\"gen\":1,\"len\":10}
 {\"op\":\"list_places\",\"id\":7}
 ";
-    let answers = "ok 0 0\nok 0 0\nok 0 0\nok 1 0\nok 1 0\nplaces 7; 11; 21\nok 1 1\nplaces 7; 12; 21\nok 0 0\nplaces 7; 21\nok 0 0\nplaces 7; 21\nok 0 0\nplaces 7; 12; 21\n";
+    let answers =
+        "ok 0 0\nok 0 0\nok 0 0\nok 1 0\nok 1 0\nplaces 7; 11; 21\nok 1 1\nplaces 7; 12; 21\nok 0 0\nplaces 7; 21\nok 0 0\nplaces 7; 21\nok 0 0\nplaces 7; 12; 21\n";
     let (result, text) = run_over(&rt, rt.alloc(), input.as_bytes());
     assert!(rt; result.is_ok());
     assert_eq!(rt; text.as_slice(), answers.as_bytes());
@@ -151,7 +156,8 @@ fn calls_run_out(rt: HostRuntime) {
 {\"op\":\"list_places\",\"id\":7}
 {\"op\":\"list_places\",\"id\":8}
 ";
-    let answers = "ok 0 0\nrefused 13 CallsSpent\nrefused 13 CallsSpent\nrefused 6 BlockKnown\nrefused 3 UnknownStorage\nplaces 7\nrefused 5 UnknownBlock\n";
+    let answers =
+        "ok 0 0\nrefused 13 CallsSpent\nrefused 13 CallsSpent\nrefused 6 BlockKnown\nrefused 3 UnknownStorage\nplaces 7\nrefused 5 UnknownBlock\n";
     let (result, text) = run_with(&rt, rt.alloc(), &config, input.as_bytes());
     assert!(rt; result.is_ok());
     assert_eq!(rt; text.as_slice(), answers.as_bytes());
@@ -161,7 +167,8 @@ fn calls_run_out(rt: HostRuntime) {
     };
     let (result, text) = run_with(&rt, rt.alloc(), &spent, FIRST_PATH.as_bytes());
     assert!(rt; result.is_ok());
-    let answers = "refused 13 CallsSpent\nrefused 13 CallsSpent\nrefused 3 UnknownStorage\nrefused 5 UnknownBlock\n";
+    let answers =
+        "refused 13 CallsSpent\nrefused 13 CallsSpent\nrefused 3 UnknownStorage\nrefused 5 UnknownBlock\n";
     assert_eq!(rt; text.as_slice(), answers.as_bytes());
 }
 

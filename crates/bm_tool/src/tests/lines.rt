@@ -1,10 +1,9 @@
 // Lines as they come: what is read, and what is answered by `BadLine` or `LongLine`.
-use std::alloc::Global;
-use std::test::Fail;
-
 use crate::tests::support::{ByteByByte, FIRST_PATH, FIRST_PATH_ANSWERS, run_over};
 use crate::{Counted, Summary, run};
 use bm_base::Config;
+use std::alloc::Global;
+use std::test::Fail;
 
 const BAD: &str = "refused 20 BadLine\n";
 
@@ -13,20 +12,44 @@ fn fields_come_as_serde_json_holds_them(rt: HostRuntime) {
     let alloc = rt.alloc();
     for (line, want) in [
         // Any order, further fields, space around, a carriage return, no line end.
-        ("{\"repl\":3,\"len\":10,\"gen\":1,\"id\":7,\"op\":\"add\"}\n", "ok 0 0\n"),
-        ("{\"op\":\"add\",\"id\":7,\"gen\":1,\"len\":10,\"repl\":3,\"x\":[1,{\"y\":null}]}\n", "ok 0 0\n"),
-        (" \t{\"op\":\"add\",\"id\":7,\"gen\":1,\"len\":10,\"repl\":3} \n", "ok 0 0\n"),
-        ("{\"op\":\"add\",\"id\":7,\"gen\":1,\"len\":10,\"repl\":3}\r\n", "ok 0 0\n"),
-        ("{\"op\":\"add\",\"id\":7,\"gen\":1,\"len\":10,\"repl\":3}", "ok 0 0\n"),
+        (
+            "{\"repl\":3,\"len\":10,\"gen\":1,\"id\":7,\"op\":\"add\"}\n",
+            "ok 0 0\n",
+        ),
+        (
+            "{\"op\":\"add\",\"id\":7,\"gen\":1,\"len\":10,\"repl\":3,\"x\":[1,{\"y\":null}]}\n",
+            "ok 0 0\n",
+        ),
+        (
+            " \t{\"op\":\"add\",\"id\":7,\"gen\":1,\"len\":10,\"repl\":3} \n",
+            "ok 0 0\n",
+        ),
+        (
+            "{\"op\":\"add\",\"id\":7,\"gen\":1,\"len\":10,\"repl\":3}\r\n",
+            "ok 0 0\n",
+        ),
+        (
+            "{\"op\":\"add\",\"id\":7,\"gen\":1,\"len\":10,\"repl\":3}",
+            "ok 0 0\n",
+        ),
         // Of a key that is written twice the last value is held.
-        ("{\"op\":\"fly\",\"op\":\"list_places\",\"id\":\"x\",\"id\":7}\n", "refused 5 UnknownBlock\n"),
+        (
+            "{\"op\":\"fly\",\"op\":\"list_places\",\"id\":\"x\",\"id\":7}\n",
+            "refused 5 UnknownBlock\n",
+        ),
         ("{\"op\":\"list_places\",\"op\":\"fly\",\"id\":7}\n", BAD),
         // A key may be written with an escape.
-        ("{\"o\\u0070\":\"list_places\",\"id\":7}\n", "refused 5 UnknownBlock\n"),
+        (
+            "{\"o\\u0070\":\"list_places\",\"id\":7}\n",
+            "refused 5 UnknownBlock\n",
+        ),
         // Ops that are none, or not here.
         ("{\"op\":\"fly\"}\n", BAD),
         ("{\"op\":\"round\"}\n", BAD),
-        ("{\"op\":\"Register\",\"node\":1,\"rack\":1,\"storages\":[]}\n", BAD),
+        (
+            "{\"op\":\"Register\",\"node\":1,\"rack\":1,\"storages\":[]}\n",
+            BAD,
+        ),
         ("{\"op\":1,\"id\":7}\n", BAD),
         ("{\"id\":7}\n", BAD),
         // Values that are no object.
@@ -73,21 +96,63 @@ fn numbers_are_whole_and_fit(rt: HostRuntime) -> Result<(), Fail> {
 fn small_numbers_are_below_two_to_the_32(rt: HostRuntime) {
     let alloc = rt.alloc();
     for (line, want) in [
-        ("{\"op\":\"register\",\"node\":4294967295,\"rack\":4294967295,\"storages\":[4294967295]}", "ok 0 0\n"),
-        ("{\"op\":\"register\",\"node\":4294967296,\"rack\":1,\"storages\":[1]}", BAD),
-        ("{\"op\":\"register\",\"node\":1,\"rack\":4294967296,\"storages\":[1]}", BAD),
-        ("{\"op\":\"register\",\"node\":1,\"rack\":1,\"storages\":[1,4294967296]}", BAD),
-        ("{\"op\":\"register\",\"node\":1,\"rack\":1,\"storages\":[1,-1]}", BAD),
-        ("{\"op\":\"register\",\"node\":1,\"rack\":1,\"storages\":1}", BAD),
+        (
+            "{\"op\":\"register\",\"node\":4294967295,\"rack\":4294967295,\"storages\":[4294967295]}",
+            "ok 0 0\n",
+        ),
+        (
+            "{\"op\":\"register\",\"node\":4294967296,\"rack\":1,\"storages\":[1]}",
+            BAD,
+        ),
+        (
+            "{\"op\":\"register\",\"node\":1,\"rack\":4294967296,\"storages\":[1]}",
+            BAD,
+        ),
+        (
+            "{\"op\":\"register\",\"node\":1,\"rack\":1,\"storages\":[1,4294967296]}",
+            BAD,
+        ),
+        (
+            "{\"op\":\"register\",\"node\":1,\"rack\":1,\"storages\":[1,-1]}",
+            BAD,
+        ),
+        (
+            "{\"op\":\"register\",\"node\":1,\"rack\":1,\"storages\":1}",
+            BAD,
+        ),
         ("{\"op\":\"register\",\"node\":1,\"rack\":1}", BAD),
-        ("{\"op\":\"received\",\"storage\":4294967295,\"id\":7,\"gen\":1,\"len\":10}", "refused 3 UnknownStorage\n"),
-        ("{\"op\":\"received\",\"storage\":4294967296,\"id\":7,\"gen\":1,\"len\":10}", BAD),
-        ("{\"op\":\"received\",\"storage\":11,\"id\":7,\"gen\":1}", BAD),
-        ("{\"op\":\"add\",\"id\":7,\"gen\":1,\"len\":10,\"repl\":4294967295}", "refused 8 BadReplication\n"),
-        ("{\"op\":\"add\",\"id\":7,\"gen\":1,\"len\":10,\"repl\":4294967296}", BAD),
-        ("{\"op\":\"add\",\"id\":7,\"gen\":18446744073709551616,\"len\":10,\"repl\":3}", BAD),
-        ("{\"op\":\"add\",\"id\":7,\"gen\":1,\"len\":18446744073709551616,\"repl\":3}", BAD),
-        ("{\"op\":\"add\",\"id\":18446744073709551615,\"gen\":18446744073709551615,\"len\":18446744073709551615,\"repl\":16}", "ok 0 0\n"),
+        (
+            "{\"op\":\"received\",\"storage\":4294967295,\"id\":7,\"gen\":1,\"len\":10}",
+            "refused 3 UnknownStorage\n",
+        ),
+        (
+            "{\"op\":\"received\",\"storage\":4294967296,\"id\":7,\"gen\":1,\"len\":10}",
+            BAD,
+        ),
+        (
+            "{\"op\":\"received\",\"storage\":11,\"id\":7,\"gen\":1}",
+            BAD,
+        ),
+        (
+            "{\"op\":\"add\",\"id\":7,\"gen\":1,\"len\":10,\"repl\":4294967295}",
+            "refused 8 BadReplication\n",
+        ),
+        (
+            "{\"op\":\"add\",\"id\":7,\"gen\":1,\"len\":10,\"repl\":4294967296}",
+            BAD,
+        ),
+        (
+            "{\"op\":\"add\",\"id\":7,\"gen\":18446744073709551616,\"len\":10,\"repl\":3}",
+            BAD,
+        ),
+        (
+            "{\"op\":\"add\",\"id\":7,\"gen\":1,\"len\":18446744073709551616,\"repl\":3}",
+            BAD,
+        ),
+        (
+            "{\"op\":\"add\",\"id\":18446744073709551615,\"gen\":18446744073709551615,\"len\":18446744073709551615,\"repl\":16}",
+            "ok 0 0\n",
+        ),
     ] {
         let (_, text) = run_over(&rt, alloc, line.as_bytes());
         assert_eq!(rt; text.as_slice(), want.as_bytes(), "at {line}");
@@ -97,8 +162,15 @@ fn small_numbers_are_below_two_to_the_32(rt: HostRuntime) {
 #[test]
 fn bytes_that_are_no_text_are_a_bad_line(rt: HostRuntime) {
     let alloc = rt.alloc();
-    let (result, text) = run_over(&rt, alloc, b"\xFF\n{\"op\":\"list_places\",\"id\":7,\"x\":\"\xC3\x28\"}\n{\"op\":\"list_places\",\"id\":7,\"x\":\"\xC3\xA9\"}\n");
-    assert_eq!(rt; text.as_slice(), b"refused 20 BadLine\nrefused 20 BadLine\nrefused 5 UnknownBlock\n".as_slice());
+    let (result, text) = run_over(
+        &rt,
+        alloc,
+        b"\xFF\n{\"op\":\"list_places\",\"id\":7,\"x\":\"\xC3\x28\"}\n{\"op\":\"list_places\",\"id\":7,\"x\":\"\xC3\xA9\"}\n",
+    );
+    assert_eq!(rt;
+        text.as_slice(),
+        b"refused 20 BadLine\nrefused 20 BadLine\nrefused 5 UnknownBlock\n".as_slice()
+    );
     let summary = Summary {
         lines: 3,
         accepted: 0,
@@ -175,5 +247,8 @@ fn pieces_are_of_no_matter(rt: HostRuntime) {
     let mut writer = Counted::new(Vec::new(alloc));
     let result = run(&rt, alloc, &mut reader, &mut writer, &Config::standard());
     assert!(rt; result.is_ok());
-    assert_eq!(rt; writer.into_inner().as_slice(), FIRST_PATH_ANSWERS.as_bytes());
+    assert_eq!(rt;
+        writer.into_inner().as_slice(),
+        FIRST_PATH_ANSWERS.as_bytes()
+    );
 }

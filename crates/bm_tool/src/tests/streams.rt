@@ -1,8 +1,7 @@
 // Readers and writers that fail, and inputs without an end.
-use bm_base::Config;
-
 use crate::tests::support::{FIRST_PATH, Failing, Forever, LineByLine};
 use crate::{Counted, Fault, run};
+use bm_base::Config;
 
 #[test]
 fn a_failed_read_keeps_what_was_answered(rt: HostRuntime) {
@@ -14,7 +13,10 @@ fn a_failed_read_keeps_what_was_answered(rt: HostRuntime) {
     let mut writer = Counted::new(Vec::new(alloc));
     let result = run(&rt, alloc, &mut reader, &mut writer, &Config::standard());
     assert_eq!(rt; result, Err(Fault::Read));
-    assert_eq!(rt; writer.into_inner().as_slice(), b"ok 0 0\nok 0 0\n".as_slice());
+    assert_eq!(rt;
+        writer.into_inner().as_slice(),
+        b"ok 0 0\nok 0 0\n".as_slice()
+    );
 }
 
 #[test]

@@ -1,16 +1,15 @@
 // A whole run over memory, and readers and writers that fail.
 ghost use Rattle.std.specs.Prelude.{◌≡◌, IfOk};
 
+use crate::{Counted, Fault, Summary, run};
+use bm_base::Config;
 use std::alloc::Global;
 use std::io;
 use std::io::{Read, Write};
 
-use bm_base::Config;
-
-use crate::{Counted, Fault, Summary, run};
-
 /// The first path through the tool: a node, a block, its first replica and its places.
-pub const FIRST_PATH: &str = "{\"op\":\"register\",\"node\":1,\"rack\":1,\"storages\":[11]}\n{\"op\":\"add\",\"id\":7,\"gen\":1,\"len\":10,\"repl\":3}\n{\"op\":\"received\",\"storage\":11,\"id\":7,\"gen\":1,\"len\":10}\n{\"op\":\"list_places\",\"id\":7}\n";
+pub const FIRST_PATH: &str =
+    "{\"op\":\"register\",\"node\":1,\"rack\":1,\"storages\":[11]}\n{\"op\":\"add\",\"id\":7,\"gen\":1,\"len\":10,\"repl\":3}\n{\"op\":\"received\",\"storage\":11,\"id\":7,\"gen\":1,\"len\":10}\n{\"op\":\"list_places\",\"id\":7}\n";
 
 pub const FIRST_PATH_ANSWERS: &str = "ok 0 0\nok 0 0\nok 1 0\nplaces 7; 11\n";
 

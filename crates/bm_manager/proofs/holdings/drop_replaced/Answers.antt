@@ -9,4 +9,4 @@ pub returns : goal.returns
 unfolding replaces
 returns c =
     keep-filter by_replica c.args.replicas.now c.retain.new.self (λ q _. not (replaces c.args.topology.now c.args.replica.now q))
-      (filter_same _ _ _ (λ x b f' k. search rules) _ _ c.retain.ensures)
+    (filter_same _ _ _ (λ x b f' k. search rules) _ _ c.retain.ensures)

@@ -1,4 +1,4 @@
-use Rattle.std.proofs.Common.{refl, ◌∙◌, sym}
+use Rattle.std.proofs.Common.{refl}
 use Rattle.bm_tool.specs.CallOf.{call_of}
 use Rattle.bm_tool.proofs.call.call_of.Goals as goal
 

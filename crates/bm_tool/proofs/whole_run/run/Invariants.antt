@@ -1,6 +1,6 @@
 use Rattle.std.proofs.Common.{◌≡◌, ◌-◌, ◌≤◌, ℕ, List, length}
 use Rattle.std.specs.Io.KnownBytes.{Consumes}
-use Rattle.bm_base.specs.State.{State, first_state}
+use Rattle.bm_base.specs.State.{first_state}
 use Rattle.bm_tool.specs.Text.{max_bytes}
 use Rattle.bm_tool.specs.Progress.{Progress}
 use Rattle.bm_tool.proofs.whole_run.run.Given as goal

@@ -1,6 +1,5 @@
 use Rattle.std.proofs.Common.{◌≡◌, ◌==◌, ◌&&◌, ◌++◌, map, drop, filter}
 use Rattle.bm_base.specs.Replicas.{is_good}
-use Rattle.bm_base.specs.Queries.{places}
 use Rattle.bm_manager.proofs.holdings.Holdings.places.Given as goal
 
 abbrev pub invariant-loop-replica : goal.invariant-loop-replica

@@ -1,5 +1,4 @@
-use Rattle.std.proofs.Common.{◌≡◌, ap, sym, subst, ◌∙◌, refl, inl}
-use Rattle.bm_base.specs.State.{State}
+use Rattle.std.proofs.Common.{ap, sym, subst, ◌∙◌, refl, inl}
 use Rattle.bm_base.specs.declared.call.Answer.TheVariants as answer
 use Rattle.bm_base.specs.Answering.{MayAnswer, state_left}
 use Rattle.bm_base.specs.Calls.{step}
@@ -10,7 +9,7 @@ pub returns-in-Ok-clause-answer : goal.returns-in-Ok-clause-answer
 returns-in-Ok-clause-answer c =
     let M = c.args.self.now in let told = c.in-Ok.ensures in
     subst (λ k. MayAnswer M k (answer.Done c.in-Ok.done)) (sym c.in-Apply.is)
-      (ok_answer M _ _ _ (step_apply M c.in-Apply.event) _ told.accepted (ap answer.Done told.done))
+    (ok_answer M _ _ _ (step_apply M c.in-Apply.event) _ told.accepted (ap answer.Done told.done))
 
 pub returns-in-Ok-clause-state : goal.returns-in-Ok-clause-state
 returns-in-Ok-clause-state c =
@@ -21,7 +20,7 @@ pub returns-in-Err-clause-answer : goal.returns-in-Err-clause-answer
 returns-in-Err-clause-answer c =
     let M = c.args.self.now in
     subst (λ k. MayAnswer M k (answer.Refused c.in-Err.refusal)) (sym c.in-Apply.is)
-      (err_answer M _ _ _ (step_apply M c.in-Apply.event) c.in-Err.refusal refl c.in-Err.ensures.refused)
+    (err_answer M _ _ _ (step_apply M c.in-Apply.event) c.in-Err.refusal refl c.in-Err.ensures.refused)
 
 pub returns-in-Err-clause-state : goal.returns-in-Err-clause-state
 returns-in-Err-clause-state c =
@@ -32,7 +31,7 @@ pub returns-in-Ok-places-clause-answer : goal.returns-in-Ok-places-clause-answer
 returns-in-Ok-places-clause-answer c =
     let M = c.args.self.now in let found = c.in-Ok-places.ensures in
     subst (λ k. MayAnswer M k (answer.Storages c.in-Ok-places.storages)) (sym c.in-Places.is)
-      (ok_answer M _ _ _ (step_places M c.in-Places.id) _ found.known (ap answer.Storages found.places))
+    (ok_answer M _ _ _ (step_places M c.in-Places.id) _ found.known (ap answer.Storages found.places))
 
 pub returns-in-Ok-places-clause-state : goal.returns-in-Ok-places-clause-state
 returns-in-Ok-places-clause-state c =
@@ -43,7 +42,7 @@ pub returns-in-Err-places-clause-answer : goal.returns-in-Err-places-clause-answ
 returns-in-Err-places-clause-answer c =
     let M = c.args.self.now in
     subst (λ k. MayAnswer M k (answer.Refused c.in-Err-places.refusal)) (sym c.in-Places.is)
-      (err_answer M _ _ _ (step_places M c.in-Places.id) c.in-Err-places.refusal refl c.in-Err-places.ensures.refused)
+    (err_answer M _ _ _ (step_places M c.in-Places.id) c.in-Err-places.refusal refl c.in-Err-places.ensures.refused)
 
 pub returns-in-Err-places-clause-state : goal.returns-in-Err-places-clause-state
 returns-in-Err-places-clause-state c =

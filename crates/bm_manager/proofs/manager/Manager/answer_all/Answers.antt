@@ -1,5 +1,4 @@
-use Rattle.std.proofs.Common.{◌≡◌, ◌≤◌, length, List, [], ◌++◌, ap, sym, subst, ◌∙◌, append-nil, drop, drop_of_length-le, arith}
-use Rattle.bm_base.specs.declared.call.Answer.{Answer}
+use Rattle.std.proofs.Common.{◌≡◌, ◌≤◌, length, [], ◌++◌, ap, sym, subst, ◌∙◌, append-nil, drop, drop_of_length-le, arith}
 use Rattle.bm_base.specs.Answering.{MayAnswerAll, state_left_by}
 use Rattle.bm_manager.proofs.manager.Manager.answer_all.Goals as goal
 
@@ -12,7 +11,7 @@ returns-clause-answers c =
     let past : length c.args.calls.now ≤ c.loop-call.call-index = omega arith in
     let none : drop c.loop-call.call-index c.args.calls.now ≡ [] = drop_of_length-le _ past in
     subst (λ rest. MayAnswerAll c.args.self.now c.args.calls.now rest) (given c)
-      (c.loop-call.invariant.may [] (subst (λ ks. MayAnswerAll c.loop-call.self ks []) (sym none) tt))
+    (c.loop-call.invariant.may [] (subst (λ ks. MayAnswerAll c.loop-call.self ks []) (sym none) tt))
 
 pub returns-clause-state : goal.returns-clause-state
 returns-clause-state c =
