@@ -9,7 +9,6 @@ use Rattle.bm_base.specs.declared.call.Call.TheVariants as call
 use Rattle.bm_base.specs.declared.call.Answer.{Answer}
 use Rattle.bm_base.specs.declared.call.Answer.TheVariants as answer
 use Rattle.bm_base.specs.State.{State}
-use Rattle.bm_base.specs.Calls.{step}
 
 -- a check's result: the refusal, if there is one
 abbrev pub checked : Option Refusal → Result (Unit {0}) Refusal
@@ -50,21 +49,23 @@ abbrev pub is_refused : Answer → Bool
 is_refused (answer.Refused r) = true
 is_refused _ = false
 
--- An answer that a call may give in a state: the definition's, or want of memory where the definition refuses nothing.
-abbrev pub MayAnswer : State → Call → Answer → Type 0
-MayAnswer M k a = (a ≡ (step M k).0) ⊎ (IsTrue (may_want_memory k && not (is_refused (step M k).0)) × (a ≡ answer.Refused Memory))
+-- Below, `step` says what a call answers, and the state that it leaves, where memory never lacks.
 
--- the state after a call that gave this answer: the definition's, but for want of memory
-abbrev pub state_left : State → Call → Answer → State
-state_left M k a = if wants_memory a then M else (step M k).1
+-- An answer that a call may give in a state: that of the step, or want of memory where the step refuses nothing.
+abbrev pub MayAnswer : (State → Call → Answer × State) → State → Call → Answer → Type 0
+MayAnswer step M k a = (a ≡ (step M k).0) ⊎ (IsTrue (may_want_memory k && not (is_refused (step M k).0)) × (a ≡ answer.Refused Memory))
+
+-- the state after a call that gave this answer: that of the step, but for want of memory
+abbrev pub state_left : (State → Call → Answer × State) → State → Call → Answer → State
+state_left step M k a = if wants_memory a then M else (step M k).1
 
 -- the answers that a list of calls may give, and the state that they leave
-abbrev pub MayAnswerAll : State → List Call → List Answer → Type 0
-MayAnswerAll M [] [] = Unit {0}
-MayAnswerAll M (k ∷ ks) (a ∷ rest) = MayAnswer M k a × MayAnswerAll (state_left M k a) ks rest
-MayAnswerAll M [] (a ∷ rest) = ⊥
-MayAnswerAll M (k ∷ ks) [] = ⊥
+abbrev pub MayAnswerAll : (State → Call → Answer × State) → State → List Call → List Answer → Type 0
+MayAnswerAll step M [] [] = Unit {0}
+MayAnswerAll step M (k ∷ ks) (a ∷ rest) = MayAnswer step M k a × MayAnswerAll step (state_left step M k a) ks rest
+MayAnswerAll step M [] (a ∷ rest) = ⊥
+MayAnswerAll step M (k ∷ ks) [] = ⊥
 
-abbrev pub state_left_by : State → List Call → List Answer → State
-state_left_by M (k ∷ ks) (a ∷ rest) = state_left_by (state_left M k a) ks rest
-state_left_by M _ _ = M
+abbrev pub state_left_by : (State → Call → Answer × State) → State → List Call → List Answer → State
+state_left_by step M (k ∷ ks) (a ∷ rest) = state_left_by step (state_left step M k a) ks rest
+state_left_by step M _ _ = M

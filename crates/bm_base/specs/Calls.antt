@@ -1,6 +1,7 @@
 -- What each call answers and leaves, where memory never lacks; and lists of calls.
 use Rattle.std.specs.Prelude.{ℕ, ◌+◌, not, List, [], ◌∷◌, count_by, Option, Some, None}
 use Rattle.bm_base.specs.declared.replica.Marks.{Marks}
+use Rattle.bm_base.specs.declared.commands.Commands.{Commands}
 use Rattle.bm_base.specs.declared.event.Done.{Done}
 use Rattle.bm_base.specs.declared.event.Event.{Event}
 use Rattle.bm_base.specs.declared.refusal.Refusal.{Refusal}
@@ -13,7 +14,7 @@ use Rattle.bm_base.specs.State.{Holdings, State, by_replica}
 use Rattle.bm_base.specs.Levels.{level}
 use Rattle.bm_base.specs.Queries.{all_replicas, corrupt_replicas, excess_replicas, missing_blocks, blocks_on, places}
 use Rattle.bm_base.specs.Events.{change_holdings, change}
-use Rattle.bm_base.specs.Rounds.{round_commands, round_change}
+use Rattle.bm_base.specs.Rounds.{whole_round}
 use Rattle.bm_base.specs.Refusals.{refusal_of, round_refusal, storage_refusal, block_refusal}
 
 -- how many replicas `new` has that `old` has not
@@ -32,31 +33,31 @@ done_by M e = done M.holdings (change_holdings M.cluster M.holdings e)
 abbrev pub counted : State → State
 counted M = record M { calls = M.calls + 1 }
 
--- the state after an event and after a round that nothing refuses
+-- the state after an event that nothing refuses
 unfoldable pub after_event : State → Event → State
 after_event M e = counted (change M e)
-
-unfoldable pub after_round : State → State
-after_round M = counted (round_change M)
 
 -- a call that may be refused answers its refusal and leaves the state; else it does as said
 abbrev pub refused_or : State → Option Refusal → Answer × State → Answer × State
 refused_or M (Some r) next = (answer.Refused r, M)
 refused_or M None next = next
 
--- what a call answers, and the state that it leaves
-unfoldable pub step : State → Call → Answer × State
-step M (call.Apply e) = refused_or M (refusal_of M e) (answer.Done (done_by M e), after_event M e)
-step M call.Round = refused_or M (round_refusal M) (answer.Commanded (round_commands M), after_round M)
-step M call.Replicas = (answer.Replicas (all_replicas M.holdings), M)
-step M call.Corrupt = (answer.ReplicaIds (corrupt_replicas M.holdings), M)
-step M call.Excess = (answer.ReplicaIds (excess_replicas M.holdings), M)
-step M call.Missing = (answer.Blocks (missing_blocks M.cluster M.holdings), M)
-step M (call.BlocksOn s) = refused_or M (storage_refusal M.cluster s) (answer.Blocks (blocks_on M.holdings s), M)
-step M (call.Places b) = refused_or M (block_refusal M.holdings b) (answer.Storages (places M.holdings b), M)
-step M (call.LevelOf b) = refused_or M (block_refusal M.holdings b) (answer.LevelIs (level M.cluster M.holdings b), M)
-step M call.Calls = (answer.Number M.calls, M)
-step M call.Rounds = (answer.Number M.round, M)
+-- what a call answers, and the state that it leaves, where this is what a round commands and leaves
+unfoldable pub step_with : (State → Commands × State) → State → Call → Answer × State
+step_with next_round M (call.Apply e) = refused_or M (refusal_of M e) (answer.Done (done_by M e), after_event M e)
+step_with next_round M call.Round = refused_or M (round_refusal M) (answer.Commanded (next_round M).0, counted (next_round M).1)
+step_with next_round M call.Replicas = (answer.Replicas (all_replicas M.holdings), M)
+step_with next_round M call.Corrupt = (answer.ReplicaIds (corrupt_replicas M.holdings), M)
+step_with next_round M call.Excess = (answer.ReplicaIds (excess_replicas M.holdings), M)
+step_with next_round M call.Missing = (answer.Blocks (missing_blocks M.cluster M.holdings), M)
+step_with next_round M (call.BlocksOn s) = refused_or M (storage_refusal M.cluster s) (answer.Blocks (blocks_on M.holdings s), M)
+step_with next_round M (call.Places b) = refused_or M (block_refusal M.holdings b) (answer.Storages (places M.holdings b), M)
+step_with next_round M (call.LevelOf b) = refused_or M (block_refusal M.holdings b) (answer.LevelIs (level M.cluster M.holdings b), M)
+step_with next_round M call.Calls = (answer.Number M.calls, M)
+step_with next_round M call.Rounds = (answer.Number M.round, M)
+
+abbrev pub step : State → Call → Answer × State
+step = step_with whole_round
 
 -- the answers to a list of calls, and the state that they leave
 abbrev pub answers : State → List Call → List Answer

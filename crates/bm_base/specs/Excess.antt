@@ -54,8 +54,10 @@ excess_in C H b = option_map_or (λ i. excess_of C (live C H b) i.repl) (get H.b
 unfoldable pub marked : Cluster → Holdings → Holdings
 marked C H = record H { replicas = revise H.replicas (λ q m. if has (excess_in C H q.block) q.storage then record m { excess = true } else m) }
 
--- the state as its next round begins
+-- the state as its next round begins: the round number is one greater, and what is too old has left
+unfoldable pub begun : State → State
+begun M = let r = M.round + 1 in record M { round = r; holdings = without_expired M.limits.pend r M.holdings }
+
+-- the same with the replicas in excess marked anew
 unfoldable pub started : State → State
-started M =
-    let r = M.round + 1 in
-    record M { round = r; holdings = marked M.cluster (without_unordered_excess (without_expired M.limits.pend r M.holdings)) }
+started M = let N = begun M in record N { holdings = marked N.cluster (without_unordered_excess N.holdings) }

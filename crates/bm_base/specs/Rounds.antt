@@ -7,7 +7,7 @@
 --     6. what was chosen is commanded and stands in the state (here)
 -- Source: HDFS Architecture guide, "The Communication Protocols": commands are answers to DataNodes; Hadoop 2's
 -- PendingReplicationBlocks.
-use Rattle.std.specs.Prelude.{ℕ, ◌+◌, Bool, true, ◌&&◌, if◌then◌else◌, ◌==◌, nat_lt, List, map, filter, length}
+use Rattle.std.specs.Prelude.{ℕ, ◌+◌, Bool, true, ◌&&◌, if◌then◌else◌, ◌==◌, nat_lt, List, [], map, filter, length}
 use Rattle.std.specs.List.{list_any}
 use Rattle.bm_base.specs.declared.replica.ReplicaId.{ReplicaId}
 use Rattle.bm_base.specs.declared.commands.Transfer.{Transfer}
@@ -17,7 +17,7 @@ use Rattle.bm_base.specs.declared.commands.Commands.{Commands}
 use Rattle.bm_base.specs.Map.{insert_all, revise, keys}
 use Rattle.bm_base.specs.State.{Cluster, Holdings, State, replica_at}
 use Rattle.bm_base.specs.Replicas.{has_storage}
-use Rattle.bm_base.specs.Excess.{started}
+use Rattle.bm_base.specs.Excess.{begun, started}
 use Rattle.bm_base.specs.Transfers.{transfers}
 use Rattle.bm_base.specs.Deletes.{deletes}
 
@@ -41,9 +41,16 @@ finished r H ts ds = record H {
   pending = insert_all H.pending (map (λ t. (replica_at t.block t.target, r)) ts);
 }
 
--- what the next round of a state commands, and the state after it
-unfoldable pub round_commands : State → Commands
-round_commands M = let N = started M in commands_of N.cluster N.round (transfers N.limits N.cluster N.holdings) (deletes N.limits N.cluster N.holdings)
+-- what is commanded in a round that has begun, with these transfers, and the state after it
+abbrev pub round_with : State → List Transfer → Commands × State
+round_with N ts =
+    let ds = deletes N.limits N.cluster N.holdings in
+    (commands_of N.cluster N.round ts ds, record N { holdings = finished N.round N.holdings ts ds })
 
-unfoldable pub round_change : State → State
-round_change M = let N = started M in record N { holdings = finished N.round N.holdings (transfers N.limits N.cluster N.holdings) (deletes N.limits N.cluster N.holdings) }
+-- the next round of a state: what it commands, and the state after it
+unfoldable pub whole_round : State → Commands × State
+whole_round M = let N = started M in round_with N (transfers N.limits N.cluster N.holdings)
+
+-- The same as far as it is built: nothing is marked, nothing is copied. Deletes and the end are those of the whole round.
+unfoldable pub narrow_round : State → Commands × State
+narrow_round M = round_with (begun M) []
