@@ -55,7 +55,7 @@ module _ {K X : Type 0} {o : Order K} where
       ∙ ap (λ es. length (filter (λ e. not (contains_key old e.0)) (entries new)) + length es) (entries-keep o new (λ q _. contains_key old q))
       ∙ both_parts (λ e. contains_key old e.0) (entries new)
 
-  len-insert : (m : Map o X) (k : K) (v : X) → len (insert m k v) ≡ cond (contains_key m k) (len m) (len m + 1)
+  pub len-insert : (m : Map o X) (k : K) (v : X) → len (insert m k v) ≡ cond (contains_key m k) (len m) (len m + 1)
   unfolding len entries get insert
   len-insert m k v = length-put o.cmp o.total k v m.list m.sorted
 

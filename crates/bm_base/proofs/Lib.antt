@@ -4,3 +4,4 @@ pub mod Placing
 pub mod Ties
 pub mod Keeping
 pub mod Differences
+pub mod Distinct

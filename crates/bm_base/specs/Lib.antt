@@ -9,6 +9,7 @@ pub mod Lists
 pub mod State
 pub mod Codes
 pub mod Replicas
+pub mod Spread
 pub mod Levels
 pub mod Queries
 pub mod Lawful

@@ -1,4 +1,7 @@
 // Identifiers: numbers with a meaning. A contract sees each as its number.
+ghost use Rattle.std.specs.Prelude.{◌≡◌, ◌<◌};
+ghost use Rattle.bm_base.specs.Shards.{shard_of};
+
 use std::marker::Model;
 
 /// The number of a block, any u64.
@@ -69,4 +72,12 @@ impl Model for Rack {
     ghost view = { λ r. r.0 };
 
     ghost inverse = { λ n. record { 0 = n } };
+}
+
+/// The shard of a block, of so many (at least 1): its number modulo `shards`. Takes no memory.
+pub fn shard_of(id: BlockId, shards: u32) -> u32
+    requires { 0 < shards }
+    ensures { result ≡ shard_of id shards }
+{
+    (id.0 % u64::from(shards)) as u32
 }

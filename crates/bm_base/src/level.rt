@@ -1,10 +1,10 @@
 // How urgently a block wants replicas.
 ghost use Rattle.std.specs.Prelude.{◌≡◌};
-ghost use Rattle.bm_base.specs.Levels.{level_number};
+ghost use Rattle.bm_base.specs.Levels.{level_number, level_of};
 
 /// Why a block wants replicas: the five queues of under-replicated blocks, by
 /// number.
-#[derive(Clone, Copy, Debug, PartialEq, Eq, PartialOrd, Ord)]
+#[derive(Clone, Copy, Debug, PartialEq, Eq)]
 pub enum Level {
     /// 0: one live replica is left, and more are wanted.
     Highest,
@@ -31,4 +31,26 @@ impl Level {
             Level::NoLiveReplica => 4,
         }
     }
+}
+
+/// How urgent a block is of which `repl` replicas are wanted and `live` are there, on so many racks, where `multi` says that
+/// the alive nodes stand on two racks or more. `None` where enough replicas are live and not badly distributed. Takes no memory.
+#[tactic(auto, unfolding(crate::specs::Levels::level_of))]
+pub fn level_of(live: usize, repl: u32, racks: usize, multi: bool) -> Option<Level>
+    ensures { result ≡ level_of live repl racks multi }
+{
+    if live >= repl as usize {
+        let is_on_one_rack = racks == 1 && multi;
+        return if repl > 1 && is_on_one_rack {
+            Some(Level::BadlyDistributed)
+        } else {
+            None
+        };
+    }
+    Some(match live {
+        0 => Level::NoLiveReplica,
+        1 => Level::Highest,
+        _ if live * 3 < repl as usize => Level::VeryUnderReplicated,
+        _ => Level::UnderReplicated,
+    })
 }

@@ -1,7 +1,7 @@
 // Calls as values: one call, and lists of calls.
 ghost use Rattle.std.specs.Prelude.{◌≡◌, IfOk, OnErr, All};
 ghost use Rattle.bm_base.specs.Answering.{MayAnswer, MayAnswerAll, state_left, state_left_by};
-ghost use Rattle.bm_manager.specs.Built.{IsBuiltCall};
+ghost use Rattle.bm_manager.specs.Built.{IsBuiltCall, built_step};
 
 use crate::manager::Manager;
 use bm_base::{Answer, Call, Items};
@@ -12,19 +12,36 @@ impl Manager {
     /// takes memory, `Memory`; a call refused for want of memory leaves the state as it was.
     pub fn answer(&mut self, call: &Call) -> Answer
         requires { IsBuiltCall call.now }
-        ensures answer { MayAnswer self.old call.now result }
-        ensures state { self.new ≡ state_left self.old call.now result }
+        ensures answer { MayAnswer built_step self.old call.now result }
+        ensures state { self.new ≡ state_left built_step self.old call.now result }
     {
         match call {
             Call::Apply(event) => match self.apply(event) {
                 Ok(done) => Answer::Done(done),
                 Err(refusal) => Answer::Refused(refusal),
             },
+            Call::Replicas => match self.replicas() {
+                Ok(replicas) => Answer::Replicas(replicas),
+                Err(refusal) => Answer::Refused(refusal),
+            },
+            Call::Corrupt => match self.corrupt() {
+                Ok(corrupt) => Answer::ReplicaIds(corrupt),
+                Err(refusal) => Answer::Refused(refusal),
+            },
+            Call::Missing => match self.missing() {
+                Ok(missing) => Answer::Blocks(missing),
+                Err(refusal) => Answer::Refused(refusal),
+            },
             Call::Places(id) => match self.places(*id) {
                 Ok(storages) => Answer::Storages(storages),
                 Err(refusal) => Answer::Refused(refusal),
             },
+            Call::LevelOf(id) => match self.level(*id) {
+                Ok(level) => Answer::LevelIs(level),
+                Err(refusal) => Answer::Refused(refusal),
+            },
             Call::Calls => Answer::Number(self.calls()),
+            Call::Rounds => Answer::Number(self.rounds()),
             _ => unreachable!(),
         }
     }
@@ -33,11 +50,11 @@ impl Manager {
     /// refused for want of memory is passed over. An `Err` comes before the first call, where there is no room for the answers.
     pub fn answer_all(&mut self, calls: &[Call]) -> Result<Items<Answer>, AllocError>
         requires { All IsBuiltCall calls.now }
-        ensures answers { IfOk result (λ answers. MayAnswerAll self.old calls.now answers) }
-        ensures state { IfOk result (λ answers. self.new ≡ state_left_by self.old calls.now answers) }
+        ensures answers { IfOk result (λ answers. MayAnswerAll built_step self.old calls.now answers) }
+        ensures state { IfOk result (λ answers. self.new ≡ state_left_by built_step self.old calls.now answers) }
         ensures unchanged { OnErr result (self.new ≡ self.old) }
     {
-        let mut answers = Vec::with_capacity(self.alloc(), calls.len())?;
+        let mut answers = Vec::with_capacity(self.alloc, calls.len())?;
         for call in calls {
             let answer = self.answer(call);
             let _ = answers.push(answer);

@@ -2,7 +2,6 @@
 ghost use Rattle.std.specs.Prelude.{◌≡◌, not, IfOk, OnOk, OnErr, if◌then◌else◌};
 ghost use Rattle.bm_base.specs.Map as map;
 ghost use Rattle.bm_base.specs.State as state;
-ghost use Rattle.bm_base.specs.Queries as queries;
 ghost use Rattle.bm_base.specs.Events as events;
 ghost use Rattle.bm_base.specs.Refusals.{first_of, block_checks, knows_block, is_still_stored, is_bad_replication, is_old};
 ghost use Rattle.bm_base.specs.Calls.{done};
@@ -21,9 +20,9 @@ const MAX_REPLICATION: u32 = 16;
 /// The blocks, their replicas and the transfers on their way.
 #[derive(Drop)]
 pub struct Holdings {
-    blocks: NumberMap<BlockInfo>,
-    replicas: ReplicaMap<Marks>,
-    pending: ReplicaMap<u64>,
+    pub blocks: NumberMap<BlockInfo>,
+    pub replicas: ReplicaMap<Marks>,
+    pub pending: ReplicaMap<u64>,
 }
 
 impl Model for Holdings {
@@ -105,7 +104,7 @@ impl Holdings {
 
     /// The marks of a replica that is reported.
     #[tactic(auto, unfolding(bm_base::specs::Events::entered))]
-    fn entered(&self, replica: &ReplicaId, stamp: &Stamp) -> Marks
+    pub fn entered(&self, replica: &ReplicaId, stamp: &Stamp) -> Marks
         ensures { result ≡ events.entered self.now replica.now stamp.now }
     {
         let was_excess = self.was_excess(replica);
@@ -213,20 +212,6 @@ impl Holdings {
             added: (with_it - before) as u128,
             removed: (with_it - after) as u128,
         })
-    }
-
-    /// The storages of the block's good replicas, rising.
-    #[tactic(auto, unfolding(bm_base::specs::Replicas::storages_where))]
-    pub fn places(&self, alloc: Global, id: BlockId) -> Result<Items<StorageId>, AllocError>
-        ensures { IfOk result (λ v. v ≡ queries.places self.now id) }
-    {
-        let mut storages = Vec::new(alloc);
-        for (replica, marks) in self.replicas.entries() {
-            if replica.block == id && matches!(marks.tag, Tag::Good) {
-                storages.push(replica.storage)?;
-            }
-        }
-        Ok(Items::from_vec(storages))
     }
 }
 

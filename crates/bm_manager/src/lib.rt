@@ -3,9 +3,12 @@
 //! The plain program: its maps are sorted vectors, and a registration works on a copy.
 #![tactic(auto)]
 
+mod asking;
 mod calls;
 mod holdings;
 mod manager;
+mod queries;
+mod reports;
 mod topology;
 
 pub use manager::Manager;

@@ -1,8 +1,7 @@
 // The manager: one call after another.
 ghost use Rattle.std.specs.Prelude.{◌≡◌, ◌<◌, true, None, IfOk, IfErr, OnOk, OnErr};
 ghost use Rattle.bm_base.specs.State.{first_state};
-ghost use Rattle.bm_base.specs.Queries as queries;
-ghost use Rattle.bm_base.specs.Refusals.{refusal_of, block_refusal, last_number};
+ghost use Rattle.bm_base.specs.Refusals.{refusal_of, last_number};
 ghost use Rattle.bm_base.specs.Configuration.{config_refusal};
 ghost use Rattle.bm_base.specs.Calls.{done_by, after_event};
 ghost use Rattle.bm_base.specs.Answering.{checked, Refuses, takes_memory};
@@ -12,7 +11,7 @@ ghost use Rattle.bm_manager.specs.Built.{IsBuilt};
 use crate::holdings::Holdings;
 use crate::topology::Topology;
 use bm_base::{
-    BlockId, Config, Done, Event, Items, NodeId, Rack, Refusal, ReplicaId, Stamp, StorageId,
+    BlockId, Config, Done, Entry, Event, NodeId, Rack, Refusal, ReplicaId, Stamp, StorageId,
 };
 use std::alloc::{AllocError, Global};
 use std::marker::Model;
@@ -23,12 +22,12 @@ use std::marker::Model;
 /// replicas, the round and the number of accepted calls.
 #[derive(Drop)]
 pub struct Manager {
-    alloc: Global,
-    config: Config,
-    topology: Topology,
-    holdings: Holdings,
-    round: u64,
-    calls: u64,
+    pub(crate) alloc: Global,
+    pub(crate) config: Config,
+    pub(crate) topology: Topology,
+    pub(crate) holdings: Holdings,
+    pub(crate) round: u64,
+    pub(crate) calls: u64,
 }
 
 impl Model for Manager {
@@ -67,31 +66,6 @@ impl Manager {
         })
     }
 
-    /// The allocator of all that a manager holds and answers.
-    pub(crate) fn alloc(&self) -> Global {
-        self.alloc
-    }
-
-    /// How many calls were accepted, from `first_call` on. Takes no memory.
-    pub fn calls(&self) -> u64
-        ensures { result ≡ self.now.calls }
-    {
-        self.calls
-    }
-
-    /// The storages of the block's good replicas, in excess or not, rising. `UnknownBlock`; `Memory`.
-    #[tactic(auto, unfolding(bm_base::specs::Refusals::block_refusal))]
-    pub fn places(&self, id: BlockId) -> Result<Items<StorageId>, Refusal>
-        ensures known { OnOk result (block_refusal self.now.holdings id ≡ None) }
-        ensures places { IfOk result (λ v. v ≡ queries.places self.now.holdings id) }
-        ensures refused { IfErr result (Refuses (block_refusal self.now.holdings id) true) }
-    {
-        if !self.holdings.knows_block(id) {
-            return Err(Refusal::UnknownBlock);
-        }
-        Ok(self.holdings.places(self.alloc, id)?)
-    }
-
     /// Takes one event. The refusals are those of its variant in their order, then `CallsSpent` where the number of accepted
     /// calls is at its last value, then `Memory`; a refused event changes nothing.
     pub fn apply(&mut self, event: &Event) -> Result<Done, Refusal>
@@ -111,6 +85,9 @@ impl Manager {
             } => Ok(self.register(*node, *rack, storages.as_slice())?),
             Event::AddBlock { id, stamp, repl } => Ok(self.add_block(*id, *stamp, *repl)?),
             Event::Received { storage, id, stamp } => Ok(self.receive(*storage, *id, stamp)?),
+            Event::FullReport { storage, entries } => {
+                Ok(self.full_report(*storage, entries.as_slice())?)
+            }
             _ => unreachable!(),
         }
     }
@@ -164,6 +141,18 @@ impl Manager {
     {
         let replica = ReplicaId { block: id, storage };
         let done = self.holdings.receive(&self.topology, &replica, stamp)?;
+        self.calls += 1;
+        Ok(done)
+    }
+
+    #[tactic(auto, unfolding(bm_base::specs::Calls::after_event, bm_base::specs::Calls::done_by, bm_base::specs::Events::change_cluster, bm_base::specs::Events::change_holdings))]
+    fn full_report(&mut self, storage: StorageId, entries: &[Entry]) -> Result<Done, AllocError>
+        requires { self.old.calls < last_number }
+        ensures done { IfOk result (λ d. d ≡ done_by self.old (event_of.FullReport storage entries.now)) }
+        ensures state { OnOk result (self.new ≡ after_event self.old (event_of.FullReport storage entries.now)) }
+        ensures unchanged { OnErr result (self.new ≡ self.old) }
+    {
+        let done = self.holdings.report(&self.topology, storage, entries)?;
         self.calls += 1;
         Ok(done)
     }

@@ -1,7 +1,9 @@
 // The alive nodes and their storages.
 ghost use Rattle.std.specs.Prelude.{◌≡◌, ◌+◌, ◌||◌, not, nat_le, nat_lt, length, OnOk, OnErr, if◌then◌else◌};
 ghost use Rattle.std.specs.List.{list_any};
+ghost use Rattle.std.specs.Prelude.{map as map_list};
 ghost use Rattle.bm_base.specs.Map as map;
+ghost use Rattle.bm_base.specs.Spread.{spread};
 ghost use Rattle.bm_base.specs.Lists as lists;
 ghost use Rattle.bm_base.specs.State as state;
 ghost use Rattle.bm_base.specs.Replicas as replicas;
@@ -57,6 +59,42 @@ impl Topology {
             Some(info) => Some(info.node),
             None => None,
         }
+    }
+
+    #[tactic(auto, unfolding(bm_base::specs::Replicas::rack_of))]
+    pub fn rack_of(&self, storage: StorageId) -> Option<Rack>
+        ensures { result ≡ replicas.rack_of self.now storage }
+    {
+        match self.node_of(storage) {
+            Some(node) => self.nodes.get(u64::from(node.0)),
+            None => None,
+        }
+    }
+
+    /// Whether the alive nodes stand on two racks or more.
+    #[tactic(auto, unfolding(bm_base::specs::Replicas::is_multi_rack))]
+    pub fn is_multi_rack(&self) -> bool
+        ensures { result ≡ replicas.is_multi_rack self.now }
+    {
+        self.rack_spread() > 1
+    }
+
+    /// On how many racks the alive nodes stand, 2 for more.
+    fn rack_spread(&self) -> usize
+        ensures { result ≡ spread (map_list (λ e. e.1) (map.entries self.now.nodes)) }
+    {
+        let mut first = None;
+        for (_, rack) in self.nodes.entries() {
+            match first {
+                None => first = Some(*rack),
+                Some(seen) => {
+                    if *rack != seen {
+                        return 2;
+                    }
+                }
+            }
+        }
+        usize::from(first.is_some())
     }
 
     #[tactic(auto, unfolding(bm_base::specs::Refusals::knows_node))]

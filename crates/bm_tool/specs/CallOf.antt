@@ -5,13 +5,14 @@ use Rattle.serde_json.specs.Data.{Data}
 use Rattle.serde_json.specs.Read.{read}
 use Rattle.serde_json.specs.Find.{get, as_str}
 use Rattle.bm_base.specs.declared.replica.Stamp.{Stamp}
-use Rattle.bm_base.specs.declared.event.Event.TheVariants.{Register, AddBlock, Received}
+use Rattle.bm_base.specs.declared.event.Entry.{Entry}
+use Rattle.bm_base.specs.declared.event.Event.TheVariants.{Register, AddBlock, Received, FullReport}
 use Rattle.bm_base.specs.declared.call.Call.{Call}
 use Rattle.bm_base.specs.declared.call.Call.TheVariants as call
 use Rattle.bm_tool.specs.declared.op.Op.{Op}
 use Rattle.bm_tool.specs.declared.op.Op.TheVariants as op
 use Rattle.bm_tool.specs.Op.{op_of}
-use Rattle.bm_tool.specs.Fields.{number_field, small_field, small_list_field, stamp_from}
+use Rattle.bm_tool.specs.Fields.{number_field, small_field, small_list_field, stamp_from, entries_field}
 
 -- a call of all its fields, or None where one is missing
 
@@ -27,6 +28,10 @@ abbrev pub received_from : Option ℕ → Option ℕ → Option Stamp → Option
 received_from (Some storage) (Some id) (Some stamp) = Some (call.Apply (Received storage id stamp))
 received_from _ _ _ = None
 
+abbrev pub report_from : Option ℕ → Option (List Entry) → Option Call
+report_from (Some storage) (Some entries) = Some (call.Apply (FullReport storage entries))
+report_from _ _ = None
+
 abbrev pub stamp_fields : Data → Option Stamp
 stamp_fields d = stamp_from (number_field (codes "gen") d) (number_field (codes "len") d)
 
@@ -35,7 +40,12 @@ abbrev pub call_for : Op → Data → Option Call
 call_for op.Register d = register_from (small_field (codes "node") d) (small_field (codes "rack") d) (small_list_field (codes "storages") d)
 call_for op.Add d = add_from (number_field (codes "id") d) (stamp_fields d) (small_field (codes "repl") d)
 call_for op.Received d = received_from (small_field (codes "storage") d) (number_field (codes "id") d) (stamp_fields d)
+call_for op.Report d = report_from (small_field (codes "storage") d) (entries_field (codes "blocks") d)
+call_for op.ListReplicas d = Some call.Replicas
+call_for op.ListCorrupt d = Some call.Corrupt
+call_for op.ListMissing d = Some call.Missing
 call_for op.ListPlaces d = option_map call.Places (number_field (codes "id") d)
+call_for op.Level d = option_map call.LevelOf (number_field (codes "id") d)
 
 -- an object whose text `op` names a call, and that has its fields
 abbrev pub call_in : Data → Option Call

@@ -3,6 +3,7 @@ use Rattle.std.specs.Prelude.{ℕ, ◌^◌, List, [], ◌∷◌, if◌then◌els
 use Rattle.serde_json.specs.Data.{Data, Items, no_items, item}
 use Rattle.serde_json.specs.Find.{get, as_number, as_u64, as_array}
 use Rattle.bm_base.specs.declared.replica.Stamp.{Stamp}
+use Rattle.bm_base.specs.declared.event.Entry.{Entry}
 
 -- a whole number below 2^64
 abbrev pub number_in : Data → Option ℕ
@@ -38,3 +39,19 @@ small_list_field name d = option_and_then (λ items. each small_in (listed items
 abbrev pub stamp_from : Option ℕ → Option ℕ → Option Stamp
 stamp_from (Some generation) (Some len) = Some (record { generation = generation; len = len })
 stamp_from _ _ = None
+
+abbrev pub entry_from : Option ℕ → Option Stamp → Option Entry
+entry_from (Some id) (Some stamp) = Some (record { id = id; stamp = stamp })
+entry_from _ _ = None
+
+-- three numbers: block, generation, length
+abbrev pub entry_among : List Data → Option Entry
+entry_among (id ∷ generation ∷ len ∷ []) = entry_from (number_in id) (stamp_from (number_in generation) (number_in len))
+entry_among _ = None
+
+unfoldable pub entry_in : Data → Option Entry
+entry_in d = option_and_then (λ items. entry_among (listed items)) (as_array d)
+
+-- a list of such
+abbrev pub entries_field : List ℕ → Data → Option (List Entry)
+entries_field name d = option_and_then (λ items. each entry_in (listed items)) (option_and_then as_array (get name d))

@@ -2,12 +2,11 @@
 ghost use Rattle.std.specs.Prelude.{◌≡◌, IfOk, IfSome, option_map, vec_items};
 ghost use Rattle.serde_json.specs.View.{view};
 ghost use Rattle.bm_manager.specs.Built.{IsBuiltCall};
-ghost use Rattle.bm_tool.specs.Fields.{stamp_from};
-ghost use Rattle.bm_tool.specs.CallOf.{register_from, add_from, received_from, stamp_fields, call_in, call_of, view_of};
+ghost use Rattle.bm_tool.specs.CallOf.{register_from, add_from, received_from, report_from, stamp_fields, call_in, call_of, view_of};
 
-use crate::fields::{number_field, small_field, storages_field};
+use crate::fields::{entries_field, number_field, small_field, stamp_from, storages_field};
 use crate::op::{Op, op_of};
-use bm_base::{BlockId, Call, Event, Gen, Items, NodeId, Rack, Stamp, StorageId};
+use bm_base::{BlockId, Call, Entry, Event, Items, NodeId, Rack, Stamp, StorageId};
 use serde_json::Value;
 use std::alloc::{AllocError, Global};
 
@@ -61,8 +60,20 @@ fn call_in(alloc: Global, value: &Value) -> Result<Option<Call>, AllocError>
             let stamp = stamp_fields(value);
             Ok(received_from(storage, id, stamp))
         }
+        Some(Op::Report) => {
+            let storage = small_field(value, "storage");
+            let entries = entries_field(alloc, value, "blocks")?;
+            Ok(report_from(storage, entries))
+        }
+        Some(Op::ListReplicas) => Ok(Some(Call::Replicas)),
+        Some(Op::ListCorrupt) => Ok(Some(Call::Corrupt)),
+        Some(Op::ListMissing) => Ok(Some(Call::Missing)),
         Some(Op::ListPlaces) => match number_field(value, "id") {
             Some(id) => Ok(Some(Call::Places(BlockId(id)))),
+            None => Ok(None),
+        },
+        Some(Op::Level) => match number_field(value, "id") {
+            Some(id) => Ok(Some(Call::LevelOf(BlockId(id)))),
             None => Ok(None),
         },
         None => Ok(None),
@@ -115,20 +126,21 @@ fn received_from(storage: Option<u32>, id: Option<u64>, stamp: Option<Stamp>) ->
     }
 }
 
+fn report_from(storage: Option<u32>, entries: Option<Vec<Entry>>) -> Option<Call>
+    ensures call { result ≡ report_from storage (option_map (λ v. v.items) entries) }
+    ensures built { IfSome result IsBuiltCall }
+{
+    match (storage, entries) {
+        (Some(storage), Some(entries)) => Some(Call::Apply(Event::FullReport {
+            storage: StorageId(storage),
+            entries: Items::from_vec(entries),
+        })),
+        _ => None,
+    }
+}
+
 fn stamp_fields(value: &Value) -> Option<Stamp>
     ensures { result ≡ stamp_fields (view value.now) }
 {
     stamp_from(number_field(value, "gen"), number_field(value, "len"))
-}
-
-fn stamp_from(generation: Option<u64>, len: Option<u64>) -> Option<Stamp>
-    ensures { result ≡ stamp_from generation len }
-{
-    match (generation, len) {
-        (Some(generation), Some(len)) => Some(Stamp {
-            generation: Gen(generation),
-            len,
-        }),
-        _ => None,
-    }
 }

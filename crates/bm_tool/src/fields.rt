@@ -2,9 +2,9 @@
 ghost use Rattle.std.specs.Prelude.{◌≡◌, IfOk, option_map, option_and_then, map};
 ghost use Rattle.serde_json.specs.Find.{as_array, get};
 ghost use Rattle.serde_json.specs.View.{view, items_view};
-ghost use Rattle.bm_tool.specs.Fields.{number_field, small_in, small_field, each, small_list_field};
+ghost use Rattle.bm_tool.specs.Fields.{number_field, small_in, small_field, each, small_list_field, stamp_from, entry_from, entry_among, entry_in, entries_field};
 
-use bm_base::StorageId;
+use bm_base::{BlockId, Entry, Gen, Stamp, StorageId};
 use serde_json::Value;
 use std::alloc::{AllocError, Global};
 
@@ -62,4 +62,76 @@ fn storages_of(alloc: Global, items: &[Value]) -> Result<Option<Vec<StorageId>>,
         }
     }
     Ok(Some(storages))
+}
+
+/// A list of block, generation and length, three numbers each.
+pub fn entries_field(
+    alloc: Global,
+    value: &Value,
+    name: &str,
+) -> Result<Option<Vec<Entry>>, AllocError>
+    ensures { IfOk result (λ o. option_map (λ v. v.items) o ≡ entries_field name.now (view value.now)) }
+{
+    match list_field(value, name) {
+        Some(items) => entries_of(alloc, items.as_slice()),
+        None => Ok(None),
+    }
+}
+
+fn entries_of(alloc: Global, items: &[Value]) -> Result<Option<Vec<Entry>>, AllocError>
+    ensures { IfOk result (λ o. option_map (λ v. v.items) o ≡ each entry_in (map view items.now)) }
+{
+    let mut entries = Vec::new(alloc);
+    for item in items {
+        match entry_in(item) {
+            Some(entry) => entries.push(entry)?,
+            None => return Ok(None),
+        }
+    }
+    Ok(Some(entries))
+}
+
+fn entry_in(value: &Value) -> Option<Entry>
+    ensures { result ≡ entry_in (view value.now) }
+{
+    match value.as_array() {
+        Some(items) => entry_among(items.as_slice()),
+        None => None,
+    }
+}
+
+fn entry_among(items: &[Value]) -> Option<Entry>
+    ensures { result ≡ entry_among (map view items.now) }
+{
+    match items {
+        [id, generation, len] => {
+            entry_from(id.as_u64(), stamp_from(generation.as_u64(), len.as_u64()))
+        }
+        _ => None,
+    }
+}
+
+fn entry_from(id: Option<u64>, stamp: Option<Stamp>) -> Option<Entry>
+    ensures { result ≡ entry_from id stamp }
+{
+    match (id, stamp) {
+        (Some(id), Some(stamp)) => Some(Entry {
+            id: BlockId(id),
+            stamp,
+        }),
+        _ => None,
+    }
+}
+
+/// A stamp of its generation and length.
+pub fn stamp_from(generation: Option<u64>, len: Option<u64>) -> Option<Stamp>
+    ensures { result ≡ stamp_from generation len }
+{
+    match (generation, len) {
+        (Some(generation), Some(len)) => Some(Stamp {
+            generation: Gen(generation),
+            len,
+        }),
+        _ => None,
+    }
 }

@@ -8,7 +8,12 @@ pub enum Op {
     Register,
     Add,
     Received,
+    Report,
+    ListReplicas,
+    ListCorrupt,
+    ListMissing,
     ListPlaces,
+    Level,
 }
 
 /// The call of this name, where there is one.
@@ -19,7 +24,12 @@ pub fn op_of(name: &str) -> Option<Op>
         "register" => Some(Op::Register),
         "add" => Some(Op::Add),
         "received" => Some(Op::Received),
+        "report" => Some(Op::Report),
+        "list_replicas" => Some(Op::ListReplicas),
+        "list_corrupt" => Some(Op::ListCorrupt),
+        "list_missing" => Some(Op::ListMissing),
         "list_places" => Some(Op::ListPlaces),
+        "level" => Some(Op::Level),
         _ => None,
     }
 }

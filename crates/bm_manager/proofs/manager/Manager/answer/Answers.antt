@@ -1,60 +1,138 @@
-use Rattle.std.proofs.Common.{ap, sym, subst, ◌∙◌, refl, inl}
+-- One call against the definition: an answer is that of the step, a refusal the step's or want of memory.
+use Rattle.std.proofs.Common.{◌≡◌, ap, sym, subst, ◌∙◌, refl}
 use Rattle.bm_base.specs.declared.call.Answer.TheVariants as answer
 use Rattle.bm_base.specs.Answering.{MayAnswer, state_left}
-use Rattle.bm_base.specs.Calls.{step}
-use Rattle.bm_manager.proofs.Runs.{ok_answer, ok_left, err_answer, err_left, step_apply, step_places, step_calls}
+use Rattle.bm_manager.specs.Built.{built_step}
+use Rattle.bm_manager.proofs.Runs.{ok_answer, ok_left, err_answer, err_left, step_answer, memory_answer, step_apply, step_replicas, step_corrupt, step_missing, step_places, step_level, step_calls, step_rounds}
 use Rattle.bm_manager.proofs.manager.Manager.answer.Goals as goal
 
 pub returns-in-Ok-clause-answer : goal.returns-in-Ok-clause-answer
 returns-in-Ok-clause-answer c =
-    let M = c.args.self.now in let told = c.in-Ok.ensures in
-    subst (λ k. MayAnswer M k (answer.Done c.in-Ok.done)) (sym c.in-Apply.is)
-    (ok_answer M _ _ _ (step_apply M c.in-Apply.event) _ told.accepted (ap answer.Done told.done))
+    let M = c.args.self.now in
+    subst (λ k. MayAnswer built_step M k (answer.Done c.in-Ok.done)) (sym c.in-Apply.is) (ok_answer M _ _ _ (step_apply M c.in-Apply.event) _ c.in-Ok.ensures.accepted (ap answer.Done c.in-Ok.ensures.done))
 
 pub returns-in-Ok-clause-state : goal.returns-in-Ok-clause-state
 returns-in-Ok-clause-state c =
-    let M = c.args.self.now in let told = c.in-Ok.ensures in
-    ok_left M _ _ _ (step_apply M c.in-Apply.event) c.apply.new.self told.accepted told.state ∙ ap (λ k. (step M k).1) (sym c.in-Apply.is)
+    let M = c.args.self.now in
+    ok_left M _ _ _ (step_apply M c.in-Apply.event) c.apply.new.self c.in-Ok.ensures.accepted c.in-Ok.ensures.state ∙ ap (λ k. (built_step M k).1) (sym c.in-Apply.is)
 
 pub returns-in-Err-clause-answer : goal.returns-in-Err-clause-answer
 returns-in-Err-clause-answer c =
     let M = c.args.self.now in
-    subst (λ k. MayAnswer M k (answer.Refused c.in-Err.refusal)) (sym c.in-Apply.is)
-    (err_answer M _ _ _ (step_apply M c.in-Apply.event) c.in-Err.refusal refl c.in-Err.ensures.refused)
+    subst (λ k. MayAnswer built_step M k (answer.Refused c.in-Err.refusal)) (sym c.in-Apply.is)
+      (err_answer M _ _ _ (step_apply M c.in-Apply.event) c.in-Err.refusal refl c.in-Err.ensures.refused)
 
 pub returns-in-Err-clause-state : goal.returns-in-Err-clause-state
 returns-in-Err-clause-state c =
     let M = c.args.self.now in
-    err_left M _ _ _ (step_apply M c.in-Apply.event) c.apply.new.self c.in-Err.refusal c.in-Err.ensures.refused c.in-Err.ensures.unchanged ∙ ap (λ k. state_left M k (answer.Refused c.in-Err.refusal)) (sym c.in-Apply.is)
+    err_left M _ _ _ (step_apply M c.in-Apply.event) c.apply.new.self c.in-Err.refusal c.in-Err.ensures.refused c.in-Err.ensures.unchanged
+    ∙ ap (λ k. state_left built_step M k (answer.Refused c.in-Err.refusal)) (sym c.in-Apply.is)
+
+pub returns-in-Ok-replicas-clause-answer : goal.returns-in-Ok-replicas-clause-answer
+returns-in-Ok-replicas-clause-answer c =
+    let M = c.args.self.now in
+    subst (λ k. MayAnswer built_step M k (answer.Replicas c.in-Ok-replicas.replicas)) (sym c.in-Replicas.is) (step_answer M _ _ _ (step_replicas M) (ap answer.Replicas c.in-Ok-replicas.ensures.replicas))
+
+pub returns-in-Ok-replicas-clause-state : goal.returns-in-Ok-replicas-clause-state
+returns-in-Ok-replicas-clause-state c =
+    let M = c.args.self.now in
+    sym (ap (λ y. y.1) (step_replicas M)) ∙ ap (λ k. (built_step M k).1) (sym c.in-Replicas.is)
+
+pub returns-in-Err-replicas-clause-answer : goal.returns-in-Err-replicas-clause-answer
+returns-in-Err-replicas-clause-answer c =
+    let M = c.args.self.now in
+    subst (λ k. MayAnswer built_step M k (answer.Refused c.in-Err-replicas.refusal)) (sym c.in-Replicas.is) (memory_answer M _ _ (step_replicas M) refl refl c.in-Err-replicas.ensures.refused)
+
+pub returns-in-Ok-corrupt-clause-answer : goal.returns-in-Ok-corrupt-clause-answer
+returns-in-Ok-corrupt-clause-answer c =
+    let M = c.args.self.now in
+    subst (λ k. MayAnswer built_step M k (answer.ReplicaIds c.in-Ok-corrupt.corrupt)) (sym c.in-Corrupt.is) (step_answer M _ _ _ (step_corrupt M) (ap answer.ReplicaIds c.in-Ok-corrupt.ensures.corrupt))
+
+pub returns-in-Ok-corrupt-clause-state : goal.returns-in-Ok-corrupt-clause-state
+returns-in-Ok-corrupt-clause-state c =
+    let M = c.args.self.now in
+    sym (ap (λ y. y.1) (step_corrupt M)) ∙ ap (λ k. (built_step M k).1) (sym c.in-Corrupt.is)
+
+pub returns-in-Err-corrupt-clause-answer : goal.returns-in-Err-corrupt-clause-answer
+returns-in-Err-corrupt-clause-answer c =
+    let M = c.args.self.now in
+    subst (λ k. MayAnswer built_step M k (answer.Refused c.in-Err-corrupt.refusal)) (sym c.in-Corrupt.is) (memory_answer M _ _ (step_corrupt M) refl refl c.in-Err-corrupt.ensures.refused)
+
+pub returns-in-Ok-missing-clause-answer : goal.returns-in-Ok-missing-clause-answer
+returns-in-Ok-missing-clause-answer c =
+    let M = c.args.self.now in
+    subst (λ k. MayAnswer built_step M k (answer.Blocks c.in-Ok-missing.missing)) (sym c.in-Missing.is) (step_answer M _ _ _ (step_missing M) (ap answer.Blocks c.in-Ok-missing.ensures.missing))
+
+pub returns-in-Ok-missing-clause-state : goal.returns-in-Ok-missing-clause-state
+returns-in-Ok-missing-clause-state c =
+    let M = c.args.self.now in
+    sym (ap (λ y. y.1) (step_missing M)) ∙ ap (λ k. (built_step M k).1) (sym c.in-Missing.is)
+
+pub returns-in-Err-missing-clause-answer : goal.returns-in-Err-missing-clause-answer
+returns-in-Err-missing-clause-answer c =
+    let M = c.args.self.now in
+    subst (λ k. MayAnswer built_step M k (answer.Refused c.in-Err-missing.refusal)) (sym c.in-Missing.is) (memory_answer M _ _ (step_missing M) refl refl c.in-Err-missing.ensures.refused)
 
 pub returns-in-Ok-places-clause-answer : goal.returns-in-Ok-places-clause-answer
 returns-in-Ok-places-clause-answer c =
-    let M = c.args.self.now in let found = c.in-Ok-places.ensures in
-    subst (λ k. MayAnswer M k (answer.Storages c.in-Ok-places.storages)) (sym c.in-Places.is)
-    (ok_answer M _ _ _ (step_places M c.in-Places.id) _ found.known (ap answer.Storages found.places))
+    let M = c.args.self.now in
+    subst (λ k. MayAnswer built_step M k (answer.Storages c.in-Ok-places.storages)) (sym c.in-Places.is) (ok_answer M _ _ _ (step_places M c.in-Places.id) _ c.in-Ok-places.ensures.known (ap answer.Storages c.in-Ok-places.ensures.places))
 
 pub returns-in-Ok-places-clause-state : goal.returns-in-Ok-places-clause-state
 returns-in-Ok-places-clause-state c =
     let M = c.args.self.now in
-    ok_left M _ _ _ (step_places M c.in-Places.id) M c.in-Ok-places.ensures.known refl ∙ ap (λ k. (step M k).1) (sym c.in-Places.is)
+    ok_left M _ _ _ (step_places M c.in-Places.id) M c.in-Ok-places.ensures.known refl ∙ ap (λ k. (built_step M k).1) (sym c.in-Places.is)
 
 pub returns-in-Err-places-clause-answer : goal.returns-in-Err-places-clause-answer
 returns-in-Err-places-clause-answer c =
     let M = c.args.self.now in
-    subst (λ k. MayAnswer M k (answer.Refused c.in-Err-places.refusal)) (sym c.in-Places.is)
-    (err_answer M _ _ _ (step_places M c.in-Places.id) c.in-Err-places.refusal refl c.in-Err-places.ensures.refused)
+    subst (λ k. MayAnswer built_step M k (answer.Refused c.in-Err-places.refusal)) (sym c.in-Places.is)
+      (err_answer M _ _ _ (step_places M c.in-Places.id) c.in-Err-places.refusal refl c.in-Err-places.ensures.refused)
 
 pub returns-in-Err-places-clause-state : goal.returns-in-Err-places-clause-state
 returns-in-Err-places-clause-state c =
     let M = c.args.self.now in
-    err_left M _ _ _ (step_places M c.in-Places.id) M c.in-Err-places.refusal c.in-Err-places.ensures.refused refl ∙ ap (λ k. state_left M k (answer.Refused c.in-Err-places.refusal)) (sym c.in-Places.is)
+    err_left M _ _ _ (step_places M c.in-Places.id) M c.in-Err-places.refusal c.in-Err-places.ensures.refused refl
+    ∙ ap (λ k. state_left built_step M k (answer.Refused c.in-Err-places.refusal)) (sym c.in-Places.is)
+
+pub returns-in-Ok-level-clause-answer : goal.returns-in-Ok-level-clause-answer
+returns-in-Ok-level-clause-answer c =
+    let M = c.args.self.now in
+    subst (λ k. MayAnswer built_step M k (answer.LevelIs c.in-Ok-level.level)) (sym c.in-LevelOf.is) (ok_answer M _ _ _ (step_level M c.in-LevelOf.id) _ c.in-Ok-level.ensures.known (ap answer.LevelIs c.in-Ok-level.ensures.level))
+
+pub returns-in-Ok-level-clause-state : goal.returns-in-Ok-level-clause-state
+returns-in-Ok-level-clause-state c =
+    let M = c.args.self.now in
+    ok_left M _ _ _ (step_level M c.in-LevelOf.id) M c.in-Ok-level.ensures.known refl ∙ ap (λ k. (built_step M k).1) (sym c.in-LevelOf.is)
+
+pub returns-in-Err-level-clause-answer : goal.returns-in-Err-level-clause-answer
+returns-in-Err-level-clause-answer c =
+    let M = c.args.self.now in
+    subst (λ k. MayAnswer built_step M k (answer.Refused c.in-Err-level.refusal)) (sym c.in-LevelOf.is)
+      (err_answer M _ _ _ (step_level M c.in-LevelOf.id) c.in-Err-level.refusal refl c.in-Err-level.ensures.refused)
+
+pub returns-in-Err-level-clause-state : goal.returns-in-Err-level-clause-state
+returns-in-Err-level-clause-state c =
+    let M = c.args.self.now in
+    err_left M _ _ _ (step_level M c.in-LevelOf.id) M c.in-Err-level.refusal c.in-Err-level.ensures.refused refl
+    ∙ ap (λ k. state_left built_step M k (answer.Refused c.in-Err-level.refusal)) (sym c.in-LevelOf.is)
 
 pub returns-in-Calls-clause-answer : goal.returns-in-Calls-clause-answer
 returns-in-Calls-clause-answer c =
     let M = c.args.self.now in
-    subst (λ k. MayAnswer M k (answer.Number c.calls.result)) (sym c.in-Calls.is) (inl (ap answer.Number c.calls.ensures ∙ sym (ap (λ y. y.0) (step_calls M))))
+    subst (λ k. MayAnswer built_step M k (answer.Number c.calls.result)) (sym c.in-Calls.is) (step_answer M _ _ _ (step_calls M) (ap answer.Number c.calls.ensures))
 
 pub returns-in-Calls-clause-state : goal.returns-in-Calls-clause-state
 returns-in-Calls-clause-state c =
     let M = c.args.self.now in
-    sym (ap (λ y. y.1) (step_calls M)) ∙ ap (λ k. (step M k).1) (sym c.in-Calls.is)
+    sym (ap (λ y. y.1) (step_calls M)) ∙ ap (λ k. (built_step M k).1) (sym c.in-Calls.is)
+
+pub returns-in-Rounds-clause-answer : goal.returns-in-Rounds-clause-answer
+returns-in-Rounds-clause-answer c =
+    let M = c.args.self.now in
+    subst (λ k. MayAnswer built_step M k (answer.Number c.rounds.result)) (sym c.in-Rounds.is) (step_answer M _ _ _ (step_rounds M) (ap answer.Number c.rounds.ensures))
+
+pub returns-in-Rounds-clause-state : goal.returns-in-Rounds-clause-state
+returns-in-Rounds-clause-state c =
+    let M = c.args.self.now in
+    sym (ap (λ y. y.1) (step_rounds M)) ∙ ap (λ k. (built_step M k).1) (sym c.in-Rounds.is)

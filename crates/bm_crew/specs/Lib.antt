@@ -1,0 +1,5 @@
+pub mod Bags
+pub mod Crews
+pub mod Teams
+pub mod Rule
+pub mod Work

@@ -1,0 +1,112 @@
+// A crew whose workers share a bag.
+ghost use Rattle.std.specs.Prelude.{◌≡◌, ◌<◌, ◌≤◌, ℕ, [], MatchOption, IfOk, IfErr, vec_len, vec_capacity};
+ghost use Rattle.std.specs.List.{All, AllZip};
+ghost use Rattle.bm_base.specs.declared.refusal.Refusal.TheVariants.{Memory};
+ghost use Rattle.bm_crew.specs.Work.{IsResultOf};
+ghost use Rattle.bm_crew.specs.Teams.{IsTeamFor};
+
+use crate::gate::Gate;
+use crate::slots::filled;
+use crate::team::Team;
+use bm_base::Refusal;
+use std::alloc::Global;
+use std::marker::Model;
+use std::sync::Wait;
+use std::thread::Threads;
+
+/// Makes crews ready, each for one run.
+#[derive(Clone, Copy, Debug)]
+pub struct Crew;
+
+/// A crew that is ready for one run of pieces `T` to results `U`, and has all memory that the run needs.
+///
+/// Contracts see it as the number of items that it has room for.
+#[derive(Drop)]
+pub struct Ready<T, U> {
+    room: usize,
+    team: Option<Team<T, U>>,
+    slots: Vec<Option<(u32, U)>>,
+    results: Vec<(u32, U)>,
+}
+
+impl<T, U> Model for Ready<T, U> {
+    ghost Value = { ℕ };
+
+    ghost view = { λ r. r.room };
+
+    ghost invariant = { λ r. MatchOption r.team (r.room ≡ 0) (IsTeamFor r.room) × (r.slots.items ≡ []) × (r.room ≤ vec_capacity r.slots) × (r.results.items ≡ []) × (r.room ≤ vec_capacity r.results) };
+}
+
+impl Crew {
+    /// Takes all memory that a run of at most `n` items needs, room for `n` results at each worker among it. `workers`,
+    /// at least 1, counts the calling thread. Refuses with `Memory` alone.
+    pub fn ready<T: Drop, U: Drop>(
+        alloc: Global,
+        n: usize,
+        workers: usize,
+    ) -> Result<Ready<T, U>, Refusal>
+        requires { 0 < workers }
+        ensures room { IfOk result (λ r. r ≡ n) }
+        ensures refused { IfErr result (λ e. e ≡ Memory) }
+    {
+        let slots = Vec::with_capacity(alloc, n)?;
+        let results = Vec::with_capacity(alloc, n)?;
+        if n == 0 {
+            return Ok(Ready {
+                room: 0,
+                team: None,
+                slots,
+                results,
+            });
+        }
+        let team = Team::open(alloc, n, workers)?;
+        Ok(Ready {
+            room: n,
+            team: Some(team),
+            slots,
+            results,
+        })
+    }
+}
+
+impl<T: Send + Drop, U: Send + Drop> Ready<T, U> {
+    /// Works each item, a shard with its piece, and gives the results in the order of items, each with its shard and
+    /// with what `work` promises for that shard and that piece.
+    ///
+    /// Refuses nothing: at most as many items as the crew is ready for, and `work` may be called on each. Takes no
+    /// memory of the allocator; to start a thread takes some of the system's. A worker that cannot be started is left
+    /// out, and the others do its part. `gate.at(shard)` is called before the work of each piece.
+    pub fn run<R: Threads + Wait + Sync, F: Fn(u32, T) -> U + Sync, G: Gate + Sync>(
+        self,
+        rt: &R,
+        items: Vec<(u32, T)>,
+        work: &F,
+        gate: &G,
+    ) -> Vec<(u32, U)>
+        requires room { vec_len items ≤ self }
+        requires accepts { All (λ item. F.pre work.now item.0 item.1) items.items }
+        ensures len { vec_len result ≡ vec_len items }
+        ensures each { AllZip (IsResultOf (F.post work.now)) items.items result.items }
+    {
+        let Ready {
+            room: _,
+            team,
+            mut slots,
+            results,
+        } = self;
+        let Some(team) = team else {
+            return results;
+        };
+        for _ in 0..items.len() {
+            slots.push_reserved(None);
+        }
+        let job = move |shard: u32, piece: T| -> U
+            requires { F.pre work.now shard piece }
+            ensures { F.post work.entry.now shard piece result }
+        {
+            gate.at(shard);
+            work(shard, piece)
+        };
+        filled(team.work(rt, items, slots, &job), results)
+    }
+}

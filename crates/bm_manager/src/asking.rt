@@ -1,0 +1,77 @@
+// What can be asked of a manager. No question changes anything, and none counts as an accepted call.
+ghost use Rattle.std.specs.Prelude.{◌≡◌, true, false, None, IfOk, IfErr, OnOk};
+ghost use Rattle.bm_base.specs.Queries as queries;
+ghost use Rattle.bm_base.specs.Levels as levels;
+ghost use Rattle.bm_base.specs.Refusals.{block_refusal};
+ghost use Rattle.bm_base.specs.Answering.{Refuses};
+ghost use Rattle.bm_base.specs.declared.refusal.Refusal.TheVariants.{Memory};
+
+use bm_base::{BlockId, Items, Level, Refusal, Replica, ReplicaId, StorageId};
+
+use crate::manager::Manager;
+
+impl Manager {
+    /// How many calls were accepted, from `first_call` on. Takes no memory.
+    pub fn calls(&self) -> u64
+        ensures { result ≡ self.now.calls }
+    {
+        self.calls
+    }
+
+    /// The number of the last round, from `first_round` on. Takes no memory.
+    pub fn rounds(&self) -> u64
+        ensures { result ≡ self.now.round }
+    {
+        self.round
+    }
+
+    /// All replicas with their tags, by block and storage. `Memory`.
+    pub fn replicas(&self) -> Result<Items<Replica>, Refusal>
+        ensures replicas { IfOk result (λ v. v ≡ queries.all_replicas self.now.holdings) }
+        ensures refused { IfErr result (λ e. e ≡ Memory) }
+    {
+        Ok(self.holdings.all_replicas(self.alloc)?)
+    }
+
+    /// The stale and bad replicas, by block and storage. `Memory`.
+    pub fn corrupt(&self) -> Result<Items<ReplicaId>, Refusal>
+        ensures corrupt { IfOk result (λ v. v ≡ queries.corrupt_replicas self.now.holdings) }
+        ensures refused { IfErr result (λ e. e ≡ Memory) }
+    {
+        Ok(self.holdings.corrupt_replicas(self.alloc)?)
+    }
+
+    /// The known blocks of which no replica is live, rising. `Memory`.
+    pub fn missing(&self) -> Result<Items<BlockId>, Refusal>
+        ensures missing { IfOk result (λ v. v ≡ queries.missing_blocks self.now.cluster self.now.holdings) }
+        ensures refused { IfErr result (λ e. e ≡ Memory) }
+    {
+        Ok(self.holdings.missing_blocks(self.alloc, &self.topology)?)
+    }
+
+    /// The storages of the block's good replicas, in excess or not, rising. `UnknownBlock`; `Memory`.
+    #[tactic(auto, unfolding(bm_base::specs::Refusals::block_refusal))]
+    pub fn places(&self, id: BlockId) -> Result<Items<StorageId>, Refusal>
+        ensures known { OnOk result (block_refusal self.now.holdings id ≡ None) }
+        ensures places { IfOk result (λ v. v ≡ queries.places self.now.holdings id) }
+        ensures refused { IfErr result (Refuses (block_refusal self.now.holdings id) true) }
+    {
+        if !self.holdings.knows_block(id) {
+            return Err(Refusal::UnknownBlock);
+        }
+        Ok(self.holdings.places(self.alloc, id)?)
+    }
+
+    /// How urgently the block wants replicas; `None` where it wants none. `UnknownBlock`. Takes no memory.
+    #[tactic(auto, unfolding(bm_base::specs::Refusals::block_refusal))]
+    pub fn level(&self, id: BlockId) -> Result<Option<Level>, Refusal>
+        ensures known { OnOk result (block_refusal self.now.holdings id ≡ None) }
+        ensures level { IfOk result (λ l. l ≡ levels.level self.now.cluster self.now.holdings id) }
+        ensures refused { IfErr result (Refuses (block_refusal self.now.holdings id) false) }
+    {
+        if !self.holdings.knows_block(id) {
+            return Err(Refusal::UnknownBlock);
+        }
+        Ok(self.holdings.level(&self.topology, id))
+    }
+}

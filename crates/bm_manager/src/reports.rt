@@ -1,0 +1,105 @@
+// Full block reports.
+ghost use Rattle.std.specs.Prelude.{◌≡◌, ◌==◌, ◌&&◌, not, IfOk, OnOk, OnErr};
+ghost use Rattle.bm_base.specs.Map as map;
+ghost use Rattle.bm_base.specs.Events as events;
+ghost use Rattle.bm_base.specs.Calls as calls;
+
+use std::alloc::AllocError;
+
+use bm_base::{BlockId, Done, Entry, Marks, ReplicaId, ReplicaMap, StorageId};
+
+use crate::holdings::Holdings;
+use crate::topology::Topology;
+
+impl Holdings {
+    /// Makes the replicas on a storage those of a full report: works on a copy and moves it in. An `Err` changes nothing.
+    #[tactic(auto, unfolding(bm_base::specs::Events::report, bm_base::specs::Calls::done))]
+    pub fn report(
+        &mut self,
+        topology: &Topology,
+        storage: StorageId,
+        entries: &[Entry],
+    ) -> Result<Done, AllocError>
+        ensures ok { IfOk result (λ d. d ≡ calls.done self.old (events.report topology.now self.old storage entries.now)) }
+        ensures state { OnOk result (self.new ≡ events.report topology.now self.old storage entries.now) }
+        ensures err { OnErr result (self.new ≡ self.old) }
+    {
+        let mut replicas = self.replicas.try_clone()?;
+        drop_unreported(&mut replicas, topology, storage, entries);
+        for entry in entries {
+            let replica = ReplicaId {
+                block: entry.id,
+                storage,
+            };
+            let marks = self.entered(&replica, &entry.stamp);
+            replicas.insert(replica, marks)?;
+        }
+        let done = Done {
+            added: new_replicas(&self.replicas, &replicas),
+            removed: new_replicas(&replicas, &self.replicas),
+        };
+        self.replicas = replicas;
+        drop_arrived(&mut self.pending, storage, entries);
+        Ok(done)
+    }
+}
+
+/// Whether a report names the block.
+#[tactic(auto, unfolding(bm_base::specs::Events::is_named))]
+fn is_named(entries: &[Entry], id: BlockId) -> bool
+    ensures { result ≡ events.is_named entries.now id }
+{
+    entries.iter().any(|entry| entry.id == id)
+}
+
+/// Whether a replica leaves by the report: one on the storage that it does not name, or one of a named block on another
+/// storage of the node.
+#[tactic(auto, unfolding(bm_base::specs::Events::leaves_by_report))]
+fn leaves_by_report(
+    topology: &Topology,
+    storage: StorageId,
+    entries: &[Entry],
+    replica: &ReplicaId,
+) -> bool
+    ensures { result ≡ events.leaves_by_report topology.now storage entries.now replica.now }
+{
+    let is_named = is_named(entries, replica.block);
+    if replica.storage == storage {
+        !is_named
+    } else {
+        is_named && topology.are_sisters(storage, replica.storage)
+    }
+}
+
+/// Takes out the replicas that leave by the report.
+fn drop_unreported(
+    replicas: &mut ReplicaMap<Marks>,
+    topology: &Topology,
+    storage: StorageId,
+    entries: &[Entry],
+)
+    ensures { replicas.new ≡ map.keep replicas.old (λ q _. not (events.leaves_by_report topology.now storage entries.now q)) }
+{
+    replicas.retain(|(replica, _)| !leaves_by_report(topology, storage, entries, replica));
+}
+
+/// Takes out the transfers that have arrived.
+fn drop_arrived(pending: &mut ReplicaMap<u64>, storage: StorageId, entries: &[Entry])
+    ensures { pending.new ≡ map.keep pending.old (λ q _. not ((q.storage == storage) && events.is_named entries.now q.block)) }
+{
+    pending.retain(|(replica, _)| !(replica.storage == storage && is_named(entries, replica.block)));
+}
+
+/// How many replicas `after` has that `before` has not.
+#[tactic(auto, unfolding(bm_base::specs::Calls::new_replicas))]
+fn new_replicas(before: &ReplicaMap<Marks>, after: &ReplicaMap<Marks>) -> u128
+    ensures { result ≡ calls.new_replicas before.now after.now }
+{
+    let mut count = 0;
+    for (replica, _) in after.entries() {
+        if before.get(*replica).is_none() {
+            count += 1;
+        }
+    }
+    count
+}

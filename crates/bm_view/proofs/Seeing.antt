@@ -1,0 +1,48 @@
+-- What a reader knows after it looked.
+use Rattle.std.proofs.Math.Seq.{get_or-append_seam}
+use Rattle.std.proofs.Common.{ℕ, IfSome, length, arith, length-append, ◌≤◌, [], ◌∷◌, ◌++◌, All, ◌≡◌, List, Option, Some, None, sym, ◌∙◌, subst, refl}
+use mathlib.Core.List.{IsPrefix}
+use Rattle.logbook.specs.Pages.{Book}
+use Rattle.bm_view.specs.Version.{Version}
+use Rattle.std.proofs.lemmas.List.Elements.{All-push}
+use Rattle.bm_view.specs.History.{shown_in, last_of, IsHistory}
+use Rattle.bm_view.specs.Rule.{Evidence, Sees, HasSeen}
+use Rattle.bm_view.proofs.Prefixes.{prefix_self, prefix_trans}
+use Rattle.bm_view.proofs.Histories.{last_of-prefix}
+
+pub record Later (b : Book) (l : List Version) (x : Evidence) (w : Option Evidence) : Type 0 where
+  pub book : x.book ≡ b
+  pub list : IsPrefix l (shown_in x.log)
+  pub before : HasSeen w b l
+  pub now : HasSeen w x.book (shown_in x.log)
+
+pub later : (v : Option Evidence) (x : Evidence) (w : Option Evidence) (book : Book) (list : List Version) → HasSeen v book list → Sees v x w → Later book list x w
+later None x w book list saw sees = absurd saw
+later (Some s) x w book list saw sees =
+    let is : x.book ≡ book = sym sees.0.book ∙ saw.0 in
+    let on : IsPrefix list (shown_in x.log) = prefix_trans list (shown_in s.log) (shown_in x.log) saw.1 sees.0.list in
+    record {
+      book = is;
+      list = on;
+      before = subst (λ w. HasSeen w book list) (sym sees.1) (is, on);
+      now = subst (λ w. HasSeen w x.book (shown_in x.log)) (sym sees.1) (refl, prefix_self (shown_in x.log));
+    }
+
+-- all that was told begins a longer list
+pub all_begin : (told : List (List Version)) (now longer : List Version) → All (λ known. IsPrefix known now) told → IsPrefix now longer → All (λ known. IsPrefix known longer) told
+all_begin told now longer h p = λ k d lt. prefix_trans _ now longer (h k d lt) p
+
+-- and so does one list more
+pub all_told : (told : List (List Version)) (now longer one : List Version) → All (λ known. IsPrefix known now) told → IsPrefix now longer → IsPrefix one longer → All (λ known. IsPrefix known longer) (told ++ one ∷ [])
+all_told told now longer one h p q = All-push (λ known. IsPrefix known longer) told one (all_begin told now longer h p) q
+
+pub none_older : (told : List (List Version)) (now : List Version) → All (λ known. IsPrefix known now) told → IsHistory now → All (λ known. (last_of known).calls ≤ (last_of now).calls) told
+none_older told now h history = λ k d lt. last_of-prefix _ now (h k d lt) history
+
+-- what holds of all lists told of holds of the last
+pub latest : (told : List (List Version)) (one : List Version) (n : ℕ) → All (λ known. (last_of known).calls ≤ n) (told ++ one ∷ []) → (last_of one).calls ≤ n
+latest told one n h = subst (λ (l : List Version). (last_of l).calls ≤ n) (get_or-append_seam told one [] []) (h (length told) [] (omega (arith, length-append told (one ∷ []))))
+
+pub if_some : {A : Type 0} (o : Option A) (P Q : A → Type 0) → IfSome o P → ((x : A) → P x → Q x) → IfSome o Q
+if_some None P Q h then = tt
+if_some (Some x) P Q h then = then x h

@@ -1,0 +1,33 @@
+-- The versions of a journal.
+use Rattle.std.specs.Prelude.{◌+◌, ◌-◌, ◌<◌, ◌≤◌, Bool, true, false, List, [], ◌∷◌, length, slice_index_or}
+use Rattle.std.specs.List.Sorted.{IsNonDecreasingBy}
+use mathlib.Core.List.{IsPrefix}
+use Rattle.bm_view.specs.declared.journal.Entry.{Entry}
+use Rattle.bm_view.specs.Version.{Version, opening}
+
+abbrev pub last_of : List Version → Version
+last_of list = slice_index_or list (length list - 1) opening
+
+-- it begins with the opening version, and its calls never fall
+pub record IsHistory (list : List Version) : Type 0 where
+  pub opens : IsPrefix (opening ∷ []) list
+  pub rises : IsNonDecreasingBy (λ v. v.calls) list
+
+abbrev pub put_if : Bool → Version → List Version → List Version
+put_if true v vs = v ∷ vs
+put_if false v vs = vs
+
+-- the versions that were settled
+abbrev pub versions : List Entry → List Version
+versions [] = []
+versions (e ∷ es) = put_if e.done e.table (versions es)
+
+-- and then the version of the last entry, which is shown
+abbrev pub shown_in : List Entry → List Version
+shown_in [] = []
+shown_in (e ∷ []) = e.table ∷ []
+shown_in (e ∷ f ∷ es) = put_if e.done e.table (shown_in (f ∷ es))
+
+-- what was settled begins what is shown with this journal, or with one that lacks its last entry alone
+abbrev pub IsSettled : List Entry → Type 0
+IsSettled told = (shown : List Entry) → IsPrefix shown told → length told ≤ length shown + 1 → 0 < length shown → IsPrefix (versions told) (shown_in shown)

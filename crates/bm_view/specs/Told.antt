@@ -1,0 +1,10 @@
+-- The lists that a locator was told of, by the last of them and those before.
+use Rattle.std.specs.Prelude.{List, [], ◌∷◌, ◌++◌, Option, Some, None}
+use Rattle.core.specs.declared.snapshot.Snapshot.{Snapshot}
+use Rattle.bm_view.specs.Version.{Version}
+use Rattle.bm_view.specs.History.{versions}
+use Rattle.bm_view.specs.Rule.{Evidence}
+
+abbrev pub told_of : Option (Snapshot (List (List Version)) × Evidence) → List (List Version)
+told_of None = []
+told_of (Some t) = t.0.value ++ versions t.1.log ∷ []

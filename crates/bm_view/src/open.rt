@@ -1,0 +1,106 @@
+//! What makes a publisher with its locators.
+ghost use Rattle.std.specs.Prelude.{◌≡◌, ◌^◌, ◌<◌, ◌↔◌, ◌⊎◌, [], ◌∷◌, All, IfOk, IfErr, vec_len};
+ghost use Rattle.left_right.specs.Sides.{view as sight};
+ghost use Rattle.bm_view.specs.Version.{opening};
+ghost use Rattle.bm_view.specs.Journal.{opening_log};
+ghost use Rattle.bm_view.specs.Rule.{HasSeen};
+
+use crate::journal::Journal;
+use crate::locator::Locator;
+use crate::publisher::{Publisher, show};
+use crate::rule::{Note, VersionWriter};
+use crate::shown::Shown;
+use crate::table::Table;
+use bm_base::Refusal;
+use std::alloc::{AllocError, Global};
+use std::sync::{Arc, Wait};
+
+const MAX_READERS: usize = 16;
+
+// What is shown at first: no calls and no rows.
+fn first_shown(alloc: Global, journal: &Journal) -> Result<Shown, AllocError>
+    requires { journal.now.log ≡ opening_log }
+    ensures { IfOk result (λ s. (s.book ≡ journal.now.book) × (s.log ≡ opening_log)) }
+{
+    let table = Arc::new(alloc, Table::new(0, Vec::new(alloc)))?;
+    Ok(Shown::new(table, journal.evidence(), journal.entries()))
+}
+
+// Makes a writer with room for so many readers, and shows the opening version by it: so its own view says what is shown,
+// and each locator can be told that.
+fn open_writer<R: Wait>(
+    rt: &R,
+    alloc: Global,
+    journal: &Journal,
+    readers: usize,
+) -> Result<VersionWriter, AllocError>
+    requires log { journal.now.log ≡ opening_log }
+    requires readers { (0 < readers) × (readers < 2 ^ 32) }
+    ensures shown { IfOk result (λ w. (w.desk.shown.value.book ≡ journal.now.book) × (w.desk.shown.value.log ≡ opening_log)) }
+    ensures seen { IfOk result (λ w. HasSeen (sight w.desk.place) journal.now.book (opening ∷ [])) }
+{
+    let first = first_shown(alloc, journal)?;
+    let second = first.again()?;
+    let third = first.again()?;
+    let writer = VersionWriter::new(alloc, first, second, readers)?;
+    let (writer, shown) = show(writer, (rt, third));
+    match shown {
+        Ok(()) => Ok(writer),
+        Err(error) => {
+            drop(writer.take(rt));
+            Err(error)
+        }
+    }
+}
+
+// Makes so many locators, each told what the writer has seen.
+fn make_locators(
+    alloc: Global,
+    writer: &mut VersionWriter,
+    journal: &Journal,
+    readers: usize,
+) -> Result<Vec<Locator>, AllocError>
+    requires log { journal.now.log ≡ opening_log }
+    requires seen { HasSeen (sight writer.old.desk.place) journal.now.book (opening ∷ []) }
+    ensures shown { writer.new.desk.shown.value ≡ writer.old.desk.shown.value }
+    ensures count { IfOk result (λ made. vec_len made ≡ readers) }
+    ensures each { IfOk result (λ made. All (λ l. l ≡ record { home = journal.now.book; list = opening ∷ []; told = [] }) made.items) }
+{
+    let mut locators = Vec::new(alloc);
+    for _ in 0..readers {
+        let mut reader = writer.factory().reader()?;
+        reader.learn::<Note>(writer.tell::<Note>());
+        locators.push(Locator::new(reader, journal.evidence()))?;
+    }
+    Ok(locators)
+}
+
+/// Makes a publisher and so many locators, 0 to 16. The opening version, which has no calls and no rows, is published: it
+/// is the list of each of them. The locators may go to other threads.
+///
+/// # Errors
+/// `BadConfig` over 16 readers, and else `Memory`.
+pub fn open_view<R: Wait>(
+    rt: &R,
+    alloc: Global,
+    readers: usize,
+) -> Result<(Publisher, Vec<Locator>), Refusal>
+    ensures too_many { (result ≡ Err Refusal.BadConfig) ↔ (16 < readers) }
+    ensures refused { IfErr result (λ refusal. (refusal ≡ Refusal.BadConfig) ⊎ (refusal ≡ Refusal.Memory)) }
+    ensures publisher { IfOk result (λ made. made.0.list ≡ opening ∷ []) }
+    ensures count { IfOk result (λ made. vec_len made.1 ≡ readers) }
+    ensures locators { IfOk result (λ made. All (λ l. l ≡ record { home = made.0.home; list = opening ∷ []; told = [] }) made.1.items) }
+{
+    if readers > MAX_READERS {
+        return Err(Refusal::BadConfig);
+    }
+    let journal = Journal::open();
+    let mut writer = open_writer(rt, alloc, &journal, readers.max(1))?;
+    match make_locators(alloc, &mut writer, &journal, readers) {
+        Ok(locators) => Ok((Publisher::new(writer, journal), locators)),
+        Err(error) => {
+            drop(writer.take(rt));
+            Err(Refusal::from(error))
+        }
+    }
+}

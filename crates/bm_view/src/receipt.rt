@@ -1,0 +1,72 @@
+//! What a publish tells: up to where the list of versions goes by now.
+ghost use Rattle.std.specs.Prelude.{◌≡◌, length};
+ghost use Rattle.bm_view.specs.History.{last_of, versions, IsHistory, IsSettled};
+
+use crate::journal::Evidence;
+use std::marker::Model;
+
+/// Says which versions were published, for locators to learn. It may go to another thread. A contract sees the list of
+/// these versions, and which call of `open_view` it stems from; at run time there are two numbers.
+#[derive(Drop)]
+pub struct Receipt {
+    /// The journal as it was once the last version was settled. It has no bytes.
+    evidence: Evidence,
+    /// How many entries that journal has.
+    entries: u64,
+    /// The calls of the last version.
+    calls: u64,
+}
+
+impl Model for Receipt {
+    ghost use Rattle.std.specs.Prelude.{◌≡◌, length};
+    ghost use Rattle.bm_view.specs.History.{last_of, versions, IsSettled, IsHistory};
+    ghost use Rattle.bm_view.specs.Holders.{Listed};
+
+    ghost Value = { Listed };
+
+    ghost view = { λ r. record { home = r.evidence.book; list = versions r.evidence.log } };
+
+    ghost invariant = { λ r.
+        (r.entries ≡ length r.evidence.log)
+        × (r.calls ≡ (last_of (versions r.evidence.log)).calls)
+        × IsSettled r.evidence.log
+        × IsHistory (versions r.evidence.log) };
+}
+
+impl Receipt {
+    pub(crate) fn new(evidence: Evidence, entries: u64, calls: u64) -> Receipt
+        requires entries { entries ≡ length evidence.log }
+        requires calls { calls ≡ (last_of (versions evidence.log)).calls }
+        requires settled { IsSettled evidence.log }
+        requires history { IsHistory (versions evidence.log) }
+        ensures { result ≡ record { home = evidence.book; list = versions evidence.log } }
+    {
+        Receipt {
+            evidence,
+            entries,
+            calls,
+        }
+    }
+
+    /// The calls of the last version of its list.
+    pub fn calls(&self) -> u64
+        ensures { result ≡ (last_of self.now.list).calls }
+    {
+        self.calls
+    }
+
+    // The journal and how many entries it has.
+    pub(crate) fn into_parts(self) -> (Evidence, u64)
+        ensures seen { (result.0.book ≡ self.home) × (versions result.0.log ≡ self.list) }
+        ensures entries { result.1 ≡ length result.0.log }
+        ensures settled { IsSettled result.0.log }
+        ensures history { IsHistory (versions result.0.log) }
+    {
+        let Receipt {
+            evidence,
+            entries,
+            calls: _,
+        } = self;
+        (evidence, entries)
+    }
+}

@@ -1,0 +1,102 @@
+//! The value that is shown: a table, and what the journal was when it was proposed.
+ghost use Rattle.std.specs.Prelude.{◌≡◌, ◌<◌, length, IfOk};
+ghost use Rattle.std.specs.Arc.{arc_value};
+ghost use Rattle.bm_view.specs.History.{last_of, shown_in, IsHistory};
+
+use crate::journal::Evidence;
+use crate::table::Table;
+use left_right::Absorb;
+use std::alloc::AllocError;
+use std::marker::Model;
+use std::sync::Arc;
+
+/// What readers find. `left_right` keeps two of them; both lead to one table. A contract sees the evidence.
+#[derive(Drop)]
+pub struct Shown {
+    table: Arc<Table>,
+    /// The journal up to the proposal of the table. It has no bytes.
+    evidence: Evidence,
+    /// How many entries that journal has.
+    entries: u64,
+}
+
+impl Model for Shown {
+    ghost use Rattle.std.specs.Prelude.{◌≡◌, ◌<◌, length};
+    ghost use Rattle.std.specs.Arc.{arc_value};
+    ghost use Rattle.bm_view.specs.Rule.{Evidence};
+    ghost use Rattle.bm_view.specs.History.{last_of, shown_in, IsHistory};
+
+    ghost Value = { Evidence };
+
+    ghost view = { λ s. s.evidence };
+
+    ghost invariant = { λ s.
+        (s.entries ≡ length s.evidence.log)
+        × (0 < s.entries)
+        × (last_of (shown_in s.evidence.log) ≡ arc_value s.table)
+        × IsHistory (shown_in s.evidence.log) };
+}
+
+impl Shown {
+    pub fn new(table: Arc<Table>, evidence: Evidence, entries: u64) -> Shown
+        requires entries { (entries ≡ length evidence.log) × (0 < entries) }
+        requires table { last_of (shown_in evidence.log) ≡ arc_value table }
+        requires history { IsHistory (shown_in evidence.log) }
+        ensures { result ≡ evidence }
+    {
+        Shown {
+            table,
+            evidence,
+            entries,
+        }
+    }
+
+    // One more that leads to the same table.
+    pub fn again(&self) -> Result<Shown, AllocError>
+        ensures { IfOk result (λ s. s ≡ self.now) }
+    {
+        Ok(Shown {
+            table: Arc::try_clone(&self.table)?,
+            evidence: self.evidence.again(),
+            entries: self.entries,
+        })
+    }
+
+    pub fn table(&self) -> &Arc<Table>
+        ensures { arc_value result.now ≡ last_of (shown_in self.now.log) }
+    {
+        &self.table
+    }
+
+    pub fn evidence(&self) -> Evidence
+        ensures same { result ≡ self.now }
+        ensures history { IsHistory (shown_in self.now.log) }
+    {
+        self.evidence.again()
+    }
+
+    pub fn entries(&self) -> u64
+        ensures { (result ≡ length self.now.log) × (0 < result) }
+    {
+        self.entries
+    }
+}
+
+// An operation on what is shown is what is shown next.
+impl Absorb<Shown> for Shown {
+    type State = Evidence;
+
+    ghost state = { λ s. s };
+
+    ghost applied = { λ _ next. next };
+
+    fn absorb_first(&mut self, operation: &Shown, _other: &Shown) -> Result<(), AllocError> {
+        *self = operation.again()?;
+        Ok(())
+    }
+
+    fn absorb_second(&mut self, operation: Shown, _other: &Shown) -> Result<(), Shown> {
+        *self = operation;
+        Ok(())
+    }
+}

@@ -1,0 +1,52 @@
+//! One version: what locators read.
+ghost use Rattle.std.specs.Prelude.{◌≡◌};
+ghost use Rattle.bm_view.specs.Version.{RisesById, places_in};
+
+use bm_base::{BlockId, Places};
+use std::marker::Model;
+
+/// How many calls were accepted, and where each block was then. It never changes. A contract sees the number and the
+/// list of rows.
+#[derive(Drop)]
+pub struct Table {
+    calls: u64,
+    rows: Vec<(BlockId, Places)>,
+}
+
+impl Model for Table {
+    ghost use Rattle.bm_view.specs.Version.{Version, RisesById};
+
+    ghost Value = { Version };
+
+    ghost view = { λ t. record { calls = t.calls; rows = t.rows.items } };
+
+    ghost invariant = { λ t. RisesById t.rows.items };
+}
+
+impl Table {
+    /// The version after so many accepted calls, any u64, with one row for each block that has places. The rows stand by
+    /// rising block number. Takes no memory.
+    pub fn new(calls: u64, rows: Vec<(BlockId, Places)>) -> Table
+        requires { RisesById rows.items }
+        ensures { result ≡ record { calls = calls; rows = rows.items } }
+    {
+        Table { calls, rows }
+    }
+
+    /// After how many accepted calls this was.
+    pub fn calls(&self) -> u64
+        ensures { result ≡ self.now.calls }
+    {
+        self.calls
+    }
+
+    /// Where the block was. A block without a row has no places.
+    pub fn places(&self, id: BlockId) -> Places
+        ensures { result ≡ places_in self.now.rows id }
+    {
+        match self.rows.binary_search_by_key(&id, |row| row.0) {
+            Ok(at) => self.rows[at].1,
+            Err(_) => Places::none(),
+        }
+    }
+}
