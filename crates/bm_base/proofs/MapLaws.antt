@@ -2,7 +2,7 @@
 --     get-.., gets     what `get` answers after each change, and the set of these
 --     same_map         maps that answer alike are equal
 --     entries-keep, keep-filter, remove-filter     entries filtered are a map kept
-use Rattle.std.specs.Prelude.{◌≡◌, Bool, true, false, cond, not, if◌then◌else◌, List, [], ◌∷◌, filter, Option, Some, None, option_and_then, option_map, T}
+use Rattle.std.specs.Prelude.{◌≡◌, Bool, true, false, cond, not, if◌then◌else◌, List, [], ◌∷◌, filter, map, Option, Some, None, option_and_then, option_map, T}
 use Rattle.std.specs.declared.cmp.Ordering.{Ordering}
 use Rattle.std.specs.declared.cmp.Ordering.TheVariants.{Less, Equal, Greater}
 use Rattle.std.specs.Ordering.{eq_by_cmp, is_eq, is_lt}
@@ -127,6 +127,23 @@ module _ {K X : Type 0} (o : Order K) where
   pub remove-filter : (m n : Map o X) (k : K) → entries n ≡ filter (λ e. not (eq_by_cmp o.cmp e.0 k)) (entries m) → n ≡ remove m k
   unfolding remove alter entries
   remove-filter m n k e = same_entries_map n (remove m k) (e ∙ taken_list (λ q. eq_by_cmp o.cmp q k) m.list)
+
+  revised_list : (f : K → X → X) (es : List (K × X)) → alter_list (λ k x. Some (f k x)) es ≡ map (λ e. (e.0, f e.0 e.1)) es
+  revised_list f [] = refl
+  revised_list f (e ∷ es) = ap (λ xs. (e.0, f e.0 e.1) ∷ xs) (revised_list f es)
+
+  -- entries mapped are a map revised, and stay in order
+  pub entries-revise : (m : Map o X) (f : K → X → X) → entries (revise m f) ≡ map (λ e. (e.0, f e.0 e.1)) (entries m)
+  unfolding revise alter entries
+  entries-revise m f = revised_list f m.list
+
+  pub revise-mapped : (m n : Map o X) (f : K → X → X) → entries n ≡ map (λ e. (e.0, f e.0 e.1)) (entries m) → n ≡ revise m f
+  unfolding revise alter entries
+  revise-mapped m n f e = same_entries_map n (revise m f) (e ∙ sym (revised_list f m.list))
+
+  pub is_sorted-mapped : (m : Map o X) (f : K → X → X) → T (is_sorted o.cmp (map (λ e. (e.0, f e.0 e.1)) (entries m)))
+  unfolding revise alter entries
+  is_sorted-mapped m f = subst (λ xs. T (is_sorted o.cmp xs)) (revised_list f m.list) (revise m f).sorted
 
   pub get-empty : (q : K) → get (empty {X = X} {o = o}) q ≡ None
   unfolding get empty

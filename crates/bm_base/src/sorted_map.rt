@@ -1,5 +1,7 @@
 // Maps over sorted vectors: plain and slow.
-ghost use Rattle.std.specs.Prelude.{◌≡◌, IfOk, OnOk, OnErr, ◌≤◌, length, is_some, List};
+ghost use Rattle.std.specs.Prelude.{◌≡◌, IfOk, OnOk, OnErr, ◌≤◌, length, is_some, List, T};
+ghost use Rattle.std.specs.FinMap.{is_sorted};
+ghost use Rattle.bm_base.specs.State.{replica_cmp};
 ghost use Rattle.bm_base.specs.Map as map;
 ghost use Rattle.std.specs.FinMap as list;
 ghost use Rattle.std.specs.List.Retain.{IsFiltered};
@@ -171,6 +173,14 @@ impl<V: Copy> ReplicaMap<V> {
         ReplicaMap {
             entries: Vec::new(alloc),
         }
+    }
+
+    /// The map of entries whose keys rise.
+    pub fn from_sorted(entries: Vec<(ReplicaId, V)>) -> Self
+        requires { T (is_sorted replica_cmp entries.items) }
+        ensures { map.entries result ≡ entries.items }
+    {
+        ReplicaMap { entries }
     }
 
     pub fn len(&self) -> usize

@@ -1,5 +1,5 @@
 -- The calling thread and its helpers, step by step.
-use Rattle.std.proofs.Common.{◌≡◌, ℕ, ◌+◌, ◌<◌, true, false, List, [], ◌∷◌, ◌++◌, length, arith, ap, ◌∙◌, sym, subst, refl, set, vec_len, length-append, Global}
+use Rattle.std.proofs.Common.{◌≡◌, ℕ, ◌+◌, ◌<◌, true, false, List, [], ◌∷◌, ◌++◌, length, arith, ap, ◌∙◌, sym, subst, set, vec_len, length-append, Global}
 use Rattle.std.specs.Prelude.{Option, Some, None, Vec}
 use Rattle.std.proofs.lemmas.List.{append-nil}
 use Rattle.std.proofs.lemmas.List.Elements.{All-nil, All-cons, All-push, All-head, All-weaker, All-contains}
@@ -73,9 +73,6 @@ joins_on {T} first old new x was took len = record {
   joins = omega (arith, was.joins, ap (λ (v : PassView (ℕ × T)). v.split) took, ap (λ (v : PassView (ℕ × T)). v.joined) took);
 }
 
-pub joins_trans : {T U : Type 0} (m n : ℕ) (a b c : Collector T U) → JoinsSince m a b → JoinsSince n b c → JoinsSince (m + n) a c
-joins_trans m n a b c one two = record { given = two.given ∙ one.given; slots = two.slots ∙ one.slots; joins = omega (arith, one.joins, two.joins) }
-
 -- the last helper is taken off
 pub idle_split : {T U : Type 0} (bag : Bag (ℕ × T)) (all others : List (Helper T U)) (last : Helper T U) → all ≡ others ++ last ∷ [] → All (IsIdle bag) all → All (IsIdle bag) others × IsIdle bag last
 idle_split bag all others last is each = let h : All (IsIdle bag) (others ++ last ∷ []) = subst (λ l. All (IsIdle bag) l) is each in (all_left (IsIdle bag) others (last ∷ []) h, All-head (IsIdle bag) last [] (all_right (IsIdle bag) others (last ∷ []) h))
@@ -92,13 +89,6 @@ module _ {T U : Type 0} (pre : ℕ → T → Type 0) (post : ℕ → T → U →
         places = subst (λ l. All (λ item. item.0 < vec_len old.slots) l) (sym given) was.places;
         filled = subst (λ l. AreFilled post l old.slots.items) (sym taken) was.filled;
       }
-
-  pub told_joins : view_of new ≡ after_tell (after_join (view_of old.pass) (view_of helper.pass)) → JoinsSince 0 old (record { pass = new; slots = old.slots })
-  told_joins told = record {
-    given = ap (λ (v : PassView (ℕ × T)). v.given) told;
-    slots = refl;
-    joins = omega (arith, ap (λ (v : PassView (ℕ × T)). v.split) told, ap (λ (v : PassView (ℕ × T)). v.joined) told);
-  }
 
   pub told_helps : (other : BagPass (ℕ × T)) → IsCollecting pre post bag old → IsIdle bag helper → IsHelperOf bag other → view_of other ≡ helper_view true (given_of old.pass) → CanHelp pre bag (record { pass = other; done = helper.done })
   told_helps other was idle of told = record {

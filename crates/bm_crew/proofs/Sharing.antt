@@ -1,4 +1,5 @@
--- Each step keeps the rule of a bag.
+-- Each step keeps the rule of a bag: puts, takes, forks (a pass is split off), tells (one that knows what was given),
+-- merges (one is joined). And what a look at the bag shows: put_learns, take_learns, join_learns.
 use Rattle.std.proofs.Common.{◌≡◌, ◌⊎◌, ⊎_elim, ℕ, zero, suc, ◌+◌, ◌≤◌, true, false, true≢false, List, [], ◌∷◌, ◌++◌, length, arith, ap, ◌∙◌, sym, subst, refl, set, append_assoc, length-append}
 use Rattle.std.specs.Prelude.{Some, slice_get}
 use mathlib.Core.Option.{some, some-injective, some-ne-none}
@@ -14,11 +15,13 @@ use Rattle.bm_crew.specs.declared.pass_view.PassView.{PassView}
 use Rattle.bm_crew.specs.Rule.{KeepsPieces, IsHelper, Knows, helper_view, spent, after_put, after_take, after_split, after_tell, after_join, taken_in, count_unjoined}
 use Rattle.bm_crew.proofs.Moves.{grown, unmoved, drained, pushed, popped}
 
+-- the two words for an element at a place
 there : {X : Type 0} (xs : List X) (k : ℕ) (x : X) → get_elem? xs k ≡ some x → slice_get xs k ≡ Some x
 there [] k x at = absurd (some-ne-none x (sym at))
 there (y ∷ ys) zero x at = ap (λ z. Some z) (some-injective y x at)
 there (y ∷ ys) (suc k) x at = there ys k x at
 
+-- what holds of each element, along the list
 each_at : {X : Type 0} (P : X → Type 0) (xs : List X) (k : ℕ) (x : X) → AllByRecursion P xs → get_elem? xs k ≡ some x → P x
 each_at P [] k x all at = absurd (some-ne-none x (sym at))
 each_at P (y ∷ ys) zero x all at = subst P (some-injective y x at) all.0
@@ -38,6 +41,7 @@ each_push P [] w all one = (one, all)
 each_push P (x ∷ xs) w all one = (all.0, each_push P xs w all.1 one)
 
 module _ {T : Type 0} where
+  -- the count where one view changes
   count_set : (xs : List (PassView T)) (k : ℕ) (v w : PassView T) → get_elem? xs k ≡ some v → count_unjoined (set xs k w) + v.unjoined ≡ count_unjoined xs + w.unjoined
   count_set [] k v w at = absurd (some-ne-none v (sym at))
   count_set (y ∷ ys) zero v w at = let same = ap (λ (h : PassView T). h.unjoined) (some-injective y v at) in omega (arith, same)
@@ -56,10 +60,12 @@ module _ {T : Type 0} where
     counted : v.joined + count_unjoined others ≡ v.split
     pieces : IsPermutation v.given (items ++ flat_map taken_in views)
 
+  -- a pass whose view is the caller's is the first
   first_of : (caller v : PassView T) (others : List (PassView T)) (port : ℕ) → AllByRecursion (IsHelper caller) others → v.is_caller ≡ true → get_elem? (caller ∷ others) port ≡ some v → (port ≡ 0) × (caller ≡ v)
   first_of caller v others zero all lead at = (refl, some-injective caller v at)
   first_of caller v others (suc k) all lead at = absurd (true≢false (sym lead ∙ (each_at (IsHelper caller) others k v all at).helps))
 
+  -- the rule, seen from the caller's pass
   led : (items : List (ℕ × T)) (views : List (PassView T)) (port : ℕ) (v : PassView T) → KeepsPieces items views → v.is_caller ≡ true → get_elem? views port ≡ some v → IsLed items views port v
   led items views port v h lead at =
       let at' : get_elem? (h.caller ∷ h.others) port ≡ some v = subst (λ vs. get_elem? vs port ≡ some v) h.views_are at in
@@ -77,6 +83,7 @@ module _ {T : Type 0} where
   leads_on : (views : List (PassView T)) (port : ℕ) (v w : PassView T) (others : List (PassView T)) → views ≡ v ∷ others → port ≡ 0 → set views port w ≡ w ∷ others
   leads_on views port v w others is first = λ i. set (is i) (first i) w
 
+  -- the caller may put while no other pass was told
   pub puts : (n port : ℕ) (v : PassView T) (x : ℕ × T) → v.is_caller ≡ true → v.told ≡ false → Pushes KeepsPieces n port v x (λ w. w ≡ after_put v x)
   puts n port v x lead may items views room h at =
       let l = led items views port v h lead at in
@@ -94,11 +101,13 @@ module _ {T : Type 0} where
         refl,
       )
 
+  -- no more lies in the bag than was given
   pub put_learns : (port : ℕ) (v : PassView T) → v.is_caller ≡ true → Learns KeepsPieces port v (λ items. length items ≤ length v.given)
   put_learns port v lead items views h at =
       let l = led items views port v h lead at in
       omega (arith, length_permutation v.given (items ++ flat_map taken_in views) l.pieces, length-append items (flat_map taken_in views))
 
+  -- a pass whose view is a helper's stands behind the caller's
   helper_in : (caller v : PassView T) (others : List (PassView T)) (port : ℕ) → caller.is_caller ≡ true → v.is_caller ≡ false → get_elem? (caller ∷ others) port ≡ some v → (k : ℕ) × (port ≡ suc k) × (get_elem? others k ≡ some v)
   helper_in caller v others zero lead help at = absurd (true≢false (sym lead ∙ ap (λ (z : PassView T). z.is_caller) (some-injective caller v at) ∙ help))
   helper_in caller v others (suc k) lead help at = (k, refl, at)
@@ -107,6 +116,7 @@ module _ {T : Type 0} where
   was_given : (items : List (ℕ × T)) (views : List (PassView T)) (h : KeepsPieces items views) (x : ℕ × T) → Contains items x → Contains h.caller.given x
   was_given items views h x has = Contains-permutation (items ++ flat_map taken_in views) h.caller.given x (IsPermutation-sym h.caller.given (items ++ flat_map taken_in views) h.pieces) (Contains-append_left items (flat_map taken_in views) x has)
 
+  -- a piece goes from the bag to the taken ones of a pass
   pub caller_takes : (port : ℕ) (v : PassView T) → v.is_caller ≡ true → Pops KeepsPieces port v (λ x w. (w ≡ after_take v x) × (Knows v → Contains v.given x))
   caller_takes port v lead x items views h at =
       let l = led (x ∷ items) views port v h lead at in
@@ -144,10 +154,12 @@ module _ {T : Type 0} where
         (refl, λ knows. ⊎_elim (λ (lead : v.is_caller ≡ true). absurd (true≢false (sym lead ∙ help))) (λ (told : v.told ≡ true). subst (λ g. Contains g x) (sym (mine.knows told).1) (was_given (x ∷ items) views h x (0, omega arith, refl))) knows),
       )
 
+  -- where each pass was joined, the others hold nothing
   none_unjoined : (caller : PassView T) (others : List (PassView T)) → AllByRecursion (IsHelper caller) others → count_unjoined others ≡ 0 → flat_map taken_in others ≡ []
   none_unjoined caller [] all none = refl
   none_unjoined caller (u ∷ us) all none = ap (λ l. l ++ flat_map taken_in us) (all.0.idle (omega (arith, none))) ∙ none_unjoined caller us all.1 (omega (arith, none))
 
+  -- where each pass was joined, what was given lies in the bag or was taken by the caller's
   pub take_learns : (port : ℕ) (v : PassView T) → Learns KeepsPieces port v (λ items. v.is_caller ≡ true → v.joined ≡ v.split → IsPermutation v.given (items ++ v.taken))
   take_learns port v items views h at lead joined =
       let l = led items views port v h lead at in
@@ -155,6 +167,7 @@ module _ {T : Type 0} where
       let rest : flat_map taken_in views ≡ v.taken = ap (λ vs. flat_map taken_in vs) l.views_are ∙ ap (λ r. v.taken ++ r) (none_unjoined v l.others l.helpers none) ∙ append-nil v.taken in
       subst (λ r. IsPermutation v.given (items ++ r)) rest l.pieces
 
+  -- another pass, which has taken nothing
   pub forks : (port : ℕ) (v : PassView T) → v.is_caller ≡ true → Forks KeepsPieces port v (after_split v) (helper_view false [])
   forks port v lead items views h at =
       let l = led items views port v h lead at in
@@ -171,6 +184,7 @@ module _ {T : Type 0} where
         pieces = subst (λ r. IsPermutation v.given (items ++ r)) (sym flat) l.pieces;
       }
 
+  -- the same, and it knows what was given
   pub tells : (port : ℕ) (v : PassView T) → v.is_caller ≡ true → Forks KeepsPieces port v (after_tell v) (helper_view true v.given)
   tells port v lead items views h at =
       let l = led items views port v h lead at in
@@ -187,10 +201,12 @@ module _ {T : Type 0} where
         pieces = subst (λ r. IsPermutation v.given (items ++ r)) (sym flat) l.pieces;
       }
 
+  -- another pass than the caller's stands behind it
   beside : (port other : ℕ) (both u : PassView T) (others : List (PassView T)) → port ≡ 0 → (other ≡ port → ⊥) → get_elem? (both ∷ others) other ≡ some u → (k : ℕ) × (other ≡ suc k) × (get_elem? others k ≡ some u)
   beside port zero both u others first two at = absurd (two (sym first))
   beside port (suc k) both u others first two at = (k, refl, at)
 
+  -- the caller's pass takes over what a helper's has taken
   pub merges : (port : ℕ) (v : PassView T) (other : ℕ) (u : PassView T) → v.is_caller ≡ true → u.is_caller ≡ false → u.unjoined ≡ 1 → Merges KeepsPieces port v other u (after_join v u) spent
   merges port v other u lead help unjoined items views h at two at' =
       let l = led items views port v h lead at in
@@ -214,6 +230,7 @@ module _ {T : Type 0} where
             (IsPermutation-append_right items (flat_map taken_in views) (flat_map taken_in (set (set views port both) other gone)) (subst (λ (y : List (ℕ × T) × List (ℕ × T)). IsPermutation y.0 y.1) (λ i. (sym flat i, sym more i)) moved));
       }
 
+  -- what the caller's pass has taken was given
   pub join_learns : (port : ℕ) (v : PassView T) → v.is_caller ≡ true → Learns KeepsPieces port v (λ items. All (Contains v.given) v.taken)
   join_learns port v lead items views h at =
       let l = led items views port v h lead at in
@@ -221,5 +238,6 @@ module _ {T : Type 0} where
       let pieces : IsPermutation (items ++ (v.taken ++ flat_map taken_in l.others)) v.given = IsPermutation-sym v.given (items ++ (v.taken ++ flat_map taken_in l.others)) (subst (λ r. IsPermutation v.given (items ++ r)) flat l.pieces) in
       All-weaker (Contains v.taken) (Contains v.given) (λ x has. Contains-permutation (items ++ (v.taken ++ flat_map taken_in l.others)) v.given x pieces (Contains-append_right items (v.taken ++ flat_map taken_in l.others) x (Contains-append_left v.taken (flat_map taken_in l.others) x has))) v.taken (All-contains_itself v.taken)
 
+  -- a piece is taken through either kind of pass
   pub takes : (port : ℕ) (v : PassView T) → (v.is_caller ≡ true) ⊎ ((v.is_caller ≡ false) × (v.unjoined ≡ 1)) → Pops KeepsPieces port v (λ x w. (w ≡ after_take v x) × (Knows v → Contains v.given x))
   takes port v who x items views h at = ⊎_elim (λ (lead : v.is_caller ≡ true). caller_takes port v lead x items views h at) (λ (k : (v.is_caller ≡ false) × (v.unjoined ≡ 1)). helper_takes port v k.0 k.1 x items views h at) who

@@ -12,8 +12,9 @@ use Rattle.bm_base.specs.State.{State}
 use Rattle.bm_manager.specs.Built.{built_step}
 use Rattle.bm_base.specs.Levels.{level}
 use Rattle.bm_base.specs.Queries.{all_replicas, corrupt_replicas, missing_blocks, places}
-use Rattle.bm_base.specs.Calls.{step_with, refused_or, done_by, after_event}
-use Rattle.bm_base.specs.Refusals.{refusal_of, block_refusal}
+use Rattle.bm_base.specs.Calls.{step_with, refused_or, done_by, after_event, counted}
+use Rattle.bm_base.specs.Refusals.{refusal_of, round_refusal, block_refusal}
+use Rattle.bm_base.specs.Rounds.{narrow_round}
 use Rattle.bm_base.specs.Answering.{Refuses, MayAnswer, state_left, may_want_memory, is_refused, wants_memory}
 
 -- a call whose definition refuses by o, and else answers x.0 and leaves x.1
@@ -56,6 +57,10 @@ memory_answer M k x s may fine e = inr ((λ i. may i && not (is_refused (s i).0)
 pub step_apply : (M : State) (e : Event) → built_step M (call.Apply e) ≡ refused_or M (refusal_of M e) (answer.Done (done_by M e), after_event M e)
 unfolding built_step step_with
 step_apply M e = refl
+
+pub step_round : (M : State) → built_step M call.Round ≡ refused_or M (round_refusal M) (answer.Commanded (narrow_round M).0, counted (narrow_round M).1)
+unfolding built_step step_with
+step_round M = refl
 
 pub step_replicas : (M : State) → built_step M call.Replicas ≡ refused_or M None (answer.Replicas (all_replicas M.holdings), M)
 unfolding built_step step_with

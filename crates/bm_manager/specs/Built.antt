@@ -18,6 +18,7 @@ IsBuilt _ = ⊥
 
 abbrev pub IsBuiltCall : Call → Type 0
 IsBuiltCall (call.Apply e) = IsBuilt e
+IsBuiltCall call.Round = Unit {0}
 IsBuiltCall call.Replicas = Unit {0}
 IsBuiltCall call.Corrupt = Unit {0}
 IsBuiltCall call.Missing = Unit {0}

@@ -20,6 +20,10 @@ impl Manager {
                 Ok(done) => Answer::Done(done),
                 Err(refusal) => Answer::Refused(refusal),
             },
+            Call::Round => match self.round() {
+                Ok(commands) => Answer::Commanded(commands),
+                Err(refusal) => Answer::Refused(refusal),
+            },
             Call::Replicas => match self.replicas() {
                 Ok(replicas) => Answer::Replicas(replicas),
                 Err(refusal) => Answer::Refused(refusal),

@@ -5,10 +5,12 @@
 
 mod asking;
 mod calls;
+mod commanding;
 mod holdings;
 mod manager;
 mod queries;
 mod reports;
+mod rounds;
 mod topology;
 
 pub use manager::Manager;

@@ -89,7 +89,7 @@ impl Holdings {
     {
         match self.blocks.get(id.0) {
             Some(info) => {
-                let live = self.live_count(id);
+                let live = self.live_count(topology, id);
                 let racks = self.live_rack_spread(topology, id);
                 level_of(live, info.repl, racks, topology.is_multi_rack())
             }
@@ -99,8 +99,8 @@ impl Holdings {
 
     /// How many replicas of the block are live.
     #[tactic(auto, unfolding(bm_base::specs::Replicas::storages_where))]
-    fn live_count(&self, id: BlockId) -> usize
-        ensures { result ≡ length (replicas.storages_where replicas.is_live self.now id) }
+    pub fn live_count(&self, _topology: &Topology, id: BlockId) -> usize
+        ensures { result ≡ length (replicas.live _topology.now self.now id) }
     {
         let mut count = 0;
         for (replica, marks) in self.replicas.entries() {
@@ -114,7 +114,7 @@ impl Holdings {
     /// On how many racks the block's live replicas stand, 2 for more.
     #[tactic(auto, unfolding(bm_base::specs::Replicas::storages_where))]
     fn live_rack_spread(&self, topology: &Topology, id: BlockId) -> usize
-        ensures { result ≡ spread (filter_map (replicas.rack_of topology.now) (replicas.storages_where replicas.is_live self.now id)) }
+        ensures { result ≡ spread (filter_map (replicas.rack_of topology.now) (replicas.live topology.now self.now id)) }
     {
         let mut first = None;
         for (replica, marks) in self.replicas.entries() {

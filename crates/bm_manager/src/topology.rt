@@ -1,5 +1,5 @@
 // The alive nodes and their storages.
-ghost use Rattle.std.specs.Prelude.{◌≡◌, ◌+◌, ◌||◌, not, nat_le, nat_lt, length, OnOk, OnErr, if◌then◌else◌};
+ghost use Rattle.std.specs.Prelude.{◌≡◌, ◌+◌, ◌||◌, not, nat_le, nat_lt, length, IfOk, OnOk, OnErr, if◌then◌else◌};
 ghost use Rattle.std.specs.List.{list_any};
 ghost use Rattle.std.specs.Prelude.{map as map_list};
 ghost use Rattle.bm_base.specs.Map as map;
@@ -32,12 +32,15 @@ pub struct Topology {
 impl Model for Topology {
     ghost use Rattle.bm_base.specs.State.{Cluster};
     ghost use Rattle.bm_base.specs.Codes.{coded_cluster};
+    ghost use Rattle.bm_manager.specs.Keys.{HasSmallKeys};
 
     ghost Value = { Cluster };
 
     ghost coded = { coded_cluster };
 
     ghost view = { λ t. record { nodes = t.nodes; storages = t.storages } };
+
+    ghost invariant = { λ t. HasSmallKeys t.nodes × HasSmallKeys t.storages };
 }
 
 impl Topology {
@@ -69,6 +72,30 @@ impl Topology {
             Some(node) => self.nodes.get(u64::from(node.0)),
             None => None,
         }
+    }
+
+    /// The alive nodes, rising.
+    #[tactic(auto, unfolding(bm_base::specs::Map::keys))]
+    pub fn node_ids(&self, alloc: Global) -> Result<Vec<NodeId>, AllocError>
+        ensures { IfOk result (λ v. v.items ≡ map.keys self.now.nodes) }
+    {
+        let mut ids = Vec::new(alloc);
+        for (number, _) in self.nodes.entries() {
+            ids.push(NodeId(*number as u32))?;
+        }
+        Ok(ids)
+    }
+
+    /// The storages, rising.
+    #[tactic(auto, unfolding(bm_base::specs::Map::keys))]
+    pub fn storage_ids(&self, alloc: Global) -> Result<Vec<StorageId>, AllocError>
+        ensures { IfOk result (λ v. v.items ≡ map.keys self.now.storages) }
+    {
+        let mut ids = Vec::new(alloc);
+        for (number, _) in self.storages.entries() {
+            ids.push(StorageId(*number as u32))?;
+        }
+        Ok(ids)
     }
 
     /// Whether the alive nodes stand on two racks or more.
@@ -112,7 +139,7 @@ impl Topology {
     }
 
     #[tactic(auto, unfolding(bm_base::specs::Replicas::has_storage))]
-    fn has_storage(&self, node: NodeId, storage: StorageId) -> bool
+    pub fn has_storage(&self, node: NodeId, storage: StorageId) -> bool
         ensures { result ≡ replicas.has_storage self.now node storage }
     {
         match self.node_of(storage) {

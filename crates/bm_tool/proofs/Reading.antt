@@ -41,5 +41,5 @@ unfolding entry_in
 entry_in-none d e = rw (← e) refl
 
 pub entries_field-items : (name : List ℕ) (vs : List Value) (d : Data) → Some (items_view vs) ≡ option_and_then as_array (get name d)
-  → each entry_in (map view vs) ≡ entries_field name d
+    → each entry_in (map view vs) ≡ entries_field name d
 entries_field-items name vs d e = rw (← e, listed-items) refl

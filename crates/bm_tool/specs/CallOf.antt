@@ -41,6 +41,7 @@ call_for op.Register d = register_from (small_field (codes "node") d) (small_fie
 call_for op.Add d = add_from (number_field (codes "id") d) (stamp_fields d) (small_field (codes "repl") d)
 call_for op.Received d = received_from (small_field (codes "storage") d) (number_field (codes "id") d) (stamp_fields d)
 call_for op.Report d = report_from (small_field (codes "storage") d) (entries_field (codes "blocks") d)
+call_for op.Round d = Some call.Round
 call_for op.ListReplicas d = Some call.Replicas
 call_for op.ListCorrupt d = Some call.Corrupt
 call_for op.ListMissing d = Some call.Missing

@@ -65,6 +65,7 @@ fn call_in(alloc: Global, value: &Value) -> Result<Option<Call>, AllocError>
             let entries = entries_field(alloc, value, "blocks")?;
             Ok(report_from(storage, entries))
         }
+        Some(Op::Round) => Ok(Some(Call::Round)),
         Some(Op::ListReplicas) => Ok(Some(Call::Replicas)),
         Some(Op::ListCorrupt) => Ok(Some(Call::Corrupt)),
         Some(Op::ListMissing) => Ok(Some(Call::Missing)),

@@ -4,7 +4,8 @@ ghost use Rattle.std.specs.List.{flat_map};
 ghost use Rattle.bm_tool.specs.Print.{answer_text, head_text, done_text, refused_text, round_text, refusal_name, tag_name, number_item, replica_item, replica_id_item, level_item, transfer_item, delete_item, node_items};
 
 use bm_base::{
-    Answer, BlockId, Call, Commands, Delete, Done, Level, NodeCommands, NodeId, Refusal, Replica, ReplicaId, StorageId, Tag, Transfer,
+    Answer, BlockId, Call, Commands, Delete, Done, Level, NodeCommands, NodeId, Refusal, Replica,
+    ReplicaId, StorageId, Tag, Transfer,
 };
 use std::alloc::{AllocError, Global};
 
@@ -201,7 +202,11 @@ fn write_node(line: &mut String, commands: &NodeCommands) -> Result<(), AllocErr
     write_deletes(line, commands.node, commands.deletes.as_slice())
 }
 
-fn write_transfers(line: &mut String, node: NodeId, transfers: &[Transfer]) -> Result<(), AllocError>
+fn write_transfers(
+    line: &mut String,
+    node: NodeId,
+    transfers: &[Transfer],
+) -> Result<(), AllocError>
     ensures { OnOk result (string_bytes line.new ≡ string_bytes line.old ++ flat_map (transfer_item node) transfers.now) }
 {
     let node = node.0;
@@ -211,7 +216,10 @@ fn write_transfers(line: &mut String, node: NodeId, transfers: &[Transfer]) -> R
         let len = transfer.stamp.len;
         let source = transfer.source.0;
         let target = transfer.target.0;
-        write!(line, "; copy {node} {block} {generation} {len} {source} {target}")?;
+        write!(
+            line,
+            "; copy {node} {block} {generation} {len} {source} {target}"
+        )?;
     }
     Ok(())
 }

@@ -2,5 +2,7 @@
 // that fail. Each expected line is written by hand from the rules in docs/FORMATS.md.
 mod calls;
 mod lines;
+mod reports;
+mod rounds;
 mod streams;
 mod support;

@@ -1,10 +1,11 @@
--- The versions of a journal.
+-- The one list of versions, and where it stands in a journal.
 use Rattle.std.specs.Prelude.{◌+◌, ◌-◌, ◌<◌, ◌≤◌, Bool, true, false, List, [], ◌∷◌, length, slice_index_or}
 use Rattle.std.specs.List.Sorted.{IsNonDecreasingBy}
 use mathlib.Core.List.{IsPrefix}
 use Rattle.bm_view.specs.declared.journal.Entry.{Entry}
 use Rattle.bm_view.specs.Version.{Version, opening}
 
+-- the last version; no list of a contract is empty
 abbrev pub last_of : List Version → Version
 last_of list = slice_index_or list (length list - 1) opening
 
@@ -17,17 +18,19 @@ abbrev pub put_if : Bool → Version → List Version → List Version
 put_if true v vs = v ∷ vs
 put_if false v vs = vs
 
--- the versions that were settled
+-- the versions that were settled: the one list, as far as this journal goes
 abbrev pub versions : List Entry → List Version
 versions [] = []
 versions (e ∷ es) = put_if e.done e.table (versions es)
 
--- and then the version of the last entry, which is shown
+-- The list of a reader that finds the table of the last entry: the versions that were settled before, and then that one,
+-- whether it is settled yet or not.
 abbrev pub shown_in : List Entry → List Version
 shown_in [] = []
 shown_in (e ∷ []) = e.table ∷ []
 shown_in (e ∷ f ∷ es) = put_if e.done e.table (shown_in (f ∷ es))
 
--- what was settled begins what is shown with this journal, or with one that lacks its last entry alone
+-- A journal that may be told: its versions begin the list of each reader that finds what came with this journal, or with the
+-- journal just before its last entry. So of a journal that ends with a settlement.
 abbrev pub IsSettled : List Entry → Type 0
 IsSettled told = (shown : List Entry) → IsPrefix shown told → length told ≤ length shown + 1 → 0 < length shown → IsPrefix (versions told) (shown_in shown)

@@ -1,4 +1,5 @@
--- What left_right's rule says: what a seat saw begins what is shown.
+-- What the rule of `left_right` says: what a seat saw once begins what is shown. A seat is a locator or the publisher; its view
+-- is the evidence that what it saw last came with.
 use Rattle.std.specs.Prelude.{◌≡◌, ℕ, List, Option, Some, None}
 use mathlib.Core.Option.{some}
 use mathlib.Core.List.{IsPrefix}
@@ -10,28 +11,29 @@ use Rattle.bm_view.specs.declared.journal.JournalRule.{JournalRule}
 use Rattle.bm_view.specs.Version.{Version}
 use Rattle.bm_view.specs.History.{shown_in}
 
--- a beginning of a journal
+-- how a journal began
 abbrev pub Evidence : Type 0
 Evidence = Seen Entry ℕ JournalRule
 
--- a later beginning of one journal, with all that was shown by then
+-- of the same journal, and the early list begins the late one
 pub record Extends (early late : Evidence) : Type 0 where
   pub book : early.book ≡ late.book
   pub list : IsPrefix (shown_in early.log) (shown_in late.log)
 
--- what a seat saw, if it saw anything
+-- what a seat saw begins what is shown, if it saw anything
 abbrev pub BeginsShown : Option Evidence → Evidence → Type 0
 BeginsShown None shown = Unit {0}
 BeginsShown (Some seen) shown = Extends seen shown
 
+-- so it is for each seat
 abbrev pub Kept : Evidence → List (Option Evidence) → Type 0
 Kept shown views = (seat : ℕ) (v : Option Evidence) → get_elem? views seat ≡ some v → BeginsShown v shown
 
--- the reader saw what is shown
+-- A seat with this view reads what is shown, which is its view afterwards.
 abbrev pub Sees : Option Evidence → Evidence → Option Evidence → Type 0
 Sees v shown w = BeginsShown v shown × (w ≡ Some shown)
 
--- the seat saw that list at least, of this journal
+-- a seat with this view saw that list at least, of this journal
 abbrev pub HasSeen : Option Evidence → Book → List Version → Type 0
 HasSeen None book list = ⊥
 HasSeen (Some seen) book list = (seen.book ≡ book) × IsPrefix list (shown_in seen.log)

@@ -1,4 +1,4 @@
--- The lists that a locator was told of, by the last of them and those before.
+-- The lists that a locator was told of: those that the value before had, and then the one that was told last.
 use Rattle.std.specs.Prelude.{List, [], ◌∷◌, ◌++◌, Option, Some, None}
 use Rattle.core.specs.declared.snapshot.Snapshot.{Snapshot}
 use Rattle.bm_view.specs.Version.{Version}

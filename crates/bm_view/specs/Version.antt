@@ -1,11 +1,11 @@
 -- What a version says, and where its rows put a block.
 use Rattle.std.specs.Prelude.{ℕ, ◌<◌, List, [], ◌∷◌, if◌then◌else◌, ◌==◌, AllPairs}
 
--- a block and its places
+-- a block's number and its places
 abbrev pub Row : Type 0
 Row = ℕ × List ℕ
 
--- how many calls were accepted, and where each block was
+-- how many calls were accepted, and where each block was then
 pub record Version : Type 0 where
   pub calls : ℕ
   pub rows : List Row
@@ -19,6 +19,6 @@ abbrev pub places_in : List Row → ℕ → List ℕ
 places_in [] id = []
 places_in (r ∷ rs) id = if r.0 == id then r.1 else places_in rs id
 
--- before any call
+-- what is published before any call
 abbrev pub opening : Version
 opening = record { calls = 0; rows = [] }

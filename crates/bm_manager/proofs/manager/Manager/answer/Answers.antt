@@ -3,7 +3,7 @@ use Rattle.std.proofs.Common.{◌≡◌, ap, sym, subst, ◌∙◌, refl}
 use Rattle.bm_base.specs.declared.call.Answer.TheVariants as answer
 use Rattle.bm_base.specs.Answering.{MayAnswer, state_left}
 use Rattle.bm_manager.specs.Built.{built_step}
-use Rattle.bm_manager.proofs.Runs.{ok_answer, ok_left, err_answer, err_left, step_answer, memory_answer, step_apply, step_replicas, step_corrupt, step_missing, step_places, step_level, step_calls, step_rounds}
+use Rattle.bm_manager.proofs.Runs.{ok_answer, ok_left, err_answer, err_left, step_answer, memory_answer, step_apply, step_round, step_replicas, step_corrupt, step_missing, step_places, step_level, step_calls, step_rounds}
 use Rattle.bm_manager.proofs.manager.Manager.answer.Goals as goal
 
 pub returns-in-Ok-clause-answer : goal.returns-in-Ok-clause-answer
@@ -27,6 +27,28 @@ returns-in-Err-clause-state c =
     let M = c.args.self.now in
     err_left M _ _ _ (step_apply M c.in-Apply.event) c.apply.new.self c.in-Err.refusal c.in-Err.ensures.refused c.in-Err.ensures.unchanged
     ∙ ap (λ k. state_left built_step M k (answer.Refused c.in-Err.refusal)) (sym c.in-Apply.is)
+
+pub returns-in-Ok-round-clause-answer : goal.returns-in-Ok-round-clause-answer
+returns-in-Ok-round-clause-answer c =
+    let M = c.args.self.now in
+    subst (λ k. MayAnswer built_step M k (answer.Commanded c.in-Ok-round.commands)) (sym c.in-Round.is) (ok_answer M _ _ _ (step_round M) _ c.in-Ok-round.ensures.accepted (ap answer.Commanded c.in-Ok-round.ensures.commands))
+
+pub returns-in-Ok-round-clause-state : goal.returns-in-Ok-round-clause-state
+returns-in-Ok-round-clause-state c =
+    let M = c.args.self.now in
+    ok_left M _ _ _ (step_round M) c.round.new.self c.in-Ok-round.ensures.accepted c.in-Ok-round.ensures.state ∙ ap (λ k. (built_step M k).1) (sym c.in-Round.is)
+
+pub returns-in-Err-round-clause-answer : goal.returns-in-Err-round-clause-answer
+returns-in-Err-round-clause-answer c =
+    let M = c.args.self.now in
+    subst (λ k. MayAnswer built_step M k (answer.Refused c.in-Err-round.refusal)) (sym c.in-Round.is)
+      (err_answer M _ _ _ (step_round M) c.in-Err-round.refusal refl c.in-Err-round.ensures.refused)
+
+pub returns-in-Err-round-clause-state : goal.returns-in-Err-round-clause-state
+returns-in-Err-round-clause-state c =
+    let M = c.args.self.now in
+    err_left M _ _ _ (step_round M) c.round.new.self c.in-Err-round.refusal c.in-Err-round.ensures.refused c.in-Err-round.ensures.unchanged
+    ∙ ap (λ k. state_left built_step M k (answer.Refused c.in-Err-round.refusal)) (sym c.in-Round.is)
 
 pub returns-in-Ok-replicas-clause-answer : goal.returns-in-Ok-replicas-clause-answer
 returns-in-Ok-replicas-clause-answer c =

@@ -4,7 +4,7 @@ use Rattle.bm_view.specs.Version.{Row, RisesById, places_in}
 use Rattle.bm_view.proofs.Lookups.{searched}
 use Rattle.bm_view.proofs.table.Table.places.Goals as goal
 
--- the closure gives a row's entries, and the slice has the table's rows
+-- the closure gives a row's block, and the slice has the table's rows
 pub returns-in-Ok : goal.returns-in-Ok
 returns-in-Ok c =
     let facts = c.binary_search_by_key.ensures in
