@@ -1,6 +1,6 @@
 -- How many different numbers a list has, as far as two: what `spread` counts.
-use Rattle.std.proofs.Common.{◌≡◌, ℕ, ◌+◌, ◌≤◌, ◌<◌, Bool, true, false, cond, List, [], ◌∷◌, length, map, Option, Some, None, is_some, refl, sym, ap, subst, ◌∙◌, arith, ◌⊎◌, inl, inr}
-use Rattle.std.specs.Prelude.{◌==◌, nat_lt, if◌then◌else◌}
+use Rattle.std.proofs.Common.{◌≡◌, ℕ, ◌+◌, ◌≤◌, Bool, true, false, cond, List, [], ◌∷◌, length, map, Option, Some, None, is_some, refl, sym, ap, subst, ◌∙◌, arith, ◌⊎◌, inl, inr}
+use Rattle.std.specs.Prelude.{◌==◌, nat_lt}
 use Rattle.std.specs.Int.{from_bool}
 use Rattle.std.specs.Ordering.{nat_cmp, eq_by_cmp}
 use Rattle.std.proofs.lemmas.Bool.{eqb-true, ne_eqb, lt-ltb}
@@ -42,9 +42,9 @@ either false v = refl
 one_again : (f x : ℕ) → (x == f) ≡ true → insert (one f) x tt ≡ one f
 one_again f x e =
     same_map (insert (one f) x tt) (one f) (λ q.
-      let same : (q == x) ≡ (q == f) = ap (λ y. q == y) (eqb-true x f e) in
-      get-insert (one f) x tt q ∙ ap (λ b. cond b (Some tt) (get (one f) q)) (number_tie q x ∙ same) ∙ ap (cond (q == f) (Some tt)) (get-one f q)
-      ∙ either (q == f) (Some tt) ∙ sym (get-one f q))
+    let same : (q == x) ≡ (q == f) = ap (λ y. q == y) (eqb-true x f e) in
+    get-insert (one f) x tt q ∙ ap (λ b. cond b (Some tt) (get (one f) q)) (number_tie q x ∙ same) ∙ ap (cond (q == f) (Some tt)) (get-one f q)
+    ∙ either (q == f) (Some tt) ∙ sym (get-one f q))
 
 -- another number is one more
 two_of : (f x : ℕ) → (x == f) ≡ false → len (insert (one f) x tt) ≡ 2

@@ -32,8 +32,8 @@ impl Model for Places {
     ghost inverse = { λ storages. record { count = length storages; row = storages ++ replicate (16 - length storages) 0 } };
 
     ghost inverse_ok = { λ p h i. record {
-        count = h.1 i;
-        row = (ap (λ count. take p.count p.row ++ replicate (16 - count) 0) h.1 ∙ sym h.2) i;
+      count = h.1 i;
+      row = (ap (λ count. take p.count p.row ++ replicate (16 - count) 0) h.1 ∙ sym h.2) i;
     } };
 }
 

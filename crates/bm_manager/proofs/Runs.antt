@@ -51,7 +51,7 @@ pub step_answer : (M : State) (k : Call) (a : Answer) (x : Answer × State) → 
 step_answer M k a x s is = inl (is ∙ sym (ap (λ y. y.0) s))
 
 pub memory_answer : (M : State) (k : Call) (x : Answer × State) → built_step M k ≡ x → may_want_memory k ≡ true → is_refused x.0 ≡ false → {r : Refusal} → r ≡ Memory
-  → MayAnswer built_step M k (answer.Refused r)
+    → MayAnswer built_step M k (answer.Refused r)
 memory_answer M k x s may fine e = inr ((λ i. may i && not (is_refused (s i).0)) ∙ ap not fine, ap answer.Refused e)
 
 pub step_apply : (M : State) (e : Event) → built_step M (call.Apply e) ≡ refused_or M (refusal_of M e) (answer.Done (done_by M e), after_event M e)

@@ -1,5 +1,5 @@
 -- Keys that fit an identifier of 32 bits.
-use Rattle.std.specs.Prelude.{ℕ, ◌<◌, ◌^◌}
+use Rattle.std.specs.Prelude.{◌<◌, ◌^◌}
 use Rattle.std.specs.List.{AllByRecursion}
 use Rattle.bm_base.specs.Map.{Map, by_number, entries}
 

@@ -6,9 +6,8 @@ ghost use Rattle.bm_base.specs.Refusals.{block_refusal};
 ghost use Rattle.bm_base.specs.Answering.{Refuses};
 ghost use Rattle.bm_base.specs.declared.refusal.Refusal.TheVariants.{Memory};
 
-use bm_base::{BlockId, Items, Level, Refusal, Replica, ReplicaId, StorageId};
-
 use crate::manager::Manager;
+use bm_base::{BlockId, Items, Level, Refusal, Replica, ReplicaId, StorageId};
 
 impl Manager {
     /// How many calls were accepted, from `first_call` on. Takes no memory.

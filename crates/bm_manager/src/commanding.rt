@@ -5,12 +5,10 @@ ghost use Rattle.bm_base.specs.Refusals.{round_refusal, last_number};
 ghost use Rattle.bm_base.specs.Calls.{counted};
 ghost use Rattle.bm_base.specs.Answering.{checked, Refuses};
 
-use std::alloc::AllocError;
-
-use bm_base::{Commands, Refusal};
-
 use crate::manager::Manager;
 use crate::rounds::commands_of;
+use bm_base::{Commands, Refusal};
+use std::alloc::AllocError;
 
 impl Manager {
     /// Takes one round: the round number grows by one, transfers that are too old are given up, and the stray replicas, those in

@@ -5,12 +5,10 @@ ghost use Rattle.bm_base.specs.Queries as queries;
 ghost use Rattle.bm_base.specs.Spread.{spread};
 ghost use Rattle.bm_base.specs.Levels as levels;
 
-use std::alloc::{AllocError, Global};
-
-use bm_base::{BlockId, Items, Level, Marks, Rack, Replica, ReplicaId, StorageId, Tag, level_of};
-
 use crate::holdings::Holdings;
 use crate::topology::Topology;
+use bm_base::{BlockId, Items, Level, Marks, Rack, Replica, ReplicaId, StorageId, Tag, level_of};
+use std::alloc::{AllocError, Global};
 
 impl Holdings {
     /// The storages of the block's good replicas, rising.

@@ -4,12 +4,10 @@ ghost use Rattle.bm_base.specs.Map as map;
 ghost use Rattle.bm_base.specs.Events as events;
 ghost use Rattle.bm_base.specs.Calls as calls;
 
-use std::alloc::AllocError;
-
-use bm_base::{BlockId, Done, Entry, Marks, ReplicaId, ReplicaMap, StorageId};
-
 use crate::holdings::Holdings;
 use crate::topology::Topology;
+use bm_base::{BlockId, Done, Entry, Marks, ReplicaId, ReplicaMap, StorageId};
+use std::alloc::AllocError;
 
 impl Holdings {
     /// Makes the replicas on a storage those of a full report: works on a copy and moves it in. An `Err` changes nothing.
@@ -87,7 +85,8 @@ fn drop_unreported(
 fn drop_arrived(pending: &mut ReplicaMap<u64>, storage: StorageId, entries: &[Entry])
     ensures { pending.new ≡ map.keep pending.old (λ q _. not ((q.storage == storage) && events.is_named entries.now q.block)) }
 {
-    pending.retain(|(replica, _)| !(replica.storage == storage && is_named(entries, replica.block)));
+    pending.retain(|(replica, _)| !(replica.storage == storage
+        && is_named(entries, replica.block)));
 }
 
 /// How many replicas `after` has that `before` has not.

@@ -9,15 +9,14 @@ ghost use Rattle.bm_base.specs.Deletes as deletes_of_round;
 ghost use Rattle.bm_base.specs.Rounds as rounds;
 ghost use Rattle.bm_manager.specs.Told.{told_to};
 
-use std::alloc::{AllocError, Global};
-
-use bm_base::{
-    BlockId, Commands, Config, Delete, Items, Marks, NodeCommands, NodeId, ReplicaId, ReplicaMap, StorageId, Tag,
-};
-
 use crate::holdings::Holdings;
 use crate::queries::is_corrupt;
 use crate::topology::Topology;
+use bm_base::{
+    BlockId, Commands, Config, Delete, Items, Marks, NodeCommands, NodeId, ReplicaId, ReplicaMap,
+    StorageId, Tag,
+};
+use std::alloc::{AllocError, Global};
 
 impl Holdings {
     #[tactic(auto, unfolding(bm_base::specs::Deletes::has_enough_live))]
@@ -110,7 +109,11 @@ impl Holdings {
     }
 
     /// The replicas with those that are to be deleted ordered.
-    pub fn with_ordered(&self, alloc: Global, deletes: &[Delete]) -> Result<ReplicaMap<Marks>, AllocError>
+    pub fn with_ordered(
+        &self,
+        alloc: Global,
+        deletes: &[Delete],
+    ) -> Result<ReplicaMap<Marks>, AllocError>
         ensures { IfOk result (λ m. m ≡ map.revise self.now.replicas (λ q m. if rounds.is_commanded deletes.now q then record m { ordered = true } else m)) }
     {
         let mut entries = Vec::new(alloc);
@@ -152,9 +155,7 @@ fn ordered_if(is_commanded: bool, marks: &Marks) -> Marks
 fn is_commanded(deletes: &[Delete], replica: &ReplicaId) -> bool
     ensures { result ≡ rounds.is_commanded deletes.now replica.now }
 {
-    deletes
-        .iter()
-        .any(|delete| delete.storage == replica.storage && delete.block == replica.block)
+    deletes.iter().any(|delete| delete.storage == replica.storage && delete.block == replica.block)
 }
 
 /// The commands of a round that copies nothing, by node.

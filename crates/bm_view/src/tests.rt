@@ -121,3 +121,17 @@ fn no_readers_give_no_locators(rt: HostRuntime) -> Result<(), Fail> {
     assert_eq!(rt; (locators.len(), calls), (0, 3));
     Ok(())
 }
+
+#[test]
+fn a_version_may_have_as_many_calls_as_the_one_before(rt: HostRuntime) -> Result<(), Fail> {
+    let table = version(rt.alloc(), 0, &[StorageId(11)])?;
+    let (mut publisher, mut locators) = open_view(&rt, rt.alloc(), 1)?;
+    let published = publisher.publish(&rt, table).is_ok();
+    let seen = match locators.pop() {
+        Some(mut locator) => locator.locate(BlockId(7)),
+        None => None,
+    };
+    publisher.end(&rt);
+    assert_eq!(rt; (published, seen), (true, found(0, &[StorageId(11)])));
+    Ok(())
+}

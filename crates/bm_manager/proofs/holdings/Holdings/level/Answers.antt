@@ -1,4 +1,4 @@
-use Rattle.std.proofs.Common.{◌≡◌, ◌∙◌, ap, sym, refl}
+use Rattle.std.proofs.Common.{◌≡◌, ◌∙◌, refl}
 use Rattle.std.specs.Prelude.{filter_map, length, Some}
 use Rattle.bm_base.specs.Map.{get}
 use Rattle.bm_base.specs.Replicas.{live, rack_of, racks, is_multi_rack}

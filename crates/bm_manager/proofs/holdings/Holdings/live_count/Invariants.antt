@@ -6,6 +6,6 @@ abbrev pub invariant-loop-replica : goal.invariant-loop-replica
 invariant-loop-replica l =
     record {
       counted : l.count + length (map (λ e. e.0.storage) (filter (λ e. (e.0.block == l.id) && is_live e.1) (drop l.replica-index l.replica-items)))
-        ≡ length (map (λ e. e.0.storage) (filter (λ e. (e.0.block == l.id) && is_live e.1) l.replica-items));
+          ≡ length (map (λ e. e.0.storage) (filter (λ e. (e.0.block == l.id) && is_live e.1) l.replica-items));
       small : l.count ≤ l.replica-index;
     }

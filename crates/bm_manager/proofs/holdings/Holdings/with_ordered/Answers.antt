@@ -1,4 +1,4 @@
-use Rattle.std.proofs.Common.{◌≡◌, ℕ, ◌≤◌, length, map, take, subst, sym, ap, ◌∙◌, arith, true, if◌then◌else◌}
+use Rattle.std.proofs.Common.{◌≡◌, ℕ, ◌≤◌, length, map, take, subst, sym, ap, ◌∙◌, true, if◌then◌else◌}
 use Rattle.std.specs.Prelude.{T}
 use Rattle.std.specs.FinMap.{is_sorted}
 use Rattle.bm_base.specs.declared.replica.ReplicaId.{ReplicaId}
@@ -17,7 +17,7 @@ ordered_by ds q m = if is_commanded ds q then record m { ordered = true } else m
 
 -- all entries, each with its new marks, once the loop has passed all of them
 whole : (ds : List Delete) (made items all : List (ReplicaId × Marks)) (i : ℕ) → length items ≤ i → items ≡ all
-  → made ≡ map (λ e. (e.0, ordered_by ds e.0 e.1)) (take i items) → made ≡ map (λ e. (e.0, ordered_by ds e.0 e.1)) all
+    → made ≡ map (λ e. (e.0, ordered_by ds e.0 e.1)) (take i items) → made ≡ map (λ e. (e.0, ordered_by ds e.0 e.1)) all
 whole ds made items all i past same is = is ∙ ap (λ es. map (λ e. (e.0, ordered_by ds e.0 e.1)) es) (take_whole i items past ∙ same)
 
 pub from_sorted-requires : goal.from_sorted-requires

@@ -1,5 +1,5 @@
 -- One call against the definition: an answer is that of the step, a refusal the step's or want of memory.
-use Rattle.std.proofs.Common.{◌≡◌, ap, sym, subst, ◌∙◌, refl}
+use Rattle.std.proofs.Common.{ap, sym, subst, ◌∙◌, refl}
 use Rattle.bm_base.specs.declared.call.Answer.TheVariants as answer
 use Rattle.bm_base.specs.Answering.{MayAnswer, state_left}
 use Rattle.bm_manager.specs.Built.{built_step}
@@ -20,7 +20,7 @@ pub returns-in-Err-clause-answer : goal.returns-in-Err-clause-answer
 returns-in-Err-clause-answer c =
     let M = c.args.self.now in
     subst (λ k. MayAnswer built_step M k (answer.Refused c.in-Err.refusal)) (sym c.in-Apply.is)
-      (err_answer M _ _ _ (step_apply M c.in-Apply.event) c.in-Err.refusal refl c.in-Err.ensures.refused)
+    (err_answer M _ _ _ (step_apply M c.in-Apply.event) c.in-Err.refusal refl c.in-Err.ensures.refused)
 
 pub returns-in-Err-clause-state : goal.returns-in-Err-clause-state
 returns-in-Err-clause-state c =
@@ -42,7 +42,7 @@ pub returns-in-Err-round-clause-answer : goal.returns-in-Err-round-clause-answer
 returns-in-Err-round-clause-answer c =
     let M = c.args.self.now in
     subst (λ k. MayAnswer built_step M k (answer.Refused c.in-Err-round.refusal)) (sym c.in-Round.is)
-      (err_answer M _ _ _ (step_round M) c.in-Err-round.refusal refl c.in-Err-round.ensures.refused)
+    (err_answer M _ _ _ (step_round M) c.in-Err-round.refusal refl c.in-Err-round.ensures.refused)
 
 pub returns-in-Err-round-clause-state : goal.returns-in-Err-round-clause-state
 returns-in-Err-round-clause-state c =
@@ -109,7 +109,7 @@ pub returns-in-Err-places-clause-answer : goal.returns-in-Err-places-clause-answ
 returns-in-Err-places-clause-answer c =
     let M = c.args.self.now in
     subst (λ k. MayAnswer built_step M k (answer.Refused c.in-Err-places.refusal)) (sym c.in-Places.is)
-      (err_answer M _ _ _ (step_places M c.in-Places.id) c.in-Err-places.refusal refl c.in-Err-places.ensures.refused)
+    (err_answer M _ _ _ (step_places M c.in-Places.id) c.in-Err-places.refusal refl c.in-Err-places.ensures.refused)
 
 pub returns-in-Err-places-clause-state : goal.returns-in-Err-places-clause-state
 returns-in-Err-places-clause-state c =
@@ -131,7 +131,7 @@ pub returns-in-Err-level-clause-answer : goal.returns-in-Err-level-clause-answer
 returns-in-Err-level-clause-answer c =
     let M = c.args.self.now in
     subst (λ k. MayAnswer built_step M k (answer.Refused c.in-Err-level.refusal)) (sym c.in-LevelOf.is)
-      (err_answer M _ _ _ (step_level M c.in-LevelOf.id) c.in-Err-level.refusal refl c.in-Err-level.ensures.refused)
+    (err_answer M _ _ _ (step_level M c.in-LevelOf.id) c.in-Err-level.refusal refl c.in-Err-level.ensures.refused)
 
 pub returns-in-Err-level-clause-state : goal.returns-in-Err-level-clause-state
 returns-in-Err-level-clause-state c =

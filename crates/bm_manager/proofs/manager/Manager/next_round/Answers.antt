@@ -2,7 +2,7 @@ use Rattle.std.proofs.Common.{◌≡◌, ◌+◌, ap, sym, ◌∙◌, true, if�
 use Rattle.bm_base.specs.declared.replica.Marks.{Marks}
 use Rattle.bm_base.specs.declared.commands.Delete.{Delete}
 use Rattle.bm_base.specs.Map.{Map, revise}
-use Rattle.bm_base.specs.State.{State, Holdings, by_replica}
+use Rattle.bm_base.specs.State.{Holdings, by_replica}
 use Rattle.bm_base.specs.Excess.{without_expired}
 use Rattle.bm_base.specs.Rounds.{is_commanded, narrow_round}
 use Rattle.bm_base.specs.Deletes.{deletes}

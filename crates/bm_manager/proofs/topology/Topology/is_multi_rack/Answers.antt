@@ -1,4 +1,4 @@
-use Rattle.std.proofs.Common.{◌≡◌, ◌∙◌, ap, map}
+use Rattle.std.proofs.Common.{◌∙◌, ap, map}
 use Rattle.std.specs.Prelude.{nat_lt}
 use Rattle.bm_base.specs.Map.{entries}
 use Rattle.bm_base.specs.Replicas.{is_multi_rack}
