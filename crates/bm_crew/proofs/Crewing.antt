@@ -48,7 +48,7 @@ module _ {T U : Type 0} (post : ℕ → T → U → Type 0) where
     helper_places bag old helper new was helped joined given =
         let known : All (Contains (given_of old.pass)) (taken_of old.pass ++ taken_of helper.pass) = subst (λ (v : PassView (ℕ × T)). All (Contains v.given) v.taken) joined given in
         let theirs : All (λ item. item.0 < vec_len old.slots) (taken_of helper.pass) =
-          All-weaker (Contains (given_of old.pass)) (λ item. item.0 < vec_len old.slots) (λ x has. All-contains (λ item. item.0 < vec_len old.slots) (given_of old.pass) x was.places has) (taken_of helper.pass) (all_right (Contains (given_of old.pass)) (taken_of old.pass) (taken_of helper.pass) known) in
+        All-weaker (Contains (given_of old.pass)) (λ item. item.0 < vec_len old.slots) (λ x has. All-contains (λ item. item.0 < vec_len old.slots) (given_of old.pass) x was.places has) (taken_of helper.pass) (all_right (Contains (given_of old.pass)) (taken_of old.pass) (taken_of helper.pass) known) in
         made_places post (vec_len old.slots) (taken_of helper.pass) helper.done.items helped.done theirs
 
     -- the calling thread took in what a helper has done

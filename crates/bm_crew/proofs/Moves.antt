@@ -41,8 +41,8 @@ drained f (y ∷ ys) zero x w at none =
     subst (λ r. IsPermutation (f y ++ flat_map f ys) r) e (IsPermutation-refl (f y ++ flat_map f ys))
 drained f (y ∷ ys) (suc k) x w at none =
     IsPermutation-trans (f y ++ flat_map f ys) (f y ++ (f x ++ flat_map f (set ys k w))) (f x ++ (f y ++ flat_map f (set ys k w)))
-        (IsPermutation-append_right (f y) (flat_map f ys) (f x ++ flat_map f (set ys k w)) (drained f ys k x w at none))
-        (exchange (f y) (f x) (flat_map f (set ys k w)))
+    (IsPermutation-append_right (f y) (flat_map f ys) (f x ++ flat_map f (set ys k w)) (drained f ys k x w at none))
+    (exchange (f y) (f x) (flat_map f (set ys k w)))
 
 -- an element joins the given and the queued
 pub pushed : {A : Type 0} (given items rest : List A) (x : A) → IsPermutation given (items ++ rest) → IsPermutation (given ++ x ∷ []) ((items ++ x ∷ []) ++ rest)
@@ -50,12 +50,12 @@ pushed given items rest x is =
     let e : (items ++ rest) ++ x ∷ [] ≡ items ++ (rest ++ x ∷ []) = append_assoc items rest (x ∷ []) in
     let r : items ++ (x ∷ [] ++ rest) ≡ (items ++ x ∷ []) ++ rest = sym (append_assoc items (x ∷ []) rest) in
     IsPermutation-trans (given ++ x ∷ []) ((items ++ rest) ++ x ∷ []) ((items ++ x ∷ []) ++ rest) (IsPermutation-append_left (x ∷ []) given (items ++ rest) is)
-        (subst (λ l. IsPermutation l ((items ++ x ∷ []) ++ rest)) (sym e) (subst (λ l. IsPermutation (items ++ (rest ++ x ∷ [])) l) r (IsPermutation-append_right items (rest ++ x ∷ []) (x ∷ [] ++ rest) (IsPermutation-append_comm rest (x ∷ [])))))
+    (subst (λ l. IsPermutation l ((items ++ x ∷ []) ++ rest)) (sym e) (subst (λ l. IsPermutation (items ++ (rest ++ x ∷ [])) l) r (IsPermutation-append_right items (rest ++ x ∷ []) (x ∷ [] ++ rest) (IsPermutation-append_comm rest (x ∷ [])))))
 
 -- an element goes from the front of the queue to the rest
 pub popped : {A : Type 0} (given items rest rest' : List A) (x : A) → IsPermutation given ((x ∷ items) ++ rest) → IsPermutation (rest ++ x ∷ []) rest' → IsPermutation given (items ++ rest')
 popped given items rest rest' x is more =
     let e : (items ++ rest) ++ x ∷ [] ≡ items ++ (rest ++ x ∷ []) = append_assoc items rest (x ∷ []) in
     IsPermutation-trans given (x ∷ (items ++ rest)) (items ++ rest') is
-        (IsPermutation-trans (x ∷ (items ++ rest)) ((items ++ rest) ++ x ∷ []) (items ++ rest') (IsPermutation-append_comm (x ∷ []) (items ++ rest))
-            (subst (λ l. IsPermutation l (items ++ rest')) (sym e) (IsPermutation-append_right items (rest ++ x ∷ []) rest' more)))
+    (IsPermutation-trans (x ∷ (items ++ rest)) ((items ++ rest) ++ x ∷ []) (items ++ rest') (IsPermutation-append_comm (x ∷ []) (items ++ rest))
+    (subst (λ l. IsPermutation l (items ++ rest')) (sym e) (IsPermutation-append_right items (rest ++ x ∷ []) rest' more)))

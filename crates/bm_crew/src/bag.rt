@@ -65,7 +65,10 @@ impl<T> Bag<T> {
         ensures caller { IsCallerOf self.now pass.new }
         ensures given { view_of pass.new ≡ after_put (view_of pass.old) (place, piece) }
     {
-        match self.queue.push_as::<PutStep, R>(rt, &mut pass.pass, (place, piece)) {
+        match self
+            .queue
+            .push_as::<PutStep, R>(rt, &mut pass.pass, (place, piece))
+        {
             Ok(()) => (),
             Err(_) => unreachable!(),
         }

@@ -26,10 +26,7 @@ impl<T, U> Helper<T, U> {
         requires { CanHelp (J.pre job.now) bag.now self }
         ensures { HasHelped (J.post job.now) bag.now result }
     {
-        let Helper {
-            mut pass,
-            mut done,
-        } = self;
+        let Helper { mut pass, mut done } = self;
         for _ in 0..done.capacity() {
             let Some((place, (shard, piece))) = bag.take(rt, &mut pass) else {
                 break;

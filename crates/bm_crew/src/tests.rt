@@ -30,10 +30,10 @@ impl Meeting {
         }
     }
 
-    /// Turns until the piece of the shard was entered, and gives up in the end.
-    fn wait_for(&self, shard: u32) {
+    /// Turns until the pieces of all shards below `count` were entered, and gives up in the end.
+    fn wait_for(&self, count: u32) {
         for _ in 0..100_000_000u32 {
-            if self.times_entered(shard) > 0 {
+            if (0..count).all(|shard| self.times_entered(shard) > 0) {
                 return;
             }
         }
@@ -59,8 +59,7 @@ struct Pair(Meeting);
 impl Gate for Pair {
     fn at(&self, shard: u32) {
         self.0.enter(shard);
-        let other = if shard == 0 { 1 } else { 0 };
-        self.0.wait_for(other);
+        self.0.wait_for(2);
     }
 }
 
@@ -75,9 +74,7 @@ impl Gate for Held {
     fn at(&self, shard: u32) {
         self.meeting.enter(shard);
         if shard == self.shard {
-            for other in 0..4 {
-                self.meeting.wait_for(other);
-            }
+            self.meeting.wait_for(4);
         }
     }
 }
@@ -111,7 +108,10 @@ fn results_stand_in_the_order_of_items(rt: HostRuntime) -> Result<(), Fail> {
         let ready = Crew::ready::<u64, u64>(rt.alloc(), 7, workers)?;
         let work = |shard: u32, x: u64| x.wrapping_add(100 * shard as u64);
         let made = ready.run(&rt, items, &work, &NoGate);
-        assert_eq!(rt; made.as_slice(), [(9, 901), (2, 202), (9, 903), (0, 4)].as_slice());
+        assert_eq!(rt;
+            made.as_slice(),
+            [(9, 901), (2, 202), (9, 903), (0, 4)].as_slice()
+        );
     }
     Ok(())
 }

@@ -48,12 +48,7 @@ pub fn work_all<
 ///
 /// A function of its own, so that what the closures require is what it is given.
 #[cycle(workers)]
-fn beside<
-    T: Send + Drop,
-    U: Send + Drop,
-    R: Threads + Wait + Sync,
-    J: Fn(u32, T) -> U + Sync,
->(
+fn beside<T: Send + Drop, U: Send + Drop, R: Threads + Wait + Sync, J: Fn(u32, T) -> U + Sync>(
     rt: &R,
     bag: &Bag<(u32, T)>,
     helper: Helper<T, U>,

@@ -6,3 +6,4 @@ mod reports;
 mod rounds;
 mod streams;
 mod support;
+mod vectors;

@@ -13,6 +13,6 @@ pub returns : goal.returns
 returns g c =
     let few : length c.work.result.items ≡ length c.args.items.items = omega (arith, c.work.result.ok.0, c.work.ensures.len, c.args.items.ok.0) in
     let each : AllZip (IsResultOf (goal.F-post g c.args.work.now)) c.args.items.items c.filled.result.items =
-      rw c.filled.ensures (filled_whole (goal.F-post g c.args.work.now) c.args.items.items c.work.result.items c.work.ensures.filled few) in
+    rw c.filled.ensures (filled_whole (goal.F-post g c.args.work.now) c.args.items.items c.work.result.items c.work.ensures.filled few) in
     let long = AllZip-long (IsResultOf (goal.F-post g c.args.work.now)) c.args.items.items c.filled.result.items each in
     record { len = omega (arith, long, c.filled.result.ok.0, c.args.items.ok.0); each = each }
