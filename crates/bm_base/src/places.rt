@@ -7,7 +7,7 @@ use std::marker::Model;
 
 const MAX_PLACES: usize = 16;
 
-/// Some storages, at most 16. A contract sees the list of them.
+/// Some storages, at most 16: where a block is, as readers of a published version see it. A contract sees the list of them.
 #[derive(Clone, Copy, Debug, PartialEq, Eq)]
 pub struct Places {
     /// How many there are, 0 to 16.

@@ -1,5 +1,5 @@
 -- How a run comes further.
-use Rattle.std.proofs.Common.{◌≡◌, ℕ, zero, suc, ◌+◌, ◌-◌, ◌<◌, ◌==◌, Bool, true, false, List, [], ◌∷◌, ◌++◌, length, take, min, refl, sym, ap, ◌∙◌, append_assoc, append-nil, arith, length-append, if◌then◌else◌}
+use Rattle.std.proofs.Common.{◌≡◌, ℕ, zero, suc, ◌+◌, ◌-◌, ◌<◌, ◌≤◌, ◌==◌, Bool, true, false, List, [], ◌∷◌, ◌++◌, length, take, min, refl, sym, ap, ◌∙◌, append_assoc, append-nil, arith, length-append, inl, inr, ◌⊎◌, if◌then◌else◌}
 use Rattle.std.specs.Prelude.{Option, Some, None, Result, Ok, Err, is_err, OnOk}
 use Rattle.std.specs.Int.{from_bool}
 use Rattle.std.specs.Io.KnownBytes.{Appends, Keeps}
@@ -176,3 +176,19 @@ stopped_more M start now bytes more s =
     let h = whole_lines-more bytes more in
     let k : ℕ = min s.0 (length (whole_lines bytes)) in
     (k, rw (h.1, take-append-le k (whole_lines bytes) h.0 (omega arith), take_min) s.1)
+
+-- ---- limits
+
+one_rest : (r : List ℕ) → (length (rest_line r) ≡ 0) ⊎ ((length (rest_line r) ≡ 1) × (0 < length r))
+one_rest [] = inl refl
+one_rest (x ∷ r) = inr (refl, omega arith)
+
+few_by : (n k : ℕ) (r : List ℕ) → n ≤ max_lines → (0 < length r → n < max_lines) → k ≡ n + length (rest_line r) → (length (rest_line r) ≡ 0) ⊎ ((length (rest_line r) ≡ 1) × (0 < length r)) → k ≤ max_lines
+few_by n k r few begun e (inl none) = omega (arith, none)
+few_by n k r few begun e (inr h) = omega (arith, h.0, begun h.1)
+
+-- no more lines are read than may be, the one that is held counted
+pub few_lines : {M : State} {start now : Option (List ℕ)} {s : Session} {bytes : List ℕ} → Progress M start now s bytes → length (lines_of bytes) ≤ max_lines
+few_lines {s = s} {bytes = bytes} p =
+    few_by (length p.lines) (length (lines_of bytes)) p.rest (omega (arith, p.count, s.few)) p.begun
+      (ap length (lines_of-split p.splits) ∙ length-append p.lines (rest_line p.rest)) (one_rest p.rest)

@@ -26,7 +26,7 @@ pub record Finished (config : Config) (input : List ℕ) (left old new : Option 
 -- what stands written after each fault
 abbrev pub Faulted : Config → List ℕ → Option (List ℕ) → Option (List ℕ) → Fault → Type 0
 Faulted config input old new fault.Config = (input ≡ []) × (new ≡ old)
-Faulted config input old new fault.Read = Appends old new (texts (first_state config) (whole_lines input))
+Faulted config input old new fault.Read = (length input ≤ max_bytes) × (length (lines_of input) ≤ max_lines) × Appends old new (texts (first_state config) (whole_lines input))
 Faulted config input old new fault.Write = Unit {0}
 Faulted config input old new fault.Memory = Stopped (first_state config) old new input
 Faulted config input old new fault.TooMuch = IsTooMuch input × Appends old new (texts (first_state config) (take max_lines (whole_lines (take max_bytes input))))

@@ -7,7 +7,7 @@ ghost use Rattle.bm_tool.specs.Ends.{Counts};
 use std::io;
 use std::io::{Read, Write};
 
-/// Where bytes come from.
+/// Where bytes come from. A read is allowed only where none has failed before: so whoever reads has to stop at the first failure.
 pub trait Source {
     /// The bytes that are left, where they are known.
     ghost remaining: { Self → Option (List ℕ) };
@@ -16,13 +16,13 @@ pub trait Source {
     ghost faults: { Self → ℕ };
 
     fn read(&mut self, buf: &mut [u8]) -> io::Result<usize>
-        requires { faults self.old + 1 < 2 ^ 64 }
+        requires { faults self.old ≡ 0 }
         ensures bound { ReadsAtMost result buf.new }
         ensures bytes { ReadConsumes (remaining self.old) (remaining self.new) result buf.new }
         ensures cause { Counts (faults self.old) (faults self.new) result };
 }
 
-/// Where bytes go.
+/// Where bytes go. A write is allowed only where no write and no flush has failed before.
 pub trait Sink {
     /// The bytes that are held, where they are known.
     ghost contents: { Self → Option (List ℕ) };
@@ -34,13 +34,13 @@ pub trait Sink {
     ghost is_flushed: { Self → Bool };
 
     fn write_all(&mut self, bytes: &[u8]) -> io::Result<()>
-        requires { faults self.old + 1 < 2 ^ 64 }
+        requires { faults self.old ≡ 0 }
         ensures bytes { OnOk result (Appends (contents self.old) (contents self.new) bytes.now) }
         ensures unflushed { is_flushed self.new ≡ false }
         ensures cause { Counts (faults self.old) (faults self.new) result };
 
     fn flush(&mut self) -> io::Result<()>
-        requires { faults self.old + 1 < 2 ^ 64 }
+        requires { faults self.old ≡ 0 }
         ensures bytes { Keeps (contents self.old) (contents self.new) }
         ensures flushed { OnOk result (is_flushed self.new ≡ true) }
         ensures cause { Counts (faults self.old) (faults self.new) result };

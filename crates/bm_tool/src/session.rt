@@ -52,7 +52,7 @@ impl Session {
 
     /// Answers the line that is held, and begins the next.
     pub fn end_line<W: Sink>(&mut self, writer: &mut W) -> Result<(), Fault>
-        requires room { W.faults writer.old + 1 < 2 ^ 64 }
+        requires sound { W.faults writer.old ≡ 0 }
         requires few { self.old.lines < max_lines }
         ensures ok { OnOk result ((M : State) (start : Option (List ℕ)) (bytes : List ℕ)
             → Progress M start (W.contents writer.old) self.old bytes
@@ -74,7 +74,7 @@ impl Session {
 
     /// Takes the bytes up to the first line end, and gives back those behind it.
     fn take_line<'p, W: Sink>(&mut self, piece: &'p [u8], writer: &mut W) -> Result<&'p [u8], Fault>
-        requires room { W.faults writer.old + 1 < 2 ^ 64 }
+        requires sound { W.faults writer.old ≡ 0 }
         requires few { self.old.lines < max_lines }
         requires more { 0 < length piece.now }
         ensures ok { IfOk result (λ left. (M : State) (start : Option (List ℕ)) (bytes : List ℕ)
@@ -103,7 +103,7 @@ impl Session {
 
     /// Answers all lines whose end is in the piece, and keeps the rest.
     pub fn take_piece<W: Sink>(&mut self, piece: &[u8], writer: &mut W) -> Result<(), Fault>
-        requires room { W.faults writer.old + 1 < 2 ^ 64 }
+        requires sound { W.faults writer.old ≡ 0 }
         ensures ok { OnOk result ((M : State) (start : Option (List ℕ)) (bytes : List ℕ)
             → Progress M start (W.contents writer.old) self.old bytes
             → Progress M start (W.contents writer.new) self.new (bytes ++ piece.now)) }
@@ -125,7 +125,7 @@ impl Session {
 
     /// Answers the rest, if there is one, and flushes.
     pub fn finish<W: Sink>(&mut self, writer: &mut W) -> Result<Summary, Fault>
-        requires room { W.faults writer.old + 1 < 2 ^ 64 }
+        requires sound { W.faults writer.old ≡ 0 }
         ensures ok { IfOk result (λ summary. (M : State) (start : Option (List ℕ)) (bytes : List ℕ)
             → Progress M start (W.contents writer.old) self.old bytes
             → Appends start (W.contents writer.new) (texts M (lines_of bytes))

@@ -22,8 +22,8 @@ pub fn run<R: Source, W: Sink, H>(
     writer: &mut W,
     config: &Config,
 ) -> Result<Summary, Fault>
-    requires reads { R.faults reader.old + 1 < 2 ^ 64 }
-    requires writes { W.faults writer.old + 1 < 2 ^ 64 }
+    requires reads { R.faults reader.old ≡ 0 }
+    requires writes { W.faults writer.old ≡ 0 }
     // The configuration is refused exactly where it is outside its ranges.
     ensures config { ChecksConfig config.now result }
     // Where the reader tells its bytes, what is written is their text.

@@ -184,6 +184,7 @@ impl Journal {
         ensures book { self.new.book ≡ self.old.book }
         ensures log { self.new.log ≡ self.old.log ++ M.ask table.now ∷ [] }
     {
+        // The word that the pen allows: the step below brings it home.
         let _cell: Word<Entry, u64, JournalRule> = Word::tracked(0, &mut pen);
         let mut offer: Offer<Entry, u64, JournalRule, NoGain> = self
             .evidence

@@ -119,6 +119,7 @@ impl Locator {
         ensures told { self.new.told ≡ self.old.told ++ receipt.list ∷ [] }
     {
         let (evidence, entries) = receipt.into_parts();
+        // For the proof alone: both are of one journal, so one begins the other.
         let mut both = self.heard.again();
         both.learn(&evidence);
         self.told.add(&evidence);
@@ -152,8 +153,10 @@ impl Locator {
             evidence,
             entries,
         } = seen;
+        // For the proof alone: what is shown and what was heard are of one journal.
         let mut both = self.heard.again();
         both.learn(&evidence);
+        // A receipt's journal has one entry more than what was shown came with: the settlement.
         if self.heard_entries.saturating_sub(entries) > 1 {
             return None;
         }

@@ -3,6 +3,8 @@ use denote.Param.Send.{sendable}
 use Rattle.bm_crew.proofs.Crewing.{told_collects, told_helps, idle_split}
 use Rattle.bm_crew.proofs.workers.+workers.Goals as goal
 
+-- what the closures cite is what `beside` was given. That the runtime is shared is named by its place among the premises,
+-- of which there are more than `search` reads
 pub beside-join-requires-after_bounds : goal.beside-join-requires-after_bounds
 beside-join-requires-after_bounds g t c κs within = (
   (search sendable depth 20, search (sendable, c.requires-raw.1.1.1.1.1.1.1.1.0) depth 20, search sendable depth 20, search sendable depth 20, c.requires.helper),

@@ -4,6 +4,7 @@ use Rattle.std.proofs.lemmas.Result.{err_from_is_err_and, IfOk-weaker, IfErr-wea
 use Rattle.bm_base.specs.State.{State, first_state}
 use Rattle.bm_tool.specs.Text.{max_bytes}
 use Rattle.bm_tool.proofs.LineLemmas.{whole_lines-split}
+use Rattle.bm_tool.proofs.ProgressLemmas.{few_lines}
 use Rattle.bm_tool.proofs.RunLemmas.{Consumes-nil, Consumes-then, Consumes-keeps, take_whole, take_room, room_split, faulted_at_start, counts_at_start, config_at_start, config_of_piece, config_of_finished, faulted_of_piece, counts_of_piece, too_many_bytes, finished_leaves, finished_causes, text_of_known}
 use Rattle.bm_tool.proofs.whole_run.run.Goals as goal
 
@@ -52,7 +53,7 @@ loop-n-init g c = record {
 pub returns-in_default-clause-leaves : goal.returns-in_default-clause-leaves
 returns-in_default-clause-leaves g c =
     let q = c.loop-n.invariant.progress in
-    (q.0, Consumes-keeps _ _ _ _ q.1 c.in_default.ensures.bytes, rw (whole_lines-split q.3.splits) q.3.wrote)
+    (q.0, Consumes-keeps _ _ _ _ q.1 c.in_default.ensures.bytes, (omega (arith, q.2, c.loop-n.invariant.few), few_lines q.3, rw (whole_lines-split q.3.splits) q.3.wrote))
 
 pub returns-then-n-eq0-clause-leaves : goal.returns-then-n-eq0-clause-leaves
 returns-then-n-eq0-clause-leaves g c =
