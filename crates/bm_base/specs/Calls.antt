@@ -59,10 +59,14 @@ step_with next_round M call.Rounds = (answer.Number M.round, M)
 abbrev pub step : State → Call → Answer × State
 step = step_with whole_round
 
+-- the answers to a list of calls, one after another, by such a step
+abbrev pub answers_by : (State → Call → Answer × State) → State → List Call → List Answer
+answers_by next M [] = []
+answers_by next M (k ∷ ks) = (next M k).0 ∷ answers_by next (next M k).1 ks
+
 -- the answers to a list of calls, and the state that they leave
 abbrev pub answers : State → List Call → List Answer
-answers M [] = []
-answers M (k ∷ ks) = (step M k).0 ∷ answers (step M k).1 ks
+answers = answers_by step
 
 abbrev pub state_after : State → List Call → State
 state_after M [] = M

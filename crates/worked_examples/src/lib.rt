@@ -8,5 +8,6 @@ pub mod copies;
 pub mod deletes;
 pub mod levels;
 pub mod limits;
+pub mod narrow_rounds;
 pub mod refusals;
 pub mod reports;
