@@ -191,4 +191,4 @@ few_by n k r few begun e (inr h) = omega (arith, h.0, begun h.1)
 pub few_lines : {M : State} {start now : Option (List ℕ)} {s : Session} {bytes : List ℕ} → Progress M start now s bytes → length (lines_of bytes) ≤ max_lines
 few_lines {s = s} {bytes = bytes} p =
     few_by (length p.lines) (length (lines_of bytes)) p.rest (omega (arith, p.count, s.few)) p.begun
-      (ap length (lines_of-split p.splits) ∙ length-append p.lines (rest_line p.rest)) (one_rest p.rest)
+    (ap length (lines_of-split p.splits) ∙ length-append p.lines (rest_line p.rest)) (one_rest p.rest)
