@@ -1,6 +1,8 @@
 pub mod MapLaws
 pub mod SortedLaws
+pub mod Replacing
 pub mod Placing
+pub mod Searching
 pub mod Ties
 pub mod Keeping
 pub mod Differences

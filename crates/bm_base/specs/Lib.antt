@@ -4,6 +4,7 @@ pub mod Conjunction
 pub mod Map
 pub mod OfSorted
 pub mod Place
+pub mod Table
 pub mod Lists
 -- The state, and words on it.
 pub mod State

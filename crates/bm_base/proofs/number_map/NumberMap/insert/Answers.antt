@@ -1,0 +1,11 @@
+use Rattle.std.proofs.Common.{ap}
+use Rattle.bm_base.specs.Map.{by_number}
+use Rattle.bm_base.proofs.SortedLaws.{sorted_by-put, insert_by-put}
+use Rattle.bm_base.proofs.number_map.NumberMap.insert.Goals as goal
+
+pub invariant_of-self-2 : goal.invariant_of-self-2
+invariant_of-self-2 g c = sorted_by-put by_number c.self.inside.entries.items c.put.new.entries.items c.args.key c.args.value c.in_ok-put.ensures.ok c.self.invariant
+
+pub returns-clause-ok : goal.returns-clause-ok
+returns-clause-ok g c =
+    insert_by-put by_number c.self.inside.entries.items c.put.new.entries.items c.args.key c.args.value c.args.self.now.map c.in_ok-put.ensures.ok c.self.invariant (ap (λ t. t.map) c.self.view_is)

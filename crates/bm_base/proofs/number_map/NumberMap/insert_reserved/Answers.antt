@@ -1,0 +1,11 @@
+use Rattle.std.proofs.Common.{ap}
+use Rattle.bm_base.specs.Map.{by_number}
+use Rattle.bm_base.proofs.SortedLaws.{sorted_by-put, insert_by-put}
+use Rattle.bm_base.proofs.number_map.NumberMap.insert_reserved.Goals as goal
+
+pub invariant_of-self : goal.invariant_of-self
+invariant_of-self g c = sorted_by-put by_number c.self.inside.entries.items c.put.new.entries.items c.args.key c.args.value c.in-Ok.ensures.ok c.self.invariant
+
+pub returns-clause-after : goal.returns-clause-after
+returns-clause-after g c =
+    insert_by-put by_number c.self.inside.entries.items c.put.new.entries.items c.args.key c.args.value c.args.self.now.map c.in-Ok.ensures.ok c.self.invariant (ap (λ t. t.map) c.self.view_is)

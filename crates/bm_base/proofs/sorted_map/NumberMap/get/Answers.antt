@@ -1,9 +1,0 @@
-use Rattle.std.proofs.Common.{ap, sym, ◌∙◌}
-use Rattle.std.specs.Ordering.{nat_cmp}
-use Rattle.std.specs.FinMap.{find}
-use Rattle.bm_base.specs.Map.{get, by_number}
-use Rattle.bm_base.proofs.SortedLaws.{get-of_sorted}
-use Rattle.bm_base.proofs.sorted_map.NumberMap.get.Goals as goal
-
-pub returns : goal.returns
-returns g c = c.find.ensures ∙ ap (find nat_cmp c.args.key) c.deref.ensures.value ∙ sym (get-of_sorted by_number _ _ c.self.invariant) ∙ ap (λ m. get m c.args.key) c.self.view_is

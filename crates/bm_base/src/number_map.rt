@@ -1,0 +1,114 @@
+// A map from numbers over a sorted vector.
+ghost use Rattle.std.specs.Prelude.{◌≡◌, ◌≤◌, ◌+◌, OnOk, OnErr, IfOk};
+ghost use Rattle.bm_base.specs.Map as map;
+ghost use Rattle.std.specs.List.Retain.{IsFiltered};
+ghost use Rattle.std.specs.Fn.{CalledAt};
+
+use crate::sorted::{find, put, replace};
+use std::alloc::{AllocError, Global};
+use std::marker::Model;
+
+/// A map from numbers. A look-up is a binary search; an insertion or a removal moves what stands behind it.
+///
+/// A contract sees the map, and for how many further entries it has room.
+#[derive(Drop)]
+pub struct NumberMap<V> {
+    entries: Vec<(u64, V)>,
+}
+
+impl<V> Model for NumberMap<V> {
+    ghost use Rattle.std.specs.Prelude.{T, vec_len, vec_capacity, ◌-◌};
+    ghost use Rattle.std.specs.Ordering.{nat_cmp};
+    ghost use Rattle.std.specs.FinMap.{is_sorted};
+    ghost use Rattle.bm_base.specs.Table.{Table, coded_table};
+    ghost use Rattle.bm_base.specs.OfSorted.{of_sorted};
+
+    ghost Value = { Table V };
+
+    ghost coded = { coded_table V.code };
+
+    ghost view = { λ m. record { map = of_sorted m.entries.items; room = vec_capacity m.entries - vec_len m.entries } };
+
+    ghost invariant = { λ m. T (is_sorted nat_cmp m.entries.items) };
+}
+
+impl<V: Copy> NumberMap<V> {
+    pub fn new(alloc: Global) -> Self
+        ensures { result.map ≡ map.empty }
+    {
+        NumberMap {
+            entries: Vec::new(alloc),
+        }
+    }
+
+    pub fn len(&self) -> usize
+        ensures { result ≡ map.len self.now.map }
+    {
+        self.entries.len()
+    }
+
+    pub fn get(&self, key: u64) -> Option<V>
+        ensures { result ≡ map.get self.now.map key }
+    {
+        find(&self.entries, &key)
+    }
+
+    pub fn insert(&mut self, key: u64, value: V) -> Result<(), AllocError>
+        ensures ok { OnOk result (self.new.map ≡ map.insert self.old.map key value) }
+        ensures err { OnErr result (self.new.map ≡ self.old.map) }
+    {
+        put(&mut self.entries, key, value)?;
+        Ok(())
+    }
+
+    /// Makes room for so many further entries. The entries stay as they are, also after an `Err`.
+    pub fn reserve(&mut self, additional: usize) -> Result<(), AllocError>
+        ensures room { OnOk result (additional ≤ self.new.room) }
+        ensures kept { self.old.room ≤ self.new.room }
+        ensures same { self.new.map ≡ self.old.map }
+    {
+        self.entries.reserve(additional)
+    }
+
+    /// Inserts into room that was made. Takes no memory.
+    pub fn insert_reserved(&mut self, key: u64, value: V)
+        requires { 1 ≤ self.old.room }
+        ensures after { self.new.map ≡ map.insert self.old.map key value }
+        ensures room { self.old.room ≤ self.new.room + 1 }
+    {
+        match put(&mut self.entries, key, value) {
+            Ok(()) => {}
+            Err(_) => unreachable!(),
+        }
+    }
+
+    /// Sets the value at a key that is there; else nothing changes. Takes no memory.
+    pub fn replace(&mut self, key: u64, value: V)
+        ensures after { self.new.map ≡ map.revise_at self.old.map key (λ _. value) }
+        ensures room { self.new.room ≡ self.old.room }
+    {
+        replace(&mut self.entries, &key, value);
+    }
+
+    /// The entries, by rising key.
+    pub fn entries(&self) -> &[(u64, V)]
+        ensures { result.now ≡ map.entries self.now.map }
+    {
+        &self.entries
+    }
+
+    /// Keeps the entries that pass.
+    pub fn retain<F: FnMut(&(u64, V)) -> bool>(&mut self, f: F)
+        requires { F.IsAlwaysCallable f }
+        ensures { IsFiltered (CalledAt F.FnMut) f (map.entries self.old.map) (map.entries self.new.map) }
+    {
+        self.entries.retain(f);
+    }
+
+    /// Takes a key's entry out, if it is there.
+    pub fn remove(&mut self, key: u64)
+        ensures { self.new.map ≡ map.remove self.old.map key }
+    {
+        self.retain(|e| e.0 != key);
+    }
+}

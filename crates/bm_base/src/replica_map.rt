@@ -1,0 +1,110 @@
+// A map from replicas over a sorted vector.
+ghost use Rattle.std.specs.Prelude.{◌≡◌, ◌<◌, IfOk, OnOk, OnErr, T, set, get_or};
+ghost use Rattle.std.specs.FinMap.{is_sorted};
+ghost use Rattle.bm_base.specs.State.{replica_cmp};
+ghost use Rattle.bm_base.specs.Map as map;
+ghost use Rattle.std.specs.List.Retain.{IsFiltered};
+ghost use Rattle.std.specs.Fn.{CalledAt};
+
+use crate::replica::ReplicaId;
+use crate::sorted::{find, put, replace};
+use std::alloc::{AllocError, Global};
+use std::marker::Model;
+
+/// A map from replicas, by block and then by storage. A look-up is a binary search; an insertion or a removal moves what
+/// stands behind it.
+#[derive(Drop)]
+pub struct ReplicaMap<V> {
+    entries: Vec<(ReplicaId, V)>,
+}
+
+impl<V> Model for ReplicaMap<V> {
+    ghost use Rattle.std.specs.Prelude.{T};
+    ghost use Rattle.bm_base.specs.State.{replica_cmp, by_replica};
+    ghost use Rattle.bm_base.specs.Codes.{coded_replica_id};
+    ghost use Rattle.std.specs.FinMap.{is_sorted};
+    ghost use Rattle.bm_base.specs.Map.{Map, code};
+    ghost use Rattle.bm_base.specs.OfSorted.{of_sorted};
+
+    ghost Value = { Map by_replica V };
+
+    ghost coded = { code coded_replica_id V.code };
+
+    ghost view = { λ m. of_sorted m.entries.items };
+
+    ghost invariant = { λ m. T (is_sorted replica_cmp m.entries.items) };
+}
+
+impl<V: Copy> ReplicaMap<V> {
+    pub fn new(alloc: Global) -> Self
+        ensures { result ≡ map.empty }
+    {
+        ReplicaMap {
+            entries: Vec::new(alloc),
+        }
+    }
+
+    /// The map of entries whose keys rise.
+    pub fn from_sorted(entries: Vec<(ReplicaId, V)>) -> Self
+        requires { T (is_sorted replica_cmp entries.items) }
+        ensures { map.entries result ≡ entries.items }
+    {
+        ReplicaMap { entries }
+    }
+
+    pub fn len(&self) -> usize
+        ensures { result ≡ map.len self.now }
+    {
+        self.entries.len()
+    }
+
+    pub fn get(&self, key: ReplicaId) -> Option<V>
+        ensures { result ≡ map.get self.now key }
+    {
+        find(&self.entries, &key)
+    }
+
+    pub fn insert(&mut self, key: ReplicaId, value: V) -> Result<(), AllocError>
+        ensures ok { OnOk result (self.new ≡ map.insert self.old key value) }
+        ensures err { OnErr result (self.new ≡ self.old) }
+    {
+        put(&mut self.entries, key, value)?;
+        Ok(())
+    }
+
+    /// Sets the value at a key that is there; else nothing changes. Takes no memory.
+    pub fn replace(&mut self, key: ReplicaId, value: V)
+        ensures { self.new ≡ map.revise_at self.old key (λ _. value) }
+    {
+        replace(&mut self.entries, &key, value);
+    }
+
+    /// The entries, by rising key.
+    pub fn entries(&self) -> &[(ReplicaId, V)]
+        ensures { result.now ≡ map.entries self.now }
+    {
+        &self.entries
+    }
+
+    /// Keeps the entries that pass.
+    pub fn retain<F: FnMut(&(ReplicaId, V)) -> bool>(&mut self, f: F)
+        requires { F.IsAlwaysCallable f }
+        ensures { IsFiltered (CalledAt F.FnMut) f (map.entries self.old) (map.entries self.new) }
+    {
+        self.entries.retain(f);
+    }
+
+    pub fn try_clone(&self) -> Result<Self, AllocError>
+        ensures { IfOk result (λ m. m ≡ self.now) }
+    {
+        let entries = Vec::from_slice(*self.entries.allocator(), &self.entries)?;
+        Ok(ReplicaMap { entries })
+    }
+
+    /// Takes a key's entry out, if it is there.
+    pub fn remove(&mut self, key: ReplicaId)
+        ensures { self.new ≡ map.remove self.old key }
+    {
+        self.retain(|e| e.0 != key);
+    }
+}

@@ -1,0 +1,81 @@
+// Entries in a vector whose keys strictly rise: the ground of the maps. Each look-up is a binary search.
+ghost use Rattle.std.specs.Prelude.{◌≡◌, ◌<◌, ◌≤◌, ◌+◌, if◌then◌else◌, is_some, OnOk, OnErr, IsOk, T, vec_len, vec_capacity};
+ghost use Rattle.std.specs.FinMap as list;
+ghost use Rattle.bm_base.specs.Place.{place};
+
+use std::alloc::AllocError;
+use std::cmp::Ordering;
+
+/// How many entries stand before the key's place.
+fn place<K: Ord + Copy, V: Copy>(entries: &[(K, V)], key: &K) -> usize
+    requires { T (list.is_sorted K.cmp entries.now) }
+    ensures { result ≡ place K.cmp key.now entries.now }
+{
+    let mut low = 0;
+    let mut high = entries.len();
+    while low < high {
+        let middle = low + (high - low) / 2;
+        match key.cmp(&entries[middle].0) {
+            Ordering::Greater => low = middle + 1,
+            _ => high = middle,
+        }
+    }
+    low
+}
+
+/// The value at a key.
+pub(crate) fn find<K: Ord + Copy, V: Copy>(entries: &[(K, V)], key: &K) -> Option<V>
+    requires { T (list.is_sorted K.cmp entries.now) }
+    ensures { result ≡ list.find K.cmp key.now entries.now }
+{
+    let at = place(entries, key);
+    if at < entries.len() {
+        match key.cmp(&entries[at].0) {
+            Ordering::Equal => return Some(entries[at].1),
+            _ => {}
+        }
+    }
+    None
+}
+
+/// Sets the value at a key. With room for one entry more it takes no memory.
+pub(crate) fn put<K: Ord + Copy, V: Copy>(
+    entries: &mut Vec<(K, V)>,
+    key: K,
+    value: V,
+) -> Result<(), AllocError>
+    requires { T (list.is_sorted K.cmp entries.old.items) }
+    ensures ok { OnOk result (entries.new.items ≡ list.put K.cmp key value entries.old.items) }
+    ensures err { OnErr result (entries.new.items ≡ entries.old.items) }
+    ensures succeeds { vec_len entries.old < vec_capacity entries.old → IsOk result }
+    ensures capacity { vec_capacity entries.old ≤ vec_capacity entries.new }
+    ensures len { vec_len entries.new ≤ vec_len entries.old + 1 }
+{
+    let at = place(entries, &key);
+    if at < entries.len() {
+        match key.cmp(&entries[at].0) {
+            Ordering::Equal => {
+                entries[at].1 = value;
+                return Ok(());
+            }
+            _ => {}
+        }
+    }
+    Ok(entries.insert(at, (key, value))?)
+}
+
+/// Sets the value at a key that is there; else nothing changes. Takes no memory.
+pub(crate) fn replace<K: Ord + Copy, V: Copy>(entries: &mut Vec<(K, V)>, key: &K, value: V)
+    requires { T (list.is_sorted K.cmp entries.old.items) }
+    ensures after { entries.new.items ≡ (if is_some (list.find K.cmp key.now entries.old.items) then list.put K.cmp key.now value entries.old.items else entries.old.items) }
+    ensures capacity { vec_capacity entries.new ≡ vec_capacity entries.old }
+    ensures len { vec_len entries.new ≡ vec_len entries.old }
+{
+    let at = place(entries, key);
+    if at < entries.len() {
+        match key.cmp(&entries[at].0) {
+            Ordering::Equal => entries[at].1 = value,
+            _ => {}
+        }
+    }
+}
