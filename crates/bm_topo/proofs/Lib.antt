@@ -1,0 +1,7 @@
+pub mod Keys
+pub mod Counting
+pub mod Spreading
+pub mod Setting
+pub mod Others
+pub mod Lengths
+pub mod Sounding

@@ -1,0 +1,12 @@
+use Rattle.std.proofs.Common.{ap, sym, ◌∙◌}
+use Rattle.bm_base.specs.Map.{get}
+use Rattle.bm_topo.proofs.Setting.{told_there, no_change}
+use Rattle.bm_topo.proofs.tables.set_one.Goals as goal
+
+pub returns-in-Some : goal.returns-in-Some
+returns-in-Some c =
+    told_there c.args.storages.now.map c.replace.new.self.map c.from-in-Some.result c.args.storage c.in-Some.info c.args.remaining
+    (sym (c.get.ensures ∙ ap (get c.args.storages.now.map) (c.from.ensures ∙ c.storage.view_is)) ∙ c.in-Some.is) (c.from-in-Some.ensures ∙ c.storage.view_is) c.replace.ensures.after
+
+pub returns-in_default : goal.returns-in_default
+returns-in_default c = no_change c.args.storages.now.map c.args.storage _ (sym (c.get.ensures ∙ ap (get c.args.storages.now.map) (c.from.ensures ∙ c.storage.view_is)) ∙ c.in_default.is)

@@ -1,0 +1,5 @@
+pub mod Seen
+pub mod Racks
+pub mod Keys
+pub mod Sound
+pub mod Named

@@ -1,0 +1,33 @@
+-- How many nodes stand on each rack: what a topology counts.
+use Rattle.std.specs.Prelude.{◌≡◌, ℕ, zero, suc, Bool, ◌==◌, nat_lt, if◌then◌else◌, ◌-◌, List, [], ◌∷◌, map, length, count_by, Option, Some, None}
+use Rattle.bm_base.specs.Map.{Map, by_number, entries, get, remove, revise_at}
+use Rattle.bm_base.specs.Lists.{distinct}
+
+-- the racks of the nodes
+abbrev pub racks_of : Map by_number ℕ → List ℕ
+racks_of nodes = map (λ e. e.1) (entries nodes)
+
+-- how many nodes stand on rack r
+unfoldable pub on_rack : Map by_number ℕ → ℕ → ℕ
+on_rack nodes r = count_by (λ x. x == r) (racks_of nodes)
+
+abbrev pub some_positive : ℕ → Option ℕ
+some_positive zero = None
+some_positive (suc n) = Some (suc n)
+
+-- `racks` has just the racks on which nodes stand, each with the number of its nodes
+abbrev pub CountsRacks : Map by_number ℕ → Map by_number ℕ → Type 0
+CountsRacks racks nodes = (r : ℕ) → get racks r ≡ some_positive (on_rack nodes r)
+
+-- whether nodes stand on two racks or more
+unfoldable pub is_multi : Map by_number ℕ → Bool
+is_multi nodes = nat_lt 1 (length (distinct (racks_of nodes)))
+
+-- the rack of the first node that is not n
+abbrev pub first_other : ℕ → List (ℕ × ℕ) → Option ℕ
+first_other n [] = None
+first_other n (e ∷ es) = if e.0 == n then first_other n es else Some e.1
+
+-- the counts, once one of n nodes has left rack r
+unfoldable pub without_one : Map by_number ℕ → ℕ → ℕ → Map by_number ℕ
+without_one racks r n = if n == 1 then remove racks r else revise_at racks r (λ _. n - 1)

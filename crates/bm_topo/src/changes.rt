@@ -1,0 +1,115 @@
+// What events change in the cluster: room is made first, so that the change itself takes no memory.
+ghost use Rattle.std.specs.Prelude.{◌≡◌, ◌≤◌, ◌+◌, length, None, IfErr, OnOk};
+ghost use Rattle.bm_base.specs.Map as map;
+ghost use Rattle.bm_base.specs.Events as events;
+ghost use Rattle.bm_base.specs.Refusals.{first_of, cluster_checks};
+ghost use Rattle.bm_base.specs.Answering.{Refuses};
+ghost use Rattle.bm_base.specs.declared.event.Event.TheVariants as event_of;
+ghost use Rattle.bm_topo.specs.Seen.{IsReadyFor, grows_cluster};
+
+use crate::tables::{add_storages, drop_storages, leave_rack, set_remaining};
+use crate::topology::Topology;
+use bm_base::{Event, NodeId, Rack, Refusal, Remaining, StorageId};
+use std::alloc::AllocError;
+
+impl Topology {
+    /// Makes the room that the event's [`Topology::commit`] needs. `Memory`, from a registration alone: no other event takes
+    /// memory. The cluster stays as it is.
+    pub fn prepare(&mut self, event: &Event) -> Result<(), Refusal>
+        requires { first_of (cluster_checks self.old.cluster event.now) ≡ None }
+        ensures ready { OnOk result (IsReadyFor event.now self.new.room) }
+        ensures refused { IfErr result (Refuses None (grows_cluster event.now)) }
+        ensures same { self.new.cluster ≡ self.old.cluster }
+    {
+        match event {
+            Event::Register { storages, .. } => Ok(self.reserve(storages.as_slice().len())?),
+            _ => Ok(()),
+        }
+    }
+
+    /// Makes room for one node, on any rack, with so many storages.
+    fn reserve(&mut self, storages: usize) -> Result<(), AllocError>
+        ensures nodes { OnOk result (1 ≤ self.new.room.nodes) }
+        ensures racks { OnOk result (1 ≤ self.new.room.racks) }
+        ensures storages { OnOk result (storages ≤ self.new.room.storages) }
+        ensures same { self.new.cluster ≡ self.old.cluster }
+    {
+        self.nodes.reserve(1)?;
+        self.racks.reserve(1)?;
+        self.storages.reserve(storages)
+    }
+
+    /// Changes the cluster by an event that no check refuses, in the room that was made. Takes no memory.
+    #[tactic(auto, unfolding(bm_base::specs::Events::change_cluster))]
+    pub fn commit(&mut self, event: &Event)
+        requires accepted { first_of (cluster_checks self.old.cluster event.now) ≡ None }
+        requires ready { IsReadyFor event.now self.old.room }
+        ensures { self.new.cluster ≡ events.change_cluster self.old.cluster event.now }
+    {
+        match event {
+            Event::Register {
+                node,
+                rack,
+                storages,
+            } => self.add_node(*node, *rack, storages.as_slice()),
+            Event::Dead { node } => self.drop_node(*node),
+            Event::StorageFailed { storage } => self.drop_storage(*storage),
+            Event::Heartbeat { remaining, .. } => self.set_remaining(remaining.as_slice()),
+            Event::AddBlock { .. }
+            | Event::DeleteBlock { .. }
+            | Event::SetReplication { .. }
+            | Event::Restamp { .. }
+            | Event::Received { .. }
+            | Event::Deleted { .. }
+            | Event::Corrupt { .. }
+            | Event::FullReport { .. } => {}
+        }
+    }
+
+    /// Gives up what was prepared. The cluster stays as it is; room that was made is kept for events to come.
+    pub fn abort(&mut self)
+        ensures { self.new.cluster ≡ self.old.cluster }
+    {}
+
+    fn add_node(&mut self, node: NodeId, rack: Rack, storages: &[StorageId])
+        requires accepted { first_of (cluster_checks self.old.cluster (event_of.Register node rack storages.now)) ≡ None }
+        requires ready { IsReadyFor (event_of.Register node rack storages.now) self.old.room }
+        ensures { self.new.cluster ≡ events.register self.old.cluster node rack storages.now }
+    {
+        let count = self.count_on(rack);
+        self.racks.insert_reserved(u64::from(rack.0), count + 1);
+        self.nodes.insert_reserved(u64::from(node.0), rack);
+        add_storages(&mut self.storages, node, storages);
+    }
+
+    fn drop_node(&mut self, node: NodeId)
+        ensures { self.new.cluster ≡ events.without_node self.old.cluster node }
+    {
+        drop_storages(&mut self.storages, node);
+        self.forget_node(node);
+    }
+
+    fn forget_node(&mut self, node: NodeId)
+        ensures { self.new.cluster ≡ record self.old.cluster { nodes = map.remove self.old.cluster.nodes node } }
+    {
+        let Some(rack) = self.rack_of_node(node) else {
+            return;
+        };
+        let count = self.count_on(rack);
+        leave_rack(&mut self.racks, rack, count);
+        self.nodes.remove(u64::from(node.0));
+    }
+
+    fn drop_storage(&mut self, storage: StorageId)
+        ensures { self.new.cluster ≡ events.without_storage self.old.cluster storage }
+    {
+        self.storages.remove(u64::from(storage.0));
+    }
+
+    /// Sets the remaining bytes of storages that are there, one after another.
+    fn set_remaining(&mut self, remaining: &[Remaining])
+        ensures { self.new.cluster ≡ events.heartbeat self.old.cluster remaining.now }
+    {
+        set_remaining(&mut self.storages, remaining);
+    }
+}

@@ -1,0 +1,185 @@
+// The checks of an event on the cluster, in their order.
+ghost use Rattle.std.specs.Prelude.{◌≡◌, ◌+◌, ◌||◌, not, nat_le, nat_lt, length, if◌then◌else◌};
+ghost use Rattle.std.specs.List.{list_any};
+ghost use Rattle.bm_base.specs.Map as map;
+ghost use Rattle.bm_base.specs.Lists as lists;
+ghost use Rattle.bm_base.specs.Replicas as replicas;
+ghost use Rattle.bm_base.specs.Refusals.{first_of, cluster_checks, knows_node, knows_storage, max_nodes, max_storages};
+ghost use Rattle.bm_base.specs.Answering.{checked};
+ghost use Rattle.bm_base.specs.declared.event.Event.TheVariants as event;
+
+use crate::topology::Topology;
+use bm_base::{Event, NodeId, Rack, Refusal, Remaining, StorageId};
+
+const MAX_NODES: usize = 256;
+
+const MAX_STORAGES: u128 = 1024;
+
+const MAX_ENTRIES: usize = 65536;
+
+impl Topology {
+    /// Whether a storage is named twice, or known.
+    fn is_taken(&self, storages: &[StorageId]) -> bool
+        ensures { result ≡ (lists.has_repeats storages.now || list_any (knows_storage self.now.cluster) storages.now) }
+    {
+        if has_repeats(storages) {
+            return true;
+        }
+        self.knows_any(storages)
+    }
+
+    fn knows_any(&self, storages: &[StorageId]) -> bool
+        ensures { result ≡ list_any (knows_storage self.now.cluster) storages.now }
+    {
+        storages.iter().any(|s| self.knows_storage(*s))
+    }
+
+    /// Whether a node with these storages would be too many.
+    fn is_full(&self, storages: &[StorageId]) -> bool
+        ensures { result ≡ (nat_le max_nodes (map.len self.now.cluster.nodes) || nat_lt max_storages (map.len self.now.cluster.storages + length storages.now)) }
+    {
+        if self.nodes.len() >= MAX_NODES {
+            return true;
+        }
+        self.storages.len() as u128 + storages.len() as u128 > MAX_STORAGES
+    }
+
+    fn lacks_one(&self, remaining: &[Remaining]) -> bool
+        ensures { result ≡ list_any (λ r. not (knows_storage self.now.cluster r.storage)) remaining.now }
+    {
+        remaining.iter().any(|r| !self.knows_storage(r.storage))
+    }
+
+    fn has_stranger(&self, node: NodeId, remaining: &[Remaining]) -> bool
+        ensures { result ≡ list_any (λ r. not (replicas.has_storage self.now.cluster node r.storage)) remaining.now }
+    {
+        remaining.iter().any(|r| !self.has_storage(node, r.storage))
+    }
+
+    #[tactic(auto, unfolding(bm_base::specs::Refusals::cluster_checks))]
+    fn check_register(
+        &self,
+        node: NodeId,
+        rack: Rack,
+        storages: &[StorageId],
+    ) -> Result<(), Refusal>
+        ensures { result ≡ checked (first_of (cluster_checks self.now.cluster (event.Register node rack storages.now))) }
+    {
+        if self.knows_node(node) {
+            return Err(Refusal::NodeKnown);
+        }
+        if self.is_taken(storages) {
+            return Err(Refusal::StorageKnown);
+        }
+        if self.is_full(storages) {
+            return Err(Refusal::TooMany);
+        }
+        Ok(())
+    }
+
+    #[tactic(auto, unfolding(bm_base::specs::Refusals::cluster_checks))]
+    fn check_heartbeat(&self, node: NodeId, remaining: &[Remaining]) -> Result<(), Refusal>
+        ensures { result ≡ checked (first_of (cluster_checks self.now.cluster (event.Heartbeat node remaining.now))) }
+    {
+        if !self.knows_node(node) {
+            return Err(Refusal::UnknownNode);
+        }
+        if self.lacks_one(remaining) {
+            return Err(Refusal::UnknownStorage);
+        }
+        if self.has_stranger(node, remaining) {
+            return Err(Refusal::NotItsStorage);
+        }
+        Ok(())
+    }
+
+    fn check_storage(&self, storage: StorageId) -> Result<(), Refusal>
+        ensures { result ≡ (if knows_storage self.now.cluster storage then Ok tt else Err Refusal.UnknownStorage) }
+    {
+        if self.knows_storage(storage) {
+            Ok(())
+        } else {
+            Err(Refusal::UnknownStorage)
+        }
+    }
+
+    /// The first check of an event on the cluster that fails: `UnknownNode`, `NodeKnown`, `UnknownStorage`, `StorageKnown`,
+    /// `TooMany`, `NotItsStorage`, as the event's variant names them. Takes no memory.
+    #[tactic(auto, unfolding(bm_base::specs::Refusals::cluster_checks))]
+    pub fn check(&self, event: &Event) -> Result<(), Refusal>
+        ensures { result ≡ checked (first_of (cluster_checks self.now.cluster event.now)) }
+    {
+        match event {
+            Event::Register {
+                node,
+                rack,
+                storages,
+            } => self.check_register(*node, *rack, storages.as_slice()),
+            Event::Heartbeat { node, remaining } => {
+                self.check_heartbeat(*node, remaining.as_slice())
+            }
+            Event::Dead { node } => {
+                if self.knows_node(*node) {
+                    Ok(())
+                } else {
+                    Err(Refusal::UnknownNode)
+                }
+            }
+            Event::StorageFailed { storage } => self.check_storage(*storage),
+            Event::Received { storage, .. } => self.check_storage(*storage),
+            Event::Deleted { storage, .. } => self.check_storage(*storage),
+            Event::Corrupt { storage, .. } => self.check_storage(*storage),
+            Event::FullReport { storage, entries } => {
+                if !self.knows_storage(*storage) {
+                    return Err(Refusal::UnknownStorage);
+                }
+                if entries.as_slice().len() > MAX_ENTRIES {
+                    return Err(Refusal::TooMany);
+                }
+                Ok(())
+            }
+            Event::AddBlock { .. }
+            | Event::DeleteBlock { .. }
+            | Event::SetReplication { .. }
+            | Event::Restamp { .. } => Ok(()),
+        }
+    }
+
+    #[tactic(auto, unfolding(bm_base::specs::Refusals::knows_node))]
+    fn knows_node(&self, node: NodeId) -> bool
+        ensures { result ≡ knows_node self.now.cluster node }
+    {
+        self.nodes.get(u64::from(node.0)).is_some()
+    }
+
+    #[tactic(auto, unfolding(bm_base::specs::Refusals::knows_storage))]
+    fn knows_storage(&self, storage: StorageId) -> bool
+        ensures { result ≡ knows_storage self.now.cluster storage }
+    {
+        self.storages.get(u64::from(storage.0)).is_some()
+    }
+
+    #[tactic(auto, unfolding(bm_base::specs::Replicas::has_storage))]
+    fn has_storage(&self, node: NodeId, storage: StorageId) -> bool
+        ensures { result ≡ replicas.has_storage self.now.cluster node storage }
+    {
+        match self.node_of(storage) {
+            Some(its_node) => its_node == node,
+            None => false,
+        }
+    }
+}
+
+/// Whether a storage stands twice in a list.
+fn has_repeats(storages: &[StorageId]) -> bool
+    ensures { result ≡ lists.has_repeats storages.now }
+{
+    let mut rest = storages;
+    while let Some((first, others)) = rest.split_first() {
+        if others.contains(first) {
+            return true;
+        }
+        rest = others;
+    }
+    false
+}

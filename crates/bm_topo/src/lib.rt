@@ -1,0 +1,13 @@
+//! The cluster: which DataNodes are alive, on which racks they stand, which storages they have and how much is free there.
+#![tactic(auto)]
+
+mod changes;
+mod checks;
+mod racks;
+mod tables;
+mod topology;
+
+pub use topology::Topology;
+
+#[cfg(test)]
+mod tests;

@@ -1,0 +1,119 @@
+// How the nodes stand on racks. The racks are counted as nodes come and go, so nothing here goes over the nodes.
+ghost use Rattle.std.specs.Prelude.{◌≡◌, option_map, slice_get};
+ghost use Rattle.bm_base.specs.Map as map;
+ghost use Rattle.bm_base.specs.Replicas as replicas;
+ghost use Rattle.bm_base.specs.Events.{change_cluster};
+ghost use Rattle.bm_topo.specs.Racks.{on_rack, first_other, is_multi};
+
+use crate::topology::Topology;
+use bm_base::{Event, NodeId, Rack};
+
+impl Topology {
+    /// Whether the alive nodes stand on two racks or more. Takes no memory.
+    pub fn multi_rack(&self) -> bool
+        ensures { result ≡ replicas.is_multi_rack self.now.cluster }
+    {
+        match self.first_rack() {
+            Some(rack) => self.count_on(rack) < self.alive_nodes(),
+            None => false,
+        }
+    }
+
+    /// Whether they will, once the event is committed. Takes no memory.
+    #[tactic(auto, unfolding(bm_base::specs::Events::change_cluster, bm_base::specs::Events::register, bm_base::specs::Events::without_node, bm_base::specs::Events::without_storage, bm_base::specs::Events::heartbeat, bm_base::specs::Replicas::is_multi_rack, crate::specs::Racks::is_multi))]
+    pub fn multi_after(&self, event: &Event) -> bool
+        ensures { result ≡ replicas.is_multi_rack (change_cluster self.now.cluster event.now) }
+    {
+        match event {
+            Event::Register { node, rack, .. } => self.is_multi_with(*node, *rack),
+            Event::Dead { node } => self.is_multi_without(*node),
+            Event::StorageFailed { .. }
+            | Event::Heartbeat { .. }
+            | Event::AddBlock { .. }
+            | Event::DeleteBlock { .. }
+            | Event::SetReplication { .. }
+            | Event::Restamp { .. }
+            | Event::Received { .. }
+            | Event::Deleted { .. }
+            | Event::Corrupt { .. }
+            | Event::FullReport { .. } => self.multi_rack(),
+        }
+    }
+
+    /// Whether the other nodes and this one, on this rack, stand on two racks or more.
+    fn is_multi_with(&self, node: NodeId, rack: Rack) -> bool
+        ensures { result ≡ is_multi (map.insert self.now.cluster.nodes node rack) }
+    {
+        self.others_on(node, rack) < self.others(node)
+    }
+
+    /// Whether the other nodes do.
+    fn is_multi_without(&self, node: NodeId) -> bool
+        ensures { result ≡ is_multi (map.remove self.now.cluster.nodes node) }
+    {
+        match self.other_rack(node) {
+            Some(rack) => self.others_on(node, rack) < self.others(node),
+            None => false,
+        }
+    }
+
+    /// How many nodes stand on a rack.
+    pub(crate) fn count_on(&self, rack: Rack) -> u32
+        ensures { result ≡ on_rack self.now.cluster.nodes rack }
+    {
+        match self.racks.get(u64::from(rack.0)) {
+            Some(count) => count,
+            None => 0,
+        }
+    }
+
+    /// How many other nodes than this one stand on a rack.
+    fn others_on(&self, node: NodeId, rack: Rack) -> u32
+        ensures { result ≡ on_rack (map.remove self.now.cluster.nodes node) rack }
+    {
+        let count = self.count_on(rack);
+        match self.rack_of_node(node) {
+            Some(its_rack) => { if its_rack == rack { count - 1 } else { count } }
+            None => count,
+        }
+    }
+
+    /// How many other nodes there are.
+    fn others(&self, node: NodeId) -> u32
+        ensures { result ≡ map.len (map.remove self.now.cluster.nodes node) }
+    {
+        let nodes = self.alive_nodes();
+        match self.rack_of_node(node) {
+            Some(_) => nodes - 1,
+            None => nodes,
+        }
+    }
+
+    pub(crate) fn rack_of_node(&self, node: NodeId) -> Option<Rack>
+        ensures { result ≡ map.get self.now.cluster.nodes node }
+    {
+        self.nodes.get(u64::from(node.0))
+    }
+
+    /// The rack of the first node.
+    fn first_rack(&self) -> Option<Rack>
+        ensures { result ≡ option_map (λ e. e.1) (slice_get (map.entries self.now.cluster.nodes) 0) }
+    {
+        match self.nodes.entries().get(0) {
+            Some((_, rack)) => Some(*rack),
+            None => None,
+        }
+    }
+
+    /// The rack of the first other node: that of the first node, or of the second.
+    fn other_rack(&self, node: NodeId) -> Option<Rack>
+        ensures { result ≡ first_other node (map.entries self.now.cluster.nodes) }
+    {
+        for (number, rack) in self.nodes.entries() {
+            if *number != u64::from(node.0) {
+                return Some(*rack);
+            }
+        }
+        None
+    }
+}

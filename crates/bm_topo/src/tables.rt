@@ -1,0 +1,67 @@
+// Changes of one table, in the room that was made.
+ghost use Rattle.std.specs.Prelude.{◌≡◌, ◌≤◌, ◌==◌, not, length};
+ghost use Rattle.bm_base.specs.Map as map;
+ghost use Rattle.bm_base.specs.Events as events;
+ghost use Rattle.bm_topo.specs.Racks.{without_one};
+ghost use Rattle.bm_topo.specs.Named.{named};
+ghost use Rattle.bm_topo.specs.Keys.{HasSmallKeys};
+
+use bm_base::{NodeId, NumberMap, Rack, Remaining, StorageId, StorageInfo};
+
+/// Adds the storages of a node, with nothing free there yet.
+pub(crate) fn add_storages(
+    storages: &mut NumberMap<StorageInfo>,
+    node: NodeId,
+    its_own: &[StorageId],
+)
+    requires { length its_own.now ≤ storages.old.room }
+    ensures after { storages.new.map ≡ map.insert_all storages.old.map (named node its_own.now) }
+    ensures small { HasSmallKeys storages.old.map → HasSmallKeys storages.new.map }
+{
+    for storage in its_own {
+        let info = StorageInfo { node, remaining: 0 };
+        storages.insert_reserved(u64::from(storage.0), info);
+    }
+}
+
+/// Takes out the storages of a node.
+pub(crate) fn drop_storages(storages: &mut NumberMap<StorageInfo>, node: NodeId)
+    ensures { storages.new.map ≡ map.keep storages.old.map (λ _ i. not (i.node == node)) }
+{
+    storages.retain(|(_, info)| info.node != node);
+}
+
+/// One of so many nodes leaves a rack.
+#[tactic(auto, unfolding(crate::specs::Racks::without_one))]
+pub(crate) fn leave_rack(racks: &mut NumberMap<u32>, rack: Rack, count: u32)
+    requires { 1 ≤ count }
+    ensures { racks.new.map ≡ without_one racks.old.map rack count }
+{
+    if count == 1 {
+        racks.remove(u64::from(rack.0));
+    } else {
+        racks.replace(u64::from(rack.0), count - 1);
+    }
+}
+
+/// Sets the remaining bytes of storages that are there, one after another.
+pub(crate) fn set_remaining(storages: &mut NumberMap<StorageInfo>, remaining: &[Remaining])
+    ensures { storages.new.map ≡ events.set_remaining storages.old.map remaining.now }
+{
+    for told in remaining {
+        set_one(storages, told.storage, told.remaining);
+    }
+}
+
+/// Sets the remaining bytes of a storage, if it is there.
+fn set_one(storages: &mut NumberMap<StorageInfo>, storage: StorageId, remaining: u64)
+    ensures { storages.new.map ≡ map.revise_at storages.old.map storage (λ i. record i { remaining = remaining }) }
+{
+    if let Some(info) = storages.get(u64::from(storage.0)) {
+        let told = StorageInfo {
+            node: info.node,
+            remaining,
+        };
+        storages.replace(u64::from(storage.0), told);
+    }
+}

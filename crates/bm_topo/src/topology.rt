@@ -1,0 +1,121 @@
+// The tables of the cluster, and what they answer.
+ghost use Rattle.std.specs.Prelude.{◌≡◌, IfOk, IfErr, option_map, slice_get};
+ghost use Rattle.bm_base.specs.Map as map;
+ghost use Rattle.bm_base.specs.State as state;
+ghost use Rattle.bm_base.specs.Replicas as replicas;
+ghost use Rattle.bm_base.specs.declared.refusal.Refusal.TheVariants.{Memory};
+
+use bm_base::{NodeId, NumberMap, Rack, Refusal, StorageId, StorageInfo};
+use std::alloc::Global;
+use std::marker::Model;
+
+/// The alive DataNodes with their racks, and their storages with what is free there.
+///
+/// A contract sees the cluster of the definitions, and the room that [`Topology::prepare`] made. Each look-up is a binary
+/// search in at most 256 nodes or 1,024 storages.
+#[derive(Drop)]
+pub struct Topology {
+    pub(crate) nodes: NumberMap<Rack>,
+    /// For each rack on which nodes stand, how many.
+    pub(crate) racks: NumberMap<u32>,
+    pub(crate) storages: NumberMap<StorageInfo>,
+}
+
+impl Model for Topology {
+    ghost use Rattle.bm_topo.specs.Seen.{Seen, coded_seen};
+    ghost use Rattle.bm_topo.specs.Sound.{IsSound};
+
+    ghost Value = { Seen };
+
+    ghost coded = { coded_seen };
+
+    ghost view = { λ t. record {
+      cluster = record { nodes = t.nodes.map; storages = t.storages.map };
+      room = record { nodes = t.nodes.room; racks = t.racks.room; storages = t.storages.room };
+    } };
+
+    ghost invariant = { λ t. IsSound t.nodes.map t.racks.map t.storages.map };
+}
+
+impl Topology {
+    /// No node and no storage. `Memory`.
+    #[tactic(auto, unfolding(bm_base::specs::State::empty_cluster))]
+    pub fn new(alloc: Global) -> Result<Topology, Refusal>
+        ensures empty { IfOk result (λ t. t.cluster ≡ state.empty_cluster) }
+        ensures refused { IfErr result (λ e. e ≡ Memory) }
+    {
+        Ok(Topology {
+            nodes: NumberMap::new(alloc),
+            racks: NumberMap::new(alloc),
+            storages: NumberMap::new(alloc),
+        })
+    }
+
+    /// The node of a storage; `None` where the storage is not known.
+    #[tactic(auto, unfolding(bm_base::specs::Replicas::node_of))]
+    pub fn node_of(&self, storage: StorageId) -> Option<NodeId>
+        ensures { result ≡ replicas.node_of self.now.cluster storage }
+    {
+        match self.storages.get(u64::from(storage.0)) {
+            Some(info) => Some(info.node),
+            None => None,
+        }
+    }
+
+    /// The rack on which the node of a storage stands; `None` where the storage is not known.
+    #[tactic(auto, unfolding(bm_base::specs::Replicas::rack_of))]
+    pub fn rack_of(&self, storage: StorageId) -> Option<Rack>
+        ensures { result ≡ replicas.rack_of self.now.cluster storage }
+    {
+        match self.node_of(storage) {
+            Some(node) => self.nodes.get(u64::from(node.0)),
+            None => None,
+        }
+    }
+
+    /// The free bytes of a storage that the last heartbeat told, 0 before the first; `None` where the storage is not known.
+    pub fn remaining(&self, storage: StorageId) -> Option<u64>
+        ensures { result ≡ option_map (λ i. i.remaining) (map.get self.now.cluster.storages storage) }
+    {
+        match self.storages.get(u64::from(storage.0)) {
+            Some(info) => Some(info.remaining),
+            None => None,
+        }
+    }
+
+    /// How many nodes are alive, at most 256.
+    pub fn alive_nodes(&self) -> u32
+        ensures { result ≡ map.len self.now.cluster.nodes }
+    {
+        self.nodes.len() as u32
+    }
+
+    /// How many storages there are, at most 1,024.
+    pub fn storage_count(&self) -> u32
+        ensures { result ≡ map.len self.now.cluster.storages }
+    {
+        self.storages.len() as u32
+    }
+
+    /// The storage at a place of their rising order, from 0 on; `None` past the last.
+    #[tactic(auto, unfolding(bm_base::specs::Map::keys))]
+    pub fn storage_at(&self, place: u32) -> Option<StorageId>
+        ensures { result ≡ slice_get (map.keys self.now.cluster.storages) place }
+    {
+        match self.storages.entries().get(place as usize) {
+            Some((number, _)) => Some(StorageId(*number as u32)),
+            None => None,
+        }
+    }
+
+    /// The node at a place of their rising order, from 0 on; `None` past the last.
+    #[tactic(auto, unfolding(bm_base::specs::Map::keys))]
+    pub fn node_at(&self, place: u32) -> Option<NodeId>
+        ensures { result ≡ slice_get (map.keys self.now.cluster.nodes) place }
+    {
+        match self.nodes.entries().get(place as usize) {
+            Some((number, _)) => Some(NodeId(*number as u32)),
+            None => None,
+        }
+    }
+}
