@@ -55,6 +55,46 @@ module _ {K X : Type 0} {o : Order K} where
       ∙ ap (λ es. length (filter (λ e. not (contains_key old e.0)) (entries new)) + length es) (entries-keep o new (λ q _. contains_key old q))
       ∙ both_parts (λ e. contains_key old e.0) (entries new)
 
+  -- no key is new where the old map has all of them
+  pub none_new : (old new : Map o X) → ((q : K) (x : X) → get new q ≡ Some x → contains_key old q ≡ true) → new_keys old new ≡ 0
+  none_new old new there =
+      let all = new_keys-keep old new in
+      let same : keep new (λ q _. contains_key old q) ≡ new =
+          same_map (keep new (λ q _. contains_key old q)) new (λ q. get-keep new (λ j _. contains_key old j) q ∙ by q (get new q) refl) in
+      let e = ap len same in
+      omega (arith, all, e)
+    where
+      by : (q : K) (w : Option X) → get new q ≡ w → option_and_then (λ y. passed (contains_key old q) y) w ≡ w
+      by q None e = refl
+      by q (Some x) e = ap (λ b. passed b x) (there q x e)
+
+  -- what is kept by a test of the key has no new key, and lacks those that don't pass
+  kept_there : (m : Map o X) (p : K → Bool) → keep m (λ q _. contains_key (keep m (λ j _. p j)) q) ≡ keep m (λ q _. p q)
+  kept_there m p =
+      same_map (keep m (λ q _. contains_key (keep m (λ j _. p j)) q)) (keep m (λ q _. p q)) (λ q.
+      get-keep m (λ j _. contains_key (keep m (λ i _. p i)) j) q
+      ∙ ap (λ w. option_and_then (λ y. passed (is_some w) y) (get m q)) (get-keep m (λ j _. p j) q)
+      ∙ by (p q) (get m q)
+      ∙ sym (get-keep m (λ j _. p j) q))
+    where
+      by : (b : Bool) (w : Option X) → option_and_then (λ y. passed (is_some (option_and_then (λ z. passed b z) w)) y) w ≡ option_and_then (λ y. passed b y) w
+      by b None = refl
+      by true (Some x) = refl
+      by false (Some x) = refl
+
+  pub none_came : (m : Map o X) (p : K → Bool) → new_keys m (keep m (λ q _. p q)) ≡ 0
+  none_came m p = none_new m (keep m (λ q _. p q)) (λ q x e. there q (get m q) refl (sym (get-keep m (λ j _. p j) q) ∙ e))
+    where
+      there : {x : X} (q : K) (w : Option X) → get m q ≡ w → option_and_then (λ y. passed (p q) y) (get m q) ≡ Some x → is_some (get m q) ≡ true
+      there q None e h = cc
+      there q (Some y) e h = ap is_some e
+
+  pub some_left : (m : Map o X) (p : K → Bool) → new_keys (keep m (λ q _. p q)) m ≡ len m - len (keep m (λ q _. p q))
+  some_left m p =
+      let all = new_keys-keep (keep m (λ q _. p q)) m in
+      let e = ap len (kept_there m p) in
+      omega (arith, all, e)
+
   pub len-insert : (m : Map o X) (k : K) (v : X) → len (insert m k v) ≡ cond (contains_key m k) (len m) (len m + 1)
   unfolding len entries get insert
   len-insert m k v = length-put o.cmp o.total k v m.list m.sorted

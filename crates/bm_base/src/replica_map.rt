@@ -1,5 +1,6 @@
 // A map from replicas over a sorted vector.
-ghost use Rattle.std.specs.Prelude.{◌≡◌, ◌<◌, IfOk, OnOk, OnErr, T, set, get_or};
+ghost use Rattle.std.specs.Prelude.{◌≡◌, ◌<◌, IfOk, OnOk, OnErr, T, Some, slice_get, slice_set};
+ghost use Rattle.bm_base.specs.declared.replica.ReplicaId.{ReplicaId};
 ghost use Rattle.std.specs.FinMap.{is_sorted};
 ghost use Rattle.bm_base.specs.State.{replica_cmp};
 ghost use Rattle.bm_base.specs.Map as map;
@@ -77,6 +78,14 @@ impl<V: Copy> ReplicaMap<V> {
         ensures { self.new ≡ map.revise_at self.old key (λ _. value) }
     {
         replace(&mut self.entries, &key, value);
+    }
+
+    /// Sets the value of the entry at a place of the rising order. Takes no memory.
+    pub fn set_at(&mut self, at: usize, value: V)
+        requires { at < map.len self.old }
+        ensures { (e : ReplicaId × V) → slice_get (map.entries self.old) at ≡ Some e → map.entries self.new ≡ slice_set (map.entries self.old) at (e.0, value) }
+    {
+        self.entries[at].1 = value;
     }
 
     /// The entries, by rising key.

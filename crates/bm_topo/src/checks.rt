@@ -1,5 +1,5 @@
 // The checks of an event on the cluster, in their order.
-ghost use Rattle.std.specs.Prelude.{◌≡◌, ◌+◌, ◌||◌, not, nat_le, nat_lt, length, if◌then◌else◌};
+ghost use Rattle.std.specs.Prelude.{◌≡◌, ◌+◌, ◌||◌, not, nat_le, nat_lt, length, None, OnOk, if◌then◌else◌};
 ghost use Rattle.std.specs.List.{list_any};
 ghost use Rattle.bm_base.specs.Map as map;
 ghost use Rattle.bm_base.specs.Lists as lists;
@@ -107,7 +107,8 @@ impl Topology {
     /// `TooMany`, `NotItsStorage`, as the event's variant names them. Takes no memory.
     #[tactic(auto, unfolding(bm_base::specs::Refusals::cluster_checks))]
     pub fn check(&self, event: &Event) -> Result<(), Refusal>
-        ensures { result ≡ checked (first_of (cluster_checks self.now.cluster event.now)) }
+        ensures refusal { result ≡ checked (first_of (cluster_checks self.now.cluster event.now)) }
+        ensures accepted { OnOk result (first_of (cluster_checks self.now.cluster event.now) ≡ None) }
     {
         match event {
             Event::Register {
