@@ -1,4 +1,5 @@
 -- To set the value at a key that is there is to revise the map at the key.
+--     same_change, no_change      changes at a key that make the same of its value, and none where no value is
 use Rattle.std.proofs.Common.{◌≡◌, Bool, true, false, cond, List, Option, Some, None, is_some, refl, sym, ap, subst, ◌∙◌, Ordering, Less, Equal, Greater, is_eq, T}
 use Rattle.std.specs.Prelude.{option_map}
 use Rattle.std.specs.Ordering.{eq_by_cmp}
@@ -73,3 +74,33 @@ module _ {K X : Type 0} (o : Order K) where
 
   pub sorted_by-replaced : (es fs : List (K × X)) (k : K) (v : X) → fs ≡ cond (is_some (find o.cmp k es)) (put o.cmp k v es) es → T (is_sorted o.cmp es) → T (is_sorted o.cmp fs)
   sorted_by-replaced es fs k v e h = sorted_by_either es fs k v (is_some (find o.cmp k es)) e h
+
+kept : {X : Type 0} (f : X → X) (v : Option X) → option_map (λ x. cond false (f x) x) v ≡ v
+kept f None = refl
+kept f (Some x) = refl
+
+module _ {K X : Type 0} {o : Order K} (m : Map o X) (k : K) where
+  at_key : (f : X → X) (q : K) → get (revise_at m k f) q ≡ option_map (λ x. cond (eq_by_cmp o.cmp q k) (f x) x) (get m q)
+  unfolding revise_at
+  at_key f q = get-revise m (λ q x. cond (eq_by_cmp o.cmp q k) (f x) x) q
+
+  -- where the changes make the same of the value that is there
+  pub same_change : (f g : X → X) → option_map f (get m k) ≡ option_map g (get m k) → revise_at m k f ≡ revise_at m k g
+  same_change f g e =
+      same_map (revise_at m k f) (revise_at m k g) (λ q.
+      at_key f q
+      ∙ elim (eq_by_cmp o.cmp q k) as (λ b. eq_by_cmp o.cmp q k ≡ b → option_map (λ x. cond b (f x) x) (get m q) ≡ option_map (λ x. cond b (g x) x) (get m q)) [
+        | true ↦ λ t. let is = o.same q k (equal _ t) in ap (λ j. option_map f (get m j)) is ∙ e ∙ ap (λ j. option_map g (get m j)) (sym is)
+        | false ↦ λ t. kept f (get m q) ∙ sym (kept g (get m q))
+      ] refl
+      ∙ sym (at_key g q))
+
+  -- no value is changed where none is there
+  pub no_change : (f : X → X) → get m k ≡ None → m ≡ revise_at m k f
+  no_change f none =
+      same_map m (revise_at m k f) (λ q.
+      sym (at_key f q
+      ∙ elim (eq_by_cmp o.cmp q k) as (λ b. eq_by_cmp o.cmp q k ≡ b → option_map (λ x. cond b (f x) x) (get m q) ≡ get m q) [
+        | true ↦ λ t. let absent = ap (get m) (o.same q k (equal _ t)) ∙ none in ap (option_map f) absent ∙ sym absent
+        | false ↦ λ t. kept f (get m q)
+      ] refl))

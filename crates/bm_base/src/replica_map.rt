@@ -80,6 +80,16 @@ impl<V: Copy> ReplicaMap<V> {
         replace(&mut self.entries, &key, value);
     }
 
+    /// The entry at a place of the rising order, from 0 on; `None` past the last.
+    pub fn entry_at(&self, at: usize) -> Option<(ReplicaId, V)>
+        ensures { result ≡ slice_get (map.entries self.now) at }
+    {
+        match self.entries().get(at) {
+            Some(entry) => Some(*entry),
+            None => None,
+        }
+    }
+
     /// Sets the value of the entry at a place of the rising order. Takes no memory.
     pub fn set_at(&mut self, at: usize, value: V)
         requires { at < map.len self.old }

@@ -7,6 +7,7 @@ ghost use Rattle.bm_base.specs.Answering.{checked, Refuses};
 
 use crate::manager::Manager;
 use crate::rounds::commands_of;
+use crate::standing::node_ids;
 use bm_base::{Commands, Refusal};
 use std::alloc::AllocError;
 
@@ -54,7 +55,7 @@ impl Manager {
         ensures unchanged { OnErr result (self.new ≡ self.old) }
     {
         let round = self.round + 1;
-        let nodes = self.topology.node_ids(self.alloc)?;
+        let nodes = node_ids(self.alloc, &self.topology)?;
         let deletes = self
             .holdings
             .deletes(self.alloc, &self.topology, nodes.as_slice(), &self.config)?;

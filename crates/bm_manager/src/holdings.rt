@@ -7,11 +7,13 @@ ghost use Rattle.bm_base.specs.Refusals.{first_of, block_checks, knows_block, is
 ghost use Rattle.bm_base.specs.Calls.{done};
 ghost use Rattle.bm_base.specs.Answering.{checked};
 
-use crate::topology::Topology;
+use crate::standing::are_sisters;
+use crate::tally;
 use bm_base::{
     BlockId, BlockInfo, Done, Event, Items, Marks, NumberMap, Refusal, ReplicaId, ReplicaMap,
     Stamp, StorageId, Tag,
 };
+use bm_topo::Topology;
 use std::alloc::{AllocError, Global};
 use std::marker::Model;
 
@@ -33,7 +35,7 @@ impl Model for Holdings {
 
     ghost coded = { coded_holdings };
 
-    ghost view = { λ h. record { blocks = h.blocks; replicas = h.replicas; pending = h.pending } };
+    ghost view = { λ h. record { blocks = h.blocks.map; replicas = h.replicas; pending = h.pending } };
 }
 
 impl Holdings {
@@ -180,13 +182,14 @@ impl Holdings {
     }
 
     /// Adds a block. An `Err` changes nothing.
-    #[tactic(auto, unfolding(bm_base::specs::Events::add_block))]
-    pub fn add_block(&mut self, id: BlockId, stamp: Stamp, repl: u32) -> Result<(), AllocError>
-        ensures ok { OnOk result (self.new ≡ events.add_block self.old id stamp repl) }
+    #[tactic(auto, unfolding(bm_base::specs::Events::add_block, bm_base::specs::Calls::done), using(crate::proofs::Counts::same_replicas))]
+    pub fn add_block(&mut self, id: BlockId, stamp: Stamp, repl: u32) -> Result<Done, AllocError>
+        ensures ok { IfOk result (λ d. d ≡ done self.old (events.add_block self.old id stamp repl)) }
+        ensures state { OnOk result (self.new ≡ events.add_block self.old id stamp repl) }
         ensures err { OnErr result (self.new ≡ self.old) }
     {
         self.blocks.insert(id.0, BlockInfo { stamp, repl })?;
-        Ok(())
+        Ok(tally::none())
     }
 
     /// Enters a replica that is reported. An `Err` changes nothing.
@@ -197,8 +200,8 @@ impl Holdings {
         replica: &ReplicaId,
         stamp: &Stamp,
     ) -> Result<Done, AllocError>
-        ensures ok { IfOk result (λ d. d ≡ done self.old (events.enter topology.now self.old replica.now stamp.now)) }
-        ensures state { OnOk result (self.new ≡ events.enter topology.now self.old replica.now stamp.now) }
+        ensures ok { IfOk result (λ d. d ≡ done self.old (events.enter topology.now.cluster self.old replica.now stamp.now)) }
+        ensures state { OnOk result (self.new ≡ events.enter topology.now.cluster self.old replica.now stamp.now) }
         ensures err { OnErr result (self.new ≡ self.old) }
     {
         let marks = self.entered(replica, stamp);
@@ -227,9 +230,9 @@ fn check_replication(repl: u32) -> Result<(), Refusal>
 
 /// Takes out the block's replicas on other storages of the node.
 fn drop_replaced(replicas: &mut ReplicaMap<Marks>, topology: &Topology, replica: &ReplicaId)
-    ensures { replicas.new ≡ map.keep replicas.old (λ q _. not (events.replaces topology.now replica.now q)) }
+    ensures { replicas.new ≡ map.keep replicas.old (λ q _. not (events.replaces topology.now.cluster replica.now q)) }
 {
     replicas.retain(|(other, _)| {
-        !(other.block == replica.block && topology.are_sisters(replica.storage, other.storage))
+        !(other.block == replica.block && are_sisters(topology, replica.storage, other.storage))
     });
 }

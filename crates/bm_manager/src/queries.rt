@@ -6,8 +6,8 @@ ghost use Rattle.bm_base.specs.Spread.{spread};
 ghost use Rattle.bm_base.specs.Levels as levels;
 
 use crate::holdings::Holdings;
-use crate::topology::Topology;
 use bm_base::{BlockId, Items, Level, Marks, Rack, Replica, ReplicaId, StorageId, Tag, level_of};
+use bm_topo::Topology;
 use std::alloc::{AllocError, Global};
 
 impl Holdings {
@@ -62,7 +62,7 @@ impl Holdings {
         alloc: Global,
         topology: &Topology,
     ) -> Result<Items<BlockId>, AllocError>
-        ensures { IfOk result (λ v. v ≡ queries.missing_blocks topology.now self.now) }
+        ensures { IfOk result (λ v. v ≡ queries.missing_blocks topology.now.cluster self.now) }
     {
         let mut missing = Vec::new(alloc);
         for (number, _) in self.blocks.entries() {
@@ -75,7 +75,7 @@ impl Holdings {
     }
 
     fn is_missing(&self, topology: &Topology, id: BlockId) -> bool
-        ensures { result ≡ levels.is_at Level.NoLiveReplica (levels.level topology.now self.now id) }
+        ensures { result ≡ levels.is_at Level.NoLiveReplica (levels.level topology.now.cluster self.now id) }
     {
         matches!(self.level(topology, id), Some(Level::NoLiveReplica))
     }
@@ -83,13 +83,13 @@ impl Holdings {
     /// How urgently the block wants replicas; `None` of an unknown block.
     #[tactic(auto, unfolding(bm_base::specs::Levels::level))]
     pub fn level(&self, topology: &Topology, id: BlockId) -> Option<Level>
-        ensures { result ≡ levels.level topology.now self.now id }
+        ensures { result ≡ levels.level topology.now.cluster self.now id }
     {
         match self.blocks.get(id.0) {
             Some(info) => {
                 let live = self.live_count(topology, id);
                 let racks = self.live_rack_spread(topology, id);
-                level_of(live, info.repl, racks, topology.is_multi_rack())
+                level_of(live, info.repl, racks, topology.multi_rack())
             }
             None => None,
         }
@@ -98,7 +98,7 @@ impl Holdings {
     /// How many replicas of the block are live.
     #[tactic(auto, unfolding(bm_base::specs::Replicas::storages_where))]
     pub fn live_count(&self, _topology: &Topology, id: BlockId) -> usize
-        ensures { result ≡ length (replicas.live _topology.now self.now id) }
+        ensures { result ≡ length (replicas.live _topology.now.cluster self.now id) }
     {
         let mut count = 0;
         for (replica, marks) in self.replicas.entries() {
@@ -112,7 +112,7 @@ impl Holdings {
     /// On how many racks the block's live replicas stand, 2 for more.
     #[tactic(auto, unfolding(bm_base::specs::Replicas::storages_where))]
     fn live_rack_spread(&self, topology: &Topology, id: BlockId) -> usize
-        ensures { result ≡ spread (filter_map (replicas.rack_of topology.now) (replicas.live topology.now self.now id)) }
+        ensures { result ≡ spread (filter_map (replicas.rack_of topology.now.cluster) (replicas.live topology.now.cluster self.now id)) }
     {
         let mut first = None;
         for (replica, marks) in self.replicas.entries() {
@@ -134,7 +134,7 @@ impl Holdings {
 
 /// The rack of a replica that is a live one of the block.
 fn live_rack(topology: &Topology, id: BlockId, replica: &ReplicaId, marks: &Marks) -> Option<Rack>
-    ensures { result ≡ (if (replica.now.block == id) && replicas.is_live marks.now then replicas.rack_of topology.now replica.now.storage else None) }
+    ensures { result ≡ (if (replica.now.block == id) && replicas.is_live marks.now then replicas.rack_of topology.now.cluster replica.now.storage else None) }
 {
     if replica.block == id && is_live(marks) {
         topology.rack_of(replica.storage)

@@ -5,8 +5,9 @@ ghost use Rattle.bm_base.specs.Events as events;
 ghost use Rattle.bm_base.specs.Calls as calls;
 
 use crate::holdings::Holdings;
-use crate::topology::Topology;
+use crate::standing::are_sisters;
 use bm_base::{BlockId, Done, Entry, Marks, ReplicaId, ReplicaMap, StorageId};
+use bm_topo::Topology;
 use std::alloc::AllocError;
 
 impl Holdings {
@@ -18,8 +19,8 @@ impl Holdings {
         storage: StorageId,
         entries: &[Entry],
     ) -> Result<Done, AllocError>
-        ensures ok { IfOk result (λ d. d ≡ calls.done self.old (events.report topology.now self.old storage entries.now)) }
-        ensures state { OnOk result (self.new ≡ events.report topology.now self.old storage entries.now) }
+        ensures ok { IfOk result (λ d. d ≡ calls.done self.old (events.report topology.now.cluster self.old storage entries.now)) }
+        ensures state { OnOk result (self.new ≡ events.report topology.now.cluster self.old storage entries.now) }
         ensures err { OnErr result (self.new ≡ self.old) }
     {
         let mut replicas = self.replicas.try_clone()?;
@@ -59,13 +60,13 @@ fn leaves_by_report(
     entries: &[Entry],
     replica: &ReplicaId,
 ) -> bool
-    ensures { result ≡ events.leaves_by_report topology.now storage entries.now replica.now }
+    ensures { result ≡ events.leaves_by_report topology.now.cluster storage entries.now replica.now }
 {
     let is_named = is_named(entries, replica.block);
     if replica.storage == storage {
         !is_named
     } else {
-        is_named && topology.are_sisters(storage, replica.storage)
+        is_named && are_sisters(topology, storage, replica.storage)
     }
 }
 
@@ -76,7 +77,7 @@ fn drop_unreported(
     storage: StorageId,
     entries: &[Entry],
 )
-    ensures { replicas.new ≡ map.keep replicas.old (λ q _. not (events.leaves_by_report topology.now storage entries.now q)) }
+    ensures { replicas.new ≡ map.keep replicas.old (λ q _. not (events.leaves_by_report topology.now.cluster storage entries.now q)) }
 {
     replicas.retain(|(replica, _)| !leaves_by_report(topology, storage, entries, replica));
 }

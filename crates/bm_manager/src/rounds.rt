@@ -3,7 +3,7 @@ ghost use Rattle.std.specs.Prelude.{◌≡◌, ◌++◌, true, filter, [], ◌-�
 ghost use Rattle.std.specs.List.{flat_map};
 ghost use Rattle.bm_base.specs.Map as map;
 ghost use Rattle.bm_base.specs.State.{limits_of};
-ghost use Rattle.bm_base.specs.Replicas.{has_storage};
+ghost use Rattle.bm_base.specs.Replicas as replicas_of;
 ghost use Rattle.bm_base.specs.Excess.{without_expired};
 ghost use Rattle.bm_base.specs.Deletes as deletes_of_round;
 ghost use Rattle.bm_base.specs.Rounds as rounds;
@@ -11,17 +11,18 @@ ghost use Rattle.bm_manager.specs.Told.{told_to};
 
 use crate::holdings::Holdings;
 use crate::queries::is_corrupt;
-use crate::topology::Topology;
+use crate::standing::{has_storage, storage_ids};
 use bm_base::{
     BlockId, Commands, Config, Delete, Items, Marks, NodeCommands, NodeId, ReplicaId, ReplicaMap,
     StorageId, Tag,
 };
+use bm_topo::Topology;
 use std::alloc::{AllocError, Global};
 
 impl Holdings {
     #[tactic(auto, unfolding(bm_base::specs::Deletes::has_enough_live))]
     fn has_enough_live(&self, topology: &Topology, id: BlockId) -> bool
-        ensures { result ≡ deletes_of_round.has_enough_live topology.now self.now id }
+        ensures { result ≡ deletes_of_round.has_enough_live topology.now.cluster self.now id }
     {
         match self.blocks.get(id.0) {
             Some(info) => self.live_count(topology, id) >= info.repl as usize,
@@ -32,7 +33,7 @@ impl Holdings {
     /// Whether a replica is to be deleted and was not ordered to be.
     #[tactic(auto, unfolding(bm_base::specs::Deletes::is_deletable))]
     fn is_deletable(&self, topology: &Topology, replica: &ReplicaId, marks: &Marks) -> bool
-        ensures { result ≡ deletes_of_round.is_deletable topology.now self.now replica.now marks.now }
+        ensures { result ≡ deletes_of_round.is_deletable topology.now.cluster self.now replica.now marks.now }
     {
         if marks.ordered {
             return false;
@@ -51,7 +52,7 @@ impl Holdings {
         storage: StorageId,
         deletes: &mut Vec<Delete>,
     ) -> Result<(), AllocError>
-        ensures { OnOk result (deletes.new.items ≡ deletes.old.items ++ deletes_of_round.deletable_on topology.now self.now storage) }
+        ensures { OnOk result (deletes.new.items ≡ deletes.old.items ++ deletes_of_round.deletable_on topology.now.cluster self.now storage) }
     {
         for (replica, marks) in self.replicas.entries() {
             if replica.storage == storage && self.is_deletable(topology, replica, marks) {
@@ -74,12 +75,12 @@ impl Holdings {
         config: &Config,
         node: NodeId,
     ) -> Result<Vec<Delete>, AllocError>
-        requires { storages.now ≡ map.keys topology.now.storages }
-        ensures { IfOk result (λ v. v.items ≡ deletes_of_round.deletes_of (limits_of config.now) topology.now self.now node) }
+        requires { storages.now ≡ map.keys topology.now.cluster.storages }
+        ensures { IfOk result (λ v. v.items ≡ deletes_of_round.deletes_of (limits_of config.now) topology.now.cluster self.now node) }
     {
         let mut deletes = Vec::new(alloc);
         for storage in storages {
-            if topology.has_storage(node, *storage) {
+            if has_storage(topology, node, *storage) {
                 self.add_deletable(topology, *storage, &mut deletes)?;
             }
         }
@@ -96,10 +97,10 @@ impl Holdings {
         nodes: &[NodeId],
         config: &Config,
     ) -> Result<Vec<Delete>, AllocError>
-        requires { nodes.now ≡ map.keys topology.now.nodes }
-        ensures { IfOk result (λ v. v.items ≡ deletes_of_round.deletes (limits_of config.now) topology.now self.now) }
+        requires { nodes.now ≡ map.keys topology.now.cluster.nodes }
+        ensures { IfOk result (λ v. v.items ≡ deletes_of_round.deletes (limits_of config.now) topology.now.cluster self.now) }
     {
-        let storages = topology.storage_ids(alloc)?;
+        let storages = storage_ids(alloc, topology)?;
         let mut deletes = Vec::new(alloc);
         for node in nodes {
             let its_own = self.deletes_of(alloc, topology, storages.as_slice(), config, *node)?;
@@ -167,8 +168,8 @@ pub fn commands_of(
     round: u64,
     deletes: &[Delete],
 ) -> Result<Commands, AllocError>
-    requires { nodes.now ≡ map.keys topology.now.nodes }
-    ensures { IfOk result (λ k. k ≡ rounds.commands_of topology.now round [] deletes.now) }
+    requires { nodes.now ≡ map.keys topology.now.cluster.nodes }
+    ensures { IfOk result (λ k. k ≡ rounds.commands_of topology.now.cluster round [] deletes.now) }
 {
     let told = told_to(alloc, topology, nodes, deletes)?;
     Ok(Commands {
@@ -183,7 +184,7 @@ fn told_to(
     nodes: &[NodeId],
     deletes: &[Delete],
 ) -> Result<Vec<NodeCommands>, AllocError>
-    ensures { IfOk result (λ v. v.items ≡ flat_map (told_to topology.now deletes.now) nodes.now) }
+    ensures { IfOk result (λ v. v.items ≡ flat_map (told_to topology.now.cluster deletes.now) nodes.now) }
 {
     let mut told = Vec::new(alloc);
     for node in nodes {
@@ -201,7 +202,7 @@ fn tell(
     deletes: &[Delete],
     told: &mut Vec<NodeCommands>,
 ) -> Result<(), AllocError>
-    ensures { OnOk result (told.new.items ≡ told.old.items ++ told_to topology.now deletes.now node) }
+    ensures { OnOk result (told.new.items ≡ told.old.items ++ told_to topology.now.cluster deletes.now node) }
 {
     let its_own = deletes_on(alloc, topology, node, deletes)?;
     if its_own.is_empty() {
@@ -222,11 +223,11 @@ fn deletes_on(
     node: NodeId,
     deletes: &[Delete],
 ) -> Result<Vec<Delete>, AllocError>
-    ensures { IfOk result (λ v. v.items ≡ filter (λ d. has_storage topology.now node d.storage) deletes.now) }
+    ensures { IfOk result (λ v. v.items ≡ filter (λ d. replicas_of.has_storage topology.now.cluster node d.storage) deletes.now) }
 {
     let mut its_own = Vec::new(alloc);
     for delete in deletes {
-        if topology.has_storage(node, delete.storage) {
+        if has_storage(topology, node, delete.storage) {
             its_own.push(*delete)?;
         }
     }

@@ -8,5 +8,5 @@ use Rattle.bm_manager.proofs.holdings.drop_replaced.Goals as goal
 pub returns : goal.returns
 unfolding replaces
 returns c =
-    keep-filter by_replica c.args.replicas.now c.retain.new.self (λ q _. not (replaces c.args.topology.now c.args.replica.now q))
+    keep-filter by_replica c.args.replicas.now c.retain.new.self (λ q _. not (replaces c.args.topology.now.cluster c.args.replica.now q))
     (filter_same _ _ _ (λ x b f' k. search rules) _ _ c.retain.ensures)

@@ -7,5 +7,5 @@ use Rattle.bm_manager.proofs.reports.drop_unreported.Goals as goal
 
 pub returns : goal.returns
 returns c =
-    keep-filter by_replica c.args.replicas.now c.retain.new.self (λ q _. not (leaves_by_report c.args.topology.now c.args.storage c.args.entries.now q))
+    keep-filter by_replica c.args.replicas.now c.retain.new.self (λ q _. not (leaves_by_report c.args.topology.now.cluster c.args.storage c.args.entries.now q))
     (filter_same _ _ _ (λ x b f' k. search rules) _ _ c.retain.ensures)

@@ -4,4 +4,4 @@ use Rattle.bm_manager.specs.Told.{told_to}
 use Rattle.bm_manager.proofs.rounds.told_to.Given as goal
 
 abbrev pub invariant-loop-node : goal.invariant-loop-node
-invariant-loop-node l = l.told.items ≡ flat_map (told_to l.topology l.deletes) (take l.node-index l.nodes)
+invariant-loop-node l = l.told.items ≡ flat_map (told_to l.topology.cluster l.deletes) (take l.node-index l.nodes)

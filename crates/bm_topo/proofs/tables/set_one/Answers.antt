@@ -1,6 +1,7 @@
 use Rattle.std.proofs.Common.{ap, sym, ◌∙◌}
 use Rattle.bm_base.specs.Map.{get}
-use Rattle.bm_topo.proofs.Setting.{told_there, no_change}
+use Rattle.bm_base.proofs.Replacing.{no_change}
+use Rattle.bm_topo.proofs.Setting.{told_there}
 use Rattle.bm_topo.proofs.tables.set_one.Goals as goal
 
 pub returns-in-Some : goal.returns-in-Some

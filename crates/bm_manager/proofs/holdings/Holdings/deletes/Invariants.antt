@@ -5,4 +5,4 @@ use Rattle.bm_base.specs.Deletes.{deletes_of}
 use Rattle.bm_manager.proofs.holdings.Holdings.deletes.Given as goal
 
 abbrev pub invariant-loop-node : goal.invariant-loop-node
-invariant-loop-node l = l.deletes.items ≡ flat_map (deletes_of (limits_of l.config) l.topology l.fn.self) (take l.node-index l.nodes)
+invariant-loop-node l = l.deletes.items ≡ flat_map (deletes_of (limits_of l.config) l.topology.cluster l.fn.self) (take l.node-index l.nodes)

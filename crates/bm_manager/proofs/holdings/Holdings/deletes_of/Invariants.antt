@@ -6,4 +6,4 @@ use Rattle.bm_manager.proofs.holdings.Holdings.deletes_of.Given as goal
 
 abbrev pub invariant-loop-storage : goal.invariant-loop-storage
 invariant-loop-storage l =
-    l.deletes.items ≡ flat_map (λ s. if has_storage l.topology l.node s then deletable_on l.topology l.fn.self s else []) (take l.storage-index l.storages)
+    l.deletes.items ≡ flat_map (λ s. if has_storage l.topology.cluster l.node s then deletable_on l.topology.cluster l.fn.self s else []) (take l.storage-index l.storages)

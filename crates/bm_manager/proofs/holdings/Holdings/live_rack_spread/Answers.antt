@@ -14,6 +14,6 @@ returns c =
     let past : length items ≤ c.loop-replica.replica-index = omega arith in
     let none : drop c.loop-replica.replica-index items ≡ [] = drop_of_length-le _ past in
     c.from.ensures ∙ ap from_bool c.is_some.ensures ∙ spread_end c.loop-replica.first
-    ∙ ap (λ es. spread_from c.loop-replica.first (live_racks c.args.topology.now c.args.id es)) (sym none)
-    ∙ c.loop-replica.invariant ∙ ap (λ es. spread (live_racks c.args.topology.now c.args.id es)) c.entries-replica-items.ensures
-    ∙ ap (λ H. spread (live_racks c.args.topology.now c.args.id (entries H.replicas))) c.self.view_is
+    ∙ ap (λ es. spread_from c.loop-replica.first (live_racks c.args.topology.now.cluster c.args.id es)) (sym none)
+    ∙ c.loop-replica.invariant ∙ ap (λ es. spread (live_racks c.args.topology.now.cluster c.args.id es)) c.entries-replica-items.ensures
+    ∙ ap (λ H. spread (live_racks c.args.topology.now.cluster c.args.id (entries H.replicas))) c.self.view_is

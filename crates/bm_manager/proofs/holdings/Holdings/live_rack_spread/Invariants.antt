@@ -13,4 +13,4 @@ live_racks C b es = filter_map (rack_of C) (map (λ e. e.0.storage) (filter (λ 
 
 -- the racks that are left, behind the first that was seen, are spread as all are
 abbrev pub invariant-loop-replica : goal.invariant-loop-replica
-invariant-loop-replica l = spread_from l.first (live_racks l.topology l.id (drop l.replica-index l.replica-items)) ≡ spread (live_racks l.topology l.id l.replica-items)
+invariant-loop-replica l = spread_from l.first (live_racks l.topology.cluster l.id (drop l.replica-index l.replica-items)) ≡ spread (live_racks l.topology.cluster l.id l.replica-items)

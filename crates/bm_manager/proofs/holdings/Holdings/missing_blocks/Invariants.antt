@@ -5,5 +5,5 @@ use Rattle.bm_manager.proofs.holdings.Holdings.missing_blocks.Given as goal
 
 abbrev pub invariant-loop-number : goal.invariant-loop-number
 invariant-loop-number l =
-    l.missing.items ++ filter (λ b. is_at NoLiveReplica (level l.topology l.fn.self b)) (map (λ e. e.0) (drop l.number-index l.number-items))
-    ≡ filter (λ b. is_at NoLiveReplica (level l.topology l.fn.self b)) (map (λ e. e.0) l.number-items)
+    l.missing.items ++ filter (λ b. is_at NoLiveReplica (level l.topology.cluster l.fn.self b)) (map (λ e. e.0) (drop l.number-index l.number-items))
+    ≡ filter (λ b. is_at NoLiveReplica (level l.topology.cluster l.fn.self b)) (map (λ e. e.0) l.number-items)

@@ -14,4 +14,4 @@ reported H s es = map (λ e. (replica_at e.id s, entered H (replica_at e.id s) e
 abbrev pub invariant-loop-entry : goal.invariant-loop-entry
 invariant-loop-entry l =
     insert_all l.replicas (reported l.fn.self l.storage (drop l.entry-index l.entries))
-    ≡ insert_all (keep l.fn.self.replicas (λ q _. not (leaves_by_report l.topology l.storage l.entries q))) (reported l.fn.self l.storage l.entries)
+    ≡ insert_all (keep l.fn.self.replicas (λ q _. not (leaves_by_report l.topology.cluster l.storage l.entries q))) (reported l.fn.self l.storage l.entries)

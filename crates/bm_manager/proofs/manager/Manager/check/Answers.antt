@@ -10,23 +10,23 @@ pub returns-in_err-check-clause-refusal : goal.returns-in_err-check-clause-refus
 returns-in_err-check-clause-refusal c =
     let p = err_from_is_err_and c.from_residual.result c.from_residual.ensures.1 in
     let M = the_view c.self.inside in
-    p.1 ∙ ap Err p.2 ∙ sym (refused_by_cluster M c.args.event.now _ (sym c.check.ensures ∙ c.in_err-check.was)) ∙ ap (λ N. checked (refusal_of N c.args.event.now)) c.self.view_is
+    p.1 ∙ ap Err p.2 ∙ sym (refused_by_cluster M c.args.event.now _ (sym c.check.ensures.refusal ∙ c.in_err-check.was)) ∙ ap (λ N. checked (refusal_of N c.args.event.now)) c.self.view_is
 
 pub returns-in_err-check-2-clause-refusal : goal.returns-in_err-check-2-clause-refusal
 returns-in_err-check-2-clause-refusal c =
     let p = err_from_is_err_and c.from_residual-in_err-check-2.result c.from_residual-in_err-check-2.ensures.1 in
     let M = the_view c.self.inside in
-    p.1 ∙ ap Err p.2 ∙ sym (refused_by_blocks M c.args.event.now _ _ (sym c.check.ensures ∙ c.in_ok-check.was) (sym c.check-2.ensures ∙ c.in_err-check-2.was))
+    p.1 ∙ ap Err p.2 ∙ sym (refused_by_blocks M c.args.event.now _ _ (sym c.check.ensures.refusal ∙ c.in_ok-check.was) (sym c.check-2.ensures ∙ c.in_err-check-2.was))
     ∙ ap (λ N. checked (refusal_of N c.args.event.now)) c.self.view_is
 
 pub returns-then-self-clause-refusal : goal.returns-then-self-clause-refusal
 returns-then-self-clause-refusal c =
     let M = the_view c.self.inside in
-    sym (ap checked (passed_by_both M c.args.event.now _ _ (sym c.check.ensures ∙ c.in_ok-check.was) (sym c.check-2.ensures ∙ c.in_ok-check-2.was) ∙ calls_spent-last M c.if-self.true))
+    sym (ap checked (passed_by_both M c.args.event.now _ _ (sym c.check.ensures.refusal ∙ c.in_ok-check.was) (sym c.check-2.ensures ∙ c.in_ok-check-2.was) ∙ calls_spent-last M c.if-self.true))
     ∙ ap (λ N. checked (refusal_of N c.args.event.now)) c.self.view_is
 
 pub returns-clause-refusal : goal.returns-clause-refusal
 returns-clause-refusal c =
     let M = the_view c.self.inside in
-    sym (ap checked (passed_by_both M c.args.event.now _ _ (sym c.check.ensures ∙ c.in_ok-check.was) (sym c.check-2.ensures ∙ c.in_ok-check-2.was) ∙ calls_spent-below M (omega arith)))
+    sym (ap checked (passed_by_both M c.args.event.now _ _ (sym c.check.ensures.refusal ∙ c.in_ok-check.was) (sym c.check-2.ensures ∙ c.in_ok-check-2.was) ∙ calls_spent-below M (omega arith)))
     ∙ ap (λ N. checked (refusal_of N c.args.event.now)) c.self.view_is

@@ -1,0 +1,16 @@
+use Rattle.std.proofs.Common.{◌≡◌, ◌≤◌, ◌-◌, not, ap, sym, ◌∙◌, arith}
+use Rattle.bm_base.specs.Map.{remove, revise_at}
+use Rattle.bm_base.specs.Events.{restamp, without_pending, revise_block}
+use Rattle.bm_base.specs.Calls.{done}
+use Rattle.bm_manager.specs.contracts.holdings.Holdings.{the_view}
+use Rattle.bm_manager.proofs.Changing.{done-restamp}
+use Rattle.bm_manager.proofs.holdings.Holdings.restamp.Goals as goal
+
+pub returns-clause-done : goal.returns-clause-done
+returns-clause-done c = c.none.ensures ∙ done-restamp (the_view c.self.inside) c.args.id c.args.stamp.now ∙ ap (λ H. done H (restamp H c.args.id c.args.stamp.now)) c.self.view_is
+
+pub returns-clause-state : goal.returns-clause-state
+unfolding restamp without_pending revise_block
+returns-clause-state c =
+    (λ i. record { blocks = c.set_stamp.ensures i; replicas = c.change_block.ensures i; pending = c.drop_pending_block.ensures i })
+    ∙ ap (λ H. restamp H c.args.id c.args.stamp.now) c.self.view_is

@@ -1,0 +1,13 @@
+use Rattle.std.proofs.Common.{◌≡◌, ◌≤◌, ◌-◌, not, ap, sym, ◌∙◌, arith}
+use Rattle.bm_base.specs.Events.{set_replication}
+use Rattle.bm_base.specs.Calls.{done}
+use Rattle.bm_manager.specs.contracts.holdings.Holdings.{the_view}
+use Rattle.bm_manager.proofs.Changing.{done-set_replication}
+use Rattle.bm_manager.proofs.holdings.Holdings.set_replication.Goals as goal
+
+pub returns-clause-done : goal.returns-clause-done
+returns-clause-done c = c.none.ensures ∙ done-set_replication (the_view c.self.inside) c.args.id c.args.repl ∙ ap (λ H. done H (set_replication H c.args.id c.args.repl)) c.self.view_is
+
+pub returns-clause-state : goal.returns-clause-state
+unfolding set_replication
+returns-clause-state c = (λ i. record (the_view c.self.inside) { blocks = c.set_repl.ensures i }) ∙ ap (λ H. set_replication H c.args.id c.args.repl) c.self.view_is

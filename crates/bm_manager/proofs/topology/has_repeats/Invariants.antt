@@ -1,9 +1,0 @@
-use Rattle.std.proofs.Common.{◌≡◌, length}
-use Rattle.bm_base.specs.Lists.{has_repeats}
-use Rattle.bm_manager.proofs.topology.has_repeats.Given as goal
-
-abbrev pub invariant-loop-first : goal.invariant-loop-first
-invariant-loop-first l = has_repeats l.rest ≡ has_repeats l.storages
-
-abbrev pub decreases-loop-first : goal.decreases-loop-first
-decreases-loop-first l = length l.rest
