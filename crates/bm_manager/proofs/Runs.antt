@@ -11,9 +11,9 @@ use Rattle.bm_base.specs.declared.call.Answer.TheVariants as answer
 use Rattle.bm_base.specs.State.{State}
 use Rattle.bm_manager.specs.Built.{built_step}
 use Rattle.bm_base.specs.Levels.{level}
-use Rattle.bm_base.specs.Queries.{all_replicas, corrupt_replicas, missing_blocks, places}
+use Rattle.bm_base.specs.Queries.{all_replicas, corrupt_replicas, excess_replicas, missing_blocks, blocks_on, places}
 use Rattle.bm_base.specs.Calls.{step_with, refused_or, done_by, after_event, counted}
-use Rattle.bm_base.specs.Refusals.{refusal_of, round_refusal, block_refusal}
+use Rattle.bm_base.specs.Refusals.{refusal_of, round_refusal, storage_refusal, block_refusal}
 use Rattle.bm_base.specs.Rounds.{narrow_round}
 use Rattle.bm_base.specs.Answering.{Refuses, MayAnswer, state_left, may_want_memory, is_refused, wants_memory}
 
@@ -69,6 +69,14 @@ step_replicas M = refl
 pub step_corrupt : (M : State) → built_step M call.Corrupt ≡ refused_or M None (answer.ReplicaIds (corrupt_replicas M.holdings), M)
 unfolding built_step step_with
 step_corrupt M = refl
+
+pub step_excess : (M : State) → built_step M call.Excess ≡ refused_or M None (answer.ReplicaIds (excess_replicas M.holdings), M)
+unfolding built_step step_with
+step_excess M = refl
+
+pub step_blocks_on : (M : State) (s : ℕ) → built_step M (call.BlocksOn s) ≡ refused_or M (storage_refusal M.cluster s) (answer.Blocks (blocks_on M.holdings s), M)
+unfolding built_step step_with
+step_blocks_on M s = refl
 
 pub step_missing : (M : State) → built_step M call.Missing ≡ refused_or M None (answer.Blocks (missing_blocks M.cluster M.holdings), M)
 unfolding built_step step_with

@@ -2,11 +2,12 @@
 ghost use Rattle.std.specs.Prelude.{◌≡◌, true, false, None, IfOk, IfErr, OnOk};
 ghost use Rattle.bm_base.specs.Queries as queries;
 ghost use Rattle.bm_base.specs.Levels as levels;
-ghost use Rattle.bm_base.specs.Refusals.{block_refusal};
+ghost use Rattle.bm_base.specs.Refusals.{storage_refusal, block_refusal};
 ghost use Rattle.bm_base.specs.Answering.{Refuses};
 ghost use Rattle.bm_base.specs.declared.refusal.Refusal.TheVariants.{Memory};
 
 use crate::manager::Manager;
+use crate::standing::knows_storage;
 use bm_base::{BlockId, Items, Level, Refusal, Replica, ReplicaId, StorageId};
 
 impl Manager {
@@ -38,6 +39,27 @@ impl Manager {
         ensures refused { IfErr result (λ e. e ≡ Memory) }
     {
         Ok(self.holdings.corrupt_replicas(self.alloc)?)
+    }
+
+    /// The replicas in excess, by block and storage. `Memory`.
+    pub fn excess(&self) -> Result<Items<ReplicaId>, Refusal>
+        ensures excess { IfOk result (λ v. v ≡ queries.excess_replicas self.now.holdings) }
+        ensures refused { IfErr result (λ e. e ≡ Memory) }
+    {
+        Ok(self.holdings.excess_replicas(self.alloc)?)
+    }
+
+    /// The blocks of all replicas on a storage, whatever their tags, rising. `UnknownStorage`; `Memory`.
+    #[tactic(auto, unfolding(bm_base::specs::Refusals::storage_refusal))]
+    pub fn blocks_on(&self, storage: StorageId) -> Result<Items<BlockId>, Refusal>
+        ensures known { OnOk result (storage_refusal self.now.cluster storage ≡ None) }
+        ensures blocks { IfOk result (λ v. v ≡ queries.blocks_on self.now.holdings storage) }
+        ensures refused { IfErr result (Refuses (storage_refusal self.now.cluster storage) true) }
+    {
+        if !knows_storage(&self.topology, storage) {
+            return Err(Refusal::UnknownStorage);
+        }
+        Ok(self.holdings.blocks_on(self.alloc, storage)?)
     }
 
     /// The known blocks of which no replica is live, rising. `Memory`.

@@ -1,7 +1,7 @@
 // Calls as values: one call, and lists of calls.
-ghost use Rattle.std.specs.Prelude.{◌≡◌, IfOk, OnErr, All};
+ghost use Rattle.std.specs.Prelude.{◌≡◌, IfOk, OnErr};
 ghost use Rattle.bm_base.specs.Answering.{MayAnswer, MayAnswerAll, state_left, state_left_by};
-ghost use Rattle.bm_manager.specs.Built.{IsBuiltCall, built_step};
+ghost use Rattle.bm_manager.specs.Built.{built_step};
 
 use crate::manager::Manager;
 use bm_base::{Answer, Call, Items};
@@ -11,7 +11,6 @@ impl Manager {
     /// Makes one call. Its answer is the definition's, or, where the definition refuses nothing and the call is one that
     /// takes memory, `Memory`; a call refused for want of memory leaves the state as it was.
     pub fn answer(&mut self, call: &Call) -> Answer
-        requires { IsBuiltCall call.now }
         ensures answer { MayAnswer built_step self.old call.now result }
         ensures state { self.new ≡ state_left built_step self.old call.now result }
     {
@@ -32,6 +31,14 @@ impl Manager {
                 Ok(corrupt) => Answer::ReplicaIds(corrupt),
                 Err(refusal) => Answer::Refused(refusal),
             },
+            Call::Excess => match self.excess() {
+                Ok(excess) => Answer::ReplicaIds(excess),
+                Err(refusal) => Answer::Refused(refusal),
+            },
+            Call::BlocksOn(storage) => match self.blocks_on(*storage) {
+                Ok(blocks) => Answer::Blocks(blocks),
+                Err(refusal) => Answer::Refused(refusal),
+            },
             Call::Missing => match self.missing() {
                 Ok(missing) => Answer::Blocks(missing),
                 Err(refusal) => Answer::Refused(refusal),
@@ -46,14 +53,12 @@ impl Manager {
             },
             Call::Calls => Answer::Number(self.calls()),
             Call::Rounds => Answer::Number(self.rounds()),
-            _ => unreachable!(),
         }
     }
 
     /// Makes the calls one after another, and gives the answer of each: a run of the definition, in which a call that was
     /// refused for want of memory is passed over. An `Err` comes before the first call, where there is no room for the answers.
     pub fn answer_all(&mut self, calls: &[Call]) -> Result<Items<Answer>, AllocError>
-        requires { All IsBuiltCall calls.now }
         ensures answers { IfOk result (λ answers. MayAnswerAll built_step self.old calls.now answers) }
         ensures state { IfOk result (λ answers. self.new ≡ state_left_by built_step self.old calls.now answers) }
         ensures unchanged { OnErr result (self.new ≡ self.old) }

@@ -55,6 +55,34 @@ impl Holdings {
         Ok(Items::from_vec(corrupt))
     }
 
+    /// The replicas in excess, by block and storage.
+    #[tactic(auto, unfolding(bm_base::specs::Queries::replicas_where))]
+    pub fn excess_replicas(&self, alloc: Global) -> Result<Items<ReplicaId>, AllocError>
+        ensures { IfOk result (λ v. v ≡ queries.excess_replicas self.now) }
+    {
+        let mut excess = Vec::new(alloc);
+        for (replica, marks) in self.replicas.entries() {
+            if marks.excess {
+                excess.push(*replica)?;
+            }
+        }
+        Ok(Items::from_vec(excess))
+    }
+
+    /// The blocks of all replicas on a storage, whatever their tags, rising.
+    #[tactic(auto, unfolding(bm_base::specs::Queries::blocks_on))]
+    pub fn blocks_on(&self, alloc: Global, storage: StorageId) -> Result<Items<BlockId>, AllocError>
+        ensures { IfOk result (λ v. v ≡ queries.blocks_on self.now storage) }
+    {
+        let mut blocks = Vec::new(alloc);
+        for (replica, _) in self.replicas.entries() {
+            if replica.storage == storage {
+                blocks.push(replica.block)?;
+            }
+        }
+        Ok(Items::from_vec(blocks))
+    }
+
     /// The known blocks of which no replica is live, rising.
     #[tactic(auto, unfolding(bm_base::specs::Queries::missing_blocks, bm_base::specs::Map::keys))]
     pub fn missing_blocks(

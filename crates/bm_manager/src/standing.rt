@@ -2,6 +2,7 @@
 ghost use Rattle.std.specs.Prelude.{◌≡◌, IfOk};
 ghost use Rattle.bm_base.specs.Map as map;
 ghost use Rattle.bm_base.specs.Replicas as replicas;
+ghost use Rattle.bm_base.specs.Refusals.{knows_storage};
 
 use bm_base::{NodeId, StorageId};
 use bm_topo::Topology;
@@ -16,6 +17,13 @@ pub fn has_storage(topology: &Topology, node: NodeId, storage: StorageId) -> boo
         Some(its_node) => its_node == node,
         None => false,
     }
+}
+
+#[tactic(auto, unfolding(bm_base::specs::Refusals::knows_storage, bm_base::specs::Replicas::node_of))]
+pub fn knows_storage(topology: &Topology, storage: StorageId) -> bool
+    ensures { result ≡ knows_storage topology.now.cluster storage }
+{
+    topology.node_of(storage).is_some()
 }
 
 /// Whether two storages are different ones of one node.

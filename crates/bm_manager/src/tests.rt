@@ -1,6 +1,4 @@
 // With ample memory each call that takes some is accepted, and answers what the worked examples say.
-ghost use Rattle.std.specs.Prelude.{IfOk};
-ghost use Rattle.bm_manager.specs.Built.{IsBuiltCall};
 
 use crate::Manager;
 use bm_base::{
@@ -16,9 +14,7 @@ fn stamp(generation: u64) -> Stamp {
     }
 }
 
-fn register(alloc: Global, node: u32, storages: &[StorageId]) -> Result<Call, AllocError>
-    ensures { IfOk result IsBuiltCall }
-{
+fn register(alloc: Global, node: u32, storages: &[StorageId]) -> Result<Call, AllocError> {
     let storages = Vec::from_slice(alloc, storages)?;
     Ok(Call::Apply(Event::Register {
         node: NodeId(node),
@@ -27,9 +23,7 @@ fn register(alloc: Global, node: u32, storages: &[StorageId]) -> Result<Call, Al
     }))
 }
 
-fn received(storage: u32, generation: u64) -> Call
-    ensures { IsBuiltCall result }
-{
+fn received(storage: u32, generation: u64) -> Call {
     Call::Apply(Event::Received {
         storage: StorageId(storage),
         id: BlockId(7),

@@ -33,7 +33,7 @@ returns-in_default c =
     let g = changed_entry c.args.change c.args.id in
     let es = entries c.args.replicas.now in
     let none : slice_get es c.loop-at.at ≡ None =
-        sym (found_next g es c.loop-at.at) ∙ ap (λ xs. slice_get xs c.loop-at.at) (sym c.loop-at.invariant.entries) ∙ sym c.entry_at.ensures ∙ c.in_default.is in
+    sym (found_next g es c.loop-at.at) ∙ ap (λ xs. slice_get xs c.loop-at.at) (sym c.loop-at.invariant.entries) ∙ sym c.entry_at.ensures ∙ c.in_default.is in
     revise-mapped by_replica c.args.replicas.now c.loop-at.replicas (λ q m. if q.block == c.args.id then changed c.args.change m else m) (c.loop-at.invariant.entries ∙ ended_there g es c.loop-at.at none)
 
 pub returns : goal.returns

@@ -3,7 +3,7 @@ use Rattle.std.proofs.Common.{ap, sym, subst, ◌∙◌, refl}
 use Rattle.bm_base.specs.declared.call.Answer.TheVariants as answer
 use Rattle.bm_base.specs.Answering.{MayAnswer, state_left}
 use Rattle.bm_manager.specs.Built.{built_step}
-use Rattle.bm_manager.proofs.Runs.{ok_answer, ok_left, err_answer, err_left, step_answer, memory_answer, step_apply, step_round, step_replicas, step_corrupt, step_missing, step_places, step_level, step_calls, step_rounds}
+use Rattle.bm_manager.proofs.Runs.{ok_answer, ok_left, err_answer, err_left, step_answer, memory_answer, step_apply, step_round, step_replicas, step_corrupt, step_excess, step_blocks_on, step_missing, step_places, step_level, step_calls, step_rounds}
 use Rattle.bm_manager.proofs.manager.Manager.answer.Goals as goal
 
 pub returns-in-Ok-clause-answer : goal.returns-in-Ok-clause-answer
@@ -158,3 +158,40 @@ pub returns-in-Rounds-clause-state : goal.returns-in-Rounds-clause-state
 returns-in-Rounds-clause-state c =
     let M = c.args.self.now in
     sym (ap (λ y. y.1) (step_rounds M)) ∙ ap (λ k. (built_step M k).1) (sym c.in-Rounds.is)
+
+pub returns-in-Ok-excess-clause-answer : goal.returns-in-Ok-excess-clause-answer
+returns-in-Ok-excess-clause-answer c =
+    let M = c.args.self.now in
+    subst (λ k. MayAnswer built_step M k (answer.ReplicaIds c.in-Ok-excess.excess)) (sym c.in-Excess.is) (step_answer M _ _ _ (step_excess M) (ap answer.ReplicaIds c.in-Ok-excess.ensures.excess))
+
+pub returns-in-Ok-excess-clause-state : goal.returns-in-Ok-excess-clause-state
+returns-in-Ok-excess-clause-state c =
+    let M = c.args.self.now in
+    sym (ap (λ y. y.1) (step_excess M)) ∙ ap (λ k. (built_step M k).1) (sym c.in-Excess.is)
+
+pub returns-in-Err-excess-clause-answer : goal.returns-in-Err-excess-clause-answer
+returns-in-Err-excess-clause-answer c =
+    let M = c.args.self.now in
+    subst (λ k. MayAnswer built_step M k (answer.Refused c.in-Err-excess.refusal)) (sym c.in-Excess.is) (memory_answer M _ _ (step_excess M) refl refl c.in-Err-excess.ensures.refused)
+
+pub returns-in-Ok-blocks_on-clause-answer : goal.returns-in-Ok-blocks_on-clause-answer
+returns-in-Ok-blocks_on-clause-answer c =
+    let M = c.args.self.now in
+    subst (λ k. MayAnswer built_step M k (answer.Blocks c.in-Ok-blocks_on.blocks)) (sym c.in-BlocksOn.is) (ok_answer M _ _ _ (step_blocks_on M c.in-BlocksOn.storage) _ c.in-Ok-blocks_on.ensures.known (ap answer.Blocks c.in-Ok-blocks_on.ensures.blocks))
+
+pub returns-in-Ok-blocks_on-clause-state : goal.returns-in-Ok-blocks_on-clause-state
+returns-in-Ok-blocks_on-clause-state c =
+    let M = c.args.self.now in
+    ok_left M _ _ _ (step_blocks_on M c.in-BlocksOn.storage) M c.in-Ok-blocks_on.ensures.known refl ∙ ap (λ k. (built_step M k).1) (sym c.in-BlocksOn.is)
+
+pub returns-in-Err-blocks_on-clause-answer : goal.returns-in-Err-blocks_on-clause-answer
+returns-in-Err-blocks_on-clause-answer c =
+    let M = c.args.self.now in
+    subst (λ k. MayAnswer built_step M k (answer.Refused c.in-Err-blocks_on.refusal)) (sym c.in-BlocksOn.is)
+    (err_answer M _ _ _ (step_blocks_on M c.in-BlocksOn.storage) c.in-Err-blocks_on.refusal refl c.in-Err-blocks_on.ensures.refused)
+
+pub returns-in-Err-blocks_on-clause-state : goal.returns-in-Err-blocks_on-clause-state
+returns-in-Err-blocks_on-clause-state c =
+    let M = c.args.self.now in
+    err_left M _ _ _ (step_blocks_on M c.in-BlocksOn.storage) M c.in-Err-blocks_on.refusal c.in-Err-blocks_on.ensures.refused refl
+    ∙ ap (λ k. state_left built_step M k (answer.Refused c.in-Err-blocks_on.refusal)) (sym c.in-BlocksOn.is)
