@@ -8,7 +8,7 @@ use Rattle.serde_json.specs.Read.{read}
 use Rattle.serde_json.specs.Find.{as_array, get}
 use Rattle.serde_json.specs.View.{view, items_of, items_view}
 use Rattle.serde_json.specs.declared.value.Value.{Value}
-use Rattle.bm_tool.specs.Fields.{listed, each, small_in, small_list_field, entry_among, entry_in, entries_field}
+use Rattle.bm_tool.specs.Fields.{listed, each, small_in, small_list_field, entry_among, entry_in, entries_field, remaining_among, remaining_in, remaining_field}
 use Rattle.bm_tool.specs.CallOf.{view_of}
 
 pub view_of-text : (line : List ℕ) (d : Data) → IsUtf8 line → read line ≡ Some d → Some d ≡ view_of line
@@ -43,3 +43,15 @@ entry_in-none d e = rw (← e) refl
 pub entries_field-items : (name : List ℕ) (vs : List Value) (d : Data) → Some (items_view vs) ≡ option_and_then as_array (get name d)
     → each entry_in (map view vs) ≡ entries_field name d
 entries_field-items name vs d e = rw (← e, listed-items) refl
+
+pub remaining_in-items : (vs : List Value) (d : Data) → Some (items_view vs) ≡ as_array d → remaining_among (map view vs) ≡ remaining_in d
+unfolding remaining_in
+remaining_in-items vs d e = rw (← e, listed-items) refl
+
+pub remaining_in-none : (d : Data) → None ≡ as_array d → None ≡ remaining_in d
+unfolding remaining_in
+remaining_in-none d e = rw (← e) refl
+
+pub remaining_field-items : (name : List ℕ) (vs : List Value) (d : Data) → Some (items_view vs) ≡ option_and_then as_array (get name d)
+    → each remaining_in (map view vs) ≡ remaining_field name d
+remaining_field-items name vs d e = rw (← e, listed-items) refl

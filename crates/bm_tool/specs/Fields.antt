@@ -4,6 +4,7 @@ use Rattle.serde_json.specs.Data.{Data, Items, no_items, item}
 use Rattle.serde_json.specs.Find.{get, as_number, as_u64, as_array}
 use Rattle.bm_base.specs.declared.replica.Stamp.{Stamp}
 use Rattle.bm_base.specs.declared.event.Entry.{Entry}
+use Rattle.bm_base.specs.declared.event.Remaining.{Remaining}
 
 -- a whole number below 2^64
 abbrev pub number_in : Data → Option ℕ
@@ -55,3 +56,19 @@ entry_in d = option_and_then (λ items. entry_among (listed items)) (as_array d)
 -- a list of such
 abbrev pub entries_field : List ℕ → Data → Option (List Entry)
 entries_field name d = option_and_then (λ items. each entry_in (listed items)) (option_and_then as_array (get name d))
+
+abbrev pub remaining_from : Option ℕ → Option ℕ → Option Remaining
+remaining_from (Some storage) (Some remaining) = Some (record { storage = storage; remaining = remaining })
+remaining_from _ _ = None
+
+-- two numbers: a storage, and the bytes remaining there
+abbrev pub remaining_among : List Data → Option Remaining
+remaining_among (storage ∷ remaining ∷ []) = remaining_from (small_in storage) (number_in remaining)
+remaining_among _ = None
+
+unfoldable pub remaining_in : Data → Option Remaining
+remaining_in d = option_and_then (λ items. remaining_among (listed items)) (as_array d)
+
+-- a list of such
+abbrev pub remaining_field : List ℕ → Data → Option (List Remaining)
+remaining_field name d = option_and_then (λ items. each remaining_in (listed items)) (option_and_then as_array (get name d))

@@ -6,7 +6,6 @@ pub mod Op
 pub mod Fields
 pub mod CallOf
 pub mod Print
-pub mod Built
 pub mod Text
 pub mod Held
 pub mod Starting

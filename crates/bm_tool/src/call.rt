@@ -1,19 +1,20 @@
 // The call that a line asks for.
-ghost use Rattle.std.specs.Prelude.{◌≡◌, IfOk, IfSome, option_map, vec_items};
+ghost use Rattle.std.specs.Prelude.{◌≡◌, IfOk, option_map, codes};
 ghost use Rattle.serde_json.specs.View.{view};
-ghost use Rattle.bm_manager.specs.Built.{IsBuiltCall};
-ghost use Rattle.bm_tool.specs.CallOf.{register_from, add_from, received_from, report_from, stamp_fields, call_in, call_of, view_of};
+ghost use Rattle.bm_tool.specs.CallOf.{register_from, heartbeat_from, report_from, call_for, call_in, call_of, view_of};
+ghost use Rattle.bm_tool.specs.Fields.{small_field, small_list_field, entries_field, remaining_field};
 
-use crate::fields::{entries_field, number_field, small_field, stamp_from, storages_field};
+use crate::fields::{entries_field, number_field, remaining_field, small_field, storages_field};
+use crate::from_fields as from;
+use crate::from_fields::stamp_fields;
 use crate::op::{Op, op_of};
-use bm_base::{BlockId, Call, Entry, Event, Items, NodeId, Rack, Stamp, StorageId};
+use bm_base::Call;
 use serde_json::Value;
 use std::alloc::{AllocError, Global};
 
 /// The call that a line asks for, or `None` where it asks for none.
 pub fn call_of(alloc: Global, line: &[u8]) -> Result<Option<Call>, AllocError>
-    ensures call { IfOk result (λ o. o ≡ call_of line.now) }
-    ensures built { IfOk result (λ o. IfSome o IsBuiltCall) }
+    ensures { IfOk result (λ o. o ≡ call_of line.now) }
 {
     match value_of(alloc, line)? {
         Some(value) => call_in(alloc, &value),
@@ -38,110 +39,63 @@ fn value_of(alloc: Global, line: &[u8]) -> Result<Option<Value>, AllocError>
 }
 
 fn call_in(alloc: Global, value: &Value) -> Result<Option<Call>, AllocError>
-    ensures call { IfOk result (λ o. o ≡ call_in (view value.now)) }
-    ensures built { IfOk result (λ o. IfSome o IsBuiltCall) }
+    ensures { IfOk result (λ o. o ≡ call_in (view value.now)) }
 {
     match value.get("op").and_then(Value::as_str).and_then(op_of) {
-        Some(Op::Register) => {
-            let node = small_field(value, "node");
-            let rack = small_field(value, "rack");
-            let storages = storages_field(alloc, value, "storages")?;
-            Ok(register_from(node, rack, storages))
-        }
-        Some(Op::Add) => {
-            let id = number_field(value, "id");
-            let stamp = stamp_fields(value);
-            let repl = small_field(value, "repl");
-            Ok(add_from(id, stamp, repl))
-        }
-        Some(Op::Received) => {
-            let storage = small_field(value, "storage");
-            let id = number_field(value, "id");
-            let stamp = stamp_fields(value);
-            Ok(received_from(storage, id, stamp))
-        }
-        Some(Op::Report) => {
-            let storage = small_field(value, "storage");
-            let entries = entries_field(alloc, value, "blocks")?;
-            Ok(report_from(storage, entries))
-        }
-        Some(Op::Round) => Ok(Some(Call::Round)),
-        Some(Op::ListReplicas) => Ok(Some(Call::Replicas)),
-        Some(Op::ListCorrupt) => Ok(Some(Call::Corrupt)),
-        Some(Op::ListMissing) => Ok(Some(Call::Missing)),
-        Some(Op::ListPlaces) => match number_field(value, "id") {
-            Some(id) => Ok(Some(Call::Places(BlockId(id)))),
-            None => Ok(None),
-        },
-        Some(Op::Level) => match number_field(value, "id") {
-            Some(id) => Ok(Some(Call::LevelOf(BlockId(id)))),
-            None => Ok(None),
-        },
+        Some(op) => call_for(alloc, op, value),
         None => Ok(None),
     }
 }
 
-fn register_from(
-    node: Option<u32>,
-    rack: Option<u32>,
-    storages: Option<Vec<StorageId>>,
-) -> Option<Call>
-    ensures call { result ≡ register_from node rack (option_map (λ v. v.items) storages) }
-    ensures built { IfSome result IsBuiltCall }
+/// The call of this name with the fields of the object, or `None` where one is missing.
+fn call_for(alloc: Global, op: Op, value: &Value) -> Result<Option<Call>, AllocError>
+    ensures { IfOk result (λ o. o ≡ call_for op (view value.now)) }
 {
-    match (node, rack, storages) {
-        (Some(node), Some(rack), Some(storages)) => Some(Call::Apply(Event::Register {
-            node: NodeId(node),
-            rack: Rack(rack),
-            storages: Items::from_vec(storages),
-        })),
-        _ => None,
+    let node = small_field(value, "node");
+    let storage = small_field(value, "storage");
+    let id = number_field(value, "id");
+    let repl = small_field(value, "repl");
+    match op {
+        Op::Register => register(alloc, node, value),
+        Op::Heartbeat => heartbeat(alloc, node, value),
+        Op::Dead => Ok(from::dead_from(node)),
+        Op::StorageFailed => Ok(from::storage_failed_from(storage)),
+        Op::Add => Ok(from::add_from(id, stamp_fields(value), repl)),
+        Op::Delete => Ok(from::delete_from(id)),
+        Op::SetReplication => Ok(from::set_replication_from(id, repl)),
+        Op::Restamp => Ok(from::restamp_from(id, stamp_fields(value))),
+        Op::Received => Ok(from::received_from(storage, id, stamp_fields(value))),
+        Op::Deleted => Ok(from::deleted_from(storage, id)),
+        Op::Corrupt => Ok(from::corrupt_from(storage, id)),
+        Op::Report => report(alloc, storage, value),
+        Op::Round => Ok(Some(Call::Round)),
+        Op::ListReplicas => Ok(Some(Call::Replicas)),
+        Op::ListCorrupt => Ok(Some(Call::Corrupt)),
+        Op::ListMissing => Ok(Some(Call::Missing)),
+        Op::ListStorage => Ok(from::blocks_on_from(storage)),
+        Op::ListPlaces => Ok(from::places_from(id)),
+        Op::Level => Ok(from::level_from(id)),
     }
 }
 
-fn add_from(id: Option<u64>, stamp: Option<Stamp>, repl: Option<u32>) -> Option<Call>
-    ensures call { result ≡ add_from id stamp repl }
-    ensures built { IfSome result IsBuiltCall }
+fn register(alloc: Global, node: Option<u32>, value: &Value) -> Result<Option<Call>, AllocError>
+    ensures { IfOk result (λ o. o ≡ register_from node (small_field (codes "rack") (view value.now)) (small_list_field (codes "storages") (view value.now))) }
 {
-    match (id, stamp, repl) {
-        (Some(id), Some(stamp), Some(repl)) => Some(Call::Apply(Event::AddBlock {
-            id: BlockId(id),
-            stamp,
-            repl,
-        })),
-        _ => None,
-    }
+    let rack = small_field(value, "rack");
+    let storages = storages_field(alloc, value, "storages")?;
+    Ok(from::register_from(node, rack, storages))
 }
 
-fn received_from(storage: Option<u32>, id: Option<u64>, stamp: Option<Stamp>) -> Option<Call>
-    ensures call { result ≡ received_from storage id stamp }
-    ensures built { IfSome result IsBuiltCall }
+fn heartbeat(alloc: Global, node: Option<u32>, value: &Value) -> Result<Option<Call>, AllocError>
+    ensures { IfOk result (λ o. o ≡ heartbeat_from node (remaining_field (codes "remaining") (view value.now))) }
 {
-    match (storage, id, stamp) {
-        (Some(storage), Some(id), Some(stamp)) => Some(Call::Apply(Event::Received {
-            storage: StorageId(storage),
-            id: BlockId(id),
-            stamp,
-        })),
-        _ => None,
-    }
+    let remaining = remaining_field(alloc, value, "remaining")?;
+    Ok(from::heartbeat_from(node, remaining))
 }
 
-fn report_from(storage: Option<u32>, entries: Option<Vec<Entry>>) -> Option<Call>
-    ensures call { result ≡ report_from storage (option_map (λ v. v.items) entries) }
-    ensures built { IfSome result IsBuiltCall }
+fn report(alloc: Global, storage: Option<u32>, value: &Value) -> Result<Option<Call>, AllocError>
+    ensures { IfOk result (λ o. o ≡ report_from storage (entries_field (codes "blocks") (view value.now))) }
 {
-    match (storage, entries) {
-        (Some(storage), Some(entries)) => Some(Call::Apply(Event::FullReport {
-            storage: StorageId(storage),
-            entries: Items::from_vec(entries),
-        })),
-        _ => None,
-    }
-}
-
-fn stamp_fields(value: &Value) -> Option<Stamp>
-    ensures { result ≡ stamp_fields (view value.now) }
-{
-    stamp_from(number_field(value, "gen"), number_field(value, "len"))
+    let entries = entries_field(alloc, value, "blocks")?;
+    Ok(from::report_from(storage, entries))
 }

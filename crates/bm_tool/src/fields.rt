@@ -2,9 +2,9 @@
 ghost use Rattle.std.specs.Prelude.{◌≡◌, IfOk, option_map, option_and_then, map};
 ghost use Rattle.serde_json.specs.Find.{as_array, get};
 ghost use Rattle.serde_json.specs.View.{view, items_view};
-ghost use Rattle.bm_tool.specs.Fields.{number_field, small_in, small_field, each, small_list_field, stamp_from, entry_from, entry_among, entry_in, entries_field};
+ghost use Rattle.bm_tool.specs.Fields.{number_field, small_in, small_field, each, small_list_field, stamp_from, entry_from, entry_among, entry_in, entries_field, remaining_from, remaining_among, remaining_in, remaining_field};
 
-use bm_base::{BlockId, Entry, Gen, Stamp, StorageId};
+use bm_base::{BlockId, Entry, Gen, Remaining, Stamp, StorageId};
 use serde_json::Value;
 use std::alloc::{AllocError, Global};
 
@@ -107,6 +107,63 @@ fn entry_among(items: &[Value]) -> Option<Entry>
         [id, generation, len] => {
             entry_from(id.as_u64(), stamp_from(generation.as_u64(), len.as_u64()))
         }
+        _ => None,
+    }
+}
+
+/// A list of storage and remaining bytes, two numbers each.
+pub fn remaining_field(
+    alloc: Global,
+    value: &Value,
+    name: &str,
+) -> Result<Option<Vec<Remaining>>, AllocError>
+    ensures { IfOk result (λ o. option_map (λ v. v.items) o ≡ remaining_field name.now (view value.now)) }
+{
+    match list_field(value, name) {
+        Some(items) => remaining_of(alloc, items.as_slice()),
+        None => Ok(None),
+    }
+}
+
+fn remaining_of(alloc: Global, items: &[Value]) -> Result<Option<Vec<Remaining>>, AllocError>
+    ensures { IfOk result (λ o. option_map (λ v. v.items) o ≡ each remaining_in (map view items.now)) }
+{
+    let mut told = Vec::new(alloc);
+    for item in items {
+        match remaining_in(item) {
+            Some(remaining) => told.push(remaining)?,
+            None => return Ok(None),
+        }
+    }
+    Ok(Some(told))
+}
+
+fn remaining_in(value: &Value) -> Option<Remaining>
+    ensures { result ≡ remaining_in (view value.now) }
+{
+    match value.as_array() {
+        Some(items) => remaining_among(items.as_slice()),
+        None => None,
+    }
+}
+
+fn remaining_among(items: &[Value]) -> Option<Remaining>
+    ensures { result ≡ remaining_among (map view items.now) }
+{
+    match items {
+        [storage, remaining] => remaining_from(small_in(storage), remaining.as_u64()),
+        _ => None,
+    }
+}
+
+fn remaining_from(storage: Option<u32>, remaining: Option<u64>) -> Option<Remaining>
+    ensures { result ≡ remaining_from storage remaining }
+{
+    match (storage, remaining) {
+        (Some(storage), Some(remaining)) => Some(Remaining {
+            storage: StorageId(storage),
+            remaining,
+        }),
         _ => None,
     }
 }

@@ -6,6 +6,7 @@ mod call;
 mod ends;
 mod fault;
 mod fields;
+mod from_fields;
 mod line;
 mod op;
 mod print;

@@ -1,7 +1,6 @@
 // The answer to one line.
 ghost use Rattle.std.specs.Prelude.{◌≡◌, IfOk, List, ℕ, string_bytes, true, false};
 ghost use Rattle.bm_base.specs.Answering.{wants_memory, is_refused};
-ghost use Rattle.bm_tool.specs.Built.{IsBuiltAsked};
 ghost use Rattle.bm_tool.specs.Held.{Holds};
 ghost use Rattle.bm_tool.specs.Lines.{ended};
 ghost use Rattle.bm_tool.specs.Print.{answer_text};
@@ -33,8 +32,7 @@ pub struct Reply {
 
 /// What the line that is held asks.
 pub fn asked_by(alloc: Global, line: &Line) -> Result<Asked, AllocError>
-    ensures asked { IfOk result (λ a. (rest : List ℕ) → Holds line.now rest → a ≡ asked rest) }
-    ensures built { IfOk result IsBuiltAsked }
+    ensures { IfOk result (λ a. (rest : List ℕ) → Holds line.now rest → a ≡ asked rest) }
 {
     if line.is_long {
         return Ok(Asked::Long);
@@ -47,7 +45,6 @@ pub fn asked_by(alloc: Global, line: &Line) -> Result<Asked, AllocError>
 
 /// Makes the call, if there is one. Where memory runs out, the manager may have taken it.
 pub fn reply_to(alloc: Global, manager: &mut Manager, asked: &Asked) -> Result<Reply, AllocError>
-    requires { IsBuiltAsked asked.now }
     ensures text { IfOk result (λ r. string_bytes r.text ≡ ended (asked_text manager.old asked.now)) }
     ensures refused { IfOk result (λ r. r.is_refused ≡ asked_refused manager.old asked.now) }
     ensures next { IfOk result (λ _. manager.new ≡ asked_next manager.old asked.now) }

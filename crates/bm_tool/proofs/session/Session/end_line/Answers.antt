@@ -5,4 +5,4 @@ use Rattle.bm_tool.proofs.session.Session.end_line.Goals as goal
 pub returns-clause-ok : goal.returns-clause-ok
 returns-clause-ok g c = λ M start bytes p.
     let wrote = at_success c.write_all.result c.is_err.result c.is_err.ensures.value c.if-is_err.false c.write_all.ensures.bytes in
-    progress_end M start _ _ c.args.self.now _ bytes c.in_ok-asked.asked p c.in_ok-asked.ensures.asked (rw (← c.in_ok-reply.ensures.text, ← c.as_bytes.ensures.value) wrote) c.in_ok-reply.ensures.next refl (rw (← c.in_ok-reply.ensures.refused, c.from.ensures) (ap (λ n. c.args.self.now.refused + n) (one_if _))) c.clear.ensures.holds
+    progress_end M start _ _ c.args.self.now _ bytes c.in_ok-asked.asked p c.in_ok-asked.ensures (rw (← c.in_ok-reply.ensures.text, ← c.as_bytes.ensures.value) wrote) c.in_ok-reply.ensures.next refl (rw (← c.in_ok-reply.ensures.refused, c.from.ensures) (ap (λ n. c.args.self.now.refused + n) (one_if _))) c.clear.ensures.holds
