@@ -1,6 +1,7 @@
 // What no clause says: that with memory to spare runs succeed, the worked examples, lines as people write them, and streams
 // that fail. Each expected line is written by hand from the rules in docs/FORMATS.md.
 mod calls;
+mod cluster;
 mod lines;
 mod reports;
 mod rounds;

@@ -45,7 +45,7 @@ fn fields_come_as_serde_json_holds_them(rt: HostRuntime) {
         ),
         // Ops that are none, or not here.
         ("{\"op\":\"fly\"}\n", BAD),
-        ("{\"op\":\"heartbeat\",\"node\":1,\"remaining\":[]}\n", BAD),
+        ("{\"op\":\"list_excess\"}\n", BAD),
         (
             "{\"op\":\"Register\",\"node\":1,\"rack\":1,\"storages\":[]}\n",
             BAD,

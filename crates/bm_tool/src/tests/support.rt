@@ -3,15 +3,40 @@ ghost use Rattle.std.specs.Prelude.{◌≡◌, IfOk};
 
 use crate::{Counted, Fault, Summary, run};
 use bm_base::Config;
-use std::alloc::Global;
+use std::alloc::{AllocError, Global};
 use std::io;
 use std::io::{Read, Write};
+use std::test::Fail;
 
 /// The first path through the tool: a node, a block, its first replica and its places.
 pub const FIRST_PATH: &str =
     "{\"op\":\"register\",\"node\":1,\"rack\":1,\"storages\":[11]}\n{\"op\":\"add\",\"id\":7,\"gen\":1,\"len\":10,\"repl\":3}\n{\"op\":\"received\",\"storage\":11,\"id\":7,\"gen\":1,\"len\":10}\n{\"op\":\"list_places\",\"id\":7}\n";
 
 pub const FIRST_PATH_ANSWERS: &str = "ok 0 0\nok 0 0\nok 1 0\nplaces 7; 11\n";
+
+/// Four DataNodes with a storage each, two on each of two racks, and 1,000 bytes free on each storage.
+const CLUSTER: &str =
+    "{\"op\":\"register\",\"node\":1,\"rack\":1,\"storages\":[11]}\n{\"op\":\"register\",\"node\":2,\"rack\":1,\"storages\":[21]}\n{\"op\":\"register\",\"node\":3,\"rack\":2,\"storages\":[31]}\n{\"op\":\"register\",\"node\":4,\"rack\":2,\"storages\":[41]}\n{\"op\":\"heartbeat\",\"node\":1,\"remaining\":[[11,1000]]}\n{\"op\":\"heartbeat\",\"node\":2,\"remaining\":[[21,1000]]}\n{\"op\":\"heartbeat\",\"node\":3,\"remaining\":[[31,1000]]}\n{\"op\":\"heartbeat\",\"node\":4,\"remaining\":[[41,1000]]}\n";
+
+/// The lines of the cluster and a script behind them.
+pub fn cluster_then(alloc: Global, script: &str) -> Result<Vec<u8>, AllocError> {
+    let mut input = Vec::new(alloc);
+    input.extend_from_slice(CLUSTER.as_bytes())?;
+    input.extend_from_slice(script.as_bytes())?;
+    Ok(input)
+}
+
+/// What is answered to a script on the cluster, which must end without a fault.
+pub fn answers_on_cluster<H>(rt: &H, alloc: Global, script: &str) -> Result<Vec<u8>, Fail> {
+    let input = cluster_then(alloc, script)?;
+    let (result, text) = run_over(rt, alloc, input.as_slice());
+    if result.is_err() {
+        return Ok(Vec::new(alloc));
+    }
+    // Behind the eight answers `ok 0 0` to the cluster's own lines.
+    let answers = text.as_slice().get(56..).unwrap_or(&[]);
+    Ok(Vec::from_slice(alloc, answers)?)
+}
 
 /// What `run` answers and writes for an input in memory.
 pub fn run_with<H>(
