@@ -5,6 +5,7 @@ mod cluster;
 mod lines;
 mod reports;
 mod rounds;
+mod story;
 mod streams;
 mod support;
 mod vectors;

@@ -14,39 +14,67 @@ const BLOCK: BlockId = BlockId(7);
 const OTHER_BLOCK: BlockId = BlockId(8);
 
 fn main(rt: HostRuntime) -> io::Result<()> {
-    let alloc = rt.alloc();
-    let Ok(mut manager) = manager_with_cluster(alloc) else {
-        return rt.println("no memory to begin with");
-    };
-    let Ok(told) = heartbeat(alloc) else {
-        return rt.println("no memory to begin with");
-    };
-    rt.println("begun")?;
-    rt.println(accepted(&mut manager, &told))?;
-    rt.println(accepted(&mut manager, &set_replication()))?;
-    rt.println(accepted(&mut manager, &restamp()))?;
-    rt.println(accepted(&mut manager, &corrupt()))?;
-    rt.println(accepted(&mut manager, &deleted()))?;
-    rt.println(accepted(&mut manager, &delete_block()))
+    match begin(rt.alloc()) {
+        Ok((mut manager, told)) => {
+            rt.println("begun")?;
+            tell(&rt, &mut manager, &told)?;
+            tell_of_blocks(&rt, &mut manager)
+        }
+        Err(_) => rt.println("no memory to begin with"),
+    }
 }
 
-/// A node with two storages, two blocks, and replicas of both.
+/// The manager, and the one event that holds memory.
+fn begin(alloc: Global) -> Result<(Manager, Event), Refusal> {
+    let manager = manager_with_cluster(alloc)?;
+    let told = heartbeat(alloc)?;
+    Ok((manager, told))
+}
+
+fn tell_of_blocks<R: Print>(rt: &R, manager: &mut Manager) -> io::Result<()> {
+    tell(rt, manager, &set_replication())?;
+    tell(rt, manager, &restamp())?;
+    tell(rt, manager, &corrupt())?;
+    tell(rt, manager, &deleted())?;
+    tell(rt, manager, &delete_block())
+}
+
+/// Gives the manager an event, and says whether it is accepted.
+fn tell<R: Print>(rt: &R, manager: &mut Manager, event: &Event) -> io::Result<()> {
+    let is_accepted = manager.apply(event).is_ok();
+    rt.println(if is_accepted { "accepted" } else { "refused" })
+}
+
+/// A node with two storages, two blocks, and a replica of each.
 fn manager_with_cluster(alloc: Global) -> Result<Manager, Refusal> {
     let mut manager = Manager::new(alloc, Config::standard())?;
     manager.apply(&register(alloc)?)?;
-    for id in [BLOCK, OTHER_BLOCK] {
-        manager.apply(&Event::AddBlock {
-            id,
-            stamp: stamp(1),
-            repl: 2,
-        })?;
-        manager.apply(&Event::Received {
-            storage: StorageId(11),
-            id,
-            stamp: stamp(1),
-        })?;
-    }
+    store(&mut manager, BLOCK)?;
+    store(&mut manager, OTHER_BLOCK)?;
     Ok(manager)
+}
+
+/// Adds a block and a replica of it.
+fn store(manager: &mut Manager, id: BlockId) -> Result<(), Refusal> {
+    manager.apply(&add_block(id))?;
+    manager.apply(&received(id))?;
+    Ok(())
+}
+
+fn add_block(id: BlockId) -> Event {
+    Event::AddBlock {
+        id,
+        stamp: stamp(1),
+        repl: 2,
+    }
+}
+
+fn received(id: BlockId) -> Event {
+    Event::Received {
+        storage: StorageId(11),
+        id,
+        stamp: stamp(1),
+    }
 }
 
 fn register(alloc: Global) -> Result<Event, Refusal> {
@@ -102,12 +130,5 @@ fn stamp(generation: u64) -> Stamp {
     Stamp {
         generation: Gen(generation),
         len: 10,
-    }
-}
-
-fn accepted(manager: &mut Manager, event: &Event) -> &'static str {
-    match manager.apply(event) {
-        Ok(_) => "accepted",
-        Err(_) => "refused",
     }
 }
