@@ -1,5 +1,5 @@
 // A map from numbers over a sorted vector.
-ghost use Rattle.std.specs.Prelude.{◌≡◌, ◌≤◌, ◌+◌, OnOk, OnErr, IfOk};
+ghost use Rattle.std.specs.Prelude.{◌≡◌, ◌≤◌, ◌+◌, OnOk, OnErr, IfOk, IsOk};
 ghost use Rattle.bm_base.specs.Map as map;
 ghost use Rattle.std.specs.List.Retain.{IsFiltered};
 ghost use Rattle.std.specs.Fn.{CalledAt};
@@ -33,6 +33,7 @@ impl<V> Model for NumberMap<V> {
 }
 
 impl<V: Copy> NumberMap<V> {
+    /// No entry. Takes no memory.
     pub fn new(alloc: Global) -> Self
         ensures { result.map ≡ map.empty }
     {
@@ -41,18 +42,21 @@ impl<V: Copy> NumberMap<V> {
         }
     }
 
+    /// How many entries there are.
     pub fn len(&self) -> usize
         ensures { result ≡ map.len self.now.map }
     {
         self.entries.len()
     }
 
+    /// The value at a key, if it is there.
     pub fn get(&self, key: u64) -> Option<V>
         ensures { result ≡ map.get self.now.map key }
     {
         find(&self.entries, &key)
     }
 
+    /// Sets the value at a key. An `Err` changes no entry.
     pub fn insert(&mut self, key: u64, value: V) -> Result<(), AllocError>
         ensures ok { OnOk result (self.new.map ≡ map.insert self.old.map key value) }
         ensures err { OnErr result (self.new.map ≡ self.old.map) }
@@ -64,6 +68,7 @@ impl<V: Copy> NumberMap<V> {
     /// Makes room for so many further entries. The entries stay as they are, also after an `Err`.
     pub fn reserve(&mut self, additional: usize) -> Result<(), AllocError>
         ensures room { OnOk result (additional ≤ self.new.room) }
+        ensures succeeds { additional ≤ self.old.room → IsOk result }
         ensures kept { self.old.room ≤ self.new.room }
         ensures same { self.new.map ≡ self.old.map }
     {

@@ -37,6 +37,7 @@ impl<V> Model for ReplicaMap<V> {
 }
 
 impl<V: Copy> ReplicaMap<V> {
+    /// No entry. Takes no memory.
     pub fn new(alloc: Global) -> Self
         ensures { result ≡ map.empty }
     {
@@ -53,18 +54,21 @@ impl<V: Copy> ReplicaMap<V> {
         ReplicaMap { entries }
     }
 
+    /// How many entries there are.
     pub fn len(&self) -> usize
         ensures { result ≡ map.len self.now }
     {
         self.entries.len()
     }
 
+    /// The value at a key, if it is there.
     pub fn get(&self, key: ReplicaId) -> Option<V>
         ensures { result ≡ map.get self.now key }
     {
         find(&self.entries, &key)
     }
 
+    /// Sets the value at a key. An `Err` changes nothing.
     pub fn insert(&mut self, key: ReplicaId, value: V) -> Result<(), AllocError>
         ensures ok { OnOk result (self.new ≡ map.insert self.old key value) }
         ensures err { OnErr result (self.new ≡ self.old) }
@@ -90,7 +94,7 @@ impl<V: Copy> ReplicaMap<V> {
         }
     }
 
-    /// Sets the value of the entry at a place of the rising order. Takes no memory.
+    /// Sets the value of the entry at a place of the rising order, from 0 on, where there is one. Takes no memory.
     pub fn set_at(&mut self, at: usize, value: V)
         requires { at < map.len self.old }
         ensures { (e : ReplicaId × V) → slice_get (map.entries self.old) at ≡ Some e → map.entries self.new ≡ slice_set (map.entries self.old) at (e.0, value) }
@@ -113,6 +117,7 @@ impl<V: Copy> ReplicaMap<V> {
         self.entries.retain(f);
     }
 
+    /// The same map in memory of its own.
     pub fn try_clone(&self) -> Result<Self, AllocError>
         ensures { IfOk result (λ m. m ≡ self.now) }
     {

@@ -1,5 +1,5 @@
-// What each event changes in the blocks and replicas. All but new blocks, received replicas and full reports change them in place,
-// and take no memory.
+// What each event changes in the blocks and replicas. New blocks, received replicas and full reports take memory; all others
+// change entries in place.
 ghost use Rattle.std.specs.Prelude.{◌≡◌, ◌==◌, not, if◌then◌else◌, IsTrue, IfOk, OnOk, OnErr, ◌++◌};
 ghost use Rattle.bm_base.specs.Map as map;
 ghost use Rattle.bm_base.specs.Events as events;
@@ -78,7 +78,7 @@ impl Holdings {
         tally::none()
     }
 
-    /// The replicas on the storages of a node leave, and so do the transfers to them.
+    /// The replicas on the storages of a node leave, and so do the transfers to those storages.
     fn drop_node(&mut self, topology: &Topology, node: NodeId) -> Done
         ensures done { result ≡ calls.done self.old (events.without_storages self.old (replicas_of.has_storage topology.now.cluster node)) }
         ensures state { self.new ≡ events.without_storages self.old (replicas_of.has_storage topology.now.cluster node) }
@@ -89,7 +89,7 @@ impl Holdings {
         tally::gone(before - self.replicas.len())
     }
 
-    /// The replicas on a storage leave, and so do the transfers to it.
+    /// The replicas on a storage leave, and so do the transfers to that storage.
     fn drop_storage(&mut self, storage: StorageId) -> Done
         ensures done { result ≡ calls.done self.old (events.without_storages self.old (λ t. t == storage)) }
         ensures state { self.new ≡ events.without_storages self.old (λ t. t == storage) }

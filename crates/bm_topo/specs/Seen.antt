@@ -1,4 +1,4 @@
--- What contracts see of a topology: the cluster of the definitions, and the room that was made for a registration.
+-- What contracts see of a topology: the cluster of the definitions, and the room for registrations.
 use Rattle.std.specs.Prelude.{ℕ, ◌≤◌, Bool, true, false, length, refl}
 use Rattle.std.specs.Coded.{Coded, code_by, coded×, coded_ℕ}
 use Rattle.bm_base.specs.declared.event.Event.{Event}
@@ -25,6 +25,10 @@ grows_cluster _ = false
 abbrev pub IsReadyFor : Event → Room → Type 0
 IsReadyFor (Register n rack ss) room = (1 ≤ room.nodes) × (1 ≤ room.racks) × (length ss ≤ room.storages)
 IsReadyFor _ room = Unit {0}
+
+-- whether there is as much room as before, or more
+abbrev pub IsNoLess : Room → Room → Type 0
+IsNoLess before after = (before.nodes ≤ after.nodes) × (before.racks ≤ after.racks) × (before.storages ≤ after.storages)
 
 abbrev pub coded_room : Coded Room
 coded_room =

@@ -1,11 +1,11 @@
 // What events change in the cluster: room is made first, so that the change itself takes no memory.
-ghost use Rattle.std.specs.Prelude.{◌≡◌, ◌≤◌, ◌+◌, length, None, IfErr, OnOk};
+ghost use Rattle.std.specs.Prelude.{◌≡◌, ◌≤◌, ◌+◌, length, None, IfErr, IsOk, OnOk};
 ghost use Rattle.bm_base.specs.Map as map;
 ghost use Rattle.bm_base.specs.Events as events;
 ghost use Rattle.bm_base.specs.Refusals.{first_of, cluster_checks};
 ghost use Rattle.bm_base.specs.Answering.{Refuses};
 ghost use Rattle.bm_base.specs.declared.event.Event.TheVariants as event_of;
-ghost use Rattle.bm_topo.specs.Seen.{IsReadyFor, grows_cluster};
+ghost use Rattle.bm_topo.specs.Seen.{IsReadyFor, IsNoLess, grows_cluster};
 
 use crate::tables::{add_storages, drop_storages, leave_rack, set_remaining};
 use crate::topology::Topology;
@@ -13,12 +13,15 @@ use bm_base::{Event, NodeId, Rack, Refusal, Remaining, StorageId};
 use std::alloc::AllocError;
 
 impl Topology {
-    /// Makes the room that the event's [`Topology::commit`] needs. `Memory`, from a registration alone: no other event takes
-    /// memory. The cluster stays as it is.
+    /// Makes the room that the event's [`Topology::commit`] needs, where [`Topology::check`] passed. Only a registration needs
+    /// room in the cluster, so only it can answer `Memory`, and not where there is room already. The cluster stays as it is, and
+    /// so does room that was made before.
     pub fn prepare(&mut self, event: &Event) -> Result<(), Refusal>
         requires { first_of (cluster_checks self.old.cluster event.now) ≡ None }
         ensures ready { OnOk result (IsReadyFor event.now self.new.room) }
         ensures refused { IfErr result (Refuses None (grows_cluster event.now)) }
+        ensures enough { IsReadyFor event.now self.old.room → IsOk result }
+        ensures kept { IsNoLess self.old.room self.new.room }
         ensures same { self.new.cluster ≡ self.old.cluster }
     {
         match event {
@@ -32,6 +35,8 @@ impl Topology {
         ensures nodes { OnOk result (1 ≤ self.new.room.nodes) }
         ensures racks { OnOk result (1 ≤ self.new.room.racks) }
         ensures storages { OnOk result (storages ≤ self.new.room.storages) }
+        ensures enough { 1 ≤ self.old.room.nodes → 1 ≤ self.old.room.racks → storages ≤ self.old.room.storages → IsOk result }
+        ensures kept { IsNoLess self.old.room self.new.room }
         ensures same { self.new.cluster ≡ self.old.cluster }
     {
         self.nodes.reserve(1)?;
@@ -39,7 +44,8 @@ impl Topology {
         self.storages.reserve(storages)
     }
 
-    /// Changes the cluster by an event that no check refuses, in the room that was made. Takes no memory.
+    /// Changes the cluster by an event that no check on the cluster refuses, in the room that [`Topology::prepare`] of this
+    /// event made. Takes no memory.
     #[tactic(auto, unfolding(bm_base::specs::Events::change_cluster))]
     pub fn commit(&mut self, event: &Event)
         requires accepted { first_of (cluster_checks self.old.cluster event.now) ≡ None }
@@ -66,9 +72,9 @@ impl Topology {
         }
     }
 
-    /// Gives up what was prepared. The cluster stays as it is; room that was made is kept for events to come.
+    /// Gives up what was prepared. Nothing changes: room that was made is kept for events to come. It may be left out.
     pub fn abort(&mut self)
-        ensures { self.new.cluster ≡ self.old.cluster }
+        ensures { self.new ≡ self.old }
     {}
 
     fn add_node(&mut self, node: NodeId, rack: Rack, storages: &[StorageId])

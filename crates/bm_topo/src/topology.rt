@@ -1,9 +1,9 @@
 // The tables of the cluster, and what they answer.
-ghost use Rattle.std.specs.Prelude.{◌≡◌, IfOk, IfErr, option_map, slice_get};
+ghost use Rattle.std.specs.Prelude.{◌≡◌, ◌≤◌, IfOk, IsOk, option_map, slice_get};
 ghost use Rattle.bm_base.specs.Map as map;
 ghost use Rattle.bm_base.specs.State as state;
 ghost use Rattle.bm_base.specs.Replicas as replicas;
-ghost use Rattle.bm_base.specs.declared.refusal.Refusal.TheVariants.{Memory};
+ghost use Rattle.bm_base.specs.Refusals.{max_nodes, max_storages};
 
 use bm_base::{NodeId, NumberMap, Rack, Refusal, StorageId, StorageInfo};
 use std::alloc::Global;
@@ -11,8 +11,8 @@ use std::marker::Model;
 
 /// The alive DataNodes with their racks, and their storages with what is free there.
 ///
-/// A contract sees the cluster of the definitions, and the room that [`Topology::prepare`] made. Each look-up is a binary
-/// search in at most 256 nodes or 1,024 storages.
+/// A contract sees the cluster of the definitions, and for how many further nodes, racks and storages there is room. Look-ups
+/// are by place or by binary search, in at most 256 nodes and 1,024 storages; none takes memory.
 #[derive(Drop)]
 pub struct Topology {
     pub(crate) nodes: NumberMap<Rack>,
@@ -38,11 +38,11 @@ impl Model for Topology {
 }
 
 impl Topology {
-    /// No node and no storage. `Memory`.
+    /// An empty cluster. Takes no memory yet, so it succeeds.
     #[tactic(auto, unfolding(bm_base::specs::State::empty_cluster))]
     pub fn new(alloc: Global) -> Result<Topology, Refusal>
         ensures empty { IfOk result (λ t. t.cluster ≡ state.empty_cluster) }
-        ensures refused { IfErr result (λ e. e ≡ Memory) }
+        ensures succeeds { IsOk result }
     {
         Ok(Topology {
             nodes: NumberMap::new(alloc),
@@ -62,7 +62,8 @@ impl Topology {
         }
     }
 
-    /// The rack on which the node of a storage stands; `None` where the storage is not known.
+    /// The rack on which the node of a storage stands; `None` where the storage is not known (or its node is not alive, which
+    /// no event leads to).
     #[tactic(auto, unfolding(bm_base::specs::Replicas::rack_of))]
     pub fn rack_of(&self, storage: StorageId) -> Option<Rack>
         ensures { result ≡ replicas.rack_of self.now.cluster storage }
@@ -85,19 +86,21 @@ impl Topology {
 
     /// How many nodes are alive, at most 256.
     pub fn alive_nodes(&self) -> u32
-        ensures { result ≡ map.len self.now.cluster.nodes }
+        ensures count { result ≡ map.len self.now.cluster.nodes }
+        ensures few { result ≤ max_nodes }
     {
         self.nodes.len() as u32
     }
 
     /// How many storages there are, at most 1,024.
     pub fn storage_count(&self) -> u32
-        ensures { result ≡ map.len self.now.cluster.storages }
+        ensures count { result ≡ map.len self.now.cluster.storages }
+        ensures few { result ≤ max_storages }
     {
         self.storages.len() as u32
     }
 
-    /// The storage at a place of their rising order, from 0 on; `None` past the last.
+    /// The storage at a place in the rising order of their numbers, from 0 on; `None` past the last.
     #[tactic(auto, unfolding(bm_base::specs::Map::keys))]
     pub fn storage_at(&self, place: u32) -> Option<StorageId>
         ensures { result ≡ slice_get (map.keys self.now.cluster.storages) place }
@@ -108,7 +111,7 @@ impl Topology {
         }
     }
 
-    /// The node at a place of their rising order, from 0 on; `None` past the last.
+    /// The node at a place in the rising order of their numbers, from 0 on; `None` past the last.
     #[tactic(auto, unfolding(bm_base::specs::Map::keys))]
     pub fn node_at(&self, place: u32) -> Option<NodeId>
         ensures { result ≡ slice_get (map.keys self.now.cluster.nodes) place }

@@ -13,5 +13,5 @@ pub returns : goal.returns
 unfolding keys len
 returns c =
     let same : length (keys c.args.topology.now.cluster.nodes) ≡ len c.args.topology.now.cluster.nodes = length-map (entries c.args.topology.now.cluster.nodes) (λ e. e.0) in
-    let past : length (keys c.args.topology.now.cluster.nodes) ≤ c.loop-place.place = omega (arith, same, c.alive_nodes-place-end.ensures) in
+    let past : length (keys c.args.topology.now.cluster.nodes) ≤ c.loop-place.place = omega (arith, same, c.alive_nodes-place-end.ensures.count) in
     c.loop-place.invariant ∙ take_whole c.loop-place.place (keys c.args.topology.now.cluster.nodes) past

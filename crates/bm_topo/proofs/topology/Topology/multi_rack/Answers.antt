@@ -9,7 +9,7 @@ use Rattle.bm_topo.proofs.topology.Topology.multi_rack.Goals as goal
 pub returns-in-Some : goal.returns-in-Some
 unfolding is_multi_rack is_multi
 returns-in-Some c =
-    (λ i. nat_lt (c.count_on.ensures i) (c.alive_nodes.ensures i))
+    (λ i. nat_lt (c.count_on.ensures i) (c.alive_nodes.ensures.count i))
     ∙ sym (is_multi-counted c.args.self.now.cluster.nodes c.in-Some.rack (first_there c.args.self.now.cluster.nodes c.in-Some.rack (sym c.first_rack.ensures ∙ c.in-Some.is)))
 
 pub returns-in-None : goal.returns-in-None
