@@ -1,0 +1,14 @@
+pub mod Options
+pub mod Lists
+pub mod Maps
+pub mod Clusters
+pub mod Checks
+pub mod First
+pub mod ClusterEvents
+pub mod Among
+pub mod BlockEvents
+pub mod Entering
+pub mod Chosen
+pub mod Rounding
+pub mod Accepting
+pub mod Leading

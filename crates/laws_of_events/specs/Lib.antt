@@ -1,0 +1,3 @@
+-- The laws, each as a statement that a function's contract cites.
+pub mod Fitting
+pub mod LawfulForEver
