@@ -1,5 +1,5 @@
 -- Nodes of storages.
-use Rattle.std.proofs.Common.{◌≡◌, ℕ, Bool, true, false, not, ◌&&◌, Option, Some, None, is_some, refl, sym, ap, ◌∙◌, eq-eqb, arith}
+use Rattle.std.proofs.Common.{◌≡◌, ℕ, Bool, true, false, not, ◌&&◌, Option, Some, None, is_some, refl, sym, ap, ◌∙◌, eq-eqb, arith, ne_eqb}
 use Rattle.std.specs.Prelude.{◌==◌, option_map}
 use Rattle.std.specs.Option.{option_map_or}
 use Rattle.std.proofs.lemmas.Bool.Decides.{nat_tests}
@@ -7,6 +7,7 @@ use Rattle.bm_base.specs.declared.storage.StorageInfo.{StorageInfo}
 use Rattle.bm_base.specs.Map.{get, contains_key}
 use Rattle.bm_base.specs.State.{Cluster}
 use Rattle.bm_base.specs.Replicas.{node_of, has_storage, are_sisters}
+use Rattle.laws_of_events.proofs.Options.{revised}
 
 pub node_is : (C : Cluster) (s : ℕ) (i : StorageInfo) → get C.storages s ≡ Some i → node_of C s ≡ Some i.node
 unfolding node_of
@@ -57,3 +58,19 @@ sisters_turned C s t = sisters_by C s t ∙ test_turned s t (node_of C s) (node_
 pub no_sister_itself : (C : Cluster) (s : ℕ) → are_sisters C s s ≡ false
 unfolding are_sisters
 no_sister_itself C s = rw (eq-eqb s s refl) refl
+
+apart_nodes : (b : Bool) (x y : Option ℕ) → ((n m : ℕ) → x ≡ Some n → y ≡ Some m → n ≡ m → ⊥) → (b && option_map_or (λ n. option_map_or (λ m. m == n) y false) x false) ≡ false
+apart_nodes true None y h = refl
+apart_nodes true (Some n) None h = refl
+apart_nodes true (Some n) (Some m) h = ne_eqb m n (λ e. h n m refl refl (sym e))
+apart_nodes false x y h = refl
+
+-- storages of different nodes are no sisters
+pub no_sisters : (C : Cluster) (s t : ℕ) → ((i j : StorageInfo) → get C.storages s ≡ Some i → get C.storages t ≡ Some j → i.node ≡ j.node → ⊥) → are_sisters C s t ≡ false
+unfolding node_of
+no_sisters C s t h =
+    sisters_by C s t
+    ∙ apart_nodes (not (t == s)) (node_of C s) (node_of C t) (λ n m e f same.
+    let i = revised (λ (j : StorageInfo). j.node) (get C.storages s) n e in
+    let j = revised (λ (j : StorageInfo). j.node) (get C.storages t) m f in
+    h i.0 j.0 i.1 j.1 (i.2 ∙ same ∙ sym j.2))

@@ -12,3 +12,6 @@ pub mod Chosen
 pub mod Rounding
 pub mod Accepting
 pub mod Leading
+pub mod Telling
+pub mod Reporting
+pub mod ReportLaws

@@ -5,3 +5,4 @@
 #![tactic(auto)]
 
 pub mod lawful;
+pub mod reports;
