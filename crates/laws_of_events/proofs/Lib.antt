@@ -15,3 +15,5 @@ pub mod Leading
 pub mod Telling
 pub mod Reporting
 pub mod ReportLaws
+pub mod PartMaps
+pub mod Parts

@@ -2,3 +2,4 @@
 pub mod Fitting
 pub mod LawfulForEver
 pub mod Reports
+pub mod Parts

@@ -6,3 +6,4 @@
 
 pub mod lawful;
 pub mod reports;
+pub mod shards;
