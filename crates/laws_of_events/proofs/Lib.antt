@@ -17,3 +17,7 @@ pub mod Reporting
 pub mod ReportLaws
 pub mod PartMaps
 pub mod Parts
+pub mod NodeChanges
+pub mod BlockChanges
+pub mod Counting
+pub mod BadStays

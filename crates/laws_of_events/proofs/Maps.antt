@@ -41,6 +41,13 @@ same_some : {X : Type 0} (f : X → X) (z : Option X) → is_some (option_map f 
 same_some f None = refl
 same_some f (Some x) = refl
 
+not_tied_by : {K : Type 0} (o : Order K) (p q : K) → (p ≡ q → ⊥) → (b : Bool) → eq_by_cmp o.cmp p q ≡ b → b ≡ false
+not_tied_by o p q never true e = absurd (never (same_key o p q e))
+not_tied_by o p q never false e = refl
+
+pub not_tied : {K : Type 0} (o : Order K) (p q : K) → (p ≡ q → ⊥) → eq_by_cmp o.cmp p q ≡ false
+not_tied o p q never = not_tied_by o p q never (eq_by_cmp o.cmp p q) refl
+
 module _ {K X : Type 0} {o : Order K} where
   -- P holds of each entry
   abbrev pub Holds : (K → X → Type 0) → Map o X → Type 0
@@ -70,6 +77,15 @@ module _ {K X : Type 0} {o : Order K} where
 
   pub get_elsewhere : (m : Map o X) (k : K) (v : X) (q : K) → eq_by_cmp o.cmp q k ≡ false → get (insert m k v) q ≡ get m q
   get_elsewhere m k v q e = get-insert m k v q ∙ ap (λ b. cond b (Some v) (get m q)) e
+
+  pub get_taken : (m : Map o X) (k : K) → get (remove m k) k ≡ None
+  get_taken m k = get-remove m k k ∙ ap (λ b. cond b None (get m k)) (key_itself o k)
+
+  pub get_left : (m : Map o X) (k q : K) → (q ≡ k → ⊥) → get (remove m k) q ≡ get m q
+  get_left m k q never = get-remove m k q ∙ ap (λ b. cond b None (get m q)) (not_tied o q k never)
+
+  pub get_other : (m : Map o X) (k : K) (v : X) (q : K) → (q ≡ k → ⊥) → get (insert m k v) q ≡ get m q
+  get_other m k v q never = get_elsewhere m k v q (not_tied o q k never)
 
   -- what was known stays known
   pub known_inserted : (m : Map o X) (k : K) (v : X) (q : K) → contains_key m q ≡ true → contains_key (insert m k v) q ≡ true

@@ -3,3 +3,4 @@ pub mod Fitting
 pub mod LawfulForEver
 pub mod Reports
 pub mod Parts
+pub mod Changes
