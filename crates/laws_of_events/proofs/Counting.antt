@@ -35,7 +35,7 @@ module _ {K X : Type 0} (R : K → K → Ordering) where
   find_bare q [] = refl
   find_bare q (e ∷ es) = some_bare (eq_by_cmp R q e.0) e.1 (find R q (bare es)) (find R q es) (find_bare q es)
 
-same_unit : (x y : Option (Unit {0})) → is_some x ≡ is_some y → x ≡ y
+pub same_unit : (x y : Option (Unit {0})) → is_some x ≡ is_some y → x ≡ y
 same_unit None None e = refl
 same_unit None (Some y) e = cc
 same_unit (Some x) None e = cc

@@ -21,3 +21,6 @@ pub mod NodeChanges
 pub mod BlockChanges
 pub mod Counting
 pub mod BadStays
+pub mod Asked
+pub mod PartSums
+pub mod Calling

@@ -35,7 +35,7 @@ step_new true false n z = refl
 step_new false true n z = refl
 step_new false false n z = refl
 
-eqb_swap : (a b : ℕ) → (a == b) ≡ (b == a)
+pub eqb_swap : (a b : ℕ) → (a == b) ≡ (b == a)
 eqb_swap a b = by_case (a == b) refl
   where
     by_case : (t : Bool) → (a == b) ≡ t → t ≡ (b == a)

@@ -49,7 +49,7 @@ expired_lawful C H pend r L =
     lawful_among C C H (without_expired pend r H) L (among_here C H (without_expired pend r H) (λ _ e. e) was)
     (record { strays = L.strays; excess_is_good = L.excess_is_good; pending_known = λ q e. L.pending_known q (was q e); replicated = L.replicated })
 
-cleared_tag : (b : Bool) (m : Marks) → (if b then m else record m { excess = false }).tag ≡ m.tag
+pub cleared_tag : (b : Bool) (m : Marks) → (if b then m else record m { excess = false }).tag ≡ m.tag
 cleared_tag true m = refl
 cleared_tag false m = refl
 
@@ -63,7 +63,7 @@ cleared_lawful C H L =
     remarked C H (without_unordered_excess H) (λ _ m. if m.ordered then m else record m { excess = false }) L (λ q m. cleared_tag m.ordered m)
     (λ q m e h. L.excess_is_good q m e (cleared_excess m.ordered m h)) refl refl refl
 
-marked_tag : (b : Bool) (m : Marks) → (if b then record m { excess = true } else m).tag ≡ m.tag
+pub marked_tag : (b : Bool) (m : Marks) → (if b then record m { excess = true } else m).tag ≡ m.tag
 marked_tag true m = refl
 marked_tag false m = refl
 
@@ -82,7 +82,7 @@ marked_lawful C H L =
 
 -- The end of a round.
 
-ordered_tag : (b : Bool) (m : Marks) → (if b then record m { ordered = true } else m).tag ≡ m.tag
+pub ordered_tag : (b : Bool) (m : Marks) → (if b then record m { ordered = true } else m).tag ≡ m.tag
 ordered_tag true m = refl
 ordered_tag false m = refl
 

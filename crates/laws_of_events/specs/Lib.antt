@@ -4,3 +4,4 @@ pub mod LawfulForEver
 pub mod Reports
 pub mod Parts
 pub mod Changes
+pub mod Calls

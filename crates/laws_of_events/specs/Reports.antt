@@ -10,7 +10,8 @@ use Rattle.bm_base.specs.declared.event.Entry.{Entry}
 use Rattle.bm_base.specs.declared.event.Event.{Event}
 use Rattle.bm_base.specs.declared.event.Event.TheVariants.{Received, FullReport}
 use Rattle.bm_base.specs.Map.{get, contains_key}
-use Rattle.bm_base.specs.Lists.{has}
+use Rattle.bm_base.specs.Lists.{has, distinct}
+use Rattle.bm_base.specs.Queries.{blocks_on}
 use Rattle.bm_base.specs.State.{Cluster, Holdings, State, replica_at}
 use Rattle.bm_base.specs.Calls.{done_by, after_event}
 use Rattle.bm_base.specs.Lawful.{IsLawful}
@@ -43,6 +44,10 @@ pub record HasToldMarks (H : Holdings) (p : ReplicaId) (stamp : Stamp) (m : Mark
 -- after a full report a storage has exactly the replicas that the report names
 abbrev pub report_tells_all : Type 0
 report_tells_all = (M : State) (s : ℕ) (es : List Entry) (b : ℕ) → contains_key (held_after M (FullReport s es)).replicas (replica_at b s) ≡ has (numbers_of es) b
+
+-- and a query for the storage's blocks answers each of these numbers once, rising
+abbrev pub report_is_what_is_asked : Type 0
+report_is_what_is_asked = (M : State) (s : ℕ) (es : List Entry) → blocks_on (held_after M (FullReport s es)) s ≡ distinct (numbers_of es)
 
 -- the last entry of a number decides its marks, by its stamp
 abbrev pub last_entry_decides : Type 0

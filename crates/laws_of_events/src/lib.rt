@@ -4,6 +4,7 @@
 //! over every list of calls. No function here does anything: its contract is the law.
 #![tactic(auto)]
 
+pub mod calls;
 pub mod changes;
 pub mod lawful;
 pub mod reports;

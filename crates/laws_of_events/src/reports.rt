@@ -8,6 +8,11 @@ pub fn report_tells_all()
     ensures { law.report_tells_all }
 {}
 
+/// After a full report a query for the storage's blocks answers the named numbers, each once and rising.
+pub fn report_is_what_is_asked()
+    ensures { law.report_is_what_is_asked }
+{}
+
 /// Of several entries of a number the last one decides: by its stamp the replica is good or stale; bad if it was bad, and
 /// stray where the block is not known. It is in excess just where it was and is good, and it is not ordered to be deleted.
 pub fn last_entry_decides()

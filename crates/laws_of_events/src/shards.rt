@@ -27,3 +27,8 @@ pub fn event_changes_one_part()
 pub fn parts_change_by_themselves()
     ensures { law.parts_change_by_themselves }
 {}
+
+/// How many replicas come and go by an event in the parts adds up to how many come and go in the whole.
+pub fn parts_answers_add_up()
+    ensures { law.parts_answers_add_up }
+{}
