@@ -1,5 +1,5 @@
 -- Holdings of which each replica and each transfer was there before, on a storage that has stayed: what leaves alone.
-use Rattle.std.proofs.Common.{◌≡◌, ℕ, ◌≤◌, Bool, true, false, cond, not, Option, Some, None, List, is_some, IsTrue, refl, sym, ap, ◌∙◌, true≢false}
+use Rattle.std.proofs.Common.{◌≡◌, ℕ, ◌≤◌, Bool, true, false, not, Some, List, is_some, IsTrue, refl, sym, ap, ◌∙◌, true≢false}
 use Rattle.std.specs.Prelude.{◌==◌}
 use Rattle.std.specs.Ordering.{eq_by_cmp, nat_cmp}
 use Rattle.bm_base.specs.declared.replica.ReplicaId.{ReplicaId}
@@ -15,7 +15,7 @@ use Rattle.bm_base.specs.Lawful.{IsLawfulHoldings}
 use Rattle.bm_base.proofs.MapLaws.{get-remove}
 use Rattle.bm_base.proofs.Keeping.{get-keep_there}
 use Rattle.bm_base.proofs.Ties.{number_tie}
-use Rattle.laws_of_events.proofs.Options.{there, is_there, not_passed}
+use Rattle.laws_of_events.proofs.Options.{there, is_there, not_passed, not_failed, not_taken}
 use Rattle.laws_of_events.proofs.Lists.{each_mapped, each_then, none_passes}
 use Rattle.laws_of_events.proofs.Maps.{same_key, get_kept, get_removed, get_insert_all_elsewhere}
 use Rattle.laws_of_events.proofs.Clusters.{same_node, as_known, same_sisters}
@@ -82,25 +82,17 @@ module _ (C D : Cluster) (H : Holdings) (gone : ℕ → Bool) (stays : (s : ℕ)
         replicated = L.replicated;
       })
 
-passed : (b : Bool) → b ≡ false → not b ≡ true
-passed true e = cc
-passed false e = refl
-
 pub after_death : (C : Cluster) (H : Holdings) (n : ℕ) → IsLawfulHoldings C H → IsLawfulHoldings (without_node C n) (without_storages H (has_storage C n))
 unfolding without_node
 after_death C H n L =
     without_lawful C (without_node C n) H (has_storage C n)
-    (λ s e. same_node C (without_node C n) s (get-keep_there C.storages (λ t. not (has_storage C n t)) s (passed (has_storage C n s) e))) L
-
-not_removed : {X : Type 0} (b : Bool) (z : Option X) → b ≡ false → cond b None z ≡ z
-not_removed true z e = cc
-not_removed false z e = refl
+    (λ s e. same_node C (without_node C n) s (get-keep_there C.storages (λ t. not (has_storage C n t)) s (not_failed (has_storage C n s) e))) L
 
 pub after_failure : (C : Cluster) (H : Holdings) (s : ℕ) → IsLawfulHoldings C H → IsLawfulHoldings (without_storage C s) (without_storages H (λ t. t == s))
 unfolding without_storage
 after_failure C H s L =
     without_lawful C (without_storage C s) H (λ t. t == s)
-    (λ t e. same_node C (without_storage C s) t (get-remove C.storages s t ∙ not_removed (eq_by_cmp nat_cmp t s) (get C.storages t) (number_tie t s ∙ e))) L
+    (λ t e. same_node C (without_storage C s) t (get-remove C.storages s t ∙ not_taken (eq_by_cmp nat_cmp t s) (get C.storages t) (number_tie t s ∙ e))) L
 
 -- where the nodes of the known storages stay
 pub same_holdings : (C D : Cluster) (H : Holdings) → ((s : ℕ) → contains_key C.storages s ≡ true → node_of D s ≡ node_of C s) → IsLawfulHoldings C H → IsLawfulHoldings D H

@@ -15,7 +15,7 @@ use Rattle.bm_base.specs.State.{Holdings, replica_at, replica_cmp}
 use Rattle.bm_base.specs.Queries.{blocks_on}
 use Rattle.bm_base.proofs.MapLaws.{get-insert, get-empty}
 use Rattle.bm_base.proofs.Ties.{number_tie, replica_tie}
-use Rattle.laws_of_events.proofs.NodeChanges.{eqb_swap}
+use Rattle.laws_of_events.proofs.Clusters.{eqb_turned}
 use Rattle.laws_of_events.proofs.Counting.{same_unit}
 use Rattle.laws_of_events.proofs.ReportLaws.{tells_all}
 use Rattle.laws_of_events.specs.Reports as law
@@ -86,7 +86,7 @@ module _ (s : ℕ) where
   found_blocks b [] = refl
   found_blocks b (e ∷ es) =
       ap (λ bs. is_some (find nat_cmp b (marked_all bs))) (blocks_head e es) ∙ found_head b e.0.block e.1 (e.0.storage == s) (blocks_in es) (find replica_cmp (replica_at b s) es) (found_blocks b es)
-      ∙ ap (λ u. is_some (cond u (Some e.1) (find replica_cmp (replica_at b s) es))) (ap (λ u. (b == e.0.block) && u) (eqb_swap e.0.storage s) ∙ sym (replica_tie (replica_at b s) e.0))
+      ∙ ap (λ u. is_some (cond u (Some e.1) (find replica_cmp (replica_at b s) es))) (ap (λ u. (b == e.0.block) && u) (eqb_turned e.0.storage s) ∙ sym (replica_tie (replica_at b s) e.0))
 
 -- Each number of a list once.
 
@@ -99,7 +99,7 @@ known_or false false z = refl
 known_marked : (xs : List ℕ) (m : Map by_number (Unit {0})) (b : ℕ) → contains_key (insert_all m (marked_all xs)) b ≡ (has xs b || contains_key m b)
 known_marked [] m b = refl
 known_marked (x ∷ xs) m b =
-    known_marked xs (insert m x tt) b ∙ ap (λ z. has xs b || is_some z) (get-insert m x tt b) ∙ ap (λ c. has xs b || is_some (cond c (Some tt) (get m b))) (number_tie b x ∙ eqb_swap b x)
+    known_marked xs (insert m x tt) b ∙ ap (λ z. has xs b || is_some z) (get-insert m x tt b) ∙ ap (λ c. has xs b || is_some (cond c (Some tt) (get m b))) (number_tie b x ∙ eqb_turned b x)
     ∙ known_or (has xs b) (x == b) (get m b)
 
 or_false : (b : Bool) → (b || false) ≡ b

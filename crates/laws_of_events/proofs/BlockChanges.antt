@@ -2,6 +2,7 @@
 use Rattle.std.proofs.Common.{◌≡◌, ◌≢◌, ℕ, ◌+◌, ◌%◌, Bool, true, false, cond, not, ◌&&◌, Option, Some, None, List, refl, sym, ap, subst, ◌∙◌, eq-eqb, ne_eqb, arith, mod-eq_of_lt}
 use Rattle.std.specs.Prelude.{◌==◌, if◌then◌else◌, option_and_then, option_map}
 use Rattle.std.specs.Ordering.{eq_by_cmp, nat_cmp}
+use Rattle.std.proofs.lemmas.Bool.{and_left}
 use Rattle.bm_base.specs.declared.replica.ReplicaId.{ReplicaId}
 use Rattle.bm_base.specs.declared.replica.Tag.{Tag}
 use Rattle.bm_base.specs.declared.replica.Tag.TheVariants.{Good, Stale, Bad, Stray}
@@ -18,6 +19,7 @@ use Rattle.bm_base.specs.Events.{add_block, delete_block, set_replication, resta
 use Rattle.bm_base.specs.Shards.{shard_of, cut}
 use Rattle.bm_base.specs.Calls.{after_event}
 use Rattle.bm_base.proofs.MapLaws.{get-keep, get-revise}
+use Rattle.laws_of_events.proofs.Options.{none_stays, all_stays}
 use Rattle.laws_of_events.proofs.Maps.{key_itself, not_tied, get_here, get_taken, get_left}
 use Rattle.laws_of_events.proofs.Entering.{stays_by}
 use Rattle.laws_of_events.proofs.Reporting.{named_numbers, reported_elsewhere}
@@ -69,18 +71,8 @@ all_marked H G b f R how is s =
     let now : get G.replicas (replica_at b s) ≡ option_map f (get H.replicas (replica_at b s)) = ap (λ m. get m (replica_at b s)) is ∙ marked_here H.replicas b f s in
     ((λ none. now ∙ ap (option_map f) none), λ m e. (f m, now ∙ ap (option_map f) e, how m))
 
-staying_none : {X : Type 0} (b : Bool) (z : Option X) → b ≡ true → option_and_then (λ x. cond (not b) (Some x) None) z ≡ None
-staying_none true None e = refl
-staying_none true (Some x) e = refl
-staying_none false z e = cc
-
-staying_all : {X : Type 0} (b : Bool) (z : Option X) → b ≡ false → option_and_then (λ x. cond (not b) (Some x) None) z ≡ z
-staying_all true z e = cc
-staying_all false None e = refl
-staying_all false (Some x) e = refl
-
 none_sent : (H : Holdings) (b s : ℕ) → get (keep H.pending (λ q _. not (q.block == b))) (replica_at b s) ≡ None
-none_sent H b s = get-keep H.pending (λ q _. not (q.block == b)) (replica_at b s) ∙ staying_none (b == b) (get H.pending (replica_at b s)) (eq-eqb b b refl)
+none_sent H b s = get-keep H.pending (λ q _. not (q.block == b)) (replica_at b s) ∙ none_stays (not (b == b)) (get H.pending (replica_at b s)) (ap not (eq-eqb b b refl))
 
 pub block_deleted : law.deleted_block_is_stray
 unfolding after_event change_holdings delete_block without_pending revise_block
@@ -141,10 +133,6 @@ replica_found_bad M s b =
 
 -- Transfers on their way.
 
-not_both : (a b : Bool) → a ≡ false → (a && b) ≡ false
-not_both true b e = cc
-not_both false b e = refl
-
 reported_pending : (M : State) (s : ℕ) (es : List Entry) (p : ReplicaId) (t : Bool) → ((p.storage == s) && is_named es p.block) ≡ t
     → get (held_after M (FullReport s es)).pending p ≡ option_and_then (λ x. cond (not t) (Some x) None) (get M.holdings.pending p)
 unfolding after_event change_holdings report
@@ -155,9 +143,9 @@ named_here s es b t h = ap (λ c. c && is_named es b) (eq-eqb s s refl) ∙ name
 
 pub transfers_reported : law.report_ends_transfers
 transfers_reported M s es = (
-  (λ b h. reported_pending M s es (replica_at b s) true (named_here s es b true h) ∙ staying_none true (get M.holdings.pending (replica_at b s)) refl),
-  (λ b h. reported_pending M s es (replica_at b s) false (named_here s es b false h) ∙ staying_all false (get M.holdings.pending (replica_at b s)) refl),
-  (λ p other. reported_pending M s es p false (not_both (p.storage == s) (is_named es p.block) (ne_eqb p.storage s other)) ∙ staying_all false (get M.holdings.pending p) refl),
+  (λ b h. reported_pending M s es (replica_at b s) true (named_here s es b true h) ∙ none_stays false (get M.holdings.pending (replica_at b s)) refl),
+  (λ b h. reported_pending M s es (replica_at b s) false (named_here s es b false h) ∙ all_stays true (get M.holdings.pending (replica_at b s)) refl),
+  (λ p other. reported_pending M s es p false (and_left (p.storage == s) (is_named es p.block) (ne_eqb p.storage s other)) ∙ all_stays true (get M.holdings.pending p) refl),
 )
 
 pub transfer_received : law.received_ends_transfer
@@ -170,11 +158,6 @@ unnamed_stays : (C : Cluster) (H : Holdings) (s : ℕ) (es : List Entry) (p : Re
 unfolding leaves_by_report
 unnamed_stays C H s es p other h = rw (ne_eqb p.storage s other, h) refl
 
-stays_all : {X : Type 0} (b : Bool) (z : Option X) → b ≡ true → option_and_then (λ x. cond b (Some x) None) z ≡ z
-stays_all true None e = refl
-stays_all true (Some x) e = refl
-stays_all false z e = cc
-
 reported_other : (M : State) (s : ℕ) (es : List Entry) (p : ReplicaId) → p.storage ≢ s → get (held_after M (FullReport s es)).replicas p ≡ get (keep M.holdings.replicas (λ q _. stays_by M.cluster M.holdings s es q)) p
 unfolding after_event change_holdings
 reported_other M s es p other = reported_elsewhere M.cluster M.holdings s es p other
@@ -182,4 +165,4 @@ reported_other M s es p other = reported_elsewhere M.cluster M.holdings s es p o
 pub unnamed_left : law.report_leaves_unnamed_blocks
 unnamed_left M s es p other h =
     reported_other M s es p other ∙ get-keep M.holdings.replicas (λ q _. stays_by M.cluster M.holdings s es q) p
-    ∙ stays_all (stays_by M.cluster M.holdings s es p) (get M.holdings.replicas p) (unnamed_stays M.cluster M.holdings s es p other (named_numbers es p.block ∙ h))
+    ∙ all_stays (stays_by M.cluster M.holdings s es p) (get M.holdings.replicas p) (unnamed_stays M.cluster M.holdings s es p other (named_numbers es p.block ∙ h))

@@ -61,7 +61,7 @@ in_excess_live C H q m e h =
 abbrev pub IsPlaced : Cluster → Holdings → Transfer → Type 0
 IsPlaced C H t = (contains_key C.storages t.target ≡ true) × (contains_key H.blocks t.block ≡ true)
 
-unless : {X : Type 0} (b : Bool) (o : Option X) (x : X) → (if b then None else o) ≡ Some x → o ≡ Some x
+pub unless : {X : Type 0} (b : Bool) (o : Option X) (x : X) → (if b then None else o) ≡ Some x → o ≡ Some x
 unless true o x e = cc
 unless false o x e = e
 
@@ -72,10 +72,10 @@ target_known C chosen urgency holders barred l t e =
     (each_filtered (λ s. contains_key C.storages s ≡ true) (is_target C chosen urgency holders barred l) (keys C.storages) (each_key C.storages)) t e
 
 -- a transfer made of what was found for it
-abbrev made : ℕ → BlockInfo → ℕ → ℕ → Transfer
+abbrev pub made : ℕ → BlockInfo → ℕ → ℕ → Transfer
 made b i s u = record { block = b; stamp = i.stamp; source = s; target = u }
 
-made_of : (b : ℕ) (found : Option BlockInfo) (source : Option ℕ) (target : BlockInfo → Option ℕ) (t : Transfer) → option_and_then (λ i. option_and_then (λ s. option_map (made b i s) (target i)) source) found ≡ Some t
+pub made_of : (b : ℕ) (found : Option BlockInfo) (source : Option ℕ) (target : BlockInfo → Option ℕ) (t : Transfer) → option_and_then (λ i. option_and_then (λ s. option_map (made b i s) (target i)) source) found ≡ Some t
     → (i : BlockInfo) × (found ≡ Some i) × (target i ≡ Some t.target) × (b ≡ t.block)
 made_of b found source target t e =
     let i = chained (λ i. option_and_then (λ s. option_map (made b i s) (target i)) source) found t e in

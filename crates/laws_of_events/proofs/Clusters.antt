@@ -43,7 +43,7 @@ sisters_by C s t = refl
 pub same_sisters : (C D : Cluster) (s t : ℕ) → node_of D s ≡ node_of C s → node_of D t ≡ node_of C t → are_sisters D s t ≡ are_sisters C s t
 same_sisters C D s t e f = sisters_by D s t ∙ (λ i. sister_test s t (e i) (f i)) ∙ sym (sisters_by C s t)
 
-eqb_turned : (a b : ℕ) → (a == b) ≡ (b == a)
+pub eqb_turned : (a b : ℕ) → (a == b) ≡ (b == a)
 eqb_turned a b = grind (arith, nat_tests)
 
 test_turned : (s t : ℕ) (a b : Option ℕ) → sister_test s t a b ≡ sister_test t s b a

@@ -37,39 +37,41 @@ pub entered_excess : (H : Holdings) (q : ReplicaId) (stamp : Stamp) → IsTrue (
 unfolding entered
 entered_excess H q stamp e = (and_parts (is_good (entered_tag H q stamp)) (was_excess H q) e).0
 
+-- a replica that was there and stays
+abbrev pub IsKept : Holdings → (ReplicaId → Bool) → ReplicaId → Marks → Type 0
+IsKept H stays q m = (get H.replicas q ≡ Some m) × (stays q ≡ true)
+
+-- a replica of a named block that is entered on storage s
+abbrev pub IsPut : Holdings → ℕ → (ℕ → Bool) → ReplicaId → Marks → Type 0
+IsPut H s named q m = (q.storage ≡ s) × (named q.block ≡ true) × (stamp : Stamp) × (m ≡ entered H q stamp)
+
 -- Some replicas of the holdings stay, and some of numbers that pass are entered on storage s.
 module _ (C : Cluster) (H : Holdings) (s : ℕ) (named : ℕ → Bool) (stays : ReplicaId → Bool) where
-  abbrev pub IsKept : ReplicaId → Marks → Type 0
-  IsKept q m = (get H.replicas q ≡ Some m) × (stays q ≡ true)
-
-  abbrev pub IsPut : ReplicaId → Marks → Type 0
-  IsPut q m = (q.storage ≡ s) × (named q.block ≡ true) × (stamp : Stamp) × (m ≡ entered H q stamp)
-
-  pub origin : (puts : List (ReplicaId × Marks)) → Each (λ e. IsPut e.0 e.1) puts → Holds (λ q m. IsKept q m ⊎ IsPut q m) (insert_all (keep H.replicas (λ q _. stays q)) puts)
+  pub origin : (puts : List (ReplicaId × Marks)) → Each (λ e. IsPut H s named e.0 e.1) puts → Holds (λ q m. IsKept H stays q m ⊎ IsPut H s named q m) (insert_all (keep H.replicas (λ q _. stays q)) puts)
   origin puts each =
-      holds_insert_all (λ q m. IsKept q m ⊎ IsPut q m) (keep H.replicas (λ q _. stays q)) puts
-      (λ q m e. inl (get_kept H.replicas (λ q _. stays q) q m e)) (each_then (λ e. IsPut e.0 e.1) (λ e. IsKept e.0 e.1 ⊎ IsPut e.0 e.1) puts each (λ e put. inr put))
+      holds_insert_all (λ q m. IsKept H stays q m ⊎ IsPut H s named q m) (keep H.replicas (λ q _. stays q)) puts
+      (λ q m e. inl (get_kept H.replicas (λ q _. stays q) q m e)) (each_then (λ e. IsPut H s named e.0 e.1) (λ e. IsKept H stays e.0 e.1 ⊎ IsPut H s named e.0 e.1) puts each (λ e put. inr put))
 
   module _ (G : Holdings) (L : IsLawfulHoldings C H) (known : contains_key C.storages s ≡ true)
       (apart : (q : ReplicaId) → stays q ≡ true → named q.block ≡ true → are_sisters C s q.storage ≡ false)
-      (from : Holds (λ q m. IsKept q m ⊎ IsPut q m) G.replicas)
+      (from : Holds (λ q m. IsKept H stays q m ⊎ IsPut H s named q m) G.replicas)
       (pending : (q : ReplicaId) → is_some (get G.pending q) ≡ true → is_some (get H.pending q) ≡ true)
       (blocks : G.blocks ≡ H.blocks) where
-    on_known : (q : ReplicaId) (m : Marks) → IsKept q m ⊎ IsPut q m → contains_key C.storages q.storage ≡ true
+    on_known : (q : ReplicaId) (m : Marks) → IsKept H stays q m ⊎ IsPut H s named q m → contains_key C.storages q.storage ≡ true
     on_known q m (inl was) = L.stored q (is_there (get H.replicas q) m was.0)
     on_known q m (inr put) = ap (contains_key C.storages) put.0 ∙ known
 
-    alone : (p q : ReplicaId) (m n : Marks) → IsKept p m ⊎ IsPut p m → IsKept q n ⊎ IsPut q n → p.block ≡ q.block → are_sisters C p.storage q.storage ≡ false
+    alone : (p q : ReplicaId) (m n : Marks) → IsKept H stays p m ⊎ IsPut H s named p m → IsKept H stays q n ⊎ IsPut H s named q n → p.block ≡ q.block → are_sisters C p.storage q.storage ≡ false
     alone p q m n (inl was) (inl is) same = L.once p q (is_there (get H.replicas p) m was.0) (is_there (get H.replicas q) n is.0) same
     alone p q m n (inl was) (inr put) same = ap (are_sisters C p.storage) put.0 ∙ sisters_turned C p.storage s ∙ apart p was.1 (ap named same ∙ put.1)
     alone p q m n (inr put) (inl was) same = ap (λ t. are_sisters C t q.storage) put.0 ∙ apart q was.1 (sym (ap named same) ∙ put.1)
     alone p q m n (inr put) (inr too) same = (λ i. are_sisters C (put.0 i) (too.0 i)) ∙ no_sister_itself C s
 
-    stray_as_known : (q : ReplicaId) (m : Marks) → IsKept q m ⊎ IsPut q m → is_stray m.tag ≡ not (contains_key G.blocks q.block)
+    stray_as_known : (q : ReplicaId) (m : Marks) → IsKept H stays q m ⊎ IsPut H s named q m → is_stray m.tag ≡ not (contains_key G.blocks q.block)
     stray_as_known q m (inl was) = L.strays q m was.0 ∙ ap (λ b. not (contains_key b q.block)) (sym blocks)
     stray_as_known q m (inr put) = ap (λ n. is_stray n.tag) put.3 ∙ entered_stray H q put.2 ∙ ap (λ b. not (contains_key b q.block)) (sym blocks)
 
-    good_in_excess : (q : ReplicaId) (m : Marks) → IsKept q m ⊎ IsPut q m → IsTrue m.excess → IsTrue (is_good m.tag)
+    good_in_excess : (q : ReplicaId) (m : Marks) → IsKept H stays q m ⊎ IsPut H s named q m → IsTrue m.excess → IsTrue (is_good m.tag)
     good_in_excess q m (inl was) e = L.excess_is_good q m was.0 e
     good_in_excess q m (inr put) e = ap (λ n. is_good n.tag) put.3 ∙ entered_excess H q put.2 (sym (ap (λ n. n.excess) put.3) ∙ e)
 
@@ -91,7 +93,7 @@ sister_fails true b e h = not_passed b e
 sister_fails false b e h = cc
 
 module _ (C : Cluster) (H : Holdings) (p : ReplicaId) (stamp : Stamp) where
-  pub enter_origin : Holds (λ q m. IsKept C H p.storage (λ b. b == p.block) (λ q. not (replaces C p q)) q m ⊎ IsPut C H p.storage (λ b. b == p.block) (λ q. not (replaces C p q)) q m) (enter C H p stamp).replicas
+  pub enter_origin : Holds (λ q m. IsKept H (λ q. not (replaces C p q)) q m ⊎ IsPut H p.storage (λ b. b == p.block) q m) (enter C H p stamp).replicas
   unfolding enter
   enter_origin = origin C H p.storage (λ b. b == p.block) (λ q. not (replaces C p q)) ((p, entered H p stamp) ∷ []) ((refl, eq-eqb p.block p.block refl, stamp, refl), tt)
 
@@ -138,12 +140,12 @@ module _ (C : Cluster) (H : Holdings) (s : ℕ) (es : List Entry) where
   abbrev pub stays_by : ReplicaId → Bool
   stays_by q = not (leaves_by_report C s es q)
 
-  pub report_origin : Holds (λ q m. IsKept C H s (is_named es) stays_by q m ⊎ IsPut C H s (is_named es) stays_by q m) (report C H s es).replicas
+  pub report_origin : Holds (λ q m. IsKept H stays_by q m ⊎ IsPut H s (is_named es) q m) (report C H s es).replicas
   unfolding report
   report_origin =
       origin C H s (is_named es) stays_by (map put_by es)
-      (each_mapped (λ e. IsPut C H s (is_named es) stays_by e.0 e.1) put_by es
-      (each_then (λ x. is_named es x.id ≡ true) (λ x. IsPut C H s (is_named es) stays_by (put_by x).0 (put_by x).1) es (each_named es) (λ x h. (refl, h, x.stamp, refl))))
+      (each_mapped (λ e. IsPut H s (is_named es) e.0 e.1) put_by es
+      (each_then (λ x. is_named es x.id ≡ true) (λ x. IsPut H s (is_named es) (put_by x).0 (put_by x).1) es (each_named es) (λ x h. (refl, h, x.stamp, refl))))
 
   pub report_pending : (q : ReplicaId) (r : ℕ) → get (report C H s es).pending q ≡ Some r → get H.pending q ≡ Some r
   unfolding report

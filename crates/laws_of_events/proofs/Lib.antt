@@ -24,3 +24,4 @@ pub mod BadStays
 pub mod Asked
 pub mod PartSums
 pub mod Calling
+pub mod Arriving

@@ -1,6 +1,6 @@
 -- What events on nodes and storages change.
-use Rattle.std.proofs.Common.{◌≡◌, ℕ, Bool, true, false, cond, not, ◌||◌, Option, Some, None, List, [], ◌∷◌, ◌++◌, map, refl, sym, ap, ◌∙◌, eqb-true, eq-eqb, ne_eqb, true≢false}
-use Rattle.std.specs.Prelude.{◌==◌, if◌then◌else◌, option_and_then, option_map}
+use Rattle.std.proofs.Common.{◌≡◌, ℕ, Bool, true, false, cond, not, ◌||◌, Option, Some, None, List, [], ◌∷◌, ◌++◌, map, refl, ap, ◌∙◌, eqb-true, eq-eqb, ne_eqb}
+use Rattle.std.specs.Prelude.{◌==◌, if◌then◌else◌, option_map}
 use Rattle.std.specs.Option.{option_map_or}
 use Rattle.std.specs.Ordering.{eq_by_cmp, nat_cmp}
 use Rattle.std.proofs.lemmas.Bool.{or_parts, false_from_ne_true}
@@ -15,9 +15,9 @@ use Rattle.bm_base.specs.Events.{register, heartbeat, set_remaining, without_nod
 use Rattle.bm_base.specs.Calls.{after_event}
 use Rattle.bm_base.proofs.MapLaws.{get-insert, get-keep, get-revise}
 use Rattle.bm_base.proofs.Ties.{number_tie}
-use Rattle.laws_of_events.proofs.Options.{revised}
+use Rattle.laws_of_events.proofs.Options.{revised, none_stays, all_stays}
 use Rattle.laws_of_events.proofs.Maps.{get_here, get_other, get_taken, get_left}
-use Rattle.laws_of_events.proofs.Clusters.{is_on}
+use Rattle.laws_of_events.proofs.Clusters.{is_on, eqb_turned}
 use Rattle.laws_of_events.specs.Changes as law
 
 -- A node comes.
@@ -35,19 +35,12 @@ step_new true false n z = refl
 step_new false true n z = refl
 step_new false false n z = refl
 
-pub eqb_swap : (a b : ℕ) → (a == b) ≡ (b == a)
-eqb_swap a b = by_case (a == b) refl
-  where
-    by_case : (t : Bool) → (a == b) ≡ t → t ≡ (b == a)
-    by_case true t = sym (eq-eqb b a (sym (eqb-true a b t)))
-    by_case false t = sym (ne_eqb b a (λ e. true≢false (sym (eq-eqb a b (sym e)) ∙ t)))
-
 new_storages : (n : ℕ) (ss : List ℕ) (m : Map by_number StorageInfo) (s : ℕ) → get (insert_all m (map (λ s. (s, record { node = n; remaining = 0 })) ss)) s ≡ new_or (has ss s) n (get m s)
 unfolding new_or
 new_storages n [] m s = refl
 new_storages n (t ∷ ss) m s =
     new_storages n ss (insert m t (record { node = n; remaining = 0 })) s
-    ∙ ap (new_or (has ss s) n) (get-insert m t (record { node = n; remaining = 0 }) s ∙ ap (λ b. cond b (Some (record { node = n; remaining = 0 })) (get m s)) (number_tie s t ∙ eqb_swap s t))
+    ∙ ap (new_or (has ss s) n) (get-insert m t (record { node = n; remaining = 0 }) s ∙ ap (λ b. cond b (Some (record { node = n; remaining = 0 })) (get m s)) (number_tie s t ∙ eqb_turned s t))
     ∙ step_new (has ss s) (t == s) n (get m s)
 
 pub node_came : law.registered_node_is_there
@@ -62,27 +55,14 @@ node_came M n rack ss = record {
 
 -- Storages leave.
 
-abbrev staying : {X : Type 0} → Bool → Option X → Option X
-staying b z = option_and_then (λ x. cond b (Some x) None) z
-
-none_stays : {X : Type 0} (b : Bool) (z : Option X) → b ≡ true → staying (not b) z ≡ None
-none_stays true None e = refl
-none_stays true (Some x) e = refl
-none_stays false z e = cc
-
-all_stays : {X : Type 0} (b : Bool) (z : Option X) → b ≡ false → staying (not b) z ≡ z
-all_stays true z e = cc
-all_stays false None e = refl
-all_stays false (Some x) e = refl
-
 abbrev kept_where : {X : Type 0} → (ℕ → Bool) → Map by_replica X → Map by_replica X
 kept_where gone m = keep m (λ q _. not (gone q.storage))
 
 gone_there : {X : Type 0} (gone : ℕ → Bool) (m : Map by_replica X) (p : ReplicaId) → gone p.storage ≡ true → get (kept_where gone m) p ≡ None
-gone_there gone m p e = get-keep m (λ q _. not (gone q.storage)) p ∙ none_stays (gone p.storage) (get m p) e
+gone_there gone m p e = get-keep m (λ q _. not (gone q.storage)) p ∙ none_stays (not (gone p.storage)) (get m p) (ap not e)
 
 still_there : {X : Type 0} (gone : ℕ → Bool) (m : Map by_replica X) (p : ReplicaId) → gone p.storage ≡ false → get (kept_where gone m) p ≡ get m p
-still_there gone m p e = get-keep m (λ q _. not (gone q.storage)) p ∙ all_stays (gone p.storage) (get m p) e
+still_there gone m p e = get-keep m (λ q _. not (gone q.storage)) p ∙ all_stays (not (gone p.storage)) (get m p) (ap not e)
 
 -- whether a storage is one of the node
 on_it : (C : Cluster) (n s : ℕ) → law.IsOn C n s → has_storage C n s ≡ true
@@ -107,8 +87,8 @@ node_left M n =
       get_taken C.nodes n,
       (λ m other. get_left C.nodes n m other),
       record {
-        storages = λ s h. get-keep C.storages (λ s _. not (has_storage C n s)) s ∙ none_stays (has_storage C n s) (get C.storages s) (on_it C n s h);
-        other_storages = λ s h. get-keep C.storages (λ s _. not (has_storage C n s)) s ∙ all_stays (has_storage C n s) (get C.storages s) (not_on_it C n s h);
+        storages = λ s h. get-keep C.storages (λ s _. not (has_storage C n s)) s ∙ none_stays (not (has_storage C n s)) (get C.storages s) (ap not (on_it C n s h));
+        other_storages = λ s h. get-keep C.storages (λ s _. not (has_storage C n s)) s ∙ all_stays (not (has_storage C n s)) (get C.storages s) (ap not (not_on_it C n s h));
         replicas = λ p h. gone_there (has_storage C n) H.replicas p (on_it C n p.storage h);
         other_replicas = λ p h. still_there (has_storage C n) H.replicas p (not_on_it C n p.storage h);
         pending = λ p h. gone_there (has_storage C n) H.pending p (on_it C n p.storage h);
@@ -155,7 +135,7 @@ others_left : (m : Map by_number StorageInfo) (rs : List Remaining) (s : ℕ) �
 others_left m [] s h = refl
 others_left m (r ∷ rs) s h =
     let parts = or_parts (r.storage == s) (has (map (λ q. q.storage) rs) s) h in
-    others_left (revise_at m r.storage (λ i. record i { remaining = r.remaining })) rs s parts.1 ∙ told_at m r s ∙ untold r.remaining (s == r.storage) (get m s) (eqb_swap s r.storage ∙ parts.0)
+    others_left (revise_at m r.storage (λ i. record i { remaining = r.remaining })) rs s parts.1 ∙ told_at m r s ∙ untold r.remaining (s == r.storage) (get m s) (eqb_turned s r.storage ∙ parts.0)
 
 still_on : (r : ℕ) (b : Bool) (z : Option StorageInfo) (i : StorageInfo) → z ≡ Some i → (j : StorageInfo) × (option_map (told r b) z ≡ Some j) × (j.node ≡ i.node)
 still_on r true z i e = (record i { remaining = r }, ap (option_map (told r true)) e, refl)

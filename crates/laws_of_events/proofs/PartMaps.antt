@@ -5,12 +5,8 @@ use Rattle.std.specs.Ordering.{eq_by_cmp}
 use Rattle.bm_base.specs.Map.{Map, Order, get, insert, insert_all, keep, revise, remove}
 use Rattle.bm_base.proofs.MapLaws.{same_map, get-keep, get-revise, get-remove}
 use Rattle.bm_base.proofs.Keeping.{keep-insert, get-keep_there}
+use Rattle.laws_of_events.proofs.Options.{none_stays, all_stays, not_taken}
 use Rattle.laws_of_events.proofs.Maps.{same_key, get_elsewhere}
-
-fails : {X : Type 0} (b : Bool) (z : Option X) → b ≡ false → option_and_then (λ x. cond b (Some x) None) z ≡ None
-fails true z e = cc
-fails false None e = refl
-fails false (Some x) e = refl
 
 mapped_same : {X : Type 0} (f : X → X) → ((x : X) → f x ≡ x) → (z : Option X) → option_map f z ≡ z
 mapped_same f same None = refl
@@ -19,15 +15,6 @@ mapped_same f same (Some x) = ap Some (same x)
 mapped_none : {X : Type 0} (f : X → X) (z : Option X) → z ≡ None → option_map f z ≡ None
 mapped_none f None e = refl
 mapped_none f (Some x) e = cc
-
-passes_all : {X : Type 0} (b : Bool) (z : Option X) → b ≡ true → option_and_then (λ x. cond b (Some x) None) z ≡ z
-passes_all true None e = refl
-passes_all true (Some x) e = refl
-passes_all false z e = cc
-
-not_out : {X : Type 0} (b : Bool) (z : Option X) → b ≡ false → cond b None z ≡ z
-not_out true z e = cc
-not_out false z e = refl
 
 other_key : {K : Type 0} (o : Order K) (p : K → Bool) (k q : K) → p k ≡ false → p q ≡ true → (b : Bool) → eq_by_cmp o.cmp q k ≡ b → b ≡ false
 other_key o p k q none t true e = absurd (true≢false (sym t ∙ ap p (same_key o q k e) ∙ none))
@@ -41,7 +28,7 @@ module _ {K X : Type 0} {o : Order K} (p : K → Bool) where
   get_in m q h = get-keep_there m p q h
 
   pub get_out : (m : Map o X) (q : K) → p q ≡ false → get (part m) q ≡ None
-  get_out m q h = get-keep m (λ k _. p k) q ∙ fails (p q) (get m q) h
+  get_out m q h = get-keep m (λ k _. p k) q ∙ none_stays (p q) (get m q) h
 
   -- a map that answers like m where keys pass, and nothing else, is its part
   pub part_is : (m n : Map o X) → ((q : K) → p q ≡ true → get m q ≡ get n q) → ((q : K) → p q ≡ false → get n q ≡ None) → part m ≡ n
@@ -65,7 +52,7 @@ module _ {K X : Type 0} {o : Order K} (p : K → Bool) where
   part_revised_others m f same = part_same (revise m f) m (λ q t. get-revise m f q ∙ mapped_same (f q) (same q t) (get m q))
 
   pub part_kept_others : (m : Map o X) (r : K → Bool) → ((q : K) → p q ≡ true → r q ≡ true) → part (keep m (λ q _. r q)) ≡ part m
-  part_kept_others m r all = part_same (keep m (λ q _. r q)) m (λ q t. get-keep m (λ q _. r q) q ∙ passes_all (r q) (get m q) (all q t))
+  part_kept_others m r all = part_same (keep m (λ q _. r q)) m (λ q t. get-keep m (λ q _. r q) q ∙ all_stays (r q) (get m q) (all q t))
 
   -- kept by tests that agree on the keys that pass
   pub part_kept : (m : Map o X) (r s : K → Bool) → ((q : K) → p q ≡ true → r q ≡ s q) → part (keep m (λ q _. r q)) ≡ keep (part m) (λ q _. s q)
@@ -78,7 +65,7 @@ module _ {K X : Type 0} {o : Order K} (p : K → Bool) where
   part_inserted_other m k v other = part_same (insert m k v) m (λ q t. get_elsewhere m k v q (other_key o p k q other t (eq_by_cmp o.cmp q k) refl))
 
   pub part_removed_other : (m : Map o X) (k : K) → p k ≡ false → part (remove m k) ≡ part m
-  part_removed_other m k other = part_same (remove m k) m (λ q t. get-remove m k q ∙ not_out (eq_by_cmp o.cmp q k) (get m q) (other_key o p k q other t (eq_by_cmp o.cmp q k) refl))
+  part_removed_other m k other = part_same (remove m k) m (λ q t. get-remove m k q ∙ not_taken (eq_by_cmp o.cmp q k) (get m q) (other_key o p k q other t (eq_by_cmp o.cmp q k) refl))
 
   inserted_by : (m : Map o X) (e : K × X) (es : List (K × X)) (b : Bool) → p e.0 ≡ b → insert_all (part (insert m e.0 e.1)) es ≡ insert_all (part m) (cond b (e ∷ es) es)
   inserted_by m e es true h = ap (λ n. insert_all n es) (keep-insert m (λ k _. p k) e.0 e.1 h)

@@ -1,13 +1,13 @@
 -- The laws of reports.
 use Rattle.std.proofs.Common.{◌≡◌, ◌≢◌, ℕ, Bool, true, false, cond, not, ◌&&◌, Option, Some, None, is_some, List, [], ◌∷◌, ◌++◌, filter, length, count_by, refl, sym, ap, subst, ◌∙◌, ◌⊎◌, inl, inr, eqb-true, eq-eqb, ne_eqb}
-use Rattle.std.specs.Prelude.{◌==◌, if◌then◌else◌, option_and_then}
+use Rattle.std.specs.Prelude.{◌==◌, if◌then◌else◌}
 use Rattle.std.specs.Option.{option_map_or}
 use Rattle.std.specs.Ordering.{eq_by_cmp}
-use Rattle.std.proofs.lemmas.Bool.{eqb-false}
+use Rattle.std.proofs.lemmas.Bool.{eqb-false, and_right}
 use Rattle.std.proofs.lemmas.List.Sums.{length-filter}
 use Rattle.bm_base.specs.declared.replica.ReplicaId.{ReplicaId}
 use Rattle.bm_base.specs.declared.replica.Tag.{Tag}
-use Rattle.bm_base.specs.declared.replica.Tag.TheVariants.{Good, Stale, Bad, Stray}
+use Rattle.bm_base.specs.declared.replica.Tag.TheVariants.{Good, Stale, Bad}
 use Rattle.bm_base.specs.declared.replica.Marks.{Marks}
 use Rattle.bm_base.specs.declared.replica.Stamp.{Stamp}
 use Rattle.bm_base.specs.declared.replica.BlockInfo.{BlockInfo}
@@ -22,12 +22,12 @@ use Rattle.bm_base.specs.Calls.{new_replicas, done, done_by, after_event}
 use Rattle.bm_base.specs.Lawful.{IsLawfulHoldings}
 use Rattle.bm_base.proofs.MapLaws.{same_map, get-keep, get-insert}
 use Rattle.bm_base.proofs.Ties.{replica_tie}
-use Rattle.laws_of_events.proofs.Options.{there}
+use Rattle.laws_of_events.proofs.Options.{there, staying, none_stays, all_stays, stays_twice}
 use Rattle.laws_of_events.proofs.Lists.{Each, each_then}
 use Rattle.laws_of_events.proofs.Maps.{each_entry, get_here}
 use Rattle.laws_of_events.proofs.Clusters.{no_sisters}
 use Rattle.laws_of_events.proofs.Entering.{IsKept, IsPut, enter_origin, report_origin, stays_by}
-use Rattle.laws_of_events.proofs.Telling.{told_marks}
+use Rattle.laws_of_events.proofs.Telling.{tag_where, told_marks}
 use Rattle.laws_of_events.proofs.Reporting.{last_stamp, named_since, named_numbers, last_is, put_or, reported_here, reported_elsewhere}
 use Rattle.laws_of_events.specs.Reports as law
 
@@ -40,24 +40,6 @@ unfolding after_event change_holdings
 held_received M s b stamp = refl
 
 -- Which replicas are there.
-
-abbrev staying : {X : Type 0} → Bool → Option X → Option X
-staying b z = option_and_then (λ m. cond b (Some m) None) z
-
-none_stays : {X : Type 0} (b : Bool) (z : Option X) → b ≡ false → staying b z ≡ None
-none_stays true z e = cc
-none_stays false None e = refl
-none_stays false (Some x) e = refl
-
-all_stays : {X : Type 0} (b : Bool) (z : Option X) → b ≡ true → staying b z ≡ z
-all_stays true None e = refl
-all_stays true (Some x) e = refl
-all_stays false z e = cc
-
-stays_twice : {X : Type 0} (b : Bool) (z : Option X) → staying b (staying b z) ≡ staying b z
-stays_twice b None = refl
-stays_twice true (Some x) = refl
-stays_twice false (Some x) = refl
 
 module _ (C : Cluster) (H : Holdings) (s : ℕ) (es : List Entry) where
   -- on the storage only named ones stay
@@ -91,9 +73,6 @@ last_decides M s front e behind h =
     )
 
 -- The same report again.
-
-abbrev tag_where : Bool → Stamp → Option BlockInfo → Tag
-tag_where bad stamp z = option_map_or (λ i. if bad then Bad else if same_stamp stamp i.stamp then Good else Stale) z Stray
 
 tag_by : Bool → Bool → Tag
 tag_by bad same = if bad then Bad else if same then Good else Stale
@@ -213,11 +192,7 @@ second_changes_nothing M s es =
 
 stays_where : (C : Cluster) (H : Holdings) (s : ℕ) (es : List Entry) (p : ReplicaId) → p.storage ≢ s → are_sisters C s p.storage ≡ false → stays_by C H s es p ≡ true
 unfolding leaves_by_report
-stays_where C H s es p other h = rw (ne_eqb p.storage s other, h) (both_fail (is_named es p.block))
-  where
-    both_fail : (a : Bool) → not (a && false) ≡ true
-    both_fail true = refl
-    both_fail false = refl
+stays_where C H s es p other h = rw (ne_eqb p.storage s other, h) (ap not (and_right (is_named es p.block) false refl))
 
 pub report_leaves_others : law.report_leaves_other_nodes
 report_leaves_others M s es p apart =
@@ -228,18 +203,10 @@ report_leaves_others M s es p apart =
 
 not_replaced : (C : Cluster) (p q : ReplicaId) → are_sisters C p.storage q.storage ≡ false → not (replaces C p q) ≡ true
 unfolding replaces
-not_replaced C p q h = rw h (both_fail (q.block == p.block))
-  where
-    both_fail : (a : Bool) → not (a && false) ≡ true
-    both_fail true = refl
-    both_fail false = refl
+not_replaced C p q h = rw h (ap not (and_right (q.block == p.block) false refl))
 
 other_replica : (p q : ReplicaId) → q.storage ≢ p.storage → eq_by_cmp replica_cmp q p ≡ false
-other_replica p q other = replica_tie q p ∙ rw (ne_eqb q.storage p.storage other) (with_false (q.block == p.block))
-  where
-    with_false : (x : Bool) → (x && false) ≡ false
-    with_false true = refl
-    with_false false = refl
+other_replica p q other = replica_tie q p ∙ rw (ne_eqb q.storage p.storage other) (and_right (q.block == p.block) false refl)
 
 entered_elsewhere : (C : Cluster) (H : Holdings) (p : ReplicaId) (stamp : Stamp) (q : ReplicaId) → q.storage ≢ p.storage → are_sisters C p.storage q.storage ≡ false → get (enter C H p stamp).replicas q ≡ get H.replicas q
 unfolding enter
@@ -271,7 +238,7 @@ known_since_bad C H L p bad =
     undo true e = refl
     undo false e = cc
 
-bad_told : (C : Cluster) (H : Holdings) (s : ℕ) (named : ℕ → Bool) (stays : ReplicaId → Bool) → IsLawfulHoldings C H → (p : ReplicaId) (m : Marks) → law.IsBadIn H p → IsKept C H s named stays p m ⊎ IsPut C H s named stays p m → m.tag ≡ Bad
+bad_told : (C : Cluster) (H : Holdings) (s : ℕ) (named : ℕ → Bool) (stays : ReplicaId → Bool) → IsLawfulHoldings C H → (p : ReplicaId) (m : Marks) → law.IsBadIn H p → IsKept H stays p m ⊎ IsPut H s named p m → m.tag ≡ Bad
 bad_told C H s named stays L p m bad (inl was) = let same : Some m ≡ Some bad.0 = sym was.0 ∙ bad.1 in let is : m ≡ bad.0 = (cc) in ap (λ n. n.tag) is ∙ bad.2
 bad_told C H s named stays L p m bad (inr put) = let i = known_since_bad C H L p bad in ap (λ n. n.tag) put.3 ∙ (told_marks H p put.2).bad i.0 i.1 bad
 

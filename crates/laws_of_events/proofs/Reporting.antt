@@ -1,8 +1,9 @@
 -- What is held after a full report, replica by replica.
-use Rattle.std.proofs.Common.{◌≡◌, ◌≢◌, ℕ, Bool, true, false, cond, ◌&&◌, ◌||◌, Option, Some, None, is_some, List, [], ◌∷◌, ◌++◌, map, refl, sym, ap, ◌∙◌, eqb-true, eq-eqb, ne_eqb, true≢false}
+use Rattle.std.proofs.Common.{◌≡◌, ◌≢◌, ℕ, Bool, true, false, cond, ◌&&◌, ◌||◌, Option, Some, None, is_some, List, [], ◌∷◌, ◌++◌, map, refl, ap, ◌∙◌, eqb-true, eq-eqb, ne_eqb}
 use Rattle.std.specs.Prelude.{◌==◌, if◌then◌else◌}
 use Rattle.std.specs.Option.{option_map_or}
 use Rattle.std.specs.Ordering.{eq_by_cmp}
+use Rattle.std.proofs.lemmas.Bool.{and_right}
 use Rattle.bm_base.specs.declared.replica.ReplicaId.{ReplicaId}
 use Rattle.bm_base.specs.declared.replica.Marks.{Marks}
 use Rattle.bm_base.specs.declared.replica.Stamp.{Stamp}
@@ -13,6 +14,7 @@ use Rattle.bm_base.specs.State.{Cluster, Holdings, by_replica, replica_at, repli
 use Rattle.bm_base.specs.Events.{entered, is_named, report}
 use Rattle.bm_base.proofs.MapLaws.{get-insert}
 use Rattle.bm_base.proofs.Ties.{replica_tie}
+use Rattle.laws_of_events.proofs.Clusters.{eqb_turned}
 use Rattle.laws_of_events.proofs.Lists.{each_mapped, each_of}
 use Rattle.laws_of_events.proofs.Maps.{get_insert_all_elsewhere}
 use Rattle.laws_of_events.proofs.Entering.{stays_by}
@@ -81,24 +83,16 @@ module _ (C : Cluster) (H : Holdings) (s : ℕ) where
   step_put b None x z true e f = ap (λ c. Some (entered H (replica_at c s) x.stamp)) (eqb-true x.id b f)
   step_put b None x z false e f = refl
 
-  turned : (a b : ℕ) (t : Bool) → (a == b) ≡ t → (b == a) ≡ t
-  turned a b true e = eq-eqb b a (sym (eqb-true a b e))
-  turned a b false e = ne_eqb b a (λ is. true≢false (sym (eq-eqb a b (sym is)) ∙ e))
-
   puts_here : (m : Map by_replica Marks) (es : List Entry) (b : ℕ) → get (insert_all m (map put es)) (replica_at b s) ≡ put_or b (last_stamp es b) (get m (replica_at b s))
   puts_here m [] b = refl
   puts_here m (x ∷ es) b =
       puts_here (insert m (put x).0 (put x).1) es b
       ∙ ap (put_or b (last_stamp es b)) (get-insert m (put x).0 (put x).1 (replica_at b s) ∙ ap (λ c. cond c (Some (put x).1) (get m (replica_at b s))) (tied b x.id))
-      ∙ step_put b (last_stamp es b) x (get m (replica_at b s)) (b == x.id) refl (turned b x.id (b == x.id) refl)
-      ∙ ap (λ t. put_or b (either (last_stamp es b) (if t then Some x.stamp else None)) (get m (replica_at b s))) (sym (turned b x.id (b == x.id) refl))
+      ∙ step_put b (last_stamp es b) x (get m (replica_at b s)) (b == x.id) refl (eqb_turned x.id b)
+      ∙ ap (λ t. put_or b (either (last_stamp es b) (if t then Some x.stamp else None)) (get m (replica_at b s))) (eqb_turned b x.id)
 
   elsewhere_key : (p : ReplicaId) (c : ℕ) → p.storage ≢ s → eq_by_cmp replica_cmp p (replica_at c s) ≡ false
-  elsewhere_key p c other = replica_tie p (replica_at c s) ∙ rw (ne_eqb p.storage s other) (with_false (p.block == c))
-    where
-      with_false : (x : Bool) → (x && false) ≡ false
-      with_false true = refl
-      with_false false = refl
+  elsewhere_key p c other = replica_tie p (replica_at c s) ∙ rw (ne_eqb p.storage s other) (and_right (p.block == c) false refl)
 
   puts_elsewhere : (m : Map by_replica Marks) (es : List Entry) (p : ReplicaId) → p.storage ≢ s → get (insert_all m (map put es)) p ≡ get m p
   puts_elsewhere m es p other =

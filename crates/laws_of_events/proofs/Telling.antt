@@ -58,7 +58,8 @@ same_stamps a b e =
 stamps_same : (a b : Stamp) → a ≡ b → same_stamp a b ≡ true
 stamps_same a b e = and_from (a.generation == b.generation) (a.len == b.len) (eq-eqb a.generation b.generation (ap (λ s. s.generation) e)) (eq-eqb a.len b.len (ap (λ s. s.len) e))
 
-abbrev tag_where : Bool → Stamp → Option BlockInfo → Tag
+-- the tag, where it was bad or not and this is what is known of the block
+abbrev pub tag_where : Bool → Stamp → Option BlockInfo → Tag
 tag_where bad stamp z = option_map_or (λ i. if bad then Bad else if same_stamp stamp i.stamp then Good else Stale) z Stray
 
 tag_is : (H : Holdings) (p : ReplicaId) (stamp : Stamp) → (entered H p stamp).tag ≡ tag_where (was_bad H p) stamp (get H.blocks p.block)

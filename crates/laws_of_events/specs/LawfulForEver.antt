@@ -1,5 +1,7 @@
 -- Every state that calls lead to is lawful.
-use Rattle.std.specs.Prelude.{◌≡◌, IsTrue, List, None}
+use Rattle.std.specs.Prelude.{◌≡◌, IsTrue, IsSome, List, None}
+use Rattle.bm_base.specs.declared.replica.ReplicaId.{ReplicaId}
+use Rattle.bm_base.specs.Map.{get}
 use Rattle.bm_base.specs.declared.config.Config.{Config}
 use Rattle.bm_base.specs.declared.event.Event.{Event}
 use Rattle.bm_base.specs.declared.call.Call.{Call}
@@ -40,3 +42,10 @@ calls_lead_to_lawful = (c : Config) (ks : List Call) → HasFittingStart c → F
 abbrev pub answered_calls_lead_to_lawful : Type 0
 answered_calls_lead_to_lawful =
     (c : Config) (ks : List Call) (answers : List Answer) → HasFittingStart c → FitCalls ks → MayAnswerAll step (first_state c) ks answers → IsLawful (state_left_by step (first_state c) ks answers)
+
+-- what is on its way to a storage is not there yet, whatever its tag
+abbrev pub IsStillToCome : State → Type 0
+IsStillToCome M = (p : ReplicaId) → IsSome (get M.holdings.pending p) → get M.holdings.replicas p ≡ None
+
+abbrev pub transfers_are_still_to_come : Type 0
+transfers_are_still_to_come = (c : Config) (ks : List Call) → IsStillToCome (state_after (first_state c) ks)

@@ -38,3 +38,8 @@ pub fn calls_lead_to_lawful()
 pub fn answered_calls_lead_to_lawful()
     ensures { law.answered_calls_lead_to_lawful }
 {}
+
+/// After every list of calls: what is on its way to a storage is not there yet, whatever its tag.
+pub fn transfers_are_still_to_come()
+    ensures { law.transfers_are_still_to_come }
+{}
