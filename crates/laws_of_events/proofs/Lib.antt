@@ -25,3 +25,4 @@ pub mod Asked
 pub mod PartSums
 pub mod Calling
 pub mod Arriving
+pub mod Plainly

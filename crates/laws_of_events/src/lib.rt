@@ -7,5 +7,6 @@
 pub mod calls;
 pub mod changes;
 pub mod lawful;
+pub mod plain_words;
 pub mod reports;
 pub mod shards;
