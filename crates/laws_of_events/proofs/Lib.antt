@@ -26,3 +26,4 @@ pub mod PartSums
 pub mod Calling
 pub mod Arriving
 pub mod Plainly
+pub mod Listing

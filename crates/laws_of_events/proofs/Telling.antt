@@ -21,7 +21,7 @@ found_bad Stale e = cc
 found_bad Bad e = refl
 found_bad Stray e = cc
 
-found_good : (t : Tag) → is_good t ≡ true → t ≡ Good
+pub found_good : (t : Tag) → is_good t ≡ true → t ≡ Good
 found_good Good e = refl
 found_good Stale e = cc
 found_good Bad e = cc

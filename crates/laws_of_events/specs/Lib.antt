@@ -6,3 +6,4 @@ pub mod Reports
 pub mod Parts
 pub mod Changes
 pub mod Calls
+pub mod Queries

@@ -8,5 +8,6 @@ pub mod calls;
 pub mod changes;
 pub mod lawful;
 pub mod plain_words;
+pub mod queries;
 pub mod reports;
 pub mod shards;
