@@ -27,3 +27,4 @@ pub mod Calling
 pub mod Arriving
 pub mod Plainly
 pub mod Listing
+pub mod Rising

@@ -1,5 +1,5 @@
 -- What queries list: just what is held, and all of it.
-use Rattle.std.specs.Prelude.{◌≡◌, ℕ, Bool, false, ◌&&◌, ◌==◌, ◌↔◌, ◌⊎◌, IsTrue, IsSome, List, Some}
+use Rattle.std.specs.Prelude.{◌≡◌, ℕ, ◌<◌, AllPairs, Bool, false, ◌&&◌, ◌==◌, ◌↔◌, ◌⊎◌, IsTrue, IsSome, List, Some}
 use Rattle.std.specs.List.{list_any}
 use Rattle.bm_base.specs.declared.replica.ReplicaId.{ReplicaId}
 use Rattle.bm_base.specs.declared.replica.Replica.{Replica}
@@ -46,3 +46,22 @@ IsMissing H b = (i : BlockInfo) × (get H.blocks b ≡ Some i) × ((s : ℕ) →
 
 abbrev pub missing_have_no_live_replica : Type 0
 missing_have_no_live_replica = (C : Cluster) (H : Holdings) → IsLawfulHoldings C H → (b : ℕ) → IsTrue (has (missing_blocks C H) b) ↔ IsMissing H b
+
+-- a replica before another: by block, then by storage
+abbrev pub IsBefore : ReplicaId → ReplicaId → Type 0
+IsBefore p q = (p.block < q.block) ⊎ ((p.block ≡ q.block) × (p.storage < q.storage))
+
+abbrev pub id_of : Replica → ReplicaId
+id_of r = replica_at r.block r.storage
+
+-- each list rises, so that nothing stands in it twice
+pub record ListsRise (C : Cluster) (H : Holdings) : Type 0 where
+  pub replicas : AllPairs (λ q r. IsBefore (id_of q) (id_of r)) (all_replicas H)
+  pub corrupt : AllPairs IsBefore (corrupt_replicas H)
+  pub excess : AllPairs IsBefore (excess_replicas H)
+  pub missing : AllPairs (λ b c. b < c) (missing_blocks C H)
+  pub blocks : (s : ℕ) → AllPairs (λ b c. b < c) (blocks_on H s)
+  pub places_of : (b : ℕ) → AllPairs (λ s t. s < t) (places H b)
+
+abbrev pub lists_rise : Type 0
+lists_rise = (C : Cluster) (H : Holdings) → ListsRise C H

@@ -32,3 +32,8 @@ pub fn places_are_good()
 pub fn missing_have_no_live_replica()
     ensures { law.missing_have_no_live_replica }
 {}
+
+/// Each list rises, so that nothing stands in it twice: replicas by block and then by storage, blocks and storages by number.
+pub fn lists_rise()
+    ensures { law.lists_rise }
+{}
