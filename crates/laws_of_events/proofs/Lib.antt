@@ -28,3 +28,4 @@ pub mod Arriving
 pub mod Plainly
 pub mod Listing
 pub mod Rising
+pub mod Wanting

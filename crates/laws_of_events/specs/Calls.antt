@@ -4,10 +4,12 @@ use Rattle.bm_base.specs.declared.replica.ReplicaId.{ReplicaId}
 use Rattle.bm_base.specs.declared.event.Event.{Event}
 use Rattle.bm_base.specs.declared.call.Call.{Call}
 use Rattle.bm_base.specs.declared.call.Call.TheVariants as call
+use Rattle.bm_base.specs.declared.call.Answer.{Answer}
 use Rattle.bm_base.specs.Map.{get}
 use Rattle.bm_base.specs.State.{State}
 use Rattle.bm_base.specs.Refusals.{refusal_of, round_refusal}
 use Rattle.bm_base.specs.Calls.{step}
+use Rattle.bm_base.specs.Answering.{MayAnswer, is_refused, state_left}
 
 abbrev pub is_query : Call → Bool
 is_query (call.Apply e) = false
@@ -36,3 +38,11 @@ pub record IsNextRound (M N : State) : Type 0 where
 
 abbrev pub round_is_counted : Type 0
 round_is_counted = (M : State) → round_refusal M ≡ None → IsNextRound M (step M call.Round).1
+
+-- Where memory may lack, a refused answer of whatever kind leaves the state, and any other is that of the step.
+
+abbrev pub refused_answer_leaves_state : Type 0
+refused_answer_leaves_state = (M : State) (k : Call) (a : Answer) → MayAnswer step M k a → IsTrue (is_refused a) → state_left step M k a ≡ M
+
+abbrev pub other_answer_is_the_steps : Type 0
+other_answer_is_the_steps = (M : State) (k : Call) (a : Answer) → MayAnswer step M k a → is_refused a ≡ false → (a ≡ (step M k).0) × (state_left step M k a ≡ (step M k).1)

@@ -18,3 +18,13 @@ pub fn event_is_counted()
 pub fn round_is_counted()
     ensures { law.round_is_counted }
 {}
+
+/// Where memory may lack, an answer that refuses leaves the state, whether it is the step's refusal or want of memory.
+pub fn refused_answer_leaves_state()
+    ensures { law.refused_answer_leaves_state }
+{}
+
+/// Where memory may lack, an answer that refuses nothing is the step's, and so is the state that it leaves.
+pub fn other_answer_is_the_steps()
+    ensures { law.other_answer_is_the_steps }
+{}
