@@ -1,7 +1,13 @@
-//! Laws of events: what holds of every state that calls lead to, of every report, and of every cut into shards.
+//! Laws of events: what the definitions of `bm_base` come to, over every state, every lawful state or every list of calls.
 //!
-//! The definitions of `bm_base` say what each call does; the laws here say what follows from them, over every lawful state or
-//! over every list of calls. No function here does anything: its contract is the law.
+//! - `lawful`, `plain_words`: what holds of every state that calls lead to
+//! - `calls`: what each kind of call leaves of a state
+//! - `changes`, `reports`: what each event changes, and what it leaves
+//! - `queries`: what queries list
+//! - `shards`: the parts into which blocks are cut by their numbers
+//!
+//! The definitions say what each call does; a slip in one of them makes a law false. No function here does anything: its
+//! contract is the law.
 #![tactic(auto)]
 
 pub mod calls;
