@@ -1,0 +1,105 @@
+-- What an event answers adds up.
+use Rattle.std.proofs.Common.{◌≡◌, ◌+◌, Bool, true, false, cond, not, ◌&&◌, Option, Some, None, is_some, List, [], ◌∷◌, map, filter, length, refl, sym, ap, subst, ◌∙◌, T, arith, Ordering}
+use Rattle.std.specs.Prelude.{option_and_then}
+use Rattle.std.specs.Ordering.{eq_by_cmp, is_lt}
+use Rattle.std.specs.FinMap.{find, is_sorted}
+use Rattle.std.specs.FinMap.Entries.{same_entries, below_all}
+use Rattle.std.proofs.lemmas.List.{length-map}
+use Rattle.std.proofs.lemmas.List.Sums.{length-filter}
+use Rattle.bm_base.specs.declared.replica.Marks.{Marks}
+use Rattle.bm_base.specs.Map.{Map, Order, get, keep, len, entries, contains_key}
+use Rattle.bm_base.specs.State.{Holdings, by_replica}
+use Rattle.bm_base.specs.Calls.{new_replicas, done, done_by, after_event}
+use Rattle.bm_base.proofs.MapLaws.{get-keep, entries-keep}
+use Rattle.laws_of_events.specs.Changes as law
+use Rattle.laws_of_events.specs.Reports.{held_after}
+
+module _ {K X : Type 0} where
+  abbrev bare : List (K × X) → List (K × Unit {0})
+  bare es = map (λ e. (e.0, tt)) es
+
+module _ {K X : Type 0} (R : K → K → Ordering) where
+  below_bare : (k : K) (es : List (K × X)) → below_all R k (bare es) ≡ below_all R k es
+  below_bare k [] = refl
+  below_bare k (e ∷ es) = ap (λ b. is_lt (R k e.0) && b) (below_bare k es)
+
+  sorted_bare : (es : List (K × X)) → is_sorted R (bare es) ≡ is_sorted R es
+  sorted_bare [] = refl
+  sorted_bare (e ∷ es) = λ i. below_bare e.0 es i && sorted_bare es i
+
+  some_bare : (b : Bool) (x : X) (u : Option (Unit {0})) (z : Option X) → is_some u ≡ is_some z → is_some (cond b (Some tt) u) ≡ is_some (cond b (Some x) z)
+  some_bare true x u z e = refl
+  some_bare false x u z e = e
+
+  find_bare : (q : K) (es : List (K × X)) → is_some (find R q (bare es)) ≡ is_some (find R q es)
+  find_bare q [] = refl
+  find_bare q (e ∷ es) = some_bare (eq_by_cmp R q e.0) e.1 (find R q (bare es)) (find R q es) (find_bare q es)
+
+pub same_unit : (x y : Option (Unit {0})) → is_some x ≡ is_some y → x ≡ y
+same_unit None None e = refl
+same_unit None (Some y) e = cc
+same_unit (Some x) None e = cc
+same_unit (Some x) (Some y) e = refl
+
+module _ {K X Y : Type 0} {o : Order K} where
+  -- maps with the same keys are as long
+  pub same_len : (m : Map o X) (n : Map o Y) → ((q : K) → contains_key m q ≡ contains_key n q) → len m ≡ len n
+  unfolding len entries get
+  same_len m n same =
+      let lists : bare m.list ≡ bare n.list =
+      same_entries o.cmp o.total o.same (bare m.list) (bare n.list) (subst T (sym (sorted_bare o.cmp m.list)) m.sorted) (subst T (sym (sorted_bare o.cmp n.list)) n.sorted)
+      (λ q. same_unit (find o.cmp q (bare m.list)) (find o.cmp q (bare n.list)) (find_bare o.cmp q m.list ∙ same q ∙ sym (find_bare o.cmp q n.list))) in
+      sym (length-map m.list (λ e. (e.0, tt))) ∙ ap length lists ∙ length-map n.list (λ e. (e.0, tt))
+
+-- those that pass and those that don't are all
+both_parts : {X : Type 0} (p : X → Bool) (xs : List X) → length (filter (λ x. not (p x)) xs) + length (filter p xs) ≡ length xs
+both_parts p [] = refl
+both_parts p (x ∷ xs) =
+    let rest = both_parts p xs in
+    elim (p x) as (λ b. length (cond (not b) (x ∷ filter (λ y. not (p y)) xs) (filter (λ y. not (p y)) xs)) + length (cond b (x ∷ filter p xs) (filter p xs)) ≡ length (x ∷ xs)) [
+      | true ↦ omega (arith, rest)
+      | false ↦ omega (arith, rest)
+    ]
+
+abbrev Replicas : Type 0
+Replicas = Map by_replica Marks
+
+-- those of m that n has too
+abbrev shared : Replicas → Replicas → Replicas
+shared m n = keep m (λ q _. contains_key n q)
+
+new_and_shared : (old new : Replicas) → new_replicas old new + len (shared new old) ≡ len new
+unfolding new_replicas len
+new_and_shared old new =
+    (λ i. sym (length-filter (λ e. not (contains_key old e.0)) (entries new)) i + length (entries-keep by_replica new (λ q _. contains_key old q) i))
+    ∙ both_parts (λ e. contains_key old e.0) (entries new)
+
+kept_some : (b : Bool) (z : Option Marks) → is_some (option_and_then (λ x. cond b (Some x) None) z) ≡ (b && is_some z)
+kept_some true None = refl
+kept_some true (Some x) = refl
+kept_some false None = refl
+kept_some false (Some x) = refl
+
+both_swap : (a b : Bool) → (a && b) ≡ (b && a)
+both_swap true true = refl
+both_swap true false = refl
+both_swap false true = refl
+both_swap false false = refl
+
+shared_keys : (m n : Replicas) → len (shared m n) ≡ len (shared n m)
+shared_keys m n =
+    same_len (shared m n) (shared n m) (λ q.
+    ap is_some (get-keep m (λ q _. contains_key n q) q) ∙ kept_some (contains_key n q) (get m q) ∙ both_swap (contains_key n q) (contains_key m q)
+    ∙ sym (ap is_some (get-keep n (λ q _. contains_key m q) q) ∙ kept_some (contains_key m q) (get n q)))
+
+done_adds_up : (H G : Holdings) → len G.replicas + (done H G).removed ≡ len H.replicas + (done H G).added
+unfolding done
+done_adds_up H G =
+    let came = new_and_shared H.replicas G.replicas in
+    let went = new_and_shared G.replicas H.replicas in
+    let both = shared_keys G.replicas H.replicas in
+    omega (arith, came, went, both)
+
+pub adds_up : law.counts_add_up
+unfolding done_by after_event
+adds_up M e = done_adds_up M.holdings (held_after M e)

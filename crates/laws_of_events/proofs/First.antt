@@ -1,0 +1,52 @@
+-- The first state is lawful.
+use Rattle.std.proofs.Common.{◌≡◌, ℕ, true, false, Some, None, is_some, refl, sym, ap, ◌∙◌, arith}
+use Rattle.bm_base.specs.declared.config.Config.{Config}
+use Rattle.bm_base.specs.declared.replica.ReplicaId.{ReplicaId}
+use Rattle.bm_base.specs.declared.replica.Marks.{Marks}
+use Rattle.bm_base.specs.declared.replica.BlockInfo.{BlockInfo}
+use Rattle.bm_base.specs.declared.storage.StorageInfo.{StorageInfo}
+use Rattle.bm_base.specs.Map.{Order, get, len, empty, entries}
+use Rattle.bm_base.specs.State.{first_state, empty_cluster, empty_holdings, by_replica}
+use Rattle.bm_base.specs.Map.{by_number}
+use Rattle.bm_base.specs.Lawful.{IsLawful}
+use Rattle.bm_base.proofs.MapLaws.{get-empty}
+use Rattle.laws_of_events.specs.Fitting.{HasFittingStart}
+
+module _ (K X : Type 0) (o : Order K) where
+  nothing_there : (q : K) (x : X) → get (empty {X = X} {o = o}) q ≡ Some x → ⊥
+  nothing_there q x e = let none : None ≡ Some x = sym (get-empty o q) ∙ e in cc
+
+  nothing_known : (q : K) → is_some (get (empty {X = X} {o = o}) q) ≡ true → ⊥
+  nothing_known q e = let none : false ≡ true = sym (ap is_some (get-empty o q)) ∙ e in cc
+
+  len_empty : len (empty {X = X} {o = o}) ≡ 0
+  unfolding len entries empty
+  len_empty = refl
+
+pub first_lawful : (c : Config) → HasFittingStart c → IsLawful (first_state c)
+unfolding empty_cluster empty_holdings
+first_lawful c h = record {
+  cluster = record {
+    alive = λ s i e. absurd (nothing_there ℕ StorageInfo by_number s i e);
+    few_nodes = omega (arith, len_empty ℕ ℕ by_number);
+    few_storages = omega (arith, len_empty ℕ StorageInfo by_number);
+  };
+  holdings = record {
+    stored = λ p e. absurd (nothing_known ReplicaId Marks by_replica p e);
+    pending_stored = λ p e. absurd (nothing_known ReplicaId ℕ by_replica p e);
+    once = λ p q e f same. absurd (nothing_known ReplicaId Marks by_replica p e);
+    strays = λ p m e. absurd (nothing_there ReplicaId Marks by_replica p m e);
+    excess_is_good = λ p m e _. absurd (nothing_there ReplicaId Marks by_replica p m e);
+    pending_known = λ p e. absurd (nothing_known ReplicaId ℕ by_replica p e);
+    replicated = λ b i e. absurd (nothing_there ℕ BlockInfo by_number b i e);
+  };
+  numbers = record {
+    nodes = λ n rack e. absurd (nothing_there ℕ ℕ by_number n rack e);
+    storages = λ s i e. absurd (nothing_there ℕ StorageInfo by_number s i e);
+    blocks = λ b i e. absurd (nothing_there ℕ BlockInfo by_number b i e);
+    replicas = λ p e. absurd (nothing_known ReplicaId Marks by_replica p e);
+    round = h.0;
+    calls = h.1;
+  };
+  commanded = λ p r e. absurd (nothing_there ReplicaId ℕ by_replica p r e);
+}

@@ -1,0 +1,84 @@
+-- Calls lead to lawful states.
+use Rattle.std.proofs.Common.{◌≡◌, ◌<◌, Bool, true, false, if◌then◌else◌, Option, Some, None, List, [], ◌∷◌, refl}
+use Rattle.bm_base.specs.declared.config.Config.{Config}
+use Rattle.bm_base.specs.declared.refusal.Refusal.{Refusal}
+use Rattle.bm_base.specs.declared.call.Call.{Call}
+use Rattle.bm_base.specs.declared.call.Call.TheVariants as call
+use Rattle.bm_base.specs.declared.call.Answer.{Answer}
+use Rattle.bm_base.specs.State.{State, first_state}
+use Rattle.bm_base.specs.Refusals.{refusal_of, round_refusal, storage_refusal, block_refusal, last_number}
+use Rattle.bm_base.specs.Excess.{begun, started}
+use Rattle.bm_base.specs.Rounds.{whole_round}
+use Rattle.bm_base.specs.Calls.{step_with, step, refused_or, counted, state_after}
+use Rattle.bm_base.specs.Answering.{is_refused, wants_memory, state_left, MayAnswerAll, state_left_by}
+use Rattle.bm_base.specs.Lawful.{IsLawful}
+use Rattle.laws_of_events.specs.Fitting.{HasFittingStart, FitsCall, FitCalls}
+use Rattle.laws_of_events.proofs.Lists.{Each, each_all}
+use Rattle.laws_of_events.proofs.Checks.{round_accepted}
+use Rattle.laws_of_events.proofs.First.{first_lawful}
+use Rattle.laws_of_events.proofs.Rounding.{whole_lawful, counted_lawful}
+use Rattle.laws_of_events.proofs.Accepting.{event_lawful}
+
+-- a round counts no call itself
+calls_same : (M : State) → M.calls < last_number → (whole_round M).1.calls < last_number
+unfolding whole_round started begun
+calls_same M lt = lt
+
+pub round_lawful : (M : State) → IsLawful M → round_refusal M ≡ None → IsLawful (counted (whole_round M).1)
+round_lawful M L none = let left = round_accepted M none in counted_lawful (whole_round M).1 (whole_lawful M L left.0) (calls_same M left.1)
+
+-- a call that may be refused, and else leaves a lawful state
+by_refusal : (M : State) (o : Option Refusal) (next : Answer × State) → IsLawful M → (o ≡ None → IsLawful next.1) → IsLawful (refused_or M o next).1
+by_refusal M None next L h = h refl
+by_refusal M (Some r) next L h = L
+
+pub step_lawful : (M : State) (k : Call) → IsLawful M → FitsCall k → IsLawful (step M k).1
+unfolding step_with
+step_lawful M (call.Apply e) L h = by_refusal M (refusal_of M e) _ L (event_lawful M e L h)
+step_lawful M call.Round L h = by_refusal M (round_refusal M) _ L (round_lawful M L)
+step_lawful M call.Replicas L h = L
+step_lawful M call.Corrupt L h = L
+step_lawful M call.Excess L h = L
+step_lawful M call.Missing L h = L
+step_lawful M (call.BlocksOn s) L h = by_refusal M (storage_refusal M.cluster s) _ L (λ _. L)
+step_lawful M (call.Places b) L h = by_refusal M (block_refusal M.holdings b) _ L (λ _. L)
+step_lawful M (call.LevelOf b) L h = by_refusal M (block_refusal M.holdings b) _ L (λ _. L)
+step_lawful M call.Calls L h = L
+step_lawful M call.Rounds L h = L
+
+left_by_refusal : (M : State) (o : Option Refusal) (a : Answer) (N : State) → (is_refused a ≡ true → N ≡ M) → is_refused (refused_or M o (a, N)).0 ≡ true → (refused_or M o (a, N)).1 ≡ M
+left_by_refusal M None a N fine e = fine e
+left_by_refusal M (Some r) a N fine e = refl
+
+pub refusal_leaves : (M : State) (k : Call) → is_refused (step M k).0 ≡ true → (step M k).1 ≡ M
+unfolding step_with
+refusal_leaves M (call.Apply e) r = left_by_refusal M (refusal_of M e) _ _ (λ no. cc) r
+refusal_leaves M call.Round r = left_by_refusal M (round_refusal M) _ _ (λ no. cc) r
+refusal_leaves M call.Replicas r = refl
+refusal_leaves M call.Corrupt r = refl
+refusal_leaves M call.Excess r = refl
+refusal_leaves M call.Missing r = refl
+refusal_leaves M (call.BlocksOn s) r = left_by_refusal M (storage_refusal M.cluster s) _ _ (λ no. refl) r
+refusal_leaves M (call.Places b) r = left_by_refusal M (block_refusal M.holdings b) _ _ (λ no. refl) r
+refusal_leaves M (call.LevelOf b) r = left_by_refusal M (block_refusal M.holdings b) _ _ (λ no. refl) r
+refusal_leaves M call.Calls r = refl
+refusal_leaves M call.Rounds r = refl
+
+lawful_after : (M : State) (ks : List Call) → IsLawful M → Each FitsCall ks → IsLawful (state_after M ks)
+lawful_after M [] L h = L
+lawful_after M (k ∷ ks) L h = lawful_after (step M k).1 ks (step_lawful M k L h.0) h.1
+
+pub lawful_from_first : (c : Config) (ks : List Call) → HasFittingStart c → FitCalls ks → IsLawful (state_after (first_state c) ks)
+lawful_from_first c ks start h = lawful_after (first_state c) ks (first_lawful c start) (each_all FitsCall ks h)
+
+either_state : (b : Bool) (M N : State) → IsLawful M → IsLawful N → IsLawful (if b then M else N)
+either_state true M N L K = L
+either_state false M N L K = K
+
+lawful_left : (M : State) (ks : List Call) (answers : List Answer) → IsLawful M → Each FitsCall ks → IsLawful (state_left_by step M ks answers)
+lawful_left M [] answers L h = L
+lawful_left M (k ∷ ks) [] L h = L
+lawful_left M (k ∷ ks) (a ∷ rest) L h = lawful_left (state_left step M k a) ks rest (either_state (wants_memory a) M (step M k).1 L (step_lawful M k L h.0)) h.1
+
+pub lawful_left_from_first : (c : Config) (ks : List Call) (answers : List Answer) → HasFittingStart c → FitCalls ks → MayAnswerAll step (first_state c) ks answers → IsLawful (state_left_by step (first_state c) ks answers)
+lawful_left_from_first c ks answers start h may = lawful_left (first_state c) ks answers (first_lawful c start) (each_all FitsCall ks h)

@@ -1,0 +1,258 @@
+-- The laws of reports.
+use Rattle.std.proofs.Common.{◌≡◌, ◌≢◌, ℕ, Bool, true, false, cond, not, ◌&&◌, Option, Some, None, is_some, List, [], ◌∷◌, ◌++◌, filter, length, count_by, refl, sym, ap, subst, ◌∙◌, ◌⊎◌, inl, inr, eqb-true, eq-eqb, ne_eqb}
+use Rattle.std.specs.Prelude.{◌==◌, if◌then◌else◌}
+use Rattle.std.specs.Option.{option_map_or}
+use Rattle.std.specs.Ordering.{eq_by_cmp}
+use Rattle.std.proofs.lemmas.Bool.{eqb-false, and_right}
+use Rattle.std.proofs.lemmas.List.Sums.{length-filter}
+use Rattle.bm_base.specs.declared.replica.ReplicaId.{ReplicaId}
+use Rattle.bm_base.specs.declared.replica.Tag.{Tag}
+use Rattle.bm_base.specs.declared.replica.Tag.TheVariants.{Good, Stale, Bad}
+use Rattle.bm_base.specs.declared.replica.Marks.{Marks}
+use Rattle.bm_base.specs.declared.replica.Stamp.{Stamp}
+use Rattle.bm_base.specs.declared.replica.BlockInfo.{BlockInfo}
+use Rattle.bm_base.specs.declared.event.Entry.{Entry}
+use Rattle.bm_base.specs.declared.event.Event.TheVariants.{Received, FullReport}
+use Rattle.bm_base.specs.Map.{Map, get, keep, contains_key, entries}
+use Rattle.bm_base.specs.Lists.{has}
+use Rattle.bm_base.specs.State.{Cluster, Holdings, State, by_replica, replica_at, replica_cmp}
+use Rattle.bm_base.specs.Replicas.{is_good, is_bad, is_stray, are_sisters}
+use Rattle.bm_base.specs.Events.{was_bad, was_excess, same_stamp, entered_tag, entered, replaces, enter, is_named, leaves_by_report, report, change_cluster, change_holdings}
+use Rattle.bm_base.specs.Calls.{new_replicas, done, done_by, after_event}
+use Rattle.bm_base.specs.Lawful.{IsLawfulHoldings}
+use Rattle.bm_base.proofs.MapLaws.{same_map, get-keep, get-insert}
+use Rattle.bm_base.proofs.Ties.{replica_tie}
+use Rattle.laws_of_events.proofs.Options.{there, staying, none_stays, all_stays, stays_twice}
+use Rattle.laws_of_events.proofs.Lists.{Each, each_then}
+use Rattle.laws_of_events.proofs.Maps.{each_entry, get_here}
+use Rattle.laws_of_events.proofs.Clusters.{no_sisters}
+use Rattle.laws_of_events.proofs.Entering.{IsKept, IsPut, enter_origin, report_origin, stays_by}
+use Rattle.laws_of_events.proofs.Telling.{tag_where, told_marks}
+use Rattle.laws_of_events.proofs.Reporting.{last_stamp, named_since, named_numbers, last_is, put_or, reported_here, reported_elsewhere}
+use Rattle.laws_of_events.specs.Reports as law
+
+pub held_report : (M : State) (s : ℕ) (es : List Entry) → law.held_after M (FullReport s es) ≡ report M.cluster M.holdings s es
+unfolding after_event change_holdings
+held_report M s es = refl
+
+pub held_received : (M : State) (s b : ℕ) (stamp : Stamp) → law.held_after M (Received s b stamp) ≡ enter M.cluster M.holdings (replica_at b s) stamp
+unfolding after_event change_holdings
+held_received M s b stamp = refl
+
+-- Which replicas are there.
+
+module _ (C : Cluster) (H : Holdings) (s : ℕ) (es : List Entry) where
+  -- on the storage only named ones stay
+  leaves_here : (b : ℕ) → is_named es b ≡ false → stays_by C H s es (replica_at b s) ≡ false
+  unfolding leaves_by_report
+  leaves_here b e = rw (eq-eqb s s refl, e) refl
+
+  unnamed_leaves : (b : ℕ) → last_stamp es b ≡ None → get (keep H.replicas (λ q _. stays_by C H s es q)) (replica_at b s) ≡ None
+  unnamed_leaves b e =
+      get-keep H.replicas (λ q _. stays_by C H s es q) (replica_at b s)
+      ∙ none_stays (stays_by C H s es (replica_at b s)) (get H.replicas (replica_at b s)) (leaves_here b (sym (named_since es b) ∙ ap is_some e))
+
+  there_by : (b : ℕ) (o : Option Stamp) → last_stamp es b ≡ o → is_some (put_or C H s b o (get (keep H.replicas (λ q _. stays_by C H s es q)) (replica_at b s))) ≡ is_some o
+  there_by b None e = ap is_some (unnamed_leaves b e)
+  there_by b (Some t) e = refl
+
+  has_named : (b : ℕ) → contains_key (report C H s es).replicas (replica_at b s) ≡ is_named es b
+  has_named b = ap is_some (reported_here C H s es b) ∙ there_by b (last_stamp es b) refl ∙ named_since es b
+
+pub tells_all : (M : State) (s : ℕ) (es : List Entry) (b : ℕ) → contains_key (law.held_after M (FullReport s es)).replicas (replica_at b s) ≡ has (law.numbers_of es) b
+tells_all M s es b = ap (λ G. contains_key G.replicas (replica_at b s)) (held_report M s es) ∙ has_named M.cluster M.holdings s es b ∙ named_numbers es b
+
+pub last_decides : (M : State) (s : ℕ) (front : List Entry) (e : Entry) (behind : List Entry) → has (law.numbers_of behind) e.id ≡ false
+    → (m : Marks) × (get (law.held_after M (FullReport s (front ++ (e ∷ behind)))).replicas (replica_at e.id s) ≡ Some m) × law.HasToldMarks M.holdings (replica_at e.id s) e.stamp m
+last_decides M s front e behind h =
+    let es = front ++ (e ∷ behind) in
+    let z = get (keep M.holdings.replicas (λ q _. stays_by M.cluster M.holdings s es q)) (replica_at e.id s) in (
+      entered M.holdings (replica_at e.id s) e.stamp,
+      ap (λ G. get G.replicas (replica_at e.id s)) (held_report M s es) ∙ reported_here M.cluster M.holdings s es e.id ∙ ap (λ o. put_or M.cluster M.holdings s e.id o z) (last_is front e behind h),
+      told_marks M.holdings (replica_at e.id s) e.stamp,
+    )
+
+-- The same report again.
+
+tag_by : Bool → Bool → Tag
+tag_by bad same = if bad then Bad else if same then Good else Stale
+
+tag_by_again : (bad same : Bool) → tag_by (is_bad (tag_by bad same)) same ≡ tag_by bad same
+unfolding tag_by
+tag_by_again true same = refl
+tag_by_again false true = refl
+tag_by_again false false = refl
+
+tag_again : (bad : Bool) (stamp : Stamp) (z : Option BlockInfo) → tag_where (is_bad (tag_where bad stamp z)) stamp z ≡ tag_where bad stamp z
+unfolding tag_by
+tag_again bad stamp None = refl
+tag_again bad stamp (Some i) = tag_by_again bad (same_stamp stamp i.stamp)
+
+excess_again : (good good' x : Bool) → good' ≡ good → (good' && (good && x)) ≡ (good && x)
+excess_again true good' x e = ap (λ g. g && x) e
+excess_again false good' x e = ap (λ g. g && false) e
+
+module _ (H G : Holdings) (p : ReplicaId) (stamp : Stamp) (blocks : G.blocks ≡ H.blocks) (there_now : get G.replicas p ≡ Some (entered H p stamp)) where
+  bad_now : was_bad G p ≡ is_bad (entered H p stamp).tag
+  unfolding was_bad
+  bad_now = ap (λ o. option_map_or (λ m. is_bad m.tag) o false) there_now
+
+  excess_now : was_excess G p ≡ (entered H p stamp).excess
+  unfolding was_excess
+  excess_now = ap (λ o. option_map_or (λ m. m.excess) o false) there_now
+
+  same_tag : entered_tag G p stamp ≡ entered_tag H p stamp
+  unfolding entered entered_tag
+  same_tag = (λ i. tag_where (bad_now i) stamp (get (blocks i) p.block)) ∙ tag_again (was_bad H p) stamp (get H.blocks p.block)
+
+  entered_again : entered G p stamp ≡ entered H p stamp
+  unfolding entered
+  entered_again =
+      let excess : (is_good (entered_tag G p stamp) && was_excess G p) ≡ (is_good (entered_tag H p stamp) && was_excess H p) =
+      ap (λ x. is_good (entered_tag G p stamp) && x) excess_now ∙ excess_again (is_good (entered_tag H p stamp)) (is_good (entered_tag G p stamp)) (was_excess H p) (ap is_good same_tag) in
+      λ i. record { tag = same_tag i; excess = excess i; ordered = false }
+
+keep_twice : {X : Type 0} (m : Map by_replica X) (p : ReplicaId → Bool) → keep (keep m (λ q _. p q)) (λ q _. p q) ≡ keep m (λ q _. p q)
+keep_twice m p =
+    same_map _ _ (λ q.
+    get-keep (keep m (λ q _. p q)) (λ q _. p q) q ∙ ap (staying (p q)) (get-keep m (λ q _. p q) q) ∙ stays_twice (p q) (get m q) ∙ sym (get-keep m (λ q _. p q) q))
+
+module _ (C : Cluster) (H : Holdings) (s : ℕ) (es : List Entry) where
+  abbrev told : Holdings
+  told = report C H s es
+
+  told_blocks : told.blocks ≡ H.blocks
+  unfolding report
+  told_blocks = refl
+
+  again_here : (b : ℕ) (o : Option Stamp) → last_stamp es b ≡ o → get (report C told s es).replicas (replica_at b s) ≡ get told.replicas (replica_at b s)
+  again_here b None e =
+      let gone : get told.replicas (replica_at b s) ≡ None = reported_here C H s es b ∙ ap (λ o. put_or C H s b o (get (keep H.replicas (λ q _. stays_by C H s es q)) (replica_at b s))) e ∙ unnamed_leaves C H s es b e in
+      reported_here C told s es b ∙ ap (λ o. put_or C told s b o (get (keep told.replicas (λ q _. stays_by C told s es q)) (replica_at b s))) e ∙ unnamed_leaves C told s es b e ∙ sym gone
+  again_here b (Some t) e =
+      let now : get told.replicas (replica_at b s) ≡ Some (entered H (replica_at b s) t) = reported_here C H s es b ∙ ap (λ o. put_or C H s b o (get (keep H.replicas (λ q _. stays_by C H s es q)) (replica_at b s))) e in
+      reported_here C told s es b ∙ ap (λ o. put_or C told s b o (get (keep told.replicas (λ q _. stays_by C told s es q)) (replica_at b s))) e
+      ∙ ap Some (entered_again H told (replica_at b s) t told_blocks now) ∙ sym now
+
+  again_elsewhere : (q : ReplicaId) → q.storage ≢ s → get (report C told s es).replicas q ≡ get told.replicas q
+  again_elsewhere q other =
+      let once : get told.replicas q ≡ staying (stays_by C H s es q) (get H.replicas q) = reported_elsewhere C H s es q other ∙ get-keep H.replicas (λ q _. stays_by C H s es q) q in
+      reported_elsewhere C told s es q other ∙ get-keep told.replicas (λ q _. stays_by C told s es q) q ∙ ap (staying (stays_by C H s es q)) once ∙ stays_twice (stays_by C H s es q) (get H.replicas q) ∙ sym once
+
+  again_at : (q : ReplicaId) → get (report C told s es).replicas q ≡ get told.replicas q
+  again_at q =
+      elim (q.storage == s) as (λ t. (q.storage == s) ≡ t → get (report C told s es).replicas q ≡ get told.replicas q) [
+        | true ↦ λ t. subst (λ c. get (report C told s es).replicas (replica_at q.block c) ≡ get told.replicas (replica_at q.block c)) (sym (eqb-true q.storage s t)) (again_here q.block (last_stamp es q.block) refl)
+        | false ↦ λ t. again_elsewhere q (eqb-false q.storage s t)
+      ] refl
+
+  again_pending : (report C told s es).pending ≡ told.pending
+  unfolding report
+  again_pending = keep_twice H.pending (λ q. not ((q.storage == s) && is_named es q.block))
+
+  again_blocks : (report C told s es).blocks ≡ told.blocks
+  unfolding report
+  again_blocks = refl
+
+  pub report_again : report C told s es ≡ told
+  report_again =
+      let replicas : (report C told s es).replicas ≡ told.replicas = same_map _ _ again_at in
+      λ i. record { blocks = again_blocks i; replicas = replicas i; pending = again_pending i }
+
+none_left : {X : Type 0} (p : X → Bool) (xs : List X) → Each (λ x. p x ≡ false) xs → length (filter p xs) ≡ 0
+none_left p [] h = refl
+none_left p (x ∷ xs) h = ap (λ b. length (cond b (x ∷ filter p xs) (filter p xs))) h.0 ∙ none_left p xs h.1
+
+none_counted : {X : Type 0} (p : X → Bool) (xs : List X) → Each (λ x. p x ≡ false) xs → count_by p xs ≡ 0
+none_counted p xs h = sym (length-filter p xs) ∙ none_left p xs h
+
+none_new : (m : Map by_replica Marks) → new_replicas m m ≡ 0
+unfolding new_replicas
+none_new m =
+    none_counted (λ e. not (contains_key m e.0)) (entries m) (each_then (λ e. get m e.0 ≡ Some e.1) (λ e. not (contains_key m e.0) ≡ false) (entries m) (each_entry m) (λ e is. ap (λ o. not (is_some o)) is))
+
+none_done : (G : Holdings) → done G G ≡ record { added = 0; removed = 0 }
+unfolding done
+none_done G = λ i. record { added = none_new G.replicas i; removed = none_new G.replicas i }
+
+same_answer : (M : State) (s : ℕ) (es : List Entry) → done_by (after_event M (FullReport s es)) (FullReport s es) ≡ done (report M.cluster M.holdings s es) (report M.cluster (report M.cluster M.holdings s es) s es)
+unfolding done_by after_event change_holdings change_cluster
+same_answer M s es = refl
+
+held_again : (M : State) (s : ℕ) (es : List Entry) → law.held_after (after_event M (FullReport s es)) (FullReport s es) ≡ report M.cluster (report M.cluster M.holdings s es) s es
+unfolding after_event change_holdings change_cluster
+held_again M s es = refl
+
+pub second_changes_nothing : law.second_report_changes_nothing
+second_changes_nothing M s es =
+    let again = report_again M.cluster M.holdings s es in
+    (held_again M s es ∙ again ∙ sym (held_report M s es), same_answer M s es ∙ ap (done (report M.cluster M.holdings s es)) again ∙ none_done (report M.cluster M.holdings s es))
+
+-- Other nodes.
+
+stays_where : (C : Cluster) (H : Holdings) (s : ℕ) (es : List Entry) (p : ReplicaId) → p.storage ≢ s → are_sisters C s p.storage ≡ false → stays_by C H s es p ≡ true
+unfolding leaves_by_report
+stays_where C H s es p other h = rw (ne_eqb p.storage s other, h) (ap not (and_right (is_named es p.block) false refl))
+
+pub report_leaves_others : law.report_leaves_other_nodes
+report_leaves_others M s es p apart =
+    let C = M.cluster in
+    let H = M.holdings in
+    ap (λ G. get G.replicas p) (held_report M s es) ∙ reported_elsewhere C H s es p apart.0 ∙ get-keep H.replicas (λ q _. stays_by C H s es q) p
+    ∙ all_stays (stays_by C H s es p) (get H.replicas p) (stays_where C H s es p apart.0 (no_sisters C s p.storage apart.1))
+
+not_replaced : (C : Cluster) (p q : ReplicaId) → are_sisters C p.storage q.storage ≡ false → not (replaces C p q) ≡ true
+unfolding replaces
+not_replaced C p q h = rw h (ap not (and_right (q.block == p.block) false refl))
+
+other_replica : (p q : ReplicaId) → q.storage ≢ p.storage → eq_by_cmp replica_cmp q p ≡ false
+other_replica p q other = replica_tie q p ∙ rw (ne_eqb q.storage p.storage other) (and_right (q.block == p.block) false refl)
+
+entered_elsewhere : (C : Cluster) (H : Holdings) (p : ReplicaId) (stamp : Stamp) (q : ReplicaId) → q.storage ≢ p.storage → are_sisters C p.storage q.storage ≡ false → get (enter C H p stamp).replicas q ≡ get H.replicas q
+unfolding enter
+entered_elsewhere C H p stamp q other h =
+    let stay = keep H.replicas (λ q _. not (replaces C p q)) in
+    get-insert stay p (entered H p stamp) q ∙ ap (λ c. cond c (Some (entered H p stamp)) (get stay q)) (other_replica p q other)
+    ∙ get-keep H.replicas (λ q _. not (replaces C p q)) q ∙ all_stays (not (replaces C p q)) (get H.replicas q) (not_replaced C p q h)
+
+pub received_leaves_others : law.received_leaves_other_nodes
+received_leaves_others M s b stamp p apart =
+    ap (λ G. get G.replicas p) (held_received M s b stamp) ∙ entered_elsewhere M.cluster M.holdings (replica_at b s) stamp p apart.0 (no_sisters M.cluster s p.storage apart.1)
+
+entered_there : (C : Cluster) (H : Holdings) (p : ReplicaId) (stamp : Stamp) → get (enter C H p stamp).replicas p ≡ Some (entered H p stamp)
+unfolding enter
+entered_there C H p stamp = get_here (keep H.replicas (λ q _. not (replaces C p q))) p (entered H p stamp)
+
+pub received_there : law.received_is_there
+received_there M s b stamp =
+    (entered M.holdings (replica_at b s) stamp, ap (λ G. get G.replicas (replica_at b s)) (held_received M s b stamp) ∙ entered_there M.cluster M.holdings (replica_at b s) stamp, told_marks M.holdings (replica_at b s) stamp)
+
+-- What was bad.
+
+known_since_bad : (C : Cluster) (H : Holdings) → IsLawfulHoldings C H → (p : ReplicaId) → law.IsBadIn H p → (i : BlockInfo) × (get H.blocks p.block ≡ Some i)
+known_since_bad C H L p bad =
+    let known : not (contains_key H.blocks p.block) ≡ false = sym (L.strays p bad.0 bad.1) ∙ ap is_stray bad.2 in
+    there (get H.blocks p.block) (undo (contains_key H.blocks p.block) known)
+  where
+    undo : (b : Bool) → not b ≡ false → b ≡ true
+    undo true e = refl
+    undo false e = cc
+
+bad_told : (C : Cluster) (H : Holdings) (s : ℕ) (named : ℕ → Bool) (stays : ReplicaId → Bool) → IsLawfulHoldings C H → (p : ReplicaId) (m : Marks) → law.IsBadIn H p → IsKept H stays p m ⊎ IsPut H s named p m → m.tag ≡ Bad
+bad_told C H s named stays L p m bad (inl was) = let same : Some m ≡ Some bad.0 = sym was.0 ∙ bad.1 in let is : m ≡ bad.0 = (cc) in ap (λ n. n.tag) is ∙ bad.2
+bad_told C H s named stays L p m bad (inr put) = let i = known_since_bad C H L p bad in ap (λ n. n.tag) put.3 ∙ (told_marks H p put.2).bad i.0 i.1 bad
+
+pub report_leaves_bad : law.report_leaves_bad_bad
+report_leaves_bad s es M L p bad is =
+    let G = report M.cluster M.holdings s es in
+    let m = there (get G.replicas p) (sym (ap (λ G. is_some (get G.replicas p)) (held_report M s es)) ∙ is) in
+    (m.0, ap (λ G. get G.replicas p) (held_report M s es) ∙ m.1, bad_told M.cluster M.holdings s (is_named es) (stays_by M.cluster M.holdings s es) L.holdings p m.0 bad (report_origin M.cluster M.holdings s es p m.0 m.1))
+
+pub received_leaves_bad : law.received_leaves_bad_bad
+received_leaves_bad s b stamp M L p bad is =
+    let G = enter M.cluster M.holdings (replica_at b s) stamp in
+    let m = there (get G.replicas p) (sym (ap (λ G. is_some (get G.replicas p)) (held_received M s b stamp)) ∙ is) in (
+      m.0,
+      ap (λ G. get G.replicas p) (held_received M s b stamp) ∙ m.1,
+      bad_told M.cluster M.holdings s (λ c. c == b) (λ q. not (replaces M.cluster (replica_at b s) q)) L.holdings p m.0 bad (enter_origin M.cluster M.holdings (replica_at b s) stamp p m.0 m.1),
+    )

@@ -1,0 +1,110 @@
+-- What is held after a full report, replica by replica.
+use Rattle.std.proofs.Common.{◌≡◌, ◌≢◌, ℕ, Bool, true, false, cond, ◌&&◌, ◌||◌, Option, Some, None, is_some, List, [], ◌∷◌, ◌++◌, map, refl, ap, ◌∙◌, eqb-true, eq-eqb, ne_eqb}
+use Rattle.std.specs.Prelude.{◌==◌, if◌then◌else◌}
+use Rattle.std.specs.Option.{option_map_or}
+use Rattle.std.specs.Ordering.{eq_by_cmp}
+use Rattle.std.proofs.lemmas.Bool.{and_right}
+use Rattle.bm_base.specs.declared.replica.ReplicaId.{ReplicaId}
+use Rattle.bm_base.specs.declared.replica.Marks.{Marks}
+use Rattle.bm_base.specs.declared.replica.Stamp.{Stamp}
+use Rattle.bm_base.specs.declared.event.Entry.{Entry}
+use Rattle.bm_base.specs.Map.{Map, get, insert, insert_all, keep}
+use Rattle.bm_base.specs.Lists.{has}
+use Rattle.bm_base.specs.State.{Cluster, Holdings, by_replica, replica_at, replica_cmp}
+use Rattle.bm_base.specs.Events.{entered, is_named, report}
+use Rattle.bm_base.proofs.MapLaws.{get-insert}
+use Rattle.bm_base.proofs.Ties.{replica_tie}
+use Rattle.laws_of_events.proofs.Clusters.{eqb_turned}
+use Rattle.laws_of_events.proofs.Lists.{each_mapped, each_of}
+use Rattle.laws_of_events.proofs.Maps.{get_insert_all_elsewhere}
+use Rattle.laws_of_events.proofs.Entering.{stays_by}
+use Rattle.laws_of_events.specs.Reports.{numbers_of}
+
+abbrev either : {X : Type 0} → Option X → Option X → Option X
+either None y = y
+either (Some x) y = Some x
+
+-- the stamp of a number's last entry
+abbrev pub last_stamp : List Entry → ℕ → Option Stamp
+last_stamp [] b = None
+last_stamp (e ∷ es) b = either (last_stamp es b) (if e.id == b then Some e.stamp else None)
+
+named_head : (o : Option Stamp) (b : Bool) (stamp : Stamp) → is_some (either o (if b then Some stamp else None)) ≡ (b || is_some o)
+named_head None true stamp = refl
+named_head None false stamp = refl
+named_head (Some t) true stamp = refl
+named_head (Some t) false stamp = refl
+
+pub named_since : (es : List Entry) (b : ℕ) → is_some (last_stamp es b) ≡ is_named es b
+unfolding is_named
+named_since [] b = refl
+named_since (e ∷ es) b = named_head (last_stamp es b) (e.id == b) e.stamp ∙ ap (λ x. (e.id == b) || x) (named_since es b)
+
+pub named_numbers : (es : List Entry) (b : ℕ) → is_named es b ≡ has (numbers_of es) b
+unfolding is_named
+named_numbers [] b = refl
+named_numbers (e ∷ es) b = ap (λ x. (e.id == b) || x) (named_numbers es b)
+
+none_named : (es : List Entry) (b : ℕ) → is_some (last_stamp es b) ≡ false → last_stamp es b ≡ None
+none_named es b e = none (last_stamp es b) e
+  where
+    none : (o : Option Stamp) → is_some o ≡ false → o ≡ None
+    none None e = refl
+    none (Some x) e = cc
+
+either_here : (o : Option Stamp) (b : Bool) (stamp : Stamp) → o ≡ None → b ≡ true → either o (if b then Some stamp else None) ≡ Some stamp
+either_here None true stamp e h = refl
+either_here None false stamp e h = cc
+either_here (Some x) b stamp e h = cc
+
+-- the entry behind which its number is not named is the last one
+pub last_is : (front : List Entry) (e : Entry) (behind : List Entry) → has (numbers_of behind) e.id ≡ false → last_stamp (front ++ (e ∷ behind)) e.id ≡ Some e.stamp
+last_is [] e behind h = either_here (last_stamp behind e.id) (e.id == e.id) e.stamp (none_named behind e.id (named_since behind e.id ∙ named_numbers behind e.id ∙ h)) (eq-eqb e.id e.id refl)
+last_is (x ∷ front) e behind h = ap (λ o. either o (if x.id == e.id then Some x.stamp else None)) (last_is front e behind h)
+
+module _ (C : Cluster) (H : Holdings) (s : ℕ) where
+  abbrev put : Entry → ReplicaId × Marks
+  put e = (replica_at e.id s, entered H (replica_at e.id s) e.stamp)
+
+  -- what is put for a number, and else what is there
+  abbrev pub put_or : ℕ → Option Stamp → Option Marks → Option Marks
+  put_or b o z = option_map_or (λ t. Some (entered H (replica_at b s) t)) o z
+
+  tied : (b c : ℕ) → eq_by_cmp replica_cmp (replica_at b s) (replica_at c s) ≡ (b == c)
+  tied b c = replica_tie (replica_at b s) (replica_at c s) ∙ rw (eq-eqb s s refl) (with_true (b == c))
+    where
+      with_true : (x : Bool) → (x && true) ≡ x
+      with_true true = refl
+      with_true false = refl
+
+  step_put : (b : ℕ) (o : Option Stamp) (x : Entry) (z : Option Marks) (t : Bool) → (b == x.id) ≡ t → (x.id == b) ≡ t
+      → put_or b o (cond t (Some (entered H (replica_at x.id s) x.stamp)) z) ≡ put_or b (either o (if t then Some x.stamp else None)) z
+  step_put b (Some y) x z t e f = refl
+  step_put b None x z true e f = ap (λ c. Some (entered H (replica_at c s) x.stamp)) (eqb-true x.id b f)
+  step_put b None x z false e f = refl
+
+  puts_here : (m : Map by_replica Marks) (es : List Entry) (b : ℕ) → get (insert_all m (map put es)) (replica_at b s) ≡ put_or b (last_stamp es b) (get m (replica_at b s))
+  puts_here m [] b = refl
+  puts_here m (x ∷ es) b =
+      puts_here (insert m (put x).0 (put x).1) es b
+      ∙ ap (put_or b (last_stamp es b)) (get-insert m (put x).0 (put x).1 (replica_at b s) ∙ ap (λ c. cond c (Some (put x).1) (get m (replica_at b s))) (tied b x.id))
+      ∙ step_put b (last_stamp es b) x (get m (replica_at b s)) (b == x.id) refl (eqb_turned x.id b)
+      ∙ ap (λ t. put_or b (either (last_stamp es b) (if t then Some x.stamp else None)) (get m (replica_at b s))) (eqb_turned b x.id)
+
+  elsewhere_key : (p : ReplicaId) (c : ℕ) → p.storage ≢ s → eq_by_cmp replica_cmp p (replica_at c s) ≡ false
+  elsewhere_key p c other = replica_tie p (replica_at c s) ∙ rw (ne_eqb p.storage s other) (and_right (p.block == c) false refl)
+
+  puts_elsewhere : (m : Map by_replica Marks) (es : List Entry) (p : ReplicaId) → p.storage ≢ s → get (insert_all m (map put es)) p ≡ get m p
+  puts_elsewhere m es p other =
+      get_insert_all_elsewhere m (map put es) p
+      (each_mapped (λ e. eq_by_cmp replica_cmp p e.0 ≡ false) put es (each_of (λ x. eq_by_cmp replica_cmp p (replica_at x.id s) ≡ false) es (λ x. elsewhere_key p x.id other)))
+
+  -- on the storage
+  pub reported_here : (es : List Entry) (b : ℕ) → get (report C H s es).replicas (replica_at b s) ≡ put_or b (last_stamp es b) (get (keep H.replicas (λ q _. stays_by C H s es q)) (replica_at b s))
+  unfolding report
+  reported_here es b = puts_here (keep H.replicas (λ q _. stays_by C H s es q)) es b
+
+  -- elsewhere
+  pub reported_elsewhere : (es : List Entry) (p : ReplicaId) → p.storage ≢ s → get (report C H s es).replicas p ≡ get (keep H.replicas (λ q _. stays_by C H s es q)) p
+  unfolding report
+  reported_elsewhere es p other = puts_elsewhere (keep H.replicas (λ q _. stays_by C H s es q)) es p other

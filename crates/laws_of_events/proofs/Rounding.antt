@@ -1,0 +1,204 @@
+-- A round leaves a lawful state lawful.
+use Rattle.std.proofs.Common.{◌≡◌, ℕ, ◌+◌, ◌<◌, ◌≤◌, Bool, true, false, not, Some, List, map, is_some, refl, sym, ap, ◌∙◌, arith}
+use Rattle.std.specs.Prelude.{if◌then◌else◌, nat_le, ◌-◌}
+use Rattle.std.proofs.lemmas.Bool.{and_parts}
+use Rattle.bm_base.specs.declared.replica.ReplicaId.{ReplicaId}
+use Rattle.bm_base.specs.declared.replica.Marks.{Marks}
+use Rattle.bm_base.specs.declared.commands.Transfer.{Transfer}
+use Rattle.bm_base.specs.declared.commands.Delete.{Delete}
+use Rattle.bm_base.specs.Map.{get, revise, contains_key}
+use Rattle.bm_base.specs.State.{Cluster, Holdings, State, replica_at}
+use Rattle.bm_base.specs.Lists.{has}
+use Rattle.bm_base.specs.Replicas.{is_good, is_stray}
+use Rattle.bm_base.specs.Excess.{without_expired, without_unordered_excess, excess_in, marked, begun, started}
+use Rattle.bm_base.specs.Transfers.{transfers}
+use Rattle.bm_base.specs.Deletes.{deletes}
+use Rattle.bm_base.specs.Rounds.{is_commanded, finished, round_with, whole_round}
+use Rattle.bm_base.specs.Refusals.{last_number}
+use Rattle.bm_base.specs.Calls.{counted}
+use Rattle.bm_base.specs.Lawful.{IsLawful, IsLawfulHoldings, HasFittingNumbers}
+use Rattle.laws_of_events.proofs.Options.{there, is_there}
+use Rattle.laws_of_events.proofs.Lists.{Each, each_mapped, each_then}
+use Rattle.laws_of_events.proofs.Maps.{Holds, get_kept, get_revised, known_revised, holds_insert_all}
+use Rattle.laws_of_events.proofs.Among.{lawful_among, among_here}
+use Rattle.laws_of_events.proofs.Chosen.{IsPlaced, in_excess_live, each_placed}
+
+-- Marks that keep their tags, and are in excess only where the replica is good.
+module _ (C : Cluster) (H G : Holdings) (f : ReplicaId → Marks → Marks) (L : IsLawfulHoldings C H) (tags : (q : ReplicaId) (m : Marks) → (f q m).tag ≡ m.tag)
+    (excess : (q : ReplicaId) (m : Marks) → get H.replicas q ≡ Some m → (f q m).excess ≡ true → is_good m.tag ≡ true) where
+  remarked : G.replicas ≡ revise H.replicas f → G.blocks ≡ H.blocks → G.pending ≡ H.pending → IsLawfulHoldings C G
+  remarked r b t =
+      lawful_among C C H G L (among_here C H G (λ q e. sym (ap (λ m. contains_key m q) r ∙ known_revised H.replicas f q) ∙ e) (λ q e. sym (ap (λ m. contains_key m q) t) ∙ e))
+      (record {
+        strays = λ q m e. let was = get_revised H.replicas f q m (sym (ap (λ m. get m q) r) ∙ e) in
+            ap (λ n. is_stray n.tag) (sym was.2) ∙ ap is_stray (tags q was.0) ∙ L.strays q was.0 was.1 ∙ ap (λ m. not (contains_key m q.block)) (sym b);
+        excess_is_good = λ q m e h. let was = get_revised H.replicas f q m (sym (ap (λ m. get m q) r) ∙ e) in
+            ap (λ n. is_good n.tag) (sym was.2) ∙ ap is_good (tags q was.0) ∙ excess q was.0 was.1 (ap (λ n. n.excess) was.2 ∙ h);
+        pending_known = λ q e. ap (λ m. contains_key m q.block) b ∙ L.pending_known q (sym (ap (λ m. contains_key m q) t) ∙ e);
+        replicated = λ c i e. L.replicated c i (sym (ap (λ m. get m c) b) ∙ e);
+      })
+
+-- The start of a round.
+
+pub expired_lawful : (C : Cluster) (H : Holdings) (pend r : ℕ) → IsLawfulHoldings C H → IsLawfulHoldings C (without_expired pend r H)
+unfolding without_expired
+expired_lawful C H pend r L =
+    let was : (q : ReplicaId) → is_some (get (without_expired pend r H).pending q) ≡ true → is_some (get H.pending q) ≡ true = λ q e.
+    let x = there (get (without_expired pend r H).pending q) e in
+    is_there (get H.pending q) x.0 (get_kept H.pending (λ _ t. not (nat_le pend (r - t))) q x.0 x.1).0 in
+    lawful_among C C H (without_expired pend r H) L (among_here C H (without_expired pend r H) (λ _ e. e) was)
+    (record { strays = L.strays; excess_is_good = L.excess_is_good; pending_known = λ q e. L.pending_known q (was q e); replicated = L.replicated })
+
+pub cleared_tag : (b : Bool) (m : Marks) → (if b then m else record m { excess = false }).tag ≡ m.tag
+cleared_tag true m = refl
+cleared_tag false m = refl
+
+cleared_excess : (b : Bool) (m : Marks) → (if b then m else record m { excess = false }).excess ≡ true → m.excess ≡ true
+cleared_excess true m e = e
+cleared_excess false m e = cc
+
+cleared_lawful : (C : Cluster) (H : Holdings) → IsLawfulHoldings C H → IsLawfulHoldings C (without_unordered_excess H)
+unfolding without_unordered_excess
+cleared_lawful C H L =
+    remarked C H (without_unordered_excess H) (λ _ m. if m.ordered then m else record m { excess = false }) L (λ q m. cleared_tag m.ordered m)
+    (λ q m e h. L.excess_is_good q m e (cleared_excess m.ordered m h)) refl refl refl
+
+pub marked_tag : (b : Bool) (m : Marks) → (if b then record m { excess = true } else m).tag ≡ m.tag
+marked_tag true m = refl
+marked_tag false m = refl
+
+marked_excess : (P : Type 0) (b : Bool) (m : Marks) → (b ≡ true → P) → (m.excess ≡ true → P) → (if b then record m { excess = true } else m).excess ≡ true → P
+marked_excess P true m h g e = h refl
+marked_excess P false m h g e = g e
+
+marked_lawful : (C : Cluster) (H : Holdings) → IsLawfulHoldings C H → IsLawfulHoldings C (marked C H)
+unfolding marked
+marked_lawful C H L =
+    remarked C H (marked C H) (λ q m. if has (excess_in C H q.block) q.storage then record m { excess = true } else m) L
+    (λ q m. marked_tag (has (excess_in C H q.block) q.storage) m)
+    (λ q m e. marked_excess (is_good m.tag ≡ true) (has (excess_in C H q.block) q.storage) m
+    (λ h. (and_parts (is_good m.tag) (not m.excess) (in_excess_live C H q m e h)).0) (L.excess_is_good q m e))
+    refl refl refl
+
+-- The end of a round.
+
+pub ordered_tag : (b : Bool) (m : Marks) → (if b then record m { ordered = true } else m).tag ≡ m.tag
+ordered_tag true m = refl
+ordered_tag false m = refl
+
+ordered_excess : (b : Bool) (m : Marks) → (if b then record m { ordered = true } else m).excess ≡ m.excess
+ordered_excess true m = refl
+ordered_excess false m = refl
+
+module _ (C : Cluster) (r : ℕ) (H : Holdings) (ts : List Transfer) (ds : List Delete) where
+  abbrev ordered : ReplicaId → Marks → Marks
+  ordered q m = if is_commanded ds q then record m { ordered = true } else m
+
+  abbrev sent : Transfer → ReplicaId × ℕ
+  sent t = (replica_at t.block t.target, r)
+
+  with_orders : IsLawfulHoldings C H → IsLawfulHoldings C (record H { replicas = revise H.replicas ordered })
+  with_orders L =
+      remarked C H (record H { replicas = revise H.replicas ordered }) ordered L (λ q m. ordered_tag (is_commanded ds q) m)
+      (λ q m e h. L.excess_is_good q m e (sym (ordered_excess (is_commanded ds q) m) ∙ h)) refl refl refl
+
+  -- a property of the transfers that were on their way and of the chosen ones
+  pub all_pending : (P : ReplicaId → ℕ → Type 0) → Holds P H.pending → Each (λ t. P (replica_at t.block t.target) r) ts → Holds P (finished r H ts ds).pending
+  unfolding finished
+  all_pending P h each = holds_insert_all P H.pending (map sent ts) h (each_mapped (λ e. P e.0 e.1) sent ts each)
+
+  finished_lawful : IsLawfulHoldings C H → Each (IsPlaced C H) ts → IsLawfulHoldings C (finished r H ts ds)
+  unfolding finished
+  finished_lawful L each =
+      let O = with_orders L in
+      let on_known : Holds (λ q _. contains_key C.storages q.storage ≡ true) (finished r H ts ds).pending =
+      all_pending (λ q _. contains_key C.storages q.storage ≡ true) (λ q t e. L.pending_stored q (is_there (get H.pending q) t e)) (each_then (IsPlaced C H) (λ t. contains_key C.storages t.target ≡ true) ts each (λ t h. h.0)) in
+      let of_known : Holds (λ q _. contains_key H.blocks q.block ≡ true) (finished r H ts ds).pending =
+      all_pending (λ q _. contains_key H.blocks q.block ≡ true) (λ q t e. L.pending_known q (is_there (get H.pending q) t e)) (each_then (IsPlaced C H) (λ t. contains_key H.blocks t.block ≡ true) ts each (λ t h. h.1)) in
+      record {
+        stored = O.stored;
+        pending_stored = λ q e. let t = there (get (finished r H ts ds).pending q) e in on_known q t.0 t.1;
+        once = O.once;
+        strays = O.strays;
+        excess_is_good = O.excess_is_good;
+        pending_known = λ q e. let t = there (get (finished r H ts ds).pending q) e in of_known q t.0 t.1;
+        replicated = O.replicated;
+      }
+
+-- Whole states.
+
+pub begun_lawful : (M : State) → IsLawful M → M.round < last_number → IsLawful (begun M)
+unfolding begun without_expired
+begun_lawful M L lt = record {
+  cluster = L.cluster;
+  holdings = expired_lawful M.cluster M.holdings M.limits.pend (M.round + 1) L.holdings;
+  numbers = record {
+    nodes = L.numbers.nodes;
+    storages = L.numbers.storages;
+    blocks = L.numbers.blocks;
+    replicas = L.numbers.replicas;
+    round = omega arith;
+    calls = L.numbers.calls;
+  };
+  commanded = λ q t e. let h : t ≤ M.round = L.commanded q t (get_kept M.holdings.pending (λ _ t. not (nat_le M.limits.pend (M.round + 1 - t))) q t e).0 in omega (arith, h);
+}
+
+-- other marks
+remarked_state : (M : State) (G : Holdings) (f : ReplicaId → Marks → Marks) → IsLawful M → IsLawfulHoldings M.cluster G → G.replicas ≡ revise M.holdings.replicas f → G.blocks ≡ M.holdings.blocks → G.pending ≡ M.holdings.pending → IsLawful (record M { holdings = G })
+remarked_state M G f L K r b t = record {
+  cluster = L.cluster;
+  holdings = K;
+  numbers = record {
+    nodes = L.numbers.nodes;
+    storages = L.numbers.storages;
+    blocks = λ c i e. L.numbers.blocks c i (sym (ap (λ m. get m c) b) ∙ e);
+    replicas = λ q e. L.numbers.replicas q (sym (ap (λ m. contains_key m q) r ∙ known_revised M.holdings.replicas f q) ∙ e);
+    round = L.numbers.round;
+    calls = L.numbers.calls;
+  };
+  commanded = λ q x e. L.commanded q x (sym (ap (λ m. get m q) t) ∙ e);
+}
+
+cleared_state : (M : State) → IsLawful M → IsLawful (record M { holdings = without_unordered_excess M.holdings })
+unfolding without_unordered_excess
+cleared_state M L = remarked_state M (without_unordered_excess M.holdings) (λ _ m. if m.ordered then m else record m { excess = false }) L (cleared_lawful M.cluster M.holdings L.holdings) refl refl refl
+
+marked_state : (M : State) → IsLawful M → IsLawful (record M { holdings = marked M.cluster M.holdings })
+unfolding marked
+marked_state M L =
+    remarked_state M (marked M.cluster M.holdings) (λ q m. if has (excess_in M.cluster M.holdings q.block) q.storage then record m { excess = true } else m) L (marked_lawful M.cluster M.holdings L.holdings) refl refl refl
+
+pub started_lawful : (M : State) → IsLawful M → M.round < last_number → IsLawful (started M)
+unfolding started
+started_lawful M L lt = marked_state (record (begun M) { holdings = without_unordered_excess (begun M).holdings }) (cleared_state (begun M) (begun_lawful M L lt))
+
+finished_numbers : (N : State) (ts : List Transfer) (ds : List Delete) → HasFittingNumbers N → HasFittingNumbers (record N { holdings = finished N.round N.holdings ts ds })
+unfolding finished
+finished_numbers N ts ds F = record {
+  nodes = F.nodes;
+  storages = F.storages;
+  blocks = F.blocks;
+  replicas = λ q e. F.replicas q (sym (known_revised N.holdings.replicas (ordered N.cluster N.round N.holdings ts ds) q) ∙ e);
+  round = F.round;
+  calls = F.calls;
+}
+
+pub finished_state : (N : State) (ts : List Transfer) → IsLawful N → Each (IsPlaced N.cluster N.holdings) ts → IsLawful (round_with N ts).1
+finished_state N ts L each = record {
+  cluster = L.cluster;
+  holdings = finished_lawful N.cluster N.round N.holdings ts (deletes N.limits N.cluster N.holdings) L.holdings each;
+  numbers = finished_numbers N ts (deletes N.limits N.cluster N.holdings) L.numbers;
+  commanded = all_pending N.cluster N.round N.holdings ts (deletes N.limits N.cluster N.holdings) (λ _ r. r ≤ N.round) L.commanded (each_then (IsPlaced N.cluster N.holdings) (λ _. N.round ≤ N.round) ts each (λ _ _. omega arith));
+}
+
+pub whole_lawful : (M : State) → IsLawful M → M.round < last_number → IsLawful (whole_round M).1
+unfolding whole_round
+whole_lawful M L lt = finished_state (started M) (transfers (started M).limits (started M).cluster (started M).holdings) (started_lawful M L lt) (each_placed (started M).limits (started M).cluster (started M).holdings)
+
+pub counted_lawful : (M : State) → IsLawful M → M.calls < last_number → IsLawful (counted M)
+counted_lawful M L lt = record {
+  cluster = L.cluster;
+  holdings = L.holdings;
+  numbers = record { nodes = L.numbers.nodes; storages = L.numbers.storages; blocks = L.numbers.blocks; replicas = L.numbers.replicas; round = L.numbers.round; calls = omega arith };
+  commanded = L.commanded;
+}

@@ -1,0 +1,5 @@
+use Rattle.laws_of_events.proofs.Calling.{query_leaves}
+use Rattle.laws_of_events.proofs.calls.query_leaves_state.Goals as goal
+
+pub returns : goal.returns
+returns c = query_leaves

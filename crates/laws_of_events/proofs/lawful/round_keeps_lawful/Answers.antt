@@ -1,0 +1,5 @@
+use Rattle.laws_of_events.proofs.Leading.{round_lawful}
+use Rattle.laws_of_events.proofs.lawful.round_keeps_lawful.Goals as goal
+
+pub returns : goal.returns
+returns c = round_lawful

@@ -1,0 +1,5 @@
+use Rattle.laws_of_events.proofs.Listing.{places_listed}
+use Rattle.laws_of_events.proofs.queries.places_are_good.Goals as goal
+
+pub returns : goal.returns
+returns c = places_listed

@@ -1,0 +1,5 @@
+use Rattle.laws_of_events.proofs.Listing.{listed}
+use Rattle.laws_of_events.proofs.queries.replicas_are_held.Goals as goal
+
+pub returns : goal.returns
+returns c = listed

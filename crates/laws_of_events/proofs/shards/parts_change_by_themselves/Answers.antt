@@ -1,0 +1,5 @@
+use Rattle.laws_of_events.proofs.Parts.{parts_changed}
+use Rattle.laws_of_events.proofs.shards.parts_change_by_themselves.Goals as goal
+
+pub returns : goal.returns
+returns c = parts_changed

@@ -1,0 +1,48 @@
+-- What each kind of call leaves of a state.
+use Rattle.std.specs.Prelude.{◌≡◌, ◌+◌, Bool, true, false, IsTrue, option_map, None}
+use Rattle.bm_base.specs.declared.replica.ReplicaId.{ReplicaId}
+use Rattle.bm_base.specs.declared.event.Event.{Event}
+use Rattle.bm_base.specs.declared.call.Call.{Call}
+use Rattle.bm_base.specs.declared.call.Call.TheVariants as call
+use Rattle.bm_base.specs.declared.call.Answer.{Answer}
+use Rattle.bm_base.specs.Map.{get}
+use Rattle.bm_base.specs.State.{State}
+use Rattle.bm_base.specs.Refusals.{refusal_of, round_refusal}
+use Rattle.bm_base.specs.Calls.{step}
+use Rattle.bm_base.specs.Answering.{MayAnswer, is_refused, state_left}
+
+abbrev pub is_query : Call → Bool
+is_query (call.Apply e) = false
+is_query call.Round = false
+is_query _ = true
+
+abbrev pub query_leaves_state : Type 0
+query_leaves_state = (M : State) (k : Call) → IsTrue (is_query k) → (step M k).1 ≡ M
+
+-- one call more is counted, and the configured limits stay
+pub record IsCounted (M N : State) : Type 0 where
+  pub calls : N.calls ≡ M.calls + 1
+  pub limits : N.limits ≡ M.limits
+
+-- an event is no round
+abbrev pub event_is_counted : Type 0
+event_is_counted = (M : State) (e : Event) → refusal_of M e ≡ None → IsCounted M (step M (call.Apply e)).1 × ((step M (call.Apply e)).1.round ≡ M.round)
+
+-- a round changes neither the cluster nor a block, and brings, takes or tags no replica
+pub record IsNextRound (M N : State) : Type 0 where
+  pub counted : IsCounted M N
+  pub round : N.round ≡ M.round + 1
+  pub cluster : N.cluster ≡ M.cluster
+  pub blocks : N.holdings.blocks ≡ M.holdings.blocks
+  pub tags : (p : ReplicaId) → option_map (λ m. m.tag) (get N.holdings.replicas p) ≡ option_map (λ m. m.tag) (get M.holdings.replicas p)
+
+abbrev pub round_is_counted : Type 0
+round_is_counted = (M : State) → round_refusal M ≡ None → IsNextRound M (step M call.Round).1
+
+-- Where memory may lack, a refused answer of whatever kind leaves the state, and any other is that of the step.
+
+abbrev pub refused_answer_leaves_state : Type 0
+refused_answer_leaves_state = (M : State) (k : Call) (a : Answer) → MayAnswer step M k a → IsTrue (is_refused a) → state_left step M k a ≡ M
+
+abbrev pub other_answer_is_the_steps : Type 0
+other_answer_is_the_steps = (M : State) (k : Call) (a : Answer) → MayAnswer step M k a → is_refused a ≡ false → (a ≡ (step M k).0) × (state_left step M k a ≡ (step M k).1)

@@ -1,0 +1,9 @@
+-- The laws, each as a statement that a function's contract cites.
+pub mod Fitting
+pub mod LawfulForEver
+pub mod PlainWords
+pub mod Reports
+pub mod Parts
+pub mod Changes
+pub mod Calls
+pub mod Queries

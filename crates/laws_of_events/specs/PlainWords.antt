@@ -1,0 +1,38 @@
+-- What holds after every list of calls, said with no word of the state machine but the state itself.
+use Rattle.std.specs.Prelude.{◌≡◌, ◌≢◌, ℕ, ◌≤◌, IsTrue, IsSome, List, Some, None}
+use Rattle.bm_base.specs.declared.config.Config.{Config}
+use Rattle.bm_base.specs.declared.call.Call.{Call}
+use Rattle.bm_base.specs.declared.replica.ReplicaId.{ReplicaId}
+use Rattle.bm_base.specs.declared.replica.Tag.TheVariants.{Good, Stray}
+use Rattle.bm_base.specs.declared.replica.Marks.{Marks}
+use Rattle.bm_base.specs.declared.replica.BlockInfo.{BlockInfo}
+use Rattle.bm_base.specs.declared.storage.StorageInfo.{StorageInfo}
+use Rattle.bm_base.specs.Map.{get, len}
+use Rattle.bm_base.specs.State.{Cluster, Holdings, State, first_state}
+use Rattle.bm_base.specs.Calls.{state_after}
+use Rattle.laws_of_events.specs.Fitting.{HasFittingStart, FitCalls}
+
+-- the storage is there, on a node that is there
+abbrev pub IsOnAliveNode : Cluster → ℕ → Type 0
+IsOnAliveNode C s = (i : StorageInfo) × (rack : ℕ) × (get C.storages s ≡ Some i) × (get C.nodes i.node ≡ Some rack)
+
+pub record IsSound (C : Cluster) (H : Holdings) : Type 0 where
+  pub replicas_alive : (p : ReplicaId) → IsSome (get H.replicas p) → IsOnAliveNode C p.storage
+  pub transfers_alive : (p : ReplicaId) → IsSome (get H.pending p) → IsOnAliveNode C p.storage
+  -- two replicas of a block on one node are the same
+  pub one_on_a_node : (p q : ReplicaId) (i j : StorageInfo) → IsSome (get H.replicas p) → IsSome (get H.replicas q) → p.block ≡ q.block → get C.storages p.storage ≡ Some i → get C.storages q.storage ≡ Some j → i.node ≡ j.node → p ≡ q
+  pub stray_unknown : (p : ReplicaId) (m : Marks) → get H.replicas p ≡ Some m → m.tag ≡ Stray → get H.blocks p.block ≡ None
+  pub others_known : (p : ReplicaId) (m : Marks) → get H.replicas p ≡ Some m → m.tag ≢ Stray → IsSome (get H.blocks p.block)
+  pub excess_good : (p : ReplicaId) (m : Marks) → get H.replicas p ≡ Some m → IsTrue m.excess → m.tag ≡ Good
+  pub transfers_known : (p : ReplicaId) → IsSome (get H.pending p) → IsSome (get H.blocks p.block)
+  -- what is on its way to a storage is not there yet
+  pub transfers_to_come : (p : ReplicaId) → IsSome (get H.pending p) → get H.replicas p ≡ None
+  pub nodes : len C.nodes ≤ 256
+  pub storages : len C.storages ≤ 1024
+  pub replication : (b : ℕ) (i : BlockInfo) → get H.blocks b ≡ Some i → (1 ≤ i.repl) × (i.repl ≤ 16)
+
+abbrev pub SoundState : State → Type 0
+SoundState M = IsSound M.cluster M.holdings
+
+abbrev pub calls_lead_to_sound : Type 0
+calls_lead_to_sound = (c : Config) (ks : List Call) → HasFittingStart c → FitCalls ks → SoundState (state_after (first_state c) ks)

@@ -1,0 +1,67 @@
+-- What queries list: just what is held, and all of it.
+use Rattle.std.specs.Prelude.{◌≡◌, ℕ, ◌<◌, AllPairs, Bool, false, ◌&&◌, ◌==◌, ◌↔◌, ◌⊎◌, IsTrue, IsSome, List, Some}
+use Rattle.std.specs.List.{list_any}
+use Rattle.bm_base.specs.declared.replica.ReplicaId.{ReplicaId}
+use Rattle.bm_base.specs.declared.replica.Replica.{Replica}
+use Rattle.bm_base.specs.declared.replica.Tag.TheVariants.{Good, Stale, Bad}
+use Rattle.bm_base.specs.declared.replica.Marks.{Marks}
+use Rattle.bm_base.specs.declared.replica.BlockInfo.{BlockInfo}
+use Rattle.bm_base.specs.Map.{get}
+use Rattle.bm_base.specs.Lists.{has}
+use Rattle.bm_base.specs.State.{Cluster, Holdings, replica_at}
+use Rattle.bm_base.specs.Queries.{all_replicas, corrupt_replicas, excess_replicas, missing_blocks, blocks_on, places}
+use Rattle.bm_base.specs.Lawful.{IsLawfulHoldings}
+
+-- a replica is held, with such marks
+abbrev pub IsHeld : Holdings → ReplicaId → (Marks → Type 0) → Type 0
+IsHeld H p P = (m : Marks) × (get H.replicas p ≡ Some m) × P m
+
+-- whether a list has a replica
+abbrev pub lists : List ReplicaId → ReplicaId → Bool
+lists ids p = list_any (λ q. (q.block == p.block) && (q.storage == p.storage)) ids
+
+-- a replica that passes a test, whatever test, is listed just where such a replica is held
+abbrev pub replicas_are_held : Type 0
+replicas_are_held =
+    (H : Holdings) (test : Replica → Bool)
+    → IsTrue (list_any test (all_replicas H)) ↔ ((p : ReplicaId) × IsHeld H p (λ m. IsTrue (test (record { block = p.block; storage = p.storage; tag = m.tag }))))
+
+abbrev pub corrupt_are_stale_or_bad : Type 0
+corrupt_are_stale_or_bad = (H : Holdings) (p : ReplicaId) → IsTrue (lists (corrupt_replicas H) p) ↔ IsHeld H p (λ m. (m.tag ≡ Stale) ⊎ (m.tag ≡ Bad))
+
+abbrev pub excess_are_marked : Type 0
+excess_are_marked = (H : Holdings) (p : ReplicaId) → IsTrue (lists (excess_replicas H) p) ↔ IsHeld H p (λ m. IsTrue m.excess)
+
+-- of any tag
+abbrev pub blocks_on_are_held : Type 0
+blocks_on_are_held = (H : Holdings) (s b : ℕ) → IsTrue (has (blocks_on H s) b) ↔ IsSome (get H.replicas (replica_at b s))
+
+-- in excess or not
+abbrev pub places_are_good : Type 0
+places_are_good = (H : Holdings) (b s : ℕ) → IsTrue (has (places H b) s) ↔ IsHeld H (replica_at b s) (λ m. m.tag ≡ Good)
+
+-- a known block of which no replica is good and not in excess
+abbrev pub IsMissing : Holdings → ℕ → Type 0
+IsMissing H b = (i : BlockInfo) × (get H.blocks b ≡ Some i) × ((s : ℕ) → IsHeld H (replica_at b s) (λ m. (m.tag ≡ Good) × (m.excess ≡ false)) → ⊥)
+
+abbrev pub missing_have_no_live_replica : Type 0
+missing_have_no_live_replica = (C : Cluster) (H : Holdings) → IsLawfulHoldings C H → (b : ℕ) → IsTrue (has (missing_blocks C H) b) ↔ IsMissing H b
+
+-- a replica before another: by block, then by storage
+abbrev pub IsBefore : ReplicaId → ReplicaId → Type 0
+IsBefore p q = (p.block < q.block) ⊎ ((p.block ≡ q.block) × (p.storage < q.storage))
+
+abbrev pub id_of : Replica → ReplicaId
+id_of r = replica_at r.block r.storage
+
+-- each list rises, so that nothing stands in it twice
+pub record ListsRise (C : Cluster) (H : Holdings) : Type 0 where
+  pub replicas : AllPairs (λ q r. IsBefore (id_of q) (id_of r)) (all_replicas H)
+  pub corrupt : AllPairs IsBefore (corrupt_replicas H)
+  pub excess : AllPairs IsBefore (excess_replicas H)
+  pub missing : AllPairs (λ b c. b < c) (missing_blocks C H)
+  pub blocks : (s : ℕ) → AllPairs (λ b c. b < c) (blocks_on H s)
+  pub places_of : (b : ℕ) → AllPairs (λ s t. s < t) (places H b)
+
+abbrev pub lists_rise : Type 0
+lists_rise = (C : Cluster) (H : Holdings) → ListsRise C H

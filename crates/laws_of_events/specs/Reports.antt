@@ -1,0 +1,92 @@
+-- What a full report and a received replica leave.
+use Rattle.std.specs.Prelude.{◌≡◌, ◌≢◌, ℕ, false, IsTrue, IsSome, List, ◌∷◌, ◌++◌, map, Some, None}
+use Rattle.bm_base.specs.declared.replica.ReplicaId.{ReplicaId}
+use Rattle.bm_base.specs.declared.replica.Tag.TheVariants.{Good, Stale, Bad, Stray}
+use Rattle.bm_base.specs.declared.replica.Marks.{Marks}
+use Rattle.bm_base.specs.declared.replica.Stamp.{Stamp}
+use Rattle.bm_base.specs.declared.replica.BlockInfo.{BlockInfo}
+use Rattle.bm_base.specs.declared.storage.StorageInfo.{StorageInfo}
+use Rattle.bm_base.specs.declared.event.Entry.{Entry}
+use Rattle.bm_base.specs.declared.event.Event.{Event}
+use Rattle.bm_base.specs.declared.event.Event.TheVariants.{Received, FullReport}
+use Rattle.bm_base.specs.Map.{get, contains_key}
+use Rattle.bm_base.specs.Lists.{has, distinct}
+use Rattle.bm_base.specs.Queries.{blocks_on}
+use Rattle.bm_base.specs.State.{Cluster, Holdings, State, replica_at}
+use Rattle.bm_base.specs.Calls.{done_by, after_event}
+use Rattle.bm_base.specs.Lawful.{IsLawful}
+
+-- what the state holds after an event
+abbrev pub held_after : State → Event → Holdings
+held_after M e = (after_event M e).holdings
+
+-- the block numbers of a report's entries
+abbrev pub numbers_of : List Entry → List ℕ
+numbers_of es = map (λ e. e.id) es
+
+abbrev pub IsBadIn : Holdings → ReplicaId → Type 0
+IsBadIn H p = (m : Marks) × (get H.replicas p ≡ Some m) × (m.tag ≡ Bad)
+
+abbrev pub IsExcessIn : Holdings → ReplicaId → Type 0
+IsExcessIn H p = (m : Marks) × (get H.replicas p ≡ Some m) × IsTrue m.excess
+
+-- The marks of a replica that was told of with this stamp, where H is what was held before.
+pub record HasToldMarks (H : Holdings) (p : ReplicaId) (stamp : Stamp) (m : Marks) : Type 0 where
+  pub stray : get H.blocks p.block ≡ None → m.tag ≡ Stray
+  pub bad : (i : BlockInfo) → get H.blocks p.block ≡ Some i → IsBadIn H p → m.tag ≡ Bad
+  pub good : (i : BlockInfo) → get H.blocks p.block ≡ Some i → (IsBadIn H p → ⊥) → stamp ≡ i.stamp → m.tag ≡ Good
+  pub stale : (i : BlockInfo) → get H.blocks p.block ≡ Some i → (IsBadIn H p → ⊥) → stamp ≢ i.stamp → m.tag ≡ Stale
+  -- it stays in excess where it is good, and it may be ordered to be deleted anew
+  pub excess : m.tag ≡ Good → IsExcessIn H p → IsTrue m.excess
+  pub no_new_excess : IsTrue m.excess → (m.tag ≡ Good) × IsExcessIn H p
+  pub not_ordered : m.ordered ≡ false
+
+-- after a full report a storage has exactly the replicas that the report names
+abbrev pub report_tells_all : Type 0
+report_tells_all = (M : State) (s : ℕ) (es : List Entry) (b : ℕ) → contains_key (held_after M (FullReport s es)).replicas (replica_at b s) ≡ has (numbers_of es) b
+
+-- and a query for the storage's blocks answers each of these numbers once, rising
+abbrev pub report_is_what_is_asked : Type 0
+report_is_what_is_asked = (M : State) (s : ℕ) (es : List Entry) → blocks_on (held_after M (FullReport s es)) s ≡ distinct (numbers_of es)
+
+-- the last entry of a number decides its marks, by its stamp
+abbrev pub last_entry_decides : Type 0
+last_entry_decides =
+    (M : State) (s : ℕ) (front : List Entry) (e : Entry) (behind : List Entry) → has (numbers_of behind) e.id ≡ false
+    → (m : Marks) × (get (held_after M (FullReport s (front ++ (e ∷ behind)))).replicas (replica_at e.id s) ≡ Some m) × HasToldMarks M.holdings (replica_at e.id s) e.stamp m
+
+-- the same report again changes nothing that is held, and answers that no replica came or went
+abbrev pub second_report_changes_nothing : Type 0
+second_report_changes_nothing =
+    (M : State) (s : ℕ) (es : List Entry)
+    → (held_after (after_event M (FullReport s es)) (FullReport s es) ≡ held_after M (FullReport s es))
+    × (done_by (after_event M (FullReport s es)) (FullReport s es) ≡ record { added = 0; removed = 0 })
+
+-- two storages that are not of one node
+abbrev pub AreApart : Cluster → ℕ → ℕ → Type 0
+AreApart C s t = (t ≢ s) × ((i j : StorageInfo) → get C.storages s ≡ Some i → get C.storages t ≡ Some j → i.node ≢ j.node)
+
+-- where nothing is told of other nodes, their replicas stay, marks included
+abbrev pub report_leaves_other_nodes : Type 0
+report_leaves_other_nodes =
+    (M : State) (s : ℕ) (es : List Entry) (p : ReplicaId) → AreApart M.cluster s p.storage → get (held_after M (FullReport s es)).replicas p ≡ get M.holdings.replicas p
+
+abbrev pub received_leaves_other_nodes : Type 0
+received_leaves_other_nodes =
+    (M : State) (s b : ℕ) (stamp : Stamp) (p : ReplicaId) → AreApart M.cluster s p.storage → get (held_after M (Received s b stamp)).replicas p ≡ get M.holdings.replicas p
+
+-- a replica that is received is there, with marks by its stamp
+abbrev pub received_is_there : Type 0
+received_is_there =
+    (M : State) (s b : ℕ) (stamp : Stamp)
+    → (m : Marks) × (get (held_after M (Received s b stamp)).replicas (replica_at b s) ≡ Some m) × HasToldMarks M.holdings (replica_at b s) stamp m
+
+-- what was bad and is still there is bad
+abbrev pub LeavesBadBad : Event → Type 0
+LeavesBadBad e = (M : State) → IsLawful M → (p : ReplicaId) → IsBadIn M.holdings p → IsSome (get (held_after M e).replicas p) → IsBadIn (held_after M e) p
+
+abbrev pub report_leaves_bad_bad : Type 0
+report_leaves_bad_bad = (s : ℕ) (es : List Entry) → LeavesBadBad (FullReport s es)
+
+abbrev pub received_leaves_bad_bad : Type 0
+received_leaves_bad_bad = (s b : ℕ) (stamp : Stamp) → LeavesBadBad (Received s b stamp)

@@ -1,0 +1,89 @@
+// What each event changes, and what it leaves.
+#![tactic(auto)]
+
+ghost use Rattle.laws_of_events.specs.Changes as law;
+
+/// A node that registers is there with its rack and its storages, on which nothing remains yet; all else stays.
+pub fn registered_node_is_there()
+    ensures { law.registered_node_is_there }
+{}
+
+/// A dead node leaves with its storages, their replicas and the transfers to them; all else stays.
+pub fn dead_node_leaves()
+    ensures { law.dead_node_leaves }
+{}
+
+/// A failed storage leaves with its replicas and the transfers to it; its node and all else stay.
+pub fn failed_storage_leaves()
+    ensures { law.failed_storage_leaves }
+{}
+
+/// Of several values that a heartbeat tells for a storage the last one counts.
+pub fn last_heartbeat_counts()
+    ensures { law.last_heartbeat_counts }
+{}
+
+/// Storages of which a heartbeat tells nothing stay as they were.
+pub fn heartbeat_leaves_others()
+    ensures { law.heartbeat_leaves_others }
+{}
+
+/// What an event answers adds up: so many replicas more, and so many fewer, are there after it.
+pub fn counts_add_up()
+    ensures { law.counts_add_up }
+{}
+
+/// An event on one block leaves everything that is held of any other: its information, replicas and transfers.
+pub fn event_leaves_other_blocks()
+    ensures { law.event_leaves_other_blocks }
+{}
+
+/// A block that is added is known, with its stamp and the number of replicas wanted; no replica comes.
+pub fn added_block_is_known()
+    ensures { law.added_block_is_known }
+{}
+
+/// A deleted block is not known, its replicas are stray, and no transfer of it is on its way.
+pub fn deleted_block_is_stray()
+    ensures { law.deleted_block_is_stray }
+{}
+
+/// A block with a new stamp has no good replica, and no transfer of it is on its way; other tags stay.
+pub fn restamped_block_has_no_good_replica()
+    ensures { law.restamped_block_has_no_good_replica }
+{}
+
+/// Another number of replicas is wanted; the block's stamp, the replicas and the transfers stay.
+pub fn replication_is_set()
+    ensures { law.replication_is_set }
+{}
+
+/// A replica that was deleted is gone, and all else stays.
+pub fn deleted_replica_is_gone()
+    ensures { law.deleted_replica_is_gone }
+{}
+
+/// A replica found corrupt is bad, and no longer in excess; none comes, and all else stays.
+pub fn corrupt_replica_is_bad()
+    ensures { law.corrupt_replica_is_bad }
+{}
+
+/// The transfers to a storage of what its full report names have arrived; all others are on their way still.
+pub fn report_ends_transfers()
+    ensures { law.report_ends_transfers }
+{}
+
+/// The transfer of a replica that is received has arrived; all others are on their way still.
+pub fn received_ends_transfer()
+    ensures { law.received_ends_transfer }
+{}
+
+/// A full report leaves the replicas on other storages of blocks that it does not name, those of its own node included.
+pub fn report_leaves_unnamed_blocks()
+    ensures { law.report_leaves_unnamed_blocks }
+{}
+
+/// Whatever the event, a replica that was bad is bad as long as it is there and its block is known.
+pub fn no_event_clears_bad()
+    ensures { law.no_event_clears_bad }
+{}

@@ -1,0 +1,45 @@
+// Every state that calls lead to is lawful.
+#![tactic(auto)]
+
+ghost use Rattle.laws_of_events.specs.LawfulForEver as law;
+
+/// The first state of every configuration is lawful.
+pub fn first_state_is_lawful()
+    ensures { law.first_state_is_lawful }
+{}
+
+/// An event that nothing refuses leaves a lawful state lawful, whatever event it is.
+pub fn event_keeps_lawful()
+    ensures { law.event_keeps_lawful }
+{}
+
+/// A round that nothing refuses leaves a lawful state lawful: each chosen copy goes to a known storage and is of a known
+/// block, and only good replicas are put in excess.
+pub fn round_keeps_lawful()
+    ensures { law.round_keeps_lawful }
+{}
+
+/// A call that is refused leaves the state as it was.
+pub fn refusal_leaves_state()
+    ensures { law.refusal_leaves_state }
+{}
+
+/// A call of any kind leaves a lawful state lawful: an event, a round, a query, refused or not.
+pub fn call_keeps_lawful()
+    ensures { law.call_keeps_lawful }
+{}
+
+/// Every list of calls whose numbers fit their types leads from the first state to a lawful state.
+pub fn calls_lead_to_lawful()
+    ensures { law.calls_lead_to_lawful }
+{}
+
+/// The same where memory may lack: whatever the calls may answer, the state that they leave is lawful.
+pub fn answered_calls_lead_to_lawful()
+    ensures { law.answered_calls_lead_to_lawful }
+{}
+
+/// After every list of calls: what is on its way to a storage is not there yet, whatever its tag.
+pub fn transfers_are_still_to_come()
+    ensures { law.transfers_are_still_to_come }
+{}

@@ -1,0 +1,34 @@
+// The parts into which blocks are cut by their numbers.
+#![tactic(auto)]
+
+ghost use Rattle.laws_of_events.specs.Parts as law;
+
+/// The part of a shard has what the whole has of the shard's numbers, and nothing else.
+pub fn cut_gives_parts()
+    ensures { law.cut_gives_parts }
+{}
+
+/// Every block number is of one of the shards, however many there are.
+pub fn every_number_has_its_shard()
+    ensures { law.every_number_has_its_shard }
+{}
+
+/// The parts give back the whole: holdings with the same parts are the same, however many shards there are.
+pub fn parts_give_back_whole()
+    ensures { law.parts_give_back_whole }
+{}
+
+/// An event on one block leaves the parts of all other shards as they were.
+pub fn event_changes_one_part()
+    ensures { law.event_changes_one_part }
+{}
+
+/// Every event changes each part as it would change whole holdings, once it is told of the part's own blocks alone.
+pub fn parts_change_by_themselves()
+    ensures { law.parts_change_by_themselves }
+{}
+
+/// How many replicas come and go by an event in the parts adds up to how many come and go in the whole.
+pub fn parts_answers_add_up()
+    ensures { law.parts_answers_add_up }
+{}
