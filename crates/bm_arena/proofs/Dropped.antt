@@ -16,7 +16,7 @@ use Rattle.bm_arena.specs.Contents.{Contents, dropped}
 use Rattle.indexmap.specs.IndexMap.{swap_remove_entry}
 use Rattle.bm_arena.specs.Inside.{lists_from, IsArena}
 use Rattle.bm_arena.proofs.Triplets.{read}
-use Rattle.bm_arena.proofs.Operations.{seen_at, entry_seen}
+use Rattle.bm_arena.proofs.Seeing.{seen_at, entry_seen}
 use Rattle.bm_arena.proofs.Relinked.{KeepsLinks, IsSound-relinked, lists_from-relinked}
 
 -- no triplet is seen as no replica

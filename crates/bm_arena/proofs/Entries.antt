@@ -16,7 +16,7 @@ use Rattle.bm_arena.specs.Contents.{IsAdded, empty_block}
 use Rattle.bm_arena.specs.Inside.{list_from, lists_from, storages_of, IsSound, IsArena}
 use Rattle.bm_arena.proofs.Triplets.{read}
 use Rattle.bm_arena.proofs.Sound.{list_from-list, IsList-same}
-use Rattle.bm_arena.proofs.Operations.{seen_at, storages_seen}
+use Rattle.bm_arena.proofs.Seeing.{seen_at, storages_seen}
 
 -- what holds of each key of a list holds of one that is found
 among_keys : {X : Type 0} (P : ℕ → Type 0) (es : List (ℕ × X)) (s : ℕ) (v : X) → AllByRecursion P (keys_of es) → lookup (nat_eq s) es ≡ Some v → P s

@@ -13,7 +13,7 @@ use Rattle.slab.specs.Slab.{Slab}
 use Rattle.bm_arena.specs.declared.types.Entry.{Entry}
 use Rattle.bm_arena.specs.Lists.{Among}
 use Rattle.bm_arena.specs.Inside.{list_from, lists_from, IsArena}
-use Rattle.bm_arena.proofs.Operations.{lookup-lists_from}
+use Rattle.bm_arena.proofs.Seeing.{lookup-lists_from}
 
 map-swap_remove : {X Y : Type 0} (f : X → Y) (xs : List X) (i : ℕ) (d : X) → map f (swap_remove xs i d) ≡ swap_remove (map f xs) i (f d)
 map-swap_remove f xs i d =

@@ -13,7 +13,7 @@ use Rattle.bm_arena.specs.Triplets.{Block, links_of, seen_slots, at_slot, with_c
 use Rattle.bm_arena.specs.Lists.{IsList}
 use Rattle.bm_arena.specs.Contents.{Contents, IsReserved, with_room, find_marks}
 use Rattle.bm_arena.specs.Inside.{list_from, lists_from, IsArena}
-use Rattle.bm_arena.proofs.Operations.{lookup-lists_from, marks_in, entry_seen}
+use Rattle.bm_arena.proofs.Seeing.{lookup-lists_from, marks_in, entry_seen}
 use Rattle.bm_arena.proofs.Entries.{lookup-push_before, lookup-push_here, lookup-push_cases}
 use Rattle.bm_arena.proofs.Reading.{walk-nowhere, reserve-arena, reserve-blocks, reserve-lists}
 use Rattle.bm_arena.proofs.Triplets.{get_or-set_here}

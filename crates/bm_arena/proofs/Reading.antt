@@ -20,7 +20,7 @@ use Rattle.bm_arena.proofs.Lists.{walk-chain, length-distinct_below, length-with
 use Rattle.bm_arena.proofs.Triplets.{read}
 use Rattle.bm_arena.proofs.Replicas.{keys, none-absent}
 use Rattle.bm_arena.proofs.Sound.{Chain-member, triplet_at_within}
-use Rattle.bm_arena.proofs.Operations.{lookup-lists_from, marks_in, marks_of, marks-seen, none_inside, entry_seen, storages_seen}
+use Rattle.bm_arena.proofs.Seeing.{lookup-lists_from, marks_in, marks_of, marks-seen, none_inside, entry_seen, storages_seen}
 use Rattle.bm_arena.proofs.Relinked.{reserved-arena, reserved-lists, reserved-blocks}
 
 pub walk-listed : (slots : Slab Entry) (heads : List (ℕ × Option ℕ)) (storage left : ℕ) (first : Option ℕ) → IsSound slots heads → length slots.slots ≤ left → Some first ≡ lookup (nat_eq storage) heads → walk (links_of slots storage) left first ≡ unwrap_or (lookup (nat_eq storage) (lists_from slots heads)) []

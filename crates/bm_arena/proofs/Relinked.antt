@@ -18,7 +18,8 @@ use Rattle.bm_arena.specs.Lists.{Distinct, Chain, IsList}
 use Rattle.bm_arena.specs.Inside.{list_from, lists_from, storages_of, IsSound, IsArena}
 use Rattle.bm_arena.proofs.Triplets.{find_triplet-change_same, find_triplet-change_other, read, get-at_slot, get_or-set_here, triplet_at-elsewhere, seen-at_slot}
 use Rattle.bm_arena.proofs.Sound.{list_from-list}
-use Rattle.bm_arena.proofs.Operations.{some_inside, AreIds-change, entry_seen}
+use Rattle.bm_arena.proofs.Seeing.{some_inside, entry_seen}
+use Rattle.bm_arena.proofs.ListCalls.{AreIds-change}
 use Rattle.bm_arena.proofs.Entries.{lists_from-same}
 
 -- the triplet is there, with the same links

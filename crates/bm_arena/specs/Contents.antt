@@ -1,6 +1,6 @@
 -- What a contract sees of an arena.
 use Rattle.std.specs.Prelude.{◌≡◌, ◌↔◌, ℕ, ◌+◌, ◌^◌, ◌-◌, ◌==◌, ◌<◌, ◌≢◌, List, [], ◌∷◌, ◌++◌, length, map, nat_eq, nat_lt, Option, Some, None, IsSome, IsSomeAnd, if◌then◌else◌, slice_index_or, slice_set, false}
-use Rattle.std.specs.Option.{option_and_then, option_map_or, unwrap_or}
+use Rattle.std.specs.Option.{option_map, option_and_then, option_map_or, unwrap_or}
 use Rattle.std.specs.Map.{lookup, set_value, keys_of}
 use Rattle.std.specs.List.{IsDistinct}
 use Rattle.indexmap.specs.IndexMap.{swap_remove_entry}
@@ -160,3 +160,19 @@ pub record IsLawful (a : Contents) : Type 0 where
   pub each : IsDistinct nat_eq (keys_of a.ids)
   -- the delimiter's slot is held
   pub marker : IsSome (block_at a a.delimiter)
+
+-- what is known of a block beside its replicas
+abbrev pub known_of : Option Block → Option (ℕ × Option BlockInfo)
+known_of o = option_map (λ (b : Block). (b.id, b.info)) o
+
+-- what a list operation keeps: all lists but the storage's, all blocks but the slot's, and of that block its number, what is
+-- known of it and its replicas on other storages; one step more is counted
+pub record KeepsOthers (old new : Contents) (slot storage : ℕ) : Type 0 where
+  pub lists : (other : ℕ) → other ≢ storage → list_of new other ≡ list_of old other
+  pub heads : (other : ℕ) → HasHead old other → HasHead new other
+  pub blocks : (other : ℕ) → other ≢ slot → block_at new other ≡ block_at old other
+  pub marks : (other : ℕ) → other ≢ storage → marks_at new slot other ≡ marks_at old slot other
+  pub known : known_of (block_at new slot) ≡ known_of (block_at old slot)
+  pub ids : new.ids ≡ old.ids
+  pub delimiter : new.delimiter ≡ old.delimiter
+  pub steps : new.steps ≡ count_up old.steps

@@ -1,9 +1,10 @@
 // The lists of storages: one doubly linked list of slots for each storage that has a head, through the triplets of the blocks.
-ghost use Rattle.std.specs.Prelude.{nat_eq, slice_index, EachIndex, ◌≡◌, None, IsSome, [], IfErr, OnOk};
+ghost use Rattle.std.specs.Prelude.{nat_eq, slice_index, EachIndex, ◌≡◌, None, Some, IsSome, [], ◌∷◌, IfErr, OnOk};
 ghost use Rattle.std.specs.Option.{unwrap_or};
 ghost use Rattle.indexmap.specs.IndexMap.{swap_remove_entry};
 ghost use Rattle.bm_base.specs.declared.refusal.Refusal.TheVariants.{Memory};
-ghost use Rattle.bm_arena.specs.Contents.{IsReserved, no_marks, list_of, slot_after, HasHead, HasRoom, marks_at, linked_front, unlinked, moved_front, IsLawful};
+ghost use Rattle.bm_arena.specs.Contents.{IsReserved, no_marks, list_of, slot_after, HasHead, HasRoom, marks_at, linked_front, unlinked, moved_front, KeepsOthers, IsLawful};
+ghost use Rattle.bm_arena.specs.Lists.{without};
 
 use crate::arena::{Arena, Slot, count_up};
 use crate::links;
@@ -59,6 +60,9 @@ impl Arena {
         requires room { HasRoom self.old slot }
         requires absent { marks_at self.old slot storage ≡ None }
         ensures after { self.new ≡ linked_front self.old slot storage marks }
+        ensures list { list_of self.new storage ≡ slot ∷ list_of self.old storage }
+        ensures marks { marks_at self.new slot storage ≡ Some marks }
+        ensures others { KeepsOthers self.old self.new slot storage }
         ensures lawful { IsLawful self.new }
     {
         if let Some(first) = self.heads.get_mut(&storage.0) {
@@ -79,6 +83,9 @@ impl Arena {
     pub fn unlink(&mut self, slot: Slot, storage: StorageId)
         requires { IsSome (marks_at self.old slot storage) }
         ensures after { self.new ≡ unlinked self.old slot storage }
+        ensures list { list_of self.new storage ≡ without slot (list_of self.old storage) }
+        ensures marks { marks_at self.new slot storage ≡ None }
+        ensures others { KeepsOthers self.old self.new slot storage }
         ensures lawful { IsLawful self.new }
     {
         if let Some(triplet) = links::find(&self.slots, slot, storage.0) {
@@ -94,6 +101,9 @@ impl Arena {
     pub fn move_front(&mut self, slot: Slot, storage: StorageId)
         requires { IsSome (marks_at self.old slot storage) }
         ensures after { self.new ≡ moved_front self.old slot storage }
+        ensures list { list_of self.new storage ≡ slot ∷ without slot (list_of self.old storage) }
+        ensures blocks { self.new.blocks ≡ self.old.blocks }
+        ensures others { KeepsOthers self.old self.new slot storage }
         ensures lawful { IsLawful self.new }
     {
         if let Some(triplet) = links::find(&self.slots, slot, storage.0) {
@@ -110,6 +120,9 @@ impl Arena {
         requires head { HasHead self.old storage }
         requires absent { marks_at self.old self.old.delimiter storage ≡ None }
         ensures after { self.new ≡ linked_front self.old self.old.delimiter storage no_marks }
+        ensures list { list_of self.new storage ≡ self.old.delimiter ∷ list_of self.old storage }
+        ensures marks { IsSome (marks_at self.new self.old.delimiter storage) }
+        ensures others { KeepsOthers self.old self.new self.old.delimiter storage }
         ensures lawful { IsLawful self.new }
     {
         let slot = self.delimiter;
@@ -120,6 +133,9 @@ impl Arena {
     pub fn take_delimiter(&mut self, storage: StorageId)
         requires { IsSome (marks_at self.old self.old.delimiter storage) }
         ensures after { self.new ≡ unlinked self.old self.old.delimiter storage }
+        ensures list { list_of self.new storage ≡ without self.old.delimiter (list_of self.old storage) }
+        ensures marks { marks_at self.new self.old.delimiter storage ≡ None }
+        ensures others { KeepsOthers self.old self.new self.old.delimiter storage }
         ensures lawful { IsLawful self.new }
     {
         let slot = self.delimiter;

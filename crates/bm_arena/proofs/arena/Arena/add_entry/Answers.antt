@@ -1,4 +1,4 @@
-use Rattle.bm_arena.proofs.Operations.{IsLawful-arena}
+use Rattle.bm_arena.proofs.Lawfulness.{IsLawful-arena}
 use Rattle.std.proofs.Common.{sym, ◌∙◌, refl, arith}
 use Rattle.std.specs.Prelude.{nat_eq}
 use Rattle.bm_arena.proofs.Entries.{IsArena-capacity, add_entry-arena, add_entry-added}

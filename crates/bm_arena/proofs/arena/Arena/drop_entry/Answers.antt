@@ -1,4 +1,4 @@
-use Rattle.bm_arena.proofs.Operations.{IsLawful-arena}
+use Rattle.bm_arena.proofs.Lawfulness.{IsLawful-arena}
 use Rattle.bm_arena.proofs.Dropped.{drop_entry-arena, drop_entry-view, drop_entry-none}
 use Rattle.bm_arena.proofs.arena.Arena.drop_entry.Goals as goal
 

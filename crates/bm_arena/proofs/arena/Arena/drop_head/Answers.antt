@@ -1,4 +1,4 @@
-use Rattle.bm_arena.proofs.Operations.{IsLawful-arena}
+use Rattle.bm_arena.proofs.Lawfulness.{IsLawful-arena}
 use Rattle.std.proofs.Common.{arith, refl}
 use Rattle.bm_arena.proofs.Headless.{drop_head-arena, drop_head-lists}
 use Rattle.bm_arena.proofs.arena.Arena.drop_head.Goals as goal

@@ -1,4 +1,8 @@
-use Rattle.bm_arena.proofs.Operations.{link_front-sound, link_front-view, no_head, IsLawful-arena}
+use Rattle.std.proofs.Common.{ap, sym, subst, ◌∙◌}
+use Rattle.bm_arena.specs.Contents.{Contents, list_of, marks_at, KeepsOthers}
+use Rattle.bm_arena.proofs.Laws.{list_of-linked_front, marks_at-linked, others-linked_front}
+use Rattle.bm_arena.proofs.ListCalls.{link_front-sound, link_front-view, no_head}
+use Rattle.bm_arena.proofs.Lawfulness.{IsLawful-arena}
 use Rattle.bm_arena.proofs.arena.Arena.link_front.Goals as goal
 
 pub invariant_of-self : goal.invariant_of-self
@@ -24,3 +28,16 @@ returns-in_default c =
 
 pub returns-in-Some-clause-lawful : goal.returns-in-Some-clause-lawful
 returns-in-Some-clause-lawful c = IsLawful-arena c.attach.new.slots _ _ _ (invariant_of-self c) _
+
+pub returns-in-Some-clause-list : goal.returns-in-Some-clause-list
+returns-in-Some-clause-list c =
+    ap (λ a. list_of a c.args.storage) (returns-in-Some-clause-after c) ∙ list_of-linked_front c.args.self.now c.args.slot c.args.storage c.args.marks c.requires.head
+
+pub returns-in-Some-clause-marks : goal.returns-in-Some-clause-marks
+returns-in-Some-clause-marks c =
+    ap (λ a. marks_at a c.args.slot c.args.storage) (returns-in-Some-clause-after c) ∙ marks_at-linked c.args.self.now c.args.slot c.args.storage c.args.marks c.requires.room c.requires.absent
+
+pub returns-in-Some-clause-others : goal.returns-in-Some-clause-others
+returns-in-Some-clause-others c =
+    let P : Contents → Type 0 = λ a. KeepsOthers c.args.self.now a c.args.slot c.args.storage in
+    subst P (sym (returns-in-Some-clause-after c)) (others-linked_front c.args.self.now c.args.slot c.args.storage c.args.marks)

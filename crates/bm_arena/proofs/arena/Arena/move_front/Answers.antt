@@ -1,4 +1,8 @@
-use Rattle.bm_arena.proofs.Operations.{move_front-sound, move_front-view, no_replica, IsLawful-arena}
+use Rattle.std.proofs.Common.{ap, sym, subst, ◌∙◌}
+use Rattle.bm_arena.specs.Contents.{Contents, list_of, marks_at, KeepsOthers, IsLawful}
+use Rattle.bm_arena.proofs.Laws.{head-lawful, list_of-moved_front, others-moved_front}
+use Rattle.bm_arena.proofs.ListCalls.{move_front-sound, move_front-view, no_replica}
+use Rattle.bm_arena.proofs.Lawfulness.{IsLawful-arena}
 use Rattle.bm_arena.proofs.arena.Arena.move_front.Goals as goal
 
 pub invariant_of-self : goal.invariant_of-self
@@ -20,3 +24,16 @@ returns-in_default c =
 
 pub returns-in-Some-get_mut-clause-lawful : goal.returns-in-Some-get_mut-clause-lawful
 returns-in-Some-get_mut-clause-lawful c = IsLawful-arena c.attach.new.slots _ _ _ (invariant_of-self c) _
+
+pub returns-in-Some-get_mut-clause-list : goal.returns-in-Some-get_mut-clause-list
+returns-in-Some-get_mut-clause-list c =
+    let lawful : IsLawful c.args.self.now = rw (← c.self.view_is) (IsLawful-arena c.self.inside.slots _ _ _ c.self.invariant _) in
+    ap (λ a. list_of a c.args.storage) (returns-in-Some-get_mut-clause-after c) ∙ list_of-moved_front c.args.self.now c.args.slot c.args.storage (head-lawful c.args.self.now lawful c.args.slot c.args.storage c.requires)
+
+pub returns-in-Some-get_mut-clause-others : goal.returns-in-Some-get_mut-clause-others
+returns-in-Some-get_mut-clause-others c =
+    let P : Contents → Type 0 = λ a. KeepsOthers c.args.self.now a c.args.slot c.args.storage in
+    subst P (sym (returns-in-Some-get_mut-clause-after c)) (others-moved_front c.args.self.now c.args.slot c.args.storage)
+
+pub returns-in-Some-get_mut-clause-blocks : goal.returns-in-Some-get_mut-clause-blocks
+returns-in-Some-get_mut-clause-blocks c = ap (λ a. a.blocks) (returns-in-Some-get_mut-clause-after c)

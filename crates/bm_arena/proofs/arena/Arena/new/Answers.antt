@@ -1,4 +1,4 @@
-use Rattle.bm_arena.proofs.Operations.{IsLawful-arena}
+use Rattle.bm_arena.proofs.Lawfulness.{IsLawful-arena}
 use Rattle.std.proofs.Common.{ap, ◌∙◌, arith}
 use Rattle.bm_arena.proofs.Entries.{IsArena-first, first_blocks}
 use Rattle.bm_arena.proofs.arena.Arena.new.Goals as goal

@@ -1,5 +1,6 @@
 use Rattle.std.proofs.Common.{◌∙◌}
-use Rattle.bm_arena.proofs.Operations.{next_after-list, no_replica}
+use Rattle.bm_arena.proofs.Lawfulness.{next_after-list}
+use Rattle.bm_arena.proofs.ListCalls.{no_replica}
 use Rattle.bm_arena.proofs.arena.Arena.next_after.Goals as goal
 
 pub returns-in-Some : goal.returns-in-Some

@@ -1,4 +1,4 @@
-use Rattle.bm_arena.proofs.Operations.{IsLawful-arena}
+use Rattle.bm_arena.proofs.Lawfulness.{IsLawful-arena}
 use Rattle.std.proofs.Common.{sym, refl, ◌∙◌, ◌+◌, None}
 use Rattle.std.specs.Prelude.{nat_eq}
 use Rattle.indexmap.proofs.CallerLemmas.{insert_entry-new}

@@ -1,4 +1,4 @@
-use Rattle.bm_arena.proofs.Operations.{IsLawful-arena}
+use Rattle.bm_arena.proofs.Lawfulness.{IsLawful-arena}
 use Rattle.bm_arena.proofs.Reading.{reserve-arena, reserve-view}
 use Rattle.bm_arena.proofs.arena.Arena.reserve_triplet.Goals as goal
 

@@ -1,4 +1,4 @@
-use Rattle.bm_arena.proofs.Operations.{IsLawful-arena}
+use Rattle.bm_arena.proofs.Lawfulness.{IsLawful-arena}
 use Rattle.std.proofs.Common.{refl}
 use Rattle.bm_arena.proofs.Relinked.{set_info-arena, set_info-lists, set_info-blocks}
 use Rattle.bm_arena.proofs.arena.Arena.set_info.Goals as goal

@@ -1,4 +1,8 @@
-use Rattle.bm_arena.proofs.Operations.{unlink-sound, unlink-view, no_replica, IsLawful-arena}
+use Rattle.std.proofs.Common.{ap, sym, subst, ◌∙◌}
+use Rattle.bm_arena.specs.Contents.{Contents, list_of, marks_at, KeepsOthers, IsLawful}
+use Rattle.bm_arena.proofs.Laws.{head-lawful, list_of-unlinked, marks_at-unlinked, others-unlinked}
+use Rattle.bm_arena.proofs.ListCalls.{unlink-sound, unlink-view, no_replica}
+use Rattle.bm_arena.proofs.Lawfulness.{IsLawful-arena}
 use Rattle.bm_arena.proofs.arena.Arena.unlink.Goals as goal
 
 pub invariant_of-self : goal.invariant_of-self
@@ -20,3 +24,19 @@ returns-in_default c =
 
 pub returns-in-Some-get_mut-clause-lawful : goal.returns-in-Some-get_mut-clause-lawful
 returns-in-Some-get_mut-clause-lawful c = IsLawful-arena c.remove_triplet.new.slots _ _ _ (invariant_of-self c) _
+
+pub returns-in-Some-get_mut-clause-list : goal.returns-in-Some-get_mut-clause-list
+returns-in-Some-get_mut-clause-list c =
+    let lawful : IsLawful c.args.self.now = rw (← c.self.view_is) (IsLawful-arena c.self.inside.slots _ _ _ c.self.invariant _) in
+    ap (λ a. list_of a c.args.storage) (returns-in-Some-get_mut-clause-after c) ∙ list_of-unlinked c.args.self.now c.args.slot c.args.storage (head-lawful c.args.self.now lawful c.args.slot c.args.storage c.requires)
+
+pub returns-in-Some-get_mut-clause-marks : goal.returns-in-Some-get_mut-clause-marks
+returns-in-Some-get_mut-clause-marks c =
+    let lawful : IsLawful c.args.self.now = rw (← c.self.view_is) (IsLawful-arena c.self.inside.slots _ _ _ c.self.invariant _) in
+    ap (λ a. marks_at a c.args.slot c.args.storage) (returns-in-Some-get_mut-clause-after c) ∙ marks_at-unlinked c.args.self.now lawful c.args.slot c.args.storage
+
+pub returns-in-Some-get_mut-clause-others : goal.returns-in-Some-get_mut-clause-others
+returns-in-Some-get_mut-clause-others c =
+    let lawful : IsLawful c.args.self.now = rw (← c.self.view_is) (IsLawful-arena c.self.inside.slots _ _ _ c.self.invariant _) in
+    let P : Contents → Type 0 = λ a. KeepsOthers c.args.self.now a c.args.slot c.args.storage in
+    subst P (sym (returns-in-Some-get_mut-clause-after c)) (others-unlinked c.args.self.now lawful c.args.slot c.args.storage)
