@@ -4,7 +4,7 @@ use Rattle.std.specs.Option.{option_map}
 use Rattle.std.specs.Map.{lookup, keys_of}
 use Rattle.std.specs.List.{IsDistinct}
 use Rattle.std.specs.Prelude.{nat_eq}
-use Rattle.std.proofs.lemmas.Bool.{cases_lt, cases_eq, cases_Bool, eqb-false, ne_eqb, cond-false}
+use Rattle.std.proofs.lemmas.Bool.{cases_lt, cases_eq, cases_Bool, eqb-true, eqb-false, ne_eqb, cond-false}
 use Rattle.std.proofs.lemmas.Option.{none-some, same_Some}
 use Rattle.std.proofs.lemmas.List.{get_or-set_same, get_or-set_other, get_or_past, map-set}
 use Rattle.std.proofs.Math.ListN.{get_or-map}
@@ -138,6 +138,21 @@ module _ (slots new : Slab Entry) (x id : ℕ) (removed : Some id ≡ option_map
       let blocks = dropped-blocks slots new x entry.0 entry.1 entry.3 is ids after heads delimiter arena differs updates_own in
       let lists = dropped-lists slots new x entry.0 entry.1 entry.3 is ids after heads delimiter arena differs updates_own in
       rw (named, blocks, lists, after_is) refl
+
+  pub drop_entry-numbers : (b : Block) → get_or (seen_slots slots) x None ≡ Some b → (q : ℕ) → lookup (nat_eq q) after ≡ cond (eqb b.id q) None (lookup (nat_eq q) ids)
+  drop_entry-numbers b seen q =
+      let named : b.id ≡ id = ap (λ (c : Block). c.id) (same_Some b (seen_entry entry.0) (sym seen ∙ seen_at slots x entry.0 entry.1)) ∙ entry.2 in
+      rw named (updates q)
+
+  pub drop_entry-entries : (y : ℕ) → get_or (seen_slots new) y None ≡ cond (eqb y x) None (get_or (seen_slots slots) y None)
+  drop_entry-entries y =
+      elim (cases_Bool (eqb y x)) [
+        | inl same ↦ rw (same, eqb-true y x same) (seen_gone slots new x entry.0 entry.1 entry.3 is ids after heads delimiter arena differs updates_own)
+        | inr other ↦ rw other (seen_kept slots new x entry.0 entry.1 entry.3 is ids after heads delimiter arena differs updates_own y (eqb-false y x other))
+      ]
+
+  pub drop_entry-lists : lists_from new heads ≡ lists_from slots heads
+  drop_entry-lists = dropped-lists slots new x entry.0 entry.1 entry.3 is ids after heads delimiter arena differs updates_own
 
 pub drop_entry-none : (slots : Slab Entry) (x : ℕ) → None ≡ option_map (λ (e : Entry). e.id) (get slots x) → IsSomeAnd (get_or (seen_slots slots) x None) (λ (b : Block). b.replicas ≡ []) → ⊥
 drop_entry-none slots x named bare = by (get slots x) refl named

@@ -1,5 +1,5 @@
 -- What a new entry without triplets, a new head and more room leave of an arena's invariant.
-use Rattle.std.proofs.Common.{◌≡◌, ◌≢◌, ◌⊎◌, ℕ, ◌<◌, List, [], ◌∷◌, ◌++◌, map, get_or, false, eqb, Option, Some, None, refl, subst, inl, inr, sym, ap, ◌∙◌, arith}
+use Rattle.std.proofs.Common.{◌≡◌, ◌≢◌, ◌⊎◌, ℕ, ◌<◌, List, [], ◌∷◌, ◌++◌, map, get_or, false, cond, eqb, Option, Some, None, refl, subst, inl, inr, sym, ap, ◌∙◌, arith}
 use Rattle.std.specs.Option.{option_map}
 use Rattle.std.specs.Map.{lookup, keys_of}
 use Rattle.std.specs.List.{IsDistinct, AllByRecursion}
@@ -123,6 +123,20 @@ lookup-push_cases q k v w (e ∷ es) is =
       | inr other ↦ rw other (lookup-push_cases q k v w es (rw other at is))
     ]
 
+pub lookup-push : {X : Type 0} (q k : ℕ) (v : X) (es : List (ℕ × X)) → lookup (nat_eq k) es ≡ None → lookup (nat_eq q) (es ++ (k, v) ∷ []) ≡ cond (eqb q k) (Some v) (lookup (nat_eq q) es)
+lookup-push q k v [] none = refl
+lookup-push q k v (e ∷ es) none =
+    elim (cases_Bool (eqb k e.0)) [
+      | inl here ↦ absurd (none-some e.1 (sym none ∙ rw here refl))
+      | inr apart ↦
+          elim (cases_Bool (eqb q e.0)) [
+            | inl same ↦
+                let other : eqb q k ≡ false = ne_eqb q k (λ e_is. eqb-false k e.0 apart (sym e_is ∙ eqb-true q e.0 same)) in
+                rw (same, other) refl
+            | inr passed ↦ rw passed (lookup-push q k v es (rw apart at none))
+          ]
+    ]
+
 -- a new number
 module _ (old new : Slab Entry) (key : ℕ) (e : Entry) (vacant : get old key ≡ None) (up : Updates old new key (Some e)) (bare : e.triplets.items ≡ [])
     (ids : List (ℕ × ℕ)) (heads : List (ℕ × Option ℕ)) (delimiter : ℕ) (arena : IsArena old ids heads delimiter) (absent : lookup (nat_eq e.id) ids ≡ None)
@@ -183,6 +197,7 @@ module _ (old new : Slab Entry) (key : ℕ) (e : Entry) (vacant : get old key �
     marked = added_unmarked;
     others = seen_elsewhere;
     ids = refl;
+    found = λ other. lookup-push other e.id key ids absent;
     lists = lists_from-inserted old new key e vacant up bare heads arena.sound arena.unique;
     steps = refl;
     delimiter = refl;

@@ -1,10 +1,10 @@
 -- What dropping the head of an empty list leaves of an arena's invariant.
-use Rattle.std.proofs.Common.{◌≡◌, ℕ, ◌≤◌, ◌-◌, List, [], ◌∷◌, map, length, get_or, set, take, swap_remove, position, Bool, cond, eqb, Option, Some, None, refl, subst, inl, inr, sym, ap, ◌∙◌, arith}
+use Rattle.std.proofs.Common.{◌≡◌, ◌≢◌, ℕ, ◌≤◌, ◌-◌, List, [], ◌∷◌, map, length, get_or, set, take, swap_remove, position, Bool, cond, eqb, Option, Some, None, IsSome, refl, subst, inl, inr, sym, ap, ◌∙◌, arith}
 use Rattle.std.specs.Option.{option_map, option_map_or, unwrap_or}
 use Rattle.std.specs.Map.{lookup, keys_of}
 use Rattle.std.specs.List.{IsDistinct}
 use Rattle.std.specs.Prelude.{nat_eq}
-use Rattle.std.proofs.lemmas.Bool.{cases_Bool, eqb-true, cond-false}
+use Rattle.std.proofs.lemmas.Bool.{cases_Bool, eqb-true, cond-false, ne_eqb}
 use Rattle.std.proofs.lemmas.Option.{none-some}
 use Rattle.std.proofs.lemmas.List.{length-map, take-map, map-set}
 use Rattle.std.proofs.Math.ListN.{get_or-map}
@@ -74,3 +74,19 @@ module _ (slots : Slab Entry) (ids : List (ℕ × ℕ)) (heads after : List (ℕ
 
   pub drop_head-lists : after ≡ swap_remove_entry (nat_eq s) heads → lists_from slots after ≡ swap_remove_entry (nat_eq s) (lists_from slots heads)
   drop_head-lists is = ap (lists_from slots) is ∙ lists-swap_removed slots (nat_eq s) heads
+
+  -- no list changed, and no other head went
+  pub drop_head-list : (q : ℕ) → unwrap_or (lookup (nat_eq q) (lists_from slots after)) [] ≡ unwrap_or (lookup (nat_eq q) (lists_from slots heads)) []
+  drop_head-list q =
+      elim (cases_Bool (eqb s q)) [
+        | inl same ↦
+            let P : ℕ → Type 0 = λ k. unwrap_or (lookup (nat_eq k) (lists_from slots heads)) [] ≡ [] in
+            let none : unwrap_or (lookup (nat_eq q) (lists_from slots heads)) [] ≡ [] = subst P (eqb-true s q same) empty in
+            rw (none, lookup-lists_from slots q after, updates q, same) refl
+        | inr other ↦ rw (lookup-lists_from slots q after, lookup-lists_from slots q heads, updates q, other) refl
+      ]
+
+  pub drop_head-head : (q : ℕ) → q ≢ s → IsSome (lookup (nat_eq q) (lists_from slots heads)) → IsSome (lookup (nat_eq q) (lists_from slots after))
+  drop_head-head q differs some =
+      let there = rw (lookup-lists_from slots q heads) at some in
+      rw (lookup-lists_from slots q after, updates q, ne_eqb s q (λ e. differs (sym e))) there

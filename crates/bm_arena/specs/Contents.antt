@@ -1,4 +1,5 @@
--- What a contract sees of an arena.
+-- What a contract sees of an arena, what its calls make of it, and what holds of it at all times.
+-- Source: Hadoop 2's BlockInfo (triplets), BlocksMap, and the delimiter by which BlockManager compares a full report.
 use Rattle.std.specs.Prelude.{◌≡◌, ◌↔◌, ℕ, ◌+◌, ◌^◌, ◌-◌, ◌==◌, ◌<◌, ◌≢◌, List, [], ◌∷◌, ◌++◌, length, map, nat_eq, nat_lt, Option, Some, None, IsSome, IsSomeAnd, if◌then◌else◌, slice_index_or, slice_set, false}
 use Rattle.std.specs.Option.{option_map, option_and_then, option_map_or, unwrap_or}
 use Rattle.std.specs.Map.{lookup, set_value, keys_of}
@@ -93,6 +94,10 @@ change_marks (r ∷ rs) storage marks = if r.0 == storage then (r.0, marks) ∷ 
 abbrev pub with_marks : ℕ → Marks → Block → Block
 with_marks storage marks b = record b { replicas = change_marks b.replicas storage marks }
 
+-- the slot of a number
+abbrev pub slot_of : Contents → ℕ → Option ℕ
+slot_of a id = lookup (nat_eq id) a.ids
+
 -- an entry with no block and no replica
 abbrev pub empty_block : ℕ → Block
 empty_block id = record { id = id; info = None; replicas = []; room = 3 }
@@ -104,6 +109,7 @@ pub record IsAdded (old new : Contents) (id slot : ℕ) : Type 0 where
   pub marked : slot ≢ old.delimiter
   pub others : (other : ℕ) → other ≢ slot → block_at new other ≡ block_at old other
   pub ids : new.ids ≡ old.ids ++ (id, slot) ∷ []
+  pub found : (other : ℕ) → slot_of new other ≡ (if other == id then Some slot else slot_of old other)
   pub lists : new.lists ≡ old.lists
   pub steps : new.steps ≡ old.steps
   pub delimiter : new.delimiter ≡ old.delimiter
@@ -139,10 +145,6 @@ pub record IsReserved (old new : Contents) : Type 0 where
 -- the arena after the entry of a number was dropped: the last number takes its place
 abbrev pub dropped : Contents → ℕ → ℕ → Contents
 dropped a slot id = record a { blocks = slice_set a.blocks slot None; ids = swap_remove_entry (nat_eq id) a.ids }
-
--- the slot of a number
-abbrev pub slot_of : Contents → ℕ → Option ℕ
-slot_of a id = lookup (nat_eq id) a.ids
 
 -- what holds of an arena after every call
 pub record IsLawful (a : Contents) : Type 0 where

@@ -1,5 +1,5 @@
 // The entries of an arena: one for each block number that is known, reported or reserved.
-ghost use Rattle.std.specs.Prelude.{◌≡◌, ◌≢◌, ◌≤◌, IsSome, IsSomeAnd, None, Some, [], IfOk, IfErr, OnOk, OnErr, IsOk};
+ghost use Rattle.std.specs.Prelude.{◌≡◌, ◌≢◌, ◌≤◌, ◌==◌, ℕ, if◌then◌else◌, IsSome, IsSomeAnd, None, Some, [], IfOk, IfErr, OnOk, OnErr, IsOk};
 ghost use Rattle.bm_base.specs.declared.refusal.Refusal.TheVariants.{Memory};
 ghost use Rattle.bm_arena.specs.Triplets.{Block, change_block};
 ghost use Rattle.bm_arena.specs.Contents.{dropped, room_at, with_room, with_marks, with_info, block_at, slot_of, IsAdded, HasRoom, IsLawful};
@@ -46,6 +46,9 @@ impl Arena {
         requires bare { IsSomeAnd (block_at self.old slot) (λ b. b.replicas ≡ []) }
         requires entry { slot ≢ self.old.delimiter }
         ensures after { (b : Block) → block_at self.old slot ≡ Some b → self.new ≡ dropped self.old slot b.id }
+        ensures entries { (other : ℕ) → block_at self.new other ≡ (if other == slot then None else block_at self.old other) }
+        ensures numbers { (b : Block) → block_at self.old slot ≡ Some b → (id : ℕ) → slot_of self.new id ≡ (if b.id == id then None else slot_of self.old id) }
+        ensures lists { self.new.lists ≡ self.old.lists }
         ensures lawful { IsLawful self.new }
     {
         if let Some(id) = links::remove_entry(&mut self.slots, slot) {

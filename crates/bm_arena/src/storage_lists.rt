@@ -1,5 +1,5 @@
 // The lists of storages: one doubly linked list of slots for each storage that has a head, through the triplets of the blocks.
-ghost use Rattle.std.specs.Prelude.{nat_eq, slice_index, EachIndex, ◌≡◌, None, Some, IsSome, [], ◌∷◌, IfErr, OnOk};
+ghost use Rattle.std.specs.Prelude.{nat_eq, slice_index, EachIndex, ◌≡◌, ◌≢◌, ℕ, None, Some, IsSome, [], ◌∷◌, IfErr, OnOk};
 ghost use Rattle.std.specs.Option.{unwrap_or};
 ghost use Rattle.indexmap.specs.IndexMap.{swap_remove_entry};
 ghost use Rattle.bm_base.specs.declared.refusal.Refusal.TheVariants.{Memory};
@@ -49,6 +49,8 @@ impl Arena {
     pub fn drop_head(&mut self, storage: StorageId)
         requires { list_of self.old storage ≡ [] }
         ensures after { self.new ≡ record self.old { lists = swap_remove_entry (nat_eq storage) self.old.lists } }
+        ensures lists { (other : ℕ) → list_of self.new other ≡ list_of self.old other }
+        ensures heads { (other : ℕ) → other ≢ storage → HasHead self.old other → HasHead self.new other }
         ensures lawful { IsLawful self.new }
     {
         self.heads.swap_remove(&storage.0);
