@@ -5,9 +5,8 @@ ghost use Rattle.bm_arena.specs.Triplets.{Block, change_block};
 ghost use Rattle.bm_arena.specs.Contents.{dropped, room_at, with_room, with_marks, with_info, block_at, slot_of, IsAdded, HasRoom, IsLawful};
 
 use crate::arena::{Arena, Slot};
-use crate::links;
-use crate::slot_link::END;
 use crate::types::Entry;
+use crate::{links, numbers};
 use bm_base::{BlockId, BlockInfo, Marks, Refusal, StorageId};
 use smallvec::SmallVec;
 
@@ -23,20 +22,14 @@ impl Arena {
         ensures unchanged { OnErr result (self.new ≡ self.old) }
         ensures lawful { IsLawful self.new }
     {
-        if let Some(slot) = self.ids.get(&id.0) {
-            return Ok(*slot);
+        let (slot, is_new) = numbers::slot_for(&mut self.ids, &mut self.slots, id.0)?;
+        if is_new {
+            self.slots.insert_reserved(Entry {
+                id: id.0,
+                info: None,
+                triplets: SmallVec::new(self.alloc),
+            });
         }
-        self.slots.reserve(1)?;
-        let slot = self.slots.vacant_key();
-        if slot >= END as usize {
-            return Err(Refusal::Memory);
-        }
-        self.ids.insert(id.0, slot)?;
-        self.slots.insert_reserved(Entry {
-            id: id.0,
-            info: None,
-            triplets: SmallVec::new(self.alloc),
-        });
         Ok(slot)
     }
 

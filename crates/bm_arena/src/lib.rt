@@ -9,6 +9,7 @@ mod arena;
 mod block_entries;
 mod links;
 mod look_ups;
+mod numbers;
 mod slot_link;
 mod storage_lists;
 #[cfg(test)]
