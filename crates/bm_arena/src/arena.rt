@@ -19,9 +19,9 @@ pub type Slot = usize;
 ///
 /// A contract sees it as `Contents`: the block in each slot, the slots of the block numbers, the list of each storage, the slot
 /// of the delimiter and the number of steps. Only `new`, `reserve_heads`, `reserve_triplet` and `add_entry` take memory; every
-/// other call takes none and succeeds under its conditions. A slot keeps its entry until that is dropped. A list operation takes
-/// a constant number of steps beside a look along the few replicas of the blocks that it touches, and no call hashes a number
-/// twice.
+/// other call takes none and succeeds under its conditions. A refused call leaves what is seen as it was, but for room made: heads
+/// with empty lists, and a greater `slot_bound`. A list operation takes a constant number of steps beside a look along the few
+/// replicas of the blocks that it touches. A look-up, a list operation and `add_entry` hash a number once at most.
 #[derive(Drop)]
 pub struct Arena {
     pub(crate) slots: Slab<Entry>,

@@ -1,5 +1,5 @@
 use Rattle.std.proofs.Common.{ap, sym, subst, ◌∙◌}
-use Rattle.bm_arena.specs.Contents.{Contents, list_of, marks_at, KeepsOthers, IsLawful}
+use Rattle.bm_arena.specs.Contents.{Contents, list_of, KeepsOthers, IsLawful}
 use Rattle.bm_arena.proofs.Laws.{head-lawful, list_of-moved_front, others-moved_front}
 use Rattle.bm_arena.proofs.ListCalls.{move_front-sound, move_front-view, no_replica}
 use Rattle.bm_arena.proofs.Lawfulness.{IsLawful-arena}
