@@ -1,0 +1,166 @@
+-- The same, from what the contracts of the calls say.
+use Rattle.std.proofs.Common.{◌≡◌, ℕ, suc, ◌<◌, ◌≤◌, List, [], ◌∷◌, length, get_or, eqb, Option, Some, None, IsSome, IsSomeAnd, refl, subst, inl, inr, sym, ap, ◌∙◌, arith}
+use Rattle.std.specs.Option.{option_map}
+use Rattle.std.specs.Map.{lookup, set_value, keys_of}
+use Rattle.std.specs.List.{IsDistinct}
+use Rattle.std.specs.Prelude.{nat_eq}
+use Rattle.std.proofs.lemmas.Bool.{cases_eq, cases_Bool, false≢true}
+use Rattle.std.proofs.lemmas.Option.{none-some, same_Some}
+use Rattle.std.proofs.lemmas.List.{get_or-set_other}
+use Rattle.std.proofs.Math.ListN.{get_or-map}
+use Rattle.slab.specs.Slab.{Slab, get}
+use Rattle.bm_arena.specs.declared.types.Entry.{Entry}
+use Rattle.bm_arena.specs.declared.types.Triplet.{Triplet}
+use Rattle.bm_base.specs.declared.replica.Marks.{Marks}
+use Rattle.bm_arena.specs.Triplets.{Block, find_triplet, triplet_at, seen_slots, seen_entry, change_block, added, removed, attached, detached, first_after}
+use Rattle.bm_arena.specs.Contents.{Contents, with_replica, without_replica, linked_front, unlinked, moved_front, count_up}
+use Rattle.bm_arena.specs.Inside.{list_from, lists_from, IsSound, AreIds, IsArena}
+use Rattle.bm_arena.proofs.Triplets.{read, get_or-set_here}
+use Rattle.bm_arena.proofs.Seeing.{marks_in, marks_of, none_inside, marks-seen, lookup-lists_from}
+use Rattle.bm_arena.proofs.Operations.{linked-seen, out-seen, moved-seen, linked-sound, linked-view, out-sound, out-view, moved-sound, moved-view}
+
+length-set_value : (storage : ℕ) (w : Option ℕ) (es : List (ℕ × Option ℕ)) → length (set_value (nat_eq storage) es w) ≡ length es
+length-set_value storage w [] = refl
+length-set_value storage w (e ∷ es) =
+    elim (cases_Bool (eqb storage e.0)) [ inl here ↦ rw here refl | inr other ↦ rw other (ap (λ n. suc n) (length-set_value storage w es)) ]
+
+-- numbers and their slots, after one block changed in what is not its number
+pub AreIds-change : (blocks : List (Option Block)) (ids : List (ℕ × ℕ)) (delimiter heads x : ℕ) (h : Block → Block) → ((b : Block) → (h b).id ≡ b.id) → ((b : Block) → get_or blocks x None ≡ Some b → b.room ≤ (h b).room) → AreIds blocks ids delimiter heads → AreIds (change_block h blocks x) ids delimiter heads
+AreIds-change blocks ids delimiter heads x h keeps_id keeps_room are = record {
+  there = λ id slot is.
+      let before = are.there id slot is in
+      let after = at_change slot before.1 before.2 in
+      (before.0, after.0, after.1, after.2 ∙ before.3);
+  known = λ slot b is differs.
+      let before = at_change_back slot b is in
+      rw (← before.2) (are.known slot before.0 before.1 differs);
+  each = are.each;
+  small = λ slot b is. let before = at_change_back slot b is in are.small slot before.0 before.1;
+  marker =
+      let after = room_change are.marker.0 are.marker.1 in
+      (after.0, after.1, omega (arith, after.2, are.marker.2));
+}
+  where
+    at_change : (slot : ℕ) (b : Block) → get_or blocks slot None ≡ Some b → (c : Block) × (get_or (change_block h blocks x) slot None ≡ Some c) × (c.id ≡ b.id)
+    at_change slot b is =
+        elim (cases_eq slot x) [
+          | inl same ↦ (h b, rw same (get_or-set_here blocks x (option_map h) refl ∙ ap (option_map h) (rw same at is)), keeps_id b)
+          | inr differs ↦ (b, get_or-set_other blocks x slot _ None differs ∙ is, refl)
+        ]
+
+    room_change : (b : Block) → get_or blocks delimiter None ≡ Some b → (c : Block) × (get_or (change_block h blocks x) delimiter None ≡ Some c) × (b.room ≤ c.room)
+    room_change b is =
+        elim (cases_eq delimiter x) [
+          | inl same ↦ (h b, rw same (get_or-set_here blocks x (option_map h) refl ∙ ap (option_map h) (rw same at is)), keeps_room b (rw same at is))
+          | inr differs ↦ (b, get_or-set_other blocks x delimiter _ None differs ∙ is, omega arith)
+        ]
+
+    at_change_back : (slot : ℕ) (c : Block) → get_or (change_block h blocks x) slot None ≡ Some c → (b : Block) × (get_or blocks slot None ≡ Some b) × (b.id ≡ c.id)
+    at_change_back slot c is =
+        elim (cases_eq slot x) [
+          | inl same ↦
+              let now : option_map h (get_or blocks x None) ≡ Some c = sym (get_or-set_here blocks x (option_map h) refl) ∙ (rw same at is) in
+              let before = inside_of (get_or blocks x None) now in
+              (before.0, rw same before.1, before.2)
+          | inr differs ↦ (c, sym (get_or-set_other blocks x slot _ None differs) ∙ is, refl)
+        ]
+      where
+        inside_of : (o : Option Block) → option_map h o ≡ Some c → (b : Block) × (o ≡ Some b) × (b.id ≡ c.id)
+        inside_of None e = absurd (none-some c e)
+        inside_of (Some b) e = (b, refl, sym (keeps_id b) ∙ ap (λ (d : Block). d.id) (same_Some (h b) c e))
+
+-- the same, from what a contract of `link_front` says
+module _ (slots : Slab Entry) (heads : List (ℕ × Option ℕ)) (first : Option ℕ) (storage x : ℕ) (marks : Marks)
+    (ids : List (ℕ × ℕ)) (delimiter : ℕ) (arena : IsArena slots ids heads delimiter) (known : Some first ≡ lookup (nat_eq storage) heads)
+    (room : IsSomeAnd (get_or (seen_slots slots) x None) (λ (b : Block). length b.replicas < b.room))
+    (absent : marks_in (seen_slots slots) x storage ≡ None) where
+  abbrev new_triplet : Triplet
+  new_triplet = record { storage = storage; previous = None; next = None; marks = marks }
+
+  here : (e : Entry) × (get slots x ≡ Some e) × (find_triplet e.triplets.items storage ≡ None)
+  here = by (get slots x) refl
+    where
+      by : (o : Option Entry) → get slots x ≡ o → (e : Entry) × (get slots x ≡ Some e) × (find_triplet e.triplets.items storage ≡ None)
+      by None at =
+          let nothing : get_or (seen_slots slots) x None ≡ None = get_or-map (option_map seen_entry) slots.slots x None ∙ ap (option_map seen_entry) at in
+          let P : Option Block → Type 0 = λ o. IsSomeAnd o (λ (b : Block). length b.replicas < b.room) in
+          absurd (subst P nothing room)
+      by (Some e) at =
+          let gone : triplet_at slots x storage ≡ None = none_inside marks_of (triplet_at slots x storage) (sym (marks-seen slots x storage) ∙ absent) in
+          (e, at, sym (ap (read storage) at) ∙ gone)
+
+  pub link_front-sound : (mid new : Slab Entry) (entries : List (ℕ × Option ℕ)) (w : Option ℕ) → mid ≡ added slots x new_triplet → new ≡ attached mid first x storage → entries ≡ set_value (nat_eq storage) heads w → w ≡ Some x → IsDistinct nat_eq (keys_of entries) → IsArena new ids entries delimiter
+  link_front-sound mid new entries w mid_is new_is entries_is w_is unique =
+      let unique_at = rw (entries_is, w_is) at unique in
+      rw (entries_is, w_is, new_is, mid_is) (record {
+        unique = unique_at;
+        sound = linked-sound slots heads first storage arena.sound (sym known) x marks here.0 here.1 here.2;
+        numbers = rw (linked-seen slots heads first storage arena.sound (sym known) x marks here.0 here.1 here.2, length-set_value storage (Some x) heads)
+            (AreIds-change (seen_slots slots) ids delimiter (length heads) x (with_replica storage marks) (λ _. refl) (λ _ _. omega arith) arena.numbers);
+      })
+
+  pub link_front-view : (mid new : Slab Entry) (entries : List (ℕ × Option ℕ)) (w : Option ℕ) (steps counted : ℕ) → mid ≡ added slots x new_triplet → new ≡ attached mid first x storage → entries ≡ set_value (nat_eq storage) heads w → w ≡ Some x → counted ≡ count_up steps
+      → ◌≡◌ {A = Contents} (record { ids = ids; delimiter = delimiter; blocks = seen_slots new; lists = lists_from new entries; steps = counted })
+      (linked_front (record { ids = ids; delimiter = delimiter; blocks = seen_slots slots; lists = lists_from slots heads; steps = steps }) x storage marks)
+  link_front-view mid new entries w steps counted mid_is new_is entries_is w_is counted_is =
+      rw (entries_is, w_is, new_is, mid_is, counted_is) (linked-view slots heads first storage arena.sound (sym known) x marks here.0 here.1 here.2 arena.unique ids delimiter steps)
+
+-- a storage whose head is not found has none
+pub no_head : (slots : Slab Entry) (heads : List (ℕ × Option ℕ)) (storage : ℕ) → None ≡ lookup (nat_eq storage) heads → IsSome (lookup (nat_eq storage) (lists_from slots heads)) → ⊥
+no_head slots heads storage none some =
+    let nothing : lookup (nat_eq storage) (lists_from slots heads) ≡ None = lookup-lists_from slots storage heads ∙ ap (option_map (list_from slots storage)) (sym none) in
+    let P : Option (List ℕ) → Type 0 = λ o. IsSome o in
+    false≢true (subst P nothing some)
+
+-- the same, from what the contracts of `unlink` and `move_front` say
+module _ (slots : Slab Entry) (heads : List (ℕ × Option ℕ)) (first : Option ℕ) (storage x : ℕ) (t : Triplet)
+    (ids : List (ℕ × ℕ)) (delimiter : ℕ) (arena : IsArena slots ids heads delimiter) (known : Some first ≡ lookup (nat_eq storage) heads) (own : Some t ≡ triplet_at slots x storage) where
+  holder : (e : Entry) × (get slots x ≡ Some e)
+  holder = by (get slots x) refl
+    where
+      by : (o : Option Entry) → get slots x ≡ o → (e : Entry) × (get slots x ≡ Some e)
+      by None at = absurd (none-some t (sym (own ∙ ap (read storage) at)))
+      by (Some e) at = (e, at)
+
+  pub unlink-sound : (mid new : Slab Entry) (entries : List (ℕ × Option ℕ)) (w : Option ℕ) → mid ≡ detached slots t storage → new ≡ removed mid x storage → entries ≡ set_value (nat_eq storage) heads w → w ≡ first_after first t → IsDistinct nat_eq (keys_of entries) → IsArena new ids entries delimiter
+  unlink-sound mid new entries w mid_is new_is entries_is w_is unique =
+      let unique_at = rw (entries_is, w_is) at unique in
+      rw (entries_is, w_is, new_is, mid_is) (record {
+        unique = unique_at;
+        sound = out-sound slots heads first storage arena.sound (sym known) x t holder.0 holder.1 (sym own);
+        numbers = rw (out-seen slots heads first storage arena.sound (sym known) x t holder.0 holder.1 (sym own), length-set_value storage (first_after first t) heads)
+            (AreIds-change (seen_slots slots) ids delimiter (length heads) x (without_replica storage) (λ _. refl) (λ _ _. omega arith) arena.numbers);
+      })
+
+  pub unlink-view : (mid new : Slab Entry) (entries : List (ℕ × Option ℕ)) (w : Option ℕ) (steps counted : ℕ) → mid ≡ detached slots t storage → new ≡ removed mid x storage → entries ≡ set_value (nat_eq storage) heads w → w ≡ first_after first t → counted ≡ count_up steps
+      → ◌≡◌ {A = Contents} (record { ids = ids; delimiter = delimiter; blocks = seen_slots new; lists = lists_from new entries; steps = counted })
+      (unlinked (record { ids = ids; delimiter = delimiter; blocks = seen_slots slots; lists = lists_from slots heads; steps = steps }) x storage)
+  unlink-view mid new entries w steps counted mid_is new_is entries_is w_is counted_is =
+      rw (entries_is, w_is, new_is, mid_is, counted_is) (out-view slots heads first storage arena.sound (sym known) x t holder.0 holder.1 (sym own) arena.unique ids delimiter steps)
+
+  pub move_front-sound : (mid new : Slab Entry) (middle w : Option ℕ) (entries : List (ℕ × Option ℕ)) → mid ≡ detached slots t storage → middle ≡ first_after first t → new ≡ attached mid middle x storage → entries ≡ set_value (nat_eq storage) heads w → w ≡ Some x → IsDistinct nat_eq (keys_of entries) → IsArena new ids entries delimiter
+  move_front-sound mid new middle w entries mid_is middle_is new_is entries_is w_is unique =
+      let unique_at = rw (entries_is, w_is) at unique in
+      rw (entries_is, w_is, new_is, mid_is, middle_is) (record {
+        unique = unique_at;
+        sound = moved-sound slots heads first storage arena.sound (sym known) x t holder.0 holder.1 (sym own);
+        numbers = rw (moved-seen slots heads first storage arena.sound (sym known) x t holder.0 holder.1 (sym own), length-set_value storage (Some x) heads) arena.numbers;
+      })
+
+  pub move_front-view : (mid new : Slab Entry) (middle w : Option ℕ) (entries : List (ℕ × Option ℕ)) (steps counted : ℕ) → mid ≡ detached slots t storage → middle ≡ first_after first t → new ≡ attached mid middle x storage → entries ≡ set_value (nat_eq storage) heads w → w ≡ Some x → counted ≡ count_up steps
+      → ◌≡◌ {A = Contents} (record { ids = ids; delimiter = delimiter; blocks = seen_slots new; lists = lists_from new entries; steps = counted })
+      (moved_front (record { ids = ids; delimiter = delimiter; blocks = seen_slots slots; lists = lists_from slots heads; steps = steps }) x storage)
+  move_front-view mid new middle w entries steps counted mid_is middle_is new_is entries_is w_is counted_is =
+      rw (entries_is, w_is, new_is, mid_is, middle_is, counted_is) (moved-view slots heads first storage arena.sound (sym known) x t holder.0 holder.1 (sym own) arena.unique ids delimiter steps)
+
+-- a replica that is seen has a head and a triplet
+pub no_replica : (slots : Slab Entry) (storage x : ℕ) → None ≡ triplet_at slots x storage → IsSome (marks_in (seen_slots slots) x storage) → ⊥
+no_replica slots storage x none some =
+    let nothing : marks_in (seen_slots slots) x storage ≡ None = marks-seen slots x storage ∙ ap (option_map marks_of) (sym none) in
+    let P : Option Marks → Type 0 = λ o. IsSome o in
+    false≢true (subst P nothing some)
+
+pub headed : (slots : Slab Entry) (heads : List (ℕ × Option ℕ)) (storage x : ℕ) (t : Triplet) → IsSound slots heads → Some t ≡ triplet_at slots x storage → None ≡ lookup (nat_eq storage) heads → ⊥
+headed slots heads storage x t sound own none =
+    let found = sound.complete x storage t (sym own) in
+    none-some found.0 (none ∙ found.1)

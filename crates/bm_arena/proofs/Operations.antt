@@ -1,0 +1,223 @@
+-- What linking a replica, taking one out and moving one to the front leave of an arena's lists, and of what is seen of it.
+use Rattle.std.proofs.Common.{◌≡◌, ◌≢◌, ℕ, List, [], ◌∷◌, ◌++◌, length, get_or, eqb, Option, Some, None, refl, subst, inl, inr, sym, ap, ◌∙◌}
+use Rattle.std.specs.Option.{option_map}
+use Rattle.std.specs.Map.{lookup, set_value, keys_of}
+use Rattle.std.specs.List.{IsDistinct}
+use Rattle.std.specs.Prelude.{nat_eq}
+use Rattle.std.proofs.lemmas.Bool.{cases_eq}
+use Rattle.std.proofs.lemmas.Option.{none-some, same_Some}
+use Rattle.std.proofs.lemmas.List.{map-append}
+use Rattle.slab.specs.Slab.{Slab, get}
+use Rattle.bm_arena.specs.declared.types.Entry.{Entry}
+use Rattle.bm_arena.specs.declared.types.Triplet.{Triplet}
+use Rattle.bm_base.specs.declared.replica.Marks.{Marks}
+use Rattle.bm_arena.specs.Triplets.{Block, find_triplet, triplet_at, links_of, seen_slots, seen_entry, change_block, added, removed, attached, detached, first_after, fill_first, is_of, with_triplets}
+use Rattle.bm_arena.specs.Lists.{Among, Distinct, without, IsList}
+use Rattle.bm_arena.specs.Contents.{Contents, with_replica, without_replica, linked_front, unlinked, moved_front, count_up}
+use Rattle.bm_arena.specs.Inside.{list_from, lists_from, storages_of, IsSound}
+use Rattle.bm_arena.proofs.Lists.{Chain-frame, Among-without_other, without-gone}
+use Rattle.bm_arena.proofs.Triplets.{read, triplet_at-elsewhere, triplet_at-kept, get-at_slot, length-at_slot}
+use Rattle.bm_arena.proofs.Replicas.{seen-added, seen-removed, keys, none-absent, found-push_here, found-push_other, found-fill_first_here, found-fill_first_other, Distinct-push, Distinct-fill_first, map-fill_first}
+use Rattle.bm_arena.proofs.Linking.{attached-storage, attached-list, seen-attached, length-attached, detached-storage, detached-list, seen-detached, length-detached}
+use Rattle.bm_arena.proofs.Sound.{lists-step, IsSound-step, Chain-member}
+use Rattle.bm_arena.proofs.Seeing.{same_presence, lookup-lists_from, seen_at, storages_seen, once-change}
+
+module _ (slots : Slab Entry) (heads : List (ℕ × Option ℕ)) (first : Option ℕ) (storage : ℕ)
+    (sound : IsSound slots heads) (known : lookup (nat_eq storage) heads ≡ Some first) where
+  abbrev old_list : List ℕ
+  old_list = list_from slots storage first
+
+  is_list : IsList (links_of slots storage) first old_list
+  is_list = sound.lists storage first known
+
+  member : (x : ℕ) → Among x old_list → (t : Triplet) × (triplet_at slots x storage ≡ Some t)
+  member x there = Chain-member (links_of slots storage) None first old_list x is_list.chain there
+
+  in_list : (x : ℕ) (t : Triplet) → triplet_at slots x storage ≡ Some t → Among x old_list
+  in_list x t is =
+      let found = sound.complete x storage t is in
+      let same : found.0 ≡ first = same_Some found.0 first (sym found.1 ∙ known) in
+      let P : Option ℕ → Type 0 = λ s. Among x (list_from slots storage s) in
+      subst P same found.2
+
+  -- a replica was added, and linked at the head
+  module _ (x : ℕ) (marks : Marks) (e : Entry) (there : get slots x ≡ Some e) (absent : find_triplet e.triplets.items storage ≡ None) where
+    abbrev t0 : Triplet
+    t0 = record { storage = storage; previous = None; next = None; marks = marks }
+
+    abbrev pub linked : Slab Entry
+    linked = attached (added slots x t0) first x storage
+
+    no_triplet : triplet_at slots x storage ≡ None
+    no_triplet = ap (read storage) there ∙ absent
+
+    added-own : triplet_at (added slots x t0) x storage ≡ Some t0
+    added-own = ap (read storage) (get-at_slot _ slots x ∙ ap (option_map (λ (e : Entry). with_triplets e (e.triplets.items ++ t0 ∷ []))) there) ∙ found-push_here e.triplets.items t0 absent
+
+    fresh : Among x old_list → ⊥
+    fresh inside = let t = member x inside in none-some t.0 (sym no_triplet ∙ t.1)
+
+    linked-others : (other : ℕ) → other ≢ storage → (y : ℕ) → triplet_at linked y other ≡ triplet_at slots y other
+    linked-others other differs y =
+        attached-storage (added slots x t0) first x storage y other differs
+        ∙ triplet_at-kept _ slots x y other (λ e _. found-push_other e.triplets.items t0 other (λ s. differs (sym s)))
+
+    linked-len : length linked.slots ≡ length slots.slots
+    linked-len = length-attached (added slots x t0) first x storage ∙ length-at_slot _ slots x
+
+    pub linked-seen : seen_slots linked ≡ change_block (with_replica storage marks) (seen_slots slots) x
+    linked-seen = seen-attached (added slots x t0) first x storage ∙ seen-added slots x t0
+
+    linked-list : IsList (links_of linked storage) (Some x) (x ∷ old_list)
+    linked-list =
+        attached-list (added slots x t0) first x storage t0 old_list added-own
+        (record {
+          chain = Chain-frame (links_of slots storage) (links_of (added slots x t0) storage) None first old_list is_list.chain (λ z h.
+              triplet_at-elsewhere _ slots x z storage (λ s. fresh (let P : ℕ → Type 0 = λ w. Among w old_list in subst P s h)));
+          distinct = is_list.distinct;
+        })
+        fresh
+
+    linked-all : (y : ℕ) (t : Triplet) → triplet_at linked y storage ≡ Some t → Among y (x ∷ old_list)
+    linked-all y t is =
+        elim (cases_eq y x) [
+          | inl same ↦ inl same
+          | inr differs ↦
+              let before = same_presence (added slots x t0) linked y storage t (seen-attached (added slots x t0) first x storage) is in
+              inr (in_list y before.0 (sym (triplet_at-elsewhere _ slots x y storage differs) ∙ before.1))
+        ]
+
+    linked-once : (y : ℕ) (b : Block) → get_or (seen_slots linked) y None ≡ Some b → Distinct (storages_of b)
+    linked-once y b is =
+        let b0 = seen_entry e in
+        let absent_key : Among storage (storages_of b0) → ⊥ = rw (storages_seen e) (none-absent e.triplets.items storage absent) in
+        let grown : Distinct (storages_of (with_replica storage marks b0)) =
+        rw (map-append (λ (r : ℕ × Marks). r.0) b0.replicas ((storage, marks) ∷ [])) (Distinct-push (storages_of b0) storage (sound.once x b0 (seen_at slots x e there)) absent_key) in
+        once-change (seen_slots slots) x b0 (seen_at slots x e there) (with_replica storage marks) sound.once grown y b
+        (sym (ap (λ bs. get_or bs y None) linked-seen) ∙ is)
+
+    pub linked-sound : IsSound linked (set_value (nat_eq storage) heads (Some x))
+    linked-sound = IsSound-step slots linked storage (Some x) (x ∷ old_list) linked-others linked-len linked-list heads first sound known linked-all linked-once
+
+    pub linked-view : IsDistinct nat_eq (keys_of heads) → (ids : List (ℕ × ℕ)) (delimiter steps : ℕ)
+        → ◌≡◌ {A = Contents} (record { ids = ids; delimiter = delimiter; blocks = seen_slots linked; lists = lists_from linked (set_value (nat_eq storage) heads (Some x)); steps = count_up steps })
+        (linked_front (record { ids = ids; delimiter = delimiter; blocks = seen_slots slots; lists = lists_from slots heads; steps = steps }) x storage marks)
+    linked-view distinct ids delimiter steps =
+        rw (linked-seen, lists-step slots linked storage (Some x) (x ∷ old_list) linked-others linked-len linked-list heads distinct, lookup-lists_from slots storage heads, known) refl
+
+  -- a replica that is there was taken out of its list, between its neighbours
+  module _ (x : ℕ) (t : Triplet) (e : Entry) (there : get slots x ≡ Some e) (own : triplet_at slots x storage ≡ Some t) where
+    abbrev apart : Slab Entry
+    apart = detached slots t storage
+
+    abbrev rest : List ℕ
+    rest = without x old_list
+
+    inside : Among x old_list
+    inside = in_list x t own
+
+    apart-list : IsList (links_of apart storage) (first_after first t) rest
+    apart-list = detached-list slots t storage first x old_list own is_list inside
+
+    apart-seen : seen_slots apart ≡ seen_slots slots
+    apart-seen = seen-detached slots t storage
+
+    absent_from_rest : Among x rest → ⊥
+    absent_from_rest = without-gone x old_list is_list.distinct
+
+    -- and its triplet was removed
+    abbrev pub out : Slab Entry
+    out = removed apart x storage
+
+    apart-once : (e' : Entry) → get apart x ≡ Some e' → Distinct (keys e'.triplets.items)
+    apart-once e' at =
+        let seen : get_or (seen_slots slots) x None ≡ Some (seen_entry e') = ap (λ bs. get_or bs x None) (sym apart-seen) ∙ seen_at apart x e' at in
+        rw (← storages_seen e') (sound.once x (seen_entry e') seen)
+
+    out-others : (other : ℕ) → other ≢ storage → (y : ℕ) → triplet_at out y other ≡ triplet_at slots y other
+    out-others other differs y =
+        triplet_at-kept _ apart x y other (λ e' at. found-fill_first_other e'.triplets.items storage other (apart-once e' at) differs)
+        ∙ detached-storage slots t storage y other differs
+
+    out-len : length out.slots ≡ length slots.slots
+    out-len = length-at_slot _ apart x ∙ length-detached slots t storage
+
+    pub out-seen : seen_slots out ≡ change_block (without_replica storage) (seen_slots slots) x
+    out-seen = seen-removed apart x storage ∙ ap (λ bs. change_block (without_replica storage) bs x) apart-seen
+
+    out-own : triplet_at out x storage ≡ None
+    out-own = by (get apart x) refl
+      where
+        by : (o : Option Entry) → get apart x ≡ o → triplet_at out x storage ≡ None
+        by None at = ap (read storage) (get-at_slot _ apart x ∙ ap (option_map (λ (e : Entry). with_triplets e (fill_first (is_of storage) e.triplets.items))) at)
+        by (Some e') at =
+            ap (read storage) (get-at_slot _ apart x ∙ ap (option_map (λ (e : Entry). with_triplets e (fill_first (is_of storage) e.triplets.items))) at)
+            ∙ found-fill_first_here e'.triplets.items storage (apart-once e' at)
+
+    out-list : IsList (links_of out storage) (first_after first t) rest
+    out-list = record {
+      chain = Chain-frame (links_of apart storage) (links_of out storage) None (first_after first t) rest apart-list.chain (λ z h.
+          triplet_at-elsewhere _ apart x z storage (λ s. absent_from_rest (let P : ℕ → Type 0 = λ w. Among w rest in subst P s h)));
+      distinct = apart-list.distinct;
+    }
+
+    out-all : (y : ℕ) (u : Triplet) → triplet_at out y storage ≡ Some u → Among y rest
+    out-all y u is =
+        let differs : y ≢ x = λ same. none-some u (sym out-own ∙ (let P : ℕ → Type 0 = λ w. triplet_at out w storage ≡ Some u in subst P same is)) in
+        let before = same_presence slots apart y storage u apart-seen (sym (triplet_at-elsewhere _ apart x y storage differs) ∙ is) in
+        Among-without_other x y old_list (in_list y before.0 before.1) differs
+
+    out-once : (y : ℕ) (b : Block) → get_or (seen_slots out) y None ≡ Some b → Distinct (storages_of b)
+    out-once y b is =
+        let b0 = seen_entry e in
+        let fewer : Distinct (storages_of (without_replica storage b0)) =
+        rw (map-fill_first (λ (r : ℕ × Marks). r.0) (λ k. eqb k storage) b0.replicas) (Distinct-fill_first (λ k. eqb k storage) (storages_of b0) (sound.once x b0 (seen_at slots x e there))) in
+        once-change (seen_slots slots) x b0 (seen_at slots x e there) (without_replica storage) sound.once fewer y b
+        (sym (ap (λ bs. get_or bs y None) out-seen) ∙ is)
+
+    pub out-sound : IsSound out (set_value (nat_eq storage) heads (first_after first t))
+    out-sound = IsSound-step slots out storage (first_after first t) rest out-others out-len out-list heads first sound known out-all out-once
+
+    pub out-view : IsDistinct nat_eq (keys_of heads) → (ids : List (ℕ × ℕ)) (delimiter steps : ℕ)
+        → ◌≡◌ {A = Contents} (record { ids = ids; delimiter = delimiter; blocks = seen_slots out; lists = lists_from out (set_value (nat_eq storage) heads (first_after first t)); steps = count_up steps })
+        (unlinked (record { ids = ids; delimiter = delimiter; blocks = seen_slots slots; lists = lists_from slots heads; steps = steps }) x storage)
+    out-view distinct ids delimiter steps =
+        rw (out-seen, lists-step slots out storage (first_after first t) rest out-others out-len out-list heads distinct, lookup-lists_from slots storage heads, known) refl
+
+    -- or its slot was linked again, at the head
+    abbrev pub moved : Slab Entry
+    moved = attached apart (first_after first t) x storage
+
+    moved-others : (other : ℕ) → other ≢ storage → (y : ℕ) → triplet_at moved y other ≡ triplet_at slots y other
+    moved-others other differs y = attached-storage apart (first_after first t) x storage y other differs ∙ detached-storage slots t storage y other differs
+
+    moved-len : length moved.slots ≡ length slots.slots
+    moved-len = length-attached apart (first_after first t) x storage ∙ length-detached slots t storage
+
+    pub moved-seen : seen_slots moved ≡ seen_slots slots
+    moved-seen = seen-attached apart (first_after first t) x storage ∙ apart-seen
+
+    moved-list : IsList (links_of moved storage) (Some x) (x ∷ rest)
+    moved-list =
+        let still = same_presence apart slots x storage t (sym apart-seen) own in
+        attached-list apart (first_after first t) x storage still.0 rest still.1 apart-list absent_from_rest
+
+    moved-all : (y : ℕ) (u : Triplet) → triplet_at moved y storage ≡ Some u → Among y (x ∷ rest)
+    moved-all y u is =
+        elim (cases_eq y x) [
+          | inl same ↦ inl same
+          | inr differs ↦
+              let before = same_presence slots moved y storage u moved-seen is in
+              inr (Among-without_other x y old_list (in_list y before.0 before.1) differs)
+        ]
+
+    pub moved-sound : IsSound moved (set_value (nat_eq storage) heads (Some x))
+    moved-sound =
+        IsSound-step slots moved storage (Some x) (x ∷ rest) moved-others moved-len moved-list heads first sound known moved-all
+        (λ y b is. sound.once y b (ap (λ bs. get_or bs y None) (sym moved-seen) ∙ is))
+
+    pub moved-view : IsDistinct nat_eq (keys_of heads) → (ids : List (ℕ × ℕ)) (delimiter steps : ℕ)
+        → ◌≡◌ {A = Contents} (record { ids = ids; delimiter = delimiter; blocks = seen_slots moved; lists = lists_from moved (set_value (nat_eq storage) heads (Some x)); steps = count_up steps })
+        (moved_front (record { ids = ids; delimiter = delimiter; blocks = seen_slots slots; lists = lists_from slots heads; steps = steps }) x storage)
+    moved-view distinct ids delimiter steps =
+        rw (moved-seen, lists-step slots moved storage (Some x) (x ∷ rest) moved-others moved-len moved-list heads distinct, lookup-lists_from slots storage heads, known) refl

@@ -1,0 +1,58 @@
+use Rattle.bm_arena.proofs.Lawfulness.{IsLawful-arena}
+use Rattle.bm_arena.proofs.Dropped.{drop_entry-arena, drop_entry-view, drop_entry-none, drop_entry-entries, drop_entry-numbers, drop_entry-lists}
+use Rattle.bm_arena.proofs.arena.Arena.drop_entry.Goals as goal
+
+pub invariant_of-self : goal.invariant_of-self
+invariant_of-self c =
+    let bare = rw (← c.self.view_is) at c.requires.bare in
+    let apart = rw (← c.self.view_is) at c.requires.entry in
+    drop_entry-arena c.self.inside.slots c.remove_entry.new.slots c.args.slot c.in-Some.id c.in-Some.ensures.id c.in-Some.ensures.slots bare
+    c.self.inside.ids.entries c.swap_remove.new.self.entries c.self.inside.heads.entries c.self.inside.delimiter c.self.invariant apart c.swap_remove.ensures.updates.0 c.swap_remove.ensures.unique
+
+pub invariant_of-self-in_default : goal.invariant_of-self-in_default
+invariant_of-self-in_default c =
+    let bare = rw (← c.self.view_is) at c.requires.bare in
+    absurd (drop_entry-none c.self.inside.slots c.args.slot c.in_default.ensures.id bare)
+
+pub returns-in-Some-clause-after : goal.returns-in-Some-clause-after
+returns-in-Some-clause-after c b seen =
+    let bare = rw (← c.self.view_is) at c.requires.bare in
+    let apart = rw (← c.self.view_is) at c.requires.entry in
+    let at = rw (← c.self.view_is) at seen in
+    rw (← c.self.view_is)
+    (drop_entry-view c.self.inside.slots c.remove_entry.new.slots c.args.slot c.in-Some.id c.in-Some.ensures.id c.in-Some.ensures.slots bare
+    c.self.inside.ids.entries c.swap_remove.new.self.entries c.self.inside.heads.entries c.self.inside.delimiter c.self.invariant apart c.swap_remove.ensures.updates.0
+    c.self.inside.steps c.swap_remove.ensures.entries b at)
+
+pub returns-in-Some-clause-lawful : goal.returns-in-Some-clause-lawful
+returns-in-Some-clause-lawful c = IsLawful-arena _ _ _ _ (invariant_of-self c) _
+
+pub returns-in_default-clause-lawful : goal.returns-in_default-clause-lawful
+returns-in_default-clause-lawful c =
+    let bare = rw (← c.self.view_is) at c.requires.bare in
+    absurd (drop_entry-none c.self.inside.slots c.args.slot c.in_default.ensures.id bare)
+
+pub returns-in-Some-clause-entries : goal.returns-in-Some-clause-entries
+returns-in-Some-clause-entries c y =
+    let bare = rw (← c.self.view_is) at c.requires.bare in
+    let apart = rw (← c.self.view_is) at c.requires.entry in
+    rw (← c.self.view_is)
+    (drop_entry-entries c.self.inside.slots c.remove_entry.new.slots c.args.slot c.in-Some.id c.in-Some.ensures.id c.in-Some.ensures.slots bare
+    c.self.inside.ids.entries c.swap_remove.new.self.entries c.self.inside.heads.entries c.self.inside.delimiter c.self.invariant apart c.swap_remove.ensures.updates.0 y)
+
+pub returns-in-Some-clause-numbers : goal.returns-in-Some-clause-numbers
+returns-in-Some-clause-numbers c b seen q =
+    let bare = rw (← c.self.view_is) at c.requires.bare in
+    let apart = rw (← c.self.view_is) at c.requires.entry in
+    let at = rw (← c.self.view_is) at seen in
+    rw (← c.self.view_is)
+    (drop_entry-numbers c.self.inside.slots c.remove_entry.new.slots c.args.slot c.in-Some.id c.in-Some.ensures.id c.in-Some.ensures.slots bare
+    c.self.inside.ids.entries c.swap_remove.new.self.entries c.self.inside.heads.entries c.self.inside.delimiter c.self.invariant apart c.swap_remove.ensures.updates.0 b at q)
+
+pub returns-in-Some-clause-lists : goal.returns-in-Some-clause-lists
+returns-in-Some-clause-lists c =
+    let bare = rw (← c.self.view_is) at c.requires.bare in
+    let apart = rw (← c.self.view_is) at c.requires.entry in
+    rw (← c.self.view_is)
+    (drop_entry-lists c.self.inside.slots c.remove_entry.new.slots c.args.slot c.in-Some.id c.in-Some.ensures.id c.in-Some.ensures.slots bare
+    c.self.inside.ids.entries c.swap_remove.new.self.entries c.self.inside.heads.entries c.self.inside.delimiter c.self.invariant apart c.swap_remove.ensures.updates.0)

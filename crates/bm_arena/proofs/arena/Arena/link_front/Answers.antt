@@ -1,0 +1,43 @@
+use Rattle.std.proofs.Common.{ap, sym, subst, ◌∙◌}
+use Rattle.bm_arena.specs.Contents.{Contents, list_of, marks_at, KeepsOthers}
+use Rattle.bm_arena.proofs.Laws.{list_of-linked_front, marks_at-linked, others-linked_front}
+use Rattle.bm_arena.proofs.ListCalls.{link_front-sound, link_front-view, no_head}
+use Rattle.bm_arena.proofs.Lawfulness.{IsLawful-arena}
+use Rattle.bm_arena.proofs.arena.Arena.link_front.Goals as goal
+
+pub invariant_of-self : goal.invariant_of-self
+invariant_of-self c =
+    let room = rw (← c.self.view_is) at c.requires.room in
+    let absent = rw (← c.self.view_is, ← c.storage.view_is) at c.requires.absent in
+    link_front-sound c.self.inside.slots c.self.inside.heads.entries c.in-Some.first.now c.storage.inside.0 c.args.slot c.args.marks c.self.inside.ids.entries c.self.inside.delimiter c.self.invariant c.in-Some.ensures.value room absent
+    c.add_triplet.new.slots c.attach.new.slots _ c.attach.new.first c.add_triplet.ensures c.attach.ensures.slots (c.get_mut.follows.holds c.attach.new.first).0 c.attach.ensures.first (c.get_mut.follows.holds c.attach.new.first).4
+
+pub returns-in-Some-clause-after : goal.returns-in-Some-clause-after
+returns-in-Some-clause-after c =
+    let room = rw (← c.self.view_is) at c.requires.room in
+    let absent = rw (← c.self.view_is, ← c.storage.view_is) at c.requires.absent in
+    rw (← c.self.view_is, ← c.storage.view_is)
+    (link_front-view c.self.inside.slots c.self.inside.heads.entries c.in-Some.first.now c.storage.inside.0 c.args.slot c.args.marks c.self.inside.ids.entries c.self.inside.delimiter c.self.invariant c.in-Some.ensures.value room absent
+    c.add_triplet.new.slots c.attach.new.slots _ c.attach.new.first c.self.inside.steps c.count_up-self-inside.result c.add_triplet.ensures c.attach.ensures.slots (c.get_mut.follows.holds c.attach.new.first).0 c.attach.ensures.first
+    c.count_up-self-inside.ensures)
+
+pub returns-in_default : goal.returns-in_default
+returns-in_default c =
+    let head = rw (← c.self.view_is, ← c.storage.view_is) at c.requires.head in
+    absurd (no_head c.self.inside.slots c.self.inside.heads.entries c.storage.inside.0 c.in_default.ensures.value head)
+
+pub returns-in-Some-clause-lawful : goal.returns-in-Some-clause-lawful
+returns-in-Some-clause-lawful c = IsLawful-arena c.attach.new.slots _ _ _ (invariant_of-self c) _
+
+pub returns-in-Some-clause-list : goal.returns-in-Some-clause-list
+returns-in-Some-clause-list c =
+    ap (λ a. list_of a c.args.storage) (returns-in-Some-clause-after c) ∙ list_of-linked_front c.args.self.now c.args.slot c.args.storage c.args.marks c.requires.head
+
+pub returns-in-Some-clause-marks : goal.returns-in-Some-clause-marks
+returns-in-Some-clause-marks c =
+    ap (λ a. marks_at a c.args.slot c.args.storage) (returns-in-Some-clause-after c) ∙ marks_at-linked c.args.self.now c.args.slot c.args.storage c.args.marks c.requires.room c.requires.absent
+
+pub returns-in-Some-clause-others : goal.returns-in-Some-clause-others
+returns-in-Some-clause-others c =
+    let P : Contents → Type 0 = λ a. KeepsOthers c.args.self.now a c.args.slot c.args.storage in
+    subst P (sym (returns-in-Some-clause-after c)) (others-linked_front c.args.self.now c.args.slot c.args.storage c.args.marks)

@@ -1,0 +1,50 @@
+use Rattle.bm_arena.proofs.Lawfulness.{IsLawful-arena}
+use Rattle.std.proofs.Common.{sym, refl, ◌∙◌, ◌+◌, None}
+use Rattle.std.specs.Prelude.{nat_eq}
+use Rattle.indexmap.proofs.CallerLemmas.{insert_entry-new}
+use Rattle.bm_arena.proofs.Heads.{head-seen, no_lookup, roomier-arena, roomier-kept, headed-arena, headed-here, headed-kept}
+use Rattle.bm_arena.proofs.arena.Arena.reserve_head.Goals as goal
+
+pub returns-then-contains_key-clause-head : goal.returns-then-contains_key-clause-head
+returns-then-contains_key-clause-head c =
+    let same = head-seen c.self.inside.slots c.self.inside.heads.entries c.storage.inside.0 c.contains_key.result c.contains_key.ensures in
+    rw (← c.self.view_is, ← c.storage.view_is) (sym same ∙ c.if-contains_key.true)
+
+pub invariant_of-self : goal.invariant_of-self
+invariant_of-self c = roomier-arena c.self.inside.slots c.reserve_triplets.new.slots c.self.inside.ids.entries c.self.inside.heads.entries c.self.inside.delimiter c.reserve_triplets.ensures.rest c.reserve_triplets.ensures.grows c.self.invariant c.self.inside.steps
+
+pub returns-in_err-reserve_triplets-clause-kept : goal.returns-in_err-reserve_triplets-clause-kept
+returns-in_err-reserve_triplets-clause-kept c = rw (← c.self.view_is) (roomier-kept c.self.inside.slots c.reserve_triplets.new.slots c.self.inside.ids.entries c.self.inside.heads.entries c.self.inside.delimiter c.reserve_triplets.ensures.rest c.reserve_triplets.ensures.grows c.self.invariant c.self.inside.steps _ refl)
+
+pub invariant_of-self-in_err-insert : goal.invariant_of-self-in_err-insert
+invariant_of-self-in_err-insert c = rw c.in_err-insert.ensures.err (roomier-arena c.self.inside.slots c.reserve_triplets.new.slots c.self.inside.ids.entries c.self.inside.heads.entries c.self.inside.delimiter c.reserve_triplets.ensures.rest c.reserve_triplets.ensures.grows c.self.invariant c.self.inside.steps)
+
+pub returns-in_err-insert-clause-kept : goal.returns-in_err-insert-clause-kept
+returns-in_err-insert-clause-kept c = rw (← c.self.view_is) (roomier-kept c.self.inside.slots c.reserve_triplets.new.slots c.self.inside.ids.entries c.self.inside.heads.entries c.self.inside.delimiter c.reserve_triplets.ensures.rest c.reserve_triplets.ensures.grows c.self.invariant c.self.inside.steps _ c.in_err-insert.ensures.err)
+
+pub invariant_of-self-2 : goal.invariant_of-self-2
+invariant_of-self-2 c =
+    headed-arena c.self.inside.slots c.reserve_triplets.new.slots c.self.inside.ids.entries c.self.inside.heads.entries c.self.inside.delimiter c.reserve_triplets.ensures.rest c.reserve_triplets.ensures.grows c.self.invariant c.self.inside.steps c.storage.inside.0 (no_lookup _ (sym c.contains_key.ensures ∙ c.if-contains_key.false)) c.insert.new.self.entries (c.in_ok-insert.ensures.entries ∙ insert_entry-new nat_eq c.self.inside.heads c.storage.inside.0 None (no_lookup _ (sym c.contains_key.ensures ∙ c.if-contains_key.false)))
+    c.insert.ensures.unique c.len-room.result (c.len-room.result + 1) c.len-room.ensures.len refl c.in_ok-reserve_triplets.ensures.room
+
+pub returns-clause-head : goal.returns-clause-head
+returns-clause-head c =
+    rw (← c.storage.view_is)
+    (headed-here c.self.inside.slots c.reserve_triplets.new.slots c.self.inside.ids.entries c.self.inside.heads.entries c.self.inside.delimiter c.reserve_triplets.ensures.rest c.reserve_triplets.ensures.grows c.self.invariant c.self.inside.steps c.storage.inside.0 (no_lookup _ (sym c.contains_key.ensures ∙ c.if-contains_key.false)) c.insert.new.self.entries (c.in_ok-insert.ensures.entries ∙ insert_entry-new nat_eq c.self.inside.heads c.storage.inside.0 None (no_lookup _ (sym c.contains_key.ensures ∙ c.if-contains_key.false))))
+
+pub returns-clause-kept : goal.returns-clause-kept
+returns-clause-kept c =
+    rw (← c.self.view_is)
+    (headed-kept c.self.inside.slots c.reserve_triplets.new.slots c.self.inside.ids.entries c.self.inside.heads.entries c.self.inside.delimiter c.reserve_triplets.ensures.rest c.reserve_triplets.ensures.grows c.self.invariant c.self.inside.steps c.storage.inside.0 (no_lookup _ (sym c.contains_key.ensures ∙ c.if-contains_key.false)) c.insert.new.self.entries (c.in_ok-insert.ensures.entries ∙ insert_entry-new nat_eq c.self.inside.heads c.storage.inside.0 None (no_lookup _ (sym c.contains_key.ensures ∙ c.if-contains_key.false))))
+
+pub returns-then-contains_key-clause-lawful : goal.returns-then-contains_key-clause-lawful
+returns-then-contains_key-clause-lawful c = rw (← c.self.view_is) (IsLawful-arena c.self.inside.slots _ _ _ c.self.invariant _)
+
+pub returns-in_err-reserve_triplets-clause-lawful : goal.returns-in_err-reserve_triplets-clause-lawful
+returns-in_err-reserve_triplets-clause-lawful c = IsLawful-arena _ _ _ _ (invariant_of-self c) _
+
+pub returns-in_err-insert-clause-lawful : goal.returns-in_err-insert-clause-lawful
+returns-in_err-insert-clause-lawful c = IsLawful-arena _ _ _ _ (invariant_of-self-in_err-insert c) _
+
+pub returns-clause-lawful : goal.returns-clause-lawful
+returns-clause-lawful c = IsLawful-arena _ _ _ _ (invariant_of-self-2 c) _

@@ -1,0 +1,10 @@
+use Rattle.std.proofs.Common.{ℕ, ◌<◌, get_or}
+use Rattle.bm_arena.specs.Contents.{HasHead, IsReserved, IsLawful}
+use Rattle.bm_arena.proofs.arena.Arena.reserve_heads.Given as goal
+
+abbrev pub invariant-loop-storage : goal.invariant-loop-storage
+invariant-loop-storage l = record {
+  heads : (k : ℕ) → k < l.storage-index → HasHead l.self (get_or l.storages k 0);
+  kept : IsReserved l.initial.self l.self;
+  lawful : IsLawful l.self;
+}

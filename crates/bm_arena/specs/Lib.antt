@@ -1,0 +1,5 @@
+pub mod SlotLinks
+pub mod Triplets
+pub mod Lists
+pub mod Contents
+pub mod Inside

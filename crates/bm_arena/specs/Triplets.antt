@@ -1,0 +1,121 @@
+-- Triplets in a block's vector, found by their storage.
+use Rattle.std.specs.Prelude.{ℕ, ◌==◌, List, map, [], ◌∷◌, Option, Some, None, if◌then◌else◌, Bool}
+use Rattle.std.specs.Option.{option_map, option_and_then, option_map_or}
+use Rattle.std.specs.Prelude.{slice_set, slice_index_or, take, length, ◌++◌, is_some}
+use Rattle.slab.specs.Slab.{Slab, get}
+use Rattle.bm_base.specs.declared.replica.Marks.{Marks}
+use Rattle.bm_base.specs.declared.replica.BlockInfo.{BlockInfo}
+use Rattle.bm_arena.specs.declared.types.Triplet.{Triplet}
+use Rattle.bm_arena.specs.declared.types.Entry.{Entry}
+
+-- what is seen of a block: its number, what is known of it, each replica's storage and marks, and how many replicas fit
+pub record Block : Type 0 where
+  pub id : ℕ
+  pub info : Option BlockInfo
+  pub replicas : List (ℕ × Marks)
+  pub room : ℕ
+
+-- the first triplet of a storage
+abbrev pub find_triplet : List Triplet → ℕ → Option Triplet
+find_triplet [] storage = None
+find_triplet (t ∷ ts) storage = if t.storage == storage then Some t else find_triplet ts storage
+
+-- the triplets, with the first one of a storage changed
+abbrev pub change_triplet : (Triplet → Triplet) → List Triplet → ℕ → List Triplet
+change_triplet f [] storage = []
+change_triplet f (t ∷ ts) storage = if t.storage == storage then f t ∷ ts else t ∷ change_triplet f ts storage
+
+abbrev pub with_previous : Option ℕ → Triplet → Triplet
+with_previous previous t = record t { previous = previous }
+
+abbrev pub with_next : Option ℕ → Triplet → Triplet
+with_next next t = record t { next = next }
+
+abbrev pub with_triplet_marks : Marks → Triplet → Triplet
+with_triplet_marks marks t = record t { marks = marks }
+
+-- the triplet of a storage in the block at a slot
+abbrev pub triplet_at : Slab Entry → ℕ → ℕ → Option Triplet
+triplet_at slots x storage = option_and_then (λ (e : Entry). find_triplet e.triplets.items storage) (get slots x)
+
+-- an entry with other triplets in the same room
+abbrev pub with_triplets : Entry → List Triplet → Entry
+with_triplets e ts = record e { triplets = record e.triplets { items = ts } }
+
+-- an entry with the same triplets in other room
+abbrev pub with_capacity : ℕ → Entry → Entry
+with_capacity room e = record e { triplets = record e.triplets { capacity = room } }
+
+-- how many triplets fit at a slot with no allocation
+abbrev pub capacity_at : Slab Entry → ℕ → ℕ
+capacity_at slots x = option_map_or (λ (e : Entry). e.triplets.capacity) (get slots x) 0
+
+-- the blocks, with the one at a slot changed
+abbrev pub change_block : (Block → Block) → List (Option Block) → ℕ → List (Option Block)
+change_block h blocks x = slice_set blocks x (option_map h (slice_index_or blocks x None))
+
+-- the slab, with the block at a slot changed
+abbrev pub at_slot : (Entry → Entry) → Slab Entry → ℕ → Slab Entry
+at_slot g slots x = record slots { slots = slice_set slots.slots x (option_map g (get slots x)) }
+
+-- the slab, with one triplet changed
+abbrev pub change_at : (Triplet → Triplet) → Slab Entry → ℕ → ℕ → Slab Entry
+change_at f slots x storage = at_slot (λ (e : Entry). with_triplets e (change_triplet f e.triplets.items storage)) slots x
+
+-- the slab, with one triplet more
+abbrev pub added : Slab Entry → ℕ → Triplet → Slab Entry
+added slots x t = at_slot (λ (e : Entry). with_triplets e (e.triplets.items ++ t ∷ [])) slots x
+
+-- the list, with its last element in front
+abbrev pub last_to_front : {X : Type 0} → List X → List X
+last_to_front [] = []
+last_to_front (x ∷ xs) = slice_index_or (x ∷ xs) (length xs) x ∷ take (length xs) (x ∷ xs)
+
+-- the list, with its last element in the place of the first that passes the test
+abbrev pub fill_first : {X : Type 0} → (X → Bool) → List X → List X
+fill_first p [] = []
+fill_first p (x ∷ xs) = if p x then last_to_front xs else x ∷ fill_first p xs
+
+abbrev pub is_of : ℕ → Triplet → Bool
+is_of storage t = t.storage == storage
+
+-- the slab, with a storage's triplet taken out: the block's last triplet fills its place
+abbrev pub removed : Slab Entry → ℕ → ℕ → Slab Entry
+removed slots x storage = at_slot (λ (e : Entry). with_triplets e (fill_first (is_of storage) e.triplets.items)) slots x
+
+-- the links of one storage
+abbrev pub links_of : Slab Entry → ℕ → ℕ → Option Triplet
+links_of slots storage x = triplet_at slots x storage
+
+-- what is seen of a replica: its storage and its marks
+abbrev pub seen_triplet : Triplet → ℕ × Marks
+seen_triplet t = (t.storage, t.marks)
+
+-- what is seen of a block
+abbrev pub seen_entry : Entry → Block
+seen_entry e = record { id = e.id; info = e.info; replicas = map seen_triplet e.triplets.items; room = e.triplets.capacity }
+
+abbrev pub seen_slots : Slab Entry → List (Option Block)
+seen_slots s = map (option_map seen_entry) s.slots
+
+-- the slab after a link is written where there is a neighbour
+abbrev pub previous_set : Slab Entry → Option ℕ → ℕ → Option ℕ → Slab Entry
+previous_set slots None storage previous = slots
+previous_set slots (Some y) storage previous = change_at (with_previous previous) slots y storage
+
+abbrev pub next_set : Slab Entry → Option ℕ → ℕ → Option ℕ → Slab Entry
+next_set slots None storage next = slots
+next_set slots (Some y) storage next = change_at (with_next next) slots y storage
+
+-- the slab after the slot x was linked before the slot that was first
+abbrev pub attached : Slab Entry → Option ℕ → ℕ → ℕ → Slab Entry
+attached slots first x storage =
+    change_at (with_next first) (change_at (with_previous None) (previous_set slots first storage (Some x)) x storage) x storage
+
+-- the slab after the neighbours of a triplet were linked to each other
+abbrev pub detached : Slab Entry → Triplet → ℕ → Slab Entry
+detached slots t storage = previous_set (next_set slots t.previous storage t.next) t.next storage t.previous
+
+-- the list's first slot after a triplet was taken out of it
+abbrev pub first_after : Option ℕ → Triplet → Option ℕ
+first_after first t = if is_some t.previous then first else t.next

@@ -1,0 +1,106 @@
+// The arena: its fields, what a contract sees of them, and its making.
+ghost use Rattle.std.specs.Prelude.{◌≡◌, ◌≢◌, ℕ, None, Some, [], IfOk, IfErr};
+ghost use Rattle.bm_base.specs.declared.refusal.Refusal.TheVariants.{Memory};
+ghost use Rattle.bm_arena.specs.Contents.{block_at, empty_block, count_up, IsLawful};
+
+use crate::slot_link::SlotLink;
+use crate::types::Entry;
+use bm_base::Refusal;
+use indexmap::IndexMap;
+use slab::Slab;
+use smallvec::SmallVec;
+use std::alloc::Global;
+use std::marker::Model;
+
+/// The number of a slot of one arena. It stays the slot of its block until the entry is dropped.
+pub type Slot = usize;
+
+/// The blocks of one shard with their replicas, and for each storage the list of the slots of its blocks.
+///
+/// A contract sees it as `Contents`: the block in each slot, the slots of the block numbers, the list of each storage, the slot
+/// of the delimiter and the number of steps. Only `new`, `reserve_heads`, `reserve_triplet` and `add_entry` take memory; every
+/// other call takes none and succeeds under its conditions. A refused call leaves what is seen as it was, but for room made: heads
+/// with empty lists, and a greater `slot_bound`. A list operation takes a constant number of steps beside a look along the few
+/// replicas of the blocks that it touches. A look-up, a list operation and `add_entry` hash a number once at most.
+#[derive(Drop)]
+pub struct Arena {
+    pub(crate) slots: Slab<Entry>,
+    // The slot of each block number.
+    pub(crate) ids: IndexMap<u64, usize>,
+    // The first slot of each storage's list.
+    pub(crate) heads: IndexMap<u32, SlotLink>,
+    // The slot of an entry that is no block, and marks a place in a list.
+    pub(crate) delimiter: usize,
+    pub(crate) steps: u64,
+    pub(crate) alloc: Global,
+}
+
+impl Model for Arena {
+    ghost use Rattle.bm_arena.specs.Contents.{Contents};
+
+    ghost Value = { Contents };
+
+    ghost use Rattle.bm_arena.specs.Triplets.{seen_slots};
+    ghost use Rattle.bm_arena.specs.Inside.{lists_from, IsArena};
+
+    ghost view = { λ a. record {
+      blocks = seen_slots a.slots;
+      ids = a.ids.entries;
+      lists = lists_from a.slots a.heads.entries;
+      delimiter = a.delimiter;
+      steps = a.steps;
+    } };
+
+    ghost invariant = { λ a. IsArena a.slots a.ids.entries a.heads.entries a.delimiter };
+}
+
+// Counts one more, and stays at the last value.
+pub(crate) fn count_up(steps: u64) -> u64
+    ensures { result ≡ count_up steps }
+{
+    if steps < u64::MAX { steps + 1 } else { steps }
+}
+
+impl Arena {
+    /// An arena with no block, no head and no steps. `Memory`.
+    pub fn new(alloc: Global) -> Result<Arena, Refusal>
+        ensures ids { IfOk result (λ a. a.ids ≡ []) }
+        ensures lists { IfOk result (λ a. a.lists ≡ []) }
+        ensures steps { IfOk result (λ a. a.steps ≡ 0) }
+        ensures blocks { IfOk result (λ a. (slot : ℕ) → slot ≢ a.delimiter → block_at a slot ≡ None) }
+        ensures delimiter { IfOk result (λ a. block_at a a.delimiter ≡ Some (empty_block 0)) }
+        ensures lawful { IfOk result (λ a. IsLawful a) }
+        ensures refused { IfErr result (λ e. e ≡ Memory) }
+    {
+        let mut slots = Slab::new(alloc);
+        slots.reserve(1)?;
+        let delimiter = slots.insert_reserved(Entry {
+            id: 0,
+            info: None,
+            triplets: SmallVec::new(alloc),
+        });
+        Ok(Arena {
+            slots,
+            ids: IndexMap::new(alloc),
+            heads: IndexMap::new(alloc),
+            delimiter,
+            steps: 0,
+            alloc,
+        })
+    }
+
+    /// Does nothing when it runs: an arena is lawful at all times, and this says so to the function that calls it.
+    pub fn lawful(&self)
+        ensures { IsLawful self.now }
+    {
+        let _ = &self.slots;
+    }
+
+    /// How many list operations there were since `new`: one for each link, unlink, move, delimiter put and delimiter taken. It
+    /// stays at its last value, 2^64 - 1.
+    pub fn steps(&self) -> u64
+        ensures { result ≡ self.now.steps }
+    {
+        self.steps
+    }
+}

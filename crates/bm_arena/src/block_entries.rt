@@ -1,0 +1,82 @@
+// The entries of an arena: one for each block number that is known, reported or reserved.
+ghost use Rattle.std.specs.Prelude.{◌≡◌, ◌≢◌, ◌≤◌, ◌==◌, ℕ, if◌then◌else◌, IsSome, IsSomeAnd, None, Some, [], IfOk, IfErr, OnOk, OnErr, IsOk};
+ghost use Rattle.bm_base.specs.declared.refusal.Refusal.TheVariants.{Memory};
+ghost use Rattle.bm_arena.specs.Triplets.{Block, change_block};
+ghost use Rattle.bm_arena.specs.Contents.{dropped, room_at, with_room, with_marks, with_info, block_at, slot_of, IsAdded, HasRoom, IsLawful};
+
+use crate::arena::{Arena, Slot};
+use crate::types::Entry;
+use crate::{links, numbers};
+use bm_base::{BlockId, BlockInfo, Marks, Refusal, StorageId};
+use smallvec::SmallVec;
+
+impl Arena {
+    /// The slot of a block number: the one that it has, or a new one whose entry has neither block nor replica. A number that
+    /// has a slot is refused nothing. `Memory`, also where all 2^32 - 1 slots of an arena are held, since the slab may not grow
+    /// past what a link of 32 bits can name.
+    pub fn add_entry(&mut self, id: BlockId) -> Result<Slot, Refusal>
+        ensures there { IsSome (slot_of self.old id) → IsOk result }
+        ensures known { IfOk result (λ slot. IsSome (slot_of self.old id) → (slot_of self.old id ≡ Some slot) × (self.new ≡ self.old)) }
+        ensures added { IfOk result (λ slot. slot_of self.old id ≡ None → IsAdded self.old self.new id slot) }
+        ensures refused { IfErr result (λ e. e ≡ Memory) }
+        ensures unchanged { OnErr result (self.new ≡ self.old) }
+        ensures lawful { IsLawful self.new }
+    {
+        let (slot, is_new) = numbers::slot_for(&mut self.ids, &mut self.slots, id.0)?;
+        if is_new {
+            self.slots.insert_reserved(Entry {
+                id: id.0,
+                info: None,
+                triplets: SmallVec::new(self.alloc),
+            });
+        }
+        Ok(slot)
+    }
+
+    /// Drops the entry in `slot`, which has no replica. The entry that was last in the order of `slot_at` takes its place there.
+    /// Takes no memory.
+    pub fn drop_entry(&mut self, slot: Slot)
+        requires bare { IsSomeAnd (block_at self.old slot) (λ b. b.replicas ≡ []) }
+        requires entry { slot ≢ self.old.delimiter }
+        ensures after { (b : Block) → block_at self.old slot ≡ Some b → self.new ≡ dropped self.old slot b.id }
+        ensures entries { (other : ℕ) → block_at self.new other ≡ (if other == slot then None else block_at self.old other) }
+        ensures numbers { (b : Block) → block_at self.old slot ≡ Some b → (id : ℕ) → slot_of self.new id ≡ (if b.id == id then None else slot_of self.old id) }
+        ensures lists { self.new.lists ≡ self.old.lists }
+        ensures lawful { IsLawful self.new }
+    {
+        if let Some(id) = links::remove_entry(&mut self.slots, slot) {
+            self.ids.swap_remove(&id);
+        }
+    }
+
+    /// Makes room for one more replica of the block in `slot`, so that `link_front` has it. Up to three replicas take no memory.
+    /// `Memory`.
+    pub fn reserve_triplet(&mut self, slot: Slot) -> Result<(), Refusal>
+        requires { IsSome (block_at self.old slot) }
+        ensures room { OnOk result (HasRoom self.new slot) }
+        ensures rest { self.new ≡ record self.old { blocks = change_block (with_room (room_at self.new slot)) self.old.blocks slot } }
+        ensures grows { room_at self.old slot ≤ room_at self.new slot }
+        ensures refused { IfErr result (λ e. e ≡ Memory) }
+        ensures unchanged { OnErr result (self.new ≡ self.old) }
+        ensures lawful { IsLawful self.new }
+    {
+        Ok(links::reserve_triplets(&mut self.slots, slot, 1)?)
+    }
+
+    /// Sets what is known of the block in `slot`: None where it is no known block. Nothing else changes. Takes no memory.
+    pub fn set_info(&mut self, slot: Slot, info: Option<BlockInfo>)
+        ensures after { self.new ≡ record self.old { blocks = change_block (with_info info) self.old.blocks slot } }
+        ensures lawful { IsLawful self.new }
+    {
+        links::set_info(&mut self.slots, slot, info);
+    }
+
+    /// Sets the marks of the replica on `storage` of the block in `slot`; where it has none, nothing changes. Nothing else
+    /// changes. Takes no memory.
+    pub fn set_marks(&mut self, slot: Slot, storage: StorageId, marks: Marks)
+        ensures after { self.new ≡ record self.old { blocks = change_block (with_marks storage marks) self.old.blocks slot } }
+        ensures lawful { IsLawful self.new }
+    {
+        links::set_marks(&mut self.slots, slot, storage.0, marks);
+    }
+}

@@ -1,0 +1,21 @@
+//! The arena under a shard: blocks with their replicas in a slab, and for each storage one doubly linked list of its blocks.
+//!
+//! A block's replicas are triplets, as in Hadoop 2's BlockInfo: the storage, and the previous and the next block in that
+//! storage's list. So a list operation costs a constant number of steps, and a full report is compared by a delimiter that is
+//! put at the head of the list: what was reported is moved to the head, and what then stands behind the delimiter was not.
+#![tactic(auto)]
+
+mod arena;
+mod block_entries;
+mod links;
+mod look_ups;
+mod numbers;
+mod slot_link;
+mod storage_lists;
+#[cfg(test)]
+mod tests;
+mod types;
+mod walk;
+
+pub use arena::{Arena, Slot};
+pub use walk::Walk;

@@ -1,0 +1,176 @@
+// The lists of storages: one doubly linked list of slots for each storage that has a head, through the triplets of the blocks.
+ghost use Rattle.std.specs.Prelude.{nat_eq, slice_index, EachIndex, ◌≡◌, ◌≢◌, ℕ, None, Some, IsSome, [], ◌∷◌, IfErr, OnOk};
+ghost use Rattle.std.specs.Option.{unwrap_or};
+ghost use Rattle.indexmap.specs.IndexMap.{swap_remove_entry};
+ghost use Rattle.bm_base.specs.declared.refusal.Refusal.TheVariants.{Memory};
+ghost use Rattle.bm_arena.specs.Contents.{IsReserved, no_marks, list_of, slot_after, HasHead, HasRoom, marks_at, linked_front, unlinked, moved_front, KeepsOthers, IsLawful};
+ghost use Rattle.bm_arena.specs.Lists.{without};
+
+use crate::arena::{Arena, Slot, count_up};
+use crate::links;
+use crate::slot_link::NO_LINK;
+use crate::types::{NO_MARKS, Triplet};
+use crate::walk::Walk;
+use bm_base::{Marks, Refusal, StorageId};
+
+impl Arena {
+    /// Makes a head for each of the storages, so that linking a block that has room, and putting the delimiter, take no memory.
+    /// A storage that has a head keeps it and its list. `Memory`: then some of the storages may have got a head.
+    pub fn reserve_heads(&mut self, storages: &[StorageId]) -> Result<(), Refusal>
+        ensures heads { OnOk result (EachIndex storages.now (λ k. HasHead self.new (slice_index storages.now k))) }
+        ensures kept { IsReserved self.old self.new }
+        ensures refused { IfErr result (λ e. e ≡ Memory) }
+        ensures lawful { IsLawful self.new }
+    {
+        self.lawful();
+        for storage in storages {
+            self.reserve_head(*storage)?;
+        }
+        Ok(())
+    }
+
+    // The delimiter gets room for one more triplet with each head.
+    fn reserve_head(&mut self, storage: StorageId) -> Result<(), Refusal>
+        ensures head { OnOk result (HasHead self.new storage) }
+        ensures kept { IsReserved self.old self.new }
+        ensures refused { IfErr result (λ e. e ≡ Memory) }
+        ensures lawful { IsLawful self.new }
+    {
+        if self.heads.contains_key(&storage.0) {
+            return Ok(());
+        }
+        let room = self.heads.len() + 1;
+        links::reserve_triplets(&mut self.slots, self.delimiter, room)?;
+        self.heads.insert(storage.0, NO_LINK)?;
+        Ok(())
+    }
+
+    /// Drops the head of a storage whose list is empty, or that has none. Takes no memory.
+    pub fn drop_head(&mut self, storage: StorageId)
+        requires { list_of self.old storage ≡ [] }
+        ensures after { self.new ≡ record self.old { lists = swap_remove_entry (nat_eq storage) self.old.lists } }
+        ensures lists { (other : ℕ) → list_of self.new other ≡ list_of self.old other }
+        ensures heads { (other : ℕ) → other ≢ storage → HasHead self.old other → HasHead self.new other }
+        ensures lawful { IsLawful self.new }
+    {
+        self.heads.swap_remove(&storage.0);
+    }
+
+    /// Adds a replica of the block in `slot` on `storage`, and links the slot at the head of the storage's list. Takes no memory.
+    pub fn link_front(&mut self, slot: Slot, storage: StorageId, marks: Marks)
+        requires head { HasHead self.old storage }
+        requires room { HasRoom self.old slot }
+        requires absent { marks_at self.old slot storage ≡ None }
+        ensures after { self.new ≡ linked_front self.old slot storage marks }
+        ensures list { list_of self.new storage ≡ slot ∷ list_of self.old storage }
+        ensures marks { marks_at self.new slot storage ≡ Some marks }
+        ensures others { KeepsOthers self.old self.new slot storage }
+        ensures lawful { IsLawful self.new }
+    {
+        if let Some(first) = self.heads.get_mut(&storage.0) {
+            let triplet = Triplet {
+                storage: storage.0,
+                previous: NO_LINK,
+                next: NO_LINK,
+                marks,
+            };
+            links::add_triplet(&mut self.slots, slot, triplet);
+            links::attach(&mut self.slots, first, slot, storage.0);
+            self.steps = count_up(self.steps);
+        }
+    }
+
+    /// Takes the block in `slot` out of a storage's list, and removes that replica: the block's last replica fills its place.
+    /// Takes no memory.
+    pub fn unlink(&mut self, slot: Slot, storage: StorageId)
+        requires { IsSome (marks_at self.old slot storage) }
+        ensures after { self.new ≡ unlinked self.old slot storage }
+        ensures list { list_of self.new storage ≡ without slot (list_of self.old storage) }
+        ensures marks { marks_at self.new slot storage ≡ None }
+        ensures others { KeepsOthers self.old self.new slot storage }
+        ensures lawful { IsLawful self.new }
+    {
+        if let Some(triplet) = links::find(&self.slots, slot, storage.0) {
+            if let Some(first) = self.heads.get_mut(&storage.0) {
+                links::detach(&mut self.slots, first, triplet, storage.0);
+                links::remove_triplet(&mut self.slots, slot, storage.0);
+                self.steps = count_up(self.steps);
+            }
+        }
+    }
+
+    /// Moves the block in `slot` to the head of a storage's list, of which it has a replica. Takes no memory.
+    pub fn move_front(&mut self, slot: Slot, storage: StorageId)
+        requires { IsSome (marks_at self.old slot storage) }
+        ensures after { self.new ≡ moved_front self.old slot storage }
+        ensures list { list_of self.new storage ≡ slot ∷ without slot (list_of self.old storage) }
+        ensures blocks { self.new.blocks ≡ self.old.blocks }
+        ensures others { KeepsOthers self.old self.new slot storage }
+        ensures lawful { IsLawful self.new }
+    {
+        if let Some(triplet) = links::find(&self.slots, slot, storage.0) {
+            if let Some(first) = self.heads.get_mut(&storage.0) {
+                links::detach(&mut self.slots, first, triplet, storage.0);
+                links::attach(&mut self.slots, first, slot, storage.0);
+                self.steps = count_up(self.steps);
+            }
+        }
+    }
+
+    /// Puts the delimiter, which is not in it, at the head of a storage's list. Takes no memory.
+    pub fn put_delimiter(&mut self, storage: StorageId)
+        requires head { HasHead self.old storage }
+        requires absent { marks_at self.old self.old.delimiter storage ≡ None }
+        ensures after { self.new ≡ linked_front self.old self.old.delimiter storage no_marks }
+        ensures list { list_of self.new storage ≡ self.old.delimiter ∷ list_of self.old storage }
+        ensures marks { IsSome (marks_at self.new self.old.delimiter storage) }
+        ensures others { KeepsOthers self.old self.new self.old.delimiter storage }
+        ensures lawful { IsLawful self.new }
+    {
+        let slot = self.delimiter;
+        self.link_front(slot, storage, NO_MARKS);
+    }
+
+    /// Takes the delimiter, which is in it, out of a storage's list. Takes no memory.
+    pub fn take_delimiter(&mut self, storage: StorageId)
+        requires { IsSome (marks_at self.old self.old.delimiter storage) }
+        ensures after { self.new ≡ unlinked self.old self.old.delimiter storage }
+        ensures list { list_of self.new storage ≡ without self.old.delimiter (list_of self.old storage) }
+        ensures marks { marks_at self.new self.old.delimiter storage ≡ None }
+        ensures others { KeepsOthers self.old self.new self.old.delimiter storage }
+        ensures lawful { IsLawful self.new }
+    {
+        let slot = self.delimiter;
+        self.unlink(slot, storage);
+    }
+
+    /// The slot behind `slot` in a storage's list, or behind the delimiter where `slot` is None; None behind the last one. The
+    /// slot, or the delimiter, is in the list. Takes no memory.
+    pub fn next_after(&self, storage: StorageId, slot: Option<Slot>) -> Option<Slot>
+        requires { IsSome (marks_at self.now (unwrap_or slot self.now.delimiter) storage) }
+        ensures { result ≡ slot_after (unwrap_or slot self.now.delimiter) (list_of self.now storage) }
+    {
+        let slot = slot.unwrap_or(self.delimiter);
+        match links::find(&self.slots, slot, storage.0) {
+            Some(triplet) => triplet.next.slot(),
+            None => None,
+        }
+    }
+
+    /// The slots of a storage's list, from its head on; none where it has no head. Between `put_delimiter` and `take_delimiter`
+    /// the delimiter's slot is among them. Takes no memory.
+    pub fn walk(&self, storage: StorageId) -> Walk<'_>
+        ensures { result ≡ list_of self.now storage }
+    {
+        let first = match self.heads.get(&storage.0) {
+            Some(first) => *first,
+            None => NO_LINK,
+        };
+        Walk {
+            slots: &self.slots,
+            storage: storage.0,
+            next: first,
+            left: self.slots.capacity(),
+        }
+    }
+}

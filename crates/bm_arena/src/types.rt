@@ -1,0 +1,40 @@
+// What stands in a slot: a block's entry with its triplets.
+use crate::slot_link::{NO_LINK, SlotLink};
+use bm_base::{BlockInfo, Marks, Tag};
+use smallvec::SmallVec;
+
+/// A replica of a block: its storage, the neighbours of the block in that storage's list, and its marks.
+#[derive(Clone, Copy)]
+pub(crate) struct Triplet {
+    pub(crate) storage: u32,
+    pub(crate) previous: SlotLink,
+    pub(crate) next: SlotLink,
+    pub(crate) marks: Marks,
+}
+
+// What fills the unused inline places of an entry.
+impl Default for Triplet {
+    fn default() -> Triplet {
+        Triplet {
+            storage: 0,
+            previous: NO_LINK,
+            next: NO_LINK,
+            marks: NO_MARKS,
+        }
+    }
+}
+
+/// The marks of the delimiter, which mean nothing.
+pub(crate) const NO_MARKS: Marks = Marks {
+    tag: Tag::Good,
+    excess: false,
+    ordered: false,
+};
+
+/// A block, or a number that is only reserved.
+#[derive(Drop)]
+pub(crate) struct Entry {
+    pub(crate) id: u64,
+    pub(crate) info: Option<BlockInfo>,
+    pub(crate) triplets: SmallVec<Triplet, 3>,
+}
