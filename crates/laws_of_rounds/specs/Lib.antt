@@ -1,0 +1,2 @@
+-- The laws, each a statement that is read aloud.
+pub mod Levels
