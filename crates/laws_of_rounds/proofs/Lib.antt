@@ -1,2 +1,10 @@
 pub mod Needs
 pub mod Listed
+pub mod Stands
+pub mod Surpluses
+pub mod Marked
+pub mod Commanded
+pub mod Kept
+pub mod Grouped
+pub mod Reasons
+pub mod Racked

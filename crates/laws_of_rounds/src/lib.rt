@@ -4,4 +4,6 @@
 //! does anything: its contract is the law.
 #![tactic(auto)]
 
+pub mod deletes;
 pub mod levels;
+pub mod surplus;

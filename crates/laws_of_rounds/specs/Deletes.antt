@@ -1,0 +1,59 @@
+-- Laws of deletes.
+use Rattle.std.specs.Prelude.{◌≡◌, ℕ, ◌≤◌, ◌⊎◌, Bool, true, false, length, Option, Some}
+use Rattle.std.specs.List.{All}
+use Rattle.bm_base.specs.declared.replica.ReplicaId.{ReplicaId}
+use Rattle.bm_base.specs.declared.replica.Marks.{Marks}
+use Rattle.bm_base.specs.declared.replica.BlockInfo.{BlockInfo}
+use Rattle.bm_base.specs.Map.{get}
+use Rattle.bm_base.specs.State.{State, replica_at}
+use Rattle.bm_base.specs.Lists.{has}
+use Rattle.bm_base.specs.Replicas.{is_good, is_stray, is_corrupt}
+use Rattle.bm_base.specs.Excess.{started}
+use Rattle.bm_base.specs.Rounds.{whole_round}
+use Rattle.bm_base.specs.Lawful.{IsLawful}
+use Rattle.laws_of_rounds.specs.Words.{IsDeleteCommanded, after_round, live_marked, live_after}
+
+-- The last good replica.
+
+-- Where a round commands the delete of a replica of a known block, another replica of the block is live after the round, and the
+-- round does not command its delete.
+abbrev pub LastGoodReplicaStays : Type 0
+LastGoodReplicaStays =
+    (M : State) (b s : ℕ) (i : BlockInfo) → IsLawful M → get M.holdings.blocks b ≡ Some i → IsDeleteCommanded M (replica_at b s)
+    → (t : ℕ) × (has (live_after M b) t ≡ true) × (IsDeleteCommanded M (replica_at b t) → ⊥) × (t ≡ s → ⊥)
+
+-- More than that: as many replicas of the block as are wanted are live after the round, and one at least is wanted.
+abbrev pub EnoughStayLive : Type 0
+EnoughStayLive =
+    (M : State) (b s : ℕ) (i : BlockInfo) → IsLawful M → get M.holdings.blocks b ≡ Some i → IsDeleteCommanded M (replica_at b s)
+    → (1 ≤ i.repl) × (i.repl ≤ length (live_after M b))
+
+-- what is live after a round, the round does not command to delete
+abbrev pub LiveReplicaIsNotDeleted : Type 0
+LiveReplicaIsNotDeleted = (M : State) (b t : ℕ) → has (live_after M b) t ≡ true → IsDeleteCommanded M (replica_at b t) → ⊥
+
+-- What is deleted.
+
+-- a replica that a round may command to delete, by its marks once the round has marked
+pub record MayBeDeleted (M : State) (q : ReplicaId) : Type 0 where
+  pub marks : Marks
+  pub is_there : get (started M).holdings.replicas q ≡ Some marks
+  pub not_ordered : marks.ordered ≡ false
+  pub kind : (is_stray marks.tag ≡ true) ⊎ ((marks.excess ≡ true) ⊎ (is_corrupt marks.tag ≡ true))
+
+abbrev pub OnlyWhatMayBeDeleted : Type 0
+OnlyWhatMayBeDeleted = (M : State) (q : ReplicaId) → IsDeleteCommanded M q → MayBeDeleted M q
+
+-- a corrupt one only where as many of its block as are wanted are live
+abbrev pub CorruptWaitsForLive : Type 0
+CorruptWaitsForLive =
+    (M : State) (q : ReplicaId) (m : Marks) → IsLawful M → IsDeleteCommanded M q → get (started M).holdings.replicas q ≡ Some m → is_corrupt m.tag ≡ true
+    → (i : BlockInfo) × (get M.holdings.blocks q.block ≡ Some i) × (i.repl ≤ length (live_marked M q.block))
+
+-- what was ordered before the round is not commanded again
+abbrev pub NoneIsOrderedAgain : Type 0
+NoneIsOrderedAgain = (M : State) (q : ReplicaId) → IsDeleteCommanded M q → (m : Marks) × (get M.holdings.replicas q ≡ Some m) × (m.ordered ≡ false)
+
+-- no node is commanded more deletes than the limit
+abbrev pub AtMostInvalidateANode : Type 0
+AtMostInvalidateANode = (M : State) → All (λ k. length k.deletes ≤ M.limits.invalidate) (whole_round M).0.nodes

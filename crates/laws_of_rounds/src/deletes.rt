@@ -1,0 +1,40 @@
+// Which replicas a round commands to delete. The first three laws say that no round takes a block's last good replica.
+ghost use Rattle.laws_of_rounds.specs.Deletes as law;
+
+/// No round commands the delete of a block's last good replica: in a lawful state, where a round commands the delete of a replica
+/// of a known block, another replica of the block is live after the round, that is, good and not in excess, and the round does not
+/// command its delete.
+pub fn last_good_replica_stays()
+    ensures { law.LastGoodReplicaStays }
+{}
+
+/// More than that: in a lawful state, where a round commands the delete of a replica of a known block, as many replicas of the
+/// block as are wanted are live after the round, and one at least is wanted.
+pub fn enough_stay_live()
+    ensures { law.EnoughStayLive }
+{}
+
+/// In any state, a round commands the delete of no replica that is live after it.
+pub fn live_replica_is_not_deleted()
+    ensures { law.LiveReplicaIsNotDeleted }
+{}
+
+/// A round commands the delete of stray replicas, of replicas in excess and of corrupt ones alone.
+pub fn only_stray_excess_or_corrupt_is_deleted()
+    ensures { law.OnlyWhatMayBeDeleted }
+{}
+
+/// A round commands the delete of a corrupt replica only where as many replicas of its block as are wanted are live.
+pub fn corrupt_waits_for_live()
+    ensures { law.CorruptWaitsForLive }
+{}
+
+/// A round commands the delete of no replica of which it was commanded before, unless the replica was reported since.
+pub fn none_is_ordered_again()
+    ensures { law.NoneIsOrderedAgain }
+{}
+
+/// A round commands each node at most as many deletes as the limit says.
+pub fn at_most_invalidate_a_node()
+    ensures { law.AtMostInvalidateANode }
+{}

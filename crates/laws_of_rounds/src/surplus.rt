@@ -1,0 +1,23 @@
+// Which live replicas a round marks as being too many.
+ghost use Rattle.laws_of_rounds.specs.Surplus as law;
+
+/// Once a round has marked, a known block has at most as many live replicas as are wanted. Those in excess that were ordered keep
+/// their marks, and are not live.
+pub fn at_most_replication_is_live()
+    ensures { law.AtMostReplicationIsLive }
+{}
+
+/// A round marks as many live replicas of a known block as it has beyond those that are wanted.
+pub fn surplus_is_marked()
+    ensures { law.SurplusIsMarked }
+{}
+
+/// What is live once a round has marked was live before.
+pub fn marking_makes_none_live()
+    ensures { law.MarkingMakesNoneLive }
+{}
+
+/// In a lawful state a round marks no block's last live replica on a rack while another rack has two or more of them.
+pub fn last_of_rack_stays()
+    ensures { law.LastOfRackStays }
+{}
