@@ -104,7 +104,7 @@ pub each_transfer : (M : State) (P : Transfer → Type 0) → Each P (chosen_tra
 unfolding whole_round
 each_transfer M P h = each_commanded_transfer (started M).cluster (started M).round (chosen_transfers_of M) (chosen_deletes_of M) P h
 
-at_same : (d : Delete) (q : ReplicaId) → ((d.storage == q.storage) && (d.block == q.block)) ≡ true → replica_at d.block d.storage ≡ q
+pub at_same : (d : Delete) (q : ReplicaId) → ((d.storage == q.storage) && (d.block == q.block)) ≡ true → replica_at d.block d.storage ≡ q
 at_same d q e =
     let s : d.storage ≡ q.storage = eqb-true d.storage q.storage (and_first (d.storage == q.storage) (d.block == q.block) e) in
     let b : d.block ≡ q.block = eqb-true d.block q.block (and_second (d.storage == q.storage) (d.block == q.block) e) in

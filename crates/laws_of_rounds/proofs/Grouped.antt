@@ -99,7 +99,7 @@ module _ {X : Type 0} where
 
 -- Deletes of one node.
 
-on_one_node : (C : Cluster) (n k s : ℕ) → has_storage C n s ≡ true → has_storage C k s ≡ true → n ≡ k
+pub on_one_node : (C : Cluster) (n k s : ℕ) → has_storage C n s ≡ true → has_storage C k s ≡ true → n ≡ k
 unfolding has_storage
 on_one_node C n k s = elim (node_of C s) as (λ o. option_map_or (λ m. m == n) o false ≡ true → option_map_or (λ m. m == k) o false ≡ true → n ≡ k) [
   | None ↦ λ e _. absurd (false≢true e)

@@ -8,3 +8,8 @@ pub mod Kept
 pub mod Grouped
 pub mod Reasons
 pub mod Racked
+pub mod Choosing
+pub mod Sending
+pub mod Sets
+pub mod Wished
+pub mod Later

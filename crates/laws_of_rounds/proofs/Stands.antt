@@ -25,7 +25,7 @@ equal Less p = cc
 equal Equal p = refl
 equal Greater p = cc
 
-same_key : {K : Type 0} (o : Order K) (p q : K) → eq_by_cmp o.cmp p q ≡ true → p ≡ q
+pub same_key : {K : Type 0} (o : Order K) (p q : K) → eq_by_cmp o.cmp p q ≡ true → p ≡ q
 same_key o p q e = o.same p q (equal _ e)
 
 module _ {K X : Type 0} (o : Order K) where

@@ -3,3 +3,5 @@ pub mod Levels
 pub mod Words
 pub mod Surplus
 pub mod Deletes
+pub mod Transfers
+pub mod Rounds

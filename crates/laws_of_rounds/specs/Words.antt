@@ -1,5 +1,5 @@
 -- What a round commands, and what it leaves: words that the laws speak in.
-use Rattle.std.specs.Prelude.{◌≡◌, ℕ, ◌+◌, Bool, true, List, [], ◌∷◌, flat_map}
+use Rattle.std.specs.Prelude.{◌≡◌, ℕ, ◌+◌, Bool, true, List, [], ◌∷◌, ◌++◌, flat_map}
 use Rattle.bm_base.specs.declared.replica.ReplicaId.{ReplicaId}
 use Rattle.bm_base.specs.declared.commands.Transfer.{Transfer}
 use Rattle.bm_base.specs.declared.commands.Delete.{Delete}
@@ -7,6 +7,7 @@ use Rattle.bm_base.specs.State.{Holdings, State, replica_at}
 use Rattle.bm_base.specs.Lists.{has}
 use Rattle.bm_base.specs.Replicas.{live}
 use Rattle.bm_base.specs.Excess.{begun, started, without_unordered_excess}
+use Rattle.bm_base.specs.Transfers.{transfers}
 use Rattle.bm_base.specs.Rounds.{is_commanded, whole_round}
 
 -- what the next round commands all nodes, node by node
@@ -16,9 +17,21 @@ deletes_commanded M = flat_map (λ k. k.deletes) (whole_round M).0.nodes
 abbrev pub transfers_commanded : State → List Transfer
 transfers_commanded M = flat_map (λ k. k.transfers) (whole_round M).0.nodes
 
+-- the transfers that the next round chooses, one after another
+abbrev pub transfers_chosen : State → List Transfer
+transfers_chosen M = let N = started M in transfers N.limits N.cluster N.holdings
+
 -- the next round commands the delete of this replica
 abbrev pub IsDeleteCommanded : State → ReplicaId → Type 0
 IsDeleteCommanded M q = is_commanded (deletes_commanded M) q ≡ true
+
+-- an element stands in a list
+abbrev pub IsAmong : {X : Type 0} → List X → X → Type 0
+IsAmong {X} xs x = (front : List X) × (back : List X) × (xs ≡ front ++ x ∷ back)
+
+-- the next round commands this transfer
+abbrev pub IsTransferCommanded : State → Transfer → Type 0
+IsTransferCommanded M t = IsAmong (transfers_commanded M) t
 
 -- the state that the next round leaves
 abbrev pub after_round : State → State

@@ -6,4 +6,6 @@
 
 pub mod deletes;
 pub mod levels;
+pub mod rounds;
 pub mod surplus;
+pub mod transfers;
