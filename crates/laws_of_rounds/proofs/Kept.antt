@@ -33,7 +33,7 @@ deletable_parts false false false true true e = (refl, inr (inr (refl, refl)))
 deletable_parts false false false true false e = absurd (false≢true e)
 deletable_parts false false false false enough e = absurd (false≢true e)
 
-live_is_kept : (tag : Tag) (excess : Bool) → (is_good tag && not excess) ≡ true → (is_stray tag ≡ true) ⊎ ((excess ≡ true) ⊎ (is_corrupt tag ≡ true)) → ⊥
+pub live_is_kept : (tag : Tag) (excess : Bool) → (is_good tag && not excess) ≡ true → (is_stray tag ≡ true) ⊎ ((excess ≡ true) ⊎ (is_corrupt tag ≡ true)) → ⊥
 live_is_kept Good true e h = false≢true e
 live_is_kept Good false e (inl h) = false≢true h
 live_is_kept Good false e (inr (inl h)) = false≢true h

@@ -13,3 +13,4 @@ pub mod Sending
 pub mod Sets
 pub mod Wished
 pub mod Later
+pub mod Ordered

@@ -1,16 +1,19 @@
 -- Laws of deletes.
-use Rattle.std.specs.Prelude.{◌≡◌, ℕ, ◌≤◌, ◌⊎◌, Bool, true, false, length, Option, Some}
+use Rattle.std.specs.Prelude.{◌≡◌, ℕ, ◌≤◌, ◌⊎◌, Bool, true, false, List, length, Option, Some}
 use Rattle.std.specs.List.{All}
+use Rattle.bm_base.specs.declared.config.Config.{Config}
+use Rattle.bm_base.specs.declared.call.Call.{Call}
 use Rattle.bm_base.specs.declared.replica.ReplicaId.{ReplicaId}
 use Rattle.bm_base.specs.declared.replica.Marks.{Marks}
 use Rattle.bm_base.specs.declared.replica.BlockInfo.{BlockInfo}
 use Rattle.bm_base.specs.Map.{get}
-use Rattle.bm_base.specs.State.{State, replica_at}
+use Rattle.bm_base.specs.State.{State, replica_at, first_state}
 use Rattle.bm_base.specs.Lists.{has}
-use Rattle.bm_base.specs.Replicas.{is_good, is_stray, is_corrupt}
+use Rattle.bm_base.specs.Replicas.{is_good, is_live, is_stray, is_corrupt}
 use Rattle.bm_base.specs.Excess.{started}
 use Rattle.bm_base.specs.Rounds.{whole_round}
 use Rattle.bm_base.specs.Lawful.{IsLawful}
+use Rattle.bm_base.specs.Calls.{state_after}
 use Rattle.laws_of_rounds.specs.Words.{IsDeleteCommanded, after_round, live_marked, live_after}
 
 -- The last good replica.
@@ -57,3 +60,19 @@ NoneIsOrderedAgain = (M : State) (q : ReplicaId) → IsDeleteCommanded M q → (
 -- no node is commanded more deletes than the limit
 abbrev pub AtMostInvalidateANode : Type 0
 AtMostInvalidateANode = (M : State) → All (λ k. length k.deletes ≤ M.limits.invalidate) (whole_round M).0.nodes
+
+-- Over every list of calls.
+
+-- a replica whose delete was commanded, and which was not reported since, is not live
+abbrev pub OrderedReplicaIsNotLive : Type 0
+OrderedReplicaIsNotLive =
+    (config : Config) (ks : List Call) (q : ReplicaId) (m : Marks)
+    → get (state_after (first_state config) ks).holdings.replicas q ≡ Some m → m.ordered ≡ true → is_live m ≡ false
+
+-- Where a round commands the delete of a replica of a known block, a replica of the block is left that is good and not in
+-- excess, and of which no round has commanded the delete, neither this one nor an earlier one.
+abbrev pub GoodReplicaIsLeftByAllRounds : Type 0
+GoodReplicaIsLeftByAllRounds =
+    (config : Config) (ks : List Call) (b s : ℕ) (i : BlockInfo)
+    → let M = state_after (first_state config) ks in IsLawful M → get M.holdings.blocks b ≡ Some i → IsDeleteCommanded M (replica_at b s)
+    → (t : ℕ) × (m : Marks) × (get (after_round M).holdings.replicas (replica_at b t) ≡ Some m) × (is_good m.tag ≡ true) × (m.excess ≡ false) × (m.ordered ≡ false)

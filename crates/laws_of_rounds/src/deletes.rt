@@ -38,3 +38,15 @@ pub fn none_is_ordered_again()
 pub fn at_most_invalidate_a_node()
     ensures { law.AtMostInvalidateANode }
 {}
+
+/// Whatever calls were made, a replica of which a round commanded the delete, and which was not reported since, is not live.
+pub fn ordered_replica_is_not_live()
+    ensures { law.OrderedReplicaIsNotLive }
+{}
+
+/// Whatever calls were made, where a round commands the delete of a replica of a known block, a replica of the block is left that
+/// is good and not in excess, and of which no round has commanded the delete since it was reported last. It is said of the states
+/// that are lawful, as all are that calls lead to.
+pub fn good_replica_is_left_by_all_rounds()
+    ensures { law.GoodReplicaIsLeftByAllRounds }
+{}
