@@ -14,3 +14,4 @@ pub mod Sets
 pub mod Wished
 pub mod Later
 pub mod Ordered
+pub mod Told

@@ -71,18 +71,18 @@ two_below M front back t is =
     limit_cases why.urgency (level M.cluster (started M).holdings t.block) (streams_from M.cluster front t.source) why.at_level
     (source_is M.cluster front why.urgency (live M.cluster (started M).holdings t.block) t.source why.source).0
 
-node_is : (C : Cluster) (n s : ℕ) → has_storage C n s ≡ true → node_of C s ≡ Some n
+pub node_is : (C : Cluster) (n s : ℕ) → has_storage C n s ≡ true → node_of C s ≡ Some n
 unfolding has_storage
 node_is C n s = elim (node_of C s) as (λ o. option_map_or (λ m. m == n) o false ≡ true → o ≡ Some n) [
   | None ↦ λ e. absurd (false≢true e)
   | Some m ↦ λ e. ap Some (eqb-true m n e)
 ]
 
-storage_is : (C : Cluster) (n s : ℕ) → node_of C s ≡ Some n → has_storage C n s ≡ true
+pub storage_is : (C : Cluster) (n s : ℕ) → node_of C s ≡ Some n → has_storage C n s ≡ true
 unfolding has_storage
 storage_is C n s e = ap (λ o. option_map_or (λ m. m == n) o false) e ∙ same_again n
 
-streams_of_node : (C : Cluster) (front : List Transfer) (n s : ℕ) → has_storage C n s ≡ true → streams_from C front s ≡ length (filter (λ (t : Transfer). has_storage C n t.source) front)
+pub streams_of_node : (C : Cluster) (front : List Transfer) (n s : ℕ) → has_storage C n s ≡ true → streams_from C front s ≡ length (filter (λ (t : Transfer). has_storage C n t.source) front)
 unfolding streams_from
 streams_of_node C front n s e =
     ap (λ o. count_by (λ (t : Transfer). option_map_or (λ m. has_storage C m t.source) o false) front) (node_is C n s e)

@@ -5,3 +5,4 @@ pub mod Surplus
 pub mod Deletes
 pub mod Transfers
 pub mod Rounds
+pub mod Commands
