@@ -4,6 +4,7 @@
 //! does anything: its contract is the law.
 #![tactic(auto)]
 
+pub mod choices;
 pub mod commands;
 pub mod deletes;
 pub mod levels;
