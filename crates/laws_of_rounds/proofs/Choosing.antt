@@ -1,6 +1,7 @@
 -- What is known of each transfer as it is chosen, behind those that were chosen before it.
 use Rattle.std.specs.Prelude.{◌≡◌, ℕ, zero, suc, ◌+◌, ◌*◌, ◌-◌, ◌≤◌, ◌<◌, Bool, true, false, not, ◌&&◌, ◌||◌, ◌==◌, nat_lt, nat_le, if◌then◌else◌, List, [], ◌∷◌, ◌++◌, map, filter, flat_map, length, replicate, Option, Some, None, is_some, option_map, option_and_then, option_to_list}
 use Rattle.std.specs.Option.{option_map_or}
+use Rattle.std.specs.declared.cmp.Ordering.{Ordering}
 use Rattle.std.proofs.Common.{cond, refl, sym, ap, subst, ◌∙◌, arith, append_assoc, append-nil}
 use Rattle.std.proofs.lemmas.Bool.{eqb-true, ltb-true, leb-false, false≢true, true≢false}
 use Rattle.bm_base.specs.declared.level.Level.{Level}
@@ -13,7 +14,7 @@ use Rattle.bm_base.specs.Lists.{has, least}
 use Rattle.bm_base.specs.Replicas.{live}
 use Rattle.bm_base.specs.Levels.{level, level_number, is_at}
 use Rattle.bm_base.specs.Transfers.{WishedCopy, wished_count, wishes_for, wishes, streams_from, stream_limit, source_cmp, least_source, holders_of, barred_for, target_cmp, is_target, least_target, transfer_for, transfers_from, transfers}
-use Rattle.laws_of_rounds.proofs.Listed.{Each, each_all, each_flat_map, has_filter}
+use Rattle.laws_of_rounds.proofs.Listed.{Each, each_all, each_flat_map, has_filter, and_first, and_second, some_same}
 use Rattle.laws_of_rounds.proofs.Surpluses.{least_among}
 
 -- what holds of each element, given those before it
@@ -107,9 +108,6 @@ pub record IsChosenAfter (limits : RoundLimits) (C : Cluster) (H : Holdings) (fr
   pub source : least_source C front urgency (live C H t.block) ≡ Some t.source
   pub target : least_target C front urgency (holders_of C H front t.block) (barred_for H front t.block) info.stamp.len ≡ Some t.target
 
-some_same : {X : Type 0} (x y : X) → Some x ≡ Some y → x ≡ y
-some_same x y e = cc
-
 module _ (limits : RoundLimits) (C : Cluster) (H : Holdings) where
   of_some : (front : List Transfer) (w : WishedCopy) (t : Transfer) → transfer_for limits C H front w ≡ Some t → IsOfLevel C H w → IsChosenAfter limits C H front t
   unfolding transfer_for
@@ -158,16 +156,8 @@ module _ (limits : RoundLimits) (C : Cluster) (H : Holdings) where
 
 -- What a choice tells of the source and the target.
 
-and_first : (a b : Bool) → (a && b) ≡ true → a ≡ true
-and_first true b e = refl
-and_first false b e = absurd (false≢true e)
-
-and_second : (a b : Bool) → (a && b) ≡ true → b ≡ true
-and_second true b e = e
-and_second false b e = absurd (false≢true e)
-
 -- the least of those that pass passes, and is one of them
-pub least_passing : (R : ℕ → ℕ → Rattle.std.specs.declared.cmp.Ordering.Ordering) (p : ℕ → Bool) (xs : List ℕ) (x : ℕ) → least R (filter p xs) ≡ Some x → (p x ≡ true) × (has xs x ≡ true)
+pub least_passing : (R : ℕ → ℕ → Ordering) (p : ℕ → Bool) (xs : List ℕ) (x : ℕ) → least R (filter p xs) ≡ Some x → (p x ≡ true) × (has xs x ≡ true)
 least_passing R p xs x e =
     let there = sym (has_filter p xs x) ∙ least_among R (filter p xs) x e in
     (and_first (p x) (has xs x) there, and_second (p x) (has xs x) there)

@@ -19,16 +19,8 @@ use Rattle.bm_base.specs.Transfers.{transfers}
 use Rattle.bm_base.specs.Deletes.{has_enough_live, is_deletable, deletable_on, deletes_of, deletes}
 use Rattle.bm_base.specs.Rounds.{finished, is_commanded, whole_round, commands_of, node_commands, has_commands}
 use Rattle.laws_of_rounds.specs.Words.{deletes_commanded, transfers_commanded, IsDeleteCommanded}
-use Rattle.laws_of_rounds.proofs.Listed.{Each, each_all, each_append, each_take, each_map, each_filter_by, each_weaker, each_flat_map, each_any, or_left, or_right, same_again, any_weaker}
+use Rattle.laws_of_rounds.proofs.Listed.{Each, each_all, each_append, each_take, each_map, each_filter_by, each_weaker, each_flat_map, each_any, or_left, or_right, same_again, any_weaker, and_first, and_second}
 use Rattle.laws_of_rounds.proofs.Stands.{found_replicas}
-
-and_first : (a b : Bool) → (a && b) ≡ true → a ≡ true
-and_first true b e = refl
-and_first false b e = absurd (false≢true e)
-
-and_second : (a b : Bool) → (a && b) ≡ true → b ≡ true
-and_second true b e = e
-and_second false b e = absurd (false≢true e)
 
 -- What is chosen.
 

@@ -21,7 +21,7 @@ use Rattle.bm_base.specs.Deletes.{is_deletable, deletable_on, deletes_of, delete
 use Rattle.bm_base.specs.Rounds.{whole_round, commands_of, node_commands, has_commands}
 use Rattle.bm_base.proofs.MapLaws.{find_below}
 use Rattle.bm_base.proofs.Ties.{number_tie}
-use Rattle.laws_of_rounds.proofs.Listed.{Each, each_all, each_append, each_take, each_map, each_filter_by, each_weaker, each_flat_map, any_map, any_agree, eq_turned, filter_append, length_take-le}
+use Rattle.laws_of_rounds.proofs.Listed.{Each, each_all, each_append, each_take, each_map, each_filter_by, each_weaker, each_flat_map, any_map, any_agree, eq_turned, filter_append, length_take-le, same_again}
 use Rattle.laws_of_rounds.proofs.Stands.{any_at}
 
 -- Keys.
@@ -73,10 +73,7 @@ module _ {X : Type 0} where
     ] refl
       where
         eq_at : (a c : ℕ) → a ≡ c → (a == c) ≡ true
-        eq_at a c h = ap (λ z. a == z) (sym h) ∙ again a
-          where
-            again : (z : ℕ) → (z == z) ≡ true
-            again z = Rattle.laws_of_rounds.proofs.Listed.same_again z
+        eq_at a c h = ap (λ z. a == z) (sym h) ∙ same_again a
 
     -- the pieces of one number, taken out of all pieces
     pub grouped : (n : ℕ) (ns : List ℕ) → has_repeats ns ≡ false → filter (on n) (flat_map f ns) ≡ cond (has ns n) (f n) []

@@ -17,7 +17,7 @@ use Rattle.bm_base.specs.Deletes.{has_enough_live, is_deletable}
 use Rattle.bm_base.specs.Lawful.{IsLawful}
 use Rattle.bm_base.proofs.MapLaws.{get-revise}
 use Rattle.laws_of_rounds.specs.Words.{IsDeleteCommanded, unmarked, live_unmarked, live_marked, live_after}
-use Rattle.laws_of_rounds.proofs.Listed.{or_left, same_again}
+use Rattle.laws_of_rounds.proofs.Listed.{or_left, same_again, some_same}
 use Rattle.laws_of_rounds.proofs.Stands.{has_where}
 use Rattle.laws_of_rounds.proofs.Marked.{unordered_dropped, marked_in, after_marked, excess_known, marked_count}
 use Rattle.laws_of_rounds.proofs.Commanded.{deleted_is}
@@ -73,7 +73,7 @@ remarked_ordered chosen s m =
     ∙ dropped_ordered m.ordered m
 
 -- one in excess that was not ordered is chosen
-remarked_excess : (chosen : List ℕ) (s : ℕ) (m : Marks) → m.ordered ≡ false → (remarked chosen s m).excess ≡ true → has chosen s ≡ true
+pub remarked_excess : (chosen : List ℕ) (s : ℕ) (m : Marks) → m.ordered ≡ false → (remarked chosen s m).excess ≡ true → has chosen s ≡ true
 remarked_excess chosen s m o =
     elim (has chosen s) as (λ c. (if c then record (unordered_dropped m) { excess = true } else unordered_dropped m).excess ≡ true → c ≡ true) [
       | true ↦ λ _. refl
@@ -94,9 +94,6 @@ marks_started M q =
 pub from_some : {X Y : Type 0} (f : X → Y) (o : Option X) (y : Y) → option_map f o ≡ Some y → (x : X) × (o ≡ Some x) × (f x ≡ y)
 from_some f None y e = absurd (false≢true (ap is_some e))
 from_some f (Some x) y e = (x, refl, some_same (f x) y e)
-  where
-    some_same : {Z : Type 0} (x y : Z) → Some x ≡ Some y → x ≡ y
-    some_same x y e = cc
 
 -- the marks before the round, of marks at its start
 pub marks_before : (M : State) (q : ReplicaId) (m : Marks) → get (started M).holdings.replicas q ≡ Some m

@@ -20,6 +20,21 @@ pub or_right : (a b : Bool) → b ≡ true → (a || b) ≡ true
 or_right true b e = refl
 or_right false b e = e
 
+pub and_first : (a b : Bool) → (a && b) ≡ true → a ≡ true
+and_first true b e = refl
+and_first false b e = absurd (false≢true e)
+
+pub and_second : (a b : Bool) → (a && b) ≡ true → b ≡ true
+and_second true b e = e
+and_second false b e = absurd (false≢true e)
+
+pub and_never : (b : Bool) → (b && false) ≡ false
+and_never true = refl
+and_never false = refl
+
+pub some_same : {X : Type 0} (x y : X) → Some x ≡ Some y → x ≡ y
+some_same x y e = cc
+
 pub same_again : (a : ℕ) → (a == a) ≡ true
 same_again a = eq-eqb a a refl
 

@@ -16,7 +16,7 @@ use Rattle.bm_base.specs.Excess.{begun, started, without_expired, without_unorde
 use Rattle.bm_base.specs.Rounds.{finished, is_commanded, whole_round}
 use Rattle.bm_base.proofs.MapLaws.{get-revise}
 use Rattle.laws_of_rounds.specs.Words.{unmarked, live_unmarked, live_marked, live_after, after_round}
-use Rattle.laws_of_rounds.proofs.Listed.{has_filter, length_filter-le}
+use Rattle.laws_of_rounds.proofs.Listed.{has_filter, length_filter-le, and_never}
 use Rattle.laws_of_rounds.proofs.Stands.{listed, revised_where, once_where}
 use Rattle.laws_of_rounds.proofs.Surpluses.{kept_of, kept_count}
 
@@ -30,10 +30,6 @@ marked_in chosen s m = if has chosen s then record m { excess = true } else m
 
 abbrev pub ordered_by : List Delete → ReplicaId → Marks → Marks
 ordered_by ds q m = if is_commanded ds q then record m { ordered = true } else m
-
-never : (b : Bool) → (b && false) ≡ false
-never true = refl
-never false = refl
 
 -- marks as they pass, of the entries of a block
 marked_list : (b : ℕ) (chosen : ℕ → List ℕ) (es : List (ReplicaId × Marks))
@@ -56,7 +52,7 @@ marked_list b chosen (e ∷ es) =
         ≡ kept_of (chosen b) (map (λ (d : ReplicaId × Marks). d.0.storage) (cond (is_live e.1) (e ∷ right) right))
     here e left right true is rest =
         ap (λ u. map (λ (d : ReplicaId × Marks). d.0.storage) (cond (is_live (if u then record e.1 { excess = true } else e.1)) (e ∷ left) left)) is
-        ∙ ap (λ u. map (λ (d : ReplicaId × Marks). d.0.storage) (cond u (e ∷ left) left)) (never (is_good e.1.tag))
+        ∙ ap (λ u. map (λ (d : ReplicaId × Marks). d.0.storage) (cond u (e ∷ left) left)) (and_never (is_good e.1.tag))
         ∙ rest
         ∙ (elim (is_live e.1) as (λ u. kept_of (chosen b) (map (λ (d : ReplicaId × Marks). d.0.storage) right) ≡ kept_of (chosen b) (map (λ (d : ReplicaId × Marks). d.0.storage) (cond u (e ∷ right) right))) [
           | true ↦ sym (ap (λ u. cond (not u) (e.0.storage ∷ kept_of (chosen b) (map (λ (d : ReplicaId × Marks). d.0.storage) right)) (kept_of (chosen b) (map (λ (d : ReplicaId × Marks). d.0.storage) right))) is)

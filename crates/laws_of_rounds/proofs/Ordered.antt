@@ -32,7 +32,7 @@ use Rattle.bm_base.specs.Refusals.{refusal_of, round_refusal, storage_refusal, b
 use Rattle.bm_base.specs.Calls.{after_event, refused_or, step_with, step, state_after}
 use Rattle.bm_base.proofs.MapLaws.{get-empty, get-insert, get-keep, get-revise, get-remove}
 use Rattle.laws_of_rounds.specs.Words.{after_round, IsDeleteCommanded}
-use Rattle.laws_of_rounds.proofs.Listed.{each_any}
+use Rattle.laws_of_rounds.proofs.Listed.{each_any, and_never, some_same}
 use Rattle.laws_of_rounds.proofs.Marked.{marked_in, unordered_dropped, ordered_by}
 use Rattle.laws_of_rounds.proofs.Commanded.{IsChosen, chosen_deletes, chosen_deletes_of, at_same}
 use Rattle.laws_of_rounds.proofs.Kept.{one_stays, remarked, surplus_of, marks_started, from_some, deleted_marks, live_is_kept, weaker_kind}
@@ -46,9 +46,6 @@ IsDone m = m.ordered ≡ true → is_live m ≡ false
 -- of all marks of a map
 abbrev pub AreDone : Map by_replica Marks → Type 0
 AreDone r = (q : ReplicaId) (m : Marks) → get r q ≡ Some m → IsDone m
-
-some_same : {X : Type 0} (x y : X) → Some x ≡ Some y → x ≡ y
-some_same x y e = cc
 
 done_same : (m n : Marks) → Some n ≡ Some m → IsDone n → IsDone m
 done_same m n e h = subst IsDone (some_same n m e) h
@@ -132,12 +129,8 @@ done_event C H (FullReport s es) h = done_entries H s es _ (done_kept H.replicas
 
 -- Rounds.
 
-never : (b : Bool) → (b && false) ≡ false
-never true = refl
-never false = refl
-
 with_mark : (c : Bool) (n : Marks) → IsDone n → IsDone (if c then record n { excess = true } else n)
-with_mark true n old e = never (is_good n.tag)
+with_mark true n old e = and_never (is_good n.tag)
 with_mark false n old e = old e
 
 dropped_done : (t : Bool) (n : Marks) → n.ordered ≡ t → IsDone n → IsDone (if t then n else record n { excess = false })

@@ -18,7 +18,7 @@ use Rattle.bm_base.specs.Replicas.{is_live, rack_of, node_of}
 use Rattle.bm_base.specs.Excess.{excess_cmp, excess_among, remaining, share_rack, has_rack_mate, excess_in}
 use Rattle.bm_base.specs.Lawful.{IsLawful}
 use Rattle.laws_of_rounds.specs.Words.{unmarked, live_unmarked, live_marked}
-use Rattle.laws_of_rounds.proofs.Listed.{Each, each_any, any_weaker, count_without, has_filter, once_filter, filter_filter, or_left, or_right, same_again}
+use Rattle.laws_of_rounds.proofs.Listed.{Each, each_any, any_weaker, count_without, has_filter, once_filter, filter_filter, or_left, or_right, same_again, and_second, some_same}
 use Rattle.laws_of_rounds.proofs.Stands.{has_where, once_where}
 use Rattle.laws_of_rounds.proofs.Surpluses.{kept_of, others, others_fewer, kept_step, chosen_first, least_among, least_there}
 use Rattle.laws_of_rounds.proofs.Marked.{marked_is, marked_unmarked, unordered_dropped}
@@ -52,9 +52,6 @@ module _ (class : ℕ → ℕ) (rest : ℕ → ℕ → Ordering) where
   lower_of false y z xs e all =
       let h : class z ≤ class y = not_lt_class (class y) (class z) (rest y z) e in
       below_more z z xs (omega arith) (λ t there. let g = all t there in omega (arith, h, g))
-
-  some_same : (x y : ℕ) → Some x ≡ Some y → x ≡ y
-  some_same x y e = cc
 
   none_in : (xs : List ℕ) → least by_class xs ≡ None → (t : ℕ) → has xs t ≡ true → ⊥
   none_in [] e t there = false≢true there
@@ -124,10 +121,6 @@ fewer_pass p q (x ∷ xs) =
       | true ↦ (elim (p x) as (λ c. length (cond c (x ∷ filter p (filter q xs)) (filter p (filter q xs))) ≤ length (cond c (x ∷ filter p xs) (filter p xs))) [ true ↦ omega (arith, rest) | false ↦ rest ])
       | false ↦ (elim (p x) as (λ c. length (filter p (filter q xs)) ≤ length (cond c (x ∷ filter p xs) (filter p xs))) [ true ↦ omega (arith, rest) | false ↦ rest ])
     ]
-
-and_second : (a b : Bool) → (a && b) ≡ true → b ≡ true
-and_second true b e = e
-and_second false b e = absurd (false≢true e)
 
 module _ (C : Cluster) where
   mates : List ℕ → ℕ → ℕ

@@ -12,18 +12,18 @@ use Rattle.bm_base.specs.Map.{get}
 use Rattle.bm_base.specs.State.{State, replica_at}
 use Rattle.bm_base.specs.Lists.{has}
 use Rattle.bm_base.specs.Replicas.{live, is_live, is_good, is_stray, is_corrupt}
-use Rattle.bm_base.specs.Excess.{begun, started, without_expired, without_unordered_excess, marked, excess_in, excess_of}
+use Rattle.bm_base.specs.Excess.{begun, started, without_expired, without_unordered_excess, marked, excess_in, excess_of, excess_among}
 use Rattle.bm_base.specs.Deletes.{has_enough_live}
 use Rattle.bm_base.specs.Lawful.{IsLawful}
 use Rattle.bm_base.proofs.MapLaws.{get-revise}
-use Rattle.laws_of_rounds.specs.Words.{IsDeleteCommanded, unmarked, live_unmarked, live_marked}
+use Rattle.laws_of_rounds.specs.Words.{IsDeleteCommanded, unmarked, live_unmarked, live_marked, live_after}
 use Rattle.laws_of_rounds.specs.Deletes.{MayBeDeleted}
-use Rattle.laws_of_rounds.proofs.Listed.{has_filter, or_left, or_right, same_again}
+use Rattle.laws_of_rounds.proofs.Listed.{has_filter, or_left, or_right, same_again, and_first, and_second, some_same}
 use Rattle.laws_of_rounds.proofs.Stands.{has_where}
 use Rattle.laws_of_rounds.proofs.Surpluses.{kept_of, chosen_among}
-use Rattle.laws_of_rounds.proofs.Marked.{marked_unmarked, marked_count, excess_known, unordered_dropped}
+use Rattle.laws_of_rounds.proofs.Marked.{marked_unmarked, marked_count, marked_is, after_marked, excess_known, unordered_dropped}
 use Rattle.laws_of_rounds.proofs.Commanded.{deleted_is}
-use Rattle.laws_of_rounds.proofs.Kept.{deleted_marks, marks_before, remarked, remarked_ordered, remarked_tag, surplus_of, weaker_kind}
+use Rattle.laws_of_rounds.proofs.Kept.{deleted_marks, marks_before, marks_started, remarked_excess, remarked, remarked_ordered, remarked_tag, surplus_of, weaker_kind}
 
 pub may_be_deleted : (M : State) (q : ReplicaId) → IsDeleteCommanded M q → MayBeDeleted M q
 may_be_deleted M q h =
@@ -66,10 +66,6 @@ pub marks_unmarked : (M : State) (q : ReplicaId) → get (unmarked M).holdings.r
 unfolding begun without_expired without_unordered_excess
 marks_unmarked M q = get-revise M.holdings.replicas (λ _ m. unordered_dropped m) q
 
-and_first : (a b : Bool) → (a && b) ≡ true → a ≡ true
-and_first true b e = refl
-and_first false b e = absurd (false≢true e)
-
 dropped_good : (o : Bool) (m : Marks) → is_live (if o then m else record m { excess = false }) ≡ true → is_good m.tag ≡ true
 dropped_good true m e = and_first (is_good m.tag) (not m.excess) e
 dropped_good false m e = and_first (is_good m.tag) true e
@@ -103,9 +99,6 @@ corrupt_only Bad excess enough c g (inl h) = absurd (false≢true h)
 corrupt_only Bad excess enough c g (inr (inl h)) = absurd (false≢true (g h))
 corrupt_only Bad excess enough c g (inr (inr h)) = h.1
 
-some_same : {X : Type 0} (x y : X) → Some x ≡ Some y → x ≡ y
-some_same x y e = cc
-
 pub corrupt_waits : (M : State) (q : ReplicaId) (m : Marks) → IsLawful M → IsDeleteCommanded M q → get (started M).holdings.replicas q ≡ Some m → is_corrupt m.tag ≡ true
     → (i : BlockInfo) × (get M.holdings.blocks q.block ≡ Some i) × (i.repl ≤ length (live_marked M q.block))
 corrupt_waits M q m lawful h found corrupt =
@@ -126,10 +119,6 @@ at_most M b i known = let count = marked_count M b i known in omega (arith, coun
 pub none_made_live : (M : State) (b s : ℕ) → has (live_marked M b) s ≡ true → has (live_unmarked M b) s ≡ true
 none_made_live M b s h =
     and_second (not (has (surplus_of M b) s)) (has (live_unmarked M b) s) (sym (ap (λ xs. has xs s) (marked_unmarked M b) ∙ has_filter (λ z. not (has (surplus_of M b) z)) (live_unmarked M b) s) ∙ h)
-  where
-    and_second : (a b : Bool) → (a && b) ≡ true → b ≡ true
-    and_second true b e = e
-    and_second false b e = absurd (false≢true e)
 
 -- those that pass and those that do not are all
 parts : (p : ℕ → Bool) (xs : List ℕ) → length (filter p xs) + length (filter (λ x. not (p x)) xs) ≡ length xs
@@ -160,3 +149,51 @@ surplus_count M b i known =
       ∙ sym (marked_unmarked M b) in
     let long = ap length kept in
     omega (arith, count, all, long)
+
+pub leaves_enough : (M : State) (b : ℕ) (i : BlockInfo) → get M.holdings.blocks b ≡ Some i
+    → (i.repl ≤ length (live_unmarked M b) → length (live_after M b) ≡ i.repl) × (length (live_unmarked M b) ≤ i.repl → live_after M b ≡ live_unmarked M b)
+leaves_enough M b i known =
+    let count = marked_count M b i known in
+    let after = ap length (after_marked M b) in
+    (λ h. omega (arith, count, after, h),
+    λ h. after_marked M b ∙ marked_is M b i known
+      ∙ ap (λ k. kept_of (excess_among M.cluster k (live_unmarked M b)) (live_unmarked M b)) (no_surplus (length (live_unmarked M b)) i.repl h) ∙ all_kept (live_unmarked M b))
+  where
+    no_surplus : (n k : ℕ) → n ≤ k → n - k ≡ 0
+    no_surplus n k h = omega arith
+    all_kept : (xs : List ℕ) → kept_of [] xs ≡ xs
+    all_kept [] = refl
+    all_kept (x ∷ xs) = ap (λ ys. x ∷ ys) (all_kept xs)
+
+-- Marks.
+
+excess_stays : (c o : Bool) (m : Marks) → o ≡ true → m.excess ≡ true
+    → (if c then record (if o then m else record m { excess = false }) { excess = true } else if o then m else record m { excess = false }).excess ≡ true
+excess_stays true o m e f = refl
+excess_stays false true m e f = f
+excess_stays false false m e f = absurd (false≢true e)
+
+pub ordered_stays_excess : (M : State) (q : ReplicaId) (m : Marks) → get M.holdings.replicas q ≡ Some m → m.ordered ≡ true → m.excess ≡ true
+    → (n : Marks) × (get (started M).holdings.replicas q ≡ Some n) × (n.excess ≡ true)
+ordered_stays_excess M q m found ordered excess =
+    (remarked (surplus_of M q.block) q.storage m, marks_started M q ∙ ap (option_map (remarked (surplus_of M q.block) q.storage)) found,
+    excess_stays (has (surplus_of M q.block) q.storage) m.ordered m ordered excess)
+
+pub other_is_new : (M : State) (q : ReplicaId) (n : Marks) → get (started M).holdings.replicas q ≡ Some n → n.ordered ≡ false → n.excess ≡ true
+    → (has (live_unmarked M q.block) q.storage ≡ true) × (has (live_marked M q.block) q.storage ≡ false)
+other_is_new M q n found unordered excess =
+    let was = marks_before M q n found in
+    let chosen : has (surplus_of M q.block) q.storage ≡ true =
+      remarked_excess (surplus_of M q.block) q.storage was.0 (sym (remarked_ordered (surplus_of M q.block) q.storage was.0) ∙ ap (λ m. m.ordered) was.2 ∙ unordered) (ap (λ m. m.excess) was.2 ∙ excess) in
+    (surplus_live M q.block q.storage chosen,
+    ap (λ xs. has xs q.storage) (marked_unmarked M q.block) ∙ has_filter (λ z. not (has (surplus_of M q.block) z)) (live_unmarked M q.block) q.storage
+      ∙ ap (λ t. not t && has (live_unmarked M q.block) q.storage) chosen)
+
+counts_again : (o : Bool) (m : Marks) → is_good m.tag ≡ true → o ≡ false → is_live (if o then m else record m { excess = false }) ≡ true
+counts_again true m good e = absurd (true≢false e)
+counts_again false m good e = ap (λ b. b && true) good
+
+pub unordered_counts : (M : State) (b s : ℕ) (m : Marks) → get M.holdings.replicas (replica_at b s) ≡ Some m → is_good m.tag ≡ true → m.ordered ≡ false → has (live_unmarked M b) s ≡ true
+unordered_counts M b s m found good unordered =
+    has_where is_live (unmarked M).holdings b s ∙ ap (λ o. option_map_or is_live o false) (marks_unmarked M (replica_at b s) ∙ ap (option_map unordered_dropped) found)
+    ∙ counts_again m.ordered m good unordered

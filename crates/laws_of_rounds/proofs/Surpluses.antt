@@ -13,7 +13,7 @@ use Rattle.bm_base.specs.State.{Cluster}
 use Rattle.bm_base.specs.Lists.{has, has_repeats, least}
 use Rattle.bm_base.specs.Replicas.{rack_of}
 use Rattle.bm_base.specs.Excess.{excess_cmp, excess_among, excess_of, share_rack, has_rack_mate}
-use Rattle.laws_of_rounds.proofs.Listed.{count_without, has_filter, once_filter, filter_filter, eq_turned, or_left, or_right, same_again, any_weaker}
+use Rattle.laws_of_rounds.proofs.Listed.{count_without, has_filter, once_filter, filter_filter, eq_turned, or_left, or_right, same_again, any_weaker, and_second, some_same}
 
 all_pass : {X : Type 0} (xs : List X) → filter (λ _. true) xs ≡ xs
 all_pass [] = refl
@@ -32,9 +32,6 @@ among_first : (R : ℕ → ℕ → Ordering) (x : ℕ) (xs : List ℕ) (m : Opti
     → has (x ∷ xs) (option_map_or (λ y. if is_lt (R y x) then y else x) m x) ≡ true
 among_first R x xs None h = or_left (x == x) (has xs x) (same_again x)
 among_first R x xs (Some y) h = among_two x y xs (is_lt (R y x)) (h y refl)
-
-some_same : {X : Type 0} (x y : X) → Some x ≡ Some y → x ≡ y
-some_same x y e = cc
 
 pub least_among : (R : ℕ → ℕ → Ordering) (xs : List ℕ) (x : ℕ) → least R xs ≡ Some x → has xs x ≡ true
 least_among R [] x e = absurd (some≢none x e)
@@ -103,10 +100,6 @@ module _ (C : Cluster) where
           → (b : Bool) → (x == s) ≡ b → (b || has (excess_among C k (others x candidates)) s) ≡ true → has candidates s ≡ true
       by_case x there rest true e f = subst (λ z. has candidates z ≡ true) (eqb-true x s e) there
       by_case x there rest false e f = and_second (not (s == x)) (has candidates s) (sym (has_filter (λ z. not (z == x)) candidates s) ∙ rest f)
-        where
-          and_second : (a b : Bool) → (a && b) ≡ true → b ≡ true
-          and_second true b e = e
-          and_second false b e = absurd (false≢true e)
       by_least : (m : Option ℕ) → least (excess_cmp C candidates) candidates ≡ m
           → ((x : ℕ) → has (excess_among C k (others x candidates)) s ≡ true → has (others x candidates) s ≡ true)
           → has (option_map_or (λ x. x ∷ excess_among C k (others x candidates)) (least (excess_cmp C candidates) candidates) []) s ≡ true → has candidates s ≡ true

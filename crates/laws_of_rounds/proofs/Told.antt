@@ -22,7 +22,7 @@ use Rattle.bm_base.specs.Deletes.{deletes_of, deletes}
 use Rattle.bm_base.specs.Lawful.{IsLawful}
 use Rattle.bm_base.specs.Rounds.{whole_round, commands_of, node_commands, has_commands, is_commanded}
 use Rattle.laws_of_rounds.specs.Words.{IsAmong, IsDeleteCommanded, IsTransferCommanded, deletes_commanded, transfers_commanded, transfers_chosen, after_round}
-use Rattle.laws_of_rounds.proofs.Listed.{Each, each_all, each_weaker, each_filter_by, each_flat_map, each_any, or_left, same_again}
+use Rattle.laws_of_rounds.proofs.Listed.{Each, each_all, each_weaker, each_filter_by, each_flat_map, each_any, or_left, or_right, same_again, some_same}
 use Rattle.laws_of_rounds.proofs.Stands.{has_where}
 use Rattle.laws_of_rounds.proofs.Grouped.{has_keys, each_node, each_on_node, all_of_each}
 use Rattle.laws_of_rounds.proofs.Commanded.{chosen_deletes_of, deleted_is, at_same}
@@ -217,7 +217,7 @@ IsOnAlive C d = (n : ℕ) × (has (keys C.nodes) n ≡ true) × (has_storage C n
 
 has_at : (front back : List ℕ) (n : ℕ) → has (front ++ n ∷ back) n ≡ true
 has_at [] back n = or_left (n == n) (has back n) (same_again n)
-has_at (x ∷ front) back n = Rattle.laws_of_rounds.proofs.Listed.or_right (x == n) (has (front ++ n ∷ back) n) (has_at front back n)
+has_at (x ∷ front) back n = or_right (x == n) (has (front ++ n ∷ back) n) (has_at front back n)
 
 has_among : (xs : List ℕ) (n : ℕ) → IsAmong xs n → has xs n ≡ true
 has_among xs n h = ap (λ zs. has zs n) h.2 ∙ has_at h.0 h.1 n
@@ -232,7 +232,7 @@ deletes_alive limits C H =
 commanded_at : (q : ReplicaId) (d : Delete) (front back : List Delete) → ((d.storage == q.storage) && (d.block == q.block)) ≡ true → list_any (λ e. (e.storage == q.storage) && (e.block == q.block)) (front ++ d ∷ back) ≡ true
 commanded_at q d [] back e = or_left ((d.storage == q.storage) && (d.block == q.block)) (list_any (λ c. (c.storage == q.storage) && (c.block == q.block)) back) e
 commanded_at q d (c ∷ front) back e =
-    Rattle.laws_of_rounds.proofs.Listed.or_right ((c.storage == q.storage) && (c.block == q.block)) (list_any (λ f. (f.storage == q.storage) && (f.block == q.block)) (front ++ d ∷ back)) (commanded_at q d front back e)
+    or_right ((c.storage == q.storage) && (c.block == q.block)) (list_any (λ f. (f.storage == q.storage) && (f.block == q.block)) (front ++ d ∷ back)) (commanded_at q d front back e)
 
 delete_told : (M : State) (q : ReplicaId) → is_commanded (chosen_deletes_of M) q ≡ true → IsDeleteCommanded M q
 unfolding is_commanded whole_round started begun
@@ -240,16 +240,13 @@ delete_told M q h =
     let one = each_any (IsAmong (chosen_deletes_of M)) (λ (d : Delete). (d.storage == q.storage) && (d.block == q.block)) (chosen_deletes_of M) (each_among (chosen_deletes_of M)) h in
     let alive = each_is (IsOnAlive M.cluster) (chosen_deletes_of M) one.0 (deletes_alive M.limits M.cluster (started M).holdings) one.1 in
     let told = told_delete M.cluster (started M).round (transfers_chosen M) (chosen_deletes_of M) alive.0 one.0 alive.1 alive.2 one.1 in
-    ap (list_any (λ (d : Delete). (d.storage == q.storage) && (d.block == q.block))) told.2 ∙ commanded_at q one.0 told.0 told.1 one.2
+    subst (λ ds. list_any (λ (d : Delete). (d.storage == q.storage) && (d.block == q.block)) ds ≡ true) (sym told.2) (commanded_at q one.0 told.0 told.1 one.2)
 
 pub ordered_after : (M : State) (q : ReplicaId) → IsDeleteCommanded M q → (m : Marks) × (get (after_round M).holdings.replicas q ≡ Some m) × (m.ordered ≡ true)
 ordered_after M q h =
     let is = deleted_is M q h in
     let after : get (after_round M).holdings.replicas q ≡ Some (ordered_by (chosen_deletes_of M) q is.0) = marks_after M q ∙ ap (option_map (ordered_by (chosen_deletes_of M) q)) is.1 in
     (ordered_by (chosen_deletes_of M) q is.0, after, ordered_by_round M q h (ordered_by (chosen_deletes_of M) q is.0) after)
-
-some_same : {X : Type 0} (x y : X) → Some x ≡ Some y → x ≡ y
-some_same x y e = cc
 
 newly : (t : Bool) (m : Marks) → m.ordered ≡ false → (if t then record m { ordered = true } else m).ordered ≡ true → t ≡ true
 newly true m e f = refl

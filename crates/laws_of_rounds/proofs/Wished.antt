@@ -2,7 +2,7 @@
 use Rattle.std.specs.Prelude.{◌≡◌, ℕ, zero, suc, ◌+◌, ◌*◌, ◌-◌, ◌≤◌, ◌<◌, ◌⊎◌, Bool, true, false, not, ◌&&◌, ◌||◌, ◌==◌, nat_lt, nat_le, if◌then◌else◌, List, [], ◌∷◌, ◌++◌, map, filter, flat_map, length, replicate, Option, Some, None, is_some, option_map, option_and_then, option_to_list}
 use Rattle.std.specs.Option.{option_map_or}
 use Rattle.std.proofs.Common.{cond, refl, sym, ap, subst, ◌∙◌, arith, inl, inr, append-nil}
-use Rattle.std.proofs.lemmas.Bool.{eqb-true, eqb-false, false≢true, true≢false}
+use Rattle.std.proofs.lemmas.Bool.{eqb-true, leb-true, false≢true, true≢false}
 use Rattle.std.proofs.lemmas.Bool.Decides.{nat_tests}
 use Rattle.std.proofs.lemmas.List.{length-map}
 use Rattle.bm_base.specs.declared.level.Level.{Level}
@@ -18,7 +18,7 @@ use Rattle.bm_base.specs.Excess.{begun, started, marked, without_expired, withou
 use Rattle.bm_base.specs.Transfers.{WishedCopy, wished_count, wishes_for, wishes, pending_targets, targets_of, holders_of, barred_for, is_on_racks, class_of, is_target, least_source, least_target, transfer_for, transfers_from, transfers}
 use Rattle.laws_of_rounds.specs.Words.{transfers_chosen, live_marked}
 use Rattle.laws_of_rounds.proofs.Needs.{level_known}
-use Rattle.laws_of_rounds.proofs.Listed.{Each, each_all, filter_append, length_append, same_again}
+use Rattle.laws_of_rounds.proofs.Listed.{Each, each_all, filter_append, length_append, same_again, some_same}
 use Rattle.laws_of_rounds.proofs.Grouped.{grouped, has_keys, once_keys}
 use Rattle.laws_of_rounds.proofs.Choosing.{target_is}
 use Rattle.laws_of_rounds.proofs.Sending.{chosen_at, target_parts}
@@ -121,9 +121,6 @@ count_none : (b : ℕ) → length (targets_of [] b) ≡ 0
 unfolding targets_of
 count_none b = refl
 
-some_same : {X : Type 0} (x y : X) → Some x ≡ Some y → x ≡ y
-some_same x y e = cc
-
 block_mapped : (b s : ℕ) (i : BlockInfo) (o : Option ℕ) (t : Transfer) → option_map (λ u. record { block = b; stamp = i.stamp; source = s; target = u }) o ≡ Some t → t.block ≡ b
 block_mapped b s i None t e = absurd (false≢true (ap is_some e))
 block_mapped b s i (Some u) t e = ap (λ z. z.block) (sym (some_same (record { block = b; stamp = i.stamp; source = s; target = u }) t e))
@@ -198,7 +195,7 @@ badly_counted n repl rs multi e = by_tests (nat_le repl n) refl (nat_lt 1 repl) 
     by_tests : (a : Bool) → nat_le repl n ≡ a → (p q r : Bool)
         → (if a then (if p && q && r then Some BadlyDistributed else None) else Some (if n == 0 then NoLiveReplica else if n == 1 then Highest else if nat_lt (n * 3) repl then VeryUnderReplicated else UnderReplicated)) ≡ Some BadlyDistributed
         → (repl ≤ n) × (q ≡ true)
-    by_tests true f true true true e = (Rattle.std.proofs.lemmas.Bool.leb-true repl n f, refl)
+    by_tests true f true true true e = (leb-true repl n f, refl)
     by_tests true f true true false e = absurd (false≢true (ap is_some e))
     by_tests true f true false r e = absurd (false≢true (ap is_some e))
     by_tests true f false q r e = absurd (false≢true (ap is_some e))

@@ -1,13 +1,16 @@
 -- Laws of the surplus.
-use Rattle.std.specs.Prelude.{◌≡◌, ℕ, ◌-◌, ◌≤◌, Bool, true, not, filter, length, Option, Some}
+use Rattle.std.specs.Prelude.{◌≡◌, ℕ, ◌-◌, ◌≤◌, Bool, true, false, not, filter, length, Option, Some}
 use Rattle.std.specs.List.{list_any}
+use Rattle.bm_base.specs.declared.replica.ReplicaId.{ReplicaId}
+use Rattle.bm_base.specs.declared.replica.Marks.{Marks}
 use Rattle.bm_base.specs.declared.replica.BlockInfo.{BlockInfo}
 use Rattle.bm_base.specs.Map.{get}
-use Rattle.bm_base.specs.State.{State}
+use Rattle.bm_base.specs.State.{State, replica_at}
 use Rattle.bm_base.specs.Lists.{has}
-use Rattle.bm_base.specs.Excess.{share_rack, has_rack_mate}
+use Rattle.bm_base.specs.Replicas.{is_good}
+use Rattle.bm_base.specs.Excess.{started, share_rack, has_rack_mate}
 use Rattle.bm_base.specs.Lawful.{IsLawful}
-use Rattle.laws_of_rounds.specs.Words.{live_unmarked, live_marked}
+use Rattle.laws_of_rounds.specs.Words.{live_unmarked, live_marked, live_after}
 
 -- once a round has marked, a known block has at most its replication live
 abbrev pub AtMostReplicationIsLive : Type 0
@@ -19,7 +22,13 @@ SurplusIsMarked =
     (M : State) (b : ℕ) (i : BlockInfo) → get M.holdings.blocks b ≡ Some i
     → length (filter (λ s. not (has (live_marked M b) s)) (live_unmarked M b)) ≡ length (live_unmarked M b) - i.repl
 
--- and makes none live
+-- So a round leaves as many live as are wanted, or all where there are no more than that.
+abbrev pub RoundLeavesEnoughLive : Type 0
+RoundLeavesEnoughLive =
+    (M : State) (b : ℕ) (i : BlockInfo) → get M.holdings.blocks b ≡ Some i
+    → (i.repl ≤ length (live_unmarked M b) → length (live_after M b) ≡ i.repl) × (length (live_unmarked M b) ≤ i.repl → live_after M b ≡ live_unmarked M b)
+
+-- It makes none live
 abbrev pub MarkingMakesNoneLive : Type 0
 MarkingMakesNoneLive = (M : State) (b s : ℕ) → has (live_marked M b) s ≡ true → has (live_unmarked M b) s ≡ true
 
@@ -29,3 +38,23 @@ LastOfRackStays =
     (M : State) (b s t : ℕ) → IsLawful M → has (live_unmarked M b) s ≡ true
     → has (live_marked M b) t ≡ true → has_rack_mate M.cluster (live_marked M b) t ≡ true
     → list_any (share_rack M.cluster s) (live_marked M b) ≡ true
+
+-- Marks.
+
+-- A replica in excess of which the delete was commanded stays in excess.
+abbrev pub OrderedExcessStays : Type 0
+OrderedExcessStays =
+    (M : State) (q : ReplicaId) (m : Marks) → get M.holdings.replicas q ≡ Some m → m.ordered ≡ true → m.excess ≡ true
+    → (n : Marks) × (get (started M).holdings.replicas q ≡ Some n) × (n.excess ≡ true)
+
+-- What else is in excess once a round has marked was live before, whatever an earlier round marked.
+abbrev pub OtherExcessIsNew : Type 0
+OtherExcessIsNew =
+    (M : State) (q : ReplicaId) (n : Marks) → get (started M).holdings.replicas q ≡ Some n → n.ordered ≡ false → n.excess ≡ true
+    → (has (live_unmarked M q.block) q.storage ≡ true) × (has (live_marked M q.block) q.storage ≡ false)
+
+-- A good replica in excess of which no delete was commanded counts as live before a round marks.
+abbrev pub UnorderedExcessCountsAgain : Type 0
+UnorderedExcessCountsAgain =
+    (M : State) (b s : ℕ) (m : Marks) → get M.holdings.replicas (replica_at b s) ≡ Some m → is_good m.tag ≡ true → m.ordered ≡ false
+    → has (live_unmarked M b) s ≡ true

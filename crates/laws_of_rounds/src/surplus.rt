@@ -21,3 +21,23 @@ pub fn marking_makes_none_live()
 pub fn last_of_rack_stays()
     ensures { law.LastOfRackStays }
 {}
+
+/// A round leaves of each known block as many live replicas as are wanted, or all of them where there are no more than that.
+pub fn round_leaves_enough_live()
+    ensures { law.RoundLeavesEnoughLive }
+{}
+
+/// A replica in excess of which the delete was commanded stays in excess as a round marks.
+pub fn ordered_excess_stays()
+    ensures { law.OrderedExcessStays }
+{}
+
+/// What else is in excess once a round has marked was live before it marked.
+pub fn other_excess_is_new()
+    ensures { law.OtherExcessIsNew }
+{}
+
+/// A good replica of which no delete was commanded counts as live before a round marks, though an earlier round marked it.
+pub fn unordered_excess_counts_again()
+    ensures { law.UnorderedExcessCountsAgain }
+{}
