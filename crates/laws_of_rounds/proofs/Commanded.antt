@@ -18,7 +18,7 @@ use Rattle.bm_base.specs.Excess.{begun, started}
 use Rattle.bm_base.specs.Transfers.{transfers}
 use Rattle.bm_base.specs.Deletes.{has_enough_live, is_deletable, deletable_on, deletes_of, deletes}
 use Rattle.bm_base.specs.Rounds.{finished, is_commanded, whole_round, commands_of, node_commands, has_commands}
-use Rattle.laws_of_rounds.specs.Words.{deletes_commanded, transfers_commanded, IsDeleteCommanded}
+use Rattle.laws_of_rounds.specs.Words.{deletes_commanded, transfers_commanded}
 use Rattle.laws_of_rounds.proofs.Listed.{Each, each_all, each_append, each_take, each_map, each_filter_by, each_weaker, each_flat_map, each_any, or_left, or_right, same_again, any_weaker, and_first, and_second}
 use Rattle.laws_of_rounds.proofs.Stands.{found_replicas}
 
@@ -102,8 +102,12 @@ at_same d q e =
     let b : d.block ≡ q.block = eqb-true d.block q.block (and_second (d.storage == q.storage) (d.block == q.block) e) in
     λ j. record { block = b j; storage = s j }
 
+-- the test by which a replica is among those that the next round commands to delete
+abbrev pub IsTested : State → ReplicaId → Type 0
+IsTested M q = is_commanded (deletes_commanded M) q ≡ true
+
 -- what a commanded delete is of
-pub deleted_is : (M : State) (q : ReplicaId) → IsDeleteCommanded M q → (m : Marks) × (get (started M).holdings.replicas q ≡ Some m) × (is_deletable M.cluster (started M).holdings q m ≡ true)
+pub deleted_is : (M : State) (q : ReplicaId) → IsTested M q → (m : Marks) × (get (started M).holdings.replicas q ≡ Some m) × (is_deletable M.cluster (started M).holdings q m ≡ true)
 unfolding is_commanded started begun
 deleted_is M q h =
     let found = each_any (IsChosen M.cluster (started M).holdings) (λ d. (d.storage == q.storage) && (d.block == q.block)) (deletes_commanded M)

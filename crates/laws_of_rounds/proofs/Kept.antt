@@ -16,11 +16,11 @@ use Rattle.bm_base.specs.Excess.{begun, started, without_expired, without_unorde
 use Rattle.bm_base.specs.Deletes.{has_enough_live, is_deletable}
 use Rattle.bm_base.specs.Lawful.{IsLawful}
 use Rattle.bm_base.proofs.MapLaws.{get-revise}
-use Rattle.laws_of_rounds.specs.Words.{IsDeleteCommanded, unmarked, live_unmarked, live_marked, live_after}
+use Rattle.laws_of_rounds.specs.Words.{unmarked, live_unmarked, live_marked, live_after}
 use Rattle.laws_of_rounds.proofs.Listed.{or_left, same_again, some_same}
 use Rattle.laws_of_rounds.proofs.Stands.{has_where}
 use Rattle.laws_of_rounds.proofs.Marked.{unordered_dropped, marked_in, after_marked, excess_known, marked_count}
-use Rattle.laws_of_rounds.proofs.Commanded.{deleted_is}
+use Rattle.laws_of_rounds.proofs.Commanded.{IsTested, deleted_is}
 
 -- Tests.
 
@@ -126,7 +126,7 @@ module _ (M : State) (b s : ℕ) (i : BlockInfo) (lawful : IsLawful M) (known : 
   no_stray : (n : Marks) → get M.holdings.replicas (replica_at b s) ≡ Some n → is_stray n.tag ≡ true → ⊥
   no_stray n found e = true≢false (sym e ∙ lawful.holdings.strays (replica_at b s) n found ∙ ap (λ o. not (is_some o)) known)
 
-  pub enough_left : IsDeleteCommanded M (replica_at b s) → i.repl ≤ length (live_marked M b)
+  pub enough_left : IsTested M (replica_at b s) → i.repl ≤ length (live_marked M b)
   enough_left h =
       let is = deleted_is M (replica_at b s) h in
       let was = marks_before M (replica_at b s) is.0 is.1 in
@@ -141,7 +141,7 @@ module _ (M : State) (b s : ℕ) (i : BlockInfo) (lawful : IsLawful M) (known : 
       of_kind n found o (inr (inl excess)) = surplus_leaves (remarked_excess (surplus_of M b) s n o excess)
       of_kind n found o (inr (inr corrupt)) = enough_of corrupt.1
 
-  pub enough_stay : IsDeleteCommanded M (replica_at b s) → (1 ≤ i.repl) × (i.repl ≤ length (live_after M b))
+  pub enough_stay : IsTested M (replica_at b s) → (1 ≤ i.repl) × (i.repl ≤ length (live_after M b))
   enough_stay h = ((lawful.holdings.replicated b i known).0, subst (λ xs. i.repl ≤ length xs) (sym (after_marked M b)) (enough_left h))
 
 pub weaker_kind : (m : Marks) (enough : Bool) → (is_stray m.tag ≡ true) ⊎ ((m.excess ≡ true) ⊎ ((is_corrupt m.tag ≡ true) × (enough ≡ true))) → (is_stray m.tag ≡ true) ⊎ ((m.excess ≡ true) ⊎ (is_corrupt m.tag ≡ true))
@@ -149,7 +149,7 @@ weaker_kind m enough (inl h) = inl h
 weaker_kind m enough (inr (inl h)) = inr (inl h)
 weaker_kind m enough (inr (inr h)) = inr (inr h.0)
 
-pub live_stays : (M : State) (b t : ℕ) → has (live_after M b) t ≡ true → IsDeleteCommanded M (replica_at b t) → ⊥
+pub live_stays : (M : State) (b t : ℕ) → has (live_after M b) t ≡ true → IsTested M (replica_at b t) → ⊥
 live_stays M b t there h =
     let is = deleted_is M (replica_at b t) h in
     let marks = deleted_marks M (replica_at b t) is.0 is.2 in
@@ -162,9 +162,9 @@ some_first : (xs : List ℕ) → 1 ≤ length xs → (t : ℕ) × (has xs t ≡ 
 some_first [] h = absurd (omega arith)
 some_first (x ∷ xs) h = (x, or_left (x == x) (has xs x) (same_again x))
 
-pub one_stays : (M : State) (b s : ℕ) (i : BlockInfo) → IsLawful M → get M.holdings.blocks b ≡ Some i → IsDeleteCommanded M (replica_at b s)
-    → (t : ℕ) × (has (live_after M b) t ≡ true) × (IsDeleteCommanded M (replica_at b t) → ⊥) × (t ≡ s → ⊥)
+pub one_stays : (M : State) (b s : ℕ) (i : BlockInfo) → IsLawful M → get M.holdings.blocks b ≡ Some i → IsTested M (replica_at b s)
+    → (t : ℕ) × (has (live_after M b) t ≡ true) × (IsTested M (replica_at b t) → ⊥) × (t ≡ s → ⊥)
 one_stays M b s i lawful known h =
     let enough = enough_stay M b s i lawful known h in
     let one = some_first (live_after M b) (omega (arith, enough.0, enough.1)) in
-    (one.0, one.1, live_stays M b one.0 one.1, λ e. live_stays M b one.0 one.1 (subst (λ z. IsDeleteCommanded M (replica_at b z)) (sym e) h))
+    (one.0, one.1, live_stays M b one.0 one.1, λ e. live_stays M b one.0 one.1 (subst (λ z. IsTested M (replica_at b z)) (sym e) h))

@@ -15,11 +15,11 @@ use Rattle.bm_base.specs.Excess.{begun, started, marked, without_expired, withou
 use Rattle.bm_base.specs.Rounds.{finished, is_commanded, whole_round}
 use Rattle.bm_base.proofs.MapLaws.{get-revise, get-keep, get-insert}
 use Rattle.bm_base.proofs.Ties.{replica_tie}
-use Rattle.laws_of_rounds.specs.Words.{IsDeleteCommanded, IsTransferCommanded, IsAmong, deletes_commanded, transfers_commanded, transfers_chosen, after_round}
+use Rattle.laws_of_rounds.specs.Words.{IsTransferCommanded, IsAmong, deletes_commanded, transfers_commanded, transfers_chosen, after_round}
 use Rattle.laws_of_rounds.specs.Rounds.{after_rounds}
 use Rattle.laws_of_rounds.proofs.Listed.{Each, each_any, each_weaker, any_weaker, or_left, or_right, same_again, eq_turned}
 use Rattle.laws_of_rounds.proofs.Stands.{same_key}
-use Rattle.laws_of_rounds.proofs.Commanded.{chosen_deletes_of, each_delete, each_transfer, at_same}
+use Rattle.laws_of_rounds.proofs.Commanded.{IsTested, chosen_deletes_of, each_delete, each_transfer, at_same}
 use Rattle.laws_of_rounds.proofs.Kept.{marks_started, remarked, remarked_ordered, surplus_of, from_some}
 use Rattle.laws_of_rounds.proofs.Marked.{ordered_by}
 use Rattle.laws_of_rounds.proofs.Reasons.{not_ordered}
@@ -62,7 +62,7 @@ commanded_itself : (ds : List Delete) → Each (λ (d : Delete). is_commanded ds
 unfolding is_commanded
 commanded_itself ds = each_is_commanded ds ds (λ d h. h)
 
-pub delete_chosen : (M : State) (q : ReplicaId) → IsDeleteCommanded M q → is_commanded (chosen_deletes_of M) q ≡ true
+pub delete_chosen : (M : State) (q : ReplicaId) → IsTested M q → is_commanded (chosen_deletes_of M) q ≡ true
 unfolding is_commanded
 delete_chosen M q h =
     let found = each_any (λ (d : Delete). is_commanded (chosen_deletes_of M) (replica_at d.block d.storage) ≡ true) (λ d. (d.storage == q.storage) && (d.block == q.block)) (deletes_commanded M)
@@ -89,7 +89,7 @@ ordered_still : (t : Bool) (m : Marks) → m.ordered ≡ true → (if t then rec
 ordered_still true m e = refl
 ordered_still false m e = e
 
-pub ordered_by_round : (M : State) (q : ReplicaId) → IsDeleteCommanded M q → IsOrdered (after_round M) q
+pub ordered_by_round : (M : State) (q : ReplicaId) → IsTested M q → IsOrdered (after_round M) q
 ordered_by_round M q h m e =
     let was = from_some (ordered_by (chosen_deletes_of M) q) (get (started M).holdings.replicas q) m (sym (marks_after M q) ∙ e) in
     ap (λ x. x.ordered) (sym was.2) ∙ ordered_now (is_commanded (chosen_deletes_of M) q) was.0 (delete_chosen M q h)
@@ -105,7 +105,7 @@ ordered_for : (n : ℕ) (M : State) (q : ReplicaId) → IsOrdered M q → IsOrde
 ordered_for zero M q h = h
 ordered_for (suc n) M q h = ordered_stays (after_rounds n M) q (ordered_for n M q h)
 
-pub no_delete_twice : (M : State) (n : ℕ) (q : ReplicaId) → IsDeleteCommanded M q → IsDeleteCommanded (after_rounds n (after_round M)) q → ⊥
+pub no_delete_twice : (M : State) (n : ℕ) (q : ReplicaId) → IsTested M q → IsTested (after_rounds n (after_round M)) q → ⊥
 no_delete_twice M n q h again =
     let is = not_ordered (after_rounds n (after_round M)) q again in
     true≢false (sym (ordered_for n (after_round M) q (ordered_by_round M q h) is.0 is.1) ∙ is.2)
@@ -167,7 +167,7 @@ none_chosen M q r u e young at same node =
     let fresh = fresh_node M at.0 at.1 u at.2 in
     fresh.none_pending q.storage (ap is_some (ap (λ b. get (started M).holdings.pending (replica_at b q.storage)) same ∙ pending_started M q r e young)) node
 
-any_chosen : {X : Type 0} (p : X → Bool) (xs : List X) → list_any p xs ≡ true → (x : X) × IsAmong xs x × (p x ≡ true)
+pub any_chosen : {X : Type 0} (p : X → Bool) (xs : List X) → list_any p xs ≡ true → (x : X) × IsAmong xs x × (p x ≡ true)
 any_chosen p xs e = each_any (IsAmong xs) p xs (each_among xs) e
 
 pub pending_stays : (M : State) (q : ReplicaId) (r : ℕ) → get M.holdings.pending q ≡ Some r → (M.round + 1) - r < M.limits.pend → get (after_round M).holdings.pending q ≡ Some r

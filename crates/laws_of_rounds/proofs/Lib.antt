@@ -15,3 +15,5 @@ pub mod Wished
 pub mod Later
 pub mod Ordered
 pub mod Told
+pub mod Tested
+pub mod Lively

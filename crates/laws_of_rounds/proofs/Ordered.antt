@@ -31,10 +31,10 @@ use Rattle.bm_base.specs.Rounds.{is_commanded, whole_round}
 use Rattle.bm_base.specs.Refusals.{refusal_of, round_refusal, storage_refusal, block_refusal}
 use Rattle.bm_base.specs.Calls.{after_event, refused_or, step_with, step, state_after}
 use Rattle.bm_base.proofs.MapLaws.{get-empty, get-insert, get-keep, get-revise, get-remove}
-use Rattle.laws_of_rounds.specs.Words.{after_round, IsDeleteCommanded}
+use Rattle.laws_of_rounds.specs.Words.{after_round}
 use Rattle.laws_of_rounds.proofs.Listed.{each_any, and_never, some_same}
 use Rattle.laws_of_rounds.proofs.Marked.{marked_in, unordered_dropped, ordered_by}
-use Rattle.laws_of_rounds.proofs.Commanded.{IsChosen, chosen_deletes, chosen_deletes_of, at_same}
+use Rattle.laws_of_rounds.proofs.Commanded.{IsTested, IsChosen, chosen_deletes, chosen_deletes_of, at_same}
 use Rattle.laws_of_rounds.proofs.Kept.{one_stays, remarked, surplus_of, marks_started, from_some, deleted_marks, live_is_kept, weaker_kind}
 use Rattle.laws_of_rounds.proofs.Later.{marks_after}
 use Rattle.laws_of_rounds.proofs.Stands.{has_where}
@@ -217,7 +217,7 @@ mark_of : (p : Marks → Bool) (o : Option Marks) → option_map_or p o false �
 mark_of p None e = absurd (false≢true e)
 mark_of p (Some m) e = (m, refl, e)
 
-pub good_stays : (M : State) (b s : ℕ) (i : BlockInfo) → IsDoneState M → IsLawful M → get M.holdings.blocks b ≡ Some i → IsDeleteCommanded M (replica_at b s)
+pub good_stays : (M : State) (b s : ℕ) (i : BlockInfo) → IsDoneState M → IsLawful M → get M.holdings.blocks b ≡ Some i → IsTested M (replica_at b s)
     → (t : ℕ) × (m : Marks) × (get (after_round M).holdings.replicas (replica_at b t) ≡ Some m) × (is_good m.tag ≡ true) × (m.excess ≡ false) × (m.ordered ≡ false)
 good_stays M b s i done lawful known h =
     let one = one_stays M b s i lawful known h in

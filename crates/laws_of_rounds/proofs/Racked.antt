@@ -15,14 +15,14 @@ use Rattle.bm_base.specs.Map.{get, contains_key}
 use Rattle.bm_base.specs.State.{Cluster, State, replica_at}
 use Rattle.bm_base.specs.Lists.{has, has_repeats, least}
 use Rattle.bm_base.specs.Replicas.{is_live, rack_of, node_of}
-use Rattle.bm_base.specs.Excess.{excess_cmp, excess_among, remaining, share_rack, has_rack_mate, excess_in}
+use Rattle.bm_base.specs.Excess.{excess_cmp, excess_among, remaining, share_rack, has_rack_mate, excess_in, started}
 use Rattle.bm_base.specs.Lawful.{IsLawful}
 use Rattle.laws_of_rounds.specs.Words.{unmarked, live_unmarked, live_marked}
 use Rattle.laws_of_rounds.proofs.Listed.{Each, each_any, any_weaker, count_without, has_filter, once_filter, filter_filter, or_left, or_right, same_again, and_second, some_same}
 use Rattle.laws_of_rounds.proofs.Stands.{has_where, once_where}
 use Rattle.laws_of_rounds.proofs.Surpluses.{kept_of, others, others_fewer, kept_step, chosen_first, least_among, least_there}
 use Rattle.laws_of_rounds.proofs.Marked.{marked_is, marked_unmarked, unordered_dropped}
-use Rattle.laws_of_rounds.proofs.Reasons.{marks_unmarked, none_unknown}
+use Rattle.laws_of_rounds.proofs.Reasons.{marks_unmarked, none_unknown, none_made_live}
 
 -- The least of a list has the least class, where the class is compared first.
 
@@ -93,6 +93,21 @@ share_other : (C : Cluster) (s t : ℕ) → share_rack C s t ≡ true → share_
 unfolding share_rack
 share_other C s t e = share_other_by (rack_of C s) (rack_of C t) e
 
+pub share_is : (C : Cluster) (s u : ℕ) → share_rack C s u ≡ true → (r : ℕ) × (rack_of C s ≡ Some r) × (rack_of C u ≡ Some r)
+unfolding share_rack
+share_is C s u = elim (rack_of C s) as (λ o. option_map_or (λ r. option_map_or (λ q. q == r) (rack_of C u) false) o false ≡ true → (r : ℕ) × (o ≡ Some r) × (rack_of C u ≡ Some r)) [
+  | None ↦ λ e. absurd (false≢true e)
+  | Some r ↦ (elim (rack_of C u) as (λ o. option_map_or (λ q. q == r) o false ≡ true → (x : ℕ) × (Some r ≡ Some x) × (o ≡ Some x)) [
+    | None ↦ λ e. absurd (false≢true e)
+    | Some q ↦ λ e. (r, refl, ap Some (eqb-true q r e))
+  ])
+]
+
+pub share_of : (C : Cluster) (s u r : ℕ) → rack_of C s ≡ Some r → rack_of C u ≡ Some r → share_rack C s u ≡ true
+unfolding share_rack
+share_of C s u r e f =
+    ap (λ o. option_map_or (λ a. option_map_or (λ q. q == a) (rack_of C u) false) o false) e ∙ ap (λ o. option_map_or (λ q. q == r) o false) f ∙ same_again r
+
 -- one of some passes
 pub some_passing : (p : ℕ → Bool) (xs : List ℕ) → list_any p xs ≡ true → (y : ℕ) × (has xs y ≡ true) × (p y ≡ true)
 some_passing p [] e = absurd (false≢true e)
@@ -129,6 +144,10 @@ module _ (C : Cluster) where
   mate_count : (candidates : List ℕ) (s : ℕ) → has_rack_mate C candidates s ≡ nat_lt 1 (mates candidates s)
   unfolding has_rack_mate mates
   mate_count candidates s = ap (nat_lt 1) (sym (length-filter (share_rack C s) candidates))
+
+  mates_are : (candidates : List ℕ) (s : ℕ) → 2 ≤ length (filter (share_rack C s) candidates) → 2 ≤ mates candidates s
+  unfolding mates
+  mates_are candidates s h = h
 
   mate_of : (candidates : List ℕ) (s : ℕ) → has_rack_mate C candidates s ≡ true → 2 ≤ mates candidates s
   mate_of candidates s e = ltb-true 1 (mates candidates s) (sym (mate_count candidates s) ∙ e)
@@ -249,9 +268,9 @@ live_on_rack M b s lawful h =
     let node = some_again (get M.cluster.nodes storage.0.node) (lawful.cluster.alive s storage.0 storage.1) in
     rack_known M.cluster s node.0 storage.0 storage.1 node.1
 
-pub last_stays : (M : State) (b s t : ℕ) → IsLawful M → has (live_unmarked M b) s ≡ true → has (live_marked M b) t ≡ true → has_rack_mate M.cluster (live_marked M b) t ≡ true
+shared_stays : (M : State) (b s t : ℕ) → IsLawful M → has (live_unmarked M b) s ≡ true → has (live_marked M b) t ≡ true → has_rack_mate M.cluster (live_marked M b) t ≡ true
     → list_any (share_rack M.cluster s) (live_marked M b) ≡ true
-last_stays M b s t lawful there has_t mate = by_info (get M.holdings.blocks b) refl
+shared_stays M b s t lawful there has_t mate = by_info (get M.holdings.blocks b) refl
   where
     of_count : (k : ℕ) → live_marked M b ≡ kept_of (excess_among M.cluster k (live_unmarked M b)) (live_unmarked M b) → list_any (share_rack M.cluster s) (live_marked M b) ≡ true
     of_count k is =
@@ -261,3 +280,31 @@ last_stays M b s t lawful there has_t mate = by_info (get M.holdings.blocks b) r
     by_info : (o : Option BlockInfo) → get M.holdings.blocks b ≡ o → list_any (share_rack M.cluster s) (live_marked M b) ≡ true
     by_info None e = of_count 0 (marked_unmarked M b ∙ ap (λ xs. kept_of xs (live_unmarked M b)) (none_unknown M b e))
     by_info (Some i) e = of_count (length (live_unmarked M b) - i.repl) (marked_is M b i e)
+
+two_pass : (p : ℕ → Bool) (xs : List ℕ) (t u : ℕ) → has_repeats xs ≡ false → has xs t ≡ true → has xs u ≡ true → p t ≡ true → p u ≡ true → (t ≡ u → ⊥) → 2 ≤ length (filter p xs)
+two_pass p xs t u once at_t at_u pass_t pass_u apart =
+    let count : length (filter p (others t xs)) + 1 ≡ length (filter p xs) = ap (λ b. length (filter p (others t xs)) + cond b 1 0) (sym pass_t) ∙ count_without p t xs once at_t in
+    let other : has (others t xs) u ≡ true = has_filter (λ z. not (z == t)) xs u ∙ ap (λ b. not b && has xs u) (not_same (u == t) refl) ∙ at_u in
+    let one = some_filtered p (others t xs) u other pass_u in
+    omega (arith, count, one)
+  where
+    not_same : (b : Bool) → (u == t) ≡ b → (u == t) ≡ false
+    not_same true e = absurd (apart (sym (eqb-true u t e)))
+    not_same false e = e
+    some_filtered : (q : ℕ → Bool) (ys : List ℕ) (y : ℕ) → has ys y ≡ true → q y ≡ true → 1 ≤ length (filter q ys)
+    some_filtered q ys y there e = long (filter q ys) (has_filter q ys y ∙ ap (λ b. b && has ys y) e ∙ there)
+      where
+        long : (zs : List ℕ) → has zs y ≡ true → 1 ≤ length zs
+        long [] h = absurd (false≢true h)
+        long (z ∷ zs) h = omega arith
+
+pub last_stays : (M : State) (b s t u : ℕ) → IsLawful M → has (live_unmarked M b) s ≡ true → has (live_marked M b) t ≡ true → has (live_marked M b) u ≡ true → (t ≡ u → ⊥)
+    → rack_of M.cluster t ≡ rack_of M.cluster u → (v : ℕ) × (has (live_marked M b) v ≡ true) × (rack_of M.cluster v ≡ rack_of M.cluster s)
+last_stays M b s t u lawful there at_t at_u apart same =
+    let C : Cluster = M.cluster in
+    let rack = share_is C t t (live_on_rack M b t lawful (none_made_live M b t at_t)) in
+    let mate : has_rack_mate C (live_marked M b) t ≡ true =
+      of_mate C (live_marked M b) t (mates_are C (live_marked M b) t (two_pass (share_rack C t) (live_marked M b) t u (once_where is_live (started M).holdings b) at_t at_u (share_of C t t rack.0 rack.1 rack.1) (share_of C t u rack.0 rack.1 (sym same ∙ rack.1)) apart)) in
+    let left = some_passing (share_rack C s) (live_marked M b) (shared_stays M b s t lawful there at_t mate) in
+    let racks = share_is C s left.0 left.2 in
+    (left.0, left.1, racks.2 ∙ sym racks.1)

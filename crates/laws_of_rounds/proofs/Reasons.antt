@@ -16,22 +16,22 @@ use Rattle.bm_base.specs.Excess.{begun, started, without_expired, without_unorde
 use Rattle.bm_base.specs.Deletes.{has_enough_live}
 use Rattle.bm_base.specs.Lawful.{IsLawful}
 use Rattle.bm_base.proofs.MapLaws.{get-revise}
-use Rattle.laws_of_rounds.specs.Words.{IsDeleteCommanded, unmarked, live_unmarked, live_marked, live_after}
+use Rattle.laws_of_rounds.specs.Words.{unmarked, live_unmarked, live_marked, live_after}
 use Rattle.laws_of_rounds.specs.Deletes.{MayBeDeleted}
 use Rattle.laws_of_rounds.proofs.Listed.{has_filter, or_left, or_right, same_again, and_first, and_second, some_same}
 use Rattle.laws_of_rounds.proofs.Stands.{has_where}
 use Rattle.laws_of_rounds.proofs.Surpluses.{kept_of, chosen_among}
 use Rattle.laws_of_rounds.proofs.Marked.{marked_unmarked, marked_count, marked_is, after_marked, excess_known, unordered_dropped}
-use Rattle.laws_of_rounds.proofs.Commanded.{deleted_is}
+use Rattle.laws_of_rounds.proofs.Commanded.{IsTested, deleted_is}
 use Rattle.laws_of_rounds.proofs.Kept.{deleted_marks, marks_before, marks_started, remarked_excess, remarked, remarked_ordered, remarked_tag, surplus_of, weaker_kind}
 
-pub may_be_deleted : (M : State) (q : ReplicaId) → IsDeleteCommanded M q → MayBeDeleted M q
+pub may_be_deleted : (M : State) (q : ReplicaId) → IsTested M q → MayBeDeleted M q
 may_be_deleted M q h =
     let is = deleted_is M q h in
     let marks = deleted_marks M q is.0 is.2 in
     record { marks = is.0; is_there = is.1; not_ordered = marks.0; kind = weaker_kind is.0 (has_enough_live M.cluster (started M).holdings q.block) marks.1 }
 
-pub not_ordered : (M : State) (q : ReplicaId) → IsDeleteCommanded M q → (m : Marks) × (get M.holdings.replicas q ≡ Some m) × (m.ordered ≡ false)
+pub not_ordered : (M : State) (q : ReplicaId) → IsTested M q → (m : Marks) × (get M.holdings.replicas q ≡ Some m) × (m.ordered ≡ false)
 not_ordered M q h =
     let is = deleted_is M q h in
     let was = marks_before M q is.0 is.1 in
@@ -99,7 +99,7 @@ corrupt_only Bad excess enough c g (inl h) = absurd (false≢true h)
 corrupt_only Bad excess enough c g (inr (inl h)) = absurd (false≢true (g h))
 corrupt_only Bad excess enough c g (inr (inr h)) = h.1
 
-pub corrupt_waits : (M : State) (q : ReplicaId) (m : Marks) → IsLawful M → IsDeleteCommanded M q → get (started M).holdings.replicas q ≡ Some m → is_corrupt m.tag ≡ true
+pub corrupt_waits : (M : State) (q : ReplicaId) (m : Marks) → IsLawful M → IsTested M q → get (started M).holdings.replicas q ≡ Some m → is_corrupt m.tag ≡ true
     → (i : BlockInfo) × (get M.holdings.blocks q.block ≡ Some i) × (i.repl ≤ length (live_marked M q.block))
 corrupt_waits M q m lawful h found corrupt =
     let is = deleted_is M q h in

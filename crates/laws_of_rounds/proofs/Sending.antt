@@ -23,7 +23,7 @@ use Rattle.bm_base.specs.Excess.{begun, started, marked, without_expired, withou
 use Rattle.bm_base.specs.Transfers.{pending_targets, streams_from, scheduled_to, stream_limit, targets_of, holders_of, barred_for, is_barred, is_target, class_of}
 use Rattle.bm_base.specs.Replicas.{racks}
 use Rattle.bm_base.specs.Rounds.{whole_round, commands_of, node_commands, has_commands}
-use Rattle.laws_of_rounds.specs.Words.{transfers_chosen, transfers_commanded, live_marked}
+use Rattle.laws_of_rounds.specs.Words.{IsAmong, transfers_chosen, transfers_commanded, live_marked}
 use Rattle.laws_of_rounds.specs.Transfers.{IsFreshNode}
 use Rattle.laws_of_rounds.proofs.Listed.{Each, each_weaker, any_append, or_left, or_right, same_again, filter_append, length_append, filter_filter, any_map, any_filter, length_filter-le}
 use Rattle.laws_of_rounds.proofs.Stands.{has_where, has_listed, listed}
@@ -285,6 +285,19 @@ barred_target H front b s e =
     any_append (λ y. y == s) (storages_where (λ _. true) H b ++ pending_targets H b) (targets_of front b)
     ∙ or_right (has (storages_where (λ _. true) H b ++ pending_targets H b) s) (has (targets_of front b) s) e
 
+any_at : {X : Type 0} (p : X → Bool) (front back : List X) (x : X) → p x ≡ true → list_any p (front ++ x ∷ back) ≡ true
+any_at p [] back x e = or_left (p x) (list_any p back) e
+any_at p (y ∷ front) back x e = or_right (p y) (list_any p (front ++ x ∷ back)) (any_at p front back x e)
+
+among_targets : (front : List Transfer) (u : Transfer) (b : ℕ) → IsAmong front u → u.block ≡ b → has (targets_of front b) u.target ≡ true
+unfolding targets_of
+among_targets front u b there same =
+    any_map (λ s. s == u.target) (λ (t : Transfer). t.target) (filter (λ (t : Transfer). t.block == b) front)
+    ∙ any_filter (λ (t : Transfer). t.target == u.target) (λ (t : Transfer). t.block == b) front
+    ∙ subst (λ ts. list_any (λ (t : Transfer). (t.block == b) && (t.target == u.target)) ts ≡ true) (sym there.2)
+    (any_at (λ (t : Transfer). (t.block == b) && (t.target == u.target)) there.0 there.1 u
+    (ap (λ z. (u.block == z) && (u.target == u.target)) (sym same) ∙ ap (λ c. c && (u.target == u.target)) (same_again u.block) ∙ same_again u.target))
+
 mapped_there : {X Y : Type 0} (f : X → Y) (o : Option X) → is_some o ≡ true → is_some (option_map f o) ≡ true
 mapped_there f None e = e
 mapped_there f (Some x) e = refl
@@ -301,7 +314,7 @@ fresh_node M front back t is =
       no_replica = λ s there. not_barred M.cluster (barred_for H front t.block) t.target s known.0 parts.1.0 known.1
           (barred_replica H front t.block s (ap is_some (marks_started M (replica_at t.block s)) ∙ mapped_there _ (get M.holdings.replicas (replica_at t.block s)) there));
       none_pending = λ s there. not_barred M.cluster (barred_for H front t.block) t.target s known.0 parts.1.0 known.1 (barred_pending H front t.block s (has_pending H t.block s ∙ there));
-      no_other = λ s there. not_barred M.cluster (barred_for H front t.block) t.target s known.0 parts.1.0 known.1 (barred_target H front t.block s there);
+      no_other = λ u there same. not_barred M.cluster (barred_for H front t.block) t.target u.target known.0 parts.1.0 known.1 (barred_target H front t.block u.target (among_targets front u t.block there same));
     }
 
 sent_more : (C : Cluster) (limits : RoundLimits) (H : Holdings) (s : ℕ) (front : List Transfer) (t : Transfer) → scheduled_to front s ≤ remaining C s → IsChosenAfter limits C H front t
@@ -328,7 +341,11 @@ nothing_sent : (s n : ℕ) → scheduled_to [] s ≤ n
 unfolding scheduled_to
 nothing_sent s n = omega arith
 
-pub sent_fits : (M : State) (s : ℕ) → scheduled_to (transfers_chosen M) s ≤ remaining M.cluster s
-sent_fits M s =
+sent_remaining : (M : State) (s : ℕ) → scheduled_to (transfers_chosen M) s ≤ remaining M.cluster s
+sent_remaining M s =
     after_whole (IsChosenAfter M.limits M.cluster (started M).holdings) (λ ts. scheduled_to ts s ≤ remaining M.cluster s)
     (sent_more M.cluster M.limits (started M).holdings s) [] (transfers_chosen M) (nothing_sent s (remaining M.cluster s)) (each_of M)
+
+pub sent_fits : (M : State) (s : ℕ) (i : StorageInfo) → get M.cluster.storages s ≡ Some i → sum_by (λ (t : Transfer). if t.target == s then t.stamp.len else 0) (transfers_chosen M) ≤ i.remaining
+unfolding scheduled_to remaining
+sent_fits M s i known = subst (λ o. scheduled_to (transfers_chosen M) s ≤ option_map_or (λ j. j.remaining) o 0) known (sent_remaining M s)

@@ -21,11 +21,11 @@ use Rattle.bm_base.specs.Transfers.{streams_from}
 use Rattle.bm_base.specs.Deletes.{deletes_of, deletes}
 use Rattle.bm_base.specs.Lawful.{IsLawful}
 use Rattle.bm_base.specs.Rounds.{whole_round, commands_of, node_commands, has_commands, is_commanded}
-use Rattle.laws_of_rounds.specs.Words.{IsAmong, IsDeleteCommanded, IsTransferCommanded, deletes_commanded, transfers_commanded, transfers_chosen, after_round}
+use Rattle.laws_of_rounds.specs.Words.{IsAmong, IsTransferCommanded, deletes_commanded, transfers_commanded, transfers_chosen, after_round}
 use Rattle.laws_of_rounds.proofs.Listed.{Each, each_all, each_weaker, each_filter_by, each_flat_map, each_any, or_left, or_right, same_again, some_same}
 use Rattle.laws_of_rounds.proofs.Stands.{has_where}
 use Rattle.laws_of_rounds.proofs.Grouped.{has_keys, each_node, each_on_node, all_of_each}
-use Rattle.laws_of_rounds.proofs.Commanded.{chosen_deletes_of, deleted_is, at_same}
+use Rattle.laws_of_rounds.proofs.Commanded.{IsTested, chosen_deletes_of, deleted_is, at_same}
 use Rattle.laws_of_rounds.proofs.Kept.{marks_started, marks_before, remarked, remarked_ordered, surplus_of, from_some}
 use Rattle.laws_of_rounds.proofs.Marked.{ordered_by}
 use Rattle.laws_of_rounds.proofs.Sending.{node_is, storage_is, streams_of_node, two_below, source_live}
@@ -234,15 +234,17 @@ commanded_at q d [] back e = or_left ((d.storage == q.storage) && (d.block == q.
 commanded_at q d (c ∷ front) back e =
     or_right ((c.storage == q.storage) && (c.block == q.block)) (list_any (λ f. (f.storage == q.storage) && (f.block == q.block)) (front ++ d ∷ back)) (commanded_at q d front back e)
 
-delete_told : (M : State) (q : ReplicaId) → is_commanded (chosen_deletes_of M) q ≡ true → IsDeleteCommanded M q
+pub commanded_among : (q : ReplicaId) (d : Delete) (ds : List Delete) → IsAmong ds d → ((d.storage == q.storage) && (d.block == q.block)) ≡ true → list_any (λ e. (e.storage == q.storage) && (e.block == q.block)) ds ≡ true
+commanded_among q d ds at e = subst (λ es. list_any (λ (c : Delete). (c.storage == q.storage) && (c.block == q.block)) es ≡ true) (sym at.2) (commanded_at q d at.0 at.1 e)
+
+delete_told : (M : State) (q : ReplicaId) → is_commanded (chosen_deletes_of M) q ≡ true → IsTested M q
 unfolding is_commanded whole_round started begun
 delete_told M q h =
     let one = each_any (IsAmong (chosen_deletes_of M)) (λ (d : Delete). (d.storage == q.storage) && (d.block == q.block)) (chosen_deletes_of M) (each_among (chosen_deletes_of M)) h in
     let alive = each_is (IsOnAlive M.cluster) (chosen_deletes_of M) one.0 (deletes_alive M.limits M.cluster (started M).holdings) one.1 in
-    let told = told_delete M.cluster (started M).round (transfers_chosen M) (chosen_deletes_of M) alive.0 one.0 alive.1 alive.2 one.1 in
-    subst (λ ds. list_any (λ (d : Delete). (d.storage == q.storage) && (d.block == q.block)) ds ≡ true) (sym told.2) (commanded_at q one.0 told.0 told.1 one.2)
+    commanded_among q one.0 (deletes_commanded M) (told_delete M.cluster (started M).round (transfers_chosen M) (chosen_deletes_of M) alive.0 one.0 alive.1 alive.2 one.1) one.2
 
-pub ordered_after : (M : State) (q : ReplicaId) → IsDeleteCommanded M q → (m : Marks) × (get (after_round M).holdings.replicas q ≡ Some m) × (m.ordered ≡ true)
+pub ordered_after : (M : State) (q : ReplicaId) → IsTested M q → (m : Marks) × (get (after_round M).holdings.replicas q ≡ Some m) × (m.ordered ≡ true)
 ordered_after M q h =
     let is = deleted_is M q h in
     let after : get (after_round M).holdings.replicas q ≡ Some (ordered_by (chosen_deletes_of M) q is.0) = marks_after M q ∙ ap (option_map (ordered_by (chosen_deletes_of M) q)) is.1 in
@@ -252,7 +254,7 @@ newly : (t : Bool) (m : Marks) → m.ordered ≡ false → (if t then record m {
 newly true m e f = refl
 newly false m e f = absurd (false≢true (sym e ∙ f))
 
-pub ordered_told : (M : State) (q : ReplicaId) (m n : Marks) → get M.holdings.replicas q ≡ Some m → m.ordered ≡ false → get (after_round M).holdings.replicas q ≡ Some n → n.ordered ≡ true → IsDeleteCommanded M q
+pub ordered_told : (M : State) (q : ReplicaId) (m n : Marks) → get M.holdings.replicas q ≡ Some m → m.ordered ≡ false → get (after_round M).holdings.replicas q ≡ Some n → n.ordered ≡ true → IsTested M q
 ordered_told M q m n before unordered after ordered =
     let was = from_some (ordered_by (chosen_deletes_of M) q) (get (started M).holdings.replicas q) n (sym (marks_after M q) ∙ after) in
     let first = marks_before M q was.0 was.1 in

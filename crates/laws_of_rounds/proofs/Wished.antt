@@ -1,5 +1,5 @@
 -- A block gets no more transfers than there are wishes for it, and so no more than it lacks.
-use Rattle.std.specs.Prelude.{◌≡◌, ℕ, zero, suc, ◌+◌, ◌*◌, ◌-◌, ◌≤◌, ◌<◌, ◌⊎◌, Bool, true, false, not, ◌&&◌, ◌||◌, ◌==◌, nat_lt, nat_le, if◌then◌else◌, List, [], ◌∷◌, ◌++◌, map, filter, flat_map, length, replicate, Option, Some, None, is_some, option_map, option_and_then, option_to_list}
+use Rattle.std.specs.Prelude.{◌≡◌, ℕ, zero, suc, ◌+◌, ◌*◌, ◌-◌, ◌≤◌, ◌<◌, ◌⊎◌, Bool, true, false, not, ◌&&◌, ◌||◌, ◌==◌, nat_lt, nat_le, if◌then◌else◌, List, [], ◌∷◌, ◌++◌, map, filter, flat_map, length, replicate, count_by, Option, Some, None, is_some, option_map, option_and_then, option_to_list}
 use Rattle.std.specs.Option.{option_map_or}
 use Rattle.std.proofs.Common.{cond, refl, sym, ap, subst, ◌∙◌, arith, inl, inr, append-nil}
 use Rattle.std.proofs.lemmas.Bool.{eqb-true, leb-true, false≢true, true≢false}
@@ -9,7 +9,7 @@ use Rattle.bm_base.specs.declared.level.Level.{Level}
 use Rattle.bm_base.specs.declared.level.Level.TheVariants.{Highest, VeryUnderReplicated, UnderReplicated, BadlyDistributed, NoLiveReplica}
 use Rattle.bm_base.specs.declared.replica.BlockInfo.{BlockInfo}
 use Rattle.bm_base.specs.declared.commands.Transfer.{Transfer}
-use Rattle.bm_base.specs.Map.{get, keys, contains_key}
+use Rattle.bm_base.specs.Map.{get, keys, entries, contains_key}
 use Rattle.bm_base.specs.State.{RoundLimits, Cluster, Holdings, State}
 use Rattle.bm_base.specs.Lists.{has, distinct}
 use Rattle.bm_base.specs.Replicas.{live, racks, rack_of, is_multi_rack}
@@ -17,11 +17,15 @@ use Rattle.bm_base.specs.Levels.{level, level_of, is_at}
 use Rattle.bm_base.specs.Excess.{begun, started, marked, without_expired, without_unordered_excess, share_rack}
 use Rattle.bm_base.specs.Transfers.{WishedCopy, wished_count, wishes_for, wishes, pending_targets, targets_of, holders_of, barred_for, is_on_racks, class_of, is_target, least_source, least_target, transfer_for, transfers_from, transfers}
 use Rattle.laws_of_rounds.specs.Words.{transfers_chosen, live_marked}
+use Rattle.laws_of_rounds.specs.Transfers.{copies_chosen, copies_on_their_way}
+use Rattle.std.proofs.lemmas.List.Sums.{length-filter}
+use Rattle.bm_base.specs.declared.replica.ReplicaId.{ReplicaId}
 use Rattle.laws_of_rounds.proofs.Needs.{level_known}
 use Rattle.laws_of_rounds.proofs.Listed.{Each, each_all, filter_append, length_append, same_again, some_same}
 use Rattle.laws_of_rounds.proofs.Grouped.{grouped, has_keys, once_keys}
 use Rattle.laws_of_rounds.proofs.Choosing.{target_is}
 use Rattle.laws_of_rounds.proofs.Sending.{chosen_at, target_parts}
+use Rattle.laws_of_rounds.proofs.Racked.{share_is, share_of}
 use Rattle.laws_of_rounds.proofs.Sets.{has_distinct, racks_alike, rack_among}
 
 -- Wishes for one block.
@@ -175,16 +179,36 @@ lacks C H b repl n (Some BadlyDistributed) some h = inr (of_pending (length (pen
           | false ↦ λ _ f. absurd (omega (arith, one, f))
         ]) refl few
 
-pub no_more_than_lacks : (M : State) (b : ℕ) (i : BlockInfo) → get M.holdings.blocks b ≡ Some i → 1 ≤ length (targets_of (transfers_chosen M) b)
+no_more_targets : (M : State) (b : ℕ) (i : BlockInfo) → get M.holdings.blocks b ≡ Some i → 1 ≤ length (targets_of (transfers_chosen M) b)
     → (length (live_marked M b) + length (pending_targets (started M).holdings b) + length (targets_of (transfers_chosen M) b) ≤ i.repl)
     ⊎ ((level M.cluster (started M).holdings b ≡ Some BadlyDistributed) × (length (pending_targets (started M).holdings b) ≡ 0) × (length (targets_of (transfers_chosen M) b) ≡ 1))
 unfolding transfers started begun marked without_expired without_unordered_excess
-no_more_than_lacks M b i known some =
+no_more_targets M b i known some =
     let H : Holdings = (started M).holdings in
     let few = no_more_than_wishes M.limits M.cluster H b [] (wishes M.cluster H) in
     let none = count_none b in
     let wanted = wishes_about M.cluster H b i known in
     lacks M.cluster H b i.repl (length (targets_of (transfers_chosen M) b)) (level M.cluster H b) some (omega (arith, few, none, wanted))
+
+copies_targets : (ts : List Transfer) (b : ℕ) → length (targets_of ts b) ≡ count_by (λ (t : Transfer). t.block == b) ts
+unfolding targets_of
+copies_targets ts b = length-map (filter (λ t. t.block == b) ts) (λ t. t.target) ∙ length-filter (λ (t : Transfer). t.block == b) ts
+
+copies_pending : (H : Holdings) (b : ℕ) → length (pending_targets H b) ≡ count_by (λ (e : ReplicaId × ℕ). e.0.block == b) (entries H.pending)
+unfolding pending_targets
+copies_pending H b = length-map (filter (λ (e : ReplicaId × ℕ). e.0.block == b) (entries H.pending)) (λ (e : ReplicaId × ℕ). e.0.storage) ∙ length-filter (λ (e : ReplicaId × ℕ). e.0.block == b) (entries H.pending)
+
+in_counts : (P : Type 0) (n p q k l repl : ℕ) → p ≡ q → k ≡ l → (n + p + k ≤ repl) ⊎ (P × (p ≡ 0) × (k ≡ 1)) → (n + q + l ≤ repl) ⊎ (P × (q ≡ 0) × (l ≡ 1))
+in_counts P n p q k l repl e f (inl h) = inl (omega (arith, e, f, h))
+in_counts P n p q k l repl e f (inr h) = inr (h.0, sym e ∙ h.1, sym f ∙ h.2)
+
+pub no_more_than_lacks : (M : State) (b : ℕ) (i : BlockInfo) → get M.holdings.blocks b ≡ Some i → 1 ≤ copies_chosen M b
+    → (length (live_marked M b) + copies_on_their_way M b + copies_chosen M b ≤ i.repl)
+    ⊎ ((level M.cluster (started M).holdings b ≡ Some BadlyDistributed) × (copies_on_their_way M b ≡ 0) × (copies_chosen M b ≡ 1))
+no_more_than_lacks M b i known some =
+    let chosen = copies_targets (transfers_chosen M) b in
+    in_counts (level M.cluster (started M).holdings b ≡ Some BadlyDistributed) (length (live_marked M b)) (length (pending_targets (started M).holdings b)) (copies_on_their_way M b)
+    (length (targets_of (transfers_chosen M) b)) (copies_chosen M b) i.repl (copies_pending (started M).holdings b) chosen (no_more_targets M b i known (omega (arith, chosen, some)))
 
 -- Another rack.
 
@@ -224,16 +248,6 @@ off_racks C holders u one = elim (length (racks C holders) == 1) as (λ t. t ≡
   | true ↦ λ _. (elim (is_on_racks C (racks C holders) u) as (λ b. ((if b then 1 else 0) == 1) ≡ false → b ≡ false) [ true ↦ λ e. e | false ↦ λ _. refl ])
   | false ↦ λ e. absurd (false≢true e)
 ] one
-
-share_is : (C : Cluster) (s u : ℕ) → share_rack C s u ≡ true → (r : ℕ) × (rack_of C s ≡ Some r) × (rack_of C u ≡ Some r)
-unfolding share_rack
-share_is C s u = elim (rack_of C s) as (λ o. option_map_or (λ r. option_map_or (λ q. q == r) (rack_of C u) false) o false ≡ true → (r : ℕ) × (o ≡ Some r) × (rack_of C u ≡ Some r)) [
-  | None ↦ λ e. absurd (false≢true e)
-  | Some r ↦ (elim (rack_of C u) as (λ o. option_map_or (λ q. q == r) o false ≡ true → (x : ℕ) × (Some r ≡ Some x) × (o ≡ Some x)) [
-    | None ↦ λ e. absurd (false≢true e)
-    | Some q ↦ λ e. (r, refl, ap Some (eqb-true q r e))
-  ])
-]
 
 on_rack : (C : Cluster) (rs : List ℕ) (u r : ℕ) → rack_of C u ≡ Some r → has rs r ≡ true → is_on_racks C rs u ≡ true
 unfolding is_on_racks
@@ -285,9 +299,9 @@ first_off true true c e f = f
 first_off true false c e f = refl
 first_off false b c e f = absurd (false≢true e)
 
-pub second_rack : (M : State) (front back : List Transfer) (t : Transfer) → transfers_chosen M ≡ front ++ t ∷ back → level M.cluster (started M).holdings t.block ≡ Some BadlyDistributed
+second_rack_shared : (M : State) (front back : List Transfer) (t : Transfer) → transfers_chosen M ≡ front ++ t ∷ back → level M.cluster (started M).holdings t.block ≡ Some BadlyDistributed
     → (s : ℕ) → has (live_marked M t.block) s ≡ true → share_rack M.cluster s t.target ≡ false
-second_rack M front back t is badly s there =
+second_rack_shared M front back t is badly s there =
     let C : Cluster = M.cluster in
     let H : Holdings = (started M).holdings in
     let why = chosen_at M front back t is in
@@ -300,5 +314,10 @@ second_rack M front back t is badly s there =
     let urgent : why.urgency ≡ BadlyDistributed = some_same why.urgency BadlyDistributed (sym why.at_level ∙ badly) in
     let off = first_off (is_at BadlyDistributed (Some why.urgency)) (length (racks C (holders_of C H front t.block)) == 1) (class_of C (holders_of C H front t.block) t.target == 1) (ap (λ l. is_at BadlyDistributed (Some l)) urgent) parts.1.1 in
     let none = none_other C H front t.block why.info.repl (length (targets_of (transfers_chosen M) t.block)) (length (targets_of back t.block)) (omega (arith, long, head)) counted.0
-      (no_more_than_lacks M t.block why.info (known_before M t.block why.info why.known) (omega (arith, long, head))) in
+      (no_more_targets M t.block why.info (known_before M t.block why.info why.known) (omega (arith, long, head))) in
     elsewhere C H front t.block t.target s none.0 none.1 counted.1 off there
+
+pub second_rack : (M : State) (front back : List Transfer) (t : Transfer) → transfers_chosen M ≡ front ++ t ∷ back → level M.cluster (started M).holdings t.block ≡ Some BadlyDistributed
+    → (s r : ℕ) → has (live_marked M t.block) s ≡ true → rack_of M.cluster s ≡ Some r → rack_of M.cluster t.target ≡ Some r → ⊥
+second_rack M front back t is badly s r there at_s at_target =
+    true≢false (sym (share_of M.cluster s t.target r at_s at_target) ∙ second_rack_shared M front back t is badly s there)

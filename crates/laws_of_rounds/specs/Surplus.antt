@@ -1,14 +1,13 @@
 -- Laws of the surplus.
 use Rattle.std.specs.Prelude.{◌≡◌, ℕ, ◌-◌, ◌≤◌, Bool, true, false, not, filter, length, Option, Some}
-use Rattle.std.specs.List.{list_any}
 use Rattle.bm_base.specs.declared.replica.ReplicaId.{ReplicaId}
 use Rattle.bm_base.specs.declared.replica.Marks.{Marks}
 use Rattle.bm_base.specs.declared.replica.BlockInfo.{BlockInfo}
 use Rattle.bm_base.specs.Map.{get}
 use Rattle.bm_base.specs.State.{State, replica_at}
 use Rattle.bm_base.specs.Lists.{has}
-use Rattle.bm_base.specs.Replicas.{is_good}
-use Rattle.bm_base.specs.Excess.{started, share_rack, has_rack_mate}
+use Rattle.bm_base.specs.Replicas.{is_good, rack_of}
+use Rattle.bm_base.specs.Excess.{started}
 use Rattle.bm_base.specs.Lawful.{IsLawful}
 use Rattle.laws_of_rounds.specs.Words.{live_unmarked, live_marked, live_after}
 
@@ -32,12 +31,12 @@ RoundLeavesEnoughLive =
 abbrev pub MarkingMakesNoneLive : Type 0
 MarkingMakesNoneLive = (M : State) (b s : ℕ) → has (live_marked M b) s ≡ true → has (live_unmarked M b) s ≡ true
 
--- Where a rack has two or more live replicas of a block once the round has marked, each rack that had one has one still.
+-- Where two live replicas of a block share a rack once the round has marked, each rack that had a live one has one still.
 abbrev pub LastOfRackStays : Type 0
 LastOfRackStays =
-    (M : State) (b s t : ℕ) → IsLawful M → has (live_unmarked M b) s ≡ true
-    → has (live_marked M b) t ≡ true → has_rack_mate M.cluster (live_marked M b) t ≡ true
-    → list_any (share_rack M.cluster s) (live_marked M b) ≡ true
+    (M : State) (b s t u : ℕ) → IsLawful M → has (live_unmarked M b) s ≡ true
+    → has (live_marked M b) t ≡ true → has (live_marked M b) u ≡ true → (t ≡ u → ⊥) → rack_of M.cluster t ≡ rack_of M.cluster u
+    → (v : ℕ) × (has (live_marked M b) v ≡ true) × (rack_of M.cluster v ≡ rack_of M.cluster s)
 
 -- Marks.
 

@@ -8,7 +8,7 @@ use Rattle.bm_base.specs.Lists.{has}
 use Rattle.bm_base.specs.Replicas.{live}
 use Rattle.bm_base.specs.Excess.{begun, started, without_unordered_excess}
 use Rattle.bm_base.specs.Transfers.{transfers}
-use Rattle.bm_base.specs.Rounds.{is_commanded, whole_round}
+use Rattle.bm_base.specs.Rounds.{whole_round}
 
 -- what the next round commands all nodes, node by node
 abbrev pub deletes_commanded : State → List Delete
@@ -21,13 +21,13 @@ transfers_commanded M = flat_map (λ k. k.transfers) (whole_round M).0.nodes
 abbrev pub transfers_chosen : State → List Transfer
 transfers_chosen M = let N = started M in transfers N.limits N.cluster N.holdings
 
--- the next round commands the delete of this replica
-abbrev pub IsDeleteCommanded : State → ReplicaId → Type 0
-IsDeleteCommanded M q = is_commanded (deletes_commanded M) q ≡ true
-
 -- an element stands in a list
 abbrev pub IsAmong : {X : Type 0} → List X → X → Type 0
 IsAmong {X} xs x = (front : List X) × (back : List X) × (xs ≡ front ++ x ∷ back)
+
+-- the next round commands the delete of this replica
+abbrev pub IsDeleteCommanded : State → ReplicaId → Type 0
+IsDeleteCommanded M q = IsAmong (deletes_commanded M) (record { storage = q.storage; block = q.block })
 
 -- the next round commands this transfer
 abbrev pub IsTransferCommanded : State → Transfer → Type 0

@@ -8,6 +8,7 @@ pub mod choices;
 pub mod commands;
 pub mod deletes;
 pub mod levels;
+pub mod live;
 pub mod rounds;
 pub mod surplus;
 pub mod transfers;

@@ -16,12 +16,6 @@ pub fn at_most_four_from_a_node()
     ensures { law.AtMostFourFromANode }
 {}
 
-/// A transfer of a block of another level than the highest is chosen only where its source's node is the source of one at most
-/// that was chosen before it in the round.
-pub fn at_most_two_below_highest()
-    ensures { law.AtMostTwoBelowHighest }
-{}
-
 /// A transfer's target stands on an alive node that has no replica of the block of any tag, to which no transfer of the block is
 /// on its way, and which is the target of no other transfer of the block in the round.
 pub fn target_is_on_fresh_node()
