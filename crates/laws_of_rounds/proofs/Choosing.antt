@@ -1,14 +1,14 @@
 -- What is known of each transfer as it is chosen, behind those that were chosen before it.
-use Rattle.std.specs.Prelude.{◌≡◌, ℕ, zero, suc, ◌+◌, ◌*◌, ◌-◌, ◌≤◌, ◌<◌, Bool, true, false, not, ◌&&◌, ◌||◌, ◌==◌, nat_lt, nat_le, if◌then◌else◌, List, [], ◌∷◌, ◌++◌, map, filter, flat_map, length, replicate, Option, Some, None, is_some, option_map, option_and_then, option_to_list}
+use Rattle.std.specs.Prelude.{◌≡◌, ℕ, zero, suc, ◌*◌, ◌<◌, Bool, true, false, nat_lt, nat_le, if◌then◌else◌, List, [], ◌∷◌, ◌++◌, filter, flat_map, length, replicate, Option, Some, None, is_some, option_map, option_and_then, option_to_list}
 use Rattle.std.specs.Option.{option_map_or}
 use Rattle.std.specs.declared.cmp.Ordering.{Ordering}
-use Rattle.std.proofs.Common.{cond, refl, sym, ap, subst, ◌∙◌, arith, append_assoc, append-nil}
-use Rattle.std.proofs.lemmas.Bool.{eqb-true, ltb-true, leb-false, false≢true, true≢false}
+use Rattle.std.proofs.Common.{refl, sym, ap, subst, ◌∙◌, append_assoc, append-nil}
+use Rattle.std.proofs.lemmas.Bool.{eqb-true, ltb-true, leb-false, false≢true}
 use Rattle.bm_base.specs.declared.level.Level.{Level}
 use Rattle.bm_base.specs.declared.level.Level.TheVariants.{Highest, VeryUnderReplicated, UnderReplicated, BadlyDistributed, NoLiveReplica}
 use Rattle.bm_base.specs.declared.replica.BlockInfo.{BlockInfo}
 use Rattle.bm_base.specs.declared.commands.Transfer.{Transfer}
-use Rattle.bm_base.specs.Map.{get, keys, entries, len}
+use Rattle.bm_base.specs.Map.{get, keys, len}
 use Rattle.bm_base.specs.State.{RoundLimits, Cluster, Holdings}
 use Rattle.bm_base.specs.Lists.{has, least}
 use Rattle.bm_base.specs.Replicas.{live}
@@ -119,17 +119,20 @@ module _ (limits : RoundLimits) (C : Cluster) (H : Holdings) where
           → record { block = w.block; stamp = i.stamp; source = s; target = u } ≡ t → IsChosenAfter limits C H front t
       chosen i few known s u from to same =
           subst (IsChosenAfter limits C H front) same (record { few = few; urgency = w.urgency; at_level = at; info = i; known = known; stamp = refl; source = from; target = to })
+
       by_target : (i : BlockInfo) → length front < limits.work * len C.nodes → get H.blocks w.block ≡ Some i → (s : ℕ) → least_source C front w.urgency (live C H w.block) ≡ Some s
           → (o : Option ℕ) → least_target C front w.urgency (holders_of C H front w.block) (barred_for H front w.block) i.stamp.len ≡ o
           → option_map (λ u. record { block = w.block; stamp = i.stamp; source = s; target = u }) o ≡ Some t → IsChosenAfter limits C H front t
       by_target i few known s from None to e = absurd (false≢true (ap is_some e))
       by_target i few known s from (Some u) to e = chosen i few known s u from to (some_same (record { block = w.block; stamp = i.stamp; source = s; target = u }) t e)
+
       by_source : (i : BlockInfo) → length front < limits.work * len C.nodes → get H.blocks w.block ≡ Some i
           → (o : Option ℕ) → least_source C front w.urgency (live C H w.block) ≡ o
           → option_and_then (λ s. option_map (λ u. record { block = w.block; stamp = i.stamp; source = s; target = u }) (least_target C front w.urgency (holders_of C H front w.block) (barred_for H front w.block) i.stamp.len)) o ≡ Some t
           → IsChosenAfter limits C H front t
       by_source i few known None from e = absurd (false≢true (ap is_some e))
       by_source i few known (Some s) from e = by_target i few known s from (least_target C front w.urgency (holders_of C H front w.block) (barred_for H front w.block) i.stamp.len) refl e
+
       by_limit : (full : Bool) → nat_le (limits.work * len C.nodes) (length front) ≡ full → (o : Option BlockInfo) → get H.blocks w.block ≡ o
           → (if full then None else option_and_then (λ i. option_and_then (λ s. option_map (λ u. record { block = w.block; stamp = i.stamp; source = s; target = u })
           (least_target C front w.urgency (holders_of C H front w.block) (barred_for H front w.block) i.stamp.len)) (least_source C front w.urgency (live C H w.block))) o) ≡ Some t

@@ -1,25 +1,21 @@
 -- What a round commands, node by node, is what it has chosen; and what each delete of it is of.
-use Rattle.std.specs.Prelude.{◌≡◌, ℕ, ◌+◌, ◌-◌, ◌≤◌, ◌<◌, ◌⊎◌, Bool, true, false, not, ◌&&◌, ◌||◌, ◌==◌, nat_le, if◌then◌else◌, List, [], ◌∷◌, ◌++◌, map, filter, flat_map, length, take, Option, Some, None, option_map}
-use Rattle.std.specs.Option.{option_map_or}
-use Rattle.std.specs.List.{list_any}
-use Rattle.std.proofs.Common.{cond, refl, sym, ap, subst, ◌∙◌, arith, inl, inr}
-use Rattle.std.proofs.lemmas.Bool.{eqb-true, leb-true, false≢true, true≢false}
+use Rattle.std.specs.Prelude.{◌≡◌, ℕ, Bool, true, false, ◌&&◌, ◌==◌, if◌then◌else◌, List, [], map, filter, flat_map, Some}
+use Rattle.std.proofs.Common.{subst}
+use Rattle.std.proofs.lemmas.Bool.{eqb-true}
 use Rattle.bm_base.specs.declared.replica.ReplicaId.{ReplicaId}
 use Rattle.bm_base.specs.declared.replica.Marks.{Marks}
-use Rattle.bm_base.specs.declared.replica.BlockInfo.{BlockInfo}
 use Rattle.bm_base.specs.declared.commands.Transfer.{Transfer}
 use Rattle.bm_base.specs.declared.commands.Delete.{Delete}
 use Rattle.bm_base.specs.declared.commands.NodeCommands.{NodeCommands}
-use Rattle.bm_base.specs.Map.{get, entries, keys, revise}
+use Rattle.bm_base.specs.Map.{get, entries, keys}
 use Rattle.bm_base.specs.State.{RoundLimits, Cluster, Holdings, State, replica_at}
-use Rattle.bm_base.specs.Lists.{has, has_repeats}
-use Rattle.bm_base.specs.Replicas.{live, is_live, is_good, is_stray, is_corrupt, has_storage, node_of, storages_where}
+use Rattle.bm_base.specs.Replicas.{has_storage}
 use Rattle.bm_base.specs.Excess.{begun, started}
 use Rattle.bm_base.specs.Transfers.{transfers}
-use Rattle.bm_base.specs.Deletes.{has_enough_live, is_deletable, deletable_on, deletes_of, deletes}
-use Rattle.bm_base.specs.Rounds.{finished, is_commanded, whole_round, commands_of, node_commands, has_commands}
+use Rattle.bm_base.specs.Deletes.{is_deletable, deletable_on, deletes_of, deletes}
+use Rattle.bm_base.specs.Rounds.{is_commanded, whole_round, commands_of, node_commands, has_commands}
 use Rattle.laws_of_rounds.specs.Words.{deletes_commanded, transfers_commanded}
-use Rattle.laws_of_rounds.proofs.Listed.{Each, each_all, each_append, each_take, each_map, each_filter_by, each_weaker, each_flat_map, each_any, or_left, or_right, same_again, any_weaker, and_first, and_second}
+use Rattle.laws_of_rounds.proofs.Listed.{Each, each_all, each_take, each_map, each_filter_by, each_flat_map, each_any, and_first, and_second}
 use Rattle.laws_of_rounds.proofs.Stands.{found_replicas}
 
 -- What is chosen.
@@ -111,6 +107,6 @@ pub deleted_is : (M : State) (q : ReplicaId) → IsTested M q → (m : Marks) ×
 unfolding is_commanded started begun
 deleted_is M q h =
     let found = each_any (IsChosen M.cluster (started M).holdings) (λ d. (d.storage == q.storage) && (d.block == q.block)) (deletes_commanded M)
-      (each_delete M (IsChosen M.cluster (started M).holdings) (chosen_deletes M.cluster (started M).holdings M.limits)) h in
+    (each_delete M (IsChosen M.cluster (started M).holdings) (chosen_deletes M.cluster (started M).holdings M.limits)) h in
     let is = at_same found.0 q found.2 in
     (found.1.marks, subst (λ p. get (started M).holdings.replicas p ≡ Some found.1.marks) is found.1.is_there, subst (λ p. is_deletable M.cluster (started M).holdings p found.1.marks ≡ true) is found.1.deletable)

@@ -1,10 +1,9 @@
 -- Keys stand once, so what is chosen node by node is commanded node by node.
-use Rattle.std.specs.Prelude.{◌≡◌, ℕ, ◌≤◌, Bool, true, false, not, ◌&&◌, ◌||◌, ◌==◌, if◌then◌else◌, List, [], ◌∷◌, ◌++◌, map, filter, flat_map, length, take, Option, Some, None, is_some, T}
+use Rattle.std.specs.Prelude.{◌≡◌, ℕ, ◌≤◌, Bool, true, false, ◌&&◌, ◌||◌, ◌==◌, if◌then◌else◌, List, [], ◌∷◌, ◌++◌, map, filter, flat_map, length, Option, Some, None, is_some, T}
 use Rattle.std.specs.Option.{option_map_or}
-use Rattle.std.specs.List.{list_any, All}
+use Rattle.std.specs.List.{All}
 use Rattle.std.specs.Ordering.{nat_cmp, eq_by_cmp}
 use Rattle.std.specs.FinMap.{find, is_sorted}
-use Rattle.std.specs.FinMap.Entries.{below_all}
 use Rattle.std.proofs.Common.{cond, refl, sym, ap, subst, ◌∙◌, arith}
 use Rattle.std.proofs.lemmas.Bool.{eqb-true, false≢true, true≢false}
 use Rattle.std.proofs.lemmas.List.Elements.{All-nil, All-cons}
@@ -21,7 +20,7 @@ use Rattle.bm_base.specs.Deletes.{is_deletable, deletable_on, deletes_of, delete
 use Rattle.bm_base.specs.Rounds.{whole_round, commands_of, node_commands, has_commands}
 use Rattle.bm_base.proofs.MapLaws.{find_below}
 use Rattle.bm_base.proofs.Ties.{number_tie}
-use Rattle.laws_of_rounds.proofs.Listed.{Each, each_all, each_append, each_take, each_map, each_filter_by, each_weaker, each_flat_map, any_map, any_agree, eq_turned, filter_append, length_take-le, same_again}
+use Rattle.laws_of_rounds.proofs.Listed.{Each, each_all, each_take, each_map, each_filter_by, each_weaker, each_flat_map, any_map, any_agree, eq_turned, filter_append, length_take-le, same_again}
 use Rattle.laws_of_rounds.proofs.Stands.{any_at}
 
 -- Keys.

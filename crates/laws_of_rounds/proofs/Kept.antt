@@ -1,17 +1,17 @@
 -- Why a block that loses a replica by a round keeps as many live ones as are wanted.
-use Rattle.std.specs.Prelude.{◌≡◌, ℕ, zero, suc, ◌+◌, ◌-◌, ◌≤◌, ◌<◌, ◌⊎◌, Bool, true, false, not, ◌&&◌, ◌||◌, ◌==◌, nat_le, if◌then◌else◌, List, [], ◌∷◌, length, Option, Some, None, option_map, is_some}
+use Rattle.std.specs.Prelude.{◌≡◌, ℕ, zero, suc, ◌-◌, ◌≤◌, ◌⊎◌, Bool, true, false, not, ◌&&◌, ◌||◌, ◌==◌, nat_le, if◌then◌else◌, List, [], ◌∷◌, length, Option, Some, None, option_map, is_some}
 use Rattle.std.specs.Option.{option_map_or}
-use Rattle.std.proofs.Common.{cond, refl, sym, ap, subst, ◌∙◌, arith, inl, inr}
-use Rattle.std.proofs.lemmas.Bool.{eqb-true, leb-true, false≢true, true≢false}
+use Rattle.std.proofs.Common.{refl, sym, ap, subst, ◌∙◌, arith, inl, inr}
+use Rattle.std.proofs.lemmas.Bool.{leb-true, false≢true, true≢false}
 use Rattle.bm_base.specs.declared.replica.ReplicaId.{ReplicaId}
 use Rattle.bm_base.specs.declared.replica.Tag.{Tag}
 use Rattle.bm_base.specs.declared.replica.Tag.TheVariants.{Good, Stale, Bad, Stray}
 use Rattle.bm_base.specs.declared.replica.Marks.{Marks}
 use Rattle.bm_base.specs.declared.replica.BlockInfo.{BlockInfo}
-use Rattle.bm_base.specs.Map.{get, contains_key}
-use Rattle.bm_base.specs.State.{Cluster, Holdings, State, replica_at}
+use Rattle.bm_base.specs.Map.{get}
+use Rattle.bm_base.specs.State.{Cluster, State, replica_at}
 use Rattle.bm_base.specs.Lists.{has}
-use Rattle.bm_base.specs.Replicas.{live, is_live, is_good, is_stray, is_corrupt}
+use Rattle.bm_base.specs.Replicas.{is_live, is_good, is_stray, is_corrupt}
 use Rattle.bm_base.specs.Excess.{begun, started, without_expired, without_unordered_excess, marked, excess_in, excess_among}
 use Rattle.bm_base.specs.Deletes.{has_enough_live, is_deletable}
 use Rattle.bm_base.specs.Lawful.{IsLawful}
@@ -154,7 +154,7 @@ live_stays M b t there h =
     let is = deleted_is M (replica_at b t) h in
     let marks = deleted_marks M (replica_at b t) is.0 is.2 in
     let live_mark : is_live is.0 ≡ true =
-      sym (ap (λ o. option_map_or is_live o false) is.1) ∙ sym (has_where is_live (started M).holdings b t) ∙ sym (ap (λ xs. has xs t) (after_marked M b)) ∙ there in
+    sym (ap (λ o. option_map_or is_live o false) is.1) ∙ sym (has_where is_live (started M).holdings b t) ∙ sym (ap (λ xs. has xs t) (after_marked M b)) ∙ there in
     live_is_kept is.0.tag is.0.excess live_mark (weaker_kind is.0 (has_enough_live M.cluster (started M).holdings b) marks.1)
 
 -- the first of some

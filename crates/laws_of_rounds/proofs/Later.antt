@@ -1,14 +1,14 @@
 -- What one round leaves for the next.
-use Rattle.std.specs.Prelude.{◌≡◌, ℕ, zero, suc, ◌+◌, ◌-◌, ◌≤◌, ◌<◌, Bool, true, false, not, ◌&&◌, ◌||◌, ◌==◌, nat_le, if◌then◌else◌, List, [], ◌∷◌, ◌++◌, map, Option, Some, None, is_some, option_map, option_and_then}
+use Rattle.std.specs.Prelude.{◌≡◌, ℕ, zero, suc, ◌+◌, ◌-◌, ◌<◌, Bool, true, false, not, ◌&&◌, ◌||◌, ◌==◌, nat_le, if◌then◌else◌, List, [], ◌∷◌, ◌++◌, map, Option, Some, None, is_some, option_map, option_and_then}
 use Rattle.std.specs.List.{list_any}
 use Rattle.std.specs.Ordering.{eq_by_cmp}
 use Rattle.std.proofs.Common.{cond, refl, sym, ap, subst, ◌∙◌, arith}
-use Rattle.std.proofs.lemmas.Bool.{eqb-true, leb-true, lt-leb, false≢true, true≢false}
+use Rattle.std.proofs.lemmas.Bool.{lt-leb, false≢true, true≢false}
 use Rattle.bm_base.specs.declared.replica.ReplicaId.{ReplicaId}
 use Rattle.bm_base.specs.declared.replica.Marks.{Marks}
 use Rattle.bm_base.specs.declared.commands.Transfer.{Transfer}
 use Rattle.bm_base.specs.declared.commands.Delete.{Delete}
-use Rattle.bm_base.specs.Map.{Map, Order, get, insert, insert_all}
+use Rattle.bm_base.specs.Map.{Map, get, insert, insert_all}
 use Rattle.bm_base.specs.State.{Holdings, State, by_replica, replica_cmp, replica_at}
 use Rattle.bm_base.specs.Replicas.{node_of}
 use Rattle.bm_base.specs.Excess.{begun, started, marked, without_expired, without_unordered_excess}
@@ -17,7 +17,7 @@ use Rattle.bm_base.proofs.MapLaws.{get-revise, get-keep, get-insert}
 use Rattle.bm_base.proofs.Ties.{replica_tie}
 use Rattle.laws_of_rounds.specs.Words.{IsTransferCommanded, IsAmong, deletes_commanded, transfers_commanded, transfers_chosen, after_round}
 use Rattle.laws_of_rounds.specs.Rounds.{after_rounds}
-use Rattle.laws_of_rounds.proofs.Listed.{Each, each_any, each_weaker, any_weaker, or_left, or_right, same_again, eq_turned}
+use Rattle.laws_of_rounds.proofs.Listed.{Each, each_any, each_weaker, or_left, or_right, same_again}
 use Rattle.laws_of_rounds.proofs.Stands.{same_key}
 use Rattle.laws_of_rounds.proofs.Commanded.{IsTested, chosen_deletes_of, each_delete, each_transfer, at_same}
 use Rattle.laws_of_rounds.proofs.Kept.{marks_started, remarked, remarked_ordered, surplus_of, from_some}
@@ -50,9 +50,10 @@ commanded_chosen M t h = each_is (IsAmong (transfers_chosen M)) (transfers_comma
 each_is_commanded : (ds es : List Delete) → ((d : Delete) → list_any (λ e. (e.storage == d.storage) && (e.block == d.block)) es ≡ true → is_commanded ds (replica_at d.block d.storage) ≡ true)
     → Each (λ (d : Delete). is_commanded ds (replica_at d.block d.storage) ≡ true) es
 each_is_commanded ds [] f = tt
-each_is_commanded ds (d ∷ es) f =
-    (f d (or_left ((d.storage == d.storage) && (d.block == d.block)) (list_any (λ e. (e.storage == d.storage) && (e.block == d.block)) es) (both (d.storage == d.storage) (d.block == d.block) (same_again d.storage) (same_again d.block))),
-    each_is_commanded ds es (λ c g. f c (or_right ((d.storage == c.storage) && (d.block == c.block)) (list_any (λ e. (e.storage == c.storage) && (e.block == c.block)) es) g)))
+each_is_commanded ds (d ∷ es) f = (
+  f d (or_left ((d.storage == d.storage) && (d.block == d.block)) (list_any (λ e. (e.storage == d.storage) && (e.block == d.block)) es) (both (d.storage == d.storage) (d.block == d.block) (same_again d.storage) (same_again d.block))),
+  each_is_commanded ds es (λ c g. f c (or_right ((d.storage == c.storage) && (d.block == c.block)) (list_any (λ e. (e.storage == c.storage) && (e.block == c.block)) es) g)),
+)
   where
     both : (a b : Bool) → a ≡ true → b ≡ true → (a && b) ≡ true
     both true b e f = f
@@ -66,7 +67,7 @@ pub delete_chosen : (M : State) (q : ReplicaId) → IsTested M q → is_commande
 unfolding is_commanded
 delete_chosen M q h =
     let found = each_any (λ (d : Delete). is_commanded (chosen_deletes_of M) (replica_at d.block d.storage) ≡ true) (λ d. (d.storage == q.storage) && (d.block == q.block)) (deletes_commanded M)
-      (each_delete M (λ (d : Delete). is_commanded (chosen_deletes_of M) (replica_at d.block d.storage) ≡ true) (commanded_itself (chosen_deletes_of M))) h in
+    (each_delete M (λ (d : Delete). is_commanded (chosen_deletes_of M) (replica_at d.block d.storage) ≡ true) (commanded_itself (chosen_deletes_of M))) h in
     subst (λ p. is_commanded (chosen_deletes_of M) p ≡ true) (at_same found.0 q found.2) found.1
 
 marks_finished : (r : ℕ) (H : Holdings) (ts : List Transfer) (ds : List Delete) (q : ReplicaId) → get (finished r H ts ds).replicas q ≡ option_map (ordered_by ds q) (get H.replicas q)
@@ -224,6 +225,6 @@ no_transfer_twice M n t u young first later same node =
     let pend_once : N.limits.pend ≡ M.limits.pend = ap (λ l. l.pend) (limits_kept M) in
     let cluster : L.cluster ≡ M.cluster = same_cluster n N ∙ cluster_kept M in
     let on_its_way : get L.holdings.pending (key_of t) ≡ Some N.round =
-      pending_for n N (key_of t) (pending_now M t (commanded_chosen M t first) ∙ ap Some (sym (round_counted M))) (omega (arith, young, pend_once)) in
+    pending_for n N (key_of t) (pending_now M t (commanded_chosen M t first) ∙ ap Some (sym (round_counted M))) (omega (arith, young, pend_once)) in
     none_chosen L (key_of t) N.round u on_its_way (omega (arith, count, pend, young)) (commanded_chosen L u later) same
     (subst (λ C. node_of C t.target ≡ node_of C u.target) (sym cluster) (sym node))

@@ -1,5 +1,5 @@
 -- Words and lemmas on lists: what holds of each element, and counts.
-use Rattle.std.specs.Prelude.{◌≡◌, ℕ, zero, suc, ◌+◌, ◌-◌, ◌≤◌, Bool, true, false, not, ◌&&◌, ◌||◌, ◌==◌, List, [], ◌∷◌, ◌++◌, map, filter, flat_map, length, take, Option, Some, None}
+use Rattle.std.specs.Prelude.{◌≡◌, ℕ, zero, suc, ◌+◌, ◌≤◌, Bool, true, false, not, ◌&&◌, ◌||◌, ◌==◌, List, [], ◌∷◌, ◌++◌, map, filter, flat_map, length, take, Some}
 use Rattle.std.specs.List.{list_any}
 use Rattle.std.proofs.Common.{cond, refl, sym, ap, subst, ◌∙◌, arith}
 use Rattle.std.proofs.lemmas.Bool.{eqb-true, eq-eqb, false≢true}
@@ -198,6 +198,7 @@ has_filter p xs x = any_filter (λ y. y == x) p xs ∙ any_agree (λ y. p y && (
     at_x : (y : ℕ) (b : Bool) → (y == x) ≡ b → (p y && (y == x)) ≡ (p x && (y == x))
     at_x y true e = ap (λ z. p z && (y == x)) (eqb-true y x e)
     at_x y false e = ap (λ b. p y && b) e ∙ (elim (p y) as (λ b. (b && false) ≡ false) [ true ↦ refl | false ↦ refl ]) ∙ (elim (p x) as (λ b. false ≡ (b && false)) [ true ↦ refl | false ↦ refl ]) ∙ ap (λ b. p x && b) (sym e)
+
     pulled : (b : Bool) (ys : List ℕ) → list_any (λ y. b && (y == x)) ys ≡ (b && list_any (λ y. y == x) ys)
     pulled b [] = elim b as (λ c. false ≡ (c && false)) [ true ↦ refl | false ↦ refl ]
     pulled b (y ∷ ys) = ap (λ c. (b && (y == x)) || c) (pulled b ys) ∙ (elim b as (λ c. ((c && (y == x)) || (c && list_any (λ y. y == x) ys)) ≡ (c && ((y == x) || list_any (λ y. y == x) ys))) [ true ↦ refl | false ↦ refl ])

@@ -1,22 +1,21 @@
 -- The live replicas of a block, as a round marks, commands and ends.
-use Rattle.std.specs.Prelude.{◌≡◌, ℕ, ◌+◌, ◌-◌, ◌≤◌, Bool, true, false, not, ◌&&◌, ◌||◌, ◌==◌, if◌then◌else◌, List, [], ◌∷◌, map, filter, length, Option, Some, None, option_map}
+use Rattle.std.specs.Prelude.{◌≡◌, ℕ, ◌+◌, ◌-◌, Bool, true, false, not, ◌&&◌, ◌==◌, if◌then◌else◌, List, [], ◌∷◌, map, filter, length, Some}
 use Rattle.std.specs.Option.{option_map_or}
 use Rattle.std.proofs.Common.{cond, refl, sym, ap, subst, ◌∙◌, arith}
-use Rattle.std.proofs.lemmas.Bool.{eqb-true, false≢true, true≢false}
+use Rattle.std.proofs.lemmas.Bool.{eqb-true}
 use Rattle.bm_base.specs.declared.replica.ReplicaId.{ReplicaId}
 use Rattle.bm_base.specs.declared.replica.Marks.{Marks}
 use Rattle.bm_base.specs.declared.replica.BlockInfo.{BlockInfo}
 use Rattle.bm_base.specs.declared.commands.Transfer.{Transfer}
 use Rattle.bm_base.specs.declared.commands.Delete.{Delete}
-use Rattle.bm_base.specs.Map.{get, entries, revise}
-use Rattle.bm_base.specs.State.{Cluster, Holdings, State, replica_at}
-use Rattle.bm_base.specs.Lists.{has, has_repeats}
+use Rattle.bm_base.specs.Map.{get, entries}
+use Rattle.bm_base.specs.State.{Cluster, Holdings, State}
+use Rattle.bm_base.specs.Lists.{has}
 use Rattle.bm_base.specs.Replicas.{live, is_live, is_good, storages_where}
 use Rattle.bm_base.specs.Excess.{begun, started, without_expired, without_unordered_excess, marked, excess_in, excess_of, excess_among}
 use Rattle.bm_base.specs.Rounds.{finished, is_commanded, whole_round}
-use Rattle.bm_base.proofs.MapLaws.{get-revise}
-use Rattle.laws_of_rounds.specs.Words.{unmarked, live_unmarked, live_marked, live_after, after_round}
-use Rattle.laws_of_rounds.proofs.Listed.{has_filter, length_filter-le, and_never}
+use Rattle.laws_of_rounds.specs.Words.{unmarked, live_unmarked, live_marked, live_after}
+use Rattle.laws_of_rounds.proofs.Listed.{and_never}
 use Rattle.laws_of_rounds.proofs.Stands.{listed, revised_where, once_where}
 use Rattle.laws_of_rounds.proofs.Surpluses.{kept_of, kept_count}
 

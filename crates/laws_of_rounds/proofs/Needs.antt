@@ -1,9 +1,8 @@
 -- How need grows with what is wanted, and falls with what is live.
-use Rattle.std.specs.Prelude.{◌≡◌, ℕ, ◌+◌, ◌≤◌, ◌<◌, ◌↔◌, Bool, ◌==◌, length, Option, Some, None, option_and_then, option_map}
-use Rattle.std.proofs.Common.{cond, refl, sym, ap, subst, ◌∙◌, arith}
+use Rattle.std.specs.Prelude.{◌≡◌, ℕ, ◌+◌, ◌≤◌, ◌<◌, ◌↔◌, Bool, length, Some, None, option_and_then, option_map}
+use Rattle.std.proofs.Common.{cond, sym, ap, subst, ◌∙◌, arith}
 use Rattle.std.proofs.lemmas.Bool.Decides.{nat_tests}
 use Rattle.std.specs.Ordering.{nat_cmp, eq_by_cmp}
-use Rattle.bm_base.specs.declared.level.Level.{Level}
 use Rattle.bm_base.specs.declared.level.Level.TheVariants.{NoLiveReplica}
 use Rattle.bm_base.specs.declared.replica.BlockInfo.{BlockInfo}
 use Rattle.bm_base.specs.Map.{get, revise_at}
@@ -53,15 +52,17 @@ module _ (C : Cluster) (H : Holdings) (b : ℕ) where
 
   pub four : (i : BlockInfo) → 1 ≤ i.repl → get H.blocks b ≡ Some i → (level C H b ≡ Some NoLiveReplica) ↔ (length (live C H b) ≡ 0)
   four i wanted known =
-      let is = level_known i known in
-      (λ e. four_counted (length (live C H b)) i.repl (length (racks C (live C H b))) (is_multi_rack C) wanted (sym is ∙ e),
-      λ e. is ∙ counted_four (length (live C H b)) i.repl (length (racks C (live C H b))) (is_multi_rack C) wanted e)
+      let is = level_known i known in (
+        λ e. four_counted (length (live C H b)) i.repl (length (racks C (live C H b))) (is_multi_rack C) wanted (sym is ∙ e),
+        λ e. is ∙ counted_four (length (live C H b)) i.repl (length (racks C (live C H b))) (is_multi_rack C) wanted e,
+      )
 
   pub short : (i : BlockInfo) → get H.blocks b ≡ Some i → (2 ≤ need (level C H b)) ↔ (length (live C H b) < i.repl)
   short i known =
-      let is = level_known i known in
-      (λ e. short_counted (length (live C H b)) i.repl (length (racks C (live C H b))) (is_multi_rack C) (subst (λ l. 2 ≤ need l) is e),
-      λ e. subst (λ l. 2 ≤ need l) (sym is) (counted_short (length (live C H b)) i.repl (length (racks C (live C H b))) (is_multi_rack C) e))
+      let is = level_known i known in (
+        λ e. short_counted (length (live C H b)) i.repl (length (racks C (live C H b))) (is_multi_rack C) (subst (λ l. 2 ≤ need l) is e),
+        λ e. subst (λ l. 2 ≤ need l) (sym is) (counted_short (length (live C H b)) i.repl (length (racks C (live C H b))) (is_multi_rack C) e),
+      )
 
   raised_info : (more : ℕ) (i : BlockInfo) → get H.blocks b ≡ Some i → get (set_replication H b more).blocks b ≡ Some (record i { repl = more })
   unfolding set_replication revise_at

@@ -1,8 +1,8 @@
 -- No call makes a replica live whose delete was commanded: it is live again once it is reported, and then the command is forgotten.
-use Rattle.std.specs.Prelude.{◌≡◌, ℕ, zero, suc, ◌+◌, Bool, true, false, not, ◌&&◌, ◌||◌, ◌==◌, ◌⊎◌, if◌then◌else◌, List, [], ◌∷◌, map, Option, Some, None, is_some, option_map, option_and_then}
+use Rattle.std.specs.Prelude.{◌≡◌, ℕ, Bool, true, false, not, ◌&&◌, ◌==◌, ◌⊎◌, if◌then◌else◌, List, [], ◌∷◌, map, Option, Some, None, is_some, option_and_then}
 use Rattle.std.specs.Option.{option_map_or}
 use Rattle.std.specs.Ordering.{eq_by_cmp}
-use Rattle.std.proofs.Common.{cond, refl, sym, ap, subst, ◌∙◌, inl, inr}
+use Rattle.std.proofs.Common.{cond, refl, sym, ap, subst, ◌∙◌}
 use Rattle.std.proofs.lemmas.Bool.{false≢true, true≢false}
 use Rattle.bm_base.specs.declared.config.Config.{Config}
 use Rattle.bm_base.specs.declared.call.Call.{Call}
@@ -12,28 +12,27 @@ use Rattle.bm_base.specs.declared.event.Event.TheVariants.{Register, Dead, Stora
 use Rattle.bm_base.specs.declared.event.Entry.{Entry}
 use Rattle.bm_base.specs.declared.refusal.Refusal.{Refusal}
 use Rattle.bm_base.specs.declared.call.Answer.{Answer}
-use Rattle.bm_base.specs.declared.commands.Commands.{Commands}
 use Rattle.bm_base.specs.declared.replica.ReplicaId.{ReplicaId}
 use Rattle.bm_base.specs.declared.replica.Tag.{Tag}
 use Rattle.bm_base.specs.declared.replica.Tag.TheVariants.{Good, Stale, Bad, Stray}
 use Rattle.bm_base.specs.declared.replica.Marks.{Marks}
 use Rattle.bm_base.specs.declared.replica.Stamp.{Stamp}
-use Rattle.bm_base.specs.Map.{Map, get, insert, insert_all, keep, revise, revise_at, remove, empty}
+use Rattle.bm_base.specs.Map.{Map, get, insert, insert_all, keep, revise, revise_at, remove}
 use Rattle.bm_base.specs.State.{Cluster, Holdings, State, by_replica, replica_cmp, replica_at, first_state, empty_holdings}
 use Rattle.bm_base.specs.Replicas.{is_good, is_stray, is_corrupt, is_live}
-use Rattle.bm_base.specs.Events.{entered, replaces, enter, leaves_by_report, report, without_pending, revise_block, as_stray, as_bad, as_restamped, add_block, delete_block, set_replication, restamp, make_bad, remove_replica, without_storages, change_holdings}
+use Rattle.bm_base.specs.Events.{entered, enter, report, without_pending, revise_block, as_stray, as_bad, as_restamped, add_block, delete_block, set_replication, restamp, make_bad, remove_replica, without_storages, change_holdings}
 use Rattle.bm_base.specs.Excess.{begun, started}
 use Rattle.bm_base.specs.Lists.{has}
 use Rattle.bm_base.specs.Deletes.{is_deletable, has_enough_live}
 use Rattle.bm_base.specs.Lawful.{IsLawful}
 use Rattle.bm_base.specs.declared.replica.BlockInfo.{BlockInfo}
-use Rattle.bm_base.specs.Rounds.{is_commanded, whole_round}
+use Rattle.bm_base.specs.Rounds.{is_commanded}
 use Rattle.bm_base.specs.Refusals.{refusal_of, round_refusal, storage_refusal, block_refusal}
 use Rattle.bm_base.specs.Calls.{after_event, refused_or, step_with, step, state_after}
 use Rattle.bm_base.proofs.MapLaws.{get-empty, get-insert, get-keep, get-revise, get-remove}
 use Rattle.laws_of_rounds.specs.Words.{after_round}
 use Rattle.laws_of_rounds.proofs.Listed.{each_any, and_never, some_same}
-use Rattle.laws_of_rounds.proofs.Marked.{marked_in, unordered_dropped, ordered_by}
+use Rattle.laws_of_rounds.proofs.Marked.{unordered_dropped, ordered_by}
 use Rattle.laws_of_rounds.proofs.Commanded.{IsTested, IsChosen, chosen_deletes, chosen_deletes_of, at_same}
 use Rattle.laws_of_rounds.proofs.Kept.{one_stays, remarked, surplus_of, marks_started, from_some, deleted_marks, live_is_kept, weaker_kind}
 use Rattle.laws_of_rounds.proofs.Later.{marks_after}

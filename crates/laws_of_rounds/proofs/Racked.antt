@@ -1,26 +1,25 @@
 -- Why marking leaves a replica on each rack while another rack has two.
-use Rattle.std.specs.Prelude.{◌≡◌, ℕ, zero, suc, ◌+◌, ◌-◌, ◌≤◌, ◌<◌, Bool, true, false, not, ◌&&◌, ◌||◌, ◌==◌, nat_lt, if◌then◌else◌, List, [], ◌∷◌, filter, length, count_by, Option, Some, None, is_some, option_map, option_and_then}
+use Rattle.std.specs.Prelude.{◌≡◌, ℕ, zero, suc, ◌+◌, ◌-◌, ◌≤◌, Bool, true, false, not, ◌&&◌, ◌||◌, ◌==◌, nat_lt, if◌then◌else◌, List, [], ◌∷◌, filter, length, Option, Some, None, is_some, option_map, option_and_then}
 use Rattle.std.specs.declared.cmp.Ordering.{Ordering}
 use Rattle.std.specs.Ordering.{is_lt, nat_cmp, ordering_then}
 use Rattle.std.specs.Option.{option_map_or}
 use Rattle.std.specs.List.{list_any}
 use Rattle.std.proofs.Common.{cond, refl, sym, ap, subst, ◌∙◌, arith}
-use Rattle.std.proofs.lemmas.Bool.{eqb-true, ltb-true, lt-ltb, false≢true, true≢false}
+use Rattle.std.proofs.lemmas.Bool.{eqb-true, ltb-true, lt-ltb, false≢true}
 use Rattle.std.proofs.lemmas.Bool.Decides.{nat_tests}
 use Rattle.std.proofs.lemmas.List.Sums.{length-filter}
-use Rattle.bm_base.specs.declared.replica.Marks.{Marks}
 use Rattle.bm_base.specs.declared.replica.BlockInfo.{BlockInfo}
 use Rattle.bm_base.specs.declared.storage.StorageInfo.{StorageInfo}
-use Rattle.bm_base.specs.Map.{get, contains_key}
+use Rattle.bm_base.specs.Map.{get}
 use Rattle.bm_base.specs.State.{Cluster, State, replica_at}
 use Rattle.bm_base.specs.Lists.{has, has_repeats, least}
 use Rattle.bm_base.specs.Replicas.{is_live, rack_of, node_of}
-use Rattle.bm_base.specs.Excess.{excess_cmp, excess_among, remaining, share_rack, has_rack_mate, excess_in, started}
+use Rattle.bm_base.specs.Excess.{excess_cmp, excess_among, remaining, share_rack, has_rack_mate, started}
 use Rattle.bm_base.specs.Lawful.{IsLawful}
 use Rattle.laws_of_rounds.specs.Words.{unmarked, live_unmarked, live_marked}
-use Rattle.laws_of_rounds.proofs.Listed.{Each, each_any, any_weaker, count_without, has_filter, once_filter, filter_filter, or_left, or_right, same_again, and_second, some_same}
+use Rattle.laws_of_rounds.proofs.Listed.{any_weaker, count_without, has_filter, once_filter, or_left, or_right, same_again, and_second, some_same}
 use Rattle.laws_of_rounds.proofs.Stands.{has_where, once_where}
-use Rattle.laws_of_rounds.proofs.Surpluses.{kept_of, others, others_fewer, kept_step, chosen_first, least_among, least_there}
+use Rattle.laws_of_rounds.proofs.Surpluses.{kept_of, others, kept_step, chosen_first, least_among, least_there}
 use Rattle.laws_of_rounds.proofs.Marked.{marked_is, marked_unmarked, unordered_dropped}
 use Rattle.laws_of_rounds.proofs.Reasons.{marks_unmarked, none_unknown, none_made_live}
 
@@ -218,19 +217,19 @@ module _ (C : Cluster) where
           let kept : List ℕ = kept_of (excess_among C k (others x candidates)) (others x candidates) in
           let all : List ℕ = kept_of (option_map_or (λ y. y ∷ excess_among C k (others y candidates)) (least (excess_cmp C candidates) candidates) []) candidates in
           let is : all ≡ kept =
-            ap (λ xs. kept_of xs candidates) (chosen_first C k candidates (least (excess_cmp C candidates) candidates) x e) ∙ kept_step x (excess_among C k (others x candidates)) candidates in
+          ap (λ xs. kept_of xs candidates) (chosen_first C k candidates (least (excess_cmp C candidates) candidates) x e) ∙ kept_step x (excess_among C k (others x candidates)) candidates in
           let x_there : has candidates x ≡ true = least_among (excess_cmp C candidates) candidates x e in
           let has_t_kept : has kept t ≡ true = subst (λ xs. has xs t ≡ true) is f in
           let mate_kept : has_rack_mate C kept t ≡ true = subst (λ xs. has_rack_mate C xs t ≡ true) is g in
           let t_there : has candidates t ≡ true =
-            and_second (not (has (option_map_or (λ y. y ∷ excess_among C k (others y candidates)) (least (excess_cmp C candidates) candidates) []) t)) (has candidates t)
-            (sym (has_filter (λ z. not (has (option_map_or (λ y. y ∷ excess_among C k (others y candidates)) (least (excess_cmp C candidates) candidates) []) z)) candidates t) ∙ f) in
+          and_second (not (has (option_map_or (λ y. y ∷ excess_among C k (others y candidates)) (least (excess_cmp C candidates) candidates) []) t)) (has candidates t)
+          (sym (has_filter (λ z. not (has (option_map_or (λ y. y ∷ excess_among C k (others y candidates)) (least (excess_cmp C candidates) candidates) []) z)) candidates t) ∙ f) in
           let x_mate : has_rack_mate C candidates x ≡ true =
-            first_has_mate candidates x t e t_there (mate_before (option_map_or (λ y. y ∷ excess_among C k (others y candidates)) (least (excess_cmp C candidates) candidates) []) candidates t g) in
+          first_has_mate candidates x t e t_there (mate_before (option_map_or (λ y. y ∷ excess_among C k (others y candidates)) (least (excess_cmp C candidates) candidates) []) candidates t g) in
           let other = some_passing (share_rack C x) (others x candidates) (other_mate candidates x once x_there x_mate) in
           let other_stays : list_any (share_rack C other.0) kept ≡ true = rest x other.0 other.1 (share_other C x other.0 other.2) has_t_kept mate_kept in
           let stays : list_any (share_rack C s) kept ≡ true =
-            by_same (s == x) refl x other.0 kept other.2 other_stays (λ ne. rest x s (has_filter (λ z. not (z == x)) candidates s ∙ ap (λ b. not b && has candidates s) ne ∙ there) self has_t_kept mate_kept) in
+          by_same (s == x) refl x other.0 kept other.2 other_stays (λ ne. rest x s (has_filter (λ z. not (z == x)) candidates s ∙ ap (λ b. not b && has candidates s) ne ∙ there) self has_t_kept mate_kept) in
           subst (λ xs. list_any (share_rack C s) xs ≡ true) (sym is) stays
         where
           by_same : (b : Bool) → (b ≡ b) → (x y : ℕ) (kept : List ℕ) → share_rack C x y ≡ true → list_any (share_rack C y) kept ≡ true → ((s == x) ≡ false → list_any (share_rack C s) kept ≡ true) → list_any (share_rack C s) kept ≡ true
@@ -277,6 +276,7 @@ shared_stays M b s t lawful there has_t mate = by_info (get M.holdings.blocks b)
         subst (λ xs. list_any (share_rack M.cluster s) xs ≡ true) (sym is)
         (rack_stays M.cluster k (live_unmarked M b) s t (once_where is_live (unmarked M).holdings b) there (live_on_rack M b s lawful there)
         (subst (λ xs. has xs t ≡ true) is has_t) (subst (λ xs. has_rack_mate M.cluster xs t ≡ true) is mate))
+
     by_info : (o : Option BlockInfo) → get M.holdings.blocks b ≡ o → list_any (share_rack M.cluster s) (live_marked M b) ≡ true
     by_info None e = of_count 0 (marked_unmarked M b ∙ ap (λ xs. kept_of xs (live_unmarked M b)) (none_unknown M b e))
     by_info (Some i) e = of_count (length (live_unmarked M b) - i.repl) (marked_is M b i e)
@@ -291,6 +291,7 @@ two_pass p xs t u once at_t at_u pass_t pass_u apart =
     not_same : (b : Bool) → (u == t) ≡ b → (u == t) ≡ false
     not_same true e = absurd (apart (sym (eqb-true u t e)))
     not_same false e = e
+
     some_filtered : (q : ℕ → Bool) (ys : List ℕ) (y : ℕ) → has ys y ≡ true → q y ≡ true → 1 ≤ length (filter q ys)
     some_filtered q ys y there e = long (filter q ys) (has_filter q ys y ∙ ap (λ b. b && has ys y) e ∙ there)
       where
@@ -304,7 +305,7 @@ last_stays M b s t u lawful there at_t at_u apart same =
     let C : Cluster = M.cluster in
     let rack = share_is C t t (live_on_rack M b t lawful (none_made_live M b t at_t)) in
     let mate : has_rack_mate C (live_marked M b) t ≡ true =
-      of_mate C (live_marked M b) t (mates_are C (live_marked M b) t (two_pass (share_rack C t) (live_marked M b) t u (once_where is_live (started M).holdings b) at_t at_u (share_of C t t rack.0 rack.1 rack.1) (share_of C t u rack.0 rack.1 (sym same ∙ rack.1)) apart)) in
+    of_mate C (live_marked M b) t (mates_are C (live_marked M b) t (two_pass (share_rack C t) (live_marked M b) t u (once_where is_live (started M).holdings b) at_t at_u (share_of C t t rack.0 rack.1 rack.1) (share_of C t u rack.0 rack.1 (sym same ∙ rack.1)) apart)) in
     let left = some_passing (share_rack C s) (live_marked M b) (shared_stays M b s t lawful there at_t mate) in
     let racks = share_is C s left.0 left.2 in
     (left.0, left.1, racks.2 ∙ sym racks.1)

@@ -1,7 +1,7 @@
 -- The laws of deletes from their parts.
-use Rattle.std.specs.Prelude.{◌≡◌, ℕ, ◌+◌, ◌-◌, ◌≤◌, ◌⊎◌, Bool, true, false, not, ◌&&◌, ◌||◌, ◌==◌, nat_le, if◌then◌else◌, List, [], ◌∷◌, filter, length, Option, Some, None, is_some, option_map}
+use Rattle.std.specs.Prelude.{◌≡◌, ℕ, ◌+◌, ◌-◌, ◌≤◌, ◌⊎◌, Bool, true, false, not, ◌&&◌, ◌==◌, nat_le, if◌then◌else◌, List, [], ◌∷◌, filter, length, Option, Some, None, option_map}
 use Rattle.std.specs.Option.{option_map_or}
-use Rattle.std.proofs.Common.{cond, refl, sym, ap, subst, ◌∙◌, arith, inl, inr}
+use Rattle.std.proofs.Common.{cond, refl, sym, ap, ◌∙◌, arith, inl, inr}
 use Rattle.std.proofs.lemmas.Bool.{leb-true, false≢true, true≢false}
 use Rattle.bm_base.specs.declared.replica.ReplicaId.{ReplicaId}
 use Rattle.bm_base.specs.declared.replica.Tag.{Tag}
@@ -11,7 +11,7 @@ use Rattle.bm_base.specs.declared.replica.BlockInfo.{BlockInfo}
 use Rattle.bm_base.specs.Map.{get}
 use Rattle.bm_base.specs.State.{State, replica_at}
 use Rattle.bm_base.specs.Lists.{has}
-use Rattle.bm_base.specs.Replicas.{live, is_live, is_good, is_stray, is_corrupt}
+use Rattle.bm_base.specs.Replicas.{is_live, is_good, is_stray, is_corrupt}
 use Rattle.bm_base.specs.Excess.{begun, started, without_expired, without_unordered_excess, marked, excess_in, excess_of, excess_among}
 use Rattle.bm_base.specs.Deletes.{has_enough_live}
 use Rattle.bm_base.specs.Lawful.{IsLawful}
@@ -107,7 +107,7 @@ corrupt_waits M q m lawful h found corrupt =
     let was = marks_before M q is.0 is.1 in
     let marks = deleted_marks M q is.0 is.2 in
     let good : is.0.excess ≡ true → is_good is.0.tag ≡ true =
-      λ e. sym (ap is_good (sym (remarked_tag (surplus_of M q.block) q.storage was.0) ∙ ap (λ n. n.tag) was.2)) ∙ excess_good M q was.0 lawful was.1 (ap (λ n. n.excess) was.2 ∙ e) in
+    λ e. sym (ap is_good (sym (remarked_tag (surplus_of M q.block) q.storage was.0) ∙ ap (λ n. n.tag) was.2)) ∙ excess_good M q was.0 lawful was.1 (ap (λ n. n.excess) was.2 ∙ e) in
     enough_known M q.block
     (corrupt_only is.0.tag is.0.excess (has_enough_live M.cluster (started M).holdings q.block) (ap (λ n. is_corrupt n.tag) same ∙ corrupt) good marks.1)
 
@@ -143,10 +143,10 @@ surplus_count M b i known =
     let count = marked_count M b i known in
     let all = parts (λ s. has (live_marked M b) s) (live_unmarked M b) in
     let kept : filter (λ s. has (live_marked M b) s) (live_unmarked M b) ≡ live_marked M b =
-      filter_same_among (λ s. has (live_marked M b) s) (λ s. not (has (surplus_of M b) s)) (live_unmarked M b)
-      (λ s h. ap (λ xs. has xs s) (marked_unmarked M b) ∙ has_filter (λ z. not (has (surplus_of M b) z)) (live_unmarked M b) s ∙ ap (λ t. not (has (surplus_of M b) s) && t) h
-      ∙ (elim (not (has (surplus_of M b) s)) as (λ t. (t && true) ≡ t) [ true ↦ refl | false ↦ refl ]))
-      ∙ sym (marked_unmarked M b) in
+    filter_same_among (λ s. has (live_marked M b) s) (λ s. not (has (surplus_of M b) s)) (live_unmarked M b)
+    (λ s h. ap (λ xs. has xs s) (marked_unmarked M b) ∙ has_filter (λ z. not (has (surplus_of M b) z)) (live_unmarked M b) s ∙ ap (λ t. not (has (surplus_of M b) s) && t) h
+    ∙ (elim (not (has (surplus_of M b) s)) as (λ t. (t && true) ≡ t) [ true ↦ refl | false ↦ refl ]))
+    ∙ sym (marked_unmarked M b) in
     let long = ap length kept in
     omega (arith, count, all, long)
 
@@ -154,13 +154,15 @@ pub leaves_enough : (M : State) (b : ℕ) (i : BlockInfo) → get M.holdings.blo
     → (i.repl ≤ length (live_unmarked M b) → length (live_after M b) ≡ i.repl) × (length (live_unmarked M b) ≤ i.repl → live_after M b ≡ live_unmarked M b)
 leaves_enough M b i known =
     let count = marked_count M b i known in
-    let after = ap length (after_marked M b) in
-    (λ h. omega (arith, count, after, h),
-    λ h. after_marked M b ∙ marked_is M b i known
-      ∙ ap (λ k. kept_of (excess_among M.cluster k (live_unmarked M b)) (live_unmarked M b)) (no_surplus (length (live_unmarked M b)) i.repl h) ∙ all_kept (live_unmarked M b))
+    let after = ap length (after_marked M b) in (
+      λ h. omega (arith, count, after, h),
+      λ h. after_marked M b ∙ marked_is M b i known
+          ∙ ap (λ k. kept_of (excess_among M.cluster k (live_unmarked M b)) (live_unmarked M b)) (no_surplus (length (live_unmarked M b)) i.repl h) ∙ all_kept (live_unmarked M b),
+    )
   where
     no_surplus : (n k : ℕ) → n ≤ k → n - k ≡ 0
     no_surplus n k h = omega arith
+
     all_kept : (xs : List ℕ) → kept_of [] xs ≡ xs
     all_kept [] = refl
     all_kept (x ∷ xs) = ap (λ ys. x ∷ ys) (all_kept xs)
@@ -175,19 +177,22 @@ excess_stays false false m e f = absurd (false≢true e)
 
 pub ordered_stays_excess : (M : State) (q : ReplicaId) (m : Marks) → get M.holdings.replicas q ≡ Some m → m.ordered ≡ true → m.excess ≡ true
     → (n : Marks) × (get (started M).holdings.replicas q ≡ Some n) × (n.excess ≡ true)
-ordered_stays_excess M q m found ordered excess =
-    (remarked (surplus_of M q.block) q.storage m, marks_started M q ∙ ap (option_map (remarked (surplus_of M q.block) q.storage)) found,
-    excess_stays (has (surplus_of M q.block) q.storage) m.ordered m ordered excess)
+ordered_stays_excess M q m found ordered excess = (
+  remarked (surplus_of M q.block) q.storage m,
+  marks_started M q ∙ ap (option_map (remarked (surplus_of M q.block) q.storage)) found,
+  excess_stays (has (surplus_of M q.block) q.storage) m.ordered m ordered excess,
+)
 
 pub other_is_new : (M : State) (q : ReplicaId) (n : Marks) → get (started M).holdings.replicas q ≡ Some n → n.ordered ≡ false → n.excess ≡ true
     → (has (live_unmarked M q.block) q.storage ≡ true) × (has (live_marked M q.block) q.storage ≡ false)
 other_is_new M q n found unordered excess =
     let was = marks_before M q n found in
     let chosen : has (surplus_of M q.block) q.storage ≡ true =
-      remarked_excess (surplus_of M q.block) q.storage was.0 (sym (remarked_ordered (surplus_of M q.block) q.storage was.0) ∙ ap (λ m. m.ordered) was.2 ∙ unordered) (ap (λ m. m.excess) was.2 ∙ excess) in
-    (surplus_live M q.block q.storage chosen,
-    ap (λ xs. has xs q.storage) (marked_unmarked M q.block) ∙ has_filter (λ z. not (has (surplus_of M q.block) z)) (live_unmarked M q.block) q.storage
-      ∙ ap (λ t. not t && has (live_unmarked M q.block) q.storage) chosen)
+    remarked_excess (surplus_of M q.block) q.storage was.0 (sym (remarked_ordered (surplus_of M q.block) q.storage was.0) ∙ ap (λ m. m.ordered) was.2 ∙ unordered) (ap (λ m. m.excess) was.2 ∙ excess) in (
+      surplus_live M q.block q.storage chosen,
+      ap (λ xs. has xs q.storage) (marked_unmarked M q.block) ∙ has_filter (λ z. not (has (surplus_of M q.block) z)) (live_unmarked M q.block) q.storage
+          ∙ ap (λ t. not t && has (live_unmarked M q.block) q.storage) chosen,
+    )
 
 counts_again : (o : Bool) (m : Marks) → is_good m.tag ≡ true → o ≡ false → is_live (if o then m else record m { excess = false }) ≡ true
 counts_again true m good e = absurd (true≢false e)

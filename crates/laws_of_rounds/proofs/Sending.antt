@@ -1,5 +1,5 @@
 -- The laws of transfers that each choice keeps.
-use Rattle.std.specs.Prelude.{◌≡◌, ℕ, zero, suc, ◌+◌, ◌*◌, ◌-◌, ◌≤◌, ◌<◌, ◌⊎◌, Bool, true, false, not, ◌&&◌, ◌||◌, ◌==◌, nat_lt, nat_le, if◌then◌else◌, List, [], ◌∷◌, ◌++◌, map, filter, flat_map, length, count_by, sum_by, Option, Some, None, is_some, option_map}
+use Rattle.std.specs.Prelude.{◌≡◌, ℕ, ◌+◌, ◌*◌, ◌≤◌, ◌<◌, ◌⊎◌, Bool, true, false, not, ◌&&◌, ◌||◌, ◌==◌, nat_le, if◌then◌else◌, List, [], ◌∷◌, ◌++◌, map, filter, flat_map, length, count_by, sum_by, Option, Some, None, is_some, option_map}
 use Rattle.std.specs.Option.{option_map_or}
 use Rattle.std.specs.List.{list_any, All}
 use Rattle.std.proofs.Common.{cond, refl, sym, ap, subst, ◌∙◌, arith, inl, inr}
@@ -14,7 +14,7 @@ use Rattle.bm_base.specs.declared.replica.BlockInfo.{BlockInfo}
 use Rattle.bm_base.specs.declared.commands.Transfer.{Transfer}
 use Rattle.bm_base.specs.declared.commands.Delete.{Delete}
 use Rattle.bm_base.specs.declared.commands.NodeCommands.{NodeCommands}
-use Rattle.bm_base.specs.Map.{get, keys, entries, len, contains_key}
+use Rattle.bm_base.specs.Map.{get, keys, entries, len}
 use Rattle.bm_base.specs.State.{RoundLimits, Cluster, Holdings, State, replica_at}
 use Rattle.bm_base.specs.Lists.{has, has_repeats}
 use Rattle.bm_base.specs.Replicas.{live, node_of, has_storage, storages_where}
@@ -25,7 +25,7 @@ use Rattle.bm_base.specs.Replicas.{racks}
 use Rattle.bm_base.specs.Rounds.{whole_round, commands_of, node_commands, has_commands}
 use Rattle.laws_of_rounds.specs.Words.{IsAmong, transfers_chosen, transfers_commanded, live_marked}
 use Rattle.laws_of_rounds.specs.Transfers.{IsFreshNode}
-use Rattle.laws_of_rounds.proofs.Listed.{Each, each_weaker, any_append, or_left, or_right, same_again, filter_append, length_append, filter_filter, any_map, any_filter, length_filter-le}
+use Rattle.laws_of_rounds.proofs.Listed.{any_append, or_left, or_right, same_again, filter_append, length_append, filter_filter, any_map, any_filter}
 use Rattle.laws_of_rounds.proofs.Stands.{has_where, has_listed, listed}
 use Rattle.laws_of_rounds.proofs.Grouped.{has_keys, once_keys, on_one_node, each_node, all_of_each}
 use Rattle.laws_of_rounds.proofs.Commanded.{chosen_deletes_of}
@@ -101,9 +101,9 @@ module _ (limits : RoundLimits) (C : Cluster) (H : Holdings) where
       → length (filter (λ (u : Transfer). has_storage C n u.source) (front ++ t ∷ [])) ≤ 4
   four_more n front t few why =
       let long : length (filter (λ (u : Transfer). has_storage C n u.source) (front ++ t ∷ []))
-        ≡ length (filter (λ (u : Transfer). has_storage C n u.source) front) + length (filter (λ (u : Transfer). has_storage C n u.source) (t ∷ [])) =
-        ap length (filter_append (λ (u : Transfer). has_storage C n u.source) front (t ∷ []))
-        ∙ length_append (filter (λ (u : Transfer). has_storage C n u.source) front) (filter (λ (u : Transfer). has_storage C n u.source) (t ∷ [])) in
+      ≡ length (filter (λ (u : Transfer). has_storage C n u.source) front) + length (filter (λ (u : Transfer). has_storage C n u.source) (t ∷ [])) =
+      ap length (filter_append (λ (u : Transfer). has_storage C n u.source) front (t ∷ []))
+      ∙ length_append (filter (λ (u : Transfer). has_storage C n u.source) front) (filter (λ (u : Transfer). has_storage C n u.source) (t ∷ [])) in
       (elim (has_storage C n t.source) as (λ b. has_storage C n t.source ≡ b → length (filter (λ (u : Transfer). has_storage C n u.source) (front ++ t ∷ [])) ≤ 4) [
         | true ↦ λ e.
             let below = limit_four why.urgency (streams_from C front t.source) (source_is C front why.urgency (live C H t.block) t.source why.source).0 in

@@ -1,17 +1,15 @@
 -- Lists by what stands in them: what each number once keeps, and racks.
-use Rattle.std.specs.Prelude.{◌≡◌, ℕ, Bool, true, false, not, ◌&&◌, ◌||◌, ◌==◌, if◌then◌else◌, List, [], ◌∷◌, ◌++◌, map, filter_map, Option, Some, None, is_some}
+use Rattle.std.specs.Prelude.{◌≡◌, ℕ, Bool, true, false, ◌||◌, ◌==◌, List, [], ◌∷◌, map, filter_map, Option, Some, None, is_some}
 use Rattle.std.specs.Option.{option_map_or}
 use Rattle.std.specs.List.{list_any, cons_option}
-use Rattle.std.specs.Ordering.{nat_cmp, eq_by_cmp}
-use Rattle.std.proofs.Common.{cond, refl, sym, ap, subst, ◌∙◌}
-use Rattle.std.proofs.lemmas.Bool.{eqb-true, false≢true, true≢false}
+use Rattle.std.proofs.Common.{cond, refl, sym, ap, ◌∙◌}
 use Rattle.bm_base.specs.Map.{Map, by_number, empty, insert, insert_all, get, keys}
 use Rattle.bm_base.specs.State.{Cluster}
 use Rattle.bm_base.specs.Lists.{has, distinct}
 use Rattle.bm_base.specs.Replicas.{racks, rack_of}
 use Rattle.bm_base.proofs.MapLaws.{get-insert, get-empty, same_map}
 use Rattle.bm_base.proofs.Ties.{number_tie}
-use Rattle.laws_of_rounds.proofs.Listed.{eq_turned, or_left, or_right, same_again}
+use Rattle.laws_of_rounds.proofs.Listed.{eq_turned, same_again}
 use Rattle.laws_of_rounds.proofs.Grouped.{has_keys}
 use Rattle.laws_of_rounds.proofs.Racked.{some_passing, passing_some}
 

@@ -1,24 +1,24 @@
 -- What stands in a map and in a block's lists of storages.
-use Rattle.std.specs.Prelude.{◌≡◌, ℕ, Bool, true, false, not, ◌&&◌, ◌||◌, ◌==◌, if◌then◌else◌, List, [], ◌∷◌, map, filter, Option, Some, None, is_some, T}
+use Rattle.std.specs.Prelude.{◌≡◌, ℕ, Bool, true, false, ◌&&◌, ◌||◌, ◌==◌, List, [], ◌∷◌, map, filter, Some, None, is_some, T}
 use Rattle.std.specs.Option.{option_map_or}
 use Rattle.std.specs.List.{list_any}
 use Rattle.std.specs.declared.cmp.Ordering.{Ordering}
 use Rattle.std.specs.declared.cmp.Ordering.TheVariants.{Less, Equal, Greater}
-use Rattle.std.specs.Ordering.{nat_cmp, eq_by_cmp, is_eq, is_lt}
+use Rattle.std.specs.Ordering.{nat_cmp, eq_by_cmp, is_eq}
 use Rattle.std.specs.FinMap.{find, is_sorted}
 use Rattle.std.specs.FinMap.Entries.{below_all}
 use Rattle.std.proofs.Common.{cond, refl, sym, ap, subst, ◌∙◌}
-use Rattle.std.proofs.lemmas.Bool.{eqb-true, false≢true, true≢false}
-use Rattle.bm_base.specs.Conjunction.{both, first, second}
+use Rattle.std.proofs.lemmas.Bool.{eqb-true, true≢false}
+use Rattle.bm_base.specs.Conjunction.{first, second}
 use Rattle.bm_base.specs.declared.replica.ReplicaId.{ReplicaId}
 use Rattle.bm_base.specs.declared.replica.Marks.{Marks}
-use Rattle.bm_base.specs.Map.{Map, Order, by_number, get, keys, entries, contains_key, revise}
+use Rattle.bm_base.specs.Map.{Map, Order, by_number, get, entries, revise}
 use Rattle.bm_base.specs.State.{Holdings, by_replica, replica_cmp, replica_at}
 use Rattle.bm_base.specs.Lists.{has, has_repeats}
 use Rattle.bm_base.specs.Replicas.{storages_where}
 use Rattle.bm_base.proofs.MapLaws.{find_below, entries-revise}
 use Rattle.bm_base.proofs.Ties.{number_tie, replica_tie}
-use Rattle.laws_of_rounds.proofs.Listed.{Each, each_weaker, any_map, any_filter, any_agree, eq_turned, or_right, same_again}
+use Rattle.laws_of_rounds.proofs.Listed.{Each, each_weaker, any_map, any_filter, any_agree, eq_turned, same_again}
 
 equal : (r : Ordering) → is_eq r ≡ true → r ≡ Equal
 equal Less p = cc
@@ -57,9 +57,10 @@ module _ {K X : Type 0} (o : Order K) where
   -- each entry is found under its key
   pub found_each : ((k : K) → eq_by_cmp o.cmp k k ≡ true) → (es : List (K × X)) → T (is_sorted o.cmp es) → Each (λ e. find o.cmp e.0 es ≡ Some e.1) es
   found_each same [] h = tt
-  found_each same (e ∷ es) h =
-      (ap (λ b. cond b (Some e.1) (find o.cmp e.0 es)) (same e.0),
-      each_weaker (λ d. find o.cmp d.0 es ≡ Some d.1) (λ d. find o.cmp d.0 (e ∷ es) ≡ Some d.1) (found_further e es (first _ _ h)) es (found_each same es (second _ _ h)))
+  found_each same (e ∷ es) h = (
+    ap (λ b. cond b (Some e.1) (find o.cmp e.0 es)) (same e.0),
+    each_weaker (λ d. find o.cmp d.0 es ≡ Some d.1) (λ d. find o.cmp d.0 (e ∷ es) ≡ Some d.1) (found_further e es (first _ _ h)) es (found_each same es (second _ _ h)),
+  )
 
 number_again : (k : ℕ) → eq_by_cmp nat_cmp k k ≡ true
 number_again k = number_tie k k ∙ same_again k
@@ -120,9 +121,9 @@ once_listed p b (e ∷ es) h =
     elim (e.0.block == b) as (λ t. (e.0.block == b) ≡ t → has_repeats (map (λ f. f.0.storage) (cond (t && p e.1) (e ∷ filter (λ f. (f.0.block == b) && p f.1) es) (filter (λ f. (f.0.block == b) && p f.1) es))) ≡ false) [
       | true ↦ λ t.
           let none : find replica_cmp (replica_at b e.0.storage) es ≡ None =
-            ap (λ c. find replica_cmp (replica_at c e.0.storage) es) (sym (eqb-true e.0.block b t)) ∙ find_below replica_cmp e.0 es (first _ _ h) in
+          ap (λ c. find replica_cmp (replica_at c e.0.storage) es) (sym (eqb-true e.0.block b t)) ∙ find_below replica_cmp e.0 es (first _ _ h) in
           let alone : has (listed p b es) e.0.storage ≡ false =
-            any_listed p b e.0.storage es ∙ any_at by_replica (replica_at b e.0.storage) p es (second _ _ h) ∙ ap (λ v. option_map_or p v false) none in
+          any_listed p b e.0.storage es ∙ any_at by_replica (replica_at b e.0.storage) p es (second _ _ h) ∙ ap (λ v. option_map_or p v false) none in
           elim (p e.1) as (λ u. has_repeats (map (λ f. f.0.storage) (cond u (e ∷ filter (λ f. (f.0.block == b) && p f.1) es) (filter (λ f. (f.0.block == b) && p f.1) es))) ≡ false) [
             | true ↦ ap (λ u. u || has_repeats (listed p b es)) alone ∙ rest
             | false ↦ rest

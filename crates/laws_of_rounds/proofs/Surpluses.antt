@@ -1,19 +1,14 @@
 -- What is chosen as surplus of some storages, and what is left.
-use Rattle.std.specs.Prelude.{◌≡◌, ℕ, zero, suc, ◌+◌, ◌-◌, ◌≤◌, ◌<◌, Bool, true, false, not, ◌&&◌, ◌||◌, ◌==◌, nat_lt, nat_le, if◌then◌else◌, List, [], ◌∷◌, filter, length, count_by, Option, Some, None, is_some}
+use Rattle.std.specs.Prelude.{◌≡◌, ℕ, zero, suc, ◌+◌, ◌≤◌, Bool, true, false, not, ◌&&◌, ◌||◌, ◌==◌, if◌then◌else◌, List, [], ◌∷◌, filter, length, Option, Some, None, is_some}
 use Rattle.std.specs.declared.cmp.Ordering.{Ordering}
-use Rattle.std.specs.declared.cmp.Ordering.TheVariants.{Less, Equal, Greater}
-use Rattle.std.specs.Ordering.{is_lt, nat_cmp, ordering_then}
+use Rattle.std.specs.Ordering.{is_lt}
 use Rattle.std.specs.Option.{option_map_or}
-use Rattle.std.specs.List.{list_any}
-use Rattle.std.specs.Cmp.{IsTotalOrder, IsStrictWeakOrder, nat_cmp_total}
 use Rattle.std.proofs.Common.{cond, refl, sym, ap, subst, ◌∙◌, arith}
-use Rattle.std.proofs.lemmas.Bool.{eqb-true, false≢true, true≢false}
-use Rattle.std.proofs.lemmas.List.Sums.{length-filter}
+use Rattle.std.proofs.lemmas.Bool.{eqb-true, false≢true}
 use Rattle.bm_base.specs.State.{Cluster}
 use Rattle.bm_base.specs.Lists.{has, has_repeats, least}
-use Rattle.bm_base.specs.Replicas.{rack_of}
-use Rattle.bm_base.specs.Excess.{excess_cmp, excess_among, excess_of, share_rack, has_rack_mate}
-use Rattle.laws_of_rounds.proofs.Listed.{count_without, has_filter, once_filter, filter_filter, eq_turned, or_left, or_right, same_again, any_weaker, and_second, some_same}
+use Rattle.bm_base.specs.Excess.{excess_cmp, excess_among}
+use Rattle.laws_of_rounds.proofs.Listed.{count_without, has_filter, once_filter, filter_filter, eq_turned, or_left, or_right, same_again, and_second, some_same}
 
 all_pass : {X : Type 0} (xs : List X) → filter (λ _. true) xs ≡ xs
 all_pass [] = refl
@@ -88,7 +83,7 @@ module _ (C : Cluster) where
           let r = rest x there in
           let f = others_fewer x candidates once there in
           let g : length (kept_of (option_map_or (λ y. y ∷ excess_among C k (others y candidates)) (least (excess_cmp C candidates) candidates) []) candidates) ≡ length (kept_of (excess_among C k (others x candidates)) (others x candidates)) =
-            ap (λ xs. length (kept_of xs candidates)) (chosen_first k candidates (least (excess_cmp C candidates) candidates) x e) ∙ ap length (kept_step x (excess_among C k (others x candidates)) candidates) in
+          ap (λ xs. length (kept_of xs candidates)) (chosen_first k candidates (least (excess_cmp C candidates) candidates) x e) ∙ ap length (kept_step x (excess_among C k (others x candidates)) candidates) in
           omega (arith, r, f, g)
 
   -- what is chosen is of the candidates
@@ -100,6 +95,7 @@ module _ (C : Cluster) where
           → (b : Bool) → (x == s) ≡ b → (b || has (excess_among C k (others x candidates)) s) ≡ true → has candidates s ≡ true
       by_case x there rest true e f = subst (λ z. has candidates z ≡ true) (eqb-true x s e) there
       by_case x there rest false e f = and_second (not (s == x)) (has candidates s) (sym (has_filter (λ z. not (z == x)) candidates s) ∙ rest f)
+
       by_least : (m : Option ℕ) → least (excess_cmp C candidates) candidates ≡ m
           → ((x : ℕ) → has (excess_among C k (others x candidates)) s ≡ true → has (others x candidates) s ≡ true)
           → has (option_map_or (λ x. x ∷ excess_among C k (others x candidates)) (least (excess_cmp C candidates) candidates) []) s ≡ true → has candidates s ≡ true

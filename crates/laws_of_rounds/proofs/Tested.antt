@@ -1,11 +1,9 @@
 -- What is commanded to be deleted, as the laws say it, and as the definitions test it.
-use Rattle.std.specs.Prelude.{◌≡◌, ℕ, ◌≤◌, Bool, true, false, ◌&&◌, ◌==◌, List, length, Option, Some}
-use Rattle.std.proofs.Common.{sym, subst, refl}
+use Rattle.std.specs.Prelude.{◌≡◌, Bool, true, false, ◌&&◌, ◌==◌}
+use Rattle.std.proofs.Common.{subst}
 use Rattle.bm_base.specs.declared.replica.ReplicaId.{ReplicaId}
-use Rattle.bm_base.specs.declared.replica.Marks.{Marks}
-use Rattle.bm_base.specs.declared.replica.BlockInfo.{BlockInfo}
 use Rattle.bm_base.specs.declared.commands.Delete.{Delete}
-use Rattle.bm_base.specs.State.{State, replica_at}
+use Rattle.bm_base.specs.State.{State}
 use Rattle.bm_base.specs.Rounds.{is_commanded}
 use Rattle.laws_of_rounds.specs.Words.{IsAmong, IsDeleteCommanded, deletes_commanded}
 use Rattle.laws_of_rounds.proofs.Listed.{same_again}

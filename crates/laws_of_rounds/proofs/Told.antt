@@ -1,31 +1,29 @@
 -- What nodes are told, in order, and that all that is chosen is told.
-use Rattle.std.specs.Prelude.{◌≡◌, ℕ, zero, suc, ◌+◌, ◌≤◌, ◌<◌, ◌⊎◌, Bool, true, false, not, ◌&&◌, ◌||◌, ◌==◌, nat_lt, if◌then◌else◌, List, [], ◌∷◌, ◌++◌, map, filter, flat_map, length, Option, Some, None, is_some, option_map}
+use Rattle.std.specs.Prelude.{◌≡◌, ℕ, ◌+◌, ◌≤◌, ◌<◌, ◌⊎◌, Bool, true, false, ◌&&◌, ◌||◌, ◌==◌, if◌then◌else◌, List, [], ◌∷◌, ◌++◌, map, filter, flat_map, length, Option, Some, None, is_some, option_map}
 use Rattle.std.specs.Option.{option_map_or}
 use Rattle.std.specs.List.{list_any, All}
 use Rattle.std.proofs.Common.{cond, refl, sym, ap, subst, ◌∙◌, arith, inl, inr, append_assoc}
-use Rattle.std.proofs.lemmas.Bool.{eqb-true, lt-ltb, false≢true, true≢false}
+use Rattle.std.proofs.lemmas.Bool.{eqb-true, lt-ltb, false≢true}
 use Rattle.bm_base.specs.declared.replica.ReplicaId.{ReplicaId}
 use Rattle.bm_base.specs.declared.replica.Marks.{Marks}
 use Rattle.bm_base.specs.declared.level.Level.TheVariants.{Highest}
-use Rattle.bm_base.specs.declared.storage.StorageInfo.{StorageInfo}
 use Rattle.bm_base.specs.declared.commands.Transfer.{Transfer}
 use Rattle.bm_base.specs.declared.commands.Delete.{Delete}
 use Rattle.bm_base.specs.declared.commands.NodeCommands.{NodeCommands}
-use Rattle.bm_base.specs.Map.{get, keys, contains_key}
+use Rattle.bm_base.specs.Map.{get, keys}
 use Rattle.bm_base.specs.State.{RoundLimits, Cluster, Holdings, State, replica_at}
 use Rattle.bm_base.specs.Lists.{has}
 use Rattle.bm_base.specs.Replicas.{node_of, has_storage, live, is_live}
 use Rattle.bm_base.specs.Levels.{level}
 use Rattle.bm_base.specs.Excess.{begun, started}
-use Rattle.bm_base.specs.Transfers.{streams_from}
 use Rattle.bm_base.specs.Deletes.{deletes_of, deletes}
 use Rattle.bm_base.specs.Lawful.{IsLawful}
 use Rattle.bm_base.specs.Rounds.{whole_round, commands_of, node_commands, has_commands, is_commanded}
-use Rattle.laws_of_rounds.specs.Words.{IsAmong, IsTransferCommanded, deletes_commanded, transfers_commanded, transfers_chosen, after_round}
+use Rattle.laws_of_rounds.specs.Words.{IsAmong, IsTransferCommanded, deletes_commanded, transfers_chosen, after_round}
 use Rattle.laws_of_rounds.proofs.Listed.{Each, each_all, each_weaker, each_filter_by, each_flat_map, each_any, or_left, or_right, same_again, some_same}
 use Rattle.laws_of_rounds.proofs.Stands.{has_where}
 use Rattle.laws_of_rounds.proofs.Grouped.{has_keys, each_node, each_on_node, all_of_each}
-use Rattle.laws_of_rounds.proofs.Commanded.{IsTested, chosen_deletes_of, deleted_is, at_same}
+use Rattle.laws_of_rounds.proofs.Commanded.{IsTested, chosen_deletes_of, deleted_is}
 use Rattle.laws_of_rounds.proofs.Kept.{marks_started, marks_before, remarked, remarked_ordered, surplus_of, from_some}
 use Rattle.laws_of_rounds.proofs.Marked.{ordered_by}
 use Rattle.laws_of_rounds.proofs.Sending.{node_is, storage_is, streams_of_node, two_below, source_live}
@@ -36,11 +34,12 @@ use Rattle.laws_of_rounds.proofs.Later.{each_among, each_is, commanded_chosen, o
 own_of : (C : Cluster) (ts : List Transfer) (ds : List Delete) (n : ℕ)
     → All (λ (t : Transfer). node_of C t.source ≡ Some n) (node_commands C ts ds n).transfers × All (λ (d : Delete). node_of C d.storage ≡ Some n) (node_commands C ts ds n).deletes
 unfolding node_commands
-own_of C ts ds n =
-    (all_of_each (λ (t : Transfer). node_of C t.source ≡ Some n) (filter (λ (t : Transfer). has_storage C n t.source) ts)
-    (each_filter_by (λ (_ : Transfer). Unit {0}) (λ t. has_storage C n t.source) (λ t. node_of C t.source ≡ Some n) (λ t _ e. node_is C n t.source e) ts (each_all (λ (_ : Transfer). Unit {0}) (λ _. tt) ts)),
-    all_of_each (λ (d : Delete). node_of C d.storage ≡ Some n) (filter (λ (d : Delete). has_storage C n d.storage) ds)
-    (each_filter_by (λ (_ : Delete). Unit {0}) (λ d. has_storage C n d.storage) (λ d. node_of C d.storage ≡ Some n) (λ d _ e. node_is C n d.storage e) ds (each_all (λ (_ : Delete). Unit {0}) (λ _. tt) ds)))
+own_of C ts ds n = (
+  all_of_each (λ (t : Transfer). node_of C t.source ≡ Some n) (filter (λ (t : Transfer). has_storage C n t.source) ts)
+      (each_filter_by (λ (_ : Transfer). Unit {0}) (λ t. has_storage C n t.source) (λ t. node_of C t.source ≡ Some n) (λ t _ e. node_is C n t.source e) ts (each_all (λ (_ : Transfer). Unit {0}) (λ _. tt) ts)),
+  all_of_each (λ (d : Delete). node_of C d.storage ≡ Some n) (filter (λ (d : Delete). has_storage C n d.storage) ds)
+      (each_filter_by (λ (_ : Delete). Unit {0}) (λ d. has_storage C n d.storage) (λ d. node_of C d.storage ≡ Some n) (λ d _ e. node_is C n d.storage e) ds (each_all (λ (_ : Delete). Unit {0}) (λ _. tt) ds)),
+)
 
 abbrev IsOwn : Cluster → NodeCommands → Type 0
 IsOwn C k = All (λ t. node_of C t.source ≡ Some k.node) k.transfers × All (λ d. node_of C d.storage ≡ Some k.node) k.deletes
@@ -81,6 +80,7 @@ unfiltered {X = X} p (y ∷ xs) front back x e = by_test (p y) refl front e (λ 
         let is : y ≡ z = cons_head y z (filter p xs) (zs ++ x ∷ back) f in
         let r = rest zs (cons_tail y z (filter p xs) (zs ++ x ∷ back) f) in
         (y ∷ r.0, r.1, ap (λ ws. y ∷ ws) r.2, ap (λ b. cond b (y ∷ filter p r.0) (filter p r.0)) t ∙ (λ j. is j ∷ r.3 j), r.4)
+
     by_test : (b : Bool) → p y ≡ b → (ys : List X) → cond b (y ∷ filter p xs) (filter p xs) ≡ ys ++ x ∷ back
         → ((zs : List X) → filter p xs ≡ zs ++ x ∷ back → (before : List X) × (after : List X) × (xs ≡ before ++ x ∷ after) × (filter p before ≡ zs) × (p x ≡ true))
         → (before : List X) × (after : List X) × (y ∷ xs ≡ before ++ x ∷ after) × (filter p before ≡ ys) × (p x ≡ true)

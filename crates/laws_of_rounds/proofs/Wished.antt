@@ -1,27 +1,26 @@
 -- A block gets no more transfers than there are wishes for it, and so no more than it lacks.
-use Rattle.std.specs.Prelude.{◌≡◌, ℕ, zero, suc, ◌+◌, ◌*◌, ◌-◌, ◌≤◌, ◌<◌, ◌⊎◌, Bool, true, false, not, ◌&&◌, ◌||◌, ◌==◌, nat_lt, nat_le, if◌then◌else◌, List, [], ◌∷◌, ◌++◌, map, filter, flat_map, length, replicate, count_by, Option, Some, None, is_some, option_map, option_and_then, option_to_list}
+use Rattle.std.specs.Prelude.{◌≡◌, ℕ, zero, suc, ◌+◌, ◌*◌, ◌≤◌, ◌⊎◌, Bool, true, false, ◌&&◌, ◌==◌, nat_lt, nat_le, if◌then◌else◌, List, [], ◌∷◌, ◌++◌, map, filter, flat_map, length, replicate, count_by, Option, Some, None, is_some, option_map, option_and_then, option_to_list}
 use Rattle.std.specs.Option.{option_map_or}
-use Rattle.std.proofs.Common.{cond, refl, sym, ap, subst, ◌∙◌, arith, inl, inr, append-nil}
+use Rattle.std.proofs.Common.{cond, refl, sym, ap, ◌∙◌, arith, inl, inr, append-nil}
 use Rattle.std.proofs.lemmas.Bool.{eqb-true, leb-true, false≢true, true≢false}
-use Rattle.std.proofs.lemmas.Bool.Decides.{nat_tests}
 use Rattle.std.proofs.lemmas.List.{length-map}
 use Rattle.bm_base.specs.declared.level.Level.{Level}
 use Rattle.bm_base.specs.declared.level.Level.TheVariants.{Highest, VeryUnderReplicated, UnderReplicated, BadlyDistributed, NoLiveReplica}
 use Rattle.bm_base.specs.declared.replica.BlockInfo.{BlockInfo}
 use Rattle.bm_base.specs.declared.commands.Transfer.{Transfer}
-use Rattle.bm_base.specs.Map.{get, keys, entries, contains_key}
+use Rattle.bm_base.specs.Map.{get, keys, entries}
 use Rattle.bm_base.specs.State.{RoundLimits, Cluster, Holdings, State}
 use Rattle.bm_base.specs.Lists.{has, distinct}
 use Rattle.bm_base.specs.Replicas.{live, racks, rack_of, is_multi_rack}
 use Rattle.bm_base.specs.Levels.{level, level_of, is_at}
 use Rattle.bm_base.specs.Excess.{begun, started, marked, without_expired, without_unordered_excess, share_rack}
-use Rattle.bm_base.specs.Transfers.{WishedCopy, wished_count, wishes_for, wishes, pending_targets, targets_of, holders_of, barred_for, is_on_racks, class_of, is_target, least_source, least_target, transfer_for, transfers_from, transfers}
+use Rattle.bm_base.specs.Transfers.{WishedCopy, wished_count, wishes_for, wishes, pending_targets, targets_of, holders_of, barred_for, is_on_racks, class_of, least_source, least_target, transfer_for, transfers_from, transfers}
 use Rattle.laws_of_rounds.specs.Words.{transfers_chosen, live_marked}
 use Rattle.laws_of_rounds.specs.Transfers.{copies_chosen, copies_on_their_way}
 use Rattle.std.proofs.lemmas.List.Sums.{length-filter}
 use Rattle.bm_base.specs.declared.replica.ReplicaId.{ReplicaId}
 use Rattle.laws_of_rounds.proofs.Needs.{level_known}
-use Rattle.laws_of_rounds.proofs.Listed.{Each, each_all, filter_append, length_append, same_again, some_same}
+use Rattle.laws_of_rounds.proofs.Listed.{Each, filter_append, length_append, same_again, some_same}
 use Rattle.laws_of_rounds.proofs.Grouped.{grouped, has_keys, once_keys}
 use Rattle.laws_of_rounds.proofs.Choosing.{target_is}
 use Rattle.laws_of_rounds.proofs.Sending.{chosen_at, target_parts}
@@ -87,6 +86,7 @@ module _ (C : Cluster) (H : Holdings) where
       where
         at : Level → List WishedCopy
         at urgency = flat_map (wishes_for C H urgency) (keys H.blocks)
+
         step : (urgency : Level) (rest : List WishedCopy) (n : ℕ) → length (filter (about b) rest) ≡ n
             → length (filter (about b) (at urgency ++ rest)) ≡ cond (is_at urgency (level C H b)) (wished_count C H urgency i.repl b) 0 + n
         step urgency rest n e =
@@ -245,9 +245,9 @@ unfolding class_of
 off_racks C holders u one = elim (length (racks C holders) == 1) as (λ t. t ≡ true
     → ((if t then (if is_on_racks C (racks C holders) u then 1 else 0) else if (length (distinct holders) == 2) && (length (racks C holders) == 2) then (if is_on_racks C (racks C holders) u then 0 else 1) else 0) == 1) ≡ false
     → is_on_racks C (racks C holders) u ≡ false) [
-  | true ↦ λ _. (elim (is_on_racks C (racks C holders) u) as (λ b. ((if b then 1 else 0) == 1) ≡ false → b ≡ false) [ true ↦ λ e. e | false ↦ λ _. refl ])
-  | false ↦ λ e. absurd (false≢true e)
-] one
+      | true ↦ λ _. (elim (is_on_racks C (racks C holders) u) as (λ b. ((if b then 1 else 0) == 1) ≡ false → b ≡ false) [ true ↦ λ e. e | false ↦ λ _. refl ])
+      | false ↦ λ e. absurd (false≢true e)
+    ] one
 
 on_rack : (C : Cluster) (rs : List ℕ) (u r : ℕ) → rack_of C u ≡ Some r → has rs r ≡ true → is_on_racks C rs u ≡ true
 unfolding is_on_racks
@@ -270,16 +270,17 @@ elsewhere : (C : Cluster) (H : Holdings) (front : List Transfer) (b u s : ℕ) �
     → ((length (racks C (holders_of C H front b)) == 1) && (class_of C (holders_of C H front b) u == 1)) ≡ false → has (live C H b) s ≡ true → share_rack C s u ≡ false
 elsewhere C H front b u s pending targets one off there =
     let same : racks C (holders_of C H front b) ≡ racks C (live C H b) =
-      ap (racks C) (holders_alone C H front b pending targets) ∙ racks_alike C (distinct (live C H b)) (live C H b) (has_distinct (live C H b)) in
+    ap (racks C) (holders_alone C H front b pending targets) ∙ racks_alike C (distinct (live C H b)) (live C H b) (has_distinct (live C H b)) in
     let single : (length (racks C (holders_of C H front b)) == 1) ≡ true = ap (λ rs. length rs == 1) same ∙ one in
     let away : is_on_racks C (racks C (live C H b)) u ≡ false =
-      ap (λ rs. is_on_racks C rs u) (sym same)
-      ∙ off_racks C (holders_of C H front b) u single (other (length (racks C (holders_of C H front b)) == 1) (class_of C (holders_of C H front b) u == 1) single off) in
+    ap (λ rs. is_on_racks C rs u) (sym same)
+    ∙ off_racks C (holders_of C H front b) u single (other (length (racks C (holders_of C H front b)) == 1) (class_of C (holders_of C H front b) u == 1) single off) in
     by_test (share_rack C s u) refl away
   where
     other : (a c : Bool) → a ≡ true → (a && c) ≡ false → c ≡ false
     other true c e f = f
     other false c e f = absurd (false≢true e)
+
     by_test : (t : Bool) → share_rack C s u ≡ t → is_on_racks C (racks C (live C H b)) u ≡ false → t ≡ false
     by_test false e f = refl
     by_test true e f =
@@ -307,14 +308,14 @@ second_rack_shared M front back t is badly s there =
     let why = chosen_at M front back t is in
     let counted = badly_counted (length (live C H t.block)) why.info.repl (length (racks C (live C H t.block))) (is_multi_rack C) (sym (level_known C H t.block why.info why.known) ∙ badly) in
     let long : length (targets_of (transfers_chosen M) t.block) ≡ length (targets_of front t.block) + length (targets_of (t ∷ back) t.block) =
-      ap (λ ts. length (targets_of ts t.block)) is ∙ count_append front (t ∷ back) t.block in
+    ap (λ ts. length (targets_of ts t.block)) is ∙ count_append front (t ∷ back) t.block in
     let head = head_count t back in
     let at = target_is C front why.urgency (holders_of C H front t.block) (barred_for H front t.block) why.info.stamp.len t.target why.target in
     let parts = target_parts C front why.urgency (holders_of C H front t.block) (barred_for H front t.block) why.info.stamp.len t.target at.0 in
     let urgent : why.urgency ≡ BadlyDistributed = some_same why.urgency BadlyDistributed (sym why.at_level ∙ badly) in
     let off = first_off (is_at BadlyDistributed (Some why.urgency)) (length (racks C (holders_of C H front t.block)) == 1) (class_of C (holders_of C H front t.block) t.target == 1) (ap (λ l. is_at BadlyDistributed (Some l)) urgent) parts.1.1 in
     let none = none_other C H front t.block why.info.repl (length (targets_of (transfers_chosen M) t.block)) (length (targets_of back t.block)) (omega (arith, long, head)) counted.0
-      (no_more_targets M t.block why.info (known_before M t.block why.info why.known) (omega (arith, long, head))) in
+    (no_more_targets M t.block why.info (known_before M t.block why.info why.known) (omega (arith, long, head))) in
     elsewhere C H front t.block t.target s none.0 none.1 counted.1 off there
 
 pub second_rack : (M : State) (front back : List Transfer) (t : Transfer) → transfers_chosen M ≡ front ++ t ∷ back → level M.cluster (started M).holdings t.block ≡ Some BadlyDistributed

@@ -1,5 +1,5 @@
 -- Laws of deletes.
-use Rattle.std.specs.Prelude.{◌≡◌, ℕ, ◌≤◌, ◌⊎◌, Bool, true, false, List, length, Option, Some}
+use Rattle.std.specs.Prelude.{◌≡◌, ℕ, ◌≤◌, ◌⊎◌, true, false, List, length, Some}
 use Rattle.std.specs.List.{All}
 use Rattle.bm_base.specs.declared.config.Config.{Config}
 use Rattle.bm_base.specs.declared.call.Call.{Call}

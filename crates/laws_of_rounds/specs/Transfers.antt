@@ -1,7 +1,6 @@
 -- Laws of transfers. A round chooses transfers one after another; `front` are those chosen before one, `back` those after it.
-use Rattle.std.specs.Prelude.{◌≡◌, ℕ, ◌+◌, ◌*◌, ◌≤◌, ◌<◌, ◌⊎◌, ◌==◌, Bool, true, if◌then◌else◌, List, ◌∷◌, ◌++◌, length, sum_by, count_by, Option, Some, IsSome}
+use Rattle.std.specs.Prelude.{◌≡◌, ℕ, ◌+◌, ◌*◌, ◌≤◌, ◌⊎◌, ◌==◌, true, if◌then◌else◌, List, ◌∷◌, ◌++◌, length, sum_by, count_by, Some, IsSome}
 use Rattle.std.specs.List.{All}
-use Rattle.bm_base.specs.declared.replica.ReplicaId.{ReplicaId}
 use Rattle.bm_base.specs.declared.replica.BlockInfo.{BlockInfo}
 use Rattle.bm_base.specs.declared.level.Level.TheVariants.{BadlyDistributed}
 use Rattle.bm_base.specs.declared.storage.StorageInfo.{StorageInfo}
@@ -12,7 +11,6 @@ use Rattle.bm_base.specs.Lists.{has}
 use Rattle.bm_base.specs.Replicas.{node_of, rack_of}
 use Rattle.bm_base.specs.Levels.{level}
 use Rattle.bm_base.specs.Excess.{started}
-use Rattle.bm_base.specs.Lawful.{IsLawful}
 use Rattle.bm_base.specs.Rounds.{whole_round}
 use Rattle.laws_of_rounds.specs.Words.{IsAmong, transfers_chosen, transfers_commanded, live_marked}
 

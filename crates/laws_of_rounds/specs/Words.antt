@@ -1,10 +1,9 @@
 -- What a round commands, and what it leaves: words that the laws speak in.
-use Rattle.std.specs.Prelude.{◌≡◌, ℕ, ◌+◌, Bool, true, List, [], ◌∷◌, ◌++◌, flat_map}
+use Rattle.std.specs.Prelude.{◌≡◌, ℕ, List, ◌∷◌, ◌++◌, flat_map}
 use Rattle.bm_base.specs.declared.replica.ReplicaId.{ReplicaId}
 use Rattle.bm_base.specs.declared.commands.Transfer.{Transfer}
 use Rattle.bm_base.specs.declared.commands.Delete.{Delete}
-use Rattle.bm_base.specs.State.{Holdings, State, replica_at}
-use Rattle.bm_base.specs.Lists.{has}
+use Rattle.bm_base.specs.State.{State}
 use Rattle.bm_base.specs.Replicas.{live}
 use Rattle.bm_base.specs.Excess.{begun, started, without_unordered_excess}
 use Rattle.bm_base.specs.Transfers.{transfers}
