@@ -75,7 +75,7 @@ level_at l (Some other) e = ap Some (sym (level_back other) ∙ ap level_again (
 abbrev pub IsOfLevel : Cluster → Holdings → WishedCopy → Type 0
 IsOfLevel C H w = level C H w.block ≡ Some w.urgency
 
-each_replicate : {X : Type 0} (P : X → Type 0) (n : ℕ) (x : X) → P x → Each P (replicate n x)
+pub each_replicate : {X : Type 0} (P : X → Type 0) (n : ℕ) (x : X) → P x → Each P (replicate n x)
 each_replicate P zero x p = tt
 each_replicate P (suc n) x p = (p, each_replicate P n x p)
 

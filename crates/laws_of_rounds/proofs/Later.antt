@@ -34,7 +34,7 @@ pub each_among : {X : Type 0} (xs : List X) → Each (IsAmong xs) xs
 each_among [] = tt
 each_among (x ∷ xs) = (([], xs, refl), each_weaker (IsAmong xs) (IsAmong (x ∷ xs)) (among_more x xs) xs (each_among xs))
 
-each_at : {X : Type 0} (P : X → Type 0) (front back : List X) (x : X) → Each P (front ++ x ∷ back) → P x
+pub each_at : {X : Type 0} (P : X → Type 0) (front back : List X) (x : X) → Each P (front ++ x ∷ back) → P x
 each_at P [] back x h = h.0
 each_at P (y ∷ front) back x h = each_at P front back x h.1
 

@@ -14,6 +14,7 @@ pub mod Sets
 pub mod Wished
 pub mod Later
 pub mod Ordered
+pub mod Urgency
 pub mod Told
 pub mod Tested
 pub mod Lively

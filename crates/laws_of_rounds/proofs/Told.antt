@@ -15,16 +15,16 @@ use Rattle.bm_base.specs.State.{RoundLimits, Cluster, Holdings, State, replica_a
 use Rattle.bm_base.specs.Lists.{has}
 use Rattle.bm_base.specs.Replicas.{node_of, has_storage, live, is_live}
 use Rattle.bm_base.specs.Levels.{level}
-use Rattle.bm_base.specs.Excess.{begun, started}
+use Rattle.bm_base.specs.Excess.{begun, started, marked, without_expired, without_unordered_excess}
 use Rattle.bm_base.specs.Deletes.{deletes_of, deletes}
 use Rattle.bm_base.specs.Lawful.{IsLawful}
-use Rattle.bm_base.specs.Rounds.{whole_round, commands_of, node_commands, has_commands, is_commanded}
+use Rattle.bm_base.specs.Rounds.{whole_round, commands_of, node_commands, has_commands, is_commanded, finished}
 use Rattle.laws_of_rounds.specs.Words.{IsAmong, IsTransferCommanded, deletes_commanded, transfers_chosen, after_round}
 use Rattle.laws_of_rounds.proofs.Listed.{Each, each_all, each_weaker, each_filter_by, each_flat_map, each_any, or_left, or_right, same_again, some_same}
 use Rattle.laws_of_rounds.proofs.Stands.{has_where}
 use Rattle.laws_of_rounds.proofs.Grouped.{has_keys, each_node, each_on_node, all_of_each}
 use Rattle.laws_of_rounds.proofs.Commanded.{IsTested, chosen_deletes_of, deleted_is}
-use Rattle.laws_of_rounds.proofs.Kept.{marks_started, marks_before, remarked, remarked_ordered, surplus_of, from_some}
+use Rattle.laws_of_rounds.proofs.Kept.{marks_started, marks_before, remarked, remarked_ordered, surplus_of, from_some, remarked_tag}
 use Rattle.laws_of_rounds.proofs.Marked.{ordered_by}
 use Rattle.laws_of_rounds.proofs.Sending.{node_is, storage_is, streams_of_node, two_below, source_live}
 use Rattle.laws_of_rounds.proofs.Later.{each_among, each_is, commanded_chosen, ordered_by_round, marks_after, pending_now}
@@ -265,3 +265,23 @@ ordered_told M q m n before unordered after ordered =
 
 pub pending_told : (M : State) (t : Transfer) → IsTransferCommanded M t → get (after_round M).holdings.pending (replica_at t.block t.target) ≡ Some (M.round + 1)
 pending_told M t h = pending_now M t (commanded_chosen M t h)
+
+-- What a round leaves as it is.
+
+tag_marked : (ds : List Delete) (q : ReplicaId) (m : Marks) → (ordered_by ds q m).tag ≡ m.tag
+tag_marked ds q m = elim (is_commanded ds q) as (λ b. (if b then record m { ordered = true } else m).tag ≡ m.tag) [ true ↦ refl | false ↦ refl ]
+
+tag_twice : (f g : Marks → Marks) → ((m : Marks) → (f m).tag ≡ m.tag) → ((m : Marks) → (g m).tag ≡ m.tag) → (o : Option Marks)
+    → option_map (λ m. m.tag) (option_map f (option_map g o)) ≡ option_map (λ m. m.tag) o
+tag_twice f g hf hg None = refl
+tag_twice f g hf hg (Some m) = ap Some (hf (g m) ∙ hg m)
+
+pub same_tag : (M : State) (q : ReplicaId) → option_map (λ m. m.tag) (get (after_round M).holdings.replicas q) ≡ option_map (λ m. m.tag) (get M.holdings.replicas q)
+same_tag M q =
+    ap (option_map (λ (m : Marks). m.tag)) (marks_after M q ∙ ap (option_map (ordered_by (chosen_deletes_of M) q)) (marks_started M q))
+    ∙ tag_twice (ordered_by (chosen_deletes_of M) q) (remarked (surplus_of M q.block) q.storage) (tag_marked (chosen_deletes_of M) q) (remarked_tag (surplus_of M q.block) q.storage) (get M.holdings.replicas q)
+
+pub same_rest : (M : State) → ((after_round M).cluster ≡ M.cluster) × ((after_round M).holdings.blocks ≡ M.holdings.blocks) × ((after_round M).limits ≡ M.limits)
+    × ((after_round M).round ≡ M.round + 1) × ((after_round M).calls ≡ M.calls)
+unfolding whole_round started begun finished marked without_expired without_unordered_excess
+same_rest M = (refl, refl, refl, refl, refl)

@@ -137,7 +137,7 @@ block_kept false (Some i) None to b t e = absurd (false≢true (ap is_some e))
 block_kept false (Some i) (Some s) to b t e = block_mapped b s i (to i) t e
 
 module _ (limits : RoundLimits) (C : Cluster) (H : Holdings) (b : ℕ) where
-  of_wish : (front : List Transfer) (w : WishedCopy) (t : Transfer) → transfer_for limits C H front w ≡ Some t → t.block ≡ w.block
+  pub of_wish : (front : List Transfer) (w : WishedCopy) (t : Transfer) → transfer_for limits C H front w ≡ Some t → t.block ≡ w.block
   unfolding transfer_for
   of_wish front w t e =
       block_kept _ (get H.blocks w.block) (least_source C front w.urgency (live C H w.block))

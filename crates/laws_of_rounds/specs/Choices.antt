@@ -22,11 +22,11 @@ use Rattle.bm_base.specs.Deletes.{deletes}
 abbrev pub on : ℕ → ℕ → StorageInfo
 on node remaining = record { node = node; remaining = remaining }
 
--- Nodes 1 and 2 stand on rack 1, 3 and 4 on rack 2, 5 on rack 3. Node n has a storage n1, and node 5 another one, 12.
+-- Nodes 1 and 2 stand on rack 1, 3 and 4 on rack 2, 5 on rack 3. Node n has a storage n1, and besides them node 5 has 12 and node 1 has 52.
 abbrev pub three_racks : Cluster
 three_racks = record {
   nodes = insert_all empty ((1, 1) ∷ (2, 1) ∷ (3, 2) ∷ (4, 2) ∷ (5, 3) ∷ []);
-  storages = insert_all empty ((11, on 1 100) ∷ (12, on 5 90) ∷ (21, on 2 100) ∷ (31, on 3 80) ∷ (41, on 4 100) ∷ (51, on 5 200) ∷ []);
+  storages = insert_all empty ((11, on 1 100) ∷ (12, on 5 90) ∷ (21, on 2 100) ∷ (31, on 3 80) ∷ (41, on 4 100) ∷ (51, on 5 200) ∷ (52, on 1 60) ∷ []);
 }
 
 abbrev pub stamp : ℕ → Stamp
@@ -71,12 +71,14 @@ OtherRackOrNone =
 
 -- Sources.
 
--- The node that sends fewest is taken, all its storages together; of equal ones the lesser node, whatever its storage's number.
+-- The node that sends fewest is taken, all its storages together; of equal ones the lesser node, whatever its storage's number;
+-- and the lesser storage of one node, though no lawful state has two replicas of a block there.
 abbrev pub SourceSendsFewest : Type 0
 SourceSendsFewest =
-    (least_source three_racks (sent 9 51 11 10 ∷ []) Highest (12 ∷ 31 ∷ []) ≡ Some 31)
+    (least_source three_racks (sent 9 52 21 10 ∷ []) Highest (11 ∷ 31 ∷ []) ≡ Some 31)
     × (least_source three_racks (sent 9 31 11 10 ∷ []) Highest (12 ∷ 31 ∷ []) ≡ Some 12)
     × (least_source three_racks [] Highest (12 ∷ 31 ∷ []) ≡ Some 31)
+    × (least_source three_racks [] Highest (11 ∷ 52 ∷ []) ≡ Some 11)
 
 -- A node is the source of four transfers at most, and of two where the block's level is another than the highest.
 abbrev pub SourceLimits : Type 0

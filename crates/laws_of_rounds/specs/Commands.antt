@@ -1,5 +1,5 @@
 -- Laws of what nodes are commanded, and of what stands of it in the state.
-use Rattle.std.specs.Prelude.{◌≡◌, ◌+◌, ◌<◌, ◌⊎◌, true, false, List, ◌∷◌, ◌++◌, length, Some}
+use Rattle.std.specs.Prelude.{◌≡◌, ◌+◌, ◌<◌, ◌⊎◌, true, false, List, ◌∷◌, ◌++◌, length, Some, option_map}
 use Rattle.std.specs.List.{All}
 use Rattle.bm_base.specs.declared.replica.ReplicaId.{ReplicaId}
 use Rattle.bm_base.specs.declared.replica.Marks.{Marks}
@@ -44,3 +44,12 @@ OrderedIsCommanded =
 abbrev pub CommandedTransferIsPending : Type 0
 CommandedTransferIsPending =
     (M : State) (t : Transfer) → IsTransferCommanded M t → get (after_round M).holdings.pending (replica_at t.block t.target) ≡ Some (M.round + 1)
+
+-- A round changes the marks of replicas and the transfers on their way, and counts itself; it changes no tag, no block and no node.
+abbrev pub RoundChangesNoTag : Type 0
+RoundChangesNoTag = (M : State) (q : ReplicaId) → option_map (λ m. m.tag) (get (after_round M).holdings.replicas q) ≡ option_map (λ m. m.tag) (get M.holdings.replicas q)
+
+abbrev pub RoundKeepsTheRest : Type 0
+RoundKeepsTheRest =
+    (M : State) → ((after_round M).cluster ≡ M.cluster) × ((after_round M).holdings.blocks ≡ M.holdings.blocks) × ((after_round M).limits ≡ M.limits)
+    × ((after_round M).round ≡ M.round + 1) × ((after_round M).calls ≡ M.calls)

@@ -1,7 +1,8 @@
 -- Laws of transfers. A round chooses transfers one after another; `front` are those chosen before one, `back` those after it.
-use Rattle.std.specs.Prelude.{◌≡◌, ℕ, ◌+◌, ◌*◌, ◌≤◌, ◌⊎◌, ◌==◌, true, if◌then◌else◌, List, ◌∷◌, ◌++◌, length, sum_by, count_by, Some, IsSome}
+use Rattle.std.specs.Prelude.{◌≡◌, ℕ, ◌+◌, ◌*◌, ◌≤◌, ◌⊎◌, ◌==◌, true, if◌then◌else◌, List, ◌∷◌, ◌++◌, length, sum_by, count_by, Some, IsSome, ◌<◌}
 use Rattle.std.specs.List.{All}
 use Rattle.bm_base.specs.declared.replica.BlockInfo.{BlockInfo}
+use Rattle.bm_base.specs.declared.level.Level.{Level}
 use Rattle.bm_base.specs.declared.level.Level.TheVariants.{BadlyDistributed}
 use Rattle.bm_base.specs.declared.storage.StorageInfo.{StorageInfo}
 use Rattle.bm_base.specs.declared.commands.Transfer.{Transfer}
@@ -9,7 +10,7 @@ use Rattle.bm_base.specs.Map.{get, entries, len}
 use Rattle.bm_base.specs.State.{State, replica_at}
 use Rattle.bm_base.specs.Lists.{has}
 use Rattle.bm_base.specs.Replicas.{node_of, rack_of}
-use Rattle.bm_base.specs.Levels.{level}
+use Rattle.bm_base.specs.Levels.{level, level_number}
 use Rattle.bm_base.specs.Excess.{started}
 use Rattle.bm_base.specs.Rounds.{whole_round}
 use Rattle.laws_of_rounds.specs.Words.{IsAmong, transfers_chosen, transfers_commanded, live_marked}
@@ -75,3 +76,10 @@ abbrev pub SecondRack : Type 0
 SecondRack =
     ForEachTransfer (λ M _ t. level M.cluster (started M).holdings t.block ≡ Some BadlyDistributed
     → (s r : ℕ) → has (live_marked M t.block) s ≡ true → rack_of M.cluster s ≡ Some r → rack_of M.cluster t.target ≡ Some r → ⊥)
+
+-- Of two transfers that a round chooses, the first is of the more urgent level, or of the same level and of the lesser or the same block.
+abbrev pub MostUrgentFirst : Type 0
+MostUrgentFirst =
+    (M : State) (front middle back : List Transfer) (t u : Transfer) (l k : Level) → transfers_chosen M ≡ front ++ t ∷ (middle ++ u ∷ back)
+    → level M.cluster (started M).holdings t.block ≡ Some l → level M.cluster (started M).holdings u.block ≡ Some k
+    → (level_number l < level_number k) ⊎ ((l ≡ k) × (t.block ≤ u.block))

@@ -30,3 +30,13 @@ pub fn ordered_is_commanded()
 pub fn commanded_transfer_is_pending()
     ensures { law.CommandedTransferIsPending }
 {}
+
+/// A round changes no replica's tag, and no replica comes or goes.
+pub fn round_changes_no_tag()
+    ensures { law.RoundChangesNoTag }
+{}
+
+/// A round changes no node, storage or block, and no limit; its number is one greater than that of the last round.
+pub fn round_keeps_the_rest()
+    ensures { law.RoundKeepsTheRest }
+{}

@@ -37,3 +37,8 @@ pub fn no_more_than_lacks()
 pub fn second_rack()
     ensures { law.SecondRack }
 {}
+
+/// A round chooses transfers by level, 0 before 1 before 2 before 3, and at one level by the number of the block.
+pub fn most_urgent_first()
+    ensures { law.MostUrgentFirst }
+{}
