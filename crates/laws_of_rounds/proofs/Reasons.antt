@@ -1,5 +1,5 @@
 -- The laws of deletes from their parts.
-use Rattle.std.specs.Prelude.{◌≡◌, ℕ, ◌+◌, ◌-◌, ◌≤◌, ◌⊎◌, Bool, true, false, not, ◌&&◌, ◌==◌, nat_le, if◌then◌else◌, List, [], ◌∷◌, filter, length, Option, Some, None, option_map}
+use Rattle.std.specs.Prelude.{◌≡◌, ◌↔◌, ℕ, ◌+◌, ◌-◌, ◌≤◌, ◌⊎◌, Bool, true, false, not, ◌&&◌, ◌==◌, nat_le, if◌then◌else◌, List, [], ◌∷◌, filter, length, Option, Some, None, option_map}
 use Rattle.std.specs.Option.{option_map_or}
 use Rattle.std.proofs.Common.{cond, refl, sym, ap, ◌∙◌, arith, inl, inr}
 use Rattle.std.proofs.lemmas.Bool.{leb-true, false≢true, true≢false}
@@ -194,11 +194,42 @@ other_is_new M q n found unordered excess =
           ∙ ap (λ t. not t && has (live_unmarked M q.block) q.storage) chosen,
     )
 
-counts_again : (o : Bool) (m : Marks) → is_good m.tag ≡ true → o ≡ false → is_live (if o then m else record m { excess = false }) ≡ true
-counts_again true m good e = absurd (true≢false e)
-counts_again false m good e = ap (λ b. b && true) good
+counts_by : (t : Tag) (x o : Bool) → (is_good t && not (if o then x else false)) ≡ true → (t ≡ Good) × ((x && o) ≡ false)
+counts_by Good true true e = absurd (false≢true e)
+counts_by Good true false e = (refl, refl)
+counts_by Good false o e = (refl, refl)
+counts_by Stale x o e = absurd (false≢true e)
+counts_by Bad x o e = absurd (false≢true e)
+counts_by Stray x o e = absurd (false≢true e)
 
-pub unordered_counts : (M : State) (b s : ℕ) (m : Marks) → get M.holdings.replicas (replica_at b s) ≡ Some m → is_good m.tag ≡ true → m.ordered ≡ false → has (live_unmarked M b) s ≡ true
-unordered_counts M b s m found good unordered =
-    has_where is_live (unmarked M).holdings b s ∙ ap (λ o. option_map_or is_live o false) (marks_unmarked M (replica_at b s) ∙ ap (option_map unordered_dropped) found)
-    ∙ counts_again m.ordered m good unordered
+counted_by : (t : Tag) (x o : Bool) → t ≡ Good → (x && o) ≡ false → (is_good t && not (if o then x else false)) ≡ true
+counted_by t x o good e = ap (λ u. is_good u && not (if o then x else false)) good ∙ of_marks x o e
+  where
+    of_marks : (y p : Bool) → (y && p) ≡ false → (true && not (if p then y else false)) ≡ true
+    of_marks true true f = absurd (true≢false f)
+    of_marks true false f = refl
+    of_marks false true f = refl
+    of_marks false false f = refl
+
+dropped_is : (o : Bool) (m : Marks) → is_live (if o then m else record m { excess = false }) ≡ (is_good m.tag && not (if o then m.excess else false))
+dropped_is true m = refl
+dropped_is false m = refl
+
+live_before : (M : State) (b s : ℕ) → has (live_unmarked M b) s ≡ option_map_or (λ m. is_good m.tag && not (if m.ordered then m.excess else false)) (get M.holdings.replicas (replica_at b s)) false
+live_before M b s =
+    has_where is_live (unmarked M).holdings b s ∙ ap (λ o. option_map_or is_live o false) (marks_unmarked M (replica_at b s)) ∙ by_marks (get M.holdings.replicas (replica_at b s))
+  where
+    by_marks : (o : Option Marks) → option_map_or is_live (option_map unordered_dropped o) false ≡ option_map_or (λ m. is_good m.tag && not (if m.ordered then m.excess else false)) o false
+    by_marks None = refl
+    by_marks (Some m) = dropped_is m.ordered m
+
+pub live_before_is : (M : State) (b s : ℕ)
+    → (has (live_unmarked M b) s ≡ true) ↔ ((m : Marks) × (get M.holdings.replicas (replica_at b s) ≡ Some m) × (m.tag ≡ Good) × ((m.excess && m.ordered) ≡ false))
+live_before_is M b s =
+    (λ h. found (get M.holdings.replicas (replica_at b s)) (sym (live_before M b s) ∙ h),
+    λ h. live_before M b s ∙ ap (λ o. option_map_or (λ m. is_good m.tag && not (if m.ordered then m.excess else false)) o false) h.1 ∙ counted_by h.0.tag h.0.excess h.0.ordered h.2 h.3)
+  where
+    found : (o : Option Marks) → option_map_or (λ m. is_good m.tag && not (if m.ordered then m.excess else false)) o false ≡ true
+        → (m : Marks) × (o ≡ Some m) × (m.tag ≡ Good) × ((m.excess && m.ordered) ≡ false)
+    found None e = absurd (false≢true e)
+    found (Some m) e = let is = counts_by m.tag m.excess m.ordered e in (m, refl, is.0, is.1)

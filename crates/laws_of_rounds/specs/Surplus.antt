@@ -1,15 +1,22 @@
 -- Laws of the surplus.
-use Rattle.std.specs.Prelude.{◌≡◌, ℕ, ◌-◌, ◌≤◌, true, false, not, filter, length, Some}
+use Rattle.std.specs.Prelude.{◌≡◌, ℕ, ◌-◌, ◌≤◌, ◌↔◌, true, false, not, ◌&&◌, filter, length, Some}
 use Rattle.bm_base.specs.declared.replica.ReplicaId.{ReplicaId}
+use Rattle.bm_base.specs.declared.replica.Tag.TheVariants.{Good}
 use Rattle.bm_base.specs.declared.replica.Marks.{Marks}
 use Rattle.bm_base.specs.declared.replica.BlockInfo.{BlockInfo}
 use Rattle.bm_base.specs.Map.{get}
 use Rattle.bm_base.specs.State.{State, replica_at}
 use Rattle.bm_base.specs.Lists.{has}
-use Rattle.bm_base.specs.Replicas.{is_good, rack_of}
+use Rattle.bm_base.specs.Replicas.{rack_of}
 use Rattle.bm_base.specs.Excess.{started}
 use Rattle.bm_base.specs.Lawful.{IsLawful}
 use Rattle.laws_of_rounds.specs.Words.{live_unmarked, live_marked, live_after}
+
+-- Before a round marks, live are the good replicas but those in excess of which the delete was commanded.
+abbrev pub LiveBeforeMarking : Type 0
+LiveBeforeMarking =
+    (M : State) (b s : ℕ)
+    → (has (live_unmarked M b) s ≡ true) ↔ ((m : Marks) × (get M.holdings.replicas (replica_at b s) ≡ Some m) × (m.tag ≡ Good) × ((m.excess && m.ordered) ≡ false))
 
 -- once a round has marked, a known block has at most its replication live
 abbrev pub AtMostReplicationIsLive : Type 0
@@ -51,9 +58,3 @@ abbrev pub OtherExcessIsNew : Type 0
 OtherExcessIsNew =
     (M : State) (q : ReplicaId) (n : Marks) → get (started M).holdings.replicas q ≡ Some n → n.ordered ≡ false → n.excess ≡ true
     → (has (live_unmarked M q.block) q.storage ≡ true) × (has (live_marked M q.block) q.storage ≡ false)
-
--- A good replica in excess of which no delete was commanded counts as live before a round marks.
-abbrev pub UnorderedExcessCountsAgain : Type 0
-UnorderedExcessCountsAgain =
-    (M : State) (b s : ℕ) (m : Marks) → get M.holdings.replicas (replica_at b s) ≡ Some m → is_good m.tag ≡ true → m.ordered ≡ false
-    → has (live_unmarked M b) s ≡ true

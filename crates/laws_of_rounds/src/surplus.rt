@@ -1,6 +1,12 @@
 // Which live replicas a round marks as being too many.
 ghost use Rattle.laws_of_rounds.specs.Surplus as law;
 
+/// Before a round marks, live are the good replicas but those in excess of which the delete was commanded: what an earlier round
+/// marked and did not command counts again.
+pub fn live_before_marking()
+    ensures { law.LiveBeforeMarking }
+{}
+
 /// Once a round has marked, a known block has at most as many live replicas as are wanted. Those in excess that were ordered keep
 /// their marks, and are not live.
 pub fn at_most_replication_is_live()
@@ -35,9 +41,4 @@ pub fn ordered_excess_stays()
 /// What else is in excess once a round has marked was live before it marked.
 pub fn other_excess_is_new()
     ensures { law.OtherExcessIsNew }
-{}
-
-/// A good replica of which no delete was commanded counts as live before a round marks, though an earlier round marked it.
-pub fn unordered_excess_counts_again()
-    ensures { law.UnorderedExcessCountsAgain }
 {}
