@@ -17,4 +17,5 @@ pub mod Ordered
 pub mod Urgency
 pub mod Told
 pub mod Tested
+pub mod Deferred
 pub mod Lively

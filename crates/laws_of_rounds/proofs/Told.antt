@@ -54,13 +54,13 @@ each_own M = all_of_each (IsOwn M.cluster) (whole_round M).0.nodes (each_node M.
 
 -- The order of a node's transfers is that of the choice.
 
-cons_head : {X : Type 0} (x y : X) (xs ys : List X) → x ∷ xs ≡ y ∷ ys → x ≡ y
+pub cons_head : {X : Type 0} (x y : X) (xs ys : List X) → x ∷ xs ≡ y ∷ ys → x ≡ y
 cons_head x y xs ys e = cc
 
-cons_tail : {X : Type 0} (x y : X) (xs ys : List X) → x ∷ xs ≡ y ∷ ys → xs ≡ ys
+pub cons_tail : {X : Type 0} (x y : X) (xs ys : List X) → x ∷ xs ≡ y ∷ ys → xs ≡ ys
 cons_tail x y xs ys e = cc
 
-no_cons : {X : Type 0} (front back : List X) (x : X) → [] ≡ front ++ x ∷ back → ⊥
+pub no_cons : {X : Type 0} (front back : List X) (x : X) → [] ≡ front ++ x ∷ back → ⊥
 no_cons [] back x e = cc
 no_cons (y ∷ front) back x e = cc
 
@@ -117,7 +117,7 @@ among_back (y ∷ xs) ys x h = let r = among_back xs ys x h in (y ∷ r.0, r.1, 
 among_front : {X : Type 0} (xs ys : List X) (x : X) → IsAmong xs x → IsAmong (xs ++ ys) x
 among_front xs ys x h = (h.0, h.1 ++ ys, ap (λ zs. zs ++ ys) h.2 ∙ append_assoc h.0 (x ∷ h.1) ys)
 
-among_cons : {X : Type 0} (y : X) (xs : List X) (x : X) → IsAmong xs x → IsAmong (y ∷ xs) x
+pub among_cons : {X : Type 0} (y : X) (xs : List X) (x : X) → IsAmong xs x → IsAmong (y ∷ xs) x
 among_cons y xs x h = (y ∷ h.0, h.1, ap (λ zs. y ∷ zs) h.2)
 
 among_at : {X : Type 0} (front back : List X) (x : X) → IsAmong (front ++ x ∷ back) x
@@ -128,14 +128,14 @@ module _ {X Y : Type 0} where
   among_flat_at f [] back x y h = among_front (f x) (flat_map f back) y h
   among_flat_at f (z ∷ front) back x y h = among_back (f z) (flat_map f (front ++ x ∷ back)) y (among_flat_at f front back x y h)
 
-  among_flat : (f : X → List Y) (xs : List X) (x : X) (y : Y) → IsAmong xs x → IsAmong (f x) y → IsAmong (flat_map f xs) y
+  pub among_flat : (f : X → List Y) (xs : List X) (x : X) (y : Y) → IsAmong xs x → IsAmong (f x) y → IsAmong (flat_map f xs) y
   among_flat f xs x y h at = subst (λ zs. IsAmong (flat_map f zs) y) (sym h.2) (among_flat_at f h.0 h.1 x y at)
 
   among_map_at : (f : X → Y) (front back : List X) (x : X) → IsAmong (map f (front ++ x ∷ back)) (f x)
   among_map_at f [] back x = ([], map f back, refl)
   among_map_at f (z ∷ front) back x = among_cons (f z) (map f (front ++ x ∷ back)) (f x) (among_map_at f front back x)
 
-  among_map : (f : X → Y) (xs : List X) (x : X) → IsAmong xs x → IsAmong (map f xs) (f x)
+  pub among_map : (f : X → Y) (xs : List X) (x : X) → IsAmong xs x → IsAmong (map f xs) (f x)
   among_map f xs x h = subst (λ zs. IsAmong (map f zs) (f x)) (sym h.2) (among_map_at f h.0 h.1 x)
 
 among_filter_at : {X : Type 0} (p : X → Bool) (front back : List X) (x : X) → p x ≡ true → IsAmong (filter p (front ++ x ∷ back)) x
@@ -147,10 +147,10 @@ among_filter_at p (z ∷ front) back x e =
       | false ↦ rest
     ]
 
-among_filter : {X : Type 0} (p : X → Bool) (xs : List X) (x : X) → IsAmong xs x → p x ≡ true → IsAmong (filter p xs) x
+pub among_filter : {X : Type 0} (p : X → Bool) (xs : List X) (x : X) → IsAmong xs x → p x ≡ true → IsAmong (filter p xs) x
 among_filter p xs x h e = subst (λ zs. IsAmong (filter p zs) x) (sym h.2) (among_filter_at p h.0 h.1 x e)
 
-among_numbers : (xs : List ℕ) (n : ℕ) → has xs n ≡ true → IsAmong xs n
+pub among_numbers : (xs : List ℕ) (n : ℕ) → has xs n ≡ true → IsAmong xs n
 among_numbers [] n h = absurd (false≢true h)
 among_numbers (x ∷ xs) n h =
     (elim (x == n) as (λ b. (x == n) ≡ b → (b || has xs n) ≡ true → IsAmong (x ∷ xs) n) [
@@ -175,7 +175,7 @@ module _ (C : Cluster) (r : ℕ) (ts : List Transfer) (ds : List Delete) where
       (among_filter has_commands (map (node_commands C ts ds) (keys C.nodes)) (node_commands C ts ds n) (among_map (node_commands C ts ds) (keys C.nodes) n (among_numbers (keys C.nodes) n alive))
       (lt-ltb 0 (length (node_commands C ts ds n).transfers + length (node_commands C ts ds n).deletes) (omega (arith, long)))) own
 
-  told_delete : (n : ℕ) (d : Delete) → has (keys C.nodes) n ≡ true → has_storage C n d.storage ≡ true → IsAmong ds d → IsAmong (flat_map (λ (k : NodeCommands). k.deletes) (commands_of C r ts ds).nodes) d
+  pub told_delete : (n : ℕ) (d : Delete) → has (keys C.nodes) n ≡ true → has_storage C n d.storage ≡ true → IsAmong ds d → IsAmong (flat_map (λ (k : NodeCommands). k.deletes) (commands_of C r ts ds).nodes) d
   unfolding commands_of node_commands
   told_delete n d alive on at =
       let own : IsAmong (node_commands C ts ds n).deletes d = among_filter (λ (e : Delete). has_storage C n e.storage) ds d at on in
@@ -184,7 +184,7 @@ module _ (C : Cluster) (r : ℕ) (ts : List Transfer) (ds : List Delete) where
       (among_filter has_commands (map (node_commands C ts ds) (keys C.nodes)) (node_commands C ts ds n) (among_map (node_commands C ts ds) (keys C.nodes) n (among_numbers (keys C.nodes) n alive))
       (lt-ltb 0 (length (node_commands C ts ds n).transfers + length (node_commands C ts ds n).deletes) (omega (arith, long)))) own
 
-some_value : {X : Type 0} (o : Option X) → is_some o ≡ true → (x : X) × (o ≡ Some x)
+pub some_value : {X : Type 0} (o : Option X) → is_some o ≡ true → (x : X) × (o ≡ Some x)
 some_value None e = absurd (false≢true e)
 some_value (Some x) e = (x, refl)
 

@@ -165,9 +165,11 @@ DeletesInOrder =
     ≡ (21, 1) ∷ (21, 9) ∷ (12, 1) ∷ (12, 9) ∷ []
 
 -- Of transfers commanded in rounds 3 and 4, where transfers are awaited for two rounds, that of round 3 has left by round 5.
+-- Where they are awaited for one, that of round 4 has left too: the next round may command it again.
 abbrev pub ExpiresAfterPend : Type 0
 ExpiresAfterPend =
-    without_expired 2 5 (holdings [] [] (since 1 11 3 ∷ since 1 21 4 ∷ [])) ≡ holdings [] [] (since 1 21 4 ∷ [])
+    (without_expired 2 5 (holdings [] [] (since 1 11 3 ∷ since 1 21 4 ∷ [])) ≡ holdings [] [] (since 1 21 4 ∷ []))
+    × (without_expired 1 5 (holdings [] [] (since 1 11 3 ∷ since 1 21 4 ∷ [])) ≡ holdings [] [] [])
 
 -- Levels at their edges: seven wanted and two live are fewer than a third, six wanted and two live are a third.
 abbrev pub LevelsAtTheirEdges : Type 0

@@ -6,15 +6,16 @@ use Rattle.bm_base.specs.declared.call.Call.{Call}
 use Rattle.bm_base.specs.declared.replica.ReplicaId.{ReplicaId}
 use Rattle.bm_base.specs.declared.replica.Marks.{Marks}
 use Rattle.bm_base.specs.declared.replica.BlockInfo.{BlockInfo}
+use Rattle.bm_base.specs.declared.commands.NodeCommands.{NodeCommands}
 use Rattle.bm_base.specs.Map.{get}
 use Rattle.bm_base.specs.State.{State, replica_at, first_state}
 use Rattle.bm_base.specs.Lists.{has}
-use Rattle.bm_base.specs.Replicas.{is_good, is_live, is_stray, is_corrupt}
+use Rattle.bm_base.specs.Replicas.{is_good, is_live, is_stray, is_corrupt, node_of}
 use Rattle.bm_base.specs.Excess.{started}
 use Rattle.bm_base.specs.Rounds.{whole_round}
 use Rattle.bm_base.specs.Lawful.{IsLawful}
 use Rattle.bm_base.specs.Calls.{state_after}
-use Rattle.laws_of_rounds.specs.Words.{IsDeleteCommanded, after_round, live_marked, live_after}
+use Rattle.laws_of_rounds.specs.Words.{IsAmong, IsDeleteCommanded, after_round, live_marked, live_after}
 
 -- The last good replica.
 
@@ -60,6 +61,19 @@ NoneIsOrderedAgain = (M : State) (q : ReplicaId) → IsDeleteCommanded M q → (
 -- no node is commanded more deletes than the limit
 abbrev pub AtMostInvalidateANode : Type 0
 AtMostInvalidateANode = (M : State) → All (λ k. length k.deletes ≤ M.limits.invalidate) (whole_round M).0.nodes
+
+-- why a replica that is not ordered is to be deleted, by its marks once the round has marked
+abbrev pub IsToBeDeleted : State → ReplicaId → Marks → Type 0
+IsToBeDeleted M q m =
+    (is_stray m.tag ≡ true) ⊎ ((m.excess ≡ true)
+    ⊎ ((is_corrupt m.tag ≡ true) × ((i : BlockInfo) × (get M.holdings.blocks q.block ≡ Some i) × (i.repl ≤ length (live_marked M q.block)))))
+
+-- What is to be deleted is commanded to be deleted, but where its node is commanded as many deletes as the limit says.
+abbrev pub OnlyTheLimitDefers : Type 0
+OnlyTheLimitDefers =
+    (M : State) (q : ReplicaId) (m : Marks) (n : ℕ) → IsLawful M → 1 ≤ M.limits.invalidate
+    → get (started M).holdings.replicas q ≡ Some m → m.ordered ≡ false → IsToBeDeleted M q m → node_of M.cluster q.storage ≡ Some n
+    → IsDeleteCommanded M q ⊎ ((k : NodeCommands) × IsAmong (whole_round M).0.nodes k × (k.node ≡ n) × (M.limits.invalidate ≤ length k.deletes))
 
 -- Over every list of calls.
 

@@ -39,6 +39,12 @@ pub fn at_most_invalidate_a_node()
     ensures { law.AtMostInvalidateANode }
 {}
 
+/// In a lawful state, each replica that is stray, in excess, or corrupt with enough of its block live, is commanded to be deleted,
+/// unless it is ordered already, or its node is commanded as many deletes as the limit says, which is one at least.
+pub fn only_the_limit_defers()
+    ensures { law.OnlyTheLimitDefers }
+{}
+
 /// Whatever calls were made, a replica of which a round commanded the delete, and which was not reported since, is not live.
 pub fn ordered_replica_is_not_live()
     ensures { law.OrderedReplicaIsNotLive }
