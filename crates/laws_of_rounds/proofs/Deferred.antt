@@ -50,7 +50,7 @@ taken_or_full (suc n) (y ∷ ys) x h = by_place (first_or_rest y ys x h.0 h.1 h.
     by_place (inr a) rest = more (rest a)
 
 -- what a map holds stands in its entries
-among_found : {K X : Type 0} (o : Order K) (k : K) (v : X) (es : List (K × X)) → find o.cmp k es ≡ Some v → IsAmong es (k, v)
+pub among_found : {K X : Type 0} (o : Order K) (k : K) (v : X) (es : List (K × X)) → find o.cmp k es ≡ Some v → IsAmong es (k, v)
 among_found o k v [] e = absurd (false≢true (ap is_some e))
 among_found o k v (d ∷ es) e = by_key (eq_by_cmp o.cmp k d.0) refl e (among_found o k v es)
   where

@@ -18,4 +18,5 @@ pub mod Urgency
 pub mod Told
 pub mod Tested
 pub mod Deferred
+pub mod OneRack
 pub mod Lively

@@ -188,7 +188,7 @@ pub some_value : {X : Type 0} (o : Option X) → is_some o ≡ true → (x : X) 
 some_value None e = absurd (false≢true e)
 some_value (Some x) e = (x, refl)
 
-live_there : (o : Option Marks) → option_map_or is_live o false ≡ true → is_some o ≡ true
+pub live_there : (o : Option Marks) → option_map_or is_live o false ≡ true → is_some o ≡ true
 live_there None e = e
 live_there (Some m) e = refl
 
@@ -219,7 +219,7 @@ has_at : (front back : List ℕ) (n : ℕ) → has (front ++ n ∷ back) n ≡ t
 has_at [] back n = or_left (n == n) (has back n) (same_again n)
 has_at (x ∷ front) back n = or_right (x == n) (has (front ++ n ∷ back) n) (has_at front back n)
 
-has_among : (xs : List ℕ) (n : ℕ) → IsAmong xs n → has xs n ≡ true
+pub has_among : (xs : List ℕ) (n : ℕ) → IsAmong xs n → has xs n ≡ true
 has_among xs n h = ap (λ zs. has zs n) h.2 ∙ has_at h.0 h.1 n
 
 deletes_alive : (limits : RoundLimits) (C : Cluster) (H : Holdings) → Each (IsOnAlive C) (deletes limits C H)

@@ -212,7 +212,7 @@ no_more_than_lacks M b i known some =
 
 -- Another rack.
 
-badly_counted : (n repl rs : ℕ) (multi : Bool) → level_of n repl rs multi ≡ Some BadlyDistributed → (repl ≤ n) × ((rs == 1) ≡ true)
+pub badly_counted : (n repl rs : ℕ) (multi : Bool) → level_of n repl rs multi ≡ Some BadlyDistributed → (repl ≤ n) × ((rs == 1) ≡ true)
 unfolding level_of
 badly_counted n repl rs multi e = by_tests (nat_le repl n) refl (nat_lt 1 repl) (rs == 1) multi e
   where

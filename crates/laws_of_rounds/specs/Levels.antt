@@ -1,11 +1,12 @@
 -- Laws of levels.
-use Rattle.std.specs.Prelude.{◌≡◌, ℕ, ◌+◌, ◌≤◌, ◌<◌, ◌↔◌, Bool, true, length, Option, Some, None}
+use Rattle.std.specs.Prelude.{◌≡◌, ℕ, ◌+◌, ◌≤◌, ◌<◌, ◌↔◌, Bool, true, length, Option, Some, None, List}
 use Rattle.bm_base.specs.declared.level.Level.{Level}
 use Rattle.bm_base.specs.declared.level.Level.TheVariants.{Highest, VeryUnderReplicated, UnderReplicated, BadlyDistributed, NoLiveReplica}
 use Rattle.bm_base.specs.declared.replica.BlockInfo.{BlockInfo}
 use Rattle.bm_base.specs.Map.{get}
 use Rattle.bm_base.specs.State.{Cluster, Holdings, State}
-use Rattle.bm_base.specs.Replicas.{live}
+use Rattle.bm_base.specs.Lists.{has}
+use Rattle.bm_base.specs.Replicas.{live, rack_of}
 use Rattle.bm_base.specs.Levels.{level, level_of}
 use Rattle.bm_base.specs.Lawful.{IsLawful}
 use Rattle.bm_base.specs.Events.{set_replication}
@@ -26,6 +27,20 @@ abbrev pub LevelFourIsNoLiveReplica : Type 0
 LevelFourIsNoLiveReplica =
     (M : State) (b : ℕ) (i : BlockInfo) → IsLawful M → get M.holdings.blocks b ≡ Some i
     → (level M.cluster M.holdings b ≡ Some NoLiveReplica) ↔ (length (live M.cluster M.holdings b) ≡ 0)
+
+-- storages all of which stand on one rack
+abbrev pub AreOnOneRack : Cluster → List ℕ → Type 0
+AreOnOneRack C ss = (s t : ℕ) → has ss s ≡ true → has ss t ≡ true → rack_of C s ≡ rack_of C t
+
+-- two alive nodes stand on two racks
+abbrev pub HasTwoRacks : Cluster → Type 0
+HasTwoRacks C = (n : ℕ) × (k : ℕ) × (r : ℕ) × (q : ℕ) × (get C.nodes n ≡ Some r) × (get C.nodes k ≡ Some q) × (r ≡ q → ⊥)
+
+abbrev pub LevelThreeIsOneRack : Type 0
+LevelThreeIsOneRack =
+    (M : State) (b : ℕ) (i : BlockInfo) → IsLawful M → get M.holdings.blocks b ≡ Some i
+    → (level M.cluster M.holdings b ≡ Some BadlyDistributed)
+    ↔ ((2 ≤ i.repl) × (i.repl ≤ length (live M.cluster M.holdings b)) × AreOnOneRack M.cluster (live M.cluster M.holdings b) × HasTwoRacks M.cluster)
 
 abbrev pub ShortOfReplicas : Type 0
 ShortOfReplicas =

@@ -11,6 +11,12 @@ pub fn level_four_is_no_live_replica()
     ensures { law.LevelFourIsNoLiveReplica }
 {}
 
+/// In a lawful state a known block has level 3 exactly where two or more replicas are wanted, as many are live, all of these stand
+/// on one rack, and the alive nodes stand on two racks or more.
+pub fn level_three_is_one_rack()
+    ensures { law.LevelThreeIsOneRack }
+{}
+
 /// In a lawful state a known block has level 0, 1, 2 or 4 exactly where fewer replicas are live than are wanted.
 pub fn short_of_replicas_is_level_zero_one_two_or_four()
     ensures { law.ShortOfReplicas }
