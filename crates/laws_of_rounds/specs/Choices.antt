@@ -151,6 +151,13 @@ WorkIsSharedByAll =
     (held 1 11 live_mark ∷ held 2 21 live_mark ∷ held 3 31 live_mark ∷ held 4 41 live_mark ∷ held 5 51 live_mark ∷ held 6 11 live_mark ∷ []) []))
     ≡ (1, 11, 51) ∷ (2, 21, 51) ∷ (3, 31, 51) ∷ (4, 41, 51) ∷ (5, 51, 11) ∷ []
 
+-- A badly distributed block gets one copy more than are wanted, on another rack; with the copy one of the two on one rack is too many.
+abbrev pub OneMoreThanWanted : Type 0
+OneMoreThanWanted =
+    (map {B = ℕ × ℕ × ℕ} (λ t. (t.block, t.source, t.target))
+    (transfers (record { work = 1; invalidate = 10; pend = 10 }) three_racks (holdings (block 4 2 ∷ []) (held 4 11 live_mark ∷ held 4 21 live_mark ∷ []) [])) ≡ (4, 11, 51) ∷ [])
+    × (excess_of three_racks (11 ∷ 21 ∷ 51 ∷ []) 2 ≡ 21 ∷ [])
+
 -- Deletes.
 
 -- A node's deletes by storage and then by block, the first so many: stray replicas, those in excess, and corrupt ones of a

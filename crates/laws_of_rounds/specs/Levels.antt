@@ -1,5 +1,5 @@
 -- Laws of levels.
-use Rattle.std.specs.Prelude.{◌≡◌, ℕ, ◌+◌, ◌≤◌, ◌<◌, ◌↔◌, Bool, true, length, Option, Some, None, List}
+use Rattle.std.specs.Prelude.{◌≡◌, ℕ, ◌+◌, ◌≤◌, ◌<◌, ◌↔◌, Bool, true, false, length, Option, Some, None, List}
 use Rattle.bm_base.specs.declared.level.Level.{Level}
 use Rattle.bm_base.specs.declared.level.Level.TheVariants.{Highest, VeryUnderReplicated, UnderReplicated, BadlyDistributed, NoLiveReplica}
 use Rattle.bm_base.specs.declared.replica.BlockInfo.{BlockInfo}
@@ -65,3 +65,6 @@ OneReplicaMoreIsNoMoreNeed =
 
 abbrev pub FirstReplicaMakesABlockTheFirstToCopy : Type 0
 FirstReplicaMakesABlockTheFirstToCopy = (level_of 0 3 0 true ≡ Some NoLiveReplica) × (level_of 1 3 1 true ≡ Some Highest)
+
+abbrev pub SecondRackMayRaiseNeed : Type 0
+SecondRackMayRaiseNeed = (level_of 2 2 1 false ≡ None) × (level_of 2 2 1 true ≡ Some BadlyDistributed)

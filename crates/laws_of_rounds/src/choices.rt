@@ -53,6 +53,11 @@ pub fn work_is_shared_by_all()
     ensures { row.WorkIsSharedByAll }
 {}
 
+/// A badly distributed block gets one copy more than are wanted, and then has one too many on its first rack.
+pub fn one_more_than_wanted()
+    ensures { row.OneMoreThanWanted }
+{}
+
 /// Deletes are commanded by storage and then by block, the first of each node.
 pub fn deletes_in_order()
     ensures { row.DeletesInOrder }

@@ -42,3 +42,8 @@ pub fn one_replica_more_is_no_more_need()
 pub fn first_replica_makes_a_block_the_first_to_copy()
     ensures { law.FirstReplicaMakesABlockTheFirstToCopy }
 {}
+
+/// A node on a second rack may put a block in need, where all its live replicas stand on the one rack that there was.
+pub fn second_rack_may_raise_need()
+    ensures { law.SecondRackMayRaiseNeed }
+{}
