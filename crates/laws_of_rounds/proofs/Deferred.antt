@@ -1,5 +1,5 @@
 -- What is to be deleted and is not commanded stands behind as many others as the limit says.
-use Rattle.std.specs.Prelude.{◌≡◌, ℕ, zero, suc, ◌+◌, ◌≤◌, ◌⊎◌, Bool, true, false, not, ◌&&◌, ◌||◌, ◌==◌, nat_le, nat_lt, if◌then◌else◌, List, [], ◌∷◌, ◌++◌, map, filter, flat_map, length, take, Option, Some, None, is_some, option_map, T}
+use Rattle.std.specs.Prelude.{◌≡◌, ℕ, zero, suc, ◌+◌, ◌≤◌, ◌⊎◌, Bool, true, false, not, ◌&&◌, ◌||◌, ◌==◌, nat_le, if◌then◌else◌, List, [], ◌∷◌, ◌++◌, map, filter, flat_map, length, take, Some, is_some, option_map}
 use Rattle.std.specs.Option.{option_map_or}
 use Rattle.std.specs.Ordering.{eq_by_cmp}
 use Rattle.std.specs.FinMap.{find}
@@ -8,7 +8,6 @@ use Rattle.std.proofs.lemmas.Bool.{le-leb, lt-ltb, false≢true}
 use Rattle.bm_base.specs.declared.replica.ReplicaId.{ReplicaId}
 use Rattle.bm_base.specs.declared.replica.Marks.{Marks}
 use Rattle.bm_base.specs.declared.replica.BlockInfo.{BlockInfo}
-use Rattle.bm_base.specs.declared.storage.StorageInfo.{StorageInfo}
 use Rattle.bm_base.specs.declared.commands.Transfer.{Transfer}
 use Rattle.bm_base.specs.declared.commands.Delete.{Delete}
 use Rattle.bm_base.specs.declared.commands.NodeCommands.{NodeCommands}
@@ -45,6 +44,7 @@ taken_or_full (suc n) (y ∷ ys) x h = by_place (first_or_rest y ys x h.0 h.1 h.
     more : IsAmong (take n ys) x ⊎ (n ≤ length (take n ys)) → IsAmong (y ∷ take n ys) x ⊎ (suc n ≤ length (y ∷ take n ys))
     more (inl a) = inl (among_cons y (take n ys) x a)
     more (inr long) = inr (omega (arith, long))
+
     by_place : (y ≡ x) ⊎ IsAmong ys x → (IsAmong ys x → IsAmong (take n ys) x ⊎ (n ≤ length (take n ys))) → IsAmong (y ∷ take n ys) x ⊎ (suc n ≤ length (y ∷ take n ys))
     by_place (inl e) rest = inl ([], take n ys, ap (λ z. z ∷ take n ys) e)
     by_place (inr a) rest = more (rest a)
@@ -124,12 +124,14 @@ full_node : (limits : RoundLimits) (C : Cluster) (H : Holdings) (r : ℕ) (ts : 
 unfolding commands_of node_commands
 full_node limits C H r ts n some alive long =
     let own : filter (λ (d : Delete). has_storage C n d.storage) (deletes limits C H) ≡ deletes_of limits C H n = deletes_on_node limits C H n ∙ ap (λ b. cond b (deletes_of limits C H n) []) alive in
-    let full : limits.invalidate ≤ length (filter (λ (d : Delete). has_storage C n d.storage) (deletes limits C H)) = subst (λ xs. limits.invalidate ≤ length xs) (sym own) long in
-    (node_commands C ts (deletes limits C H) n,
-    among_filter has_commands (map (node_commands C ts (deletes limits C H)) (keys C.nodes)) (node_commands C ts (deletes limits C H) n)
-      (among_map (node_commands C ts (deletes limits C H)) (keys C.nodes) n (among_numbers (keys C.nodes) n alive))
-      (lt-ltb 0 (length (node_commands C ts (deletes limits C H) n).transfers + length (node_commands C ts (deletes limits C H) n).deletes) (omega (arith, full, some))),
-    refl, full)
+    let full : limits.invalidate ≤ length (filter (λ (d : Delete). has_storage C n d.storage) (deletes limits C H)) = subst (λ xs. limits.invalidate ≤ length xs) (sym own) long in (
+      node_commands C ts (deletes limits C H) n,
+      among_filter has_commands (map (node_commands C ts (deletes limits C H)) (keys C.nodes)) (node_commands C ts (deletes limits C H) n)
+          (among_map (node_commands C ts (deletes limits C H)) (keys C.nodes) n (among_numbers (keys C.nodes) n alive))
+          (lt-ltb 0 (length (node_commands C ts (deletes limits C H) n).transfers + length (node_commands C ts (deletes limits C H) n).deletes) (omega (arith, full, some))),
+      refl,
+      full,
+    )
 
 pub only_limit : (M : State) (q : ReplicaId) (m : Marks) (n : ℕ) → IsLawful M → 1 ≤ M.limits.invalidate
     → get (started M).holdings.replicas q ≡ Some m → m.ordered ≡ false → IsToBeDeleted M q m → node_of M.cluster q.storage ≡ Some n
@@ -140,7 +142,7 @@ only_limit M q m n lawful some found unordered why on =
     let storage = some_value (get M.cluster.storages q.storage) (lawful.holdings.stored q (ap is_some before.1)) in
     let node : storage.0.node ≡ n = some_same storage.0.node n (sym (ap (option_map (λ i. i.node)) storage.1) ∙ on) in
     let alive : has (keys M.cluster.nodes) n ≡ true =
-      has_keys M.cluster.nodes n ∙ ap (λ z. is_some (get M.cluster.nodes z)) (sym node) ∙ lawful.cluster.alive q.storage storage.0 storage.1 in
+    has_keys M.cluster.nodes n ∙ ap (λ z. is_some (get M.cluster.nodes z)) (sym node) ∙ lawful.cluster.alive q.storage storage.0 storage.1 in
     let here : has_storage M.cluster n q.storage ≡ true = storage_is M.cluster n q.storage on in
     of_case alive here (of_node M.cluster (started M).holdings q m found (deletable_is M q m unordered why) M.limits n (has_keys M.cluster.storages q.storage ∙ ap is_some storage.1) here)
   where

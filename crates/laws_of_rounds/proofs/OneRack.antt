@@ -1,15 +1,11 @@
 -- Where live replicas stand on one rack of several.
-use Rattle.std.specs.Prelude.{◌≡◌, ℕ, zero, suc, ◌+◌, ◌≤◌, ◌<◌, ◌↔◌, Bool, true, false, ◌||◌, ◌&&◌, ◌*◌, ◌==◌, nat_lt, nat_le, List, [], ◌∷◌, map, filter_map, length, Option, Some, None, is_some, option_map, option_and_then}
+use Rattle.std.specs.Prelude.{◌≡◌, ℕ, ◌≤◌, ◌↔◌, Bool, true, false, ◌||◌, ◌&&◌, ◌*◌, ◌==◌, nat_lt, nat_le, List, [], ◌∷◌, map, filter_map, length, Option, Some, None, is_some, option_map, option_and_then}
 use Rattle.std.specs.Option.{option_map_or}
-use Rattle.std.specs.Ordering.{nat_cmp}
-use Rattle.std.specs.FinMap.{find}
-use Rattle.std.proofs.Common.{cond, refl, sym, ap, subst, ◌∙◌, arith}
+use Rattle.std.proofs.Common.{cond, refl, sym, ap, ◌∙◌, arith}
 use Rattle.std.proofs.lemmas.Bool.{eqb-true, lt-ltb, ltb-true, false≢true, true≢false}
 use Rattle.std.proofs.lemmas.Bool.Decides.{nat_tests}
 use Rattle.bm_base.specs.declared.level.Level.TheVariants.{Highest, VeryUnderReplicated, UnderReplicated, BadlyDistributed, NoLiveReplica}
-use Rattle.bm_base.specs.declared.replica.Marks.{Marks}
 use Rattle.bm_base.specs.declared.replica.BlockInfo.{BlockInfo}
-use Rattle.bm_base.specs.declared.storage.StorageInfo.{StorageInfo}
 use Rattle.bm_base.specs.Map.{Map, by_number, get, entries}
 use Rattle.bm_base.specs.State.{Cluster, State, replica_at}
 use Rattle.bm_base.specs.Lists.{has, has_repeats, distinct}
@@ -143,6 +139,7 @@ badly_two n repl rs multi e = by_tests (nat_le repl n) (nat_lt 1 repl) refl (rs 
     other false true c e = cc
     other false false true e = cc
     other false false false e = cc
+
     by_tests : (a p : Bool) → nat_lt 1 repl ≡ p → (q r : Bool)
         → cond a (cond (p && q && r) (Some BadlyDistributed) None) (Some (cond (n == 0) NoLiveReplica (cond (n == 1) Highest (cond (nat_lt (n * 3) repl) VeryUnderReplicated UnderReplicated)))) ≡ Some BadlyDistributed
         → (2 ≤ repl) × (r ≡ true)
@@ -170,13 +167,14 @@ pub level_three : (M : State) (b : ℕ) (i : BlockInfo) → IsLawful M → get M
 level_three M b i lawful known =
     let ss : List ℕ = live M.cluster M.holdings b in
     let is = level_known M.cluster M.holdings b i known in
-    let racked : (s : ℕ) → has ss s ≡ true → (r : ℕ) × (rack_of M.cluster s ≡ Some r) = λ s h. live_rack M b s lawful h in
-    (λ e.
-      let counted = badly_counted (length ss) i.repl (length (racks M.cluster ss)) (is_multi_rack M.cluster) (sym is ∙ e) in
-      let two = badly_two (length ss) i.repl (length (racks M.cluster ss)) (is_multi_rack M.cluster) (sym is ∙ e) in
-      (two.0, counted.0, on_one M.cluster ss racked (eqb-true (length (racks M.cluster ss)) 1 counted.1), multi_two M.cluster two.1),
-    λ h.
-      let wanted = h.0 in
-      let enough = h.1 in
-      let one = some_first ss (omega (arith, wanted, enough)) in
-      is ∙ counted_badly (length ss) i.repl (length (racks M.cluster ss)) (is_multi_rack M.cluster) wanted enough (one_on M.cluster ss racked h.2 one.0 one.1) (two_multi M.cluster h.3))
+    let racked : (s : ℕ) → has ss s ≡ true → (r : ℕ) × (rack_of M.cluster s ≡ Some r) = λ s h. live_rack M b s lawful h in (
+      λ e.
+          let counted = badly_counted (length ss) i.repl (length (racks M.cluster ss)) (is_multi_rack M.cluster) (sym is ∙ e) in
+          let two = badly_two (length ss) i.repl (length (racks M.cluster ss)) (is_multi_rack M.cluster) (sym is ∙ e) in
+          (two.0, counted.0, on_one M.cluster ss racked (eqb-true (length (racks M.cluster ss)) 1 counted.1), multi_two M.cluster two.1),
+      λ h.
+          let wanted = h.0 in
+          let enough = h.1 in
+          let one = some_first ss (omega (arith, wanted, enough)) in
+          is ∙ counted_badly (length ss) i.repl (length (racks M.cluster ss)) (is_multi_rack M.cluster) wanted enough (one_on M.cluster ss racked h.2 one.0 one.1) (two_multi M.cluster h.3),
+    )

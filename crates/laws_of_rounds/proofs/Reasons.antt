@@ -225,9 +225,10 @@ live_before M b s =
 
 pub live_before_is : (M : State) (b s : ℕ)
     → (has (live_unmarked M b) s ≡ true) ↔ ((m : Marks) × (get M.holdings.replicas (replica_at b s) ≡ Some m) × (m.tag ≡ Good) × ((m.excess && m.ordered) ≡ false))
-live_before_is M b s =
-    (λ h. found (get M.holdings.replicas (replica_at b s)) (sym (live_before M b s) ∙ h),
-    λ h. live_before M b s ∙ ap (λ o. option_map_or (λ m. is_good m.tag && not (if m.ordered then m.excess else false)) o false) h.1 ∙ counted_by h.0.tag h.0.excess h.0.ordered h.2 h.3)
+live_before_is M b s = (
+  λ h. found (get M.holdings.replicas (replica_at b s)) (sym (live_before M b s) ∙ h),
+  λ h. live_before M b s ∙ ap (λ o. option_map_or (λ m. is_good m.tag && not (if m.ordered then m.excess else false)) o false) h.1 ∙ counted_by h.0.tag h.0.excess h.0.ordered h.2 h.3,
+)
   where
     found : (o : Option Marks) → option_map_or (λ m. is_good m.tag && not (if m.ordered then m.excess else false)) o false ≡ true
         → (m : Marks) × (o ≡ Some m) × (m.tag ≡ Good) × ((m.excess && m.ordered) ≡ false)
