@@ -19,4 +19,5 @@ pub mod Told
 pub mod Tested
 pub mod Deferred
 pub mod OneRack
+pub mod LastGood
 pub mod Lively

@@ -4,6 +4,7 @@ use Rattle.std.specs.List.{All}
 use Rattle.bm_base.specs.declared.config.Config.{Config}
 use Rattle.bm_base.specs.declared.call.Call.{Call}
 use Rattle.bm_base.specs.declared.replica.ReplicaId.{ReplicaId}
+use Rattle.bm_base.specs.declared.replica.Tag.TheVariants.{Good}
 use Rattle.bm_base.specs.declared.replica.Marks.{Marks}
 use Rattle.bm_base.specs.declared.replica.BlockInfo.{BlockInfo}
 use Rattle.bm_base.specs.declared.commands.NodeCommands.{NodeCommands}
@@ -18,6 +19,13 @@ use Rattle.bm_base.specs.Calls.{state_after}
 use Rattle.laws_of_rounds.specs.Words.{IsAmong, IsDeleteCommanded, after_round, live_marked, live_after}
 
 -- The last good replica.
+
+-- A round does not command the delete of the only good replica of a known block.
+abbrev pub OnlyGoodReplicaIsNotDeleted : Type 0
+OnlyGoodReplicaIsNotDeleted =
+    (M : State) (b s : ℕ) (i : BlockInfo) → IsLawful M → get M.holdings.blocks b ≡ Some i
+    → ((t : ℕ) (m : Marks) → get M.holdings.replicas (replica_at b t) ≡ Some m → m.tag ≡ Good → t ≡ s)
+    → IsDeleteCommanded M (replica_at b s) → ⊥
 
 -- Where a round commands the delete of a replica of a known block, another replica of the block is live after the round, and the
 -- round does not command its delete.

@@ -1,14 +1,19 @@
-// Which replicas a round commands to delete. The first three laws say that no round takes a block's last good replica.
+// Which replicas a round commands to delete. The first laws say that no round takes a block's last good replica.
 ghost use Rattle.laws_of_rounds.specs.Deletes as law;
 
-/// No round commands the delete of a block's last good replica: in a lawful state, where a round commands the delete of a replica
-/// of a known block, another replica of the block is live after the round, that is, good and not in excess, and the round does not
-/// command its delete.
+/// No round commands the delete of a block's last good replica: in a lawful state a round does not command the delete of the only
+/// good replica of a known block, in excess or not.
+pub fn only_good_replica_is_not_deleted()
+    ensures { law.OnlyGoodReplicaIsNotDeleted }
+{}
+
+/// More than that: in a lawful state, where a round commands the delete of a replica of a known block, another replica of the
+/// block is live after the round, that is, good and not in excess, and the round does not command its delete.
 pub fn last_good_replica_stays()
     ensures { law.LastGoodReplicaStays }
 {}
 
-/// More than that: in a lawful state, where a round commands the delete of a replica of a known block, as many replicas of the
+/// And more: in a lawful state, where a round commands the delete of a replica of a known block, as many replicas of the
 /// block as are wanted are live after the round, and one at least is wanted.
 pub fn enough_stay_live()
     ensures { law.EnoughStayLive }
