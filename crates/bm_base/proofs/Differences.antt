@@ -60,7 +60,7 @@ module _ {K X : Type 0} {o : Order K} where
   none_new old new there =
       let all = new_keys-keep old new in
       let same : keep new (λ q _. contains_key old q) ≡ new =
-          same_map (keep new (λ q _. contains_key old q)) new (λ q. get-keep new (λ j _. contains_key old j) q ∙ by q (get new q) refl) in
+      same_map (keep new (λ q _. contains_key old q)) new (λ q. get-keep new (λ j _. contains_key old j) q ∙ by q (get new q) refl) in
       let e = ap len same in
       omega (arith, all, e)
     where

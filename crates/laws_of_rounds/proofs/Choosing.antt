@@ -1,0 +1,178 @@
+-- What is known of each transfer as it is chosen, behind those that were chosen before it.
+use Rattle.std.specs.Prelude.{◌≡◌, ℕ, zero, suc, ◌*◌, ◌<◌, Bool, true, false, nat_lt, nat_le, if◌then◌else◌, List, [], ◌∷◌, ◌++◌, filter, flat_map, length, replicate, Option, Some, None, is_some, option_map, option_and_then, option_to_list}
+use Rattle.std.specs.Option.{option_map_or}
+use Rattle.std.specs.declared.cmp.Ordering.{Ordering}
+use Rattle.std.proofs.Common.{refl, sym, ap, subst, ◌∙◌, append_assoc, append-nil}
+use Rattle.std.proofs.lemmas.Bool.{eqb-true, ltb-true, leb-false, false≢true}
+use Rattle.bm_base.specs.declared.level.Level.{Level}
+use Rattle.bm_base.specs.declared.level.Level.TheVariants.{Highest, VeryUnderReplicated, UnderReplicated, BadlyDistributed, NoLiveReplica}
+use Rattle.bm_base.specs.declared.replica.BlockInfo.{BlockInfo}
+use Rattle.bm_base.specs.declared.commands.Transfer.{Transfer}
+use Rattle.bm_base.specs.Map.{get, keys, len}
+use Rattle.bm_base.specs.State.{RoundLimits, Cluster, Holdings}
+use Rattle.bm_base.specs.Lists.{has, least}
+use Rattle.bm_base.specs.Replicas.{live}
+use Rattle.bm_base.specs.Levels.{level, level_number, is_at}
+use Rattle.bm_base.specs.Transfers.{WishedCopy, wished_count, wishes_for, wishes, streams_from, stream_limit, source_cmp, least_source, holders_of, barred_for, target_cmp, is_target, least_target, transfer_for, transfers_from, transfers}
+use Rattle.laws_of_rounds.proofs.Listed.{Each, each_all, each_flat_map, has_filter, and_first, and_second, some_same}
+use Rattle.laws_of_rounds.proofs.Surpluses.{least_among}
+
+-- what holds of each element, given those before it
+abbrev pub EachAfter : {X : Type 0} → (List X → X → Type 0) → List X → List X → Type 0
+EachAfter P front [] = Unit {0}
+EachAfter P front (x ∷ xs) = P front x × EachAfter P (front ++ x ∷ []) xs
+
+module _ {X : Type 0} (P : List X → X → Type 0) where
+  pub after_push : (front xs : List X) (x : X) → EachAfter P front xs → P (front ++ xs) x → EachAfter P front (xs ++ x ∷ [])
+  after_push front [] x h p = (subst (λ ys. P ys x) (append-nil front) p, tt)
+  after_push front (y ∷ xs) x h p = (h.0, after_push (front ++ y ∷ []) xs x h.1 (subst (λ ys. P ys x) (sym (append_assoc front (y ∷ []) xs)) p))
+
+  pub after_at : (front xs ys : List X) (x : X) → EachAfter P front (xs ++ x ∷ ys) → P (front ++ xs) x
+  after_at front [] ys x h = subst (λ zs. P zs x) (sym (append-nil front)) h.0
+  after_at front (z ∷ xs) ys x h = subst (λ zs. P zs x) (append_assoc front (z ∷ []) xs) (after_at (front ++ z ∷ []) xs ys x h.1)
+
+  -- at a place of the list
+  pub after_split : (xs front back : List X) (x : X) → EachAfter P [] xs → xs ≡ front ++ x ∷ back → P front x
+  after_split xs front back x h is = after_at [] front back x (subst (EachAfter P []) is h)
+
+module _ {X : Type 0} where
+  pub after_weaker : (P Q : List X → X → Type 0) → ((ys : List X) (y : X) → P ys y → Q ys y) → (front xs : List X) → EachAfter P front xs → EachAfter Q front xs
+  after_weaker P Q f front [] h = tt
+  after_weaker P Q f front (x ∷ xs) h = (f front x h.0, after_weaker P Q f (front ++ x ∷ []) xs h.1)
+
+  -- what no element breaks holds of the whole
+  pub after_whole : (P : List X → X → Type 0) (Q : List X → Type 0) → ((ys : List X) (y : X) → Q ys → P ys y → Q (ys ++ y ∷ [])) → (front xs : List X) → Q front → EachAfter P front xs → Q (front ++ xs)
+  after_whole P Q f front [] q h = subst Q (sym (append-nil front)) q
+  after_whole P Q f front (x ∷ xs) q h = subst Q (append_assoc front (x ∷ []) xs) (after_whole P Q f (front ++ x ∷ []) xs (f front x q h.0) h.1)
+
+  pub each_of_after : (P : X → Type 0) (front xs : List X) → EachAfter (λ _ x. P x) front xs → Each P xs
+  each_of_after P front [] h = tt
+  each_of_after P front (x ∷ xs) h = (h.0, each_of_after P (front ++ x ∷ []) xs h.1)
+
+-- Levels by their numbers.
+
+level_again : ℕ → Level
+level_again zero = Highest
+level_again (suc zero) = VeryUnderReplicated
+level_again (suc (suc zero)) = UnderReplicated
+level_again (suc (suc (suc zero))) = BadlyDistributed
+level_again (suc (suc (suc (suc n)))) = NoLiveReplica
+
+level_back : (l : Level) → level_again (level_number l) ≡ l
+unfolding level_again
+level_back Highest = refl
+level_back VeryUnderReplicated = refl
+level_back UnderReplicated = refl
+level_back BadlyDistributed = refl
+level_back NoLiveReplica = refl
+
+pub level_at : (l : Level) (found : Option Level) → is_at l found ≡ true → found ≡ Some l
+level_at l None e = absurd (false≢true e)
+level_at l (Some other) e = ap Some (sym (level_back other) ∙ ap level_again (eqb-true (level_number other) (level_number l) e) ∙ level_back l)
+
+-- A wish is of a block at its level.
+
+abbrev pub IsOfLevel : Cluster → Holdings → WishedCopy → Type 0
+IsOfLevel C H w = level C H w.block ≡ Some w.urgency
+
+pub each_replicate : {X : Type 0} (P : X → Type 0) (n : ℕ) (x : X) → P x → Each P (replicate n x)
+each_replicate P zero x p = tt
+each_replicate P (suc n) x p = (p, each_replicate P n x p)
+
+module _ (C : Cluster) (H : Holdings) where
+  wished_if : (b : ℕ) (urgency : Level) (t : Bool) (o : Option BlockInfo) → is_at urgency (level C H b) ≡ t
+      → Each (IsOfLevel C H) (if t then option_map_or (λ i. replicate (wished_count C H urgency i.repl b) (record { urgency = urgency; block = b })) o [] else [])
+  wished_if b urgency true None e = tt
+  wished_if b urgency true (Some i) e = each_replicate (IsOfLevel C H) (wished_count C H urgency i.repl b) (record { urgency = urgency; block = b }) (level_at urgency (level C H b) e)
+  wished_if b urgency false o e = tt
+
+  wished_for : (urgency : Level) (b : ℕ) → Each (IsOfLevel C H) (wishes_for C H urgency b)
+  unfolding wishes_for
+  wished_for urgency b = wished_if b urgency (is_at urgency (level C H b)) (get H.blocks b) refl
+
+  pub each_wish : Each (IsOfLevel C H) (wishes C H)
+  unfolding wishes
+  each_wish =
+      each_flat_map (λ _. Unit {0}) (IsOfLevel C H) (λ urgency. flat_map (wishes_for C H urgency) (keys H.blocks))
+      (λ urgency _. each_flat_map (λ _. Unit {0}) (IsOfLevel C H) (wishes_for C H urgency) (λ b _. wished_for urgency b) (keys H.blocks) (each_all (λ _. Unit {0}) (λ _. tt) (keys H.blocks)))
+      (Highest ∷ VeryUnderReplicated ∷ UnderReplicated ∷ BadlyDistributed ∷ []) (tt, (tt, (tt, (tt, tt))))
+
+-- Why a transfer was chosen, behind those of `front`.
+pub record IsChosenAfter (limits : RoundLimits) (C : Cluster) (H : Holdings) (front : List Transfer) (t : Transfer) : Type 0 where
+  pub few : length front < limits.work * len C.nodes
+  pub urgency : Level
+  pub at_level : level C H t.block ≡ Some urgency
+  pub info : BlockInfo
+  pub known : get H.blocks t.block ≡ Some info
+  pub stamp : t.stamp ≡ info.stamp
+  pub source : least_source C front urgency (live C H t.block) ≡ Some t.source
+  pub target : least_target C front urgency (holders_of C H front t.block) (barred_for H front t.block) info.stamp.len ≡ Some t.target
+
+module _ (limits : RoundLimits) (C : Cluster) (H : Holdings) where
+  of_some : (front : List Transfer) (w : WishedCopy) (t : Transfer) → transfer_for limits C H front w ≡ Some t → IsOfLevel C H w → IsChosenAfter limits C H front t
+  unfolding transfer_for
+  of_some front w t is at =
+      by_limit (nat_le (limits.work * len C.nodes) (length front)) refl (get H.blocks w.block) refl is
+    where
+      chosen : (i : BlockInfo) → length front < limits.work * len C.nodes → get H.blocks w.block ≡ Some i
+          → (s u : ℕ) → least_source C front w.urgency (live C H w.block) ≡ Some s → least_target C front w.urgency (holders_of C H front w.block) (barred_for H front w.block) i.stamp.len ≡ Some u
+          → record { block = w.block; stamp = i.stamp; source = s; target = u } ≡ t → IsChosenAfter limits C H front t
+      chosen i few known s u from to same =
+          subst (IsChosenAfter limits C H front) same (record { few = few; urgency = w.urgency; at_level = at; info = i; known = known; stamp = refl; source = from; target = to })
+
+      by_target : (i : BlockInfo) → length front < limits.work * len C.nodes → get H.blocks w.block ≡ Some i → (s : ℕ) → least_source C front w.urgency (live C H w.block) ≡ Some s
+          → (o : Option ℕ) → least_target C front w.urgency (holders_of C H front w.block) (barred_for H front w.block) i.stamp.len ≡ o
+          → option_map (λ u. record { block = w.block; stamp = i.stamp; source = s; target = u }) o ≡ Some t → IsChosenAfter limits C H front t
+      by_target i few known s from None to e = absurd (false≢true (ap is_some e))
+      by_target i few known s from (Some u) to e = chosen i few known s u from to (some_same (record { block = w.block; stamp = i.stamp; source = s; target = u }) t e)
+
+      by_source : (i : BlockInfo) → length front < limits.work * len C.nodes → get H.blocks w.block ≡ Some i
+          → (o : Option ℕ) → least_source C front w.urgency (live C H w.block) ≡ o
+          → option_and_then (λ s. option_map (λ u. record { block = w.block; stamp = i.stamp; source = s; target = u }) (least_target C front w.urgency (holders_of C H front w.block) (barred_for H front w.block) i.stamp.len)) o ≡ Some t
+          → IsChosenAfter limits C H front t
+      by_source i few known None from e = absurd (false≢true (ap is_some e))
+      by_source i few known (Some s) from e = by_target i few known s from (least_target C front w.urgency (holders_of C H front w.block) (barred_for H front w.block) i.stamp.len) refl e
+
+      by_limit : (full : Bool) → nat_le (limits.work * len C.nodes) (length front) ≡ full → (o : Option BlockInfo) → get H.blocks w.block ≡ o
+          → (if full then None else option_and_then (λ i. option_and_then (λ s. option_map (λ u. record { block = w.block; stamp = i.stamp; source = s; target = u })
+          (least_target C front w.urgency (holders_of C H front w.block) (barred_for H front w.block) i.stamp.len)) (least_source C front w.urgency (live C H w.block))) o) ≡ Some t
+          → IsChosenAfter limits C H front t
+      by_limit true full o is e = absurd (false≢true (ap is_some e))
+      by_limit false full None is e = absurd (false≢true (ap is_some e))
+      by_limit false full (Some i) is e =
+          by_source i (leb-false (limits.work * len C.nodes) (length front) full) is (least_source C front w.urgency (live C H w.block)) refl e
+
+  pushed : (front : List Transfer) (w : WishedCopy) (o : Option Transfer) → transfer_for limits C H front w ≡ o → IsOfLevel C H w
+      → EachAfter (IsChosenAfter limits C H) [] front → EachAfter (IsChosenAfter limits C H) [] (front ++ option_to_list o)
+  pushed front w None e at h = subst (EachAfter (IsChosenAfter limits C H) []) (sym (append-nil front)) h
+  pushed front w (Some t) e at h = after_push (IsChosenAfter limits C H) [] front t h (of_some front w t e at)
+
+  chosen_from : (front : List Transfer) (ws : List WishedCopy) → Each (IsOfLevel C H) ws → EachAfter (IsChosenAfter limits C H) [] front
+      → EachAfter (IsChosenAfter limits C H) [] (transfers_from limits C H front ws)
+  chosen_from front [] at h = h
+  chosen_from front (w ∷ ws) at h =
+      chosen_from (front ++ option_to_list (transfer_for limits C H front w)) ws at.1 (pushed front w (transfer_for limits C H front w) refl at.0 h)
+
+  pub each_chosen : EachAfter (IsChosenAfter limits C H) [] (transfers limits C H)
+  unfolding transfers
+  each_chosen = chosen_from [] (wishes C H) (each_wish C H) tt
+
+-- What a choice tells of the source and the target.
+
+-- the least of those that pass passes, and is one of them
+pub least_passing : (R : ℕ → ℕ → Ordering) (p : ℕ → Bool) (xs : List ℕ) (x : ℕ) → least R (filter p xs) ≡ Some x → (p x ≡ true) × (has xs x ≡ true)
+least_passing R p xs x e =
+    let there = sym (has_filter p xs x) ∙ least_among R (filter p xs) x e in
+    (and_first (p x) (has xs x) there, and_second (p x) (has xs x) there)
+
+pub source_is : (C : Cluster) (front : List Transfer) (urgency : Level) (ss : List ℕ) (s : ℕ) → least_source C front urgency ss ≡ Some s
+    → (streams_from C front s < stream_limit urgency) × (has ss s ≡ true)
+unfolding least_source
+source_is C front urgency ss s e =
+    let is = least_passing (source_cmp C front) (λ z. nat_lt (streams_from C front z) (stream_limit urgency)) ss s e in
+    (ltb-true (streams_from C front s) (stream_limit urgency) is.0, is.1)
+
+pub target_is : (C : Cluster) (front : List Transfer) (urgency : Level) (holders barred : List ℕ) (n u : ℕ) → least_target C front urgency holders barred n ≡ Some u
+    → (is_target C front urgency holders barred n u ≡ true) × (has (keys C.storages) u ≡ true)
+unfolding least_target
+target_is C front urgency holders barred n u e = least_passing (target_cmp C front holders) (is_target C front urgency holders barred n) (keys C.storages) u e

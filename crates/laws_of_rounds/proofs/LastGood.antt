@@ -1,0 +1,29 @@
+-- The only good replica of a block is not commanded to be deleted.
+use Rattle.std.specs.Prelude.{◌≡◌, ℕ, true, Some, option_map}
+use Rattle.std.proofs.Common.{sym, ap, ◌∙◌}
+use Rattle.bm_base.specs.declared.replica.Tag.TheVariants.{Good}
+use Rattle.bm_base.specs.declared.replica.Marks.{Marks}
+use Rattle.bm_base.specs.declared.replica.BlockInfo.{BlockInfo}
+use Rattle.bm_base.specs.Map.{get}
+use Rattle.bm_base.specs.State.{State, replica_at}
+use Rattle.bm_base.specs.Lists.{has}
+use Rattle.bm_base.specs.Lawful.{IsLawful}
+use Rattle.laws_of_rounds.specs.Words.{after_round, live_after}
+use Rattle.laws_of_rounds.proofs.Commanded.{IsTested}
+use Rattle.laws_of_rounds.proofs.Kept.{one_stays, from_some}
+use Rattle.laws_of_rounds.proofs.Told.{same_tag}
+use Rattle.laws_of_rounds.proofs.Lively.{live_is}
+
+-- a replica that is live after a round was good before it
+was_good : (M : State) (b t : ℕ) → has (live_after M b) t ≡ true → (m : Marks) × (get M.holdings.replicas (replica_at b t) ≡ Some m) × (m.tag ≡ Good)
+was_good M b t h =
+    let now = (live_is M.cluster (after_round M).holdings b t).0 h in
+    from_some (λ (m : Marks). m.tag) (get M.holdings.replicas (replica_at b t)) Good
+    (sym (same_tag M (replica_at b t)) ∙ ap (option_map (λ (m : Marks). m.tag)) now.1 ∙ ap Some now.2)
+
+pub only_good_stays : (M : State) (b s : ℕ) (i : BlockInfo) → IsLawful M → get M.holdings.blocks b ≡ Some i
+    → ((t : ℕ) (m : Marks) → get M.holdings.replicas (replica_at b t) ≡ Some m → m.tag ≡ Good → t ≡ s) → IsTested M (replica_at b s) → ⊥
+only_good_stays M b s i lawful known only h =
+    let one = one_stays M b s i lawful known h in
+    let was = was_good M b one.0 one.1 in
+    one.3 (only one.0 was.0 was.1 was.2)

@@ -1,0 +1,156 @@
+-- What stands in a map and in a block's lists of storages.
+use Rattle.std.specs.Prelude.{◌≡◌, ℕ, Bool, true, false, ◌&&◌, ◌||◌, ◌==◌, List, [], ◌∷◌, map, filter, Some, None, is_some, T}
+use Rattle.std.specs.Option.{option_map_or}
+use Rattle.std.specs.List.{list_any}
+use Rattle.std.specs.declared.cmp.Ordering.{Ordering}
+use Rattle.std.specs.declared.cmp.Ordering.TheVariants.{Less, Equal, Greater}
+use Rattle.std.specs.Ordering.{nat_cmp, eq_by_cmp, is_eq}
+use Rattle.std.specs.FinMap.{find, is_sorted}
+use Rattle.std.specs.FinMap.Entries.{below_all}
+use Rattle.std.proofs.Common.{cond, refl, sym, ap, subst, ◌∙◌}
+use Rattle.std.proofs.lemmas.Bool.{eqb-true, true≢false}
+use Rattle.bm_base.specs.Conjunction.{first, second}
+use Rattle.bm_base.specs.declared.replica.ReplicaId.{ReplicaId}
+use Rattle.bm_base.specs.declared.replica.Marks.{Marks}
+use Rattle.bm_base.specs.Map.{Map, Order, by_number, get, entries, revise}
+use Rattle.bm_base.specs.State.{Holdings, by_replica, replica_cmp, replica_at}
+use Rattle.bm_base.specs.Lists.{has, has_repeats}
+use Rattle.bm_base.specs.Replicas.{storages_where}
+use Rattle.bm_base.proofs.MapLaws.{find_below, entries-revise}
+use Rattle.bm_base.proofs.Ties.{number_tie, replica_tie}
+use Rattle.laws_of_rounds.proofs.Listed.{Each, each_weaker, any_map, any_filter, any_agree, eq_turned, same_again}
+
+equal : (r : Ordering) → is_eq r ≡ true → r ≡ Equal
+equal Less p = cc
+equal Equal p = refl
+equal Greater p = cc
+
+pub same_key : {K : Type 0} (o : Order K) (p q : K) → eq_by_cmp o.cmp p q ≡ true → p ≡ q
+same_key o p q e = o.same p q (equal _ e)
+
+module _ {K X : Type 0} (o : Order K) where
+  -- of entries in order one at most has the key
+  pub any_at : (k : K) (p : X → Bool) (es : List (K × X)) → T (is_sorted o.cmp es)
+      → list_any (λ e. eq_by_cmp o.cmp k e.0 && p e.1) es ≡ option_map_or p (find o.cmp k es) false
+  any_at k p [] h = refl
+  any_at k p (e ∷ es) h =
+      let rest = any_at k p es (second _ _ h) in
+      elim (eq_by_cmp o.cmp k e.0) as (λ b. eq_by_cmp o.cmp k e.0 ≡ b → ((b && p e.1) || list_any (λ f. eq_by_cmp o.cmp k f.0 && p f.1) es) ≡ option_map_or p (cond b (Some e.1) (find o.cmp k es)) false) [
+        | true ↦ λ t.
+            let none : find o.cmp k es ≡ None = find_below o.cmp k es (subst (λ q. T (below_all o.cmp q es)) (sym (same_key o k e.0 t)) (first _ _ h)) in
+            ap (λ b. p e.1 || b) (rest ∙ ap (λ v. option_map_or p v false) none) ∙ (elim (p e.1) as (λ b. (b || false) ≡ b) [ true ↦ refl | false ↦ refl ])
+        | false ↦ λ _. rest
+      ] refl
+
+  found_further : (e : K × X) (es : List (K × X)) → T (below_all o.cmp e.0 es) → (d : K × X) → find o.cmp d.0 es ≡ Some d.1 → find o.cmp d.0 (e ∷ es) ≡ Some d.1
+  found_further e es low d found =
+      elim (eq_by_cmp o.cmp d.0 e.0) as (λ b. eq_by_cmp o.cmp d.0 e.0 ≡ b → cond b (Some e.1) (find o.cmp d.0 es) ≡ Some d.1) [
+        | true ↦ λ t.
+            let none : find o.cmp d.0 es ≡ None = find_below o.cmp d.0 es (subst (λ q. T (below_all o.cmp q es)) (sym (same_key o d.0 e.0 t)) low) in
+            absurd (some≢none d.1 (sym found ∙ none))
+        | false ↦ λ _. found
+      ] refl
+    where
+      some≢none : (x : X) → Some x ≡ None → ⊥
+      some≢none x e = true≢false (ap is_some e)
+
+  -- each entry is found under its key
+  pub found_each : ((k : K) → eq_by_cmp o.cmp k k ≡ true) → (es : List (K × X)) → T (is_sorted o.cmp es) → Each (λ e. find o.cmp e.0 es ≡ Some e.1) es
+  found_each same [] h = tt
+  found_each same (e ∷ es) h = (
+    ap (λ b. cond b (Some e.1) (find o.cmp e.0 es)) (same e.0),
+    each_weaker (λ d. find o.cmp d.0 es ≡ Some d.1) (λ d. find o.cmp d.0 (e ∷ es) ≡ Some d.1) (found_further e es (first _ _ h)) es (found_each same es (second _ _ h)),
+  )
+
+number_again : (k : ℕ) → eq_by_cmp nat_cmp k k ≡ true
+number_again k = number_tie k k ∙ same_again k
+
+replica_again : (k : ReplicaId) → eq_by_cmp replica_cmp k k ≡ true
+replica_again k = replica_tie k k ∙ ap (λ b. b && (k.storage == k.storage)) (same_again k.block) ∙ same_again k.storage
+
+pub found_numbers : {X : Type 0} (m : Map by_number X) → Each (λ e. get m e.0 ≡ Some e.1) (entries m)
+unfolding get entries
+found_numbers m = found_each by_number number_again m.list m.sorted
+
+pub found_replicas : {X : Type 0} (m : Map by_replica X) → Each (λ e. get m e.0 ≡ Some e.1) (entries m)
+unfolding get entries
+found_replicas m = found_each by_replica replica_again m.list m.sorted
+
+-- Storages of a block.
+
+pub any_replica : {X : Type 0} (m : Map by_replica X) (k : ReplicaId) (p : X → Bool)
+    → list_any (λ e. eq_by_cmp replica_cmp k e.0 && p e.1) (entries m) ≡ option_map_or p (get m k) false
+unfolding get entries
+any_replica m k p = any_at by_replica k p m.list m.sorted
+
+-- the storages of the entries of a block that pass
+abbrev pub listed : {X : Type 0} → (X → Bool) → ℕ → List (ReplicaId × X) → List ℕ
+listed p b es = map (λ e. e.0.storage) (filter (λ e. (e.0.block == b) && p e.1) es)
+
+turned : (x y z u : Bool) → x ≡ u → ((x && y) && z) ≡ ((u && z) && y)
+turned x y z u e =
+    ap (λ t. (t && y) && z) e
+    ∙ (elim u as (λ t. ((t && y) && z) ≡ ((t && z) && y)) [ true ↦ (elim y as (λ r. (r && z) ≡ (z && r)) [ true ↦ (elim z as (λ s. s ≡ (s && true)) [ true ↦ refl | false ↦ refl ]) | false ↦ (elim z as (λ s. false ≡ (s && false)) [ true ↦ refl | false ↦ refl ]) ]) | false ↦ refl ])
+
+at_key : {X : Type 0} (p : X → Bool) (b s : ℕ) (e : ReplicaId × X)
+    → (((e.0.block == b) && p e.1) && (e.0.storage == s)) ≡ (eq_by_cmp replica_cmp (replica_at b s) e.0 && p e.1)
+at_key p b s e =
+    turned (e.0.block == b) (p e.1) (e.0.storage == s) (b == e.0.block) (eq_turned e.0.block b)
+    ∙ ap (λ t. ((b == e.0.block) && t) && p e.1) (eq_turned e.0.storage s)
+    ∙ ap (λ t. t && p e.1) (sym (replica_tie (replica_at b s) e.0))
+
+any_listed : {X : Type 0} (p : X → Bool) (b s : ℕ) (es : List (ReplicaId × X))
+    → has (listed p b es) s ≡ list_any (λ e. eq_by_cmp replica_cmp (replica_at b s) e.0 && p e.1) es
+any_listed p b s es =
+    any_map (λ t. t == s) (λ e. e.0.storage) (filter (λ e. (e.0.block == b) && p e.1) es)
+    ∙ any_filter (λ e. e.0.storage == s) (λ e. (e.0.block == b) && p e.1) es
+    ∙ any_agree (λ e. ((e.0.block == b) && p e.1) && (e.0.storage == s)) (λ e. eq_by_cmp replica_cmp (replica_at b s) e.0 && p e.1) (at_key p b s) es
+
+pub has_listed : {X : Type 0} (m : Map by_replica X) (p : X → Bool) (b s : ℕ) → has (listed p b (entries m)) s ≡ option_map_or p (get m (replica_at b s)) false
+has_listed m p b s = any_listed p b s (entries m) ∙ any_replica m (replica_at b s) p
+
+-- a storage stands in a block's list exactly where its replica of the block passes
+pub has_where : (p : Marks → Bool) (H : Holdings) (b s : ℕ) → has (storages_where p H b) s ≡ option_map_or p (get H.replicas (replica_at b s)) false
+unfolding storages_where
+has_where p H b s = has_listed H.replicas p b s
+
+once_listed : {X : Type 0} (p : X → Bool) (b : ℕ) (es : List (ReplicaId × X)) → T (is_sorted replica_cmp es) → has_repeats (listed p b es) ≡ false
+once_listed p b [] h = refl
+once_listed p b (e ∷ es) h =
+    let rest = once_listed p b es (second _ _ h) in
+    elim (e.0.block == b) as (λ t. (e.0.block == b) ≡ t → has_repeats (map (λ f. f.0.storage) (cond (t && p e.1) (e ∷ filter (λ f. (f.0.block == b) && p f.1) es) (filter (λ f. (f.0.block == b) && p f.1) es))) ≡ false) [
+      | true ↦ λ t.
+          let none : find replica_cmp (replica_at b e.0.storage) es ≡ None =
+          ap (λ c. find replica_cmp (replica_at c e.0.storage) es) (sym (eqb-true e.0.block b t)) ∙ find_below replica_cmp e.0 es (first _ _ h) in
+          let alone : has (listed p b es) e.0.storage ≡ false =
+          any_listed p b e.0.storage es ∙ any_at by_replica (replica_at b e.0.storage) p es (second _ _ h) ∙ ap (λ v. option_map_or p v false) none in
+          elim (p e.1) as (λ u. has_repeats (map (λ f. f.0.storage) (cond u (e ∷ filter (λ f. (f.0.block == b) && p f.1) es) (filter (λ f. (f.0.block == b) && p f.1) es))) ≡ false) [
+            | true ↦ ap (λ u. u || has_repeats (listed p b es)) alone ∙ rest
+            | false ↦ rest
+          ]
+      | false ↦ λ _. rest
+    ] refl
+
+once_by_replica : {X : Type 0} (m : Map by_replica X) (p : X → Bool) (b : ℕ) → has_repeats (listed p b (entries m)) ≡ false
+unfolding entries
+once_by_replica m p b = once_listed p b m.list m.sorted
+
+pub once_where : (p : Marks → Bool) (H : Holdings) (b : ℕ) → has_repeats (storages_where p H b) ≡ false
+unfolding storages_where
+once_where p H b = once_by_replica H.replicas p b
+
+-- where marks are revised, the list is that of the marks that pass once revised
+revised_list : (p : Marks → Bool) (b : ℕ) (f : ReplicaId → Marks → Marks) (es : List (ReplicaId × Marks))
+    → listed p b (map (λ e. (e.0, f e.0 e.1)) es) ≡ map (λ e. e.0.storage) (filter (λ e. (e.0.block == b) && p (f e.0 e.1)) es)
+revised_list p b f [] = refl
+revised_list p b f (e ∷ es) =
+    let rest = revised_list p b f es in
+    elim ((e.0.block == b) && p (f e.0 e.1)) as (λ t. map (λ (d : ReplicaId × Marks). d.0.storage) (cond t ((e.0, f e.0 e.1) ∷ filter (λ d. (d.0.block == b) && p d.1) (map (λ d. (d.0, f d.0 d.1)) es)) (filter (λ d. (d.0.block == b) && p d.1) (map (λ d. (d.0, f d.0 d.1)) es)))
+    ≡ map (λ (d : ReplicaId × Marks). d.0.storage) (cond t (e ∷ filter (λ d. (d.0.block == b) && p (f d.0 d.1)) es) (filter (λ d. (d.0.block == b) && p (f d.0 d.1)) es))) [
+      | true ↦ ap (λ ss. e.0.storage ∷ ss) rest
+      | false ↦ rest
+    ]
+
+pub revised_where : (p : Marks → Bool) (H : Holdings) (b : ℕ) (f : ReplicaId → Marks → Marks)
+    → listed p b (entries (revise H.replicas f)) ≡ map (λ e. e.0.storage) (filter (λ e. (e.0.block == b) && p (f e.0 e.1)) (entries H.replicas))
+revised_where p H b f = ap (listed p b) (entries-revise by_replica H.replicas f) ∙ revised_list p b f (entries H.replicas)

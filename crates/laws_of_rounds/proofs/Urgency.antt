@@ -1,0 +1,197 @@
+-- Wishes rise by level and block, and so do the transfers that are chosen for them.
+use Rattle.std.specs.Prelude.{◌≡◌, ℕ, zero, suc, ◌≤◌, ◌<◌, ◌⊎◌, Bool, true, false, ◌==◌, nat_lt, if◌then◌else◌, List, [], ◌∷◌, ◌++◌, map, flat_map, replicate, Option, Some, None, option_to_list, T}
+use Rattle.std.specs.Option.{option_map_or}
+use Rattle.std.specs.Ordering.{nat_cmp, is_lt}
+use Rattle.std.specs.declared.cmp.Ordering.TheVariants.{Less, Equal, Greater}
+use Rattle.std.specs.FinMap.{is_sorted}
+use Rattle.std.specs.FinMap.Entries.{below_all}
+use Rattle.std.proofs.Common.{cond, refl, sym, ap, subst, ◌∙◌, arith, inl, inr, append-nil}
+use Rattle.std.proofs.lemmas.Bool.{ltb-true}
+use Rattle.bm_base.specs.Conjunction.{first, second}
+use Rattle.bm_base.specs.declared.level.Level.{Level}
+use Rattle.bm_base.specs.declared.level.Level.TheVariants.{Highest, VeryUnderReplicated, UnderReplicated, BadlyDistributed}
+use Rattle.bm_base.specs.declared.replica.BlockInfo.{BlockInfo}
+use Rattle.bm_base.specs.declared.commands.Transfer.{Transfer}
+use Rattle.bm_base.specs.Map.{Map, by_number, get, keys, entries}
+use Rattle.bm_base.specs.State.{RoundLimits, Cluster, Holdings, State}
+use Rattle.bm_base.specs.Levels.{level, level_number, is_at}
+use Rattle.bm_base.specs.Excess.{begun, started}
+use Rattle.bm_base.specs.Transfers.{WishedCopy, wished_count, wishes_for, wishes, transfer_for, transfers_from, transfers}
+use Rattle.laws_of_rounds.specs.Words.{transfers_chosen}
+use Rattle.laws_of_rounds.proofs.Listed.{Each, each_all, each_append, each_weaker, each_flat_map, some_same}
+use Rattle.laws_of_rounds.proofs.Choosing.{EachAfter, after_push, after_split, IsOfLevel, each_wish, each_replicate}
+use Rattle.laws_of_rounds.proofs.Later.{each_at}
+use Rattle.laws_of_rounds.proofs.Wished.{of_wish}
+
+-- a wish is served before another
+abbrev IsBefore : WishedCopy → WishedCopy → Type 0
+IsBefore w v = (level_number w.urgency < level_number v.urgency) ⊎ ((w.urgency ≡ v.urgency) × (w.block ≤ v.block))
+
+-- in a list each before those behind it
+abbrev Rises : {X : Type 0} → (X → X → Type 0) → List X → Type 0
+Rises R [] = Unit {0}
+Rises R (x ∷ xs) = Each (R x) xs × Rises R xs
+
+module _ {X : Type 0} (R : X → X → Type 0) where
+  rises_append : (xs ys : List X) → Rises R xs → Rises R ys → Each (λ x. Each (R x) ys) xs → Rises R (xs ++ ys)
+  rises_append [] ys h k all = k
+  rises_append (x ∷ xs) ys h k all = (each_append (R x) xs ys h.0 all.0, rises_append xs ys h.1 k all.1)
+
+  rises_replicate : (n : ℕ) (x : X) → R x x → Rises R (replicate n x)
+  rises_replicate zero x h = tt
+  rises_replicate (suc n) x h = (each_replicate (R x) n x h, rises_replicate n x h)
+
+-- Keys rise.
+
+lt_of : (a b : ℕ) → T (is_lt (nat_cmp a b)) → a < b
+lt_of a b =
+    elim (nat_lt a b) as (λ c. nat_lt a b ≡ c → T (is_lt (cond c Less (cond (a == b) Equal Greater))) → a < b) [
+      | true ↦ λ e _. ltb-true a b e
+      | false ↦ λ _ h. absurd (never (a == b) h)
+    ] refl
+  where
+    never : (e : Bool) → T (is_lt (cond e Equal Greater)) → ⊥
+    never true h = h
+    never false h = h
+
+below_each : {X : Type 0} (k : ℕ) (es : List (ℕ × X)) → T (below_all nat_cmp k es) → Each (λ n. k < n) (map (λ e. e.0) es)
+below_each k [] h = tt
+below_each k (e ∷ es) h = (lt_of k e.0 (first _ _ h), below_each k es (second _ _ h))
+
+rising : {X : Type 0} (es : List (ℕ × X)) → T (is_sorted nat_cmp es) → Rises (λ k n. k < n) (map (λ e. e.0) es)
+rising [] h = tt
+rising (e ∷ es) h = (below_each e.0 es (first _ _ h), rising es (second _ _ h))
+
+keys_rise : {X : Type 0} (m : Map by_number X) → Rises (λ k n. k < n) (keys m)
+unfolding keys entries
+keys_rise m = rising m.list m.sorted
+
+-- Wishes rise.
+
+abbrev IsFor : Level → ℕ → WishedCopy → Type 0
+IsFor urgency b w = (w.urgency ≡ urgency) × (w.block ≡ b)
+
+module _ (C : Cluster) (H : Holdings) where
+  for_if : (urgency : Level) (b : ℕ) (t : Bool) (o : Option BlockInfo)
+      → Each (IsFor urgency b) (if t then option_map_or (λ i. replicate (wished_count C H urgency i.repl b) (record { urgency = urgency; block = b })) o [] else [])
+  for_if urgency b true None = tt
+  for_if urgency b true (Some i) = each_replicate (IsFor urgency b) (wished_count C H urgency i.repl b) (record { urgency = urgency; block = b }) (refl, refl)
+  for_if urgency b false o = tt
+
+  each_for : (urgency : Level) (b : ℕ) → Each (IsFor urgency b) (wishes_for C H urgency b)
+  unfolding wishes_for
+  each_for urgency b = for_if urgency b (is_at urgency (level C H b)) (get H.blocks b)
+
+  rises_if : (urgency : Level) (b : ℕ) (t : Bool) (o : Option BlockInfo)
+      → Rises IsBefore (if t then option_map_or (λ i. replicate (wished_count C H urgency i.repl b) (record { urgency = urgency; block = b })) o [] else [])
+  rises_if urgency b true None = tt
+  rises_if urgency b true (Some i) = rises_replicate IsBefore (wished_count C H urgency i.repl b) (record { urgency = urgency; block = b }) (inr (refl, omega arith))
+  rises_if urgency b false o = tt
+
+  rises_for : (urgency : Level) (b : ℕ) → Rises IsBefore (wishes_for C H urgency b)
+  unfolding wishes_for
+  rises_for urgency b = rises_if urgency b (is_at urgency (level C H b)) (get H.blocks b)
+
+  -- a wish for a block before those for greater blocks
+  before_greater : (urgency : Level) (b n : ℕ) (w : WishedCopy) → b < n → IsFor urgency b w → Each (IsBefore w) (wishes_for C H urgency n)
+  before_greater urgency b n w lt is =
+      each_weaker (IsFor urgency n) (IsBefore w) (λ v h. let e = is.1 in let f = h.1 in inr (is.0 ∙ sym h.0, omega (arith, lt, e, f))) (wishes_for C H urgency n) (each_for urgency n)
+
+  rises_at : (urgency : Level) (ks : List ℕ) → Rises (λ k n. k < n) ks → Rises IsBefore (flat_map (wishes_for C H urgency) ks)
+  rises_at urgency [] h = tt
+  rises_at urgency (b ∷ ks) h =
+      rises_append IsBefore (wishes_for C H urgency b) (flat_map (wishes_for C H urgency) ks) (rises_for urgency b) (rises_at urgency ks h.1)
+      (each_weaker (IsFor urgency b) (λ w. Each (IsBefore w) (flat_map (wishes_for C H urgency) ks))
+      (λ w is. each_flat_map (λ n. b < n) (IsBefore w) (wishes_for C H urgency) (λ n lt. before_greater urgency b n w lt is) ks h.0) (wishes_for C H urgency b) (each_for urgency b))
+
+  abbrev at : Level → List WishedCopy
+  at urgency = flat_map (wishes_for C H urgency) (keys H.blocks)
+
+  each_urgency : (urgency : Level) → Each (λ w. w.urgency ≡ urgency) (at urgency)
+  each_urgency urgency =
+      each_flat_map (λ _. Unit {0}) (λ w. w.urgency ≡ urgency) (wishes_for C H urgency)
+      (λ b _. each_weaker (IsFor urgency b) (λ w. w.urgency ≡ urgency) (λ w h. h.0) (wishes_for C H urgency b) (each_for urgency b)) (keys H.blocks) (each_all (λ _. Unit {0}) (λ _. tt) (keys H.blocks))
+
+  lower_before : (l k : Level) → level_number l < level_number k → (w v : WishedCopy) → w.urgency ≡ l → v.urgency ≡ k → IsBefore w v
+  lower_before l k lt w v e f =
+      inl (subst (λ z. level_number w.urgency < level_number z) (sym f) (subst (λ z. level_number z < level_number k) (sym e) lt))
+
+  -- levels one after another, each of a greater number than the one before
+  levels_rise : (ls : List Level) → Rises (λ l k. level_number l < level_number k) ls → Rises IsBefore (flat_map at ls)
+  levels_rise [] h = tt
+  levels_rise (l ∷ ls) h =
+      rises_append IsBefore (at l) (flat_map at ls) (rises_at l (keys H.blocks) (keys_rise H.blocks)) (levels_rise ls h.1)
+      (each_weaker (λ w. w.urgency ≡ l) (λ w. Each (IsBefore w) (flat_map at ls))
+      (λ w e. each_flat_map (λ k. level_number l < level_number k) (IsBefore w) at (λ k lt. each_weaker (λ v. v.urgency ≡ k) (IsBefore w) (λ v f. lower_before l k lt w v e f) (at k) (each_urgency k)) ls h.0)
+      (at l) (each_urgency l))
+
+  wishes_rise : Rises IsBefore (wishes C H)
+  unfolding wishes
+  wishes_rise =
+      levels_rise (Highest ∷ VeryUnderReplicated ∷ UnderReplicated ∷ BadlyDistributed ∷ [])
+      ((omega arith, (omega arith, (omega arith, tt))), ((omega arith, (omega arith, tt)), ((omega arith, tt), (tt, tt))))
+
+  -- Transfers.
+
+  -- a transfer was chosen for a wish that is served before this one
+  abbrev IsServedBefore : WishedCopy → Transfer → Type 0
+  IsServedBefore v t = (w : WishedCopy) × (t.block ≡ w.block) × IsOfLevel C H w × IsBefore w v
+
+  -- the transfers chosen before one are of wishes served before one for its block
+  abbrev IsInOrder : List Transfer → Transfer → Type 0
+  IsInOrder front u = (v : WishedCopy) × (u.block ≡ v.block) × IsOfLevel C H v × Each (IsServedBefore v) front
+
+  module _ (limits : RoundLimits) where
+    order_pushed : (front : List Transfer) (w : WishedCopy) (o : Option Transfer) → ((t : Transfer) → o ≡ Some t → t.block ≡ w.block) → IsOfLevel C H w → Each (IsServedBefore w) front
+        → EachAfter IsInOrder [] front → EachAfter IsInOrder [] (front ++ option_to_list o)
+    order_pushed front w None same of_level before h = subst (EachAfter IsInOrder []) (sym (append-nil front)) h
+    order_pushed front w (Some t) same of_level before h = after_push IsInOrder [] front t h (w, same t refl, of_level, before)
+
+    served_pushed : (front : List Transfer) (w v : WishedCopy) (o : Option Transfer) → ((t : Transfer) → o ≡ Some t → t.block ≡ w.block) → IsOfLevel C H w → IsBefore w v
+        → Each (IsServedBefore v) front → Each (IsServedBefore v) (front ++ option_to_list o)
+    served_pushed front w v None same of_level lt h = subst (Each (IsServedBefore v)) (sym (append-nil front)) h
+    served_pushed front w v (Some t) same of_level lt h = each_append (IsServedBefore v) front (t ∷ []) h ((w, same t refl, of_level, lt), tt)
+
+    served_all : (front : List Transfer) (w : WishedCopy) (o : Option Transfer) → ((t : Transfer) → o ≡ Some t → t.block ≡ w.block) → IsOfLevel C H w → (ws : List WishedCopy) → Each (IsBefore w) ws
+        → Each (λ v. Each (IsServedBefore v) front) ws → Each (λ v. Each (IsServedBefore v) (front ++ option_to_list o)) ws
+    served_all front w o same of_level [] lt h = tt
+    served_all front w o same of_level (v ∷ ws) lt h = (served_pushed front w v o same of_level lt.0 h.0, served_all front w o same of_level ws lt.1 h.1)
+
+    in_order : (front : List Transfer) (ws : List WishedCopy) → Rises IsBefore ws → Each (IsOfLevel C H) ws → Each (λ v. Each (IsServedBefore v) front) ws → EachAfter IsInOrder [] front
+        → EachAfter IsInOrder [] (transfers_from limits C H front ws)
+    in_order front [] rise at_level before h = h
+    in_order front (w ∷ ws) rise at_level before h =
+        in_order (front ++ option_to_list (transfer_for limits C H front w)) ws rise.1 at_level.1
+        (served_all front w (transfer_for limits C H front w) (of_wish limits C H w.block front w) at_level.0 ws rise.0 before.1)
+        (order_pushed front w (transfer_for limits C H front w) (of_wish limits C H w.block front w) at_level.0 before.0 h)
+
+    pub all_in_order : EachAfter IsInOrder [] (transfers limits C H)
+    unfolding transfers
+    all_in_order = in_order [] (wishes C H) wishes_rise (each_wish C H) (each_all (λ v. Unit {0}) (λ _. tt) (wishes C H)) tt
+
+  of_order : (t u : Transfer) (l k : Level) (v : WishedCopy) → level C H t.block ≡ Some l → level C H u.block ≡ Some k → u.block ≡ v.block → IsOfLevel C H v → IsServedBefore v t
+      → (level_number l < level_number k) ⊎ ((l ≡ k) × (t.block ≤ u.block))
+  of_order t u l k v at_l at_k same at_v served =
+      let w : WishedCopy = served.0 in
+      let is_l : w.urgency ≡ l = some_same w.urgency l (sym served.2 ∙ ap (level C H) (sym served.1) ∙ at_l) in
+      let is_k : v.urgency ≡ k = some_same v.urgency k (sym at_v ∙ ap (level C H) (sym same) ∙ at_k) in
+      by_case w is_l is_k served.1 served.3
+    where
+      by_case : (w : WishedCopy) → w.urgency ≡ l → v.urgency ≡ k → t.block ≡ w.block → IsBefore w v → (level_number l < level_number k) ⊎ ((l ≡ k) × (t.block ≤ u.block))
+      by_case w e f g (inl lt) = inl (subst (λ z. level_number z < level_number k) e (subst (λ z. level_number w.urgency < level_number z) f lt))
+      by_case w e f g (inr h) = let le = h.1 in inr (sym e ∙ h.0 ∙ f, omega (arith, g, same, le))
+
+order_of : (M : State) → EachAfter (IsInOrder M.cluster (started M).holdings) [] (transfers_chosen M)
+unfolding started begun
+order_of M = all_in_order M.cluster (started M).holdings M.limits
+
+split_again : (front middle back : List Transfer) (t u : Transfer) → front ++ t ∷ (middle ++ u ∷ back) ≡ (front ++ t ∷ middle) ++ u ∷ back
+split_again [] middle back t u = refl
+split_again (x ∷ front) middle back t u = ap (λ ts. x ∷ ts) (split_again front middle back t u)
+
+pub urgent_first : (M : State) (front middle back : List Transfer) (t u : Transfer) (l k : Level) → transfers_chosen M ≡ front ++ t ∷ (middle ++ u ∷ back)
+    → level M.cluster (started M).holdings t.block ≡ Some l → level M.cluster (started M).holdings u.block ≡ Some k
+    → (level_number l < level_number k) ⊎ ((l ≡ k) × (t.block ≤ u.block))
+urgent_first M front middle back t u l k is at_l at_k =
+    let order = after_split (IsInOrder M.cluster (started M).holdings) (transfers_chosen M) (front ++ t ∷ middle) back u (order_of M) (is ∙ split_again front middle back t u) in
+    of_order M.cluster (started M).holdings t u l k order.0 at_l at_k order.1 order.2 (each_at (IsServedBefore M.cluster (started M).holdings order.0) front middle t order.3)

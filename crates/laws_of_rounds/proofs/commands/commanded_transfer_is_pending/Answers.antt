@@ -1,0 +1,5 @@
+use Rattle.laws_of_rounds.proofs.Told.{pending_told}
+use Rattle.laws_of_rounds.proofs.commands.commanded_transfer_is_pending.Goals as goal
+
+pub returns : goal.returns
+returns c = pending_told

@@ -1,0 +1,5 @@
+use Rattle.laws_of_rounds.proofs.Told.{same_tag}
+use Rattle.laws_of_rounds.proofs.commands.round_changes_no_tag.Goals as goal
+
+pub returns : goal.returns
+returns c = same_tag

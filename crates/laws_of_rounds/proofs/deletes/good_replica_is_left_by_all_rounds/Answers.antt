@@ -1,0 +1,9 @@
+use Rattle.bm_base.specs.State.{first_state, replica_at}
+use Rattle.bm_base.specs.Calls.{state_after}
+use Rattle.laws_of_rounds.proofs.Ordered.{done_reached, good_stays}
+use Rattle.laws_of_rounds.proofs.Tested.{tested}
+use Rattle.laws_of_rounds.proofs.deletes.good_replica_is_left_by_all_rounds.Goals as goal
+
+pub returns : goal.returns
+returns c = λ config ks b s i lawful known h.
+    good_stays (state_after (first_state config) ks) b s i (done_reached config ks) lawful known (tested (state_after (first_state config) ks) (replica_at b s) h)

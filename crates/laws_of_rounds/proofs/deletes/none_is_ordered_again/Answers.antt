@@ -1,0 +1,6 @@
+use Rattle.laws_of_rounds.proofs.Reasons.{not_ordered}
+use Rattle.laws_of_rounds.proofs.Tested.{tested}
+use Rattle.laws_of_rounds.proofs.deletes.none_is_ordered_again.Goals as goal
+
+pub returns : goal.returns
+returns c = λ M q h. not_ordered M q (tested M q h)

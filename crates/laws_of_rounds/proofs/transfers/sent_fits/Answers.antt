@@ -1,0 +1,5 @@
+use Rattle.laws_of_rounds.proofs.Sending.{sent_fits}
+use Rattle.laws_of_rounds.proofs.transfers.sent_fits.Goals as goal
+
+pub returns : goal.returns
+returns c = sent_fits

@@ -1,0 +1,55 @@
+-- Laws of what nodes are commanded, and of what stands of it in the state.
+use Rattle.std.specs.Prelude.{◌≡◌, ◌+◌, ◌<◌, ◌⊎◌, true, false, List, ◌∷◌, ◌++◌, length, Some, option_map}
+use Rattle.std.specs.List.{All}
+use Rattle.bm_base.specs.declared.replica.ReplicaId.{ReplicaId}
+use Rattle.bm_base.specs.declared.replica.Marks.{Marks}
+use Rattle.bm_base.specs.declared.level.Level.TheVariants.{Highest}
+use Rattle.bm_base.specs.declared.commands.Transfer.{Transfer}
+use Rattle.bm_base.specs.Map.{get}
+use Rattle.bm_base.specs.State.{State, replica_at}
+use Rattle.bm_base.specs.Replicas.{node_of}
+use Rattle.bm_base.specs.Levels.{level}
+use Rattle.bm_base.specs.Excess.{started}
+use Rattle.bm_base.specs.Lawful.{IsLawful}
+use Rattle.bm_base.specs.Rounds.{whole_round}
+use Rattle.laws_of_rounds.specs.Words.{IsAmong, IsDeleteCommanded, IsTransferCommanded, transfers_chosen, after_round}
+
+-- each node is commanded transfers from its own storages and deletes on its own storages
+abbrev pub EachNodeItsOwn : Type 0
+EachNodeItsOwn =
+    (M : State) → All (λ k. All (λ t. node_of M.cluster t.source ≡ Some k.node) k.transfers × All (λ d. node_of M.cluster d.storage ≡ Some k.node) k.deletes) (whole_round M).0.nodes
+
+-- of the transfers that a node is commanded, those of blocks of other levels than the highest are among the first two
+abbrev pub FirstTwoOfANode : Type 0
+FirstTwoOfANode =
+    (M : State) → All (λ k. (front back : List Transfer) (t : Transfer) → k.transfers ≡ front ++ t ∷ back
+    → (level M.cluster (started M).holdings t.block ≡ Some Highest) ⊎ (length front < 2)) (whole_round M).0.nodes
+
+-- in a lawful state, what a round chooses it commands
+abbrev pub ChosenTransferIsCommanded : Type 0
+ChosenTransferIsCommanded = (M : State) (t : Transfer) → IsLawful M → IsAmong (transfers_chosen M) t → IsTransferCommanded M t
+
+-- a delete that is commanded is ordered once the round is over
+abbrev pub CommandedDeleteIsOrdered : Type 0
+CommandedDeleteIsOrdered =
+    (M : State) (q : ReplicaId) → IsDeleteCommanded M q → (m : Marks) × (get (after_round M).holdings.replicas q ≡ Some m) × (m.ordered ≡ true)
+
+-- and a delete that was not ordered before a round and is ordered after it, the round commanded
+abbrev pub OrderedIsCommanded : Type 0
+OrderedIsCommanded =
+    (M : State) (q : ReplicaId) (m n : Marks) → get M.holdings.replicas q ≡ Some m → m.ordered ≡ false
+    → get (after_round M).holdings.replicas q ≡ Some n → n.ordered ≡ true → IsDeleteCommanded M q
+
+-- a transfer that is commanded is on its way since the round, once it is over
+abbrev pub CommandedTransferIsPending : Type 0
+CommandedTransferIsPending =
+    (M : State) (t : Transfer) → IsTransferCommanded M t → get (after_round M).holdings.pending (replica_at t.block t.target) ≡ Some (M.round + 1)
+
+-- A round changes the marks of replicas and the transfers on their way, and counts itself; it changes no tag, no block and no node.
+abbrev pub RoundChangesNoTag : Type 0
+RoundChangesNoTag = (M : State) (q : ReplicaId) → option_map (λ m. m.tag) (get (after_round M).holdings.replicas q) ≡ option_map (λ m. m.tag) (get M.holdings.replicas q)
+
+abbrev pub RoundKeepsTheRest : Type 0
+RoundKeepsTheRest =
+    (M : State) → ((after_round M).cluster ≡ M.cluster) × ((after_round M).holdings.blocks ≡ M.holdings.blocks) × ((after_round M).limits ≡ M.limits)
+    × ((after_round M).round ≡ M.round + 1) × ((after_round M).calls ≡ M.calls)

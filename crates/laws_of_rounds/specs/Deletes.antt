@@ -1,0 +1,100 @@
+-- Laws of deletes.
+use Rattle.std.specs.Prelude.{◌≡◌, ℕ, ◌≤◌, ◌⊎◌, true, false, List, length, Some}
+use Rattle.std.specs.List.{All}
+use Rattle.bm_base.specs.declared.config.Config.{Config}
+use Rattle.bm_base.specs.declared.call.Call.{Call}
+use Rattle.bm_base.specs.declared.replica.ReplicaId.{ReplicaId}
+use Rattle.bm_base.specs.declared.replica.Tag.TheVariants.{Good}
+use Rattle.bm_base.specs.declared.replica.Marks.{Marks}
+use Rattle.bm_base.specs.declared.replica.BlockInfo.{BlockInfo}
+use Rattle.bm_base.specs.declared.commands.NodeCommands.{NodeCommands}
+use Rattle.bm_base.specs.Map.{get}
+use Rattle.bm_base.specs.State.{State, replica_at, first_state}
+use Rattle.bm_base.specs.Lists.{has}
+use Rattle.bm_base.specs.Replicas.{is_good, is_live, is_stray, is_corrupt, node_of}
+use Rattle.bm_base.specs.Excess.{started}
+use Rattle.bm_base.specs.Rounds.{whole_round}
+use Rattle.bm_base.specs.Lawful.{IsLawful}
+use Rattle.bm_base.specs.Calls.{state_after}
+use Rattle.laws_of_rounds.specs.Words.{IsAmong, IsDeleteCommanded, after_round, live_marked, live_after}
+
+-- The last good replica.
+
+-- A round does not command the delete of the only good replica of a known block.
+abbrev pub OnlyGoodReplicaIsNotDeleted : Type 0
+OnlyGoodReplicaIsNotDeleted =
+    (M : State) (b s : ℕ) (i : BlockInfo) → IsLawful M → get M.holdings.blocks b ≡ Some i
+    → ((t : ℕ) (m : Marks) → get M.holdings.replicas (replica_at b t) ≡ Some m → m.tag ≡ Good → t ≡ s)
+    → IsDeleteCommanded M (replica_at b s) → ⊥
+
+-- Where a round commands the delete of a replica of a known block, another replica of the block is live after the round, and the
+-- round does not command its delete.
+abbrev pub LastGoodReplicaStays : Type 0
+LastGoodReplicaStays =
+    (M : State) (b s : ℕ) (i : BlockInfo) → IsLawful M → get M.holdings.blocks b ≡ Some i → IsDeleteCommanded M (replica_at b s)
+    → (t : ℕ) × (has (live_after M b) t ≡ true) × (IsDeleteCommanded M (replica_at b t) → ⊥) × (t ≡ s → ⊥)
+
+-- More than that: as many replicas of the block as are wanted are live after the round, and one at least is wanted.
+abbrev pub EnoughStayLive : Type 0
+EnoughStayLive =
+    (M : State) (b s : ℕ) (i : BlockInfo) → IsLawful M → get M.holdings.blocks b ≡ Some i → IsDeleteCommanded M (replica_at b s)
+    → (1 ≤ i.repl) × (i.repl ≤ length (live_after M b))
+
+-- what is live after a round, the round does not command to delete
+abbrev pub LiveReplicaIsNotDeleted : Type 0
+LiveReplicaIsNotDeleted = (M : State) (b t : ℕ) → has (live_after M b) t ≡ true → IsDeleteCommanded M (replica_at b t) → ⊥
+
+-- What is deleted.
+
+-- a replica that a round may command to delete, by its marks once the round has marked
+pub record MayBeDeleted (M : State) (q : ReplicaId) : Type 0 where
+  pub marks : Marks
+  pub is_there : get (started M).holdings.replicas q ≡ Some marks
+  pub not_ordered : marks.ordered ≡ false
+  pub kind : (is_stray marks.tag ≡ true) ⊎ ((marks.excess ≡ true) ⊎ (is_corrupt marks.tag ≡ true))
+
+abbrev pub OnlyWhatMayBeDeleted : Type 0
+OnlyWhatMayBeDeleted = (M : State) (q : ReplicaId) → IsDeleteCommanded M q → MayBeDeleted M q
+
+-- a corrupt one only where as many of its block as are wanted are live
+abbrev pub CorruptWaitsForLive : Type 0
+CorruptWaitsForLive =
+    (M : State) (q : ReplicaId) (m : Marks) → IsLawful M → IsDeleteCommanded M q → get (started M).holdings.replicas q ≡ Some m → is_corrupt m.tag ≡ true
+    → (i : BlockInfo) × (get M.holdings.blocks q.block ≡ Some i) × (i.repl ≤ length (live_marked M q.block))
+
+-- what was ordered before the round is not commanded again
+abbrev pub NoneIsOrderedAgain : Type 0
+NoneIsOrderedAgain = (M : State) (q : ReplicaId) → IsDeleteCommanded M q → (m : Marks) × (get M.holdings.replicas q ≡ Some m) × (m.ordered ≡ false)
+
+-- no node is commanded more deletes than the limit
+abbrev pub AtMostInvalidateANode : Type 0
+AtMostInvalidateANode = (M : State) → All (λ k. length k.deletes ≤ M.limits.invalidate) (whole_round M).0.nodes
+
+-- why a replica that is not ordered is to be deleted, by its marks once the round has marked
+abbrev pub IsToBeDeleted : State → ReplicaId → Marks → Type 0
+IsToBeDeleted M q m =
+    (is_stray m.tag ≡ true) ⊎ ((m.excess ≡ true)
+    ⊎ ((is_corrupt m.tag ≡ true) × ((i : BlockInfo) × (get M.holdings.blocks q.block ≡ Some i) × (i.repl ≤ length (live_marked M q.block)))))
+
+-- What is to be deleted is commanded to be deleted, but where its node is commanded as many deletes as the limit says.
+abbrev pub OnlyTheLimitDefers : Type 0
+OnlyTheLimitDefers =
+    (M : State) (q : ReplicaId) (m : Marks) (n : ℕ) → IsLawful M → 1 ≤ M.limits.invalidate
+    → get (started M).holdings.replicas q ≡ Some m → m.ordered ≡ false → IsToBeDeleted M q m → node_of M.cluster q.storage ≡ Some n
+    → IsDeleteCommanded M q ⊎ ((k : NodeCommands) × IsAmong (whole_round M).0.nodes k × (k.node ≡ n) × (M.limits.invalidate ≤ length k.deletes))
+
+-- Over every list of calls.
+
+-- a replica whose delete was commanded, and which was not reported since, is not live
+abbrev pub OrderedReplicaIsNotLive : Type 0
+OrderedReplicaIsNotLive =
+    (config : Config) (ks : List Call) (q : ReplicaId) (m : Marks)
+    → get (state_after (first_state config) ks).holdings.replicas q ≡ Some m → m.ordered ≡ true → is_live m ≡ false
+
+-- Where a round commands the delete of a replica of a known block, a replica of the block is left that is good and not in
+-- excess, and of which no round has commanded the delete, neither this one nor an earlier one.
+abbrev pub GoodReplicaIsLeftByAllRounds : Type 0
+GoodReplicaIsLeftByAllRounds =
+    (config : Config) (ks : List Call) (b s : ℕ) (i : BlockInfo)
+    → let M = state_after (first_state config) ks in IsLawful M → get M.holdings.blocks b ≡ Some i → IsDeleteCommanded M (replica_at b s)
+    → (t : ℕ) × (m : Marks) × (get (after_round M).holdings.replicas (replica_at b t) ≡ Some m) × (is_good m.tag ≡ true) × (m.excess ≡ false) × (m.ordered ≡ false)

@@ -1,0 +1,70 @@
+-- Laws of levels.
+use Rattle.std.specs.Prelude.{◌≡◌, ℕ, ◌+◌, ◌≤◌, ◌<◌, ◌↔◌, Bool, true, false, length, Option, Some, None, List}
+use Rattle.bm_base.specs.declared.level.Level.{Level}
+use Rattle.bm_base.specs.declared.level.Level.TheVariants.{Highest, VeryUnderReplicated, UnderReplicated, BadlyDistributed, NoLiveReplica}
+use Rattle.bm_base.specs.declared.replica.BlockInfo.{BlockInfo}
+use Rattle.bm_base.specs.Map.{get}
+use Rattle.bm_base.specs.State.{Cluster, Holdings, State}
+use Rattle.bm_base.specs.Lists.{has}
+use Rattle.bm_base.specs.Replicas.{live, rack_of}
+use Rattle.bm_base.specs.Levels.{level, level_of}
+use Rattle.bm_base.specs.Lawful.{IsLawful}
+use Rattle.bm_base.specs.Events.{set_replication}
+
+-- How much a block is in need of replicas, told from its level: not at all where it has none, and most where no replica is left.
+abbrev pub need : Option Level → ℕ
+need None = 0
+need (Some BadlyDistributed) = 1
+need (Some UnderReplicated) = 2
+need (Some VeryUnderReplicated) = 3
+need (Some Highest) = 4
+need (Some NoLiveReplica) = 5
+
+abbrev pub UnknownBlockHasNoLevel : Type 0
+UnknownBlockHasNoLevel = (C : Cluster) (H : Holdings) (b : ℕ) → get H.blocks b ≡ None → level C H b ≡ None
+
+abbrev pub LevelFourIsNoLiveReplica : Type 0
+LevelFourIsNoLiveReplica =
+    (M : State) (b : ℕ) (i : BlockInfo) → IsLawful M → get M.holdings.blocks b ≡ Some i
+    → (level M.cluster M.holdings b ≡ Some NoLiveReplica) ↔ (length (live M.cluster M.holdings b) ≡ 0)
+
+-- storages all of which stand on one rack
+abbrev pub AreOnOneRack : Cluster → List ℕ → Type 0
+AreOnOneRack C ss = (s t : ℕ) → has ss s ≡ true → has ss t ≡ true → rack_of C s ≡ rack_of C t
+
+-- two alive nodes stand on two racks
+abbrev pub HasTwoRacks : Cluster → Type 0
+HasTwoRacks C = (n : ℕ) × (k : ℕ) × (r : ℕ) × (q : ℕ) × (get C.nodes n ≡ Some r) × (get C.nodes k ≡ Some q) × (r ≡ q → ⊥)
+
+abbrev pub LevelThreeIsOneRack : Type 0
+LevelThreeIsOneRack =
+    (M : State) (b : ℕ) (i : BlockInfo) → IsLawful M → get M.holdings.blocks b ≡ Some i
+    → (level M.cluster M.holdings b ≡ Some BadlyDistributed)
+    ↔ ((2 ≤ i.repl) × (i.repl ≤ length (live M.cluster M.holdings b)) × AreOnOneRack M.cluster (live M.cluster M.holdings b) × HasTwoRacks M.cluster)
+
+abbrev pub ShortOfReplicas : Type 0
+ShortOfReplicas =
+    (M : State) (b : ℕ) (i : BlockInfo) → IsLawful M → get M.holdings.blocks b ≡ Some i
+    → (2 ≤ need (level M.cluster M.holdings b)) ↔ (length (live M.cluster M.holdings b) < i.repl)
+
+-- so many are live, on so many racks; `repl` are wanted, and then `more`
+abbrev pub MoreWantedIsNoLessNeed : Type 0
+MoreWantedIsNoLessNeed =
+    (live repl more racks : ℕ) (multi : Bool) → repl ≤ more → need (level_of live repl racks multi) ≤ need (level_of live more racks multi)
+
+abbrev pub RaisedReplicationIsNoLessNeed : Type 0
+RaisedReplicationIsNoLessNeed =
+    (C : Cluster) (H : Holdings) (b more : ℕ) (i : BlockInfo) → get H.blocks b ≡ Some i → i.repl ≤ more
+    → need (level C H b) ≤ need (level C (set_replication H b more) b)
+
+-- one live replica more stands on the racks of the others or on one more; live replicas stand on one rack at least
+abbrev pub OneReplicaMoreIsNoMoreNeed : Type 0
+OneReplicaMoreIsNoMoreNeed =
+    (live repl racks more_racks : ℕ) (multi : Bool) → (1 ≤ live → 1 ≤ racks) → racks ≤ more_racks
+    → need (level_of (live + 1) repl more_racks multi) ≤ need (level_of live repl racks multi)
+
+abbrev pub FirstReplicaMakesABlockTheFirstToCopy : Type 0
+FirstReplicaMakesABlockTheFirstToCopy = (level_of 0 3 0 true ≡ Some NoLiveReplica) × (level_of 1 3 1 true ≡ Some Highest)
+
+abbrev pub SecondRackMayRaiseNeed : Type 0
+SecondRackMayRaiseNeed = (level_of 2 2 1 false ≡ None) × (level_of 2 2 1 true ≡ Some BadlyDistributed)

@@ -1,0 +1,60 @@
+-- Laws of the surplus.
+use Rattle.std.specs.Prelude.{◌≡◌, ℕ, ◌-◌, ◌≤◌, ◌↔◌, true, false, not, ◌&&◌, filter, length, Some}
+use Rattle.bm_base.specs.declared.replica.ReplicaId.{ReplicaId}
+use Rattle.bm_base.specs.declared.replica.Tag.TheVariants.{Good}
+use Rattle.bm_base.specs.declared.replica.Marks.{Marks}
+use Rattle.bm_base.specs.declared.replica.BlockInfo.{BlockInfo}
+use Rattle.bm_base.specs.Map.{get}
+use Rattle.bm_base.specs.State.{State, replica_at}
+use Rattle.bm_base.specs.Lists.{has}
+use Rattle.bm_base.specs.Replicas.{rack_of}
+use Rattle.bm_base.specs.Excess.{started}
+use Rattle.bm_base.specs.Lawful.{IsLawful}
+use Rattle.laws_of_rounds.specs.Words.{live_unmarked, live_marked, live_after}
+
+-- Before a round marks, live are the good replicas but those in excess of which the delete was commanded.
+abbrev pub LiveBeforeMarking : Type 0
+LiveBeforeMarking =
+    (M : State) (b s : ℕ)
+    → (has (live_unmarked M b) s ≡ true) ↔ ((m : Marks) × (get M.holdings.replicas (replica_at b s) ≡ Some m) × (m.tag ≡ Good) × ((m.excess && m.ordered) ≡ false))
+
+-- once a round has marked, a known block has at most its replication live
+abbrev pub AtMostReplicationIsLive : Type 0
+AtMostReplicationIsLive = (M : State) (b : ℕ) (i : BlockInfo) → get M.holdings.blocks b ≡ Some i → length (live_marked M b) ≤ i.repl
+
+-- a round marks as many live replicas as are live beyond those that are wanted
+abbrev pub SurplusIsMarked : Type 0
+SurplusIsMarked =
+    (M : State) (b : ℕ) (i : BlockInfo) → get M.holdings.blocks b ≡ Some i
+    → length (filter (λ s. not (has (live_marked M b) s)) (live_unmarked M b)) ≡ length (live_unmarked M b) - i.repl
+
+-- So a round leaves as many live as are wanted, or all where there are no more than that.
+abbrev pub RoundLeavesEnoughLive : Type 0
+RoundLeavesEnoughLive =
+    (M : State) (b : ℕ) (i : BlockInfo) → get M.holdings.blocks b ≡ Some i
+    → (i.repl ≤ length (live_unmarked M b) → length (live_after M b) ≡ i.repl) × (length (live_unmarked M b) ≤ i.repl → live_after M b ≡ live_unmarked M b)
+
+-- It makes none live
+abbrev pub MarkingMakesNoneLive : Type 0
+MarkingMakesNoneLive = (M : State) (b s : ℕ) → has (live_marked M b) s ≡ true → has (live_unmarked M b) s ≡ true
+
+-- Where two live replicas of a block share a rack once the round has marked, each rack that had a live one has one still.
+abbrev pub LastOfRackStays : Type 0
+LastOfRackStays =
+    (M : State) (b s t u : ℕ) → IsLawful M → has (live_unmarked M b) s ≡ true
+    → has (live_marked M b) t ≡ true → has (live_marked M b) u ≡ true → (t ≡ u → ⊥) → rack_of M.cluster t ≡ rack_of M.cluster u
+    → (v : ℕ) × (has (live_marked M b) v ≡ true) × (rack_of M.cluster v ≡ rack_of M.cluster s)
+
+-- Marks.
+
+-- A replica in excess of which the delete was commanded stays in excess.
+abbrev pub OrderedExcessStays : Type 0
+OrderedExcessStays =
+    (M : State) (q : ReplicaId) (m : Marks) → get M.holdings.replicas q ≡ Some m → m.ordered ≡ true → m.excess ≡ true
+    → (n : Marks) × (get (started M).holdings.replicas q ≡ Some n) × (n.excess ≡ true)
+
+-- What else is in excess once a round has marked was live before, whatever an earlier round marked.
+abbrev pub OtherExcessIsNew : Type 0
+OtherExcessIsNew =
+    (M : State) (q : ReplicaId) (n : Marks) → get (started M).holdings.replicas q ≡ Some n → n.ordered ≡ false → n.excess ≡ true
+    → (has (live_unmarked M q.block) q.storage ≡ true) × (has (live_marked M q.block) q.storage ≡ false)

@@ -1,0 +1,85 @@
+-- Laws of transfers. A round chooses transfers one after another; `front` are those chosen before one, `back` those after it.
+use Rattle.std.specs.Prelude.{◌≡◌, ℕ, ◌+◌, ◌*◌, ◌≤◌, ◌⊎◌, ◌==◌, true, if◌then◌else◌, List, ◌∷◌, ◌++◌, length, sum_by, count_by, Some, IsSome, ◌<◌}
+use Rattle.std.specs.List.{All}
+use Rattle.bm_base.specs.declared.replica.BlockInfo.{BlockInfo}
+use Rattle.bm_base.specs.declared.level.Level.{Level}
+use Rattle.bm_base.specs.declared.level.Level.TheVariants.{BadlyDistributed}
+use Rattle.bm_base.specs.declared.storage.StorageInfo.{StorageInfo}
+use Rattle.bm_base.specs.declared.commands.Transfer.{Transfer}
+use Rattle.bm_base.specs.Map.{get, entries, len}
+use Rattle.bm_base.specs.State.{State, replica_at}
+use Rattle.bm_base.specs.Lists.{has}
+use Rattle.bm_base.specs.Replicas.{node_of, rack_of}
+use Rattle.bm_base.specs.Levels.{level, level_number}
+use Rattle.bm_base.specs.Excess.{started}
+use Rattle.bm_base.specs.Rounds.{whole_round}
+use Rattle.laws_of_rounds.specs.Words.{IsAmong, transfers_chosen, transfers_commanded, live_marked}
+
+-- what holds of each transfer of the next round, given those chosen before it
+abbrev pub ForEachTransfer : (State → List Transfer → Transfer → Type 0) → Type 0
+ForEachTransfer P = (M : State) (front back : List Transfer) (t : Transfer) → transfers_chosen M ≡ front ++ t ∷ back → P M front t
+
+-- How many.
+
+-- a round commands no more transfers than `work` for each alive node
+abbrev pub AtMostWorkANode : Type 0
+AtMostWorkANode = (M : State) → length (transfers_commanded M) ≤ M.limits.work * len M.cluster.nodes
+
+-- Sources.
+
+-- a transfer is of a known block, with its stamp, and its source holds a live replica of it
+abbrev pub SourceIsLive : Type 0
+SourceIsLive =
+    ForEachTransfer (λ M _ t. (has (live_marked M t.block) t.source ≡ true) × ((i : BlockInfo) × (get M.holdings.blocks t.block ≡ Some i) × (t.stamp ≡ i.stamp)))
+
+-- no node is the source of more than four transfers
+abbrev pub AtMostFourFromANode : Type 0
+AtMostFourFromANode = (M : State) → All (λ k. length k.transfers ≤ 4) (whole_round M).0.nodes
+
+-- Targets.
+
+-- the node of the target has no replica of the block of any tag, is the target of no transfer of it on its way, and of no other of it in the round
+pub record IsFreshNode (M : State) (front : List Transfer) (t : Transfer) : Type 0 where
+  pub known : (n : ℕ) × (node_of M.cluster t.target ≡ Some n)
+  pub no_replica : (s : ℕ) → IsSome (get M.holdings.replicas (replica_at t.block s)) → node_of M.cluster s ≡ node_of M.cluster t.target → ⊥
+  pub none_pending : (s : ℕ) → IsSome (get (started M).holdings.pending (replica_at t.block s)) → node_of M.cluster s ≡ node_of M.cluster t.target → ⊥
+  pub no_other : (u : Transfer) → IsAmong front u → u.block ≡ t.block → node_of M.cluster u.target ≡ node_of M.cluster t.target → ⊥
+
+abbrev pub TargetIsOnFreshNode : Type 0
+TargetIsOnFreshNode = ForEachTransfer IsFreshNode
+
+-- the lengths that are sent to a storage in a round fit what it has remaining
+abbrev pub SentFits : Type 0
+SentFits =
+    (M : State) (s : ℕ) (i : StorageInfo) → get M.cluster.storages s ≡ Some i
+    → sum_by (λ t. if t.target == s then t.stamp.len else 0) (transfers_chosen M) ≤ i.remaining
+
+-- Blocks.
+
+-- how many transfers the next round chooses for a block, and how many are on their way as it chooses
+abbrev pub copies_chosen : State → ℕ → ℕ
+copies_chosen M b = count_by (λ t. t.block == b) (transfers_chosen M)
+
+abbrev pub copies_on_their_way : State → ℕ → ℕ
+copies_on_their_way M b = count_by (λ e. e.0.block == b) (entries (started M).holdings.pending)
+
+-- A block that gets transfers in a round has with them, its live replicas and those on their way no more than are wanted; or it
+-- has enough, on one rack, none is on its way, and it gets one.
+abbrev pub NoMoreThanLacks : Type 0
+NoMoreThanLacks =
+    (M : State) (b : ℕ) (i : BlockInfo) → get M.holdings.blocks b ≡ Some i → 1 ≤ copies_chosen M b
+    → (length (live_marked M b) + copies_on_their_way M b + copies_chosen M b ≤ i.repl)
+    ⊎ ((level M.cluster (started M).holdings b ≡ Some BadlyDistributed) × (copies_on_their_way M b ≡ 0) × (copies_chosen M b ≡ 1))
+
+-- a badly distributed block, which stands on one rack, gets its copy on another rack
+abbrev pub SecondRack : Type 0
+SecondRack =
+    ForEachTransfer (λ M _ t. level M.cluster (started M).holdings t.block ≡ Some BadlyDistributed
+    → (s r : ℕ) → has (live_marked M t.block) s ≡ true → rack_of M.cluster s ≡ Some r → rack_of M.cluster t.target ≡ Some r → ⊥)
+
+-- Of two transfers that a round chooses, the first is of the more urgent level, or of the same level and of the lesser or the same block.
+abbrev pub MostUrgentFirst : Type 0
+MostUrgentFirst =
+    (M : State) (front middle back : List Transfer) (t u : Transfer) (l k : Level) → transfers_chosen M ≡ front ++ t ∷ (middle ++ u ∷ back)
+    → level M.cluster (started M).holdings t.block ≡ Some l → level M.cluster (started M).holdings u.block ≡ Some k
+    → (level_number l < level_number k) ⊎ ((l ≡ k) × (t.block ≤ u.block))

@@ -1,0 +1,49 @@
+// How urgently blocks want replicas.
+ghost use Rattle.laws_of_rounds.specs.Levels as law;
+
+/// A block that is not known has no level. A known one has one level or none, since `level` is a function.
+pub fn unknown_block_has_no_level()
+    ensures { law.UnknownBlockHasNoLevel }
+{}
+
+/// In a lawful state a known block has level 4 exactly where no replica of it is live.
+pub fn level_four_is_no_live_replica()
+    ensures { law.LevelFourIsNoLiveReplica }
+{}
+
+/// In a lawful state a known block has level 3 exactly where two or more replicas are wanted, as many are live, all of these stand
+/// on one rack, and the alive nodes stand on two racks or more.
+pub fn level_three_is_one_rack()
+    ensures { law.LevelThreeIsOneRack }
+{}
+
+/// In a lawful state a known block has level 0, 1, 2 or 4 exactly where fewer replicas are live than are wanted.
+pub fn short_of_replicas_is_level_zero_one_two_or_four()
+    ensures { law.ShortOfReplicas }
+{}
+
+/// A block of which more replicas are wanted is in no less need of them.
+pub fn more_wanted_is_no_less_need()
+    ensures { law.MoreWantedIsNoLessNeed }
+{}
+
+/// Raising a block's replication leaves it in no less need of replicas.
+pub fn raised_replication_is_no_less_need()
+    ensures { law.RaisedReplicationIsNoLessNeed }
+{}
+
+/// A block with one live replica more is in no more need of replicas. It is said of the counts.
+pub fn one_replica_more_is_no_more_need()
+    ensures { law.OneReplicaMoreIsNoMoreNeed }
+{}
+
+/// Where need is not counted as here but as the order in which rounds serve the levels, 0 before 1 before 2 before 3, and 4 not
+/// at all, one replica more may raise it: with no live replica a block gets no copy, and with one it is the first to get one.
+pub fn first_replica_makes_a_block_the_first_to_copy()
+    ensures { law.FirstReplicaMakesABlockTheFirstToCopy }
+{}
+
+/// A node on a second rack may put a block in need, where all its live replicas stand on the one rack that there was.
+pub fn second_rack_may_raise_need()
+    ensures { law.SecondRackMayRaiseNeed }
+{}

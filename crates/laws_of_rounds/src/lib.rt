@@ -1,0 +1,14 @@
+//! What the definitions of levels and rounds in `bm_base` mean: laws over every lawful state, in the subject's own words.
+//!
+//! Everything else is proved to those definitions, so a slip there would be proved through the whole product. No function here
+//! does anything: its contract is the law.
+#![tactic(auto)]
+
+pub mod choices;
+pub mod commands;
+pub mod deletes;
+pub mod levels;
+pub mod live;
+pub mod rounds;
+pub mod surplus;
+pub mod transfers;

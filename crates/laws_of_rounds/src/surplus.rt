@@ -1,0 +1,44 @@
+// Which live replicas a round marks as being too many.
+ghost use Rattle.laws_of_rounds.specs.Surplus as law;
+
+/// Before a round marks, live are the good replicas but those in excess of which the delete was commanded: what an earlier round
+/// marked and did not command counts again.
+pub fn live_before_marking()
+    ensures { law.LiveBeforeMarking }
+{}
+
+/// Once a round has marked, a known block has at most as many live replicas as are wanted. Those in excess that were ordered keep
+/// their marks, and are not live.
+pub fn at_most_replication_is_live()
+    ensures { law.AtMostReplicationIsLive }
+{}
+
+/// A round marks as many live replicas of a known block as it has beyond those that are wanted.
+pub fn surplus_is_marked()
+    ensures { law.SurplusIsMarked }
+{}
+
+/// What is live once a round has marked was live before.
+pub fn marking_makes_none_live()
+    ensures { law.MarkingMakesNoneLive }
+{}
+
+/// In a lawful state a round marks no block's last live replica on a rack while another rack has two or more of them.
+pub fn last_of_rack_stays()
+    ensures { law.LastOfRackStays }
+{}
+
+/// A round leaves of each known block as many live replicas as are wanted, or all of them where there are no more than that.
+pub fn round_leaves_enough_live()
+    ensures { law.RoundLeavesEnoughLive }
+{}
+
+/// A replica in excess of which the delete was commanded stays in excess as a round marks.
+pub fn ordered_excess_stays()
+    ensures { law.OrderedExcessStays }
+{}
+
+/// What else is in excess once a round has marked was live before it marked.
+pub fn other_excess_is_new()
+    ensures { law.OtherExcessIsNew }
+{}

@@ -1,0 +1,44 @@
+// Which copies a round commands, from where and where to. A round chooses its transfers one after another.
+ghost use Rattle.laws_of_rounds.specs.Transfers as law;
+
+/// A round commands at most `work` transfers for each alive node.
+pub fn at_most_work_a_node()
+    ensures { law.AtMostWorkANode }
+{}
+
+/// Each transfer is of a known block, with its stamp, from a storage that holds a live replica of it.
+pub fn source_is_live()
+    ensures { law.SourceIsLive }
+{}
+
+/// A round commands no node more than four transfers.
+pub fn at_most_four_from_a_node()
+    ensures { law.AtMostFourFromANode }
+{}
+
+/// A transfer's target stands on an alive node that has no replica of the block of any tag, to which no transfer of the block is
+/// on its way, and which is the target of no other transfer of the block in the round.
+pub fn target_is_on_fresh_node()
+    ensures { law.TargetIsOnFreshNode }
+{}
+
+/// What a round sends to a storage fits what the storage had remaining.
+pub fn sent_fits()
+    ensures { law.SentFits }
+{}
+
+/// A block never gets more transfers in a round than it lacks replicas, those on their way counted as there; one that has enough
+/// of them, but on one rack, gets one, and only where none is on its way.
+pub fn no_more_than_lacks()
+    ensures { law.NoMoreThanLacks }
+{}
+
+/// A block that has enough replicas, but on one rack, gets its copy on another rack.
+pub fn second_rack()
+    ensures { law.SecondRack }
+{}
+
+/// A round chooses transfers by level, 0 before 1 before 2 before 3, and at one level by the number of the block.
+pub fn most_urgent_first()
+    ensures { law.MostUrgentFirst }
+{}
