@@ -1,5 +1,5 @@
 -- What the changes of blocks and replicas answer.
-use Rattle.std.proofs.Common.{◌≡◌, ℕ, zero, suc, ◌+◌, ◌-◌, ◌<◌, ◌≤◌, Bool, true, false, not, List, [], ◌∷◌, ◌++◌, length, map, take, drop, set, Some, None, refl, sym, ap, ◌∙◌, arith}
+use Rattle.std.proofs.Common.{◌≡◌, ℕ, zero, suc, ◌+◌, ◌-◌, ◌≤◌, Bool, true, false, not, List, [], ◌∷◌, ◌++◌, length, map, take, drop, set, Some, None, refl, sym, ap, ◌∙◌, arith}
 use Rattle.std.specs.Prelude.{◌==◌, if◌then◌else◌, slice_get}
 use Rattle.bm_base.specs.declared.replica.ReplicaId.{ReplicaId}
 use Rattle.bm_base.specs.declared.replica.Marks.{Marks}
@@ -7,8 +7,8 @@ use Rattle.bm_base.specs.declared.replica.Stamp.{Stamp}
 use Rattle.bm_base.specs.declared.event.Done.{Done}
 use Rattle.bm_base.specs.Map.{keep, len, remove}
 use Rattle.bm_base.specs.State.{Holdings}
-use Rattle.bm_base.specs.Events.{without_storages, delete_block, set_replication, restamp, remove_replica, make_bad, without_pending, revise_block, as_stray, as_restamped, as_bad}
-use Rattle.bm_base.specs.Map.{revise, revise_at}
+use Rattle.bm_base.specs.Events.{without_storages, delete_block, set_replication, restamp, remove_replica, make_bad, without_pending, revise_block, as_stray, as_restamped}
+use Rattle.bm_base.specs.Map.{revise_at}
 use Rattle.bm_base.specs.Calls.{done}
 use Rattle.bm_manager.specs.declared.changes.BlockChange.{BlockChange}
 use Rattle.bm_manager.specs.Changed.{changed, changed_entry}

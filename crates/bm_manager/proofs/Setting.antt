@@ -1,5 +1,5 @@
 -- To set what is known of a block or of a replica that is there is to change it there.
-use Rattle.std.proofs.Common.{◌≡◌, ℕ, Some, sym, ap, ◌∙◌}
+use Rattle.std.proofs.Common.{◌≡◌, Some, sym, ap, ◌∙◌}
 use Rattle.std.specs.Prelude.{option_map}
 use Rattle.bm_base.specs.Map.{Map, Order, get, revise_at}
 use Rattle.bm_base.proofs.Replacing.{same_change}

@@ -1,5 +1,4 @@
 use Rattle.std.proofs.Common.{◌≡◌, ◌++◌, take, drop, map}
-use Rattle.std.specs.Prelude.{◌==◌, if◌then◌else◌}
 use Rattle.bm_base.specs.Map.{entries, len}
 use Rattle.bm_manager.specs.Changed.{changed_entry}
 use Rattle.bm_manager.proofs.changes.change_block.Given as goal

@@ -1,5 +1,4 @@
 use Rattle.std.proofs.Common.{rules, not}
-use Rattle.std.specs.Prelude.{◌==◌}
 use Rattle.std.proofs.lemmas.Fn.{filter_same}
 use Rattle.bm_base.proofs.MapLaws.{keep-filter}
 use Rattle.bm_base.specs.State.{by_replica}

@@ -1,4 +1,4 @@
-use Rattle.std.proofs.Common.{refl, ap, sym, ◌∙◌}
+use Rattle.std.proofs.Common.{refl, sym, ◌∙◌}
 use Rattle.bm_base.specs.Events.{as_bad}
 use Rattle.bm_base.proofs.Replacing.{no_change}
 use Rattle.bm_manager.proofs.Setting.{set_there}

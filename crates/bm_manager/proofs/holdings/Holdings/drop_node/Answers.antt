@@ -1,4 +1,4 @@
-use Rattle.std.proofs.Common.{◌≡◌, ◌≤◌, ◌-◌, not, ap, sym, ◌∙◌, arith}
+use Rattle.std.proofs.Common.{◌-◌, not, ap, ◌∙◌, arith}
 use Rattle.bm_base.specs.Replicas.{has_storage}
 use Rattle.bm_base.specs.Map.{len}
 use Rattle.bm_base.specs.Events.{without_storages}

@@ -1,5 +1,5 @@
-use Rattle.std.proofs.Common.{◌≡◌, ◌≤◌, ◌-◌, not, ap, sym, ◌∙◌, arith}
-use Rattle.bm_base.specs.Map.{remove, len}
+use Rattle.std.proofs.Common.{◌-◌, ap, ◌∙◌, arith}
+use Rattle.bm_base.specs.Map.{len}
 use Rattle.bm_base.specs.Events.{remove_replica}
 use Rattle.bm_base.specs.Calls.{done}
 use Rattle.bm_manager.specs.contracts.holdings.Holdings.{the_view}

@@ -1,6 +1,5 @@
-use Rattle.std.proofs.Common.{◌≡◌, ◌≤◌, ◌-◌, not, ap, sym, ◌∙◌, arith}
+use Rattle.std.proofs.Common.{◌-◌, not, ap, ◌∙◌, arith}
 use Rattle.std.specs.Prelude.{◌==◌}
-use Rattle.std.proofs.Common.{ℕ}
 use Rattle.bm_base.specs.Map.{len}
 use Rattle.bm_base.specs.Events.{without_storages}
 use Rattle.bm_base.specs.Calls.{done}

@@ -1,4 +1,4 @@
-use Rattle.std.proofs.Common.{◌≡◌, ◌≤◌, ◌-◌, not, ap, sym, ◌∙◌, arith}
+use Rattle.std.proofs.Common.{ap, ◌∙◌}
 use Rattle.bm_base.specs.Events.{make_bad}
 use Rattle.bm_base.specs.Calls.{done}
 use Rattle.bm_manager.specs.contracts.holdings.Holdings.{the_view}

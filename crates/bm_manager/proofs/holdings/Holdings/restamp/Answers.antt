@@ -1,5 +1,4 @@
-use Rattle.std.proofs.Common.{◌≡◌, ◌≤◌, ◌-◌, not, ap, sym, ◌∙◌, arith}
-use Rattle.bm_base.specs.Map.{remove, revise_at}
+use Rattle.std.proofs.Common.{ap, ◌∙◌}
 use Rattle.bm_base.specs.Events.{restamp, without_pending, revise_block}
 use Rattle.bm_base.specs.Calls.{done}
 use Rattle.bm_manager.specs.contracts.holdings.Holdings.{the_view}
