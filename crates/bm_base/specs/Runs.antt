@@ -11,7 +11,7 @@ use Rattle.bm_base.specs.Levels.{level_of, level}
 use Rattle.bm_base.specs.Queries.{all_replicas, replicas_where, missing_blocks, blocks_on}
 use Rattle.bm_base.specs.Events.{was_bad, was_excess, entered_tag, entered, replaces, enter, is_named, leaves_by_report, report, without_pending, revise_block, add_block, delete_block, set_replication, restamp, make_bad, remove_replica, without_storages, register, heartbeat, without_node, without_storage, change_cluster, change_holdings}
 use Rattle.bm_base.specs.Excess.{without_expired, without_unordered_excess, remaining, share_rack, has_rack_mate, excess_cmp, excess_of, excess_in, marked, begun, started}
-use Rattle.bm_base.specs.Transfers.{pending_targets, wishes_for, wishes, streams_from, scheduled_to, room, node_number, source_cmp, least_source, targets_of, holders_of, barred_for, is_on_racks, class_of, target_cmp, is_barred, is_target, least_target, transfer_for, transfers}
+use Rattle.bm_base.specs.Transfers.{pending_targets, wishes_for, wishes, streams_from, scheduled_to, room, node_number, source_cmp, least_source_by, least_source, targets_of, holders_of, barred_for, is_on_racks, class_of, target_cmp, is_barred, is_target, least_target_by, least_target, transfer_for, transfers}
 use Rattle.bm_base.specs.Deletes.{has_enough_live, is_deletable, deletable_on, deletes_of, deletes}
 use Rattle.bm_base.specs.Rounds.{node_commands, commands_of, is_commanded, finished, whole_round, narrow_round}
 use Rattle.bm_base.specs.Refusals.{knows_node, knows_storage, knows_block, is_still_stored, is_old, cluster_checks, block_checks, calls_spent, refusal_of, round_refusal, storage_refusal, block_refusal}
@@ -26,8 +26,8 @@ unfolding entries empty get insert alter keep revise revise_at remove len keys d
     add_block delete_block set_replication restamp make_bad remove_replica without_storages
     register heartbeat without_node without_storage change_cluster change_holdings
     without_expired without_unordered_excess remaining share_rack has_rack_mate excess_cmp excess_of excess_in marked begun started
-    pending_targets wishes_for wishes streams_from scheduled_to room node_number source_cmp least_source
-    targets_of holders_of barred_for is_on_racks class_of target_cmp is_barred is_target least_target transfer_for transfers
+    pending_targets wishes_for wishes streams_from scheduled_to room node_number source_cmp least_source_by least_source
+    targets_of holders_of barred_for is_on_racks class_of target_cmp is_barred is_target least_target_by least_target transfer_for transfers
     has_enough_live is_deletable deletable_on deletes_of deletes
     node_commands commands_of is_commanded finished whole_round
     knows_node knows_storage knows_block is_still_stored is_old
@@ -44,8 +44,8 @@ unfolding entries empty get insert alter keep revise revise_at remove len keys d
     add_block delete_block set_replication restamp make_bad remove_replica without_storages
     register heartbeat without_node without_storage change_cluster change_holdings
     without_expired without_unordered_excess remaining share_rack has_rack_mate excess_cmp excess_of excess_in marked begun started
-    pending_targets wishes_for wishes streams_from scheduled_to room node_number source_cmp least_source
-    targets_of holders_of barred_for is_on_racks class_of target_cmp is_barred is_target least_target transfer_for transfers
+    pending_targets wishes_for wishes streams_from scheduled_to room node_number source_cmp least_source_by least_source
+    targets_of holders_of barred_for is_on_racks class_of target_cmp is_barred is_target least_target_by least_target transfer_for transfers
     has_enough_live is_deletable deletable_on deletes_of deletes
     node_commands commands_of is_commanded finished whole_round narrow_round
     knows_node knows_storage knows_block is_still_stored is_old

@@ -56,9 +56,9 @@ streams_from C chosen s = count_by (λ t. option_map_or (λ n. has_storage C n t
 unfoldable pub scheduled_to : List Transfer → ℕ → ℕ
 scheduled_to chosen s = sum_by (λ t. if t.target == s then t.stamp.len else 0) chosen
 
--- the room on a storage: its remaining bytes beside what is sent to it; 0 where more is sent to it than remains
-unfoldable pub room : Cluster → List Transfer → ℕ → ℕ
-room C chosen s = remaining C s - scheduled_to chosen s
+-- the room on a storage: its remaining bytes beside those that are sent to it; 0 where more is sent to it than remains
+unfoldable pub room : Cluster → (ℕ → ℕ) → ℕ → ℕ
+room C sent s = remaining C s - sent s
 
 -- of how many transfers a node may be the source in one round: Hadoop's hard limit for the most urgent blocks, else the soft one
 abbrev pub stream_limit : Level → ℕ
@@ -70,13 +70,17 @@ unfoldable pub node_number : Cluster → ℕ → ℕ
 node_number C s = unwrap_or (node_of C s) 0
 
 -- which source goes before which: one whose node sends fewer, then the lesser node, then the lesser storage
-unfoldable pub source_cmp : Cluster → List Transfer → ℕ → ℕ → Ordering
-source_cmp C chosen s t =
-    ordering_then (nat_cmp (streams_from C chosen s) (streams_from C chosen t)) (ordering_then (nat_cmp (node_number C s) (node_number C t)) (nat_cmp s t))
+unfoldable pub source_cmp : Cluster → (ℕ → ℕ) → ℕ → ℕ → Ordering
+source_cmp C streams s t = ordering_then (nat_cmp (streams s) (streams t)) (ordering_then (nat_cmp (node_number C s) (node_number C t)) (nat_cmp s t))
 
--- the source of a wish at this level, among the storages of the block's live replicas: the least whose node may send one more
+-- The source of a wish at this level, among the storages of the block's live replicas: the least whose node may send one more.
+-- `streams` says for each storage of how many transfers its node is the source already.
+unfoldable pub least_source_by : Cluster → (ℕ → ℕ) → Level → List ℕ → Option ℕ
+least_source_by C streams urgency live = least (source_cmp C streams) (filter (λ s. nat_lt (streams s) (stream_limit urgency)) live)
+
+-- the same, by the transfers that were chosen
 unfoldable pub least_source : Cluster → List Transfer → Level → List ℕ → Option ℕ
-least_source C chosen urgency live = least (source_cmp C chosen) (filter (λ s. nat_lt (streams_from C chosen s) (stream_limit urgency)) live)
+least_source C chosen urgency live = least_source_by C (streams_from C chosen) urgency live
 
 unfoldable pub targets_of : List Transfer → ℕ → List ℕ
 targets_of chosen b = map (λ t. t.target) (filter (λ t. t.block == b) chosen)
@@ -102,9 +106,9 @@ class_of C holders s =
     else 0
 
 -- which target goes before which: the better class, then more room, then the lesser storage
-unfoldable pub target_cmp : Cluster → List Transfer → List ℕ → ℕ → ℕ → Ordering
-target_cmp C chosen holders s t =
-    ordering_then (nat_cmp (class_of C holders s) (class_of C holders t)) (ordering_then (nat_cmp (room C chosen t) (room C chosen s)) (nat_cmp s t))
+unfoldable pub target_cmp : Cluster → (ℕ → ℕ) → List ℕ → ℕ → ℕ → Ordering
+target_cmp C sent holders s t =
+    ordering_then (nat_cmp (class_of C holders s) (class_of C holders t)) (ordering_then (nat_cmp (room C sent t) (room C sent s)) (nat_cmp s t))
 
 -- whether a storage stands on the node of one of these
 unfoldable pub is_barred : Cluster → List ℕ → ℕ → Bool
@@ -112,15 +116,19 @@ is_barred C barred s = list_any (λ t. option_map_or (λ n. has_storage C n s) (
 
 -- A storage may be the target where the length fits beside what is sent to it, its node is not barred, and, for a badly
 -- distributed block that is held on one rack, it stands on another rack.
-unfoldable pub is_target : Cluster → List Transfer → Level → List ℕ → List ℕ → ℕ → ℕ → Bool
-is_target C chosen urgency holders barred len s =
-    nat_le (len + scheduled_to chosen s) (remaining C s)
+unfoldable pub is_target : Cluster → (ℕ → ℕ) → Level → List ℕ → List ℕ → ℕ → ℕ → Bool
+is_target C sent urgency holders barred len s =
+    nat_le (len + sent s) (remaining C s)
     && not (is_barred C barred s)
     && not (is_at BadlyDistributed (Some urgency) && (length (racks C holders) == 1) && (class_of C holders s == 1))
 
--- the target at this level of a block of this length
+-- The target at this level of a block of this length. `sent` says for each storage how many bytes are sent to it already.
+unfoldable pub least_target_by : Cluster → (ℕ → ℕ) → Level → List ℕ → List ℕ → ℕ → Option ℕ
+least_target_by C sent urgency holders barred len = least (target_cmp C sent holders) (filter (is_target C sent urgency holders barred len) (keys C.storages))
+
+-- the same, by the transfers that were chosen
 unfoldable pub least_target : Cluster → List Transfer → Level → List ℕ → List ℕ → ℕ → Option ℕ
-least_target C chosen urgency holders barred len = least (target_cmp C chosen holders) (filter (is_target C chosen urgency holders barred len) (keys C.storages))
+least_target C chosen urgency holders barred len = least_target_by C (scheduled_to chosen) urgency holders barred len
 
 -- the transfer for a wish: none if the round has as many transfers as it may, or where no source or no target may be taken
 unfoldable pub transfer_for : RoundLimits → Cluster → Holdings → List Transfer → WishedCopy → Option Transfer

@@ -23,7 +23,7 @@ use Rattle.bm_base.specs.State.{RoundLimits, Cluster, Holdings, State, by_replic
 use Rattle.bm_base.specs.Replicas.{node_of, has_storage, live, storages_where}
 use Rattle.bm_base.specs.Events.{change_holdings, without_storages, add_block, delete_block, set_replication, restamp, make_bad, remove_replica, without_pending, revise_block, enter, report, replaces, is_named}
 use Rattle.bm_base.specs.Excess.{without_expired, without_unordered_excess, marked, begun, started}
-use Rattle.bm_base.specs.Transfers.{WishedCopy, pending_targets, targets_of, holders_of, barred_for, is_barred, is_target, target_cmp, least_target, least_source, transfer_for, transfers_from, transfers, wishes}
+use Rattle.bm_base.specs.Transfers.{WishedCopy, pending_targets, targets_of, holders_of, barred_for, is_barred, is_target, target_cmp, least_target_by, least_target, scheduled_to, least_source, transfer_for, transfers_from, transfers, wishes}
 use Rattle.bm_base.specs.Deletes.{deletes}
 use Rattle.bm_base.specs.Rounds.{finished, whole_round}
 use Rattle.bm_base.specs.Refusals.{refusal_of, round_refusal, storage_refusal, block_refusal}
@@ -88,22 +88,22 @@ held_is_barred C H chosen b s known m e =
 abbrev IsAbsent : Holdings → Transfer → Type 0
 IsAbsent H t = get H.replicas (replica_at t.block t.target) ≡ None
 
-not_barred : (C : Cluster) (chosen : List Transfer) (urgency : Level) (holders barred : List ℕ) (l s : ℕ) → is_target C chosen urgency holders barred l s ≡ true → is_barred C barred s ≡ false
+not_barred : (C : Cluster) (sent : ℕ → ℕ) (urgency : Level) (holders barred : List ℕ) (l s : ℕ) → is_target C sent urgency holders barred l s ≡ true → is_barred C barred s ≡ false
 unfolding is_target
-not_barred C chosen urgency holders barred l s h = undone (is_barred C barred s) (and_parts _ _ (and_parts _ _ h).0).1
+not_barred C sent urgency holders barred l s h = undone (is_barred C barred s) (and_parts _ _ (and_parts _ _ h).0).1
   where
     undone : (b : Bool) → not b ≡ true → b ≡ false
     undone true e = cc
     undone false e = refl
 
 target_free : (C : Cluster) (H : Holdings) (chosen : List Transfer) (urgency : Level) (holders : List ℕ) (b l t : ℕ) → least_target C chosen urgency holders (barred_for H chosen b) l ≡ Some t → get H.replicas (replica_at b t) ≡ None
-unfolding least_target
+unfolding least_target least_target_by
 target_free C H chosen urgency holders b l t e =
-    let test : ℕ → Bool = is_target C chosen urgency holders (barred_for H chosen b) l in
+    let test : ℕ → Bool = is_target C (scheduled_to chosen) urgency holders (barred_for H chosen b) l in
     let found : (test t ≡ true) × (contains_key C.storages t ≡ true) =
-    least_is_one (λ s. (test s ≡ true) × (contains_key C.storages s ≡ true)) (target_cmp C chosen holders) (filter test (keys C.storages))
+    least_is_one (λ s. (test s ≡ true) × (contains_key C.storages s ≡ true)) (target_cmp C (scheduled_to chosen) holders) (filter test (keys C.storages))
     (each_both (λ s. test s ≡ true) (λ s. contains_key C.storages s ≡ true) (filter test (keys C.storages)) (each_passing test (keys C.storages)) (each_filtered (λ s. contains_key C.storages s ≡ true) test (keys C.storages) (each_key C.storages))) t e in
-    absent_by (get H.replicas (replica_at b t)) refl (not_barred C chosen urgency holders (barred_for H chosen b) l t found.0) (λ m is. held_is_barred C H chosen b t found.1 m is)
+    absent_by (get H.replicas (replica_at b t)) refl (not_barred C (scheduled_to chosen) urgency holders (barred_for H chosen b) l t found.0) (λ m is. held_is_barred C H chosen b t found.1 m is)
   where
     absent_by : (z : Option Marks) → get H.replicas (replica_at b t) ≡ z → is_barred C (barred_for H chosen b) t ≡ false → ((m : Marks) → get H.replicas (replica_at b t) ≡ Some m → is_barred C (barred_for H chosen b) t ≡ true) → z ≡ None
     absent_by None is free held = refl

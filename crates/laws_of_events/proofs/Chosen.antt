@@ -14,7 +14,7 @@ use Rattle.bm_base.specs.State.{RoundLimits, Cluster, Holdings, replica_at}
 use Rattle.bm_base.specs.Lists.{has, least}
 use Rattle.bm_base.specs.Replicas.{is_live, live, storages_where}
 use Rattle.bm_base.specs.Excess.{excess_cmp, excess_among, excess_of, excess_in}
-use Rattle.bm_base.specs.Transfers.{WishedCopy, least_source, least_target, target_cmp, is_target, holders_of, barred_for, transfer_for, transfers_from, transfers, wishes}
+use Rattle.bm_base.specs.Transfers.{WishedCopy, least_source, least_target_by, least_target, scheduled_to, target_cmp, is_target, holders_of, barred_for, transfer_for, transfers_from, transfers, wishes}
 use Rattle.laws_of_events.proofs.Options.{is_there, revised, chained}
 use Rattle.laws_of_events.proofs.Lists.{Each, each_mapped, each_then, each_both, each_filtered, each_passing, each_appended, each_optional, least_is_one, has_one}
 use Rattle.laws_of_events.proofs.Maps.{each_entry, each_key}
@@ -66,10 +66,10 @@ unless true o x e = cc
 unless false o x e = e
 
 pub target_known : (C : Cluster) (chosen : List Transfer) (urgency : Level) (holders barred : List ℕ) (l t : ℕ) → least_target C chosen urgency holders barred l ≡ Some t → contains_key C.storages t ≡ true
-unfolding least_target
+unfolding least_target least_target_by
 target_known C chosen urgency holders barred l t e =
-    least_is_one (λ s. contains_key C.storages s ≡ true) (target_cmp C chosen holders) (filter (is_target C chosen urgency holders barred l) (keys C.storages))
-    (each_filtered (λ s. contains_key C.storages s ≡ true) (is_target C chosen urgency holders barred l) (keys C.storages) (each_key C.storages)) t e
+    least_is_one (λ s. contains_key C.storages s ≡ true) (target_cmp C (scheduled_to chosen) holders) (filter (is_target C (scheduled_to chosen) urgency holders barred l) (keys C.storages))
+    (each_filtered (λ s. contains_key C.storages s ≡ true) (is_target C (scheduled_to chosen) urgency holders barred l) (keys C.storages) (each_key C.storages)) t e
 
 -- a transfer made of what was found for it
 abbrev pub made : ℕ → BlockInfo → ℕ → ℕ → Transfer

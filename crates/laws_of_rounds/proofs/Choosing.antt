@@ -13,7 +13,7 @@ use Rattle.bm_base.specs.State.{RoundLimits, Cluster, Holdings}
 use Rattle.bm_base.specs.Lists.{has, least}
 use Rattle.bm_base.specs.Replicas.{live}
 use Rattle.bm_base.specs.Levels.{level, level_number, is_at}
-use Rattle.bm_base.specs.Transfers.{WishedCopy, wished_count, wishes_for, wishes, streams_from, stream_limit, source_cmp, least_source, holders_of, barred_for, target_cmp, is_target, least_target, transfer_for, transfers_from, transfers}
+use Rattle.bm_base.specs.Transfers.{WishedCopy, wished_count, wishes_for, wishes, streams_from, stream_limit, source_cmp, least_source_by, least_source, holders_of, barred_for, target_cmp, is_target, least_target_by, least_target, scheduled_to, transfer_for, transfers_from, transfers}
 use Rattle.laws_of_rounds.proofs.Listed.{Each, each_all, each_flat_map, has_filter, and_first, and_second, some_same}
 use Rattle.laws_of_rounds.proofs.Surpluses.{least_among}
 
@@ -167,12 +167,12 @@ least_passing R p xs x e =
 
 pub source_is : (C : Cluster) (front : List Transfer) (urgency : Level) (ss : List ℕ) (s : ℕ) → least_source C front urgency ss ≡ Some s
     → (streams_from C front s < stream_limit urgency) × (has ss s ≡ true)
-unfolding least_source
+unfolding least_source least_source_by
 source_is C front urgency ss s e =
-    let is = least_passing (source_cmp C front) (λ z. nat_lt (streams_from C front z) (stream_limit urgency)) ss s e in
+    let is = least_passing (source_cmp C (streams_from C front)) (λ z. nat_lt (streams_from C front z) (stream_limit urgency)) ss s e in
     (ltb-true (streams_from C front s) (stream_limit urgency) is.0, is.1)
 
 pub target_is : (C : Cluster) (front : List Transfer) (urgency : Level) (holders barred : List ℕ) (n u : ℕ) → least_target C front urgency holders barred n ≡ Some u
-    → (is_target C front urgency holders barred n u ≡ true) × (has (keys C.storages) u ≡ true)
-unfolding least_target
-target_is C front urgency holders barred n u e = least_passing (target_cmp C front holders) (is_target C front urgency holders barred n) (keys C.storages) u e
+    → (is_target C (scheduled_to front) urgency holders barred n u ≡ true) × (has (keys C.storages) u ≡ true)
+unfolding least_target least_target_by
+target_is C front urgency holders barred n u e = least_passing (target_cmp C (scheduled_to front) holders) (is_target C (scheduled_to front) urgency holders barred n) (keys C.storages) u e

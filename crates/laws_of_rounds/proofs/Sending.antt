@@ -221,7 +221,7 @@ not_true : (b : Bool) → not b ≡ true → b ≡ false
 not_true true e = absurd (false≢true e)
 not_true false e = refl
 
-pub target_parts : (C : Cluster) (front : List Transfer) (urgency : Level) (holders barred : List ℕ) (n u : ℕ) → is_target C front urgency holders barred n u ≡ true
+pub target_parts : (C : Cluster) (front : List Transfer) (urgency : Level) (holders barred : List ℕ) (n u : ℕ) → is_target C (scheduled_to front) urgency holders barred n u ≡ true
     → (n + scheduled_to front u ≤ remaining C u) × ((is_barred C barred u ≡ false) × ((is_at BadlyDistributed (Some urgency) && (length (racks C holders) == 1) && (class_of C holders u == 1)) ≡ false))
 unfolding is_target
 target_parts C front urgency holders barred n u e =
