@@ -13,7 +13,8 @@ use Rattle.std.proofs.Common.{refl, sym, ap, subst, ◌∙◌}
 use Rattle.bm_base.specs.Conjunction.{both, first, second}
 use Rattle.bm_base.specs.Map.{Map, Order, with_value, alter_list, entries, empty, get, insert, alter, keep, revise, remove, same_entries_map}
 
-equal : (r : Ordering) → is_eq r ≡ true → r ≡ Equal
+-- an order that ties
+pub equal : (r : Ordering) → is_eq r ≡ true → r ≡ Equal
 equal Less p = cc
 equal Equal p = refl
 equal Greater p = cc

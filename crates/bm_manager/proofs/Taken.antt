@@ -19,10 +19,3 @@ next (y ∷ xs) (suc i) x h = ap (λ ys. y ∷ ys) (next xs i x h)
 -- one more
 pub take_next : {A : Type 0} (xs : List A) (i : ℕ) (x : A) → slice_get xs i ≡ Some x → take (i + 1) xs ≡ take i xs ++ x ∷ []
 take_next xs i x h = let one : i + 1 ≡ suc i = omega arith in ap (λ n. take n xs) one ∙ next xs i x h
-
--- behind the last
-pub take_past : {A : Type 0} (xs : List A) (i : ℕ) → slice_get xs i ≡ None → take i xs ≡ xs
-take_past [] zero h = refl
-take_past [] (suc i) h = refl
-take_past (y ∷ xs) zero h = cc
-take_past (y ∷ xs) (suc i) h = ap (λ ys. y ∷ ys) (take_past xs i h)

@@ -84,8 +84,8 @@ impl Holdings {
         ensures state { self.new ≡ events.without_storages self.old (replicas_of.has_storage topology.now.cluster node) }
     {
         let before = self.replicas.len();
-        drop_replicas_of(&mut self.replicas, topology, node);
-        drop_pending_of(&mut self.pending, topology, node);
+        drop_on_node(&mut self.replicas, topology, node);
+        drop_on_node(&mut self.pending, topology, node);
         tally::gone(before - self.replicas.len())
     }
 
@@ -95,8 +95,8 @@ impl Holdings {
         ensures state { self.new ≡ events.without_storages self.old (λ t. t == storage) }
     {
         let before = self.replicas.len();
-        drop_replicas_on(&mut self.replicas, storage);
-        drop_pending_on(&mut self.pending, storage);
+        drop_on_storage(&mut self.replicas, storage);
+        drop_on_storage(&mut self.pending, storage);
         tally::gone(before - self.replicas.len())
     }
 
@@ -150,28 +150,16 @@ impl Holdings {
     }
 }
 
-fn drop_replicas_of(replicas: &mut ReplicaMap<Marks>, topology: &Topology, node: NodeId)
-    ensures { replicas.new ≡ map.keep replicas.old (λ q _. not (replicas_of.has_storage topology.now.cluster node q.storage)) }
+fn drop_on_node<V: Copy>(held: &mut ReplicaMap<V>, topology: &Topology, node: NodeId)
+    ensures { held.new ≡ map.keep held.old (λ q _. not (replicas_of.has_storage topology.now.cluster node q.storage)) }
 {
-    replicas.retain(|(replica, _)| !has_storage(topology, node, replica.storage));
+    held.retain(|(replica, _)| !has_storage(topology, node, replica.storage));
 }
 
-fn drop_pending_of(pending: &mut ReplicaMap<u64>, topology: &Topology, node: NodeId)
-    ensures { pending.new ≡ map.keep pending.old (λ q _. not (replicas_of.has_storage topology.now.cluster node q.storage)) }
+fn drop_on_storage<V: Copy>(held: &mut ReplicaMap<V>, storage: StorageId)
+    ensures { held.new ≡ map.keep held.old (λ q _. not (q.storage == storage)) }
 {
-    pending.retain(|(replica, _)| !has_storage(topology, node, replica.storage));
-}
-
-fn drop_replicas_on(replicas: &mut ReplicaMap<Marks>, storage: StorageId)
-    ensures { replicas.new ≡ map.keep replicas.old (λ q _. not (q.storage == storage)) }
-{
-    replicas.retain(|(replica, _)| replica.storage != storage);
-}
-
-fn drop_pending_on(pending: &mut ReplicaMap<u64>, storage: StorageId)
-    ensures { pending.new ≡ map.keep pending.old (λ q _. not (q.storage == storage)) }
-{
-    pending.retain(|(replica, _)| replica.storage != storage);
+    held.retain(|(replica, _)| replica.storage != storage);
 }
 
 fn drop_pending_block(pending: &mut ReplicaMap<u64>, id: BlockId)

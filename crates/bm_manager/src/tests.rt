@@ -5,7 +5,7 @@ use bm_base::{
     Answer, BlockId, Call, Config, Event, Gen, Items, NodeId, Rack, Refusal, Stamp, StorageId,
 };
 use std::alloc::{AllocError, Global};
-use std::test::Fail;
+use std::process::Abort;
 
 fn stamp(generation: u64) -> Stamp {
     Stamp {
@@ -14,13 +14,13 @@ fn stamp(generation: u64) -> Stamp {
     }
 }
 
-fn register(alloc: Global, node: u32, storages: &[StorageId]) -> Result<Call, AllocError> {
-    let storages = Vec::from_slice(alloc, storages)?;
-    Ok(Call::Apply(Event::Register {
+fn register(rt: &impl Abort, alloc: Global, node: u32, storages: &[StorageId]) -> Call {
+    let storages = Vec::from_slice(alloc, storages).expect(rt, "memory");
+    Call::Apply(Event::Register {
         node: NodeId(node),
         rack: Rack(1),
         storages: Items::from_vec(storages),
-    }))
+    })
 }
 
 fn received(storage: u32, generation: u64) -> Call {
@@ -57,13 +57,13 @@ fn shown(alloc: Global, answer: &Answer) -> Result<String, AllocError> {
 }
 
 #[test]
-fn a_list_of_calls_is_answered_call_by_call(rt: HostRuntime) -> Result<(), Fail> {
+fn a_list_of_calls_is_answered_call_by_call(rt: HostRuntime) {
     let alloc = rt.alloc();
-    let mut manager = Manager::new(alloc, Config::standard())?;
+    let mut manager = Manager::new(alloc, Config::standard()).expect(&rt, "memory");
     let calls = vec![in alloc;
-        register(alloc, 1, [StorageId(11), StorageId(12)].as_slice())?,
-        register(alloc, 1, [StorageId(13)].as_slice())?,
-        register(alloc, 2, [StorageId(21)].as_slice())?,
+        register(&rt, alloc, 1, [StorageId(11), StorageId(12)].as_slice()),
+        register(&rt, alloc, 1, [StorageId(13)].as_slice()),
+        register(&rt, alloc, 2, [StorageId(21)].as_slice()),
         Call::Apply(Event::AddBlock {
             id: BlockId(7),
             stamp: stamp(1),
@@ -78,7 +78,8 @@ fn a_list_of_calls_is_answered_call_by_call(rt: HostRuntime) -> Result<(), Fail>
         Call::Places(BlockId(7)),
         Call::Places(BlockId(8)),
         Call::Calls,
-    ]?;
+    ]
+    .expect(&rt, "memory");
     let wanted = [
         "ok 0 0",
         "refused 2",
@@ -94,13 +95,12 @@ fn a_list_of_calls_is_answered_call_by_call(rt: HostRuntime) -> Result<(), Fail>
         "refused 5",
         "7",
     ];
-    let answers = manager.answer_all(calls.as_slice())?;
+    let answers = manager.answer_all(calls.as_slice()).expect(&rt, "memory");
     assert_eq!(rt; answers.as_slice().len(), wanted.len());
     for (answer, want) in answers.as_slice().iter().zip(wanted.iter()) {
-        let line = shown(alloc, answer)?;
+        let line = shown(alloc, answer).expect(&rt, "memory");
         assert_eq!(rt; line.as_str(), *want);
     }
-    Ok(())
 }
 
 #[test]

@@ -1,6 +1,6 @@
 -- How many entries a table has after each change.
 use Rattle.std.proofs.Common.{ℕ, ◌+◌, ◌≤◌, Bool, true, false, cond, List, [], ◌∷◌, length, Option, Some, None, arith}
-use Rattle.bm_base.specs.Map.{Map, by_number, entries, len, insert, insert_all, alter, alter_list, with_value, keep, remove, revise, revise_at, contains_key}
+use Rattle.bm_base.specs.Map.{Map, by_number, entries, len, insert, insert_all, alter, alter_list, with_value, remove, revise, revise_at, contains_key}
 use Rattle.bm_base.proofs.Differences.{len-insert}
 
 module _ {X : Type 0} where
@@ -15,10 +15,6 @@ module _ {X : Type 0} where
   len-alter : (m : Map by_number X) (f : ℕ → X → Option X) → len (alter m f) ≤ len m
   unfolding len entries alter
   len-alter m f = altered f m.list
-
-  pub len-keep : (m : Map by_number X) (p : ℕ → X → Bool) → len (keep m p) ≤ len m
-  unfolding keep
-  len-keep m p = len-alter m _
 
   pub len-remove : (m : Map by_number X) (k : ℕ) → len (remove m k) ≤ len m
   unfolding remove

@@ -1,7 +1,6 @@
 pub mod Keys
 pub mod Counting
 pub mod Spreading
-pub mod Setting
 pub mod Others
 pub mod Lengths
 pub mod Sounding

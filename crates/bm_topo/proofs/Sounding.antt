@@ -13,12 +13,13 @@ use Rattle.bm_base.specs.Replicas.{has_storage, node_of}
 use Rattle.bm_base.specs.Events.{set_remaining}
 use Rattle.bm_base.specs.Refusals.{first_of, cluster_checks, knows_node, max_nodes, max_storages}
 use Rattle.bm_base.proofs.MapLaws.{same_map, get-keep, get-empty}
+use Rattle.bm_base.proofs.Differences.{len-keep-le}
 use Rattle.bm_topo.specs.Keys.{HasSmallKeys}
 use Rattle.bm_topo.specs.Named.{named}
 use Rattle.bm_topo.specs.Racks.{on_rack, CountsRacks, without_one}
 use Rattle.bm_topo.specs.Sound.{IsSound}
 use Rattle.bm_topo.proofs.Keys.{small_keys_insert, small_keys-empty, small_keys-remove, small_keys-keep, small_keys-revise_at}
-use Rattle.bm_topo.proofs.Lengths.{len-insert_most, len-insert_all, len-remove, len-keep, len-revise_at}
+use Rattle.bm_topo.proofs.Lengths.{len-insert_most, len-insert_all, len-remove, len-revise_at}
 use Rattle.bm_topo.proofs.Counting.{counts-insert, counts-remove}
 
 counts-empty : CountsRacks empty empty
@@ -55,7 +56,7 @@ sound-removed nodes racks old new k is h =
 
 pub sound-kept : (nodes racks : Map by_number ℕ) (old new : Map by_number StorageInfo) (p : ℕ → StorageInfo → Bool) → new ≡ keep old p → IsSound nodes racks old → IsSound nodes racks new
 sound-kept nodes racks old new p is h =
-    sound-storages nodes racks old new h (λ small. subst (λ m. HasSmallKeys m) (sym is) (small_keys-keep old p small)) (let e = ap len is in let few = len-keep old p in omega (arith, e, few))
+    sound-storages nodes racks old new h (λ small. subst (λ m. HasSmallKeys m) (sym is) (small_keys-keep old p small)) (let e = ap len is in let few = len-keep-le old p in omega (arith, e, few))
 
 -- where a node leaves
 pub sound-left : (nodes racks rest left : Map by_number ℕ) (storages : Map by_number StorageInfo) (n v : ℕ) → get nodes n ≡ Some v → rest ≡ remove nodes n → left ≡ without_one racks v (on_rack nodes v)

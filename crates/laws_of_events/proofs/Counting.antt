@@ -1,5 +1,5 @@
 -- What an event answers adds up.
-use Rattle.std.proofs.Common.{◌≡◌, ◌+◌, Bool, true, false, cond, not, ◌&&◌, Option, Some, None, is_some, List, [], ◌∷◌, map, filter, length, refl, sym, ap, subst, ◌∙◌, T, arith, Ordering}
+use Rattle.std.proofs.Common.{◌≡◌, ◌+◌, Bool, true, false, cond, not, ◌&&◌, Option, Some, None, is_some, List, [], ◌∷◌, map, length, refl, sym, ap, subst, ◌∙◌, T, arith, Ordering}
 use Rattle.std.specs.Prelude.{option_and_then}
 use Rattle.std.specs.Ordering.{eq_by_cmp, is_lt}
 use Rattle.std.specs.FinMap.{find, is_sorted}
@@ -10,6 +10,7 @@ use Rattle.bm_base.specs.declared.replica.Marks.{Marks}
 use Rattle.bm_base.specs.Map.{Map, Order, get, keep, len, entries, contains_key}
 use Rattle.bm_base.specs.State.{Holdings, by_replica}
 use Rattle.bm_base.specs.Calls.{new_replicas, done, done_by, after_event}
+use Rattle.bm_base.proofs.Differences.{both_parts}
 use Rattle.bm_base.proofs.MapLaws.{get-keep, entries-keep}
 use Rattle.laws_of_events.specs.Changes as law
 use Rattle.laws_of_events.specs.Reports.{held_after}
@@ -50,16 +51,6 @@ module _ {K X Y : Type 0} {o : Order K} where
       same_entries o.cmp o.total o.same (bare m.list) (bare n.list) (subst T (sym (sorted_bare o.cmp m.list)) m.sorted) (subst T (sym (sorted_bare o.cmp n.list)) n.sorted)
       (λ q. same_unit (find o.cmp q (bare m.list)) (find o.cmp q (bare n.list)) (find_bare o.cmp q m.list ∙ same q ∙ sym (find_bare o.cmp q n.list))) in
       sym (length-map m.list (λ e. (e.0, tt))) ∙ ap length lists ∙ length-map n.list (λ e. (e.0, tt))
-
--- those that pass and those that don't are all
-both_parts : {X : Type 0} (p : X → Bool) (xs : List X) → length (filter (λ x. not (p x)) xs) + length (filter p xs) ≡ length xs
-both_parts p [] = refl
-both_parts p (x ∷ xs) =
-    let rest = both_parts p xs in
-    elim (p x) as (λ b. length (cond (not b) (x ∷ filter (λ y. not (p y)) xs) (filter (λ y. not (p y)) xs)) + length (cond b (x ∷ filter p xs) (filter p xs)) ≡ length (x ∷ xs)) [
-      | true ↦ omega (arith, rest)
-      | false ↦ omega (arith, rest)
-    ]
 
 abbrev Replicas : Type 0
 Replicas = Map by_replica Marks

@@ -1,7 +1,6 @@
 use Rattle.std.proofs.Common.{refl, sym, ◌∙◌}
 use Rattle.bm_base.specs.Events.{as_bad}
-use Rattle.bm_base.proofs.Replacing.{no_change}
-use Rattle.bm_manager.proofs.Setting.{set_there}
+use Rattle.bm_base.proofs.Replacing.{no_change, set_there}
 use Rattle.bm_manager.proofs.changes.set_bad.Goals as goal
 
 pub returns-in-Some : goal.returns-in-Some

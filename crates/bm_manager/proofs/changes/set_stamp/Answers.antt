@@ -1,8 +1,7 @@
 use Rattle.std.proofs.Common.{refl, ap, sym, ◌∙◌}
 use Rattle.bm_base.specs.declared.replica.BlockInfo.{BlockInfo}
 use Rattle.bm_base.specs.Map.{get}
-use Rattle.bm_base.proofs.Replacing.{no_change}
-use Rattle.bm_manager.proofs.Setting.{set_there}
+use Rattle.bm_base.proofs.Replacing.{no_change, set_there}
 use Rattle.bm_manager.proofs.changes.set_stamp.Goals as goal
 
 pub returns-in-Some : goal.returns-in-Some

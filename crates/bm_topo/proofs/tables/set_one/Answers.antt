@@ -1,13 +1,14 @@
-use Rattle.std.proofs.Common.{ap, sym, ◌∙◌}
+use Rattle.std.proofs.Common.{refl, ap, sym, ◌∙◌}
 use Rattle.bm_base.specs.Map.{get}
-use Rattle.bm_base.proofs.Replacing.{no_change}
-use Rattle.bm_topo.proofs.Setting.{told_there}
+use Rattle.bm_base.specs.declared.storage.StorageInfo.{StorageInfo}
+use Rattle.bm_base.proofs.Replacing.{no_change, set_there}
 use Rattle.bm_topo.proofs.tables.set_one.Goals as goal
 
 pub returns-in-Some : goal.returns-in-Some
 returns-in-Some c =
-    told_there c.args.storages.now.map c.replace.new.self.map c.from-in-Some.result c.args.storage c.in-Some.info c.args.remaining
-    (sym (c.get.ensures ∙ ap (get c.args.storages.now.map) (c.from.ensures ∙ c.storage.view_is)) ∙ c.in-Some.is) (c.from-in-Some.ensures ∙ c.storage.view_is) c.replace.ensures.after
+    let told : StorageInfo = record { node = c.in-Some.info.node; remaining = c.args.remaining } in
+    set_there c.args.storages.now.map c.replace.new.self.map c.from-in-Some.result c.args.storage c.in-Some.info told (λ (i : StorageInfo). record i { remaining = c.args.remaining })
+    (sym (c.get.ensures ∙ ap (get c.args.storages.now.map) (c.from.ensures ∙ c.storage.view_is)) ∙ c.in-Some.is) (c.from-in-Some.ensures ∙ c.storage.view_is) refl c.replace.ensures.after
 
 pub returns-in_default : goal.returns-in_default
 returns-in_default c = no_change c.args.storages.now.map c.args.storage _ (sym (c.get.ensures ∙ ap (get c.args.storages.now.map) (c.from.ensures ∙ c.storage.view_is)) ∙ c.in_default.is)
