@@ -1,0 +1,10 @@
+pub mod Tables
+pub mod Least
+pub mod Classes
+pub mod Best
+pub mod Choosing
+pub mod Counting
+pub mod Sending
+pub mod Surplus
+pub mod Taking
+pub mod Telling

@@ -1,0 +1,180 @@
+-- What is in excess: the scan of those that are left ends at the first, the racks are counted, and one choice follows another.
+use Rattle.std.specs.Prelude.{option_map}
+use Rattle.std.specs.Option.{option_map_or}
+use Rattle.std.proofs.Common.{append-nil, append_assoc, arith}
+use Rattle.std.proofs.Common.{◌≡◌, ◌≤◌, ◌<◌, ◌+◌, ◌-◌, ℕ, zero, suc, Bool, true, false, cond, not, nat_lt, List, [], ◌∷◌, ◌++◌, map, drop, filter, length, count_by, Option, Some, None, refl, sym, ap, ◌∙◌, ◌==◌}
+use Rattle.std.specs.Ordering.{nat_cmp, ordering_then}
+use Rattle.std.specs.Cmp.{IsTotalOrder, nat_cmp_total}
+use Rattle.std.proofs.lemmas.Cmp.{on_total, then_total, back_total}
+use Rattle.std.proofs.lemmas.Bool.{eqb-true, eq-eqb}
+use Rattle.std.proofs.lemmas.List.Sums.{sum_by-cons, count_by-le-length}
+use Rattle.std.proofs.lemmas.List.Filters.{sum_by-filter_both}
+use Rattle.std.proofs.lemmas.List.{at_drop_all}
+use Rattle.bm_base.specs.Map.{Map, by_number, insert, revise_at}
+use Rattle.bm_base.specs.State.{Cluster}
+use Rattle.bm_base.specs.Lists.{least}
+use Rattle.bm_base.specs.Replicas.{rack_of}
+use Rattle.bm_base.specs.Excess.{remaining, share_rack, has_rack_mate, excess_cmp, excess_among}
+use Rattle.bm_base.proofs.Differences.{both_parts}
+use Rattle.bm_place.specs.declared.excess.Candidate.{Candidate}
+use Rattle.bm_place.specs.Tables.{count_at}
+use Rattle.bm_place.specs.Candidates.{is_on, CountsRacks, candidate_at, cmp_candidates}
+use Rattle.bm_place.specs.Scan.{scan}
+use Rattle.bm_place.proofs.Choosing.{scan-found}
+use Rattle.bm_place.proofs.Counting.{count_none}
+use Rattle.bm_place.proofs.Tables.{count-insert, count-revised}
+
+excess_cmp_total : (C : Cluster) (left : List ℕ) → IsTotalOrder (excess_cmp C left)
+unfolding excess_cmp
+excess_cmp_total C left = then_total (on_total (λ s. cond (has_rack_mate C left s) 0 1) nat_cmp_total) (then_total (on_total (remaining C) nat_cmp_total) (back_total nat_cmp_total))
+
+-- Candidates.
+
+mate_as : (C : Cluster) (left : List ℕ) (counts : Map by_number ℕ) → CountsRacks C left counts → (s : ℕ) → option_map_or (λ r. nat_lt 1 (count_at counts r)) (rack_of C s) false ≡ has_rack_mate C left s
+unfolding has_rack_mate share_rack
+mate_as C left counts counted s = by (rack_of C s)
+  where
+    by : (o : Option ℕ) → option_map_or (λ r. nat_lt 1 (count_at counts r)) o false ≡ nat_lt 1 (count_by (λ t. option_map_or (λ r. option_map_or (λ q. q == r) (rack_of C t) false) o false) left)
+    by None = sym (ap (λ n. nat_lt 1 n) (count_none left))
+    by (Some r) = ap (λ n. nat_lt 1 n) (counted r)
+
+ordered_as : (C : Cluster) (left : List ℕ) (counts : Map by_number ℕ) → CountsRacks C left counts → (s t : ℕ) → cmp_candidates (candidate_at C counts s) (candidate_at C counts t) ≡ excess_cmp C left s t
+unfolding excess_cmp
+ordered_as C left counts counted s t =
+    λ i. ordering_then (nat_cmp (cond (mate_as C left counts counted s i) 0 1) (cond (mate_as C left counts counted t i) 0 1)) (ordering_then (nat_cmp (remaining C s) (remaining C t)) (nat_cmp t s))
+
+all_pass : {X : Type 0} (xs : List X) → filter (λ _. true) xs ≡ xs
+all_pass [] = refl
+all_pass (x ∷ xs) = ap (λ ys. x ∷ ys) (all_pass xs)
+
+storage_again : (C : Cluster) (counts : Map by_number ℕ) (o : Option ℕ) → option_map (λ (c : Candidate). c.storage) (option_map (candidate_at C counts) o) ≡ o
+storage_again C counts None = refl
+storage_again C counts (Some s) = refl
+
+-- a scan that has nothing left has found what is in excess first
+pub excess_found : (C : Cluster) (left : List ℕ) (counts : Map by_number ℕ) (best : Option Candidate) (i : ℕ) → CountsRacks C left counts → length left ≤ i
+    → scan cmp_candidates (λ _. true) best (map (candidate_at C counts) (drop i left)) ≡ scan cmp_candidates (λ _. true) None (map (candidate_at C counts) left)
+    → option_map (λ (c : Candidate). c.storage) best ≡ least (excess_cmp C left) left
+excess_found C left counts best i counted all inv =
+    ap (option_map (λ (c : Candidate). c.storage)) (
+    sym (at_drop_all (λ xs. scan cmp_candidates (λ _. true) best (map (candidate_at C counts) xs)) left i all)
+    ∙ inv
+    ∙ scan-found (candidate_at C counts) cmp_candidates (λ _. true) (excess_cmp C left) (λ _. true) (excess_cmp_total C left) (ordered_as C left counts counted) (λ _. refl) left
+    )
+    ∙ storage_again C counts (least (excess_cmp C left) (filter (λ _. true) left))
+    ∙ ap (least (excess_cmp C left)) (all_pass left)
+
+-- Counting.
+
+count_cons : {X : Type 0} (p : X → Bool) (x : X) (xs : List X) → count_by p (x ∷ xs) ≡ cond (p x) 1 0 + count_by p xs
+count_cons p x xs = sum_by-cons (λ y. cond (p y) 1 0) x xs
+
+-- the count of those that are left, of which the first is known
+count_left : (p : ℕ → Bool) (ss : List ℕ) (i s : ℕ) (b : Bool) → drop i ss ≡ s ∷ drop (i + 1) ss → p s ≡ b → count_by p (drop i ss) ≡ cond b 1 0 + count_by p (drop (i + 1) ss)
+count_left p ss i s b next is = ap (count_by p) next ∙ count_cons p s (drop (i + 1) ss) ∙ ap (λ t. cond t 1 0 + count_by p (drop (i + 1) ss)) is
+
+-- a storage with a rack is counted
+pub counted_next : (C : Cluster) (counts more : Map by_number ℕ) (ss : List ℕ) (i s k n : ℕ) (whole : ℕ → ℕ) → drop i ss ≡ s ∷ drop (i + 1) ss → rack_of C s ≡ Some k → n ≡ count_at counts k + 1 → more ≡ insert counts k n
+    → ((r : ℕ) → count_at counts r + count_by (is_on C r) (drop i ss) ≡ whole r) → (r : ℕ) → count_at more r + count_by (is_on C r) (drop (i + 1) ss) ≡ whole r
+counted_next C counts more ss i s k n whole next on count is inv r =
+    let here : is_on C r s ≡ (k == r) = ap (λ o. option_map_or (λ q. q == r) o false) on in
+    let new : count_at more r ≡ cond (k == r) n (count_at counts r) = ap (λ m. count_at m r) is ∙ count-insert counts k n r in
+    by (k == r) refl (count_left (is_on C r) ss i s (k == r) next here) new (inv r)
+  where
+    by : (b : Bool) → (k == r) ≡ b → count_by (is_on C r) (drop i ss) ≡ cond b 1 0 + count_by (is_on C r) (drop (i + 1) ss) → count_at more r ≡ cond b n (count_at counts r)
+        → count_at counts r + count_by (is_on C r) (drop i ss) ≡ whole r → count_at more r + count_by (is_on C r) (drop (i + 1) ss) ≡ whole r
+    by true e left new inv = let same = ap (count_at counts) (eqb-true k r e) in omega (arith, inv, left, new, count, same)
+    by false e left new inv = omega (arith, inv, left, new)
+
+-- one without a rack is not
+pub skipped_next : (C : Cluster) (counts : Map by_number ℕ) (ss : List ℕ) (i s : ℕ) (whole : ℕ → ℕ) → drop i ss ≡ s ∷ drop (i + 1) ss → rack_of C s ≡ None
+    → ((r : ℕ) → count_at counts r + count_by (is_on C r) (drop i ss) ≡ whole r) → (r : ℕ) → count_at counts r + count_by (is_on C r) (drop (i + 1) ss) ≡ whole r
+skipped_next C counts ss i s whole next none inv r =
+    let left = count_left (is_on C r) ss i s false next (ap (λ o. option_map_or (λ q. q == r) o false) none) in
+    omega (arith, inv r, left)
+
+-- a count with one more fits, since it is at most the number of storages
+pub count_fits : (C : Cluster) (counts : Map by_number ℕ) (ss : List ℕ) (i s k : ℕ) → drop i ss ≡ s ∷ drop (i + 1) ss → rack_of C s ≡ Some k
+    → ((r : ℕ) → count_at counts r + count_by (is_on C r) (drop i ss) ≡ count_by (is_on C r) ss) → count_at counts k + 1 ≤ length ss
+count_fits C counts ss i s k next on inv =
+    let left = count_left (is_on C k) ss i s true next (ap (λ o. option_map_or (λ q. q == k) o false) on ∙ eq-eqb k k refl) in
+    omega (arith, inv k, left, count_by-le-length (is_on C k) ss)
+
+-- those that equal x pass where x does
+same_all : (p : ℕ → Bool) (x : ℕ) (xs : List ℕ) → count_by p (filter (λ s. s == x) xs) ≡ cond (p x) (length (filter (λ s. s == x) xs)) 0
+same_all p x [] = by (p x)
+  where
+    by : (t : Bool) → ◌≡◌ {A = ℕ} 0 (cond t 0 0)
+    by true = refl
+    by false = refl
+same_all p x (y ∷ ys) = by (y == x) refl (filter (λ s. s == x) ys) (same_all p x ys)
+  where
+    two : (t : Bool) (same : List ℕ) → p y ≡ t → p x ≡ t → count_by p same ≡ cond (p x) (length same) 0 → count_by p (y ∷ same) ≡ cond t (length (y ∷ same)) 0
+    two true same e f rest =
+        let one = count_cons p y same ∙ ap (λ t. cond t 1 0 + count_by p same) e in
+        let all = rest ∙ ap (λ t. cond t (length same) 0) f in
+        omega (arith, one, all)
+    two false same e f rest =
+        let one = count_cons p y same ∙ ap (λ t. cond t 1 0 + count_by p same) e in
+        let all = rest ∙ ap (λ t. cond t (length same) 0) f in
+        omega (arith, one, all)
+
+    by : (b : Bool) → (y == x) ≡ b → (same : List ℕ) → count_by p same ≡ cond (p x) (length same) 0 → count_by p (cond b (y ∷ same) same) ≡ cond (p x) (length (cond b (y ∷ same) same)) 0
+    by true e same rest = two (p x) same (ap p (eqb-true y x e)) refl rest
+    by false e same rest = rest
+
+-- those that stay, and those that go, where all that equal x go
+parted : (p : ℕ → Bool) (x : ℕ) (xs : List ℕ) → count_by p (filter (λ s. not (s == x)) xs) + cond (p x) (length xs - length (filter (λ s. not (s == x)) xs)) 0 ≡ count_by p xs
+parted p x xs =
+    let both = sum_by-filter_both (λ s. s == x) (λ s. not (s == x)) (λ s. refl) (λ s. cond (p s) 1 0) xs in
+    let gone : length (filter (λ s. s == x) xs) ≡ length xs - length (filter (λ s. not (s == x)) xs) = (let all = both_parts (λ s. s == x) xs in omega (arith, all)) in
+    let same = same_all p x xs ∙ ap (λ n. cond (p x) n 0) gone in
+    omega (arith, both, same)
+
+zero_less : (n : ℕ) → 0 - n ≡ 0
+zero_less n = omega arith
+
+-- the racks are counted anew once a storage is out
+pub counted_without : (C : Cluster) (left : List ℕ) (counts less : Map by_number ℕ) (x k gone : ℕ) → rack_of C x ≡ Some k → gone ≡ length left - length (filter (λ s. not (s == x)) left) → less ≡ revise_at counts k (λ n. n - gone)
+    → CountsRacks C left counts → CountsRacks C (filter (λ s. not (s == x)) left) less
+counted_without C left counts less x k gone on out is counted r =
+    let here : is_on C r x ≡ (k == r) = ap (λ o. option_map_or (λ q. q == r) o false) on in
+    let parts = ap (λ b. count_by (is_on C r) (filter (λ s. not (s == x)) left) + cond b (length left - length (filter (λ s. not (s == x)) left)) 0) (sym here) ∙ parted (is_on C r) x left in
+    let new : count_at less r ≡ cond (k == r) (count_at counts r - gone) (count_at counts r) = ap (λ m. count_at m r) is ∙ count-revised counts k (λ n. n - gone) (zero_less gone) r in
+    by (k == r) parts new (counted r)
+  where
+    by : (b : Bool) → count_by (is_on C r) (filter (λ s. not (s == x)) left) + cond b (length left - length (filter (λ s. not (s == x)) left)) 0 ≡ count_by (is_on C r) left → count_at less r ≡ cond b (count_at counts r - gone) (count_at counts r)
+        → count_at counts r ≡ count_by (is_on C r) left → count_at less r ≡ count_by (is_on C r) (filter (λ s. not (s == x)) left)
+    by true parts new counted = omega (arith, parts, new, counted, out)
+    by false parts new counted = omega (arith, parts, new, counted)
+
+-- and where the storage has no rack
+pub counted_as_before : (C : Cluster) (left : List ℕ) (counts : Map by_number ℕ) (x : ℕ) → rack_of C x ≡ None → CountsRacks C left counts → CountsRacks C (filter (λ s. not (s == x)) left) counts
+counted_as_before C left counts x none counted r =
+    let here : is_on C r x ≡ false = ap (λ o. option_map_or (λ q. q == r) o false) none in
+    let parts = ap (λ b. count_by (is_on C r) (filter (λ s. not (s == x)) left) + cond b (length left - length (filter (λ s. not (s == x)) left)) 0) (sym here) ∙ parted (is_on C r) x left in
+    omega (arith, parts, counted r)
+
+-- One choice after another.
+
+none_chosen : (C : Cluster) (k : ℕ) (left : List ℕ) → None ≡ least (excess_cmp C left) left → excess_among C k left ≡ []
+none_chosen C zero left e = refl
+none_chosen C (suc k) left e = ap (λ m. option_map_or (λ x. x ∷ excess_among C k (filter (λ s. not (s == x)) left)) m []) (sym e)
+
+-- where none is in excess, or none is asked for, all are chosen
+pub all_chosen : (C : Cluster) (k : ℕ) (left chosen all : List ℕ) → None ≡ least (excess_cmp C left) left → chosen ++ excess_among C k left ≡ all → chosen ≡ all
+all_chosen C k left chosen all e inv = sym (append-nil chosen) ∙ ap (λ xs. chosen ++ xs) (sym (none_chosen C k left e)) ∙ inv
+
+pub enough_chosen : (C : Cluster) (n i : ℕ) (left chosen all : List ℕ) → n ≤ i → chosen ++ excess_among C (n - i) left ≡ all → chosen ≡ all
+enough_chosen C n i left chosen all h inv =
+    let e : n - i ≡ 0 = omega arith in
+    sym (append-nil chosen) ∙ ap (λ k. chosen ++ excess_among C k left) (sym e) ∙ inv
+
+pub one_chosen : (C : Cluster) (n i x : ℕ) (left rest chosen more all : List ℕ) → i < n → Some x ≡ least (excess_cmp C left) left → rest ≡ filter (λ s. not (s == x)) left → more ≡ chosen ++ x ∷ []
+    → chosen ++ excess_among C (n - i) left ≡ all → more ++ excess_among C (n - (i + 1)) rest ≡ all
+one_chosen C n i x left rest chosen more all h e f g inv =
+    let k : suc (n - (i + 1)) ≡ n - i = omega arith in
+    ap (λ xs. xs ++ excess_among C (n - (i + 1)) rest) g ∙ append_assoc chosen (x ∷ []) _
+    ∙ ap (λ xs. chosen ++ x ∷ excess_among C (n - (i + 1)) xs) f
+    ∙ ap (λ m. chosen ++ option_map_or (λ y. y ∷ excess_among C (n - (i + 1)) (filter (λ s. not (s == y)) left)) m []) e
+    ∙ ap (λ j. chosen ++ excess_among C j left) k ∙ inv

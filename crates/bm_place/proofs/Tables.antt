@@ -1,0 +1,177 @@
+-- What stands in a table, and what a change of a count makes of it.
+use Rattle.std.specs.Prelude.{unwrap_or, option_map}
+use Rattle.std.proofs.Common.{◌≡◌, ◌≤◌, ℕ, ◌+◌, suc, zero, Bool, true, false, cond, ◌&&◌, ◌||◌, List, [], ◌∷◌, map, drop, Option, Some, None, is_some, refl, sym, ap, subst, ◌∙◌, T, arith}
+use Rattle.std.specs.Prelude.{◌==◌, slice_get}
+use Rattle.std.specs.Ordering.{nat_cmp, eq_by_cmp, is_lt}
+use Rattle.std.specs.FinMap.{find, is_sorted}
+use Rattle.std.specs.FinMap.Entries.{below_all}
+use Rattle.std.proofs.lemmas.Bool.{eqb-true}
+use Rattle.std.proofs.lemmas.List.{length-map}
+use Rattle.std.proofs.lemmas.Option.{slice_get_past}
+use Rattle.std.proofs.lemmas.Bool.Decides.{nat_tests}
+use Rattle.bm_base.specs.Lists.{has}
+use Rattle.bm_base.specs.Map.{Map, by_number, empty, entries, get, insert, insert_all, keys, len, revise_at, contains_key}
+use Rattle.bm_base.specs.OfSorted.{of_sorted, entries-of_sorted}
+use Rattle.bm_base.proofs.MapLaws.{same_map, get-insert, get-empty, get-revise}
+use Rattle.bm_base.proofs.SortedLaws.{get-of_sorted}
+use Rattle.bm_base.proofs.Ties.{number_tie}
+use Rattle.bm_place.specs.Tables.{listed, table, count_at}
+
+pub equal_back : (q k : ℕ) (b : Bool) → (q == k) ≡ b → (k == q) ≡ b
+equal_back q k b e = grind (arith, nat_tests)
+
+module _ {X : Type 0} (f : ℕ → X) where
+  -- the number that is looked for, or what stands behind it
+  here_or : (q k : ℕ) (rest : Bool) (o : Option X) (b : Bool) → (q == k) ≡ b → cond rest (Some (f q)) (cond b (Some (f k)) o) ≡ cond (b || rest) (Some (f q)) o
+  here_or q k true o true e = refl
+  here_or q k false o true e = ap (λ x. Some (f x)) (sym (eqb-true q k e))
+  here_or q k true o false e = refl
+  here_or q k false o false e = refl
+
+  head_or : (q k : ℕ) (rest : Bool) (o : Option X) → cond rest (Some (f q)) (cond (eq_by_cmp nat_cmp q k) (Some (f k)) o) ≡ cond ((k == q) || rest) (Some (f q)) o
+  head_or q k rest o =
+      ap (λ b. cond rest (Some (f q)) (cond b (Some (f k)) o)) (number_tie q k)
+      ∙ here_or q k rest o (q == k) refl
+      ∙ ap (λ b. cond (b || rest) (Some (f q)) o) (sym (equal_back q k (q == k) refl))
+
+  get-listed : (ks : List ℕ) (m : Map by_number X) (q : ℕ) → get (insert_all m (listed f ks)) q ≡ cond (has ks q) (Some (f q)) (get m q)
+  get-listed [] m q = refl
+  get-listed (k ∷ ks) m q =
+      get-listed ks (insert m k (f k)) q ∙ ap (cond (has ks q) (Some (f q))) (get-insert m k (f k) q) ∙ head_or q k (has ks q) (get m q)
+
+  pub get-table : (ks : List ℕ) (q : ℕ) → get (table f ks) q ≡ cond (has ks q) (Some (f q)) None
+  unfolding table
+  get-table ks q = get-listed ks empty q ∙ ap (cond (has ks q) (Some (f q))) (get-empty by_number q)
+
+  swapped_or : (q k : ℕ) (rest : Bool) (b : Bool) → (q == k) ≡ b → cond b (Some (f k)) (cond rest (Some (f q)) None) ≡ cond (b || rest) (Some (f q)) None
+  swapped_or q k rest true e = ap (λ x. Some (f x)) (sym (eqb-true q k e))
+  swapped_or q k rest false e = refl
+
+  find-listed : (ks : List ℕ) (q : ℕ) → find nat_cmp q (listed f ks) ≡ cond (has ks q) (Some (f q)) None
+  find-listed [] q = refl
+  find-listed (k ∷ ks) q =
+      ap (cond (eq_by_cmp nat_cmp q k) (Some (f k))) (find-listed ks q)
+      ∙ ap (λ b. cond b (Some (f k)) (cond (has ks q) (Some (f q)) None)) (number_tie q k)
+      ∙ swapped_or q k (has ks q) (q == k) refl
+      ∙ ap (λ b. cond (b || has ks q) (Some (f q)) None) (sym (equal_back q k (q == k) refl))
+
+  module _ {Y : Type 0} where
+    below_listed : (k : ℕ) (es : List (ℕ × Y)) → below_all nat_cmp k (listed f (map (λ e. e.0) es)) ≡ below_all nat_cmp k es
+    below_listed k [] = refl
+    below_listed k (e ∷ es) = ap (λ b. is_lt (nat_cmp k e.0) && b) (below_listed k es)
+
+    sorted_listed : (es : List (ℕ × Y)) → is_sorted nat_cmp (listed f (map (λ e. e.0) es)) ≡ is_sorted nat_cmp es
+    sorted_listed [] = refl
+    sorted_listed (e ∷ es) = λ i. below_listed e.0 es i && sorted_listed es i
+
+    keys_sorted : (m : Map by_number Y) → T (is_sorted nat_cmp (listed f (keys m)))
+    unfolding keys entries
+    keys_sorted m = subst T (sym (sorted_listed m.list)) m.sorted
+
+    -- a table of the keys of a map has them in the same order
+    pub entries-table : (m : Map by_number Y) → entries (table f (keys m)) ≡ listed f (keys m)
+    entries-table m =
+        let sorted = keys_sorted m in
+        let same : table f (keys m) ≡ of_sorted {o = by_number} (listed f (keys m)) =
+        same_map (table f (keys m)) (of_sorted {o = by_number} (listed f (keys m))) (λ q.
+        get-table (keys m) q ∙ sym (get-of_sorted by_number (listed f (keys m)) q sorted ∙ find-listed (keys m) q)) in
+        ap entries same ∙ entries-of_sorted by_number (listed f (keys m)) sorted
+
+-- a number is among the keys just where the map has it
+has-bare : {Y : Type 0} (es : List (ℕ × Y)) (q : ℕ) → has (map (λ e. e.0) es) q ≡ is_some (find nat_cmp q es)
+has-bare [] q = refl
+has-bare (e ∷ es) q =
+    (λ i. equal_back q e.0 (q == e.0) refl i || has-bare es q i) ∙ some_or (q == e.0) (find nat_cmp q es) e.1 ∙ ap (λ b. is_some (cond b (Some e.1) (find nat_cmp q es))) (sym (number_tie q e.0))
+  where
+    some_or : {Y : Type 0} (b : Bool) (o : Option Y) (y : Y) → (b || is_some o) ≡ is_some (cond b (Some y) o)
+    some_or true o y = refl
+    some_or false o y = refl
+
+pub has-keys : {Y : Type 0} (m : Map by_number Y) (q : ℕ) → has (keys m) q ≡ contains_key m q
+unfolding keys entries get
+has-keys m q = has-bare m.list q
+
+-- Counts.
+
+revised : (o : Option ℕ) (g : ℕ → ℕ) (b : Bool) → g 0 ≡ 0 → unwrap_or (option_map (λ x. cond b (g x) x) o) 0 ≡ cond b (g (unwrap_or o 0)) (unwrap_or o 0)
+revised None g true z = sym z
+revised None g false z = refl
+revised (Some x) g true z = refl
+revised (Some x) g false z = refl
+
+-- a count that is changed to one that is 0 where it was
+pub count-revised : (m : Map by_number ℕ) (k : ℕ) (g : ℕ → ℕ) → g 0 ≡ 0 → (q : ℕ) → count_at (revise_at m k g) q ≡ cond (k == q) (g (count_at m q)) (count_at m q)
+unfolding count_at revise_at
+count-revised m k g z q =
+    ap (λ o. unwrap_or o 0) (get-revise m (λ q x. cond (eq_by_cmp nat_cmp q k) (g x) x) q)
+    ∙ revised (get m q) g (eq_by_cmp nat_cmp q k) z
+    ∙ ap (λ b. cond b (g (unwrap_or (get m q) 0)) (unwrap_or (get m q) 0)) (number_tie q k ∙ sym (equal_back q k (q == k) refl))
+
+set_or : (o : Option ℕ) (v : ℕ) (b : Bool) → unwrap_or (cond b (Some v) o) 0 ≡ cond b v (unwrap_or o 0)
+set_or o v true = refl
+set_or o v false = refl
+
+-- a count that is set
+pub count-insert : (m : Map by_number ℕ) (k v q : ℕ) → count_at (insert m k v) q ≡ cond (k == q) v (count_at m q)
+unfolding count_at
+count-insert m k v q =
+    ap (λ o. unwrap_or o 0) (get-insert m k v q)
+    ∙ set_or (get m q) v (eq_by_cmp nat_cmp q k)
+    ∙ ap (λ b. cond b v (unwrap_or (get m q) 0)) (number_tie q k ∙ sym (equal_back q k (q == k) refl))
+
+pub count-empty : (q : ℕ) → count_at empty q ≡ 0
+unfolding count_at
+count-empty q = ap (λ o. unwrap_or o 0) (get-empty by_number q)
+
+-- Lists as loops go over them.
+
+head : {A : Type 0} (x y : A) → Some x ≡ Some y → x ≡ y
+head x y e = cc
+
+next : {A : Type 0} (xs : List A) (i : ℕ) (x : A) → slice_get xs i ≡ Some x → drop i xs ≡ x ∷ drop (suc i) xs
+next [] i x h = cc
+next (y ∷ xs) zero x h = ap (λ z. z ∷ xs) (head y x h)
+next (y ∷ xs) (suc i) x h = next xs i x h
+
+-- what is left before the element at a place is it and what is left behind it
+pub drop-next : {A : Type 0} (xs : List A) (i : ℕ) (x : A) → slice_get xs i ≡ Some x → drop i xs ≡ x ∷ drop (i + 1) xs
+drop-next xs i x h = let one : suc i ≡ i + 1 = omega arith in next xs i x h ∙ ap (λ n. x ∷ drop n xs) one
+
+none_past : {A : Type 0} (xs : List A) (i : ℕ) → slice_get xs i ≡ None → drop i xs ≡ []
+none_past [] zero h = refl
+none_past [] (suc i) h = refl
+none_past (y ∷ xs) zero h = cc
+none_past (y ∷ xs) (suc i) h = none_past xs i h
+
+-- A table that is made row by row: `left` are the numbers that are left.
+
+module _ {X : Type 0} (f : ℕ → X) (ks : List ℕ) (i : ℕ) (whole : Map by_number X) where
+  -- one row more
+  pub row_made : (m more : Map by_number X) (s k : ℕ) (v : X) → slice_get ks i ≡ Some s → k ≡ s → v ≡ f s → more ≡ insert m k v
+      → insert_all m (listed f (drop i ks)) ≡ whole → insert_all more (listed f (drop (i + 1) ks)) ≡ whole
+  row_made m more s k v at same value is inv =
+      ap (λ n. insert_all n (listed f (drop (i + 1) ks))) (is ∙ (λ j. insert m (same j) (value j))) ∙ sym (ap (λ xs. insert_all m (listed f xs)) (drop-next ks i s at)) ∙ inv
+
+  -- the same where the rows are of numbers that are made of those
+  pub row_made_of : (g : ℕ → ℕ) (m more : Map by_number X) (s k : ℕ) (v : X) → slice_get ks i ≡ Some s → k ≡ g s → v ≡ f (g s) → more ≡ insert m k v
+      → insert_all m (listed f (map g (drop i ks))) ≡ whole → insert_all more (listed f (map g (drop (i + 1) ks))) ≡ whole
+  row_made_of g m more s k v at same value is inv =
+      ap (λ n. insert_all n (listed f (map g (drop (i + 1) ks)))) (is ∙ (λ j. insert m (same j) (value j))) ∙ sym (ap (λ xs. insert_all m (listed f (map g xs))) (drop-next ks i s at)) ∙ inv
+
+  all_made : (m : Map by_number X) → drop i ks ≡ [] → insert_all m (listed f (drop i ks)) ≡ whole → m ≡ whole
+  all_made m none inv = sym (ap (λ xs. insert_all m (listed f xs)) none) ∙ inv
+
+  all_made_of : (g : ℕ → ℕ) (m : Map by_number X) → drop i ks ≡ [] → insert_all m (listed f (map g (drop i ks))) ≡ whole → m ≡ whole
+  all_made_of g m none inv = sym (ap (λ xs. insert_all m (listed f (map g xs))) none) ∙ inv
+
+  -- no row is left where no number stands at the place
+  pub made_past : (m : Map by_number X) → slice_get ks i ≡ None → insert_all m (listed f (drop i ks)) ≡ whole → m ≡ whole
+  made_past m none inv = all_made m (none_past ks i none) inv
+
+  pub made_past_of : (g : ℕ → ℕ) (m : Map by_number X) → slice_get ks i ≡ None → insert_all m (listed f (map g (drop i ks))) ≡ whole → m ≡ whole
+  made_past_of g m none inv = all_made_of g m (none_past ks i none) inv
+
+-- no storage stands past their number
+pub none_behind : {Y : Type 0} (m : Map by_number Y) (i : ℕ) → len m ≤ i → slice_get (keys m) i ≡ None
+unfolding keys len
+none_behind m i h = slice_get_past (keys m) i (omega (arith, h, length-map (entries m) (λ e. e.0)))

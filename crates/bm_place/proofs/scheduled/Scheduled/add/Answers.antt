@@ -1,0 +1,18 @@
+use Rattle.std.proofs.Common.{ap, sym, ◌+◌, ◌∙◌}
+use Rattle.bm_base.specs.Map.{revise_at}
+use Rattle.bm_base.specs.Transfers.{scheduled_to}
+use Rattle.bm_place.specs.declared.scheduled.Target.{Target}
+use Rattle.bm_place.specs.Targets.{target_table}
+use Rattle.bm_place.proofs.Counting.{targets-more, targets-chosen}
+use Rattle.bm_place.proofs.scheduled.Scheduled.add.Goals as goal
+
+pub returns-clause-sent : goal.returns-clause-sent
+returns-clause-sent c C sent made =
+    c.add_to.ensures ∙ ap (λ m. revise_at m c.args.target (λ (t : Target). record t { scheduled = t.scheduled + c.args.len })) (c.self.view_is ∙ made)
+    ∙ targets-more C sent c.args.target c.args.len
+
+pub returns-clause-of_transfers : goal.returns-clause-of_transfers
+returns-clause-of_transfers c C chosen t at long made =
+    c.add_to.ensures ∙ ap (λ m. revise_at m c.args.target (λ (u : Target). record u { scheduled = u.scheduled + c.args.len })) (c.self.view_is ∙ made)
+    ∙ (λ i. revise_at (target_table C (scheduled_to chosen)) (sym at i) (λ (u : Target). record u { scheduled = u.scheduled + sym long i }))
+    ∙ targets-chosen C chosen t

@@ -1,0 +1,53 @@
+use Rattle.std.proofs.Common.{refl, ap, sym, map, ◌∙◌, arith}
+use Rattle.bm_base.specs.Map.{keys, insert_all}
+use Rattle.bm_base.specs.Transfers.{node_number}
+use Rattle.bm_place.specs.Tables.{table, listed}
+use Rattle.bm_place.specs.Sources.{sender_table, transfers_by}
+use Rattle.bm_place.proofs.Tables.{row_made, row_made_of, made_past, made_past_of, none_behind}
+use Rattle.bm_place.proofs.streams.Streams.new.Goals as goal
+
+pub loop-place-init : goal.loop-place-init
+unfolding table
+loop-place-init c =
+    let C = c.args.topology.now.cluster in
+    record {
+      nodes = ap (λ m. insert_all m (listed (node_number C) (keys C.storages))) c.new-nodes.ensures;
+      counts = ap (λ m. insert_all m (listed (λ _. 0) (map (node_number C) (keys C.storages)))) c.new-counts.ensures;
+    }
+
+pub loop-place-preserved : goal.loop-place-preserved
+loop-place-preserved c =
+    let C = c.args.topology.now.cluster in
+    let at = sym c.storage_at.ensures ∙ c.in-Some.is in
+    record {
+      nodes = row_made (node_number C) (keys C.storages) c.loop-place.place (sender_table C (λ _. 0)).nodes c.loop-place.nodes.map c.insert.new.self.map c.in-Some.storage c.from.result c.node_number-node.result
+          at (c.from.ensures ∙ c.storage.view_is) c.node_number-node.ensures c.in_ok-insert.ensures.ok c.loop-place.invariant.nodes;
+      counts = row_made_of (λ _. 0) (keys C.storages) c.loop-place.place (sender_table C (λ _. 0)).counts (node_number C) c.loop-place.counts.map c.insert-in-loop-place.new.self.map c.in-Some.storage c.from-in-loop-place.result 0
+          at (c.from-in-loop-place.ensures ∙ c.node.view_is ∙ c.node_number-node.ensures) refl c.in_ok-insert-2.ensures.ok c.loop-place.invariant.counts;
+    }
+
+pub returns-in_default-clause-none_yet : goal.returns-in_default-clause-none_yet
+returns-in_default-clause-none_yet c =
+    let C = c.args.topology.now.cluster in
+    let past = sym c.storage_at.ensures ∙ c.in_default.is in
+    λ i. record {
+      nodes = made_past (node_number C) (keys C.storages) c.loop-place.place (sender_table C (λ _. 0)).nodes c.loop-place.nodes.map past c.loop-place.invariant.nodes i;
+      counts = made_past_of (λ _. 0) (keys C.storages) c.loop-place.place (sender_table C (λ _. 0)).counts (node_number C) c.loop-place.counts.map past c.loop-place.invariant.counts i;
+    }
+
+pub returns-in_default-clause-of_transfers : goal.returns-in_default-clause-of_transfers
+unfolding transfers_by
+returns-in_default-clause-of_transfers c = returns-in_default-clause-none_yet c
+
+pub returns-clause-none_yet : goal.returns-clause-none_yet
+returns-clause-none_yet c =
+    let C = c.args.topology.now.cluster in
+    let past = none_behind C.storages c.loop-place.place (omega (arith, c.loop-place-test.false, c.storage_count-place-end.ensures.count)) in
+    λ i. record {
+      nodes = made_past (node_number C) (keys C.storages) c.loop-place.place (sender_table C (λ _. 0)).nodes c.loop-place.nodes.map past c.loop-place.invariant.nodes i;
+      counts = made_past_of (λ _. 0) (keys C.storages) c.loop-place.place (sender_table C (λ _. 0)).counts (node_number C) c.loop-place.counts.map past c.loop-place.invariant.counts i;
+    }
+
+pub returns-clause-of_transfers : goal.returns-clause-of_transfers
+unfolding transfers_by
+returns-clause-of_transfers c = returns-clause-none_yet c

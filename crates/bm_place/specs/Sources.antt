@@ -1,0 +1,53 @@
+-- The storages of a cluster as sources of copies, by the nodes that send them.
+use Rattle.std.specs.Prelude.{ℕ, ◌+◌, refl, List, map, count_by}
+use Rattle.std.specs.declared.cmp.Ordering.{Ordering}
+use Rattle.std.specs.Ordering.{nat_cmp, ordering_then}
+use Rattle.std.specs.Option.{option_map_or}
+use Rattle.std.specs.Coded.{Coded, code_by, coded×, coded_ℕ}
+use Rattle.bm_base.specs.declared.commands.Transfer.{Transfer}
+use Rattle.bm_base.specs.Map.{Map, by_number, get, keys, revise_at, code}
+use Rattle.bm_base.specs.State.{Cluster}
+use Rattle.bm_base.specs.Replicas.{node_of, has_storage}
+use Rattle.bm_base.specs.Transfers.{node_number}
+use Rattle.bm_place.specs.declared.source.Source.{Source}
+use Rattle.bm_place.specs.Tables.{table}
+
+-- what a table of sources says
+pub record Senders : Type 0 where
+  -- by storage: its node
+  pub nodes : Map by_number ℕ
+  -- by node: of how many transfers it is the source
+  pub counts : Map by_number ℕ
+
+-- the most transfers of a round: 1,000 for each of 256 nodes
+abbrev pub max_transfers : ℕ
+max_transfers = 256000
+
+-- the table of a cluster, where `sends` says for each node of how many transfers it is the source
+abbrev pub sender_table : Cluster → (ℕ → ℕ) → Senders
+sender_table C sends = record { nodes = table (node_number C) (keys C.storages); counts = table sends (map (node_number C) (keys C.storages)) }
+
+-- of how many of the chosen transfers a node is the source
+unfoldable pub transfers_by : Cluster → List Transfer → ℕ → ℕ
+transfers_by C chosen n = count_by (λ t. has_storage C n t.source) chosen
+
+-- of how many transfers the node of a storage is the source, where `sends` says it for each node; 0 for an unknown storage
+abbrev pub streams_by : Cluster → (ℕ → ℕ) → ℕ → ℕ
+streams_by C sends s = option_map_or sends (node_of C s) 0
+
+-- one transfer more from a storage
+unfoldable pub with_one_from : ℕ → Senders → Senders
+with_one_from s S = option_map_or (λ n. record S { counts = revise_at S.counts n (λ k. k + 1) }) (get S.nodes s) S
+
+-- a storage as a source, where `streams` says of how many transfers its node is the source
+abbrev pub source_at : Cluster → (ℕ → ℕ) → ℕ → Source
+source_at C streams s = record { streams = streams s; node = node_number C s; storage = s }
+
+-- which goes before which: the same on rows as `source_cmp`
+abbrev pub cmp_sources : Source → Source → Ordering
+cmp_sources s t = ordering_then (nat_cmp s.streams t.streams) (ordering_then (nat_cmp s.node t.node) (nat_cmp s.storage t.storage))
+
+abbrev pub coded_senders : Coded Senders
+coded_senders =
+    code_by (Map by_number ℕ × Map by_number ℕ) (coded× (code coded_ℕ coded_ℕ) (code coded_ℕ coded_ℕ))
+    (λ S. (S.nodes, S.counts)) (λ t. record { nodes = t.0; counts = t.1 }) (λ _. refl)

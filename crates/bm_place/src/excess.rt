@@ -1,0 +1,170 @@
+// Which replicas of a block are in excess.
+ghost use Rattle.std.specs.Prelude.{◌≡◌, ◌==◌, ◌-◌, ◌+◌, not, filter, ◌≤◌, length, option_map, IsOk, IfOk, IfErr};
+ghost use Rattle.bm_base.specs.declared.refusal.Refusal.TheVariants.{Memory};
+ghost use Rattle.bm_base.specs.Excess as excess;
+ghost use Rattle.bm_base.specs.Lists.{least};
+ghost use Rattle.bm_base.specs.Map as map;
+ghost use Rattle.bm_base.specs.Replicas.{rack_of};
+ghost use Rattle.bm_place.specs.Candidates as candidates;
+ghost use Rattle.bm_place.specs.Tables as tables;
+ghost use Rattle.bm_place.specs.Scan as scanned;
+
+use crate::scheduled::remaining_on;
+use bm_base::{NumberMap, Rack, Refusal, StorageId};
+use bm_topo::Topology;
+use std::alloc::{AllocError, Global};
+
+/// A replica that may be in excess, in the order of choice but for the storage, of which the greater comes first.
+#[derive(Clone, Copy)]
+pub struct Candidate {
+    /// 0 where the rack holds another candidate, else 1.
+    pub class: u32,
+    pub remaining: u64,
+    pub storage: StorageId,
+}
+
+/// Which of a block's live replicas, told by their storages, are too many where `repl` are wanted, in the order of choice. One
+/// after another, first one whose rack holds another of those that are left, then one on whose storage fewer bytes remain,
+/// then the greater storage. An unknown storage has no rack and no remaining bytes; a storage that is named twice leaves as one.
+///
+/// The racks are counted once. Then each of the choices looks at each replica that is left once, by a look-up of its rack, its
+/// remaining bytes and the count; so (surplus x replicas) looks in all. Where none is too many it takes no memory; else
+/// `Memory` where a growth of its lists is refused.
+pub fn excess_of(
+    alloc: Global,
+    live: &[StorageId],
+    repl: u32,
+    topology: &Topology,
+) -> Result<Vec<StorageId>, Refusal>
+    ensures chosen { IfOk result (λ v. v.items ≡ excess.excess_of topology.now.cluster live.now repl) }
+    ensures enough { length live.now ≤ repl → IsOk result }
+    ensures refused { IfErr result (λ e. e ≡ Memory) }
+{
+    let surplus = live.len().saturating_sub(repl as usize);
+    let mut chosen = Vec::new(alloc);
+    if surplus == 0 {
+        return Ok(chosen);
+    }
+    let mut left = Vec::from_slice(alloc, live)?;
+    let mut racks = count_racks(alloc, live, topology)?;
+    for _round in 0..surplus {
+        let Some(next) = first_excess(&left, &racks, topology) else {
+            return Ok(chosen);
+        };
+        take_out(&mut left, &mut racks, next, topology);
+        chosen.push(next)?;
+    }
+    Ok(chosen)
+}
+
+/// How many of these storages stand on each rack.
+fn count_racks(
+    alloc: Global,
+    storages: &[StorageId],
+    topology: &Topology,
+) -> Result<NumberMap<usize>, AllocError>
+    ensures { IfOk result (λ m. candidates.CountsRacks topology.now.cluster storages.now m.map) }
+{
+    let mut counts = NumberMap::new(alloc);
+    for storage in storages {
+        let Some(rack) = topology.rack_of(*storage) else {
+            continue;
+        };
+        let count = count_on(&counts, rack);
+        counts.insert(u64::from(rack.0), count + 1)?;
+    }
+    Ok(counts)
+}
+
+#[tactic(auto, unfolding(crate::specs::Tables::count_at))]
+fn count_on(counts: &NumberMap<usize>, rack: Rack) -> usize
+    ensures { result ≡ tables.count_at counts.now.map rack }
+{
+    match counts.get(u64::from(rack.0)) {
+        Some(count) => count,
+        None => 0,
+    }
+}
+
+/// The candidate that is in excess before all others.
+fn first_excess(
+    left: &[StorageId],
+    racks: &NumberMap<usize>,
+    topology: &Topology,
+) -> Option<StorageId>
+    ensures { candidates.CountsRacks topology.now.cluster left.now racks.now.map → result ≡ least (excess.excess_cmp topology.now.cluster left.now) left.now }
+{
+    let mut best = None;
+    for storage in left {
+        let candidate = candidate_at(*storage, racks, topology);
+        if is_better(&candidate, &best) {
+            best = Some(candidate);
+        }
+    }
+    storage_of(&best)
+}
+
+fn storage_of(candidate: &Option<Candidate>) -> Option<StorageId>
+    ensures { result ≡ option_map (λ c. c.storage) candidate.now }
+{
+    match candidate {
+        Some(candidate) => Some(candidate.storage),
+        None => None,
+    }
+}
+
+fn candidate_at(storage: StorageId, racks: &NumberMap<usize>, topology: &Topology) -> Candidate
+    ensures { result ≡ candidates.candidate_at topology.now.cluster racks.now.map storage }
+{
+    let class = match topology.rack_of(storage) {
+        Some(rack) => { if count_on(racks, rack) > 1 { 0 } else { 1 } }
+        None => 1,
+    };
+    Candidate {
+        class,
+        remaining: remaining_on(topology, storage),
+        storage,
+    }
+}
+
+/// Whether a candidate comes before the best so far.
+fn is_better(candidate: &Candidate, best: &Option<Candidate>) -> bool
+    ensures { result ≡ scanned.is_better candidates.cmp_candidates best.now candidate.now }
+{
+    match best {
+        Some(best) => candidate
+            .class
+            .cmp(&best.class)
+            .then(candidate.remaining.cmp(&best.remaining))
+            .then(best.storage.cmp(&candidate.storage))
+            .is_lt(),
+        None => true,
+    }
+}
+
+/// Takes a storage out of those that are left.
+fn take_out(
+    left: &mut Vec<StorageId>,
+    racks: &mut NumberMap<usize>,
+    next: StorageId,
+    topology: &Topology,
+)
+    ensures left { left.new.items ≡ filter (λ s. not (s == next)) left.old.items }
+    ensures racks { candidates.CountsRacks topology.now.cluster left.old.items racks.old.map → candidates.CountsRacks topology.now.cluster left.new.items racks.new.map }
+{
+    let before = left.len();
+    left.retain(|storage| *storage != next);
+    let gone = before - left.len();
+    if let Some(rack) = topology.rack_of(next) {
+        lower(racks, rack, gone);
+    }
+}
+
+/// So many fewer stand on a rack.
+fn lower(counts: &mut NumberMap<usize>, rack: Rack, gone: usize)
+    ensures { counts.new.map ≡ map.revise_at counts.old.map rack (λ n. n - gone) }
+{
+    if let Some(count) = counts.get(u64::from(rack.0)) {
+        counts.replace(u64::from(rack.0), count.saturating_sub(gone));
+    }
+}

@@ -1,0 +1,23 @@
+//! Placement: which replicas of a block are in excess, and from where and to where its next copy is made.
+//!
+//! A round makes both tables, [`Streams`] and [`Scheduled`], once of the cluster. For each copy that is wished for it asks
+//! [`least_source`] and [`least_target`], and where both answer it adds the transfer to both tables. Live replicas are the good
+//! ones that are not in excess. The storages handed in are of the cluster, and a list names a storage once.
+#![tactic(auto)]
+
+mod excess;
+mod few;
+mod scheduled;
+mod source;
+mod standing;
+mod streams;
+mod target;
+
+pub use excess::excess_of;
+pub use scheduled::Scheduled;
+pub use source::least_source;
+pub use streams::Streams;
+pub use target::least_target;
+
+#[cfg(test)]
+mod tests;

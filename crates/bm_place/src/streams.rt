@@ -1,0 +1,102 @@
+// Of how many transfers each node is the source in a round.
+ghost use Rattle.std.specs.Prelude.{◌≡◌, ◌<◌, ◌+◌, if◌then◌else◌, ℕ, List, [], ◌∷◌, ◌++◌, IfOk, IfErr};
+ghost use Rattle.std.specs.Option.{IfSome};
+ghost use Rattle.bm_base.specs.declared.refusal.Refusal.TheVariants.{Memory};
+ghost use Rattle.bm_base.specs.declared.commands.Transfer.{Transfer};
+ghost use Rattle.bm_base.specs.State.{Cluster};
+ghost use Rattle.bm_base.specs.Map as map;
+ghost use Rattle.bm_base.specs.Replicas.{has_storage};
+ghost use Rattle.bm_base.specs.Transfers as transfers;
+ghost use Rattle.bm_place.specs.Sources as sources;
+ghost use Rattle.bm_place.specs.Tables as tables;
+
+use bm_base::{NodeId, NumberMap, Refusal, StorageId};
+use bm_topo::Topology;
+use std::alloc::Global;
+use std::marker::Model;
+
+/// Of how many transfers each node is the source in a round.
+///
+/// Made once for a round: it keeps what the cluster was when it was made, and knows nothing of transfers of earlier rounds. A
+/// contract sees for each storage its node, and a count for each of these nodes.
+#[derive(Drop)]
+pub struct Streams {
+    pub(crate) nodes: NumberMap<NodeId>,
+    counts: NumberMap<u32>,
+}
+
+impl Model for Streams {
+    ghost use Rattle.bm_place.specs.Sources.{Senders, coded_senders};
+
+    ghost Value = { Senders };
+
+    ghost coded = { coded_senders };
+
+    ghost view = { λ s. record { nodes = s.nodes.map; counts = s.counts.map } };
+}
+
+impl Streams {
+    /// No node is a source yet. `Memory` where a growth of the tables is refused. Looks up each storage of the cluster once.
+    pub fn new(alloc: Global, topology: &Topology) -> Result<Streams, Refusal>
+        ensures none_yet { IfOk result (λ t. t ≡ sources.sender_table topology.now.cluster (λ _. 0)) }
+        ensures of_transfers { IfOk result (λ t. t ≡ sources.sender_table topology.now.cluster (sources.transfers_by topology.now.cluster [])) }
+        ensures refused { IfErr result (λ e. e ≡ Memory) }
+    {
+        let mut nodes = NumberMap::new(alloc);
+        let mut counts = NumberMap::new(alloc);
+        for place in 0..topology.storage_count() {
+            let Some(storage) = topology.storage_at(place) else {
+                return Ok(Streams { nodes, counts });
+            };
+            let node = node_number(topology, storage);
+            nodes.insert(u64::from(storage.0), node)?;
+            counts.insert(u64::from(node.0), 0)?;
+        }
+        Ok(Streams { nodes, counts })
+    }
+
+    /// Counts one transfer more for the node of `source`; nothing for an unknown storage. The node is the source of fewer than
+    /// 256,000 so far, as that of what [`least_source`](crate::least_source) just found. Two look-ups. Takes no memory.
+    pub fn add(&mut self, source: StorageId)
+        requires countable { IfSome (map.get self.old.nodes source) (λ n. tables.count_at self.old.counts n < sources.max_transfers) }
+        ensures after { self.new ≡ sources.with_one_from source self.old }
+        ensures sends { (C : Cluster) (sends : ℕ → ℕ) → self.old ≡ sources.sender_table C sends → self.new ≡ sources.sender_table C (λ n. sends n + (if has_storage C n source then 1 else 0)) }
+        ensures of_transfers { (C : Cluster) (chosen : List Transfer) (t : Transfer) → t.source ≡ source → self.old ≡ sources.sender_table C (sources.transfers_by C chosen) → self.new ≡ sources.sender_table C (sources.transfers_by C (chosen ++ t ∷ [])) }
+    {
+        if let Some(node) = self.nodes.get(u64::from(source.0)) {
+            add_one(&mut self.counts, node);
+        }
+    }
+
+    /// Of how many transfers a node is the source.
+    #[tactic(auto, unfolding(crate::specs::Tables::count_at))]
+    pub(crate) fn count_of(&self, node: NodeId) -> u32
+        ensures { result ≡ tables.count_at self.now.counts node }
+    {
+        match self.counts.get(u64::from(node.0)) {
+            Some(count) => count,
+            None => 0,
+        }
+    }
+}
+
+/// Counts one more transfer from a node, if it is there.
+fn add_one(counts: &mut NumberMap<u32>, node: NodeId)
+    requires { tables.count_at counts.old.map node < sources.max_transfers }
+    ensures { counts.new.map ≡ map.revise_at counts.old.map node (λ k. k + 1) }
+{
+    if let Some(count) = counts.get(u64::from(node.0)) {
+        counts.replace(u64::from(node.0), count + 1);
+    }
+}
+
+/// The node of a storage; 0 of an unknown one.
+#[tactic(auto, unfolding(bm_base::specs::Transfers::node_number))]
+pub(crate) fn node_number(topology: &Topology, storage: StorageId) -> NodeId
+    ensures { result ≡ transfers.node_number topology.now.cluster storage }
+{
+    match topology.node_of(storage) {
+        Some(node) => node,
+        None => NodeId(0),
+    }
+}

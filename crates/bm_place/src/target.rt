@@ -1,0 +1,129 @@
+// The target of a copy.
+ghost use Rattle.std.specs.Prelude.{◌≡◌, ◌≤◌, ◌+◌, ◌&&◌, true, false, ℕ, List, Some, option_map};
+ghost use Rattle.std.specs.Option.{IfSome};
+ghost use Rattle.bm_base.specs.declared.commands.Transfer.{Transfer};
+ghost use Rattle.bm_base.specs.Map as map;
+ghost use Rattle.bm_base.specs.Lists.{has};
+ghost use Rattle.bm_base.specs.Replicas.{node_of, has_storage};
+ghost use Rattle.bm_base.specs.Excess.{remaining};
+ghost use Rattle.bm_base.specs.Transfers as transfers;
+ghost use Rattle.bm_place.specs.Least.{IsLeastOf};
+ghost use Rattle.bm_place.specs.Targets as targets;
+ghost use Rattle.bm_place.specs.Scan as scanned;
+
+use crate::scheduled::{Scheduled, Target};
+use crate::standing::Standing;
+use bm_base::{Level, StorageId};
+use bm_topo::Topology;
+
+/// The storage to which a block of `len` bytes is copied at this level. `held` are the storages that hold the block or will,
+/// `barred` those on whose nodes no copy may be put; an unknown one has no rack, and bars nothing.
+///
+/// A storage may be taken where `len` fits beside the bytes that are sent to it already, and its node is not barred. Where
+/// `held` stands on one rack, another rack goes first, and for a badly distributed block no other may be taken; where `held` is
+/// just two storages on two racks, these racks go first. Then more room, then the lesser storage. `None` only where none may
+/// be taken.
+///
+/// `scheduled` was made of the same cluster; else nothing is said of the answer. Goes over `held` once, by a look-up each, and
+/// over the storages of the cluster once: room and class take constant time, and whether the node is barred is asked last, only
+/// where the storage would be taken, by a look-up for each of `barred`. Takes no memory.
+pub fn least_target(
+    held: &[StorageId],
+    barred: &[StorageId],
+    len: u64,
+    level: Level,
+    topology: &Topology,
+    scheduled: &Scheduled,
+) -> Option<StorageId>
+    ensures choice { (sent : ℕ → ℕ) → scheduled.now ≡ targets.target_table topology.now.cluster sent → result ≡ transfers.least_target_by topology.now.cluster sent level held.now barred.now len }
+    ensures least { (sent : ℕ → ℕ) → scheduled.now ≡ targets.target_table topology.now.cluster sent → IsLeastOf (transfers.target_cmp topology.now.cluster sent held.now) (transfers.is_target topology.now.cluster sent level held.now barred.now len) (map.keys topology.now.cluster.storages) result }
+    ensures room { (sent : ℕ → ℕ) → scheduled.now ≡ targets.target_table topology.now.cluster sent → IfSome result (λ s. len + sent s ≤ remaining topology.now.cluster s) }
+    ensures fits { (sent : ℕ → ℕ) → scheduled.now ≡ targets.target_table topology.now.cluster sent → IfSome result (λ s. IfSome (map.get scheduled.now s) (λ t. len + t.scheduled ≤ t.remaining)) }
+    ensures unbarred_node { (sent : ℕ → ℕ) → scheduled.now ≡ targets.target_table topology.now.cluster sent → IfSome result (λ s. (b n : ℕ) → has barred.now b ≡ true → node_of topology.now.cluster b ≡ Some n → has_storage topology.now.cluster n s ≡ false) }
+    ensures other_rack { (sent : ℕ → ℕ) → scheduled.now ≡ targets.target_table topology.now.cluster sent → targets.LeavesRack topology.now.cluster sent level held.now barred.now len result }
+    ensures of_transfers { (chosen : List Transfer) → scheduled.now ≡ targets.target_table topology.now.cluster (transfers.scheduled_to chosen) → result ≡ transfers.least_target topology.now.cluster chosen level held.now barred.now len }
+{
+    let standing = Standing::of(held, topology);
+    let rows = scheduled.rows();
+    let mut best = None;
+    for row in rows {
+        if is_taken(&row.1, &best, &standing, topology, barred, len, level) {
+            best = Some(row.1);
+        }
+    }
+    storage_of(&best)
+}
+
+fn storage_of(target: &Option<Target>) -> Option<StorageId>
+    ensures { result ≡ option_map (λ t. t.storage) target.now }
+{
+    match target {
+        Some(target) => Some(target.storage),
+        None => None,
+    }
+}
+
+/// Whether a target may be taken, and comes before the best so far.
+fn is_taken(
+    target: &Target,
+    best: &Option<Target>,
+    standing: &Standing,
+    topology: &Topology,
+    barred: &[StorageId],
+    len: u64,
+    level: Level,
+) -> bool
+    ensures { result ≡ (targets.is_free topology.now.cluster standing.now level barred.now len target.now && scanned.is_better (targets.cmp_targets standing.now) best.now target.now) }
+{
+    is_open(target, standing, len, level)
+        && is_better(target, best, standing)
+        && !is_barred(target, topology, barred)
+}
+
+/// Whether the length fits, and, for a badly distributed block that is held on one rack, the rack is another.
+fn is_open(target: &Target, standing: &Standing, len: u64, level: Level) -> bool
+    ensures { result ≡ targets.is_open standing.now level len target.now }
+{
+    if target.scheduled > target.remaining || len > target.remaining - target.scheduled {
+        return false;
+    }
+    !(level == Level::BadlyDistributed
+        && standing.racks.is_one()
+        && standing.class_of(target.rack) == 1)
+}
+
+/// Whether a target comes before the best so far.
+fn is_better(target: &Target, best: &Option<Target>, standing: &Standing) -> bool
+    ensures { result ≡ scanned.is_better (targets.cmp_targets standing.now) best.now target.now }
+{
+    match best {
+        Some(best) => {
+            let class = standing.class_of(target.rack);
+            let best_class = standing.class_of(best.rack);
+            class
+                .cmp(&best_class)
+                .then(room_on(best).cmp(&room_on(target)))
+                .then(target.storage.cmp(&best.storage))
+                .is_lt()
+        }
+        None => true,
+    }
+}
+
+/// The remaining bytes beside those that are sent to it.
+fn room_on(target: &Target) -> u64
+    ensures { result ≡ targets.room_on target.now }
+{
+    target.remaining.saturating_sub(target.scheduled)
+}
+
+/// Whether a target stands on the node of one of these storages.
+#[tactic(auto, unfolding(crate::specs::Targets::is_barred_by))]
+fn is_barred(target: &Target, topology: &Topology, barred: &[StorageId]) -> bool
+    ensures { result ≡ targets.is_barred_by topology.now.cluster barred.now target.now }
+{
+    barred.iter().any(|storage| match topology.node_of(*storage) {
+        Some(node) => target.node == Some(node),
+        None => false,
+    })
+}
