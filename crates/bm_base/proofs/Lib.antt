@@ -7,3 +7,4 @@ pub mod Ties
 pub mod Keeping
 pub mod Differences
 pub mod Distinct
+pub mod SlotLists

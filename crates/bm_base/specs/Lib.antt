@@ -6,6 +6,8 @@ pub mod OfSorted
 pub mod Place
 pub mod Table
 pub mod Lists
+pub mod SlotLists
+pub mod SlotLinks
 -- The state, and words on it.
 pub mod State
 pub mod Codes

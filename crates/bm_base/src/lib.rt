@@ -15,6 +15,7 @@ mod places;
 mod refusal;
 mod replica;
 mod replica_map;
+mod slot_link;
 mod sorted;
 mod storage;
 
@@ -30,4 +31,5 @@ pub use places::Places;
 pub use refusal::Refusal;
 pub use replica::{BlockInfo, Marks, Replica, ReplicaId, Stamp, Tag};
 pub use replica_map::ReplicaMap;
+pub use slot_link::{END_OF_LINKS, NO_LINK, SlotLink};
 pub use storage::StorageInfo;

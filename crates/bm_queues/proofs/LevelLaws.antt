@@ -1,0 +1,189 @@
+-- Level lists: that they are lawful, and that a growth and a change of level keep them so.
+use Rattle.std.proofs.Common.{◌≡◌, ◌≢◌, ℕ, zero, suc, ◌<◌, ◌≤◌, ◌-◌, ◌++◌, List, [], ◌∷◌, length, get_or, set, take, replicate, Option, Some, None, inl, inr, subst, sym, ap, ◌∙◌, refl, arith}
+use Rattle.std.specs.Prelude.{if◌then◌else◌, ◌==◌, ◌↔◌, option_and_then}
+use Rattle.std.proofs.lemmas.Bool.{cases_eq, eq-eqb, ne_eqb}
+use Rattle.std.proofs.lemmas.Option.{none-some, same_Some}
+use Rattle.std.proofs.lemmas.List.{get_or-set_same, get_or-set_other, length-set, take_all}
+use Rattle.bm_base.specs.declared.level.Level.{Level}
+use Rattle.bm_base.specs.declared.level.Level.TheVariants.{Highest, VeryUnderReplicated, UnderReplicated, BadlyDistributed, NoLiveReplica}
+use Rattle.bm_base.specs.Levels.{level_number}
+use Rattle.bm_queues.specs.LevelBytes.{level_of_byte}
+use Rattle.bm_base.specs.SlotLists.{Among, without, slot_after}
+use Rattle.bm_queues.specs.Links.{list_from, AreLinks}
+use Rattle.bm_queues.specs.Levels.{Levels, IsLawful, AreLevels, five, with_room}
+use Rattle.bm_base.proofs.SlotLists.{Among-without, Among-without_other, without-gone, without-absent}
+
+pub five-at : (k : ℕ) (next back : List (Option ℕ)) (l : Level) → get_or (five k next back) (level_number l) [] ≡ list_from k next back (level_number l)
+five-at k next back Highest = refl
+five-at k next back VeryUnderReplicated = refl
+five-at k next back UnderReplicated = refl
+five-at k next back BadlyDistributed = refl
+five-at k next back NoLiveReplica = refl
+
+pub level_below : (l : Level) → level_number l < 5
+level_below Highest = omega arith
+level_below VeryUnderReplicated = omega arith
+level_below UnderReplicated = omega arith
+level_below BadlyDistributed = omega arith
+level_below NoLiveReplica = omega arith
+
+back_again : (l : Level) → level_of_byte (level_number l) ≡ Some l
+back_again Highest = refl
+back_again VeryUnderReplicated = refl
+back_again UnderReplicated = refl
+back_again BadlyDistributed = refl
+back_again NoLiveReplica = refl
+
+pub same_level : (l m : Level) → level_number l ≡ level_number m → l ≡ m
+same_level l m same = same_Some l m (sym (back_again l) ∙ ap level_of_byte same ∙ back_again m)
+
+-- each number below five is a level's
+level_with : (n : ℕ) → n < 5 → (l : Level) × (level_number l ≡ n)
+level_with zero h = (Highest, refl)
+level_with (suc zero) h = (VeryUnderReplicated, refl)
+level_with (suc (suc zero)) h = (UnderReplicated, refl)
+level_with (suc (suc (suc zero))) h = (BadlyDistributed, refl)
+level_with (suc (suc (suc (suc zero)))) h = (NoLiveReplica, refl)
+level_with (suc (suc (suc (suc (suc n))))) h = absurd (omega arith)
+
+module _ (k : ℕ) (next back : List (Option ℕ)) (levels : List (Option Level)) (are : AreLevels k next back levels) where
+  pub low : (l : Level) → level_number l < k
+  low l = let five_heads = are.heads in let below = level_below l in omega (arith, five_heads, below)
+
+  pub lawful-levels : IsLawful (record { levels = levels; lists = five k next back })
+  lawful-levels = record {
+    distinct = λ l. rw (five-at k next back l) (are.links.distinct (level_number l) (low l));
+    exact = λ l slot. rw (five-at k next back l) (are.known l slot, are.listed l slot);
+  }
+
+  -- lists that stay, with room for more slots
+  pub kept-levels : (k' : ℕ) (next' back' : List (Option ℕ)) (levels' : List (Option Level)) → k' ≡ k → AreLinks k' next' back' → length levels' ≤ length back'
+      → ((l : ℕ) → l < k → list_from k' next' back' l ≡ list_from k next back l) → ((slot : ℕ) → get_or levels' slot None ≡ get_or levels slot None) → AreLevels k' next' back' levels'
+  kept-levels k' next' back' levels' heads links room same same_levels =
+      let P : List ℕ → ℕ → Type 0 = λ xs slot. Among slot xs in
+      record {
+        heads = heads ∙ are.heads;
+        links = links;
+        room = room;
+        listed = λ l slot is. subst (λ xs. Among slot xs) (sym (same (level_number l) (low l))) (are.listed l slot (sym (same_levels slot) ∙ is));
+        known = λ l slot there. same_levels slot ∙ are.known l slot (subst (λ xs. Among slot xs) (same (level_number l) (low l)) there);
+      }
+
+  -- a slot given another level
+  module _ (slot : ℕ) (level : Option Level) (k' : ℕ) (next' back' : List (Option ℕ)) (heads : k' ≡ k) (links : AreLinks k' next' back') (room : length back' ≡ length back) (inside : slot < length levels)
+      (others : (l : Level) (s : ℕ) → s ≢ slot → Among s (list_from k' next' back' (level_number l)) ↔ Among s (list_from k next back (level_number l)))
+      (own : (l : Level) → Among slot (list_from k' next' back' (level_number l)) ↔ (level ≡ Some l)) where
+    pub changed-levels : AreLevels k' next' back' (set levels slot level)
+    changed-levels = record {
+      heads = heads ∙ are.heads;
+      links = links;
+      room = let old = are.room in let len = length-set levels slot level in omega (arith, old, len, room);
+      listed = λ l s is. elim (cases_eq s slot) [
+        | inl same ↦
+            let at : level ≡ Some l = sym (get_or-set_same levels slot level None inside) ∙ ap (λ i. get_or (set levels slot level) i None) (sym same) ∙ is in
+            (let P : ℕ → Type 0 = λ i. Among i (list_from k' next' back' (level_number l)) in subst P (sym same) ((own l).1 at))
+        | inr differs ↦ (others l s differs).1 (are.listed l s (sym (get_or-set_other levels slot s level None differs) ∙ is))
+      ];
+      known = λ l s there. elim (cases_eq s slot) [
+        | inl same ↦
+            let P : ℕ → Type 0 = λ i. Among i (list_from k' next' back' (level_number l)) in
+            ap (λ i. get_or (set levels slot level) i None) same ∙ get_or-set_same levels slot level None inside ∙ (own l).0 (subst P same there)
+        | inr differs ↦ get_or-set_other levels slot s level None differs ∙ are.known l s ((others l s differs).0 there)
+      ];
+    }
+
+  module _ (slot : ℕ) (inside : slot < length levels) (k' : ℕ) (next' back' : List (Option ℕ)) (heads : k' ≡ k) (links : AreLinks k' next' back') (room : length back' ≡ length back) where
+    -- taken out of all lists
+    pub cleared-levels : ((l : ℕ) → l < k → list_from k' next' back' l ≡ without slot (list_from k next back l)) → AreLevels k' next' back' (set levels slot None)
+    cleared-levels lists =
+        changed-levels slot None k' next' back' heads links room inside
+        (λ l s differs. rw (lists (level_number l) (low l)) (
+          λ h. Among-without slot s (list_from k next back (level_number l)) h,
+          λ h. Among-without_other slot s (list_from k next back (level_number l)) h differs,
+        ))
+        (λ l. rw (lists (level_number l) (low l)) (
+          λ h. absurd (without-gone slot (list_from k next back (level_number l)) (are.links.distinct (level_number l) (low l)) h),
+          λ e. absurd (none-some l e),
+        ))
+
+    -- and put at the front of one
+    pub placed-levels : (t : Level) → ((l : ℕ) → l < k → list_from k' next' back' l ≡ (if l == level_number t then slot ∷ without slot (list_from k next back l) else without slot (list_from k next back l)))
+        → AreLevels k' next' back' (set levels slot (Some t))
+    placed-levels t lists =
+        changed-levels slot (Some t) k' next' back' heads links room inside
+        (λ l s differs. rw (lists (level_number l) (low l)) (other l s differs))
+        (λ l. rw (lists (level_number l) (low l)) (mine l))
+      where
+        other : (l : Level) (s : ℕ) → s ≢ slot → Among s (if level_number l == level_number t then slot ∷ without slot (list_from k next back (level_number l)) else without slot (list_from k next back (level_number l))) ↔ Among s (list_from k next back (level_number l))
+        other l s differs =
+            elim (cases_eq (level_number l) (level_number t)) [
+              | inl same ↦ rw (eq-eqb (level_number l) (level_number t) same) (
+                λ h. elim h [ inl e ↦ absurd (differs e) | inr later ↦ Among-without slot s (list_from k next back (level_number l)) later ],
+                λ h. inr (Among-without_other slot s (list_from k next back (level_number l)) h differs),
+              )
+              | inr apart ↦ rw (ne_eqb (level_number l) (level_number t) apart) (
+                λ h. Among-without slot s (list_from k next back (level_number l)) h,
+                λ h. Among-without_other slot s (list_from k next back (level_number l)) h differs,
+              )
+            ]
+
+        mine : (l : Level) → Among slot (if level_number l == level_number t then slot ∷ without slot (list_from k next back (level_number l)) else without slot (list_from k next back (level_number l))) ↔ (Some t ≡ Some l)
+        mine l =
+            elim (cases_eq (level_number l) (level_number t)) [
+              | inl same ↦ rw (eq-eqb (level_number l) (level_number t) same) (
+                λ h. ap Some (sym (same_level l t same)),
+                λ e. inl refl,
+              )
+              | inr apart ↦ rw (ne_eqb (level_number l) (level_number t) apart) (
+                λ h. absurd (without-gone slot (list_from k next back (level_number l)) (are.links.distinct (level_number l) (low l)) h),
+                λ e. absurd (apart (ap level_number (sym (same_Some t l e)))),
+              )
+            ]
+
+    -- taken out of all lists, and put at the front of that of a number
+    pub moved-levels : (t : Level) (n : ℕ) → n ≡ level_number t → (level : Option Level) → level ≡ Some t → (k'' : ℕ) (next'' back'' : List (Option ℕ)) → k'' ≡ k
+        → ((l : ℕ) → l < k → list_from k'' next'' back'' l ≡ without slot (list_from k next back l))
+        → ((l : ℕ) → l < k'' → list_from k' next' back' l ≡ (if l == n then slot ∷ list_from k'' next'' back'' l else list_from k'' next'' back'' l)) → AreLevels k' next' back' (set levels slot level)
+    moved-levels t n number level is k'' next'' back'' middle taken put =
+        rw is (placed-levels t (λ l below. rw (← taken l below, ← number) (put l (omega (arith, below, middle)))))
+
+  -- the list of a level that the slot has not
+  pub other-list : (slot : ℕ) (l : Level) → Some l ≢ get_or levels slot None → without slot (list_from k next back (level_number l)) ≡ list_from k next back (level_number l)
+  other-list slot l not_old = without-absent slot (list_from k next back (level_number l)) (λ h. not_old (sym (are.known l slot h)))
+
+  pub others-none : (k' : ℕ) (next' back' : List (Option ℕ)) (slot : ℕ) → ((l : ℕ) → l < k → list_from k' next' back' l ≡ without slot (list_from k next back l))
+      → (l : Level) → Some l ≢ get_or levels slot None → get_or (five k' next' back') (level_number l) [] ≡ get_or (five k next back) (level_number l) []
+  others-none k' next' back' slot lists l not_old = five-at k' next' back' l ∙ lists (level_number l) (low l) ∙ other-list slot l not_old ∙ sym (five-at k next back l)
+
+  pub others-some : (k' : ℕ) (next' back' : List (Option ℕ)) (slot : ℕ) (t : Level) (n : ℕ) → n ≡ level_number t → (level : Option Level) → level ≡ Some t → (k'' : ℕ) (next'' back'' : List (Option ℕ)) → k'' ≡ k
+      → ((l : ℕ) → l < k → list_from k'' next'' back'' l ≡ without slot (list_from k next back l))
+      → ((l : ℕ) → l < k'' → list_from k' next' back' l ≡ (if l == n then slot ∷ list_from k'' next'' back'' l else list_from k'' next'' back'' l))
+      → (l : Level) → Some l ≢ level → Some l ≢ get_or levels slot None → get_or (five k' next' back') (level_number l) [] ≡ get_or (five k next back) (level_number l) []
+  others-some k' next' back' slot t n number level is k'' next'' back'' middle taken put l not_new not_old =
+      let below = low l in
+      let apart : level_number l ≢ n = λ e. not_new (ap Some (same_level l t (e ∙ number)) ∙ sym is) in
+      let here = put (level_number l) (omega (arith, below, middle)) in
+      let stays : list_from k' next' back' (level_number l) ≡ list_from k'' next'' back'' (level_number l) = here ∙ (rw (ne_eqb (level_number l) n apart) refl) in
+      five-at k' next' back' l ∙ stays
+      ∙ taken (level_number l) below ∙ other-list slot l not_old ∙ sym (five-at k next back l)
+
+  -- the slot behind a slot in the list of its level
+  pub next-levels : (slot : ℕ) (r : Option ℕ) → ((l : ℕ) → l < k → Among slot (list_from k next back l) → r ≡ slot_after slot (list_from k next back l))
+      → (((l : ℕ) → l < k → Among slot (list_from k next back l) → ⊥) → r ≡ None)
+      → r ≡ option_and_then (λ l. slot_after slot (get_or (five k next back) (level_number l) [])) (get_or levels slot None)
+  next-levels slot r listed absent = by (get_or levels slot None) refl
+    where
+      by : (o : Option Level) → get_or levels slot None ≡ o → r ≡ option_and_then (λ l. slot_after slot (get_or (five k next back) (level_number l) [])) o
+      by None none = absent (λ n below there.
+          let heads = are.heads in
+          let l = level_with n (omega (arith, below, heads)) in
+          let P : ℕ → Type 0 = λ m. Among slot (list_from k next back m) in
+          none-some l.0 (sym none ∙ are.known l.0 slot (subst P (sym l.1) there)))
+      by (Some l) some = rw (five-at k next back l) (listed (level_number l) (low l) (are.listed l slot some))
+
+  -- what is seen after a growth
+  pub grown-view : (k' : ℕ) (next' back' : List (Option ℕ)) (levels' : List (Option Level)) → ((l : ℕ) → l < k → list_from k' next' back' l ≡ list_from k next back l) → (n : ℕ) → length levels < n
+      → levels' ≡ take n levels ++ replicate (n - length levels) None → ◌≡◌ {A = Levels} (record { levels = levels'; lists = five k' next' back' }) (with_room (record { levels = levels; lists = five k next back }) n)
+  grown-view k' next' back' levels' same n more is =
+      let heads = are.heads in
+      rw (is, take_all n levels (omega (arith, more)), same 0 (omega (arith, heads)), same 1 (omega (arith, heads)), same 2 (omega (arith, heads)), same 3 (omega (arith, heads)), same 4 (omega (arith, heads))) refl

@@ -1,0 +1,5 @@
+pub mod Chains
+pub mod Held
+pub mod Calls
+pub mod LevelLaws
+pub mod MemberLaws

@@ -1,0 +1,47 @@
+use Rattle.std.proofs.Common.{◌≡◌, ◌<◌, None, ◌∙◌, arith}
+use Rattle.bm_base.proofs.SlotLists.{without-gone}
+use Rattle.bm_queues.proofs.LevelLaws.{lawful-levels, cleared-levels, moved-levels, others-none, others-some}
+use Rattle.bm_queues.proofs.level_lists.LevelLists.set.Goals as goal
+
+pub returns-then-is-clause-lawful : goal.returns-then-is-clause-lawful
+returns-then-is-clause-lawful c = rw (← c.self.view_is) (lawful-levels c.self.inside.lists.heads c.self.inside.lists.next.items c.self.inside.lists.previous.items c.self.inside.levels.items c.self.invariant)
+
+pub link_front-requires-clause-absent : goal.link_front-requires-clause-absent
+link_front-requires-clause-absent c l low there =
+    let heads = c.unlink.ensures.heads in
+    let below : l < c.self.inside.lists.heads = omega (arith, low, heads) in
+    without-gone c.args.slot _ (c.self.invariant.links.distinct l below) (rw (c.unlink.ensures.lists l below) at there)
+
+pub invariant_of-self : goal.invariant_of-self
+invariant_of-self c =
+    let inside = rw (← c.self.view_is) at c.requires in
+    moved-levels c.self.inside.lists.heads c.self.inside.lists.next.items c.self.inside.lists.previous.items c.self.inside.levels.items c.self.invariant
+    c.args.slot inside c.link_front.new.self.heads c.link_front.new.self.next.items c.link_front.new.self.previous.items (c.link_front.ensures.heads ∙ c.unlink.ensures.heads) c.link_front.ensures.lawful (c.link_front.ensures.room ∙ c.unlink.ensures.room)
+    c.in-Some.wanted c.number.result c.number.ensures c.of-byte.result (c.of-byte.ensures ∙ c.in-Some.is) c.unlink.new.self.heads c.unlink.new.self.next.items c.unlink.new.self.previous.items c.unlink.ensures.heads c.unlink.ensures.lists c.link_front.ensures.lists
+
+pub invariant_of-self-in_default : goal.invariant_of-self-in_default
+invariant_of-self-in_default c =
+    let inside = rw (← c.self.view_is) at c.requires in
+    let none : c.of-byte.result ≡ None = c.of-byte.ensures ∙ c.in_default.is in
+    rw none
+    (cleared-levels c.self.inside.lists.heads c.self.inside.lists.next.items c.self.inside.lists.previous.items c.self.inside.levels.items c.self.invariant
+    c.args.slot inside c.unlink.new.self.heads c.unlink.new.self.next.items c.unlink.new.self.previous.items c.unlink.ensures.heads c.unlink.ensures.lawful c.unlink.ensures.room c.unlink.ensures.lists)
+
+pub returns-in-Some-clause-others : goal.returns-in-Some-clause-others
+returns-in-Some-clause-others c l not_new not_old =
+    let not_was = rw (← c.self.view_is) at not_old in
+    rw (← c.self.view_is)
+    (others-some c.self.inside.lists.heads c.self.inside.lists.next.items c.self.inside.lists.previous.items c.self.inside.levels.items c.self.invariant
+    c.link_front.new.self.heads c.link_front.new.self.next.items c.link_front.new.self.previous.items c.args.slot c.in-Some.wanted c.number.result c.number.ensures c.args.level c.in-Some.is c.unlink.new.self.heads c.unlink.new.self.next.items c.unlink.new.self.previous.items c.unlink.ensures.heads c.unlink.ensures.lists c.link_front.ensures.lists l not_new not_was)
+
+pub returns-in_default-clause-others : goal.returns-in_default-clause-others
+returns-in_default-clause-others c l not_new not_old =
+    let not_was = rw (← c.self.view_is) at not_old in
+    rw (← c.self.view_is)
+    (others-none c.self.inside.lists.heads c.self.inside.lists.next.items c.self.inside.lists.previous.items c.self.inside.levels.items c.self.invariant c.unlink.new.self.heads c.unlink.new.self.next.items c.unlink.new.self.previous.items c.args.slot c.unlink.ensures.lists l not_was)
+
+pub returns-in-Some-clause-lawful : goal.returns-in-Some-clause-lawful
+returns-in-Some-clause-lawful c = lawful-levels _ _ _ _ (invariant_of-self c)
+
+pub returns-in_default-clause-lawful : goal.returns-in_default-clause-lawful
+returns-in_default-clause-lawful c = lawful-levels _ _ _ _ (invariant_of-self-in_default c)

@@ -1,0 +1,40 @@
+use Rattle.std.proofs.Common.{◌<◌, length, sym, ap, ◌∙◌, arith}
+use Rattle.std.proofs.lemmas.Bool.{false≢true}
+use Rattle.bm_base.specs.SlotLists.{Among}
+use Rattle.bm_queues.specs.Links.{list_from}
+use Rattle.bm_base.proofs.SlotLists.{length-without, without-absent}
+use Rattle.bm_queues.proofs.MemberLaws.{only_list, gone-without, others-without}
+use Rattle.bm_queues.proofs.slot_set.SlotSet.remove.Goals as goal
+
+pub invariant_of-self : goal.invariant_of-self
+invariant_of-self c =
+    let heads = c.self.invariant.heads in
+    let counted = c.self.invariant.counted in
+    let low : 0 < c.self.inside.lists.heads = omega (arith, heads) in
+    let there = only_list c.self.inside.lists.heads c.self.inside.lists.next.items c.self.inside.lists.previous.items heads c.args.slot (c.is_listed.ensures.listed c.if-is_listed.true) in
+    let taken = ap length (c.unlink.ensures.lists 0 low) in
+    let len = length-without c.args.slot (list_from c.self.inside.lists.heads c.self.inside.lists.next.items c.self.inside.lists.previous.items 0) there in
+    record {
+      heads = c.unlink.ensures.heads ∙ heads;
+      links = c.unlink.ensures.lawful;
+      counted = omega (arith, counted, taken, len);
+    }
+
+pub returns-else-is_listed-clause-after : goal.returns-else-is_listed-clause-after
+returns-else-is_listed-clause-after c =
+    let heads = c.self.invariant.heads in
+    let low : 0 < c.self.inside.lists.heads = omega (arith, heads) in
+    let absent : Among c.args.slot (list_from c.self.inside.lists.heads c.self.inside.lists.next.items c.self.inside.lists.previous.items 0) → ⊥ = λ h. false≢true (sym c.if-is_listed.false ∙ c.is_listed.ensures.found 0 low h) in
+    rw (← c.self.view_is) (ap (λ xs. record { slots = xs; room = length c.self.inside.lists.previous.items }) (sym (without-absent c.args.slot (list_from c.self.inside.lists.heads c.self.inside.lists.next.items c.self.inside.lists.previous.items 0) absent)))
+
+pub returns-then-is_listed-clause-gone : goal.returns-then-is_listed-clause-gone
+returns-then-is_listed-clause-gone c =
+    let heads = c.self.invariant.heads in
+    let low : 0 < c.self.inside.lists.heads = omega (arith, heads) in
+    gone-without c.args.slot (list_from c.self.inside.lists.heads c.self.inside.lists.next.items c.self.inside.lists.previous.items 0) _ (c.unlink.ensures.lists 0 low) (c.self.invariant.links.distinct 0 low)
+
+pub returns-then-is_listed-clause-others : goal.returns-then-is_listed-clause-others
+returns-then-is_listed-clause-others c other differs =
+    let heads = c.self.invariant.heads in
+    let low : 0 < c.self.inside.lists.heads = omega (arith, heads) in
+    rw (← c.self.view_is) (others-without c.args.slot (list_from c.self.inside.lists.heads c.self.inside.lists.next.items c.self.inside.lists.previous.items 0) _ (c.unlink.ensures.lists 0 low) other differs)

@@ -1,0 +1,5 @@
+pub mod Links
+pub mod Linked
+pub mod LevelBytes
+pub mod Levels
+pub mod Members

@@ -1,0 +1,138 @@
+// A set of slots in the order in which they came, the last one first.
+ghost use Rattle.std.specs.Prelude.{◌≡◌, ◌≢◌, ℕ, ◌<◌, ◌≤◌, IsTrue, ◌↔◌, [], ◌∷◌, length, if◌then◌else◌, nat_lt, IfOk, IfErr, OnOk, OnErr, IsOk};
+ghost use Rattle.bm_base.specs.declared.refusal.Refusal.TheVariants.{Memory};
+ghost use Rattle.bm_base.specs.SlotLists.{Among, without, first_of, slot_after};
+ghost use Rattle.bm_queues.specs.Members.{IsLawful};
+
+use crate::slot_lists::SlotLists;
+use crate::walk::Walk;
+use bm_base::Refusal;
+use std::alloc::Global;
+use std::marker::Model;
+
+/// A set of slots below the room.
+///
+/// A contract sees it as `Members`. Only `new` and `grow_to` take memory, eight bytes a slot; every other call takes none and
+/// succeeds. Each of them but `walk` is a constant number of steps.
+#[derive(Drop)]
+pub struct SlotSet {
+    lists: SlotLists,
+    count: usize,
+}
+
+impl Model for SlotSet {
+    ghost use Rattle.std.specs.Prelude.{length};
+    ghost use Rattle.bm_queues.specs.Links.{list_from};
+    ghost use Rattle.bm_queues.specs.Members.{Members, AreMembers};
+
+    ghost Value = { Members };
+
+    ghost view = { λ a. record { slots = list_from a.lists.heads a.lists.next.items a.lists.previous.items 0; room = length a.lists.previous.items } };
+
+    ghost invariant = { λ a. AreMembers a.lists.heads a.lists.next.items a.lists.previous.items a.count };
+}
+
+impl SlotSet {
+    /// No slot, and room for none. `Memory`.
+    pub fn new(alloc: Global) -> Result<SlotSet, Refusal>
+        ensures slots { IfOk result (λ a. a.slots ≡ []) }
+        ensures room { IfOk result (λ a. a.room ≡ 0) }
+        ensures refused { IfErr result (λ e. e ≡ Memory) }
+    {
+        let lists = SlotLists::new(alloc, 1)?;
+        Ok(SlotSet { lists, count: 0 })
+    }
+
+    /// Does nothing when it runs: a set is lawful at all times, and this says so to the function that calls it.
+    pub fn lawful(&self)
+        ensures { IsLawful self.now }
+    {
+        let _ = &self.lists;
+    }
+
+    /// How many slots there is room for: the condition of the calls on a slot.
+    pub fn room(&self) -> usize
+        ensures { result ≡ self.now.room }
+    {
+        self.lists.room()
+    }
+
+    /// Makes room for the slots below `room`. Where there is room it changes nothing and takes none. `Memory`, also where a link
+    /// of 32 bits could not name them all.
+    pub fn grow_to(&mut self, room: usize) -> Result<(), Refusal>
+        ensures after { OnOk result (self.new ≡ record self.old { room = if nat_lt self.old.room room then room else self.old.room }) }
+        ensures room { OnOk result (room ≤ self.new.room) }
+        ensures there { room ≤ self.old.room → IsOk result }
+        ensures refused { IfErr result (λ e. e ≡ Memory) }
+        ensures unchanged { OnErr result (self.new ≡ self.old) }
+    {
+        self.lists.grow_to(room)?;
+        Ok(())
+    }
+
+    /// Puts a slot at the front; where it is in the set nothing changes. Takes no memory.
+    pub fn insert(&mut self, slot: usize)
+        requires { slot < self.old.room }
+        ensures same { Among slot self.old.slots → self.new ≡ self.old }
+        ensures after { (Among slot self.old.slots → ⊥) → self.new ≡ record self.old { slots = slot ∷ self.old.slots } }
+        ensures there { Among slot self.new.slots }
+        ensures others { (other : ℕ) → other ≢ slot → (Among other self.new.slots ↔ Among other self.old.slots) }
+        ensures room { self.new.room ≡ self.old.room }
+    {
+        if self.lists.is_listed(slot) {
+            return;
+        }
+        self.lists.link_front(0, slot);
+        self.count += 1;
+    }
+
+    /// Takes a slot out, if it is in the set. Takes no memory.
+    pub fn remove(&mut self, slot: usize)
+        requires { slot < self.old.room }
+        ensures after { self.new ≡ record self.old { slots = without slot self.old.slots } }
+        ensures gone { Among slot self.new.slots → ⊥ }
+        ensures others { (other : ℕ) → other ≢ slot → (Among other self.new.slots ↔ Among other self.old.slots) }
+    {
+        if self.lists.is_listed(slot) {
+            self.lists.unlink(slot);
+            self.count -= 1;
+        }
+    }
+
+    /// Whether a slot is in the set.
+    pub fn contains(&self, slot: usize) -> bool
+        requires { slot < self.now.room }
+        ensures { IsTrue result ↔ Among slot self.now.slots }
+    {
+        self.lists.is_listed(slot)
+    }
+
+    /// How many slots are in the set.
+    pub fn len(&self) -> usize
+        ensures { result ≡ length self.now.slots }
+    {
+        self.count
+    }
+
+    /// The slot at the front.
+    pub fn first(&self) -> Option<usize>
+        ensures { result ≡ first_of self.now.slots }
+    {
+        self.lists.first(0)
+    }
+
+    /// The slot behind a slot; none behind the last one, and where it is not in the set.
+    pub fn next(&self, slot: usize) -> Option<usize>
+        requires { slot < self.now.room }
+        ensures { result ≡ slot_after slot self.now.slots }
+    {
+        self.lists.next(slot)
+    }
+
+    /// The slots from the front on. Takes no memory.
+    pub fn walk(&self) -> Walk<'_>
+        ensures { result ≡ self.now.slots }
+    {
+        self.lists.walk(0)
+    }
+}

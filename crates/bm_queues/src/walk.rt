@@ -1,0 +1,56 @@
+// The walk along a list.
+ghost use Rattle.std.specs.Prelude.{◌≡◌};
+ghost use Rattle.bm_queues.specs.Links.{link_at};
+ghost use Rattle.std.specs.Iterator.{YieldsFirst, item_count};
+
+use bm_base::{NO_LINK, SlotLink};
+use std::marker::Model;
+
+/// The slots of a list that are left. A contract sees it as the list of those slots. Takes no memory.
+#[derive(Drop)]
+pub struct Walk<'a> {
+    // The slot behind each slot.
+    pub(crate) links: &'a [SlotLink],
+    pub(crate) next: SlotLink,
+    // No more slots than these are left.
+    pub(crate) left: usize,
+}
+
+impl<'a> Model for Walk<'a> {
+    ghost use Rattle.std.specs.Prelude.{ℕ, List};
+
+    ghost Value = { List ℕ };
+
+    ghost use Rattle.bm_queues.specs.Links.{link_at, walk};
+
+    ghost view = { λ w. walk (link_at w.links.now) w.left w.next };
+}
+
+// The link of a slot: none past the last slot.
+fn behind(links: &[SlotLink], slot: usize) -> SlotLink
+    ensures { result ≡ link_at links.now slot }
+{
+    if slot < links.len() {
+        links[slot]
+    } else {
+        NO_LINK
+    }
+}
+
+impl<'a> Iterator for Walk<'a> {
+    type Item = usize;
+
+    ghost next_gives = { YieldsFirst (λ rest. rest) };
+
+    ghost remaining = { item_count (λ rest. rest) };
+
+    fn next(&mut self) -> Option<usize> {
+        let slot = self.next.slot()?;
+        if self.left == 0 {
+            return None;
+        }
+        self.left -= 1;
+        self.next = behind(self.links, slot);
+        Some(slot)
+    }
+}
