@@ -8,3 +8,4 @@ pub mod Keeping
 pub mod Differences
 pub mod Distinct
 pub mod SlotLists
+pub mod Room

@@ -1,5 +1,5 @@
 -- What a binary search in entries whose keys strictly rise finds.
-use Rattle.std.proofs.Common.{◌≡◌, ℕ, ◌<◌, ◌≤◌, suc, zero, List, [], ◌∷◌, length, get_or, cond, Option, Some, None, is_some, T, arith, refl, sym, ap, subst, ◌∙◌, Ordering, Less, Equal, Greater, is_eq}
+use Rattle.std.proofs.Common.{◌≡◌, ℕ, ◌<◌, ◌≤◌, suc, zero, List, [], ◌∷◌, length, get_or, cond, Option, Some, None, is_some, IsTrue, T, arith, refl, sym, ap, subst, ◌∙◌, Ordering, Less, Equal, Greater, is_eq}
 use Rattle.std.specs.Ordering.{is_lt, ordering_reverse}
 use Rattle.std.specs.Cmp.{IsTotalOrder}
 use Rattle.std.specs.FinMap.{find, is_sorted}
@@ -103,3 +103,8 @@ if_found w v then otherwise e = sym (ap (λ z. cond (is_some z) then otherwise) 
 
 pub if_not_found : {X Y : Type 0} (w : Option X) (then otherwise : Y) → w ≡ None → otherwise ≡ cond (is_some w) then otherwise
 if_not_found w then otherwise e = sym (ap (λ z. cond (is_some z) then otherwise) e)
+
+-- a key that is not found is not there
+pub not_there : {X Y : Type 0} (w : Option X) → w ≡ None → IsTrue (is_some w) → Y
+not_there None e h = cc
+not_there (Some x) e h = cc

@@ -1,10 +1,11 @@
 // A map from numbers over a sorted vector.
-ghost use Rattle.std.specs.Prelude.{◌≡◌, ◌≤◌, ◌+◌, OnOk, OnErr, IfOk, IsOk};
+ghost use Rattle.std.specs.Prelude.{◌≡◌, ◌≤◌, ◌+◌, OnOk, OnErr, IsOk, IsTrue};
 ghost use Rattle.bm_base.specs.Map as map;
+ghost use Rattle.bm_base.specs.Table.{capacity};
 ghost use Rattle.std.specs.List.Retain.{IsFiltered};
 ghost use Rattle.std.specs.Fn.{CalledAt};
 
-use crate::sorted::{find, put, replace};
+use crate::sorted::{find, put, replace, reserve};
 use std::alloc::{AllocError, Global};
 use std::marker::Model;
 
@@ -33,9 +34,10 @@ impl<V> Model for NumberMap<V> {
 }
 
 impl<V: Copy> NumberMap<V> {
-    /// No entry. Takes no memory.
+    /// No entry, and no room. Takes no memory.
     pub fn new(alloc: Global) -> Self
-        ensures { result.map ≡ map.empty }
+        ensures empty { result.map ≡ map.empty }
+        ensures room { result.room ≡ 0 }
     {
         NumberMap {
             entries: Vec::new(alloc),
@@ -56,23 +58,32 @@ impl<V: Copy> NumberMap<V> {
         find(&self.entries, &key)
     }
 
-    /// Sets the value at a key. An `Err` changes no entry.
+    /// Sets the value at a key. Takes memory only for a key that is not there and has no room; an `Err` changes nothing.
     pub fn insert(&mut self, key: u64, value: V) -> Result<(), AllocError>
         ensures ok { OnOk result (self.new.map ≡ map.insert self.old.map key value) }
         ensures err { OnErr result (self.new.map ≡ self.old.map) }
+        ensures err_room { OnErr result (self.new.room ≡ self.old.room) }
+        ensures known { IsTrue (map.contains_key self.old.map key) → IsOk result }
+        ensures known_no_growth { IsTrue (map.contains_key self.old.map key) → capacity self.new ≡ capacity self.old }
+        ensures reserved { 1 ≤ self.old.room → IsOk result }
+        ensures reserved_no_growth { 1 ≤ self.old.room → capacity self.new ≡ capacity self.old }
+        ensures no_less { capacity self.old ≤ capacity self.new }
     {
         put(&mut self.entries, key, value)?;
         Ok(())
     }
 
-    /// Makes room for so many further entries. The entries stay as they are, also after an `Err`.
+    /// Makes room for so many further entries; where there is room already, nothing changes. The entries stay as they are, and an
+    /// `Err` changes nothing.
     pub fn reserve(&mut self, additional: usize) -> Result<(), AllocError>
         ensures room { OnOk result (additional ≤ self.new.room) }
         ensures succeeds { additional ≤ self.old.room → IsOk result }
         ensures kept { self.old.room ≤ self.new.room }
         ensures same { self.new.map ≡ self.old.map }
+        ensures enough { additional ≤ self.old.room → self.new.room ≡ self.old.room }
+        ensures err_room { OnErr result (self.new.room ≡ self.old.room) }
     {
-        self.entries.reserve(additional)
+        reserve(&mut self.entries, additional)
     }
 
     /// Inserts into room that was made. Takes no memory.
@@ -80,6 +91,7 @@ impl<V: Copy> NumberMap<V> {
         requires { 1 ≤ self.old.room }
         ensures after { self.new.map ≡ map.insert self.old.map key value }
         ensures room { self.old.room ≤ self.new.room + 1 }
+        ensures no_growth { capacity self.new ≡ capacity self.old }
     {
         match put(&mut self.entries, key, value) {
             Ok(()) => {}
@@ -91,6 +103,7 @@ impl<V: Copy> NumberMap<V> {
     pub fn replace(&mut self, key: u64, value: V)
         ensures after { self.new.map ≡ map.revise_at self.old.map key (λ _. value) }
         ensures room { self.new.room ≡ self.old.room }
+        ensures no_growth { capacity self.new ≡ capacity self.old }
     {
         replace(&mut self.entries, &key, value);
     }
@@ -102,17 +115,19 @@ impl<V: Copy> NumberMap<V> {
         &self.entries
     }
 
-    /// Keeps the entries that pass.
+    /// Keeps the entries that pass. Takes no memory.
     pub fn retain<F: FnMut(&(u64, V)) -> bool>(&mut self, f: F)
         requires { F.IsAlwaysCallable f }
-        ensures { IsFiltered (CalledAt F.FnMut) f (map.entries self.old.map) (map.entries self.new.map) }
+        ensures filtered { IsFiltered (CalledAt F.FnMut) f (map.entries self.old.map) (map.entries self.new.map) }
+        ensures no_growth { capacity self.new ≡ capacity self.old }
     {
         self.entries.retain(f);
     }
 
-    /// Takes a key's entry out, if it is there.
+    /// Takes a key's entry out, if it is there. Takes no memory.
     pub fn remove(&mut self, key: u64)
-        ensures { self.new.map ≡ map.remove self.old.map key }
+        ensures after { self.new.map ≡ map.remove self.old.map key }
+        ensures no_growth { capacity self.new ≡ capacity self.old }
     {
         self.retain(|e| e.0 != key);
     }

@@ -1,5 +1,5 @@
 // Entries in a vector whose keys strictly rise: the ground of the maps. Each look-up is a binary search.
-ghost use Rattle.std.specs.Prelude.{◌≡◌, ◌<◌, ◌≤◌, ◌+◌, if◌then◌else◌, is_some, OnOk, OnErr, IsOk, T, vec_len, vec_capacity};
+ghost use Rattle.std.specs.Prelude.{◌≡◌, ◌<◌, ◌≤◌, ◌+◌, if◌then◌else◌, is_some, OnOk, OnErr, IsOk, IsTrue, T, vec_len, vec_capacity};
 ghost use Rattle.std.specs.FinMap as list;
 ghost use Rattle.bm_base.specs.Place.{place};
 
@@ -38,7 +38,27 @@ pub(crate) fn find<K: Ord + Copy, V: Copy>(entries: &[(K, V)], key: &K) -> Optio
     None
 }
 
-/// Sets the value at a key. With room for one entry more it takes no memory.
+/// Makes room for so many further entries. Takes memory only where there is less room; an `Err` changes nothing.
+pub(crate) fn reserve<K: Copy, V: Copy>(
+    entries: &mut Vec<(K, V)>,
+    additional: usize,
+) -> Result<(), AllocError>
+    ensures ok { OnOk result (vec_len entries.new + additional ≤ vec_capacity entries.new) }
+    ensures succeeds { vec_len entries.old + additional ≤ vec_capacity entries.old → IsOk result }
+    ensures enough { vec_len entries.old + additional ≤ vec_capacity entries.old →
+        vec_capacity entries.new ≡ vec_capacity entries.old }
+    ensures items { entries.new.items ≡ entries.old.items }
+    ensures len { vec_len entries.new ≡ vec_len entries.old }
+    ensures capacity { vec_capacity entries.old ≤ vec_capacity entries.new }
+    ensures err { OnErr result (vec_capacity entries.new ≡ vec_capacity entries.old) }
+{
+    if additional <= entries.capacity() - entries.len() {
+        return Ok(());
+    }
+    entries.reserve(additional)
+}
+
+/// Sets the value at a key. Takes memory only for a key that is not there and has no room; an `Err` changes nothing.
 pub(crate) fn put<K: Ord + Copy, V: Copy>(
     entries: &mut Vec<(K, V)>,
     key: K,
@@ -48,8 +68,15 @@ pub(crate) fn put<K: Ord + Copy, V: Copy>(
     ensures ok { OnOk result (entries.new.items ≡ list.put K.cmp key value entries.old.items) }
     ensures err { OnErr result (entries.new.items ≡ entries.old.items) }
     ensures succeeds { vec_len entries.old < vec_capacity entries.old → IsOk result }
+    ensures reserved { vec_len entries.old < vec_capacity entries.old →
+        vec_capacity entries.new ≡ vec_capacity entries.old }
+    ensures known { IsTrue (is_some (list.find K.cmp key entries.old.items)) → IsOk result }
+    ensures in_place { IsTrue (is_some (list.find K.cmp key entries.old.items)) →
+        vec_capacity entries.new ≡ vec_capacity entries.old }
     ensures capacity { vec_capacity entries.old ≤ vec_capacity entries.new }
     ensures len { vec_len entries.new ≤ vec_len entries.old + 1 }
+    ensures err_len { OnErr result (vec_len entries.new ≡ vec_len entries.old) }
+    ensures err_capacity { OnErr result (vec_capacity entries.new ≡ vec_capacity entries.old) }
 {
     let at = place(entries, &key);
     if at < entries.len() {
@@ -61,6 +88,7 @@ pub(crate) fn put<K: Ord + Copy, V: Copy>(
             _ => {}
         }
     }
+    reserve(entries, 1)?;
     Ok(entries.insert(at, (key, value))?)
 }
 

@@ -12,6 +12,6 @@ returns-clause-done c = c.none.ensures ∙ done-delete_block (the_view c.self.in
 pub returns-clause-state : goal.returns-clause-state
 unfolding delete_block without_pending revise_block
 returns-clause-state c =
-    let blocks = c.remove.ensures ∙ ap (remove c.self.inside.blocks.map) c.id.view_is in
+    let blocks = c.remove.ensures.after ∙ ap (remove c.self.inside.blocks.map) c.id.view_is in
     (λ i. record { blocks = blocks i; replicas = c.change_block.ensures i; pending = c.drop_pending_block.ensures i })
     ∙ ap (λ H. delete_block H c.args.id) c.self.view_is

@@ -11,8 +11,8 @@ unfolding table
 loop-place-init c =
     let C = c.args.topology.now.cluster in
     record {
-      nodes = ap (λ m. insert_all m (listed (node_number C) (keys C.storages))) c.new-nodes.ensures;
-      counts = ap (λ m. insert_all m (listed (λ _. 0) (map (node_number C) (keys C.storages)))) c.new-counts.ensures;
+      nodes = ap (λ m. insert_all m (listed (node_number C) (keys C.storages))) c.new-nodes.ensures.empty;
+      counts = ap (λ m. insert_all m (listed (λ _. 0) (map (node_number C) (keys C.storages)))) c.new-counts.ensures.empty;
     }
 
 pub loop-place-preserved : goal.loop-place-preserved

@@ -19,5 +19,5 @@ pub invariant_of-self : goal.invariant_of-self
 invariant_of-self c =
     let there : get c.self.inside.nodes.map c.args.node ≡ Some c.in-Some.rack = ap (λ t. get t.cluster.nodes c.args.node) c.self.view_is ∙ sym c.rack_of_node.ensures ∙ c.in-Some.is in
     let counted = c.count_on-count.ensures ∙ sym (ap (λ t. on_rack t.cluster.nodes c.in-Some.rack) c.self.view_is) in
-    sound-left c.self.inside.nodes.map c.self.inside.racks.map _ _ _ c.args.node c.in-Some.rack there (c.remove.ensures ∙ ap (remove c.self.inside.nodes.map) (c.from.ensures ∙ c.node.view_is))
+    sound-left c.self.inside.nodes.map c.self.inside.racks.map _ _ _ c.args.node c.in-Some.rack there (c.remove.ensures.after ∙ ap (remove c.self.inside.nodes.map) (c.from.ensures ∙ c.node.view_is))
     (c.leave_rack.ensures ∙ ap (without_one c.self.inside.racks.map c.in-Some.rack) counted) c.self.invariant
