@@ -19,7 +19,7 @@ use Rattle.bm_topo.specs.Racks.{on_rack, racks_of, some_positive, CountsRacks, w
 eq_itself : (k : ℕ) → (k == k) ≡ true
 eq_itself k = eq-eqb k k refl
 
-eq_turned : (k q : ℕ) → (k == q) ≡ (q == k)
+pub eq_turned : (k q : ℕ) → (k == q) ≡ (q == k)
 eq_turned k q = both_ways (k == q) (q == k) (λ e. eq-eqb q k (sym (eqb-true k q e))) (λ e. eq-eqb k q (sym (eqb-true q k e)))
 
 abbrev dropped : {X : Type 0} → ℕ → ℕ → X → Option X

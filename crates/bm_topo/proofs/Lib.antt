@@ -4,3 +4,5 @@ pub mod Spreading
 pub mod Others
 pub mod Lengths
 pub mod Sounding
+pub mod RackCount
+pub mod Capacity

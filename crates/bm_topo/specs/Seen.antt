@@ -1,10 +1,13 @@
 -- What contracts see of a topology: the cluster of the definitions, and the room for registrations.
-use Rattle.std.specs.Prelude.{ℕ, ◌≤◌, Bool, true, false, length, refl}
+use Rattle.std.specs.Prelude.{◌≡◌, ℕ, ◌+◌, ◌≤◌, Bool, true, false, length, refl}
 use Rattle.std.specs.Coded.{Coded, code_by, coded×, coded_ℕ}
 use Rattle.bm_base.specs.declared.event.Event.{Event}
 use Rattle.bm_base.specs.declared.event.Event.TheVariants.{Register}
+use Rattle.bm_base.specs.Lists.{distinct}
+use Rattle.bm_base.specs.Map.{len}
 use Rattle.bm_base.specs.State.{Cluster}
 use Rattle.bm_base.specs.Codes.{coded_cluster}
+use Rattle.bm_topo.specs.Racks.{racks_of}
 
 -- for how many further nodes, racks and storages there is room
 pub record Room : Type 0 where
@@ -29,6 +32,13 @@ IsReadyFor _ room = Unit {0}
 -- whether there is as much room as before, or more
 abbrev pub IsNoLess : Room → Room → Type 0
 IsNoLess before after = (before.nodes ≤ after.nodes) × (before.racks ≤ after.racks) × (before.storages ≤ after.storages)
+
+-- whether as many nodes, racks on which nodes stand, and storages can be had without memory, those that are there among them:
+-- nothing was taken, and nothing given back
+pub record IsSameCapacity (before after : Seen) : Type 0 where
+  pub nodes : len after.cluster.nodes + after.room.nodes ≡ len before.cluster.nodes + before.room.nodes
+  pub racks : length (distinct (racks_of after.cluster.nodes)) + after.room.racks ≡ length (distinct (racks_of before.cluster.nodes)) + before.room.racks
+  pub storages : len after.cluster.storages + after.room.storages ≡ len before.cluster.storages + before.room.storages
 
 abbrev pub coded_room : Coded Room
 coded_room =

@@ -1,11 +1,11 @@
 // What events change in the cluster: room is made first, so that the change itself takes no memory.
-ghost use Rattle.std.specs.Prelude.{◌≡◌, ◌≤◌, ◌+◌, length, None, IfErr, IsOk, OnOk};
+ghost use Rattle.std.specs.Prelude.{◌≡◌, ◌≤◌, ◌+◌, false, length, None, IfErr, IsOk, OnOk};
 ghost use Rattle.bm_base.specs.Map as map;
 ghost use Rattle.bm_base.specs.Events as events;
 ghost use Rattle.bm_base.specs.Refusals.{first_of, cluster_checks};
 ghost use Rattle.bm_base.specs.Answering.{Refuses};
 ghost use Rattle.bm_base.specs.declared.event.Event.TheVariants as event_of;
-ghost use Rattle.bm_topo.specs.Seen.{IsReadyFor, IsNoLess, grows_cluster};
+ghost use Rattle.bm_topo.specs.Seen.{IsReadyFor, IsNoLess, IsSameCapacity, grows_cluster};
 
 use crate::tables::{add_storages, drop_storages, leave_rack, set_remaining};
 use crate::topology::Topology;
@@ -14,13 +14,15 @@ use std::alloc::AllocError;
 
 impl Topology {
     /// Makes the room that the event's [`Topology::commit`] needs, where [`Topology::check`] passed. Only a registration needs
-    /// room in the cluster, so only it can answer `Memory`, and not where there is room already. The cluster stays as it is, and
-    /// so does room that was made before.
+    /// room in the cluster, so only it can answer `Memory`, and not where there is room already: then nothing changes. The
+    /// cluster stays as it is, and so does room that was made before.
     pub fn prepare(&mut self, event: &Event) -> Result<(), Refusal>
         requires { first_of (cluster_checks self.old.cluster event.now) ≡ None }
         ensures ready { OnOk result (IsReadyFor event.now self.new.room) }
         ensures refused { IfErr result (Refuses None (grows_cluster event.now)) }
         ensures enough { IsReadyFor event.now self.old.room → IsOk result }
+        ensures nothing_taken { IsReadyFor event.now self.old.room → self.new ≡ self.old }
+        ensures nothing_needed { grows_cluster event.now ≡ false → self.new ≡ self.old }
         ensures kept { IsNoLess self.old.room self.new.room }
         ensures same { self.new.cluster ≡ self.old.cluster }
     {
@@ -36,6 +38,8 @@ impl Topology {
         ensures racks { OnOk result (1 ≤ self.new.room.racks) }
         ensures storages { OnOk result (storages ≤ self.new.room.storages) }
         ensures enough { 1 ≤ self.old.room.nodes → 1 ≤ self.old.room.racks → storages ≤ self.old.room.storages → IsOk result }
+        ensures nothing_taken { 1 ≤ self.old.room.nodes → 1 ≤ self.old.room.racks → storages ≤ self.old.room.storages →
+            self.new ≡ self.old }
         ensures kept { IsNoLess self.old.room self.new.room }
         ensures same { self.new.cluster ≡ self.old.cluster }
     {
@@ -45,12 +49,14 @@ impl Topology {
     }
 
     /// Changes the cluster by an event that no check on the cluster refuses, in the room that [`Topology::prepare`] of this
-    /// event made. Takes no memory.
+    /// event made. Takes no memory, and gives none back: what leaves the cluster leaves its room.
     #[tactic(auto, unfolding(bm_base::specs::Events::change_cluster))]
     pub fn commit(&mut self, event: &Event)
         requires accepted { first_of (cluster_checks self.old.cluster event.now) ≡ None }
         requires ready { IsReadyFor event.now self.old.room }
-        ensures { self.new.cluster ≡ events.change_cluster self.old.cluster event.now }
+        ensures after { self.new.cluster ≡ events.change_cluster self.old.cluster event.now }
+        ensures no_growth { IsSameCapacity self.old self.new }
+        ensures kept { grows_cluster event.now ≡ false → IsNoLess self.old.room self.new.room }
     {
         match event {
             Event::Register {
@@ -80,7 +86,8 @@ impl Topology {
     fn add_node(&mut self, node: NodeId, rack: Rack, storages: &[StorageId])
         requires accepted { first_of (cluster_checks self.old.cluster (event_of.Register node rack storages.now)) ≡ None }
         requires ready { IsReadyFor (event_of.Register node rack storages.now) self.old.room }
-        ensures { self.new.cluster ≡ events.register self.old.cluster node rack storages.now }
+        ensures after { self.new.cluster ≡ events.register self.old.cluster node rack storages.now }
+        ensures no_growth { IsSameCapacity self.old self.new }
     {
         let count = self.count_on(rack);
         self.racks.insert_reserved(u64::from(rack.0), count + 1);
@@ -89,14 +96,18 @@ impl Topology {
     }
 
     fn drop_node(&mut self, node: NodeId)
-        ensures { self.new.cluster ≡ events.without_node self.old.cluster node }
+        ensures after { self.new.cluster ≡ events.without_node self.old.cluster node }
+        ensures no_growth { IsSameCapacity self.old self.new }
+        ensures kept { IsNoLess self.old.room self.new.room }
     {
         drop_storages(&mut self.storages, node);
         self.forget_node(node);
     }
 
     fn forget_node(&mut self, node: NodeId)
-        ensures { self.new.cluster ≡ record self.old.cluster { nodes = map.remove self.old.cluster.nodes node } }
+        ensures after { self.new.cluster ≡ record self.old.cluster { nodes = map.remove self.old.cluster.nodes node } }
+        ensures no_growth { IsSameCapacity self.old self.new }
+        ensures kept { IsNoLess self.old.room self.new.room }
     {
         let Some(rack) = self.rack_of_node(node) else {
             return;
@@ -107,14 +118,18 @@ impl Topology {
     }
 
     fn drop_storage(&mut self, storage: StorageId)
-        ensures { self.new.cluster ≡ events.without_storage self.old.cluster storage }
+        ensures after { self.new.cluster ≡ events.without_storage self.old.cluster storage }
+        ensures no_growth { IsSameCapacity self.old self.new }
+        ensures kept { IsNoLess self.old.room self.new.room }
     {
         self.storages.remove(u64::from(storage.0));
     }
 
     /// Sets the remaining bytes of storages that are there, one after another.
     fn set_remaining(&mut self, remaining: &[Remaining])
-        ensures { self.new.cluster ≡ events.heartbeat self.old.cluster remaining.now }
+        ensures after { self.new.cluster ≡ events.heartbeat self.old.cluster remaining.now }
+        ensures no_growth { IsSameCapacity self.old self.new }
+        ensures kept { IsNoLess self.old.room self.new.room }
     {
         set_remaining(&mut self.storages, remaining);
     }

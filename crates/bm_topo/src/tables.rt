@@ -1,6 +1,7 @@
 // Changes of one table, in the room that was made.
 ghost use Rattle.std.specs.Prelude.{◌≡◌, ◌≤◌, ◌==◌, not, length};
 ghost use Rattle.bm_base.specs.Map as map;
+ghost use Rattle.bm_base.specs.Table.{capacity};
 ghost use Rattle.bm_base.specs.Events as events;
 ghost use Rattle.bm_topo.specs.Racks.{without_one};
 ghost use Rattle.bm_topo.specs.Named.{named};
@@ -17,6 +18,7 @@ pub(crate) fn add_storages(
     requires { length its_own.now ≤ storages.old.room }
     ensures after { storages.new.map ≡ map.insert_all storages.old.map (named node its_own.now) }
     ensures small { HasSmallKeys storages.old.map → HasSmallKeys storages.new.map }
+    ensures no_growth { capacity storages.new ≡ capacity storages.old }
 {
     for storage in its_own {
         let info = StorageInfo { node, remaining: 0 };
@@ -26,7 +28,8 @@ pub(crate) fn add_storages(
 
 /// Takes out the storages of a node.
 pub(crate) fn drop_storages(storages: &mut NumberMap<StorageInfo>, node: NodeId)
-    ensures { storages.new.map ≡ map.keep storages.old.map (λ _ i. not (i.node == node)) }
+    ensures after { storages.new.map ≡ map.keep storages.old.map (λ _ i. not (i.node == node)) }
+    ensures no_growth { capacity storages.new ≡ capacity storages.old }
 {
     storages.retain(|(_, info)| info.node != node);
 }
@@ -35,7 +38,8 @@ pub(crate) fn drop_storages(storages: &mut NumberMap<StorageInfo>, node: NodeId)
 #[tactic(auto, unfolding(crate::specs::Racks::without_one))]
 pub(crate) fn leave_rack(racks: &mut NumberMap<u32>, rack: Rack, count: u32)
     requires { 1 ≤ count }
-    ensures { racks.new.map ≡ without_one racks.old.map rack count }
+    ensures after { racks.new.map ≡ without_one racks.old.map rack count }
+    ensures no_growth { capacity racks.new ≡ capacity racks.old }
 {
     if count == 1 {
         racks.remove(u64::from(rack.0));
@@ -46,7 +50,8 @@ pub(crate) fn leave_rack(racks: &mut NumberMap<u32>, rack: Rack, count: u32)
 
 /// Sets the remaining bytes of storages that are there, one after another.
 pub(crate) fn set_remaining(storages: &mut NumberMap<StorageInfo>, remaining: &[Remaining])
-    ensures { storages.new.map ≡ events.set_remaining storages.old.map remaining.now }
+    ensures after { storages.new.map ≡ events.set_remaining storages.old.map remaining.now }
+    ensures no_growth { capacity storages.new ≡ capacity storages.old }
 {
     for told in remaining {
         set_one(storages, told.storage, told.remaining);
@@ -55,7 +60,8 @@ pub(crate) fn set_remaining(storages: &mut NumberMap<StorageInfo>, remaining: &[
 
 /// Sets the remaining bytes of a storage, if it is there.
 fn set_one(storages: &mut NumberMap<StorageInfo>, storage: StorageId, remaining: u64)
-    ensures { storages.new.map ≡ map.revise_at storages.old.map storage (λ i. record i { remaining = remaining }) }
+    ensures after { storages.new.map ≡ map.revise_at storages.old.map storage (λ i. record i { remaining = remaining }) }
+    ensures no_growth { capacity storages.new ≡ capacity storages.old }
 {
     if let Some(info) = storages.get(u64::from(storage.0)) {
         let told = StorageInfo {

@@ -1,7 +1,11 @@
 use Rattle.std.proofs.Common.{◌≡◌, drop}
 use Rattle.bm_base.specs.Events.{set_remaining}
+use Rattle.bm_base.specs.Table.{capacity}
 use Rattle.bm_topo.proofs.tables.set_remaining.Given as goal
 
 -- what is left makes of the table what all of it makes of the first
 abbrev pub invariant-loop-told : goal.invariant-loop-told
-invariant-loop-told l = set_remaining l.storages.map (drop l.told-index l.remaining) ≡ set_remaining l.initial.storages.map l.remaining
+invariant-loop-told l = record {
+  after : set_remaining l.storages.map (drop l.told-index l.remaining) ≡ set_remaining l.initial.storages.map l.remaining;
+  no_growth : capacity l.storages ≡ capacity l.initial.storages;
+}

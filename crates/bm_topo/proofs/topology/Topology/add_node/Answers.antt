@@ -6,6 +6,7 @@ use Rattle.bm_base.specs.Refusals.{first_of, cluster_checks}
 use Rattle.bm_topo.specs.Named.{named}
 use Rattle.bm_topo.specs.Racks.{on_rack}
 use Rattle.bm_topo.proofs.Counting.{on_rack-le}
+use Rattle.bm_topo.proofs.Capacity.{same_capacity}
 use Rattle.bm_topo.proofs.Sounding.{registration_is_new, sound-joined}
 use Rattle.bm_topo.proofs.topology.Topology.add_node.Goals as goal
 
@@ -25,11 +26,20 @@ invariant_of-self c =
     sound-joined c.self.inside.nodes.map c.self.inside.racks.map _ _ c.self.inside.storages.map _ c.args.node c.args.rack c.count_on-count.result c.args.storages.now (omega arith) new count nodes racks
     c.add_storages.ensures.after c.add_storages.ensures.small c.self.invariant
 
-pub returns : goal.returns
+pub returns-clause-after : goal.returns-clause-after
 unfolding register
-returns c =
+returns-clause-after c =
     let nodes =
     c.insert_reserved-2.ensures.after ∙ ap (λ k. insert c.self.inside.nodes.map k c.args.rack) (c.from-2.ensures ∙ c.node.view_is)
     ∙ ap (λ t. insert t.cluster.nodes c.args.node c.args.rack) c.self.view_is in
     let storages = c.add_storages.ensures.after ∙ ap (λ t. insert_all t.cluster.storages (named c.args.node c.args.storages.now)) c.self.view_is in
     λ i. record { nodes = nodes i; storages = storages i }
+
+pub returns-clause-no_growth : goal.returns-clause-no_growth
+returns-clause-no_growth c =
+    same_capacity c.self.inside.nodes c.insert_reserved-2.new.self c.self.inside.racks c.insert_reserved.new.self c.self.inside.storages c.add_storages.new.storages c.args.self.now c.self.view_is c.self.invariant
+    (invariant_of-self c) (record {
+      nodes_same = c.insert_reserved-2.ensures.no_growth;
+      racks_same = c.insert_reserved.ensures.no_growth;
+      storages_same = c.add_storages.ensures.no_growth;
+    })

@@ -1,15 +1,23 @@
-use Rattle.std.proofs.Common.{ap, ◌∙◌}
-use Rattle.bm_base.specs.Map.{remove}
+use Rattle.std.proofs.Common.{ap, ◌∙◌, arith}
+use Rattle.bm_base.specs.Map.{len, remove}
 use Rattle.bm_base.specs.Events.{without_storage}
+use Rattle.bm_topo.proofs.Capacity.{no_less_storages}
+use Rattle.bm_topo.proofs.Lengths.{len-remove}
 use Rattle.bm_topo.proofs.Sounding.{sound-removed}
 use Rattle.bm_topo.proofs.topology.Topology.drop_storage.Goals as goal
 
 pub invariant_of-self : goal.invariant_of-self
 invariant_of-self c = sound-removed _ _ c.self.inside.storages.map _ c.from.result c.remove.ensures.after c.self.invariant
 
-pub returns : goal.returns
+pub returns-clause-after : goal.returns-clause-after
 unfolding without_storage
-returns c =
+returns-clause-after c =
     let nodes = ap (λ t. t.cluster.nodes) c.self.view_is in
     let storages = c.remove.ensures.after ∙ ap (remove c.self.inside.storages.map) (c.from.ensures ∙ c.storage.view_is) ∙ ap (λ t. remove t.cluster.storages c.args.storage) c.self.view_is in
     λ i. record { nodes = nodes i; storages = storages i }
+
+pub returns-clause-kept : goal.returns-clause-kept
+returns-clause-kept c =
+    let fewer = len-remove c.self.inside.storages.map c.from.result in
+    let is = ap len c.remove.ensures.after in
+    no_less_storages c.self.inside.nodes c.self.inside.racks c.self.inside.storages c.remove.new.self c.args.self.now c.self.view_is c.remove.ensures.no_growth (omega (arith, fewer, is))

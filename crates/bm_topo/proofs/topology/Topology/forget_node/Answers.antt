@@ -1,12 +1,14 @@
-use Rattle.std.proofs.Common.{◌≡◌, Some, arith, ap, sym, ◌∙◌}
-use Rattle.bm_base.specs.Map.{get, remove}
+use Rattle.std.proofs.Common.{◌≡◌, Some, arith, refl, ap, sym, ◌∙◌}
+use Rattle.bm_base.specs.Map.{get, len, remove}
 use Rattle.bm_topo.specs.Racks.{on_rack, without_one}
 use Rattle.bm_topo.proofs.Counting.{remove_absent, stands_there}
+use Rattle.bm_topo.proofs.Capacity.{same_capacity, no_less, len-without_one}
+use Rattle.bm_topo.proofs.Lengths.{len-remove}
 use Rattle.bm_topo.proofs.Sounding.{sound-left}
 use Rattle.bm_topo.proofs.topology.Topology.forget_node.Goals as goal
 
-pub returns-in_default : goal.returns-in_default
-returns-in_default c =
+pub returns-in_default-clause-after : goal.returns-in_default-clause-after
+returns-in_default-clause-after c =
     let nodes = sym (remove_absent c.args.self.now.cluster.nodes c.args.node (sym c.rack_of_node.ensures ∙ c.in_default.is)) in
     λ i. record { nodes = nodes i; storages = c.args.self.now.cluster.storages }
 
@@ -20,4 +22,19 @@ invariant_of-self c =
     let there : get c.self.inside.nodes.map c.args.node ≡ Some c.in-Some.rack = ap (λ t. get t.cluster.nodes c.args.node) c.self.view_is ∙ sym c.rack_of_node.ensures ∙ c.in-Some.is in
     let counted = c.count_on-count.ensures ∙ sym (ap (λ t. on_rack t.cluster.nodes c.in-Some.rack) c.self.view_is) in
     sound-left c.self.inside.nodes.map c.self.inside.racks.map _ _ _ c.args.node c.in-Some.rack there (c.remove.ensures.after ∙ ap (remove c.self.inside.nodes.map) (c.from.ensures ∙ c.node.view_is))
-    (c.leave_rack.ensures ∙ ap (without_one c.self.inside.racks.map c.in-Some.rack) counted) c.self.invariant
+    (c.leave_rack.ensures.after ∙ ap (without_one c.self.inside.racks.map c.in-Some.rack) counted) c.self.invariant
+
+pub returns-clause-no_growth : goal.returns-clause-no_growth
+returns-clause-no_growth c =
+    same_capacity c.self.inside.nodes c.remove.new.self c.self.inside.racks c.leave_rack.new.racks c.self.inside.storages c.self.inside.storages c.args.self.now c.self.view_is c.self.invariant (invariant_of-self c)
+    (record { nodes_same = c.remove.ensures.no_growth; racks_same = c.leave_rack.ensures.no_growth; storages_same = refl })
+
+pub returns-clause-kept : goal.returns-clause-kept
+returns-clause-kept c =
+    let nodes = len-remove c.self.inside.nodes.map c.from.result in
+    let nodes_is = ap len c.remove.ensures.after in
+    let racks = len-without_one c.self.inside.racks.map c.in-Some.rack c.count_on-count.result in
+    let racks_is = ap len c.leave_rack.ensures.after in
+    no_less c.self.inside.nodes c.remove.new.self c.self.inside.racks c.leave_rack.new.racks c.self.inside.storages c.self.inside.storages c.args.self.now c.self.view_is
+    (record { nodes_same = c.remove.ensures.no_growth; racks_same = c.leave_rack.ensures.no_growth; storages_same = refl })
+    (record { nodes_fewer = omega (arith, nodes, nodes_is); racks_fewer = omega (arith, racks, racks_is); storages_fewer = omega arith })

@@ -1,14 +1,22 @@
-use Rattle.std.proofs.Common.{ap, ◌∙◌}
+use Rattle.std.proofs.Common.{ap, ◌∙◌, arith}
+use Rattle.bm_base.specs.Map.{len}
 use Rattle.bm_base.specs.Events.{heartbeat, set_remaining}
-use Rattle.bm_topo.proofs.Sounding.{sound-told}
+use Rattle.bm_topo.proofs.Capacity.{no_less_storages}
+use Rattle.bm_topo.proofs.Sounding.{sound-told, len-set_remaining}
 use Rattle.bm_topo.proofs.topology.Topology.set_remaining.Goals as goal
 
 pub invariant_of-self : goal.invariant_of-self
-invariant_of-self c = sound-told _ _ c.self.inside.storages.map _ c.args.remaining.now c.set_remaining.ensures c.self.invariant
+invariant_of-self c = sound-told _ _ c.self.inside.storages.map _ c.args.remaining.now c.set_remaining.ensures.after c.self.invariant
 
-pub returns : goal.returns
+pub returns-clause-after : goal.returns-clause-after
 unfolding heartbeat
-returns c =
+returns-clause-after c =
     let nodes = ap (λ t. t.cluster.nodes) c.self.view_is in
-    let storages = c.set_remaining.ensures ∙ ap (λ t. set_remaining t.cluster.storages c.args.remaining.now) c.self.view_is in
+    let storages = c.set_remaining.ensures.after ∙ ap (λ t. set_remaining t.cluster.storages c.args.remaining.now) c.self.view_is in
     λ i. record { nodes = nodes i; storages = storages i }
+
+pub returns-clause-kept : goal.returns-clause-kept
+returns-clause-kept c =
+    let fewer = len-set_remaining c.args.remaining.now c.self.inside.storages.map in
+    let is = ap len c.set_remaining.ensures.after in
+    no_less_storages c.self.inside.nodes c.self.inside.racks c.self.inside.storages c.set_remaining.new.storages c.args.self.now c.self.view_is c.set_remaining.ensures.no_growth (omega (arith, fewer, is))

@@ -1,0 +1,65 @@
+-- What the tables of a topology can hold, as contracts see it.
+use Rattle.std.proofs.Common.{◌≡◌, ℕ, ◌≤◌, ◌-◌, true, false, cond, arith, refl, ◌∙◌, subst}
+use Rattle.std.specs.Prelude.{◌==◌}
+use Rattle.bm_base.specs.declared.storage.StorageInfo.{StorageInfo}
+use Rattle.bm_base.specs.Map.{Map, by_number, len, remove, revise_at}
+use Rattle.bm_base.specs.Table.{Table, capacity}
+use Rattle.bm_topo.specs.Racks.{without_one}
+use Rattle.bm_topo.specs.Seen.{Seen, Room, IsSameCapacity, IsNoLess}
+use Rattle.bm_topo.specs.Sound.{IsSound}
+use Rattle.bm_topo.proofs.Lengths.{len-remove, len-revise_at}
+use Rattle.bm_topo.proofs.RackCount.{racks_counted}
+
+abbrev pub seen_of : Table ℕ → Table ℕ → Table StorageInfo → Seen
+seen_of nodes racks storages = record {
+  cluster = record { nodes = nodes.map; storages = storages.map };
+  room = record { nodes = nodes.room; racks = racks.room; storages = storages.room };
+}
+
+-- three tables, and what becomes of them, each within its capacity
+pub record IsWithin (nodes nodes' racks racks' : Table ℕ) (storages storages' : Table StorageInfo) : Type 0 where
+  pub nodes_same : capacity nodes' ≡ capacity nodes
+  pub racks_same : capacity racks' ≡ capacity racks
+  pub storages_same : capacity storages' ≡ capacity storages
+
+-- and none is longer
+pub record IsNoLonger (nodes nodes' racks racks' : Table ℕ) (storages storages' : Table StorageInfo) : Type 0 where
+  pub nodes_fewer : len nodes'.map ≤ len nodes.map
+  pub racks_fewer : len racks'.map ≤ len racks.map
+  pub storages_fewer : len storages'.map ≤ len storages.map
+
+module _ (nodes nodes' racks racks' : Table ℕ) (storages storages' : Table StorageInfo) (old : Seen) (is : seen_of nodes racks storages ≡ old) where
+  pub same_capacity : IsSound nodes.map racks.map storages.map → IsSound nodes'.map racks'.map storages'.map → IsWithin nodes nodes' racks racks' storages storages' → IsSameCapacity old (seen_of nodes' racks' storages')
+  same_capacity sound sound' within =
+      let before = racks_counted racks.map nodes.map sound.counted in
+      let after = racks_counted racks'.map nodes'.map sound'.counted in
+      let same : IsSameCapacity (seen_of nodes racks storages) (seen_of nodes' racks' storages') = record {
+        nodes = within.nodes_same;
+        racks = omega (arith, before, after, within.racks_same);
+        storages = within.storages_same;
+      } in
+      subst (λ s. IsSameCapacity s (seen_of nodes' racks' storages')) is same
+
+  pub no_less : IsWithin nodes nodes' racks racks' storages storages' → IsNoLonger nodes nodes' racks racks' storages storages' → IsNoLess old.room (seen_of nodes' racks' storages').room
+  no_less within shorter =
+      let same : IsNoLess (seen_of nodes racks storages).room (seen_of nodes' racks' storages').room = (
+        omega (arith, within.nodes_same, shorter.nodes_fewer),
+        omega (arith, within.racks_same, shorter.racks_fewer),
+        omega (arith, within.storages_same, shorter.storages_fewer),
+      ) in
+      subst (λ s. IsNoLess s.room (seen_of nodes' racks' storages').room) is same
+
+-- where the storages alone change
+pub no_less_storages : (nodes racks : Table ℕ) (storages storages' : Table StorageInfo) (old : Seen) → seen_of nodes racks storages ≡ old → capacity storages' ≡ capacity storages → len storages'.map ≤ len storages.map
+    → IsNoLess old.room (seen_of nodes racks storages').room
+no_less_storages nodes racks storages storages' old is same fewer =
+    no_less nodes nodes racks racks storages storages' old is (record { nodes_same = refl; racks_same = refl; storages_same = same })
+    (record { nodes_fewer = omega arith; racks_fewer = omega arith; storages_fewer = fewer })
+
+pub no_less-then : (a b c : Room) → IsNoLess a b → IsNoLess b c → IsNoLess a c
+no_less-then a b c p q = (omega (arith, p.0, q.0), omega (arith, p.1, q.1), omega (arith, p.2, q.2))
+
+-- the counts, once one of n nodes has left rack r, are no more
+pub len-without_one : (racks : Map by_number ℕ) (r n : ℕ) → len (without_one racks r n) ≤ len racks
+unfolding without_one
+len-without_one racks r n = elim (n == 1) as (λ b. len (cond b (remove racks r) (revise_at racks r (λ _. n - 1))) ≤ len racks) [ true ↦ len-remove racks r | false ↦ len-revise_at racks r (λ _. n - 1) ]
