@@ -34,4 +34,4 @@ blocks_on H s = map (λ e. e.0.block) (filter (λ e. e.0.storage == s) (entries 
 
 -- the storages of the block's good replicas, in excess or not
 abbrev pub places : Holdings → ℕ → List ℕ
-places H b = storages_where (λ m. is_good m.tag) H b
+places H b = storages_where (λ _ m. is_good m.tag) H b

@@ -46,14 +46,18 @@ has_storage C n s = option_map_or (λ m. m == n) (node_of C s) false
 unfoldable pub are_sisters : Cluster → ℕ → ℕ → Bool
 are_sisters C s t = not (t == s) && option_map_or (λ n. has_storage C n t) (node_of C s) false
 
--- the storages of the block's replicas whose marks pass, rising
-unfoldable pub storages_where : (Marks → Bool) → Holdings → ℕ → List ℕ
-storages_where p H b = map (λ e. e.0.storage) (filter (λ e. (e.0.block == b) && p e.1) (entries H.replicas))
+-- the storages of the block's replicas that pass a test of storage and marks, rising
+unfoldable pub storages_where : (ℕ → Marks → Bool) → Holdings → ℕ → List ℕ
+storages_where p H b = map (λ e. e.0.storage) (filter (λ e. (e.0.block == b) && p e.0.storage e.1) (entries H.replicas))
 
--- The storages of the block's live replicas. The cluster is handed in beside the holdings and not read: which replicas are
--- live is decided here alone, and does not depend on where they stand.
+-- Whether a replica on storage s with these marks is live. The cluster and the storage are handed in and not read: which
+-- replicas are live is decided here alone, and does not depend on where they stand.
+abbrev pub is_live_on : Cluster → ℕ → Marks → Bool
+is_live_on C s m = is_live m
+
+-- the storages of the block's live replicas
 abbrev pub live : Cluster → Holdings → ℕ → List ℕ
-live C H b = storages_where is_live H b
+live C H b = storages_where (is_live_on C) H b
 
 -- the racks on which storages stand, each once, rising
 unfoldable pub racks : Cluster → List ℕ → List ℕ

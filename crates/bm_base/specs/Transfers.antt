@@ -92,7 +92,7 @@ holders_of C H chosen b = distinct (live C H b ++ pending_targets H b ++ targets
 -- the storages on whose nodes no copy of the block may be put: of its replicas of any tag, its transfers on their way and its
 -- chosen targets
 unfoldable pub barred_for : Holdings → List Transfer → ℕ → List ℕ
-barred_for H chosen b = storages_where (λ _. true) H b ++ pending_targets H b ++ targets_of chosen b
+barred_for H chosen b = storages_where (λ _ _. true) H b ++ pending_targets H b ++ targets_of chosen b
 
 unfoldable pub is_on_racks : Cluster → List ℕ → ℕ → Bool
 is_on_racks C rs s = option_map_or (has rs) (rack_of C s) false

@@ -12,7 +12,7 @@ use Rattle.bm_base.specs.declared.commands.Transfer.{Transfer}
 use Rattle.bm_base.specs.Map.{get, contains_key, entries, keys, len}
 use Rattle.bm_base.specs.State.{RoundLimits, Cluster, Holdings, replica_at}
 use Rattle.bm_base.specs.Lists.{has, least}
-use Rattle.bm_base.specs.Replicas.{is_live, live, storages_where}
+use Rattle.bm_base.specs.Replicas.{is_live, is_live_on, live, storages_where}
 use Rattle.bm_base.specs.Excess.{excess_cmp, excess_among, excess_of, excess_in}
 use Rattle.bm_base.specs.Transfers.{WishedCopy, least_source, least_target_by, least_target, scheduled_to, target_cmp, is_target, holders_of, barred_for, transfer_for, transfers_from, transfers, wishes}
 use Rattle.laws_of_events.proofs.Options.{is_there, revised, chained}
@@ -20,20 +20,20 @@ use Rattle.laws_of_events.proofs.Lists.{Each, each_mapped, each_then, each_both,
 use Rattle.laws_of_events.proofs.Maps.{each_entry, each_key}
 
 -- block b has on s a replica whose marks pass
-abbrev pub HasOne : (Marks → Bool) → Holdings → ℕ → ℕ → Type 0
-HasOne p H b s = (m : Marks) × (get H.replicas (replica_at b s) ≡ Some m) × (p m ≡ true)
+abbrev pub HasOne : (ℕ → Marks → Bool) → Holdings → ℕ → ℕ → Type 0
+HasOne p H b s = (m : Marks) × (get H.replicas (replica_at b s) ≡ Some m) × (p s m ≡ true)
 
-one_of : (p : Marks → Bool) (H : Holdings) (b : ℕ) (q : ReplicaId) (m : Marks) → get H.replicas q ≡ Some m → q.block ≡ b → p m ≡ true → HasOne p H b q.storage
+one_of : (p : ℕ → Marks → Bool) (H : Holdings) (b : ℕ) (q : ReplicaId) (m : Marks) → get H.replicas q ≡ Some m → q.block ≡ b → p q.storage m ≡ true → HasOne p H b q.storage
 one_of p H b q m e is h = (m, ap (λ c. get H.replicas (replica_at c q.storage)) (sym is) ∙ e, h)
 
-pub each_storage : (p : Marks → Bool) (H : Holdings) (b : ℕ) → Each (HasOne p H b) (storages_where p H b)
+pub each_storage : (p : ℕ → Marks → Bool) (H : Holdings) (b : ℕ) → Each (HasOne p H b) (storages_where p H b)
 unfolding storages_where
 each_storage p H b =
-    each_mapped (HasOne p H b) (λ e. e.0.storage) (filter (λ e. (e.0.block == b) && p e.1) (entries H.replicas))
-    (each_then (λ e. (((e.0.block == b) && p e.1) ≡ true) × (get H.replicas e.0 ≡ Some e.1)) (λ e. HasOne p H b e.0.storage) (filter (λ e. (e.0.block == b) && p e.1) (entries H.replicas))
-    (each_both (λ e. ((e.0.block == b) && p e.1) ≡ true) (λ e. get H.replicas e.0 ≡ Some e.1) (filter (λ e. (e.0.block == b) && p e.1) (entries H.replicas))
-    (each_passing (λ e. (e.0.block == b) && p e.1) (entries H.replicas)) (each_filtered (λ e. get H.replicas e.0 ≡ Some e.1) (λ e. (e.0.block == b) && p e.1) (entries H.replicas) (each_entry H.replicas)))
-    (λ e h. let parts = and_parts (e.0.block == b) (p e.1) h.0 in one_of p H b e.0 e.1 h.1 (eqb-true e.0.block b parts.0) parts.1))
+    each_mapped (HasOne p H b) (λ e. e.0.storage) (filter (λ e. (e.0.block == b) && p e.0.storage e.1) (entries H.replicas))
+    (each_then (λ e. (((e.0.block == b) && p e.0.storage e.1) ≡ true) × (get H.replicas e.0 ≡ Some e.1)) (λ e. HasOne p H b e.0.storage) (filter (λ e. (e.0.block == b) && p e.0.storage e.1) (entries H.replicas))
+    (each_both (λ e. ((e.0.block == b) && p e.0.storage e.1) ≡ true) (λ e. get H.replicas e.0 ≡ Some e.1) (filter (λ e. (e.0.block == b) && p e.0.storage e.1) (entries H.replicas))
+    (each_passing (λ e. (e.0.block == b) && p e.0.storage e.1) (entries H.replicas)) (each_filtered (λ e. get H.replicas e.0 ≡ Some e.1) (λ e. (e.0.block == b) && p e.0.storage e.1) (entries H.replicas) (each_entry H.replicas)))
+    (λ e h. let parts = and_parts (e.0.block == b) (p e.0.storage e.1) h.0 in one_of p H b e.0 e.1 h.1 (eqb-true e.0.block b parts.0) parts.1))
 
 more_in_excess : (P : ℕ → Type 0) (C : Cluster) (f : ℕ → List ℕ) (o : Option ℕ) → ((x : ℕ) → o ≡ Some x → P x × Each P (f x)) → Each P (option_map_or (λ x. x ∷ f x) o [])
 more_in_excess P C f None h = tt
@@ -54,7 +54,7 @@ excess_of_block P C lives (Some i) h = each_in_excess P C (length lives - i.repl
 pub in_excess_live : (C : Cluster) (H : Holdings) (q : ReplicaId) (m : Marks) → get H.replicas q ≡ Some m → has (excess_in C H q.block) q.storage ≡ true → is_live m ≡ true
 unfolding excess_in
 in_excess_live C H q m e h =
-    let one = has_one (HasOne is_live H q.block) (excess_in C H q.block) q.storage (excess_of_block (HasOne is_live H q.block) C (live C H q.block) (get H.blocks q.block) (each_storage is_live H q.block)) h in
+    let one = has_one (HasOne (is_live_on C) H q.block) (excess_in C H q.block) q.storage (excess_of_block (HasOne (is_live_on C) H q.block) C (live C H q.block) (get H.blocks q.block) (each_storage (is_live_on C) H q.block)) h in
     ap is_live (same_Some m one.0 (sym e ∙ one.1)) ∙ one.2
 
 -- A transfer that may be put among those on their way.

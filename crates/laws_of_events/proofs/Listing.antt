@@ -13,7 +13,7 @@ use Rattle.bm_base.specs.declared.level.Level.TheVariants.{Highest, VeryUnderRep
 use Rattle.bm_base.specs.Map.{get, entries, keys}
 use Rattle.bm_base.specs.Lists.{has}
 use Rattle.bm_base.specs.State.{Cluster, Holdings, replica_at}
-use Rattle.bm_base.specs.Replicas.{is_good, is_corrupt, is_live, live, storages_where, racks, is_multi_rack}
+use Rattle.bm_base.specs.Replicas.{is_good, is_corrupt, is_live, is_live_on, live, storages_where, racks, is_multi_rack}
 use Rattle.bm_base.specs.Levels.{level_of, level, is_at}
 use Rattle.bm_base.specs.Queries.{all_replicas, replicas_where, missing_blocks, blocks_on}
 use Rattle.bm_base.specs.Lawful.{IsLawfulHoldings}
@@ -108,29 +108,29 @@ blocks_listed H s b =
     )
 
 -- where a block's replicas pass
-module _ (test : Marks → Bool) (H : Holdings) (b s : ℕ) where
+module _ (test : ℕ → Marks → Bool) (H : Holdings) (b s : ℕ) where
   abbrev passing : ReplicaId × Marks → Bool
-  passing e = ((e.0.block == b) && test e.1) && (e.0.storage == s)
+  passing e = ((e.0.block == b) && test e.0.storage e.1) && (e.0.storage == s)
 
   shown : has (storages_where test H b) s ≡ list_any passing (entries H.replicas)
   unfolding storages_where
-  shown = any_shown (λ y. y == s) (λ e. e.0.storage) (λ e. (e.0.block == b) && test e.1) (entries H.replicas)
+  shown = any_shown (λ y. y == s) (λ e. e.0.storage) (λ e. (e.0.block == b) && test e.0.storage e.1) (entries H.replicas)
 
-  stored_where : has (storages_where test H b) s ≡ true → (m : Marks) × (get H.replicas (replica_at b s) ≡ Some m) × (test m ≡ true)
+  stored_where : has (storages_where test H b) s ≡ true → (m : Marks) × (get H.replicas (replica_at b s) ≡ Some m) × (test s m ≡ true)
   stored_where h =
       let e = entry_passes H.replicas passing (sym shown ∙ h) in
-      let parts = and_parts ((e.0.block == b) && test e.1) (e.0.storage == s) e.3 in
-      let more = and_parts (e.0.block == b) (test e.1) parts.0 in
-      (e.1, (λ i. get H.replicas (replica_at (sym (eqb-true e.0.block b more.0) i) (sym (eqb-true e.0.storage s parts.1) i))) ∙ e.2, more.1)
+      let parts = and_parts ((e.0.block == b) && test e.0.storage e.1) (e.0.storage == s) e.3 in
+      let more = and_parts (e.0.block == b) (test e.0.storage e.1) parts.0 in
+      (e.1, (λ i. get H.replicas (replica_at (sym (eqb-true e.0.block b more.0) i) (sym (eqb-true e.0.storage s parts.1) i))) ∙ e.2, ap (λ t. test t e.1) (sym (eqb-true e.0.storage s parts.1)) ∙ more.1)
 
-  where_stored : (m : Marks) → get H.replicas (replica_at b s) ≡ Some m → test m ≡ true → has (storages_where test H b) s ≡ true
+  where_stored : (m : Marks) → get H.replicas (replica_at b s) ≡ Some m → test s m ≡ true → has (storages_where test H b) s ≡ true
   where_stored m e h =
-      shown ∙ passes_entry H.replicas passing (replica_at b s) m e (and_from ((b == b) && test m) (s == s) (and_from (b == b) (test m) (eq-eqb b b refl) h) (eq-eqb s s refl))
+      shown ∙ passes_entry H.replicas passing (replica_at b s) m e (and_from ((b == b) && test s m) (s == s) (and_from (b == b) (test s m) (eq-eqb b b refl) h) (eq-eqb s s refl))
 
 pub places_listed : law.places_are_good
 places_listed H b s = (
-  (λ h. let m = stored_where (λ m. is_good m.tag) H b s h in (m.0, m.1, found_good m.0.tag m.2)),
-  (λ h. where_stored (λ m. is_good m.tag) H b s h.0 h.1 (ap is_good h.2)),
+  (λ h. let m = stored_where (λ _ m. is_good m.tag) H b s h in (m.0, m.1, found_good m.0.tag m.2)),
+  (λ h. where_stored (λ _ m. is_good m.tag) H b s h.0 h.1 (ap is_good h.2)),
 )
 
 -- Missing blocks.
@@ -191,11 +191,11 @@ module _ (C : Cluster) (H : Holdings) (b : ℕ) where
       let info : get H.blocks b ≡ Some e.1 = ap (get H.blocks) (sym key) ∙ e.2 in
       let none : length (live C H b) ≡ 0 =
       no_live_level (length (live C H b)) e.1.repl (length (racks C (live C H b))) (is_multi_rack C) (ap (is_at NoLiveReplica) (sym (level_is e.1 info)) ∙ ap no_level (sym key) ∙ parts.0) in
-      (e.1, info, λ s held. has_none (live C H b) s none (where_stored is_live H b s held.0 held.1 (marks_live held.0 held.2.0 held.2.1)))
+      (e.1, info, λ s held. has_none (live C H b) s none (where_stored (is_live_on C) H b s held.0 held.1 (marks_live held.0 held.2.0 held.2.1)))
 
   is_missing : IsLawfulHoldings C H → law.IsMissing H b → has (missing_blocks C H) b ≡ true
   is_missing L missing =
-      let none : length (live C H b) ≡ 0 = none_listed (live C H b) (λ s h. let m = stored_where is_live H b s h in missing.2 s (m.0, m.1, live_marks m.0 m.2)) in
+      let none : length (live C H b) ≡ 0 = none_listed (live C H b) (λ s h. let m = stored_where (is_live_on C) H b s h in missing.2 s (m.0, m.1, live_marks m.0 m.2)) in
       let at : no_level b ≡ true =
       ap (is_at NoLiveReplica) (level_is missing.0 missing.1) ∙ ap (λ n. is_at NoLiveReplica (level_of n missing.0.repl (length (racks C (live C H b))) (is_multi_rack C))) none
       ∙ level_no_live missing.0.repl (length (racks C (live C H b))) (is_multi_rack C) (L.replicated b missing.0 missing.1).0 in

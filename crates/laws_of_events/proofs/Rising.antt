@@ -112,13 +112,13 @@ blocks_rise H s =
     (rise_mapped (BothPass p (λ e f. law.IsBefore e.0 f.0)) (λ b c. b < c) (λ e. e.0.block) (λ e f h. block_rises e.0 f.0 h.2 (eqb-true e.0.storage s h.0 ∙ sym (eqb-true f.0.storage s h.1)))
     (filter p (entries H.replicas)) (rise_filtered (λ e f. law.IsBefore e.0 f.0) p (entries H.replicas) (replicas_rise H)))
 
-places_rise : (test : Marks → Bool) (H : Holdings) (b : ℕ) → AllPairs (λ s t. s < t) (storages_where test H b)
+places_rise : (test : ℕ → Marks → Bool) (H : Holdings) (b : ℕ) → AllPairs (λ s t. s < t) (storages_where test H b)
 unfolding storages_where
 places_rise test H b =
-    let p : ReplicaId × Marks → Bool = λ e. (e.0.block == b) && test e.1 in
+    let p : ReplicaId × Marks → Bool = λ e. (e.0.block == b) && test e.0.storage e.1 in
     rise_pairs (λ s t. s < t) (storages_where test H b)
     (rise_mapped (BothPass p (λ e f. law.IsBefore e.0 f.0)) (λ s t. s < t) (λ e. e.0.storage)
-    (λ e f h. storage_rises e.0 f.0 h.2 (eqb-true e.0.block b (and_parts (e.0.block == b) (test e.1) h.0).0 ∙ sym (eqb-true f.0.block b (and_parts (f.0.block == b) (test f.1) h.1).0)))
+    (λ e f h. storage_rises e.0 f.0 h.2 (eqb-true e.0.block b (and_parts (e.0.block == b) (test e.0.storage e.1) h.0).0 ∙ sym (eqb-true f.0.block b (and_parts (f.0.block == b) (test f.0.storage f.1) h.1).0)))
     (filter p (entries H.replicas)) (rise_filtered (λ e f. law.IsBefore e.0 f.0) p (entries H.replicas) (replicas_rise H)))
 
 missing_rise : (C : Cluster) (H : Holdings) → AllPairs (λ b c. b < c) (missing_blocks C H)
@@ -138,5 +138,5 @@ all_lists_rise C H = record {
   excess = where_rise (λ m. m.excess) H;
   missing = missing_rise C H;
   blocks = blocks_rise H;
-  places_of = places_rise (λ m. is_good m.tag) H;
+  places_of = places_rise (λ _ m. is_good m.tag) H;
 }

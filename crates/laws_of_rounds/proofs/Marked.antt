@@ -11,7 +11,7 @@ use Rattle.bm_base.specs.declared.commands.Delete.{Delete}
 use Rattle.bm_base.specs.Map.{get, entries}
 use Rattle.bm_base.specs.State.{Cluster, Holdings, State}
 use Rattle.bm_base.specs.Lists.{has}
-use Rattle.bm_base.specs.Replicas.{live, is_live, is_good, storages_where}
+use Rattle.bm_base.specs.Replicas.{live, is_live, is_live_on, is_good, storages_where}
 use Rattle.bm_base.specs.Excess.{begun, started, without_expired, without_unordered_excess, marked, excess_in, excess_of, excess_among}
 use Rattle.bm_base.specs.Rounds.{finished, is_commanded, whole_round}
 use Rattle.laws_of_rounds.specs.Words.{unmarked, live_unmarked, live_marked, live_after}
@@ -32,7 +32,7 @@ ordered_by ds q m = if is_commanded ds q then record m { ordered = true } else m
 
 -- marks as they pass, of the entries of a block
 marked_list : (b : ℕ) (chosen : ℕ → List ℕ) (es : List (ReplicaId × Marks))
-    → map (λ e. e.0.storage) (filter (λ e. (e.0.block == b) && is_live (marked_in (chosen e.0.block) e.0.storage e.1)) es) ≡ kept_of (chosen b) (listed is_live b es)
+    → map (λ e. e.0.storage) (filter (λ e. (e.0.block == b) && is_live (marked_in (chosen e.0.block) e.0.storage e.1)) es) ≡ kept_of (chosen b) (listed (λ _. is_live) b es)
 marked_list b chosen [] = refl
 marked_list b chosen (e ∷ es) =
     let rest = marked_list b chosen es in
@@ -68,7 +68,7 @@ marked_list b chosen (e ∷ es) =
 pub live_marking : (C : Cluster) (H : Holdings) (b : ℕ) → live C (marked C H) b ≡ kept_of (excess_in C H b) (live C H b)
 unfolding storages_where marked
 live_marking C H b =
-    revised_where is_live H b (λ q m. marked_in (excess_in C H q.block) q.storage m) ∙ marked_list b (excess_in C H) (entries H.replicas)
+    revised_where (is_live_on C) H b (λ q m. marked_in (excess_in C H q.block) q.storage m) ∙ marked_list b (excess_in C H) (entries H.replicas)
 
 ordered_live : (t : Bool) (m : Marks) → is_live (if t then record m { ordered = true } else m) ≡ is_live m
 ordered_live true m = refl
@@ -78,7 +78,7 @@ ordered_live false m = refl
 pub live_finished : (C : Cluster) (r : ℕ) (H : Holdings) (ts : List Transfer) (ds : List Delete) (b : ℕ) → live C (finished r H ts ds) b ≡ live C H b
 unfolding storages_where finished
 live_finished C r H ts ds b =
-    revised_where is_live H b (λ q m. ordered_by ds q m)
+    revised_where (is_live_on C) H b (λ q m. ordered_by ds q m)
     ∙ ap (λ (p : ReplicaId × Marks → Bool). map (λ (e : ReplicaId × Marks). e.0.storage) (filter p (entries H.replicas))) (λ i e. (e.0.block == b) && ordered_live (is_commanded ds e.0) e.1 i)
 
 pub after_marked : (M : State) (b : ℕ) → live_after M b ≡ live_marked M b
@@ -101,4 +101,4 @@ module _ (M : State) (b : ℕ) (i : BlockInfo) (known : get M.holdings.blocks b 
   pub marked_count : length (live_marked M b) + (length (live_unmarked M b) - i.repl) ≡ length (live_unmarked M b)
   marked_count =
       ap (λ xs. length xs + (length (live_unmarked M b) - i.repl)) marked_is
-      ∙ kept_count M.cluster (length (live_unmarked M b) - i.repl) (live_unmarked M b) (once_where is_live (unmarked M).holdings b) (omega arith)
+      ∙ kept_count M.cluster (length (live_unmarked M b) - i.repl) (live_unmarked M b) (once_where (is_live_on M.cluster) (unmarked M).holdings b) (omega arith)

@@ -9,7 +9,7 @@ use Rattle.bm_base.specs.declared.replica.BlockInfo.{BlockInfo}
 use Rattle.bm_base.specs.Map.{Map, by_number, get, entries}
 use Rattle.bm_base.specs.State.{Cluster, State, replica_at}
 use Rattle.bm_base.specs.Lists.{has, has_repeats, distinct}
-use Rattle.bm_base.specs.Replicas.{live, is_live, racks, rack_of, node_of, is_multi_rack}
+use Rattle.bm_base.specs.Replicas.{live, is_live, is_live_on, racks, rack_of, node_of, is_multi_rack}
 use Rattle.bm_base.specs.Levels.{level, level_of}
 use Rattle.bm_base.specs.Lawful.{IsLawful}
 use Rattle.laws_of_rounds.specs.Levels.{AreOnOneRack, HasTwoRacks}
@@ -152,7 +152,7 @@ badly_two n repl rs multi e = by_tests (nat_le repl n) (nat_lt 1 repl) refl (rs 
 live_rack : (M : State) (b s : ℕ) → IsLawful M → has (live M.cluster M.holdings b) s ≡ true → (r : ℕ) × (rack_of M.cluster s ≡ Some r)
 unfolding rack_of node_of
 live_rack M b s lawful h =
-    let there = live_there (get M.holdings.replicas (replica_at b s)) (sym (has_where is_live M.holdings b s) ∙ h) in
+    let there = live_there (get M.holdings.replicas (replica_at b s)) (sym (has_where (is_live_on M.cluster) M.holdings b s) ∙ h) in
     let storage = some_value (get M.cluster.storages s) (lawful.holdings.stored (replica_at b s) there) in
     let node = some_value (get M.cluster.nodes storage.0.node) (lawful.cluster.alive s storage.0 storage.1) in
     (node.0, ap (λ o. option_and_then (λ n. get M.cluster.nodes n) (option_map (λ i. i.node) o)) storage.1 ∙ node.1)

@@ -19,7 +19,7 @@ use Rattle.bm_base.specs.declared.replica.Marks.{Marks}
 use Rattle.bm_base.specs.declared.replica.Stamp.{Stamp}
 use Rattle.bm_base.specs.Map.{Map, get, insert, insert_all, keep, revise, revise_at, remove}
 use Rattle.bm_base.specs.State.{Cluster, Holdings, State, by_replica, replica_cmp, replica_at, first_state, empty_holdings}
-use Rattle.bm_base.specs.Replicas.{is_good, is_stray, is_corrupt, is_live}
+use Rattle.bm_base.specs.Replicas.{is_good, is_stray, is_corrupt, is_live, is_live_on}
 use Rattle.bm_base.specs.Events.{entered, enter, report, without_pending, revise_block, as_stray, as_bad, as_restamped, add_block, delete_block, set_replication, restamp, make_bad, remove_replica, without_storages, change_holdings}
 use Rattle.bm_base.specs.Excess.{begun, started}
 use Rattle.bm_base.specs.Lists.{has}
@@ -220,7 +220,7 @@ pub good_stays : (M : State) (b s : ℕ) (i : BlockInfo) → IsDoneState M → I
     → (t : ℕ) × (m : Marks) × (get (after_round M).holdings.replicas (replica_at b t) ≡ Some m) × (is_good m.tag ≡ true) × (m.excess ≡ false) × (m.ordered ≡ false)
 good_stays M b s i done lawful known h =
     let one = one_stays M b s i lawful known h in
-    let there = mark_of is_live (get (after_round M).holdings.replicas (replica_at b one.0)) (sym (has_where is_live (after_round M).holdings b one.0) ∙ one.1) in
+    let there = mark_of is_live (get (after_round M).holdings.replicas (replica_at b one.0)) (sym (has_where (is_live_on M.cluster) (after_round M).holdings b one.0) ∙ one.1) in
     let parts = live_parts there.0 there.2 in
     (one.0, there.0, there.1, parts.0, parts.1, unordered there.0 there.2 (done_round M done (replica_at b one.0) there.0 there.1))
   where

@@ -13,7 +13,7 @@ use Rattle.bm_base.specs.declared.storage.StorageInfo.{StorageInfo}
 use Rattle.bm_base.specs.Map.{get}
 use Rattle.bm_base.specs.State.{Cluster, State, replica_at}
 use Rattle.bm_base.specs.Lists.{has, has_repeats, least}
-use Rattle.bm_base.specs.Replicas.{is_live, rack_of, node_of}
+use Rattle.bm_base.specs.Replicas.{is_live, is_live_on, rack_of, node_of}
 use Rattle.bm_base.specs.Excess.{excess_cmp, excess_among, remaining, share_rack, has_rack_mate, started}
 use Rattle.bm_base.specs.Lawful.{IsLawful}
 use Rattle.laws_of_rounds.specs.Words.{unmarked, live_unmarked, live_marked}
@@ -261,7 +261,7 @@ rack_known C s r i e f =
 
 pub live_on_rack : (M : State) (b s : ℕ) → IsLawful M → has (live_unmarked M b) s ≡ true → share_rack M.cluster s s ≡ true
 live_on_rack M b s lawful h =
-    let there = is_some_value is_live (get (unmarked M).holdings.replicas (replica_at b s)) (sym (has_where is_live (unmarked M).holdings b s) ∙ h) in
+    let there = is_some_value is_live (get (unmarked M).holdings.replicas (replica_at b s)) (sym (has_where (is_live_on M.cluster) (unmarked M).holdings b s) ∙ h) in
     let was = mapped_some unordered_dropped (get M.holdings.replicas (replica_at b s)) there.0 (sym (marks_unmarked M (replica_at b s)) ∙ there.1) in
     let storage = some_again (get M.cluster.storages s) (lawful.holdings.stored (replica_at b s) (ap is_some was.1)) in
     let node = some_again (get M.cluster.nodes storage.0.node) (lawful.cluster.alive s storage.0 storage.1) in
@@ -274,7 +274,7 @@ shared_stays M b s t lawful there has_t mate = by_info (get M.holdings.blocks b)
     of_count : (k : ℕ) → live_marked M b ≡ kept_of (excess_among M.cluster k (live_unmarked M b)) (live_unmarked M b) → list_any (share_rack M.cluster s) (live_marked M b) ≡ true
     of_count k is =
         subst (λ xs. list_any (share_rack M.cluster s) xs ≡ true) (sym is)
-        (rack_stays M.cluster k (live_unmarked M b) s t (once_where is_live (unmarked M).holdings b) there (live_on_rack M b s lawful there)
+        (rack_stays M.cluster k (live_unmarked M b) s t (once_where (is_live_on M.cluster) (unmarked M).holdings b) there (live_on_rack M b s lawful there)
         (subst (λ xs. has xs t ≡ true) is has_t) (subst (λ xs. has_rack_mate M.cluster xs t ≡ true) is mate))
 
     by_info : (o : Option BlockInfo) → get M.holdings.blocks b ≡ o → list_any (share_rack M.cluster s) (live_marked M b) ≡ true
@@ -305,7 +305,7 @@ last_stays M b s t u lawful there at_t at_u apart same =
     let C : Cluster = M.cluster in
     let rack = share_is C t t (live_on_rack M b t lawful (none_made_live M b t at_t)) in
     let mate : has_rack_mate C (live_marked M b) t ≡ true =
-    of_mate C (live_marked M b) t (mates_are C (live_marked M b) t (two_pass (share_rack C t) (live_marked M b) t u (once_where is_live (started M).holdings b) at_t at_u (share_of C t t rack.0 rack.1 rack.1) (share_of C t u rack.0 rack.1 (sym same ∙ rack.1)) apart)) in
+    of_mate C (live_marked M b) t (mates_are C (live_marked M b) t (two_pass (share_rack C t) (live_marked M b) t u (once_where (is_live_on M.cluster) (started M).holdings b) at_t at_u (share_of C t t rack.0 rack.1 rack.1) (share_of C t u rack.0 rack.1 (sym same ∙ rack.1)) apart)) in
     let left = some_passing (share_rack C s) (live_marked M b) (shared_stays M b s t lawful there at_t mate) in
     let racks = share_is C s left.0 left.2 in
     (left.0, left.1, racks.2 ∙ sym racks.1)

@@ -11,7 +11,7 @@ use Rattle.bm_base.specs.declared.replica.BlockInfo.{BlockInfo}
 use Rattle.bm_base.specs.Map.{get}
 use Rattle.bm_base.specs.State.{State, replica_at}
 use Rattle.bm_base.specs.Lists.{has}
-use Rattle.bm_base.specs.Replicas.{is_live, is_good, is_stray, is_corrupt}
+use Rattle.bm_base.specs.Replicas.{is_live, is_live_on, is_good, is_stray, is_corrupt}
 use Rattle.bm_base.specs.Excess.{begun, started, without_expired, without_unordered_excess, marked, excess_in, excess_of, excess_among}
 use Rattle.bm_base.specs.Deletes.{has_enough_live}
 use Rattle.bm_base.specs.Lawful.{IsLawful}
@@ -74,7 +74,7 @@ pub surplus_good : (M : State) (b s : ℕ) (n : Marks) → get M.holdings.replic
 surplus_good M b s n found h =
     dropped_good n.ordered n
     (sym (ap (λ o. option_map_or is_live o false) (marks_unmarked M (replica_at b s) ∙ ap (option_map unordered_dropped) found))
-    ∙ sym (has_where is_live (unmarked M).holdings b s) ∙ surplus_live M b s h)
+    ∙ sym (has_where (is_live_on M.cluster) (unmarked M).holdings b s) ∙ surplus_live M b s h)
 
 dropped_excess : (o : Bool) (m : Marks) → (if o then m else record m { excess = false }).excess ≡ true → m.excess ≡ true
 dropped_excess true m e = e
@@ -217,7 +217,7 @@ dropped_is false m = refl
 
 live_before : (M : State) (b s : ℕ) → has (live_unmarked M b) s ≡ option_map_or (λ m. is_good m.tag && not (if m.ordered then m.excess else false)) (get M.holdings.replicas (replica_at b s)) false
 live_before M b s =
-    has_where is_live (unmarked M).holdings b s ∙ ap (λ o. option_map_or is_live o false) (marks_unmarked M (replica_at b s)) ∙ by_marks (get M.holdings.replicas (replica_at b s))
+    has_where (is_live_on M.cluster) (unmarked M).holdings b s ∙ ap (λ o. option_map_or is_live o false) (marks_unmarked M (replica_at b s)) ∙ by_marks (get M.holdings.replicas (replica_at b s))
   where
     by_marks : (o : Option Marks) → option_map_or is_live (option_map unordered_dropped o) false ≡ option_map_or (λ m. is_good m.tag && not (if m.ordered then m.excess else false)) o false
     by_marks None = refl

@@ -248,10 +248,10 @@ not_barred C barred u s n free at there same =
 barred_replica : (H : Holdings) (front : List Transfer) (b s : ℕ) → is_some (get H.replicas (replica_at b s)) ≡ true → has (barred_for H front b) s ≡ true
 unfolding barred_for
 barred_replica H front b s e =
-    any_append (λ y. y == s) (storages_where (λ _. true) H b ++ pending_targets H b) (targets_of front b)
-    ∙ or_left (has (storages_where (λ _. true) H b ++ pending_targets H b) s) (has (targets_of front b) s)
-    (any_append (λ y. y == s) (storages_where (λ _. true) H b) (pending_targets H b)
-    ∙ or_left (has (storages_where (λ _. true) H b) s) (has (pending_targets H b) s) (has_where (λ _. true) H b s ∙ is_there (get H.replicas (replica_at b s)) e))
+    any_append (λ y. y == s) (storages_where (λ _ _. true) H b ++ pending_targets H b) (targets_of front b)
+    ∙ or_left (has (storages_where (λ _ _. true) H b ++ pending_targets H b) s) (has (targets_of front b) s)
+    (any_append (λ y. y == s) (storages_where (λ _ _. true) H b) (pending_targets H b)
+    ∙ or_left (has (storages_where (λ _ _. true) H b) s) (has (pending_targets H b) s) (has_where (λ _ _. true) H b s ∙ is_there (get H.replicas (replica_at b s)) e))
   where
     is_there : (o : Option Marks) → is_some o ≡ true → option_map_or (λ _. true) o false ≡ true
     is_there None e = e
@@ -261,12 +261,12 @@ always : (b : Bool) → b ≡ (b && true)
 always true = refl
 always false = refl
 
-pub pending_listed : (H : Holdings) (b : ℕ) → pending_targets H b ≡ listed (λ _. true) b (entries H.pending)
+pub pending_listed : (H : Holdings) (b : ℕ) → pending_targets H b ≡ listed (λ _ _. true) b (entries H.pending)
 unfolding pending_targets
 pending_listed H b = ap (λ (p : ReplicaId × ℕ → Bool). map (λ (e : ReplicaId × ℕ). e.0.storage) (filter p (entries H.pending))) (λ i e. always (e.0.block == b) i)
 
 pub has_pending : (H : Holdings) (b s : ℕ) → has (pending_targets H b) s ≡ is_some (get H.pending (replica_at b s))
-has_pending H b s = ap (λ xs. has xs s) (pending_listed H b) ∙ has_listed H.pending (λ _. true) b s ∙ is_there (get H.pending (replica_at b s))
+has_pending H b s = ap (λ xs. has xs s) (pending_listed H b) ∙ has_listed H.pending (λ _ _. true) b s ∙ is_there (get H.pending (replica_at b s))
   where
     is_there : (o : Option ℕ) → option_map_or (λ _. true) o false ≡ is_some o
     is_there None = refl
@@ -275,15 +275,15 @@ has_pending H b s = ap (λ xs. has xs s) (pending_listed H b) ∙ has_listed H.p
 barred_pending : (H : Holdings) (front : List Transfer) (b s : ℕ) → has (pending_targets H b) s ≡ true → has (barred_for H front b) s ≡ true
 unfolding barred_for
 barred_pending H front b s e =
-    any_append (λ y. y == s) (storages_where (λ _. true) H b ++ pending_targets H b) (targets_of front b)
-    ∙ or_left (has (storages_where (λ _. true) H b ++ pending_targets H b) s) (has (targets_of front b) s)
-    (any_append (λ y. y == s) (storages_where (λ _. true) H b) (pending_targets H b) ∙ or_right (has (storages_where (λ _. true) H b) s) (has (pending_targets H b) s) e)
+    any_append (λ y. y == s) (storages_where (λ _ _. true) H b ++ pending_targets H b) (targets_of front b)
+    ∙ or_left (has (storages_where (λ _ _. true) H b ++ pending_targets H b) s) (has (targets_of front b) s)
+    (any_append (λ y. y == s) (storages_where (λ _ _. true) H b) (pending_targets H b) ∙ or_right (has (storages_where (λ _ _. true) H b) s) (has (pending_targets H b) s) e)
 
 barred_target : (H : Holdings) (front : List Transfer) (b s : ℕ) → has (targets_of front b) s ≡ true → has (barred_for H front b) s ≡ true
 unfolding barred_for
 barred_target H front b s e =
-    any_append (λ y. y == s) (storages_where (λ _. true) H b ++ pending_targets H b) (targets_of front b)
-    ∙ or_right (has (storages_where (λ _. true) H b ++ pending_targets H b) s) (has (targets_of front b) s) e
+    any_append (λ y. y == s) (storages_where (λ _ _. true) H b ++ pending_targets H b) (targets_of front b)
+    ∙ or_right (has (storages_where (λ _ _. true) H b ++ pending_targets H b) s) (has (targets_of front b) s) e
 
 any_at : {X : Type 0} (p : X → Bool) (front back : List X) (x : X) → p x ≡ true → list_any p (front ++ x ∷ back) ≡ true
 any_at p [] back x e = or_left (p x) (list_any p back) e

@@ -13,7 +13,7 @@ use Rattle.bm_base.specs.declared.commands.NodeCommands.{NodeCommands}
 use Rattle.bm_base.specs.Map.{get, keys}
 use Rattle.bm_base.specs.State.{RoundLimits, Cluster, Holdings, State, replica_at}
 use Rattle.bm_base.specs.Lists.{has}
-use Rattle.bm_base.specs.Replicas.{node_of, has_storage, live, is_live}
+use Rattle.bm_base.specs.Replicas.{node_of, has_storage, live, is_live, is_live_on}
 use Rattle.bm_base.specs.Levels.{level}
 use Rattle.bm_base.specs.Excess.{begun, started, marked, without_expired, without_unordered_excess}
 use Rattle.bm_base.specs.Deletes.{deletes_of, deletes}
@@ -200,7 +200,7 @@ mapped_was f (Some x) e = refl
 source_alive : (M : State) (b s : ℕ) → IsLawful M → has (live M.cluster (started M).holdings b) s ≡ true → (n : ℕ) × (has (keys M.cluster.nodes) n ≡ true) × (has_storage M.cluster n s ≡ true)
 unfolding node_of
 source_alive M b s lawful h =
-    let there = mapped_was (remarked (surplus_of M b) s) (get M.holdings.replicas (replica_at b s)) (sym (ap is_some (marks_started M (replica_at b s))) ∙ live_there (get (started M).holdings.replicas (replica_at b s)) (sym (has_where is_live (started M).holdings b s) ∙ h)) in
+    let there = mapped_was (remarked (surplus_of M b) s) (get M.holdings.replicas (replica_at b s)) (sym (ap is_some (marks_started M (replica_at b s))) ∙ live_there (get (started M).holdings.replicas (replica_at b s)) (sym (has_where (is_live_on M.cluster) (started M).holdings b s) ∙ h)) in
     let storage = some_value (get M.cluster.storages s) (lawful.holdings.stored (replica_at b s) there) in
     (storage.0.node, has_keys M.cluster.nodes storage.0.node ∙ lawful.cluster.alive s storage.0 storage.1, storage_is M.cluster storage.0.node s (ap (option_map (λ i. i.node)) storage.1))
 
