@@ -3,14 +3,15 @@ use Rattle.std.proofs.Common.{◌≡◌, ◌≢◌, ℕ, zero, suc, ◌<◌, ◌
 use Rattle.std.specs.Prelude.{if◌then◌else◌, ◌==◌, ◌↔◌, option_and_then}
 use Rattle.std.proofs.lemmas.Bool.{cases_eq, eq-eqb, ne_eqb}
 use Rattle.std.proofs.lemmas.Option.{none-some, same_Some}
-use Rattle.std.proofs.lemmas.List.{get_or-set_same, get_or-set_other, length-set, take_all}
+use Rattle.std.proofs.lemmas.List.{get_or-set_same, get_or-set_other, get_or_past, length-set, take_all}
 use Rattle.bm_base.specs.declared.level.Level.{Level}
 use Rattle.bm_base.specs.declared.level.Level.TheVariants.{Highest, VeryUnderReplicated, UnderReplicated, BadlyDistributed, NoLiveReplica}
 use Rattle.bm_base.specs.Levels.{level_number}
 use Rattle.bm_queues.specs.LevelBytes.{level_of_byte}
 use Rattle.bm_base.specs.SlotLists.{Among, without, slot_after}
 use Rattle.bm_queues.specs.Links.{list_from, AreLinks}
-use Rattle.bm_queues.specs.Levels.{Levels, IsLawful, AreLevels, five, with_room}
+use Rattle.bm_queues.specs.Levels.{Levels, IsLawful, AreLevels, five, with_room, visited, slots_of, next_of}
+use Rattle.bm_queues.proofs.Visits.{walk-after, below_or_past}
 use Rattle.bm_base.proofs.SlotLists.{Among-without, Among-without_other, without-gone, without-absent}
 
 pub five-at : (k : ℕ) (next back : List (Option ℕ)) (l : Level) → get_or (five k next back) (level_number l) [] ≡ list_from k next back (level_number l)
@@ -46,6 +47,14 @@ level_with (suc (suc (suc zero))) h = (BadlyDistributed, refl)
 level_with (suc (suc (suc (suc zero)))) h = (NoLiveReplica, refl)
 level_with (suc (suc (suc (suc (suc n))))) h = absurd (omega arith)
 
+-- a slot that has a level lies below the room
+held_below : (levels : List (Option Level)) (slot : ℕ) (l : Level) → get_or levels slot None ≡ Some l → slot < length levels
+held_below levels slot l is =
+    elim (below_or_past slot (length levels)) [
+      | inl below ↦ below
+      | inr past ↦ absurd (none-some l (sym (get_or_past levels slot None past) ∙ is))
+    ]
+
 module _ (k : ℕ) (next back : List (Option ℕ)) (levels : List (Option Level)) (are : AreLevels k next back levels) where
   pub low : (l : Level) → level_number l < k
   low l = let five_heads = are.heads in let below = level_below l in omega (arith, five_heads, below)
@@ -54,7 +63,18 @@ module _ (k : ℕ) (next back : List (Option ℕ)) (levels : List (Option Level)
   lawful-levels = record {
     distinct = λ l. rw (five-at k next back l) (are.links.distinct (level_number l) (low l));
     exact = λ l slot. rw (five-at k next back l) (are.known l slot, are.listed l slot);
+    five = refl;
+    below = λ l slot. rw (five-at k next back l) (λ there. held_below levels slot l (are.known l slot there));
+    small = let room = are.room in let reach = are.links.small in let heads = are.heads in omega (arith, room, reach, heads);
   }
+
+  -- going on by the slot behind visits the slots of a level
+  pub visited-levels : (l : Level) → visited (record { levels = levels; lists = five k next back }) l ≡ slots_of (record { levels = levels; lists = five k next back }) l
+  visited-levels l =
+      let v : Levels = record { levels = levels; lists = five k next back } in
+      let lawful = lawful-levels in
+      walk-after (next_of v) (slots_of v l) (length (slots_of v l)) (lawful.distinct l)
+      (λ x there. ap (option_and_then (λ m. slot_after x (slots_of v m))) ((lawful.exact l x).0 there)) (omega arith)
 
   -- lists that stay, with room for more slots
   pub kept-levels : (k' : ℕ) (next' back' : List (Option ℕ)) (levels' : List (Option Level)) → k' ≡ k → AreLinks k' next' back' → length levels' ≤ length back'
@@ -166,6 +186,30 @@ module _ (k : ℕ) (next back : List (Option ℕ)) (levels : List (Option Level)
       let stays : list_from k' next' back' (level_number l) ≡ list_from k'' next'' back'' (level_number l) = here ∙ (rw (ne_eqb (level_number l) n apart) refl) in
       five-at k' next' back' l ∙ stays
       ∙ taken (level_number l) below ∙ other-list slot l not_old ∙ sym (five-at k next back l)
+
+  -- what is seen of the list that a slot leaves, and of the one that it comes to
+  pub left-none : (k' : ℕ) (next' back' : List (Option ℕ)) (slot : ℕ) → ((l : ℕ) → l < k → list_from k' next' back' l ≡ without slot (list_from k next back l))
+      → (l : Level) → get_or (five k' next' back') (level_number l) [] ≡ without slot (get_or (five k next back) (level_number l) [])
+  left-none k' next' back' slot lists l = five-at k' next' back' l ∙ lists (level_number l) (low l) ∙ ap (without slot) (sym (five-at k next back l))
+
+  module _ (k' : ℕ) (next' back' : List (Option ℕ)) (slot : ℕ) (t : Level) (n : ℕ) (number : n ≡ level_number t) (level : Option Level) (is : level ≡ Some t) (k'' : ℕ) (next'' back'' : List (Option ℕ)) (middle : k'' ≡ k)
+      (taken : (l : ℕ) → l < k → list_from k'' next'' back'' l ≡ without slot (list_from k next back l))
+      (put : (l : ℕ) → l < k'' → list_from k' next' back' l ≡ (if l == n then slot ∷ list_from k'' next'' back'' l else list_from k'' next'' back'' l)) where
+    pub left-some : (l : Level) → level ≢ Some l → get_or (five k' next' back') (level_number l) [] ≡ without slot (get_or (five k next back) (level_number l) [])
+    left-some l not_new =
+        let below = low l in
+        let apart : level_number l ≢ n = λ e. not_new (is ∙ ap Some (sym (same_level l t (e ∙ number)))) in
+        let here = put (level_number l) (omega (arith, below, middle)) in
+        let stays : list_from k' next' back' (level_number l) ≡ list_from k'' next'' back'' (level_number l) = here ∙ (rw (ne_eqb (level_number l) n apart) refl) in
+        five-at k' next' back' l ∙ stays ∙ taken (level_number l) below ∙ ap (without slot) (sym (five-at k next back l))
+
+    pub front-some : (l : Level) → level ≡ Some l → Some l ≢ get_or levels slot None → get_or (five k' next' back') (level_number l) [] ≡ slot ∷ get_or (five k next back) (level_number l) []
+    front-some l new not_old =
+        let below = low l in
+        let same : level_number l ≡ n = ap level_number (same_Some l t (sym new ∙ is)) ∙ sym number in
+        let here = put (level_number l) (omega (arith, below, middle)) in
+        let comes : list_from k' next' back' (level_number l) ≡ slot ∷ list_from k'' next'' back'' (level_number l) = here ∙ (rw (eq-eqb (level_number l) n same) refl) in
+        five-at k' next' back' l ∙ comes ∙ ap (λ xs. slot ∷ xs) (taken (level_number l) below ∙ other-list slot l not_old ∙ sym (five-at k next back l))
 
   -- the slot behind a slot in the list of its level
   pub next-levels : (slot : ℕ) (r : Option ℕ) → ((l : ℕ) → l < k → Among slot (list_from k next back l) → r ≡ slot_after slot (list_from k next back l))

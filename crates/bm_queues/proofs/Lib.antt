@@ -1,5 +1,6 @@
 pub mod Chains
 pub mod Held
 pub mod Calls
+pub mod Visits
 pub mod LevelLaws
 pub mod MemberLaws

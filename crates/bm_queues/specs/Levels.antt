@@ -1,12 +1,13 @@
 -- What a contract sees of level lists.
 -- Source: the queues of Hadoop 2's UnderReplicatedBlocks.
-use Rattle.std.specs.Prelude.{◌≡◌, ◌↔◌, ℕ, ◌-◌, ◌≤◌, ◌++◌, List, [], ◌∷◌, length, map, replicate, Option, Some, None, slice_index_or, slice_set, option_and_then}
+use Rattle.std.specs.Prelude.{◌≡◌, ◌↔◌, ℕ, ◌+◌, ◌-◌, ◌<◌, ◌≤◌, ◌++◌, List, [], ◌∷◌, length, map, replicate, Option, Some, None, slice_index_or, slice_set, option_and_then}
 use Rattle.bm_base.specs.declared.level.Level.{Level}
 use Rattle.bm_base.specs.Levels.{level_number}
-use Rattle.bm_base.specs.SlotLists.{Among, Distinct, without, slot_after}
-use Rattle.bm_queues.specs.Links.{AreLinks, list_from}
+use Rattle.bm_base.specs.SlotLists.{Among, Distinct, without, first_of, slot_after}
+use Rattle.bm_base.specs.SlotLinks.{end_of_links}
+use Rattle.bm_queues.specs.Links.{AreLinks, list_from, walk}
 
--- the level of each slot that there is room for, and the slots of each level, in order from the front
+-- the level of each slot that there is room for, and by number of level the slots that have it, in order from the front
 pub record Levels : Type 0 where
   pub levels : List (Option Level)
   pub lists : List (List ℕ)
@@ -30,22 +31,32 @@ abbrev pub put_front : Option Level → ℕ → List (List ℕ) → List (List �
 put_front None slot lists = lists
 put_front (Some l) slot lists = slice_set lists (level_number l) (slot ∷ slice_index_or lists (level_number l) [])
 
--- a slot taken out of the list that it is in, and put at the front of that of another level
+-- a slot taken out of the list that it is in, and put at the front of that of another level, or of none
 abbrev pub moved : Levels → ℕ → Option Level → Levels
 moved v slot level = record { levels = slice_set v.levels slot level; lists = put_front level slot (map (without slot) v.lists) }
 
+-- the slots that are met from the first of a level on, each by the one behind it
+abbrev pub visited : Levels → Level → List ℕ
+visited v l = walk (next_of v) (length (slots_of v l)) (first_of (slots_of v l))
+
 -- what holds of level lists after every call
 pub record IsLawful (v : Levels) : Type 0 where
+  -- there is a list for each level
+  pub five : length v.lists ≡ 5
   -- a list has no slot twice
   pub distinct : (l : Level) → Distinct (slots_of v l)
   -- and has just the slots of its level
   pub exact : (l : Level) (slot : ℕ) → Among slot (slots_of v l) ↔ (level_at v slot ≡ Some l)
+  -- which lie below the room
+  pub below : (l : Level) (slot : ℕ) → Among slot (slots_of v l) → slot < length v.levels
+  -- links can name all slots that there is room for
+  pub small : length v.levels + 5 ≤ end_of_links
 
 -- the lists of five heads
 abbrev pub five : ℕ → List (Option ℕ) → List (Option ℕ) → List (List ℕ)
 five k next back = list_from k next back 0 ∷ list_from k next back 1 ∷ list_from k next back 2 ∷ list_from k next back 3 ∷ list_from k next back 4 ∷ []
 
--- how the fields stand for them
+-- How the fields stand for them. The links may reach further than the levels: a refused growth may have made room for links alone.
 pub record AreLevels (k : ℕ) (next back : List (Option ℕ)) (levels : List (Option Level)) : Type 0 where
   pub heads : k ≡ 5
   pub links : AreLinks k next back

@@ -27,8 +27,8 @@ pub record HoldLists (k : ℕ) (next back : List (Option ℕ)) (lists : ℕ → 
   pub size : k + length back ≤ length next
   pub small : k + length back ≤ end_of_links
   pub chain : (l : ℕ) → l < k → Chain k (link_at next) (link_at back) l (lists l)
+  -- these two follow, and are kept at hand: a list has no slot twice, and a slot is in one list at most
   pub distinct : (l : ℕ) → l < k → Distinct (lists l)
-  -- a slot is in one list at most
   pub once : (l m x : ℕ) → l < k → m < k → Among x (lists l) → Among x (lists m) → l ≡ m
   -- a slot that links back is in a list
   pub complete : (x c : ℕ) → link_at back x ≡ Some c → (l : ℕ) × (l < k) × Among x (lists l)

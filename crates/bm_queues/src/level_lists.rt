@@ -2,8 +2,8 @@
 ghost use Rattle.std.specs.Prelude.{◌≡◌, ◌≢◌, ◌<◌, ◌≤◌, ◌==◌, ℕ, [], ◌∷◌, length, if◌then◌else◌, Some, IfOk, IfErr, OnOk, OnErr, IsOk};
 ghost use Rattle.bm_base.specs.declared.level.Level.{Level};
 ghost use Rattle.bm_base.specs.declared.refusal.Refusal.TheVariants.{Memory};
-ghost use Rattle.bm_base.specs.SlotLists.{first_of};
-ghost use Rattle.bm_queues.specs.Levels.{level_at, slots_of, next_of, with_room, moved, IsLawful};
+ghost use Rattle.bm_base.specs.SlotLists.{first_of, without};
+ghost use Rattle.bm_queues.specs.Levels.{level_at, slots_of, next_of, with_room, moved, visited, IsLawful};
 
 use crate::level_byte::{LevelByte, no_level};
 use crate::slot_lists::SlotLists;
@@ -14,8 +14,8 @@ use std::marker::Model;
 
 /// For each slot below the room a level or none, and for each level the list of its slots.
 ///
-/// A contract sees it as `Levels`. Only `new` and `grow_to` take memory, nine bytes a slot; every other call takes none and
-/// succeeds. Each call on a slot, and `first`, is a constant number of steps.
+/// A contract sees it as `Levels`. Only `new` and `grow_to` take memory, nine bytes a slot and twenty for the heads; every other
+/// call takes none and succeeds. Each call is a constant number of steps, but for `grow_to`; going over a walk is a step a slot.
 #[derive(Drop)]
 pub struct LevelLists {
     lists: SlotLists,
@@ -34,7 +34,7 @@ impl Model for LevelLists {
 }
 
 impl LevelLists {
-    /// Room for no slot, and five empty lists. `Memory`.
+    /// Room for no slot, and five empty lists. May answer `Memory`.
     pub fn new(alloc: Global) -> Result<LevelLists, Refusal>
         ensures levels { IfOk result (λ a. a.levels ≡ []) }
         ensures lists { IfOk result (λ a. a.lists ≡ [] ∷ [] ∷ [] ∷ [] ∷ [] ∷ []) }
@@ -47,9 +47,11 @@ impl LevelLists {
         })
     }
 
-    /// Does nothing when it runs: level lists are lawful at all times, and this says so to the function that calls it.
+    /// Says to the function that calls it that level lists are lawful at all times, and that going from the first slot of a level
+    /// to the next, and so on, visits just its slots, each once and in order. It does nothing when it runs.
     pub fn lawful(&self)
-        ensures { IsLawful self.now }
+        ensures lawful { IsLawful self.now }
+        ensures visited { (l : Level) → visited self.now l ≡ slots_of self.now l }
     {
         let _ = &self.levels;
     }
@@ -61,8 +63,8 @@ impl LevelLists {
         self.levels.len()
     }
 
-    /// Makes room for the slots below `room`; those that are new have no level. Where there is room it changes nothing and takes
-    /// none. `Memory`, also where a link of 32 bits could not name them all.
+    /// Makes room for the slots below `room`; those that are new have no level. Where there is room already, nothing
+    /// changes. May answer `Memory`, also where a link of 32 bits could not name them all; room that was made for links is kept then.
     pub fn grow_to(&mut self, room: usize) -> Result<(), Refusal>
         ensures after { OnOk result (self.new ≡ with_room self.old room) }
         ensures room { OnOk result (room ≤ length self.new.levels) }
@@ -87,6 +89,8 @@ impl LevelLists {
         requires { slot < length self.old.levels }
         ensures same { level_at self.old slot ≡ level → self.new ≡ self.old }
         ensures after { level_at self.old slot ≢ level → self.new ≡ moved self.old slot level }
+        ensures front { (l : Level) → level ≡ Some l → level_at self.old slot ≢ level → slots_of self.new l ≡ slot ∷ slots_of self.old l }
+        ensures left { (l : Level) → level_at self.old slot ≡ Some l → level ≢ Some l → slots_of self.new l ≡ without slot (slots_of self.old l) }
         ensures room { length self.new.levels ≡ length self.old.levels }
         ensures levels { (other : ℕ) → level_at self.new other ≡ (if other == slot then level else level_at self.old other) }
         ensures others { (l : Level) → Some l ≢ level → Some l ≢ level_at self.old slot → slots_of self.new l ≡ slots_of self.old l }
@@ -111,7 +115,7 @@ impl LevelLists {
         self.levels[slot].get()
     }
 
-    /// The first slot of a level.
+    /// The first slot of a level; none where its list is empty.
     pub fn first(&self, level: Level) -> Option<usize>
         ensures { result ≡ first_of (slots_of self.now level) }
     {

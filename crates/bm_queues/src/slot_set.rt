@@ -1,8 +1,8 @@
 // A set of slots in the order in which they came, the last one first.
-ghost use Rattle.std.specs.Prelude.{◌≡◌, ◌≢◌, ℕ, ◌<◌, ◌≤◌, IsTrue, ◌↔◌, [], ◌∷◌, length, if◌then◌else◌, nat_lt, IfOk, IfErr, OnOk, OnErr, IsOk};
+ghost use Rattle.std.specs.Prelude.{◌≡◌, ◌≢◌, ℕ, ◌<◌, ◌≤◌, IsTrue, ◌↔◌, [], ◌∷◌, length, IfOk, IfErr, OnOk, OnErr, IsOk};
 ghost use Rattle.bm_base.specs.declared.refusal.Refusal.TheVariants.{Memory};
 ghost use Rattle.bm_base.specs.SlotLists.{Among, without, first_of, slot_after};
-ghost use Rattle.bm_queues.specs.Members.{IsLawful};
+ghost use Rattle.bm_queues.specs.Members.{with_room, visited, IsLawful};
 
 use crate::slot_lists::SlotLists;
 use crate::walk::Walk;
@@ -12,8 +12,8 @@ use std::marker::Model;
 
 /// A set of slots below the room.
 ///
-/// A contract sees it as `Members`. Only `new` and `grow_to` take memory, eight bytes a slot; every other call takes none and
-/// succeeds. Each of them but `walk` is a constant number of steps.
+/// A contract sees it as `Members`. Only `new` and `grow_to` take memory, eight bytes a slot and four for the head; every other
+/// call takes none and succeeds. Each call is a constant number of steps, but for `grow_to`; going over a walk is a step a slot.
 #[derive(Drop)]
 pub struct SlotSet {
     lists: SlotLists,
@@ -33,7 +33,7 @@ impl Model for SlotSet {
 }
 
 impl SlotSet {
-    /// No slot, and room for none. `Memory`.
+    /// No slot, and room for none. May answer `Memory`.
     pub fn new(alloc: Global) -> Result<SlotSet, Refusal>
         ensures slots { IfOk result (λ a. a.slots ≡ []) }
         ensures room { IfOk result (λ a. a.room ≡ 0) }
@@ -43,9 +43,11 @@ impl SlotSet {
         Ok(SlotSet { lists, count: 0 })
     }
 
-    /// Does nothing when it runs: a set is lawful at all times, and this says so to the function that calls it.
+    /// Says to the function that calls it that a set is lawful at all times, and that going from the first slot to the next, and
+    /// so on, visits just its slots, each once and in order. It does nothing when it runs.
     pub fn lawful(&self)
-        ensures { IsLawful self.now }
+        ensures lawful { IsLawful self.now }
+        ensures visited { visited self.now ≡ self.now.slots }
     {
         let _ = &self.lists;
     }
@@ -57,10 +59,11 @@ impl SlotSet {
         self.lists.room()
     }
 
-    /// Makes room for the slots below `room`. Where there is room it changes nothing and takes none. `Memory`, also where a link
-    /// of 32 bits could not name them all.
+    /// Makes room for the slots below `room`. Where there is room already, nothing changes. May answer `Memory`, also where
+    /// a link of 32 bits could not name them all.
     pub fn grow_to(&mut self, room: usize) -> Result<(), Refusal>
-        ensures after { OnOk result (self.new ≡ record self.old { room = if nat_lt self.old.room room then room else self.old.room }) }
+        ensures after { OnOk result (self.new ≡ with_room self.old room) }
+        ensures slots { self.new.slots ≡ self.old.slots }
         ensures room { OnOk result (room ≤ self.new.room) }
         ensures there { room ≤ self.old.room → IsOk result }
         ensures refused { IfErr result (λ e. e ≡ Memory) }
@@ -75,7 +78,7 @@ impl SlotSet {
         requires { slot < self.old.room }
         ensures same { Among slot self.old.slots → self.new ≡ self.old }
         ensures after { (Among slot self.old.slots → ⊥) → self.new ≡ record self.old { slots = slot ∷ self.old.slots } }
-        ensures there { Among slot self.new.slots }
+        ensures held { Among slot self.new.slots }
         ensures others { (other : ℕ) → other ≢ slot → (Among other self.new.slots ↔ Among other self.old.slots) }
         ensures room { self.new.room ≡ self.old.room }
     {
@@ -91,6 +94,7 @@ impl SlotSet {
         requires { slot < self.old.room }
         ensures after { self.new ≡ record self.old { slots = without slot self.old.slots } }
         ensures gone { Among slot self.new.slots → ⊥ }
+        ensures room { self.new.room ≡ self.old.room }
         ensures others { (other : ℕ) → other ≢ slot → (Among other self.new.slots ↔ Among other self.old.slots) }
     {
         if self.lists.is_listed(slot) {
@@ -109,12 +113,13 @@ impl SlotSet {
 
     /// How many slots are in the set.
     pub fn len(&self) -> usize
-        ensures { result ≡ length self.now.slots }
+        ensures count { result ≡ length self.now.slots }
+        ensures few { result ≤ self.now.room }
     {
         self.count
     }
 
-    /// The slot at the front.
+    /// The slot at the front; none where the set is empty.
     pub fn first(&self) -> Option<usize>
         ensures { result ≡ first_of self.now.slots }
     {

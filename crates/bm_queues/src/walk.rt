@@ -12,7 +12,7 @@ pub struct Walk<'a> {
     // The slot behind each slot.
     pub(crate) links: &'a [SlotLink],
     pub(crate) next: SlotLink,
-    // No more slots than these are left.
+    // At most so many slots are left.
     pub(crate) left: usize,
 }
 

@@ -1,6 +1,6 @@
-use Rattle.std.proofs.Common.{◌≡◌, ◌<◌, None, ◌∙◌, arith}
+use Rattle.std.proofs.Common.{◌≡◌, ◌<◌, None, sym, ◌∙◌, arith}
 use Rattle.bm_base.proofs.SlotLists.{without-gone}
-use Rattle.bm_queues.proofs.LevelLaws.{lawful-levels, cleared-levels, moved-levels, others-none, others-some}
+use Rattle.bm_queues.proofs.LevelLaws.{lawful-levels, cleared-levels, moved-levels, others-none, others-some, left-none, left-some, front-some}
 use Rattle.bm_queues.proofs.level_lists.LevelLists.set.Goals as goal
 
 pub returns-then-is-clause-lawful : goal.returns-then-is-clause-lawful
@@ -39,6 +39,24 @@ returns-in_default-clause-others c l not_new not_old =
     let not_was = rw (← c.self.view_is) at not_old in
     rw (← c.self.view_is)
     (others-none c.self.inside.lists.heads c.self.inside.lists.next.items c.self.inside.lists.previous.items c.self.inside.levels.items c.self.invariant c.unlink.new.self.heads c.unlink.new.self.next.items c.unlink.new.self.previous.items c.args.slot c.unlink.ensures.lists l not_was)
+
+pub returns-in-Some-clause-left : goal.returns-in-Some-clause-left
+returns-in-Some-clause-left c l was not_new =
+    rw (← c.self.view_is)
+    (left-some c.self.inside.lists.heads c.self.inside.lists.next.items c.self.inside.lists.previous.items c.self.inside.levels.items c.self.invariant
+    c.link_front.new.self.heads c.link_front.new.self.next.items c.link_front.new.self.previous.items c.args.slot c.in-Some.wanted c.number.result c.number.ensures c.args.level c.in-Some.is c.unlink.new.self.heads c.unlink.new.self.next.items c.unlink.new.self.previous.items c.unlink.ensures.heads c.unlink.ensures.lists c.link_front.ensures.lists l not_new)
+
+pub returns-in-Some-clause-front : goal.returns-in-Some-clause-front
+returns-in-Some-clause-front c l new not_old =
+    let not_was = rw (← c.self.view_is) at not_old in
+    rw (← c.self.view_is)
+    (front-some c.self.inside.lists.heads c.self.inside.lists.next.items c.self.inside.lists.previous.items c.self.inside.levels.items c.self.invariant
+    c.link_front.new.self.heads c.link_front.new.self.next.items c.link_front.new.self.previous.items c.args.slot c.in-Some.wanted c.number.result c.number.ensures c.args.level c.in-Some.is c.unlink.new.self.heads c.unlink.new.self.next.items c.unlink.new.self.previous.items c.unlink.ensures.heads c.unlink.ensures.lists c.link_front.ensures.lists l new (λ e. not_was (sym e ∙ sym new)))
+
+pub returns-in_default-clause-left : goal.returns-in_default-clause-left
+returns-in_default-clause-left c l was not_new =
+    rw (← c.self.view_is)
+    (left-none c.self.inside.lists.heads c.self.inside.lists.next.items c.self.inside.lists.previous.items c.self.inside.levels.items c.self.invariant c.unlink.new.self.heads c.unlink.new.self.next.items c.unlink.new.self.previous.items c.args.slot c.unlink.ensures.lists l)
 
 pub returns-in-Some-clause-lawful : goal.returns-in-Some-clause-lawful
 returns-in-Some-clause-lawful c = lawful-levels _ _ _ _ (invariant_of-self c)
