@@ -1,4 +1,5 @@
-// With ample memory each event that no check refuses is taken, and the cluster answers what was worked out by hand.
+// With ample memory each event that no check refuses is taken, and the cluster answers what was worked out by hand: each test is
+// a list of steps with what each must answer, and one function goes over them.
 use crate::Topology;
 use bm_base::{
     BlockId, Entry, Event, Gen, Items, NodeId, Rack, Refusal, Remaining, Stamp, StorageId,
@@ -6,265 +7,76 @@ use bm_base::{
 use std::alloc::Global;
 use std::process::Abort;
 
-/// One event: checked, prepared, committed.
-fn take(rt: &impl Abort, topology: &mut Topology, event: &Event) {
-    topology.check(event).expect(rt, "an event to be taken");
-    topology.prepare(event).expect(rt, "memory");
-    topology.commit(event);
+/// What is told of a cluster.
+#[derive(Clone, Copy)]
+enum Told {
+    /// A node comes, on a rack, with storages from a number on, so many.
+    Comes(u32, u32, u32, u32),
+    /// A node comes, on rack 1, with two storages.
+    ComesWithTwo(u32, u32, u32),
+    /// A node beats, and tells what is free on a storage.
+    Beats(u32, u32, u64),
+    /// The same of two.
+    BeatsWithTwo(u32, u32, u64, u32, u64),
+    /// A node dies.
+    Dies(u32),
+    /// A storage fails.
+    Fails(u32),
+    /// A storage reports so many replicas.
+    Reports(u32, usize),
 }
 
-fn register(rt: &impl Abort, alloc: Global, node: u32, rack: u32, storages: &[StorageId]) -> Event {
-    Event::Register {
-        node: NodeId(node),
-        rack: Rack(rack),
-        storages: Items::from_vec(Vec::from_slice(alloc, storages).expect(rt, "memory")),
+/// What is done with what is told.
+#[derive(Clone, Copy)]
+enum Deed {
+    /// Checked, and if no check refuses, prepared and committed.
+    Take,
+    Check,
+    /// Prepared and given up.
+    GiveUp,
+    /// Asked whether nodes would stand on two racks.
+    Foresee,
+}
+
+/// What is done with a cluster, or asked of it.
+#[derive(Clone, Copy)]
+enum Step {
+    Do(Deed, Told),
+    /// 256 nodes without storages come, each on a rack of its own.
+    Crowd,
+    HasRacks,
+    Nodes,
+    Storages,
+    NodeOf(u32),
+    RackOf(u32),
+    FreeOn(u32),
+    NodeAt(u32),
+    StorageAt(u32),
+}
+
+/// What a step answers.
+#[derive(Clone, Copy, Debug, PartialEq, Eq)]
+enum Answer {
+    Fine,
+    Refused(Refusal),
+    Yes,
+    No,
+    Number(u64),
+    Nothing,
+}
+
+/// Storages from a number on, so many.
+fn storages(rt: &impl Abort, alloc: Global, first: u32, count: u32) -> Items<StorageId> {
+    let mut ids = Vec::new(alloc);
+    for place in 0..count {
+        ids.push(StorageId(first.saturating_add(place)))
+            .expect(rt, "memory");
     }
+    Items::from_vec(ids)
 }
 
-fn heartbeat(rt: &impl Abort, alloc: Global, node: u32, told: &[Remaining]) -> Event {
-    Event::Heartbeat {
-        node: NodeId(node),
-        remaining: Items::from_vec(Vec::from_slice(alloc, told).expect(rt, "memory")),
-    }
-}
-
-/// A node without storages.
-fn bare(alloc: Global, node: u32, rack: u32) -> Event {
-    Event::Register {
-        node: NodeId(node),
-        rack: Rack(rack),
-        storages: Items::from_vec(Vec::new(alloc)),
-    }
-}
-
-/// A node with one storage, taken.
-fn join(
-    rt: &impl Abort,
-    topology: &mut Topology,
-    alloc: Global,
-    node: u32,
-    rack: u32,
-    storage: u32,
-) {
-    let event = register(rt, alloc, node, rack, [StorageId(storage)].as_slice());
-    take(rt, topology, &event);
-}
-
-/// A heartbeat of one storage, taken.
-fn tell(
-    rt: &impl Abort,
-    topology: &mut Topology,
-    alloc: Global,
-    node: u32,
-    storage: u32,
-    remaining: u64,
-) {
-    let event = heartbeat(rt, alloc, node, [free(storage, remaining)].as_slice());
-    take(rt, topology, &event);
-}
-
-fn free(storage: u32, remaining: u64) -> Remaining {
-    Remaining {
-        storage: StorageId(storage),
-        remaining,
-    }
-}
-
-fn dead(node: u32) -> Event {
-    Event::Dead { node: NodeId(node) }
-}
-
-/// Four nodes with a storage each, two on each of two racks.
-fn four_nodes(rt: &impl Abort, alloc: Global) -> Topology {
-    let mut topology = Topology::new(alloc).expect(rt, "memory");
-    for (node, rack) in [(1, 1), (2, 1), (3, 2), (4, 2)] {
-        let storage = 10 * node + 1;
-        join(rt, &mut topology, alloc, node, rack, storage);
-    }
-    for node in [1, 2, 3, 4] {
-        let storage = 10 * node + 1;
-        tell(rt, &mut topology, alloc, node, storage, 1000);
-    }
-    topology
-}
-
-#[test]
-fn four_nodes_on_two_racks(rt: HostRuntime) {
-    let topology = four_nodes(&rt, rt.alloc());
-    assert_eq!(rt; topology.alive_nodes(), 4);
-    assert!(rt; topology.multi_rack());
-    assert_eq!(rt; topology.node_of(StorageId(31)), Some(NodeId(3)));
-    assert_eq!(rt; topology.rack_of(StorageId(31)), Some(Rack(2)));
-    assert_eq!(rt; topology.remaining(StorageId(31)), Some(1000));
-    assert_eq!(rt; topology.node_of(StorageId(99)), None);
-    assert_eq!(rt; topology.rack_of(StorageId(99)), None);
-    assert_eq!(rt; topology.remaining(StorageId(99)), None);
-}
-
-#[test]
-fn nodes_and_storages_in_rising_order(rt: HostRuntime) {
-    let topology = four_nodes(&rt, rt.alloc());
-    assert_eq!(rt; topology.storage_count(), 4);
-    assert_eq!(rt; topology.storage_at(2), Some(StorageId(31)));
-    assert_eq!(rt; topology.storage_at(4), None);
-    assert_eq!(rt; topology.node_at(0), Some(NodeId(1)));
-    assert_eq!(rt; topology.node_at(4), None);
-}
-
-#[test]
-fn deaths_leave_one_rack(rt: HostRuntime) {
-    let mut topology = four_nodes(&rt, rt.alloc());
-    assert!(rt; topology.multi_after(&dead(3)));
-    take(&rt, &mut topology, &dead(3));
-    assert!(rt; !topology.multi_after(&dead(4)));
-    assert!(rt; topology.multi_rack());
-    take(&rt, &mut topology, &dead(4));
-    assert!(rt; !topology.multi_rack());
-    assert_eq!(rt; topology.node_of(StorageId(31)), None);
-    assert_eq!(rt; topology.storage_count(), 2);
-}
-
-#[test]
-fn a_node_on_another_rack_makes_two(rt: HostRuntime) {
-    let alloc = rt.alloc();
-    let mut topology = Topology::new(alloc).expect(&rt, "memory");
-    let first = bare(alloc, 1, 1);
-    assert!(rt; !topology.multi_after(&first));
-    take(&rt, &mut topology, &first);
-    assert!(rt; !topology.multi_after(&bare(alloc, 2, 1)));
-    assert!(rt; topology.multi_after(&bare(alloc, 2, 2)));
-    assert!(rt; !topology.multi_after(&dead(1)));
-}
-
-/// Nothing is left of the storages of a dead node: it may come again with others.
-#[test]
-fn a_dead_node_comes_again_with_other_storages(rt: HostRuntime) {
-    let alloc = rt.alloc();
-    let mut topology = four_nodes(&rt, alloc);
-    take(&rt, &mut topology, &dead(1));
-    join(&rt, &mut topology, alloc, 1, 7, 13);
-    assert_eq!(rt; topology.node_of(StorageId(11)), None);
-    assert_eq!(rt; topology.rack_of(StorageId(13)), Some(Rack(7)));
-    assert_eq!(rt; topology.remaining(StorageId(13)), Some(0));
-}
-
-#[test]
-fn a_failed_storage_comes_back_with_a_later_node(rt: HostRuntime) {
-    let alloc = rt.alloc();
-    let mut topology = four_nodes(&rt, alloc);
-    let failed = Event::StorageFailed {
-        storage: StorageId(11),
-    };
-    take(&rt, &mut topology, &failed);
-    assert_eq!(rt; topology.alive_nodes(), 4);
-    assert_eq!(rt; topology.check(&failed), Err(Refusal::UnknownStorage));
-    join(&rt, &mut topology, alloc, 5, 1, 11);
-    assert_eq!(rt; topology.node_of(StorageId(11)), Some(NodeId(5)));
-    assert_eq!(rt; topology.remaining(StorageId(11)), Some(0));
-}
-
-#[test]
-fn the_last_value_of_a_storage_counts(rt: HostRuntime) {
-    let alloc = rt.alloc();
-    let mut topology = four_nodes(&rt, alloc);
-    let told = [free(11, 5), free(11, 18_446_744_073_709_551_615)];
-    take(
-        &rt,
-        &mut topology,
-        &heartbeat(&rt, alloc, 1, told.as_slice()),
-    );
-    assert_eq!(rt;
-        topology.remaining(StorageId(11)),
-        Some(18_446_744_073_709_551_615)
-    );
-}
-
-#[test]
-fn what_is_given_up_leaves_the_cluster(rt: HostRuntime) {
-    let alloc = rt.alloc();
-    let mut topology = four_nodes(&rt, alloc);
-    let fifth = register(&rt, alloc, 5, 1, [StorageId(51)].as_slice());
-    topology.check(&fifth).expect(&rt, "an event to be taken");
-    topology.prepare(&fifth).expect(&rt, "memory");
-    topology.abort();
-    assert_eq!(rt; topology.alive_nodes(), 4);
-    assert_eq!(rt; topology.node_of(StorageId(51)), None);
-    take(&rt, &mut topology, &fifth);
-    assert_eq!(rt; topology.alive_nodes(), 5);
-}
-
-/// The refusal of a node with two storages, on rack 1.
-fn refusal_of(
-    rt: &impl Abort,
-    topology: &Topology,
-    alloc: Global,
-    node: u32,
-    first: u32,
-    second: u32,
-) -> Option<Refusal> {
-    let two = [StorageId(first), StorageId(second)];
-    let event = register(rt, alloc, node, 1, two.as_slice());
-    topology.check(&event).err()
-}
-
-#[test]
-fn registrations_are_refused_in_the_order_of_their_checks(rt: HostRuntime) {
-    let alloc = rt.alloc();
-    let topology = four_nodes(&rt, alloc);
-    assert_eq!(rt;
-        refusal_of(&rt, &topology, alloc, 1, 99, 99),
-        Some(Refusal::NodeKnown)
-    );
-    assert_eq!(rt;
-        refusal_of(&rt, &topology, alloc, 5, 51, 51),
-        Some(Refusal::StorageKnown)
-    );
-    assert_eq!(rt;
-        refusal_of(&rt, &topology, alloc, 5, 11, 11),
-        Some(Refusal::StorageKnown)
-    );
-    assert_eq!(rt;
-        refusal_of(&rt, &topology, alloc, 5, 51, 11),
-        Some(Refusal::StorageKnown)
-    );
-    assert_eq!(rt; topology.check(&bare(alloc, 5, 1)), Ok(()));
-}
-
-/// The refusal of a heartbeat of two storages.
-fn refusal_of_told(
-    rt: &impl Abort,
-    topology: &Topology,
-    alloc: Global,
-    node: u32,
-    first: u32,
-    second: u32,
-) -> Option<Refusal> {
-    let two = [free(first, 5), free(second, 5)];
-    let event = heartbeat(rt, alloc, node, two.as_slice());
-    topology.check(&event).err()
-}
-
-#[test]
-fn heartbeats_are_refused_in_the_order_of_their_checks(rt: HostRuntime) {
-    let alloc = rt.alloc();
-    let topology = four_nodes(&rt, alloc);
-    assert_eq!(rt;
-        refusal_of_told(&rt, &topology, alloc, 9, 99, 99),
-        Some(Refusal::UnknownNode)
-    );
-    assert_eq!(rt;
-        refusal_of_told(&rt, &topology, alloc, 1, 21, 99),
-        Some(Refusal::UnknownStorage)
-    );
-    assert_eq!(rt;
-        refusal_of_told(&rt, &topology, alloc, 1, 11, 21),
-        Some(Refusal::NotItsStorage)
-    );
-    assert_eq!(rt; topology.check(&dead(9)), Err(Refusal::UnknownNode));
-}
-
-/// A full report of a storage with so many entries.
-fn report(rt: &impl Abort, alloc: Global, storage: u32, count: usize) -> Event {
+/// So many entries of one block.
+fn entries(rt: &impl Abort, alloc: Global, count: usize) -> Items<Entry> {
     let mut entries = Vec::new(alloc);
     for _ in 0..count {
         let entry = Entry {
@@ -276,71 +88,441 @@ fn report(rt: &impl Abort, alloc: Global, storage: u32, count: usize) -> Event {
         };
         entries.push(entry).expect(rt, "memory");
     }
-    Event::FullReport {
-        storage: StorageId(storage),
-        entries: Items::from_vec(entries),
+    Items::from_vec(entries)
+}
+
+fn heartbeat(rt: &impl Abort, alloc: Global, node: u32, told: &[Remaining]) -> Event {
+    Event::Heartbeat {
+        node: NodeId(node),
+        remaining: Items::from_vec(Vec::from_slice(alloc, told).expect(rt, "memory")),
     }
 }
 
+fn free(storage: u32, remaining: u64) -> Remaining {
+    Remaining {
+        storage: StorageId(storage),
+        remaining,
+    }
+}
+
+fn two(rt: &impl Abort, alloc: Global, first: u32, second: u32) -> Items<StorageId> {
+    let both = [StorageId(first), StorageId(second)];
+    Items::from_vec(Vec::from_slice(alloc, both.as_slice()).expect(rt, "memory"))
+}
+
+fn event_of(rt: &impl Abort, alloc: Global, told: Told) -> Event {
+    match told {
+        Told::Comes(node, rack, first, count) => Event::Register {
+            node: NodeId(node),
+            rack: Rack(rack),
+            storages: storages(rt, alloc, first, count),
+        },
+        Told::ComesWithTwo(node, first, second) => Event::Register {
+            node: NodeId(node),
+            rack: Rack(1),
+            storages: two(rt, alloc, first, second),
+        },
+        Told::Beats(node, storage, left) => {
+            heartbeat(rt, alloc, node, [free(storage, left)].as_slice())
+        }
+        Told::BeatsWithTwo(node, first, left, second, other) => {
+            heartbeat(
+                rt,
+                alloc,
+                node,
+                [free(first, left), free(second, other)].as_slice(),
+            )
+        }
+        Told::Dies(node) => Event::Dead { node: NodeId(node) },
+        Told::Fails(storage) => Event::StorageFailed {
+            storage: StorageId(storage),
+        },
+        Told::Reports(storage, count) => Event::FullReport {
+            storage: StorageId(storage),
+            entries: entries(rt, alloc, count),
+        },
+    }
+}
+
+fn take(topology: &mut Topology, event: &Event) -> Answer {
+    if let Err(refusal) = topology.check(event) {
+        return Answer::Refused(refusal);
+    }
+    if let Err(refusal) = topology.prepare(event) {
+        return Answer::Refused(refusal);
+    }
+    topology.commit(event);
+    Answer::Fine
+}
+
+fn give_up(topology: &mut Topology, event: &Event) -> Answer {
+    if let Err(refusal) = topology.check(event) {
+        return Answer::Refused(refusal);
+    }
+    if let Err(refusal) = topology.prepare(event) {
+        return Answer::Refused(refusal);
+    }
+    topology.abort();
+    Answer::Fine
+}
+
+fn checked(topology: &Topology, event: &Event) -> Answer {
+    match topology.check(event) {
+        Ok(()) => Answer::Fine,
+        Err(refusal) => Answer::Refused(refusal),
+    }
+}
+
+fn yes(is_so: bool) -> Answer {
+    if is_so { Answer::Yes } else { Answer::No }
+}
+
+fn number(found: Option<u64>) -> Answer {
+    match found {
+        Some(number) => Answer::Number(number),
+        None => Answer::Nothing,
+    }
+}
+
+fn done_with(topology: &mut Topology, deed: Deed, event: &Event) -> Answer {
+    match deed {
+        Deed::Take => take(topology, event),
+        Deed::Check => checked(topology, event),
+        Deed::GiveUp => give_up(topology, event),
+        Deed::Foresee => yes(topology.multi_after(event)),
+    }
+}
+
+/// `Fine` where each of the 256 is taken.
+fn crowd(topology: &mut Topology, alloc: Global) -> Answer {
+    for node in 0..256 {
+        let event = Event::Register {
+            node: NodeId(node),
+            rack: Rack(node),
+            storages: Items::from_vec(Vec::new(alloc)),
+        };
+        if take(topology, &event) != Answer::Fine {
+            return Answer::No;
+        }
+    }
+    Answer::Fine
+}
+
+fn answer_of(rt: &impl Abort, alloc: Global, topology: &mut Topology, step: Step) -> Answer {
+    match step {
+        Step::Do(deed, told) => done_with(topology, deed, &event_of(rt, alloc, told)),
+        Step::Crowd => crowd(topology, alloc),
+        Step::HasRacks => yes(topology.multi_rack()),
+        _ => number(looked_up(topology, step)),
+    }
+}
+
+fn looked_up(topology: &Topology, step: Step) -> Option<u64> {
+    match step {
+        Step::Nodes => Some(u64::from(topology.alive_nodes())),
+        Step::Storages => Some(u64::from(topology.storage_count())),
+        Step::NodeOf(storage) => topology.node_of(StorageId(storage)).map(|n| u64::from(n.0)),
+        Step::RackOf(storage) => topology.rack_of(StorageId(storage)).map(|r| u64::from(r.0)),
+        Step::FreeOn(storage) => topology.remaining(StorageId(storage)),
+        Step::NodeAt(place) => topology.node_at(place).map(|n| u64::from(n.0)),
+        Step::StorageAt(place) => topology.storage_at(place).map(|s| u64::from(s.0)),
+        _ => None,
+    }
+}
+
+/// Goes the steps one after another; each answers as it must.
+fn go(rt: &impl Abort, alloc: Global, topology: &mut Topology, steps: &[(Step, Answer)]) {
+    for (place, (step, must)) in steps.iter().enumerate() {
+        let is = answer_of(rt, alloc, topology, *step);
+        assert_eq!(rt; is, *must, "step {place}");
+    }
+}
+
+const NOTHING: [(Step, Answer); 0] = [];
+
+/// Four nodes with a storage each, two on each of two racks.
+const FOUR_NODES: [(Step, Answer); 12] = [
+    (Step::Do(Deed::Take, Told::Comes(1, 1, 11, 1)), Answer::Fine),
+    (Step::Do(Deed::Take, Told::Comes(2, 1, 21, 1)), Answer::Fine),
+    (Step::Do(Deed::Take, Told::Comes(3, 2, 31, 1)), Answer::Fine),
+    (Step::Do(Deed::Take, Told::Comes(4, 2, 41, 1)), Answer::Fine),
+    (Step::FreeOn(11), Answer::Number(0)),
+    (Step::FreeOn(21), Answer::Number(0)),
+    (Step::FreeOn(31), Answer::Number(0)),
+    (Step::FreeOn(41), Answer::Number(0)),
+    (Step::Do(Deed::Take, Told::Beats(1, 11, 1000)), Answer::Fine),
+    (Step::Do(Deed::Take, Told::Beats(2, 21, 1000)), Answer::Fine),
+    (Step::Do(Deed::Take, Told::Beats(3, 31, 1000)), Answer::Fine),
+    (Step::Do(Deed::Take, Told::Beats(4, 41, 1000)), Answer::Fine),
+];
+
+/// The steps on a cluster that was led so far.
+fn go_from(rt: &impl Abort, alloc: Global, so_far: &[(Step, Answer)], steps: &[(Step, Answer)]) {
+    let mut topology = Topology::new(alloc).expect(rt, "memory");
+    go(rt, alloc, &mut topology, so_far);
+    go(rt, alloc, &mut topology, steps);
+}
+
+const FOUR_NODES_IN_RISING_ORDER_ON_TWO_RACKS: [(Step, Answer); 13] = [
+    (Step::Nodes, Answer::Number(4)),
+    (Step::HasRacks, Answer::Yes),
+    (Step::NodeOf(31), Answer::Number(3)),
+    (Step::RackOf(31), Answer::Number(2)),
+    (Step::FreeOn(31), Answer::Number(1000)),
+    (Step::NodeOf(99), Answer::Nothing),
+    (Step::RackOf(99), Answer::Nothing),
+    (Step::FreeOn(99), Answer::Nothing),
+    (Step::Storages, Answer::Number(4)),
+    (Step::StorageAt(2), Answer::Number(31)),
+    (Step::StorageAt(4), Answer::Nothing),
+    (Step::NodeAt(0), Answer::Number(1)),
+    (Step::NodeAt(4), Answer::Nothing),
+];
+
 #[test]
-fn reports_have_a_limit(rt: HostRuntime) {
-    let alloc = rt.alloc();
-    let topology = four_nodes(&rt, alloc);
-    assert_eq!(rt; topology.check(&report(&rt, alloc, 11, 65_536)), Ok(()));
-    assert_eq!(rt;
-        topology.check(&report(&rt, alloc, 11, 65_537)),
-        Err(Refusal::TooMany)
-    );
-    assert_eq!(rt;
-        topology.check(&report(&rt, alloc, 99, 65_537)),
-        Err(Refusal::UnknownStorage)
+fn four_nodes_in_rising_order_on_two_racks(rt: HostRuntime) {
+    go_from(
+        &rt,
+        rt.alloc(),
+        FOUR_NODES.as_slice(),
+        FOUR_NODES_IN_RISING_ORDER_ON_TWO_RACKS.as_slice(),
     );
 }
+
+const DEATHS_LEAVE_ONE_RACK: [(Step, Answer); 8] = [
+    (Step::Do(Deed::Foresee, Told::Dies(3)), Answer::Yes),
+    (Step::Do(Deed::Take, Told::Dies(3)), Answer::Fine),
+    (Step::Do(Deed::Foresee, Told::Dies(4)), Answer::No),
+    (Step::HasRacks, Answer::Yes),
+    (Step::Do(Deed::Take, Told::Dies(4)), Answer::Fine),
+    (Step::HasRacks, Answer::No),
+    (Step::NodeOf(31), Answer::Nothing),
+    (Step::Storages, Answer::Number(2)),
+];
+
+#[test]
+fn deaths_leave_one_rack(rt: HostRuntime) {
+    go_from(
+        &rt,
+        rt.alloc(),
+        FOUR_NODES.as_slice(),
+        DEATHS_LEAVE_ONE_RACK.as_slice(),
+    );
+}
+
+const A_NODE_ON_ANOTHER_RACK_MAKES_TWO: [(Step, Answer); 5] = [
+    (Step::Do(Deed::Foresee, Told::Comes(1, 1, 0, 0)), Answer::No),
+    (Step::Do(Deed::Take, Told::Comes(1, 1, 0, 0)), Answer::Fine),
+    (Step::Do(Deed::Foresee, Told::Comes(2, 1, 0, 0)), Answer::No),
+    (
+        Step::Do(Deed::Foresee, Told::Comes(2, 2, 0, 0)),
+        Answer::Yes,
+    ),
+    (Step::Do(Deed::Foresee, Told::Dies(1)), Answer::No),
+];
+
+#[test]
+fn a_node_on_another_rack_makes_two(rt: HostRuntime) {
+    go_from(
+        &rt,
+        rt.alloc(),
+        NOTHING.as_slice(),
+        A_NODE_ON_ANOTHER_RACK_MAKES_TWO.as_slice(),
+    );
+}
+
+const A_DEAD_NODE_COMES_AGAIN_WITH_OTHER_STORAGES: [(Step, Answer); 5] = [
+    (Step::Do(Deed::Take, Told::Dies(1)), Answer::Fine),
+    (Step::Do(Deed::Take, Told::Comes(1, 7, 13, 1)), Answer::Fine),
+    (Step::NodeOf(11), Answer::Nothing),
+    (Step::RackOf(13), Answer::Number(7)),
+    (Step::FreeOn(13), Answer::Number(0)),
+];
+
+/// Nothing is left of the storages of a dead node: it may come again with others.
+#[test]
+fn a_dead_node_comes_again_with_other_storages(rt: HostRuntime) {
+    go_from(
+        &rt,
+        rt.alloc(),
+        FOUR_NODES.as_slice(),
+        A_DEAD_NODE_COMES_AGAIN_WITH_OTHER_STORAGES.as_slice(),
+    );
+}
+
+const A_FAILED_STORAGE_COMES_BACK_WITH_A_LATER_NODE: [(Step, Answer); 6] = [
+    (Step::Do(Deed::Take, Told::Fails(11)), Answer::Fine),
+    (Step::Nodes, Answer::Number(4)),
+    (
+        Step::Do(Deed::Check, Told::Fails(11)),
+        Answer::Refused(Refusal::UnknownStorage),
+    ),
+    (Step::Do(Deed::Take, Told::Comes(5, 1, 11, 1)), Answer::Fine),
+    (Step::NodeOf(11), Answer::Number(5)),
+    (Step::FreeOn(11), Answer::Number(0)),
+];
+
+#[test]
+fn a_failed_storage_comes_back_with_a_later_node(rt: HostRuntime) {
+    go_from(
+        &rt,
+        rt.alloc(),
+        FOUR_NODES.as_slice(),
+        A_FAILED_STORAGE_COMES_BACK_WITH_A_LATER_NODE.as_slice(),
+    );
+}
+
+const THE_LAST_VALUE_OF_A_STORAGE_COUNTS: [(Step, Answer); 2] = [
+    (
+        Step::Do(
+            Deed::Take,
+            Told::BeatsWithTwo(1, 11, 5, 11, 18_446_744_073_709_551_615),
+        ),
+        Answer::Fine,
+    ),
+    (Step::FreeOn(11), Answer::Number(18_446_744_073_709_551_615)),
+];
+
+#[test]
+fn the_last_value_of_a_storage_counts(rt: HostRuntime) {
+    go_from(
+        &rt,
+        rt.alloc(),
+        FOUR_NODES.as_slice(),
+        THE_LAST_VALUE_OF_A_STORAGE_COUNTS.as_slice(),
+    );
+}
+
+const WHAT_IS_GIVEN_UP_LEAVES_THE_CLUSTER: [(Step, Answer); 5] = [
+    (
+        Step::Do(Deed::GiveUp, Told::Comes(5, 1, 51, 1)),
+        Answer::Fine,
+    ),
+    (Step::Nodes, Answer::Number(4)),
+    (Step::NodeOf(51), Answer::Nothing),
+    (Step::Do(Deed::Take, Told::Comes(5, 1, 51, 1)), Answer::Fine),
+    (Step::Nodes, Answer::Number(5)),
+];
+
+#[test]
+fn what_is_given_up_leaves_the_cluster(rt: HostRuntime) {
+    go_from(
+        &rt,
+        rt.alloc(),
+        FOUR_NODES.as_slice(),
+        WHAT_IS_GIVEN_UP_LEAVES_THE_CLUSTER.as_slice(),
+    );
+}
+
+const REFUSALS_IN_THE_ORDER_OF_THE_CHECKS: [(Step, Answer); 12] = [
+    (
+        Step::Do(Deed::Check, Told::ComesWithTwo(1, 99, 99)),
+        Answer::Refused(Refusal::NodeKnown),
+    ),
+    (
+        Step::Do(Deed::Check, Told::ComesWithTwo(5, 51, 51)),
+        Answer::Refused(Refusal::StorageKnown),
+    ),
+    (
+        Step::Do(Deed::Check, Told::ComesWithTwo(5, 11, 11)),
+        Answer::Refused(Refusal::StorageKnown),
+    ),
+    (
+        Step::Do(Deed::Check, Told::ComesWithTwo(5, 51, 11)),
+        Answer::Refused(Refusal::StorageKnown),
+    ),
+    (Step::Do(Deed::Check, Told::Comes(5, 1, 0, 0)), Answer::Fine),
+    (
+        Step::Do(Deed::Check, Told::BeatsWithTwo(9, 99, 5, 99, 5)),
+        Answer::Refused(Refusal::UnknownNode),
+    ),
+    (
+        Step::Do(Deed::Check, Told::BeatsWithTwo(1, 21, 5, 99, 5)),
+        Answer::Refused(Refusal::UnknownStorage),
+    ),
+    (
+        Step::Do(Deed::Check, Told::BeatsWithTwo(1, 11, 5, 21, 5)),
+        Answer::Refused(Refusal::NotItsStorage),
+    ),
+    (
+        Step::Do(Deed::Check, Told::Dies(9)),
+        Answer::Refused(Refusal::UnknownNode),
+    ),
+    (
+        Step::Do(Deed::Check, Told::Reports(11, 65_536)),
+        Answer::Fine,
+    ),
+    (
+        Step::Do(Deed::Check, Told::Reports(11, 65_537)),
+        Answer::Refused(Refusal::TooMany),
+    ),
+    (
+        Step::Do(Deed::Check, Told::Reports(99, 65_537)),
+        Answer::Refused(Refusal::UnknownStorage),
+    ),
+];
+
+#[test]
+fn refusals_in_the_order_of_the_checks(rt: HostRuntime) {
+    go_from(
+        &rt,
+        rt.alloc(),
+        FOUR_NODES.as_slice(),
+        REFUSALS_IN_THE_ORDER_OF_THE_CHECKS.as_slice(),
+    );
+}
+
+const NO_257TH_NODE: [(Step, Answer); 5] = [
+    (Step::Crowd, Answer::Fine),
+    (Step::Nodes, Answer::Number(256)),
+    (
+        Step::Do(Deed::Check, Told::Comes(256, 1, 0, 0)),
+        Answer::Refused(Refusal::TooMany),
+    ),
+    (Step::Do(Deed::Take, Told::Dies(9)), Answer::Fine),
+    (
+        Step::Do(Deed::Check, Told::Comes(256, 1, 0, 0)),
+        Answer::Fine,
+    ),
+];
 
 #[test]
 fn no_257th_node(rt: HostRuntime) {
-    let alloc = rt.alloc();
-    let mut topology = Topology::new(alloc).expect(&rt, "memory");
-    for node in 0..256 {
-        take(&rt, &mut topology, &bare(alloc, node, node));
-    }
-    assert_eq!(rt; topology.alive_nodes(), 256);
-    let further = bare(alloc, 256, 1);
-    assert_eq!(rt; topology.check(&further), Err(Refusal::TooMany));
-    take(&rt, &mut topology, &dead(9));
-    assert_eq!(rt; topology.check(&further), Ok(()));
+    go_from(
+        &rt,
+        rt.alloc(),
+        NOTHING.as_slice(),
+        NO_257TH_NODE.as_slice(),
+    );
 }
 
-/// The storages from one number up to another, the last excluded.
-fn storages(rt: &impl Abort, alloc: Global, from: u32, until: u32) -> Vec<StorageId> {
-    let mut ids = Vec::new(alloc);
-    for number in from..until {
-        ids.push(StorageId(number)).expect(rt, "memory");
-    }
-    ids
-}
+const NO_1025TH_STORAGE: [(Step, Answer); 6] = [
+    (
+        Step::Do(Deed::Take, Told::Comes(1, 1, 0, 1023)),
+        Answer::Fine,
+    ),
+    (
+        Step::Do(Deed::Check, Told::ComesWithTwo(2, 2000, 2001)),
+        Answer::Refused(Refusal::TooMany),
+    ),
+    (
+        Step::Do(Deed::Take, Told::Comes(2, 1, 2000, 1)),
+        Answer::Fine,
+    ),
+    (Step::Storages, Answer::Number(1024)),
+    (Step::StorageAt(1023), Answer::Number(2000)),
+    (
+        Step::Do(Deed::Check, Told::Comes(3, 1, 2001, 1)),
+        Answer::Refused(Refusal::TooMany),
+    ),
+];
 
 #[test]
 fn no_1025th_storage(rt: HostRuntime) {
-    let alloc = rt.alloc();
-    let mut topology = Topology::new(alloc).expect(&rt, "memory");
-    let many = storages(&rt, alloc, 0, 1023);
-    take(
+    go_from(
         &rt,
-        &mut topology,
-        &register(&rt, alloc, 1, 1, many.as_slice()),
+        rt.alloc(),
+        NOTHING.as_slice(),
+        NO_1025TH_STORAGE.as_slice(),
     );
-    let two_more = register(
-        &rt,
-        alloc,
-        2,
-        1,
-        [StorageId(2000), StorageId(2001)].as_slice(),
-    );
-    assert_eq!(rt; topology.check(&two_more), Err(Refusal::TooMany));
-    join(&rt, &mut topology, alloc, 2, 1, 2000);
-    assert_eq!(rt; topology.storage_count(), 1024);
-    assert_eq!(rt; topology.storage_at(1023), Some(StorageId(2000)));
-    let one_more = register(&rt, alloc, 3, 1, [StorageId(2001)].as_slice());
-    assert_eq!(rt; topology.check(&one_more), Err(Refusal::TooMany));
 }
