@@ -5,8 +5,8 @@ ghost use Rattle.bm_base.specs.Map as map;
 ghost use Rattle.bm_base.specs.Events as events;
 ghost use Rattle.bm_base.specs.Replicas as replicas_of;
 ghost use Rattle.bm_base.specs.Calls as calls;
-ghost use Rattle.bm_base.specs.Answering.{takes_memory};
 ghost use Rattle.bm_manager.specs.Changed.{changed};
+ghost use Rattle.bm_manager.specs.Growth.{grows_holdings};
 
 use crate::holdings::Holdings;
 use crate::standing::has_storage;
@@ -33,7 +33,7 @@ impl Holdings {
     pub fn change(&mut self, topology: &Topology, event: &Event) -> Result<Done, AllocError>
         ensures done { IfOk result (λ d. d ≡ calls.done self.old (events.change_holdings topology.now.cluster self.old event.now)) }
         ensures state { OnOk result (self.new ≡ events.change_holdings topology.now.cluster self.old event.now) }
-        ensures memory { OnErr result (IsTrue (takes_memory event.now)) }
+        ensures memory { OnErr result (IsTrue (grows_holdings event.now)) }
         ensures unchanged { OnErr result (self.new ≡ self.old) }
     {
         match event {

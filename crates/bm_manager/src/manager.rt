@@ -1,10 +1,11 @@
 // The manager: one call after another.
-ghost use Rattle.std.specs.Prelude.{◌≡◌, ◌<◌, true, None, IfOk, IfErr, OnOk, OnErr};
+ghost use Rattle.std.specs.Prelude.{◌≡◌, ◌<◌, true, false, None, IfOk, IfErr, IsOk, OnOk, OnErr};
 ghost use Rattle.bm_base.specs.State.{first_state};
 ghost use Rattle.bm_base.specs.Refusals.{refusal_of, first_of, cluster_checks, last_number};
 ghost use Rattle.bm_base.specs.Configuration.{config_refusal};
 ghost use Rattle.bm_base.specs.Calls.{done_by, after_event};
 ghost use Rattle.bm_base.specs.Answering.{checked, Refuses, takes_memory};
+ghost use Rattle.bm_manager.specs.Growth.{needs_memory};
 
 use crate::holdings::Holdings;
 use bm_base::{Config, Done, Event, Refusal};
@@ -45,11 +46,12 @@ impl Model for Manager {
 
 impl Manager {
     /// An empty manager: no node, no block, and the numbers of the configuration. `BadConfig` where the configuration is
-    /// outside its ranges; `Memory`.
+    /// outside its ranges. Takes no memory yet, so it succeeds with any other.
     pub fn new(alloc: Global, config: Config) -> Result<Manager, Refusal>
         ensures allowed { OnOk result (config_refusal config ≡ None) }
         ensures state { IfOk result (λ m. m ≡ first_state config) }
         ensures refused { IfErr result (Refuses (config_refusal config) true) }
+        ensures succeeds { config_refusal config ≡ None → IsOk result }
     {
         config.check()?;
         Ok(Manager {
@@ -64,13 +66,15 @@ impl Manager {
 
     /// Takes one event. The refusals are those of its variant in their order, then `CallsSpent` where the number of accepted
     /// calls is at its last value, then `Memory`; a refused event changes nothing. Heartbeat, DeleteBlock, SetReplication,
-    /// Restamp, Deleted and Corrupt take no memory, so they are accepted where no check refuses them.
+    /// Restamp, Deleted and Corrupt take no memory, and Dead and StorageFailed take none so far, so they are accepted where no
+    /// check refuses them.
     #[tactic(auto, unfolding(bm_base::specs::Calls::after_event, bm_base::specs::Calls::done_by))]
     pub fn apply(&mut self, event: &Event) -> Result<Done, Refusal>
         ensures accepted { OnOk result (refusal_of self.old event.now ≡ None) }
         ensures done { IfOk result (λ d. d ≡ done_by self.old event.now) }
         ensures state { OnOk result (self.new ≡ after_event self.old event.now) }
         ensures refused { IfErr result (Refuses (refusal_of self.old event.now) (takes_memory event.now)) }
+        ensures without_memory { refusal_of self.old event.now ≡ None → needs_memory event.now ≡ false → IsOk result }
         ensures unchanged { OnErr result (self.new ≡ self.old) }
     {
         self.check(event)?;
