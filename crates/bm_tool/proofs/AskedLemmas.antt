@@ -2,13 +2,14 @@
 use Rattle.std.proofs.Common.{◌≡◌, ℕ, ◌<◌, ◌≤◌, List, length, refl}
 use Rattle.std.proofs.lemmas.Bool.{lt-ltb, le-ltb}
 use Rattle.bm_tool.specs.CallOf.{call_of}
-use Rattle.bm_tool.specs.Text.{max_line, asked, asked_by}
+use Rattle.bm_tool.specs.Text.{asked, asked_by}
+use Rattle.bm_tool.specs.declared.limits.TheConstants.{MAX_LINE}
 use Rattle.bm_tool.specs.declared.reply.Asked.TheVariants.{Long}
 
-pub asked-long : (line : List ℕ) → max_line < length line → Long ≡ asked line
+pub asked-long : (line : List ℕ) → MAX_LINE < length line → Long ≡ asked line
 unfolding asked
-asked-long line h = rw (lt-ltb max_line (length line) h) refl
+asked-long line h = rw (lt-ltb MAX_LINE (length line) h) refl
 
-pub asked-short : (line : List ℕ) → length line ≤ max_line → asked_by (call_of line) ≡ asked line
+pub asked-short : (line : List ℕ) → length line ≤ MAX_LINE → asked_by (call_of line) ≡ asked line
 unfolding asked
-asked-short line h = rw (le-ltb max_line (length line) h) refl
+asked-short line h = rw (le-ltb MAX_LINE (length line) h) refl

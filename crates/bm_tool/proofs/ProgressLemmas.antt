@@ -1,19 +1,20 @@
 -- How a run comes further.
-use Rattle.std.proofs.Common.{◌≡◌, ℕ, zero, suc, ◌+◌, ◌-◌, ◌<◌, ◌≤◌, ◌==◌, Bool, true, false, List, [], ◌∷◌, ◌++◌, length, take, min, refl, sym, ap, ◌∙◌, append_assoc, append-nil, arith, length-append, inl, inr, ◌⊎◌, if◌then◌else◌}
+use Rattle.std.proofs.Common.{◌≡◌, ℕ, zero, suc, ◌+◌, ◌-◌, ◌<◌, ◌≤◌, ◌==◌, Bool, true, false, List, [], ◌∷◌, ◌++◌, length, take, min, refl, sym, ap, ◌∙◌, append_assoc, append-nil, add-one, arith, length-append, inl, inr, ◌⊎◌, if◌then◌else◌}
 use Rattle.std.specs.Prelude.{Option, Some, None, Result, Ok, Err, is_err, OnOk}
 use Rattle.std.specs.Int.{from_bool}
 use Rattle.std.specs.Io.KnownBytes.{Appends, Keeps}
 use Rattle.std.proofs.lemmas.List.{length_push, take-append-le, take_min}
 use Rattle.bm_base.specs.State.{State}
+use Rattle.bm_tool.specs.declared.limits.TheConstants.{MAX_LINES}
 use Rattle.bm_tool.specs.declared.session.Session.{Session}
 use Rattle.bm_tool.specs.declared.reply.Asked.{Asked}
 use Rattle.bm_tool.specs.declared.fault.Fault.{Fault}
 use Rattle.bm_tool.specs.declared.fault.Fault.TheVariants.{Config, Read, Write, Memory, TooMuch}
 use Rattle.bm_tool.specs.Lines.{line_end, onto, onto_whole, IsPart, ended, lines_of, whole_lines}
-use Rattle.bm_tool.specs.Text.{asked, asked_text, asked_next, asked_refused, max_lines, line_text, line_next, line_refused, texts, after, refusals}
+use Rattle.bm_tool.specs.Text.{asked, asked_text, asked_next, asked_refused, line_text, line_next, line_refused, texts, after, refusals}
 use Rattle.bm_tool.specs.Held.{Holds}
-use Rattle.bm_tool.specs.Progress.{Progress, Stopped, Overflows, LineFault, PieceFault, IsSummary}
-use Rattle.bm_tool.proofs.LineLemmas.{rest_line, splits_none, splits_part, splits_end, lines_of-split, whole_lines-split, lines_of-begin, whole_lines-begin}
+use Rattle.bm_tool.specs.Progress.{Progress, Answered, MayBeWorked, Interrupted, Overflows, LineFault, PieceFault, IsSummary}
+use Rattle.bm_tool.proofs.LineLemmas.{rest_line, lines_of-first, IsPart-append, splits_none, splits_part, splits_end, lines_of-split, whole_lines-split, lines_of-begin, whole_lines-begin}
 use Rattle.bm_tool.proofs.TextLemmas.{texts-push, after-push, refusals-push}
 
 -- ---- known bytes
@@ -27,6 +28,12 @@ Appends-then None b c xs ys p q = tt
 Appends-then (Some old) None c xs ys p q = absurd p
 Appends-then (Some old) (Some mid) None xs ys p q = absurd q
 Appends-then (Some old) (Some mid) (Some new) xs ys p q = rw (q, p) (append_assoc old xs ys)
+
+pub Appends-keeps : (a b c : Option (List ℕ)) (xs : List ℕ) → Appends a b xs → Keeps b c → Appends a c xs
+Appends-keeps None b c xs p q = tt
+Appends-keeps (Some old) None c xs p q = absurd p
+Appends-keeps (Some old) (Some mid) None xs p q = absurd q
+Appends-keeps (Some old) (Some mid) (Some new) xs p q = q ∙ p
 
 -- what holds at success, where a call did not fail
 pub at_success : {T E P : Type 0} (r : Result T E) (b : Bool) → b ≡ is_err r → b ≡ false → OnOk r P → P
@@ -70,7 +77,7 @@ progress_end M start old new s t bytes a p ask wrote next lines refused empty =
 
 -- bytes without a line end
 pub progress_part : (M : State) (start now : Option (List ℕ)) (s t : Session) (bytes part : List ℕ) → Progress M start now s bytes → IsPart part
-    → s.lines < max_lines → ((rest : List ℕ) → Holds s.line rest → Holds t.line (rest ++ part))
+    → s.lines < MAX_LINES → ((rest : List ℕ) → Holds s.line rest → Holds t.line (rest ++ part))
     → t.manager ≡ s.manager → t.lines ≡ s.lines → t.refused ≡ s.refused → Progress M start now t (bytes ++ part)
 progress_part M start now s t bytes part p no_end few holds manager lines refused = record {
   lines = p.lines;
@@ -89,17 +96,82 @@ take_front [] ys = refl
 take_front (x ∷ xs) ys = ap (λ zs. x ∷ zs) (take_front xs ys)
 
 -- where a run stops, the lines so far are the first ones
-pub progress_stopped : (M : State) (start now : Option (List ℕ)) (s : Session) (bytes more : List ℕ) → Progress M start now s bytes → Stopped M start now (bytes ++ more)
-progress_stopped M start now s bytes more p =
-    (length p.lines, rw (whole_lines-begin p.splits more, take_front p.lines _) p.wrote)
+pub progress_answered : (M : State) (start now : Option (List ℕ)) (s : Session) (done piece : List ℕ) → (p : Progress M start now s done) → Answered M start now done piece (length p.lines)
+progress_answered M start now s done piece p = record {
+  no_fewer = omega (arith, ap length (whole_lines-split p.splits));
+  no_more = omega (arith, ap length (whole_lines-begin p.splits piece), length-append p.lines (whole_lines (p.rest ++ piece)));
+  wrote = rw (whole_lines-begin p.splits piece, take_front p.lines _) p.wrote;
+}
+
+-- no further line was begun
+pub progress_interrupted : (M : State) (start now : Option (List ℕ)) (s : Session) (done piece : List ℕ) → Progress M start now s done → Interrupted M start now s.manager done piece
+progress_interrupted M start now s done piece p = record {
+  answered = length p.lines;
+  written = progress_answered M start now s done piece p;
+  worked = inl (rw (lines_of-begin p.splits piece, take_front p.lines _) p.state);
+}
+
+take_next : (ls : List (List ℕ)) (l : List ℕ) (more : List (List ℕ)) → take (suc (length ls)) (ls ++ l ∷ more) ≡ ls ++ l ∷ []
+take_next [] l more = refl
+take_next (x ∷ ls) l more = ap (λ zs. x ∷ zs) (take_next ls l more)
+
+worked_line : (M : State) (ls : List (List ℕ)) (l : List ℕ) (more : List (List ℕ)) (s now : State) → s ≡ after M ls → MayBeWorked s l now
+    → (now ≡ after M (take (length ls) (ls ++ l ∷ more))) ⊎ (now ≡ after M (take (length ls + 1) (ls ++ l ∷ more)))
+worked_line M ls l more s now e (inl same) = inl (rw take_front (same ∙ e))
+worked_line M ls l more s now e (inr next) = inr (rw (add-one, take_next ls l more, after-push) (next ∙ ap (λ x. line_next x l) e))
+
+lines_of-end : (rest more : List ℕ) → IsPart rest → lines_of (rest ++ line_end ∷ more) ≡ rest ∷ lines_of more
+lines_of-end rest more p = rw append_assoc at (lines_of-first rest more p)
+
+-- the line in work is the next one that ends in the piece
+pub interrupted_line : (M : State) (start now : Option (List ℕ)) (s : Session) (state : State) (done part more : List ℕ) → (p : Progress M start now s done) → IsPart part → MayBeWorked s.manager (p.rest ++ part) state
+    → Interrupted M start now state done (part ++ line_end ∷ more)
+interrupted_line M start now s state done part more p no_end h = record {
+  answered = length p.lines;
+  written = progress_answered M start now s done (part ++ line_end ∷ more) p;
+  worked = rw (lines_of-begin p.splits (part ++ line_end ∷ more), ← append_assoc p.rest part (line_end ∷ more), lines_of-end (p.rest ++ part) more (IsPart-append p.rest part p.splits.partial no_end))
+      (worked_line M p.lines (p.rest ++ part) (lines_of more) s.manager state p.state h);
+}
+
+nonempty_line : (r : List ℕ) → (r ≡ [] → ⊥) → rest_line r ≡ r ∷ []
+nonempty_line [] h = absurd (h refl)
+nonempty_line (x ∷ r) h = refl
+
+-- the line in work is the rest of the input
+pub interrupted_rest : (M : State) (start now : Option (List ℕ)) (s : Session) (state : State) (done : List ℕ) → (p : Progress M start now s done) → (p.rest ≡ [] → ⊥) → MayBeWorked s.manager p.rest state
+    → Interrupted M start now state done []
+interrupted_rest M start now s state done p some h = record {
+  answered = length p.lines;
+  written = progress_answered M start now s done [] p;
+  worked = rw (append-nil, lines_of-split p.splits, nonempty_line p.rest some) (worked_line M p.lines p.rest [] s.manager state p.state h);
+}
+
+pub may_be_worked : (M : State) (a : Asked) (line : List ℕ) (now : State) → a ≡ asked line → (now ≡ M) ⊎ (now ≡ asked_next M a) → MayBeWorked M line now
+unfolding line_next
+may_be_worked M a line now e h = rw (← e) h
+
+-- what was written stands when it is flushed
+pub progress_keeps : (M : State) (start old new : Option (List ℕ)) (s : Session) (bytes : List ℕ) → Progress M start old s bytes → Keeps old new → Progress M start new s bytes
+progress_keeps M start old new s bytes p keeps = record {
+  lines = p.lines;
+  rest = p.rest;
+  splits = p.splits;
+  holds = p.holds;
+  state = p.state;
+  wrote = Appends-keeps start old new _ p.wrote keeps;
+  count = p.count;
+  refused = p.refused;
+  begun = p.begun;
+}
 
 -- a line that was not answered leaves what was written
-pub piece_fault_of_line : (M : State) (start old new : Option (List ℕ)) (bytes : List ℕ) (before now : ℕ) (f : Fault) → LineFault old new before now f → Stopped M start old bytes → PieceFault M start new bytes before now f
-piece_fault_of_line M start old new bytes before now Config h s = absurd h
-piece_fault_of_line M start old new bytes before now Read h s = absurd h
-piece_fault_of_line M start old new bytes before now Write h s = h
-piece_fault_of_line M start old new bytes before now Memory h s = (h.0, rw h.1 s)
-piece_fault_of_line M start old new bytes before now TooMuch h s = absurd h
+pub piece_fault_of_line : (M : State) (start old new : Option (List ℕ)) (state : State) (done piece : List ℕ) (before now : ℕ) (f : Fault) → LineFault old new before now f → Interrupted M start old state done piece
+    → PieceFault M start new state done piece before now f
+piece_fault_of_line M start old new state done piece before now Config h s = absurd h
+piece_fault_of_line M start old new state done piece before now Read h s = absurd h
+piece_fault_of_line M start old new state done piece before now Write h s = h
+piece_fault_of_line M start old new state done piece before now Memory h s = (h.0, rw h.1 s)
+piece_fault_of_line M start old new state done piece before now TooMuch h s = absurd h
 
 begins : (xs : List ℕ) → 0 < length xs → 0 < length (lines_of xs)
 unfolding lines_of
@@ -116,27 +188,17 @@ one_if true = refl
 one_if false = refl
 
 -- too many lines: as many as may be are answered, and more bytes are there
-pub progress_overflows : (M : State) (start now : Option (List ℕ)) (s : Session) (bytes more : List ℕ) → Progress M start now s bytes → s.lines ≡ max_lines → 0 < length more → Overflows M start now (bytes ++ more)
+pub progress_overflows : (M : State) (start now : Option (List ℕ)) (s : Session) (bytes more : List ℕ) → Progress M start now s bytes → s.lines ≡ MAX_LINES → 0 < length more → Overflows M start now (bytes ++ more)
 progress_overflows M start now s bytes more p full some =
-    let all : length p.lines ≡ max_lines = sym p.count ∙ full in (
+    let all : length p.lines ≡ MAX_LINES = sym p.count ∙ full in (
       rw (lines_of-begin p.splits more) (omega (arith, length-append p.lines (lines_of (p.rest ++ more)), all, begins (p.rest ++ more) (omega (arith, length-append p.rest more)))),
-      rw (whole_lines-begin p.splits more, take_all p.lines _ max_lines all) p.wrote,
+      rw (whole_lines-begin p.splits more, take_all p.lines _ MAX_LINES all) p.wrote,
     )
   where
     take_all : (xs ys : List (List ℕ)) (n : ℕ) → length xs ≡ n → take n (xs ++ ys) ≡ xs
     take_all xs ys n e = rw (← e) (take_front xs ys)
 
 -- ---- the end
-
-pub Appends-keeps : (a b c : Option (List ℕ)) (xs : List ℕ) → Appends a b xs → Keeps b c → Appends a c xs
-Appends-keeps None b c xs p q = tt
-Appends-keeps (Some old) None c xs p q = absurd p
-Appends-keeps (Some old) (Some mid) None xs p q = absurd q
-Appends-keeps (Some old) (Some mid) (Some new) xs p q = q ∙ p
-
-nonempty_line : (r : List ℕ) → (r ≡ [] → ⊥) → rest_line r ≡ r ∷ []
-nonempty_line [] h = absurd (h refl)
-nonempty_line (x ∷ r) h = refl
 
 -- the rest was answered as a line
 pub lines_of-ended : (M : State) (start old new : Option (List ℕ)) (s t : Session) (bytes : List ℕ) (p : Progress M start old s bytes) → (p.rest ≡ [] → ⊥)
@@ -171,11 +233,42 @@ whole_lines-more (x ∷ a) b = let h = whole_lines-more a b in rw h.1 (with_byte
     with_byte false [] ys = (onto_whole x ys, refl)
     with_byte false (l ∷ ls) ys = (ys, refl)
 
-pub stopped_more : (M : State) (start now : Option (List ℕ)) (bytes more : List ℕ) → Stopped M start now bytes → Stopped M start now (bytes ++ more)
-stopped_more M start now bytes more s =
-    let h = whole_lines-more bytes more in
-    let k : ℕ = min s.0 (length (whole_lines bytes)) in
-    (k, rw (h.1, take-append-le k (whole_lines bytes) h.0 (omega arith), take_min) s.1)
+length_more : (a b : List ℕ) → length (whole_lines a) ≤ length (whole_lines (a ++ b))
+length_more a b = let h = whole_lines-more a b in omega (arith, ap length h.1, length-append (whole_lines a) h.0)
+
+-- a longer piece
+pub answered_more : (M : State) (start now : Option (List ℕ)) (done piece more : List ℕ) (n : ℕ) → Answered M start now done piece n → Answered M start now done (piece ++ more) n
+answered_more M start now done piece more n s =
+    let h = whole_lines-more (done ++ piece) more in
+    record {
+      no_fewer = s.no_fewer;
+      no_more = rw (← append_assoc) (omega (arith, s.no_more, length_more (done ++ piece) more));
+      wrote = rw (← append_assoc, h.1, take-append-le n (whole_lines (done ++ piece)) h.0 s.no_more) s.wrote;
+    }
+
+-- a piece that begins earlier
+answered_earlier : (M : State) (start now : Option (List ℕ)) (done taken left : List ℕ) (n : ℕ) → Answered M start now (done ++ taken) left n → Answered M start now done (taken ++ left) n
+answered_earlier M start now done taken left n s = record {
+  no_fewer = omega (arith, s.no_fewer, length_more done taken);
+  no_more = rw (← append_assoc) s.no_more;
+  wrote = rw (← append_assoc) s.wrote;
+}
+
+interrupted_earlier : (M : State) (start now : Option (List ℕ)) (state : State) (done taken left : List ℕ) → Interrupted M start now state (done ++ taken) left
+    → Interrupted M start now state done (taken ++ left)
+interrupted_earlier M start now state done taken left s = record {
+  answered = s.answered;
+  written = answered_earlier M start now done taken left s.answered s.written;
+  worked = rw (← append_assoc) s.worked;
+}
+
+pub fault_earlier : (M : State) (start new : Option (List ℕ)) (state : State) (done taken left : List ℕ) (before now : ℕ) (f : Fault) → PieceFault M start new state (done ++ taken) left before now f
+    → PieceFault M start new state done (taken ++ left) before now f
+fault_earlier M start new state done taken left before now Config h = absurd h
+fault_earlier M start new state done taken left before now Read h = absurd h
+fault_earlier M start new state done taken left before now Write h = h
+fault_earlier M start new state done taken left before now Memory h = (h.0, interrupted_earlier M start new state done taken left h.1)
+fault_earlier M start new state done taken left before now TooMuch h = (h.0, rw (← append_assoc) h.1)
 
 -- ---- limits
 
@@ -183,12 +276,12 @@ one_rest : (r : List ℕ) → (length (rest_line r) ≡ 0) ⊎ ((length (rest_li
 one_rest [] = inl refl
 one_rest (x ∷ r) = inr (refl, omega arith)
 
-few_by : (n k : ℕ) (r : List ℕ) → n ≤ max_lines → (0 < length r → n < max_lines) → k ≡ n + length (rest_line r) → (length (rest_line r) ≡ 0) ⊎ ((length (rest_line r) ≡ 1) × (0 < length r)) → k ≤ max_lines
+few_by : (n k : ℕ) (r : List ℕ) → n ≤ MAX_LINES → (0 < length r → n < MAX_LINES) → k ≡ n + length (rest_line r) → (length (rest_line r) ≡ 0) ⊎ ((length (rest_line r) ≡ 1) × (0 < length r)) → k ≤ MAX_LINES
 few_by n k r few begun e (inl none) = omega (arith, none)
 few_by n k r few begun e (inr h) = omega (arith, h.0, begun h.1)
 
 -- no more lines are read than may be, the one that is held counted
-pub few_lines : {M : State} {start now : Option (List ℕ)} {s : Session} {bytes : List ℕ} → Progress M start now s bytes → length (lines_of bytes) ≤ max_lines
+pub few_lines : {M : State} {start now : Option (List ℕ)} {s : Session} {bytes : List ℕ} → Progress M start now s bytes → length (lines_of bytes) ≤ MAX_LINES
 few_lines {s = s} {bytes = bytes} p =
     few_by (length p.lines) (length (lines_of bytes)) p.rest (omega (arith, p.count, s.few)) p.begun
     (ap length (lines_of-split p.splits) ∙ length-append p.lines (rest_line p.rest)) (one_rest p.rest)

@@ -1,5 +1,5 @@
 -- A whole run: what was read and handed on.
-use Rattle.std.proofs.Common.{◌≡◌, ℕ, zero, suc, ◌+◌, ◌<◌, ◌≤◌, List, [], ◌∷◌, ◌++◌, length, take, drop, refl, sym, ap, ◌∙◌, append_assoc, append-nil, arith, inl, inr}
+use Rattle.std.proofs.Common.{◌≡◌, ℕ, Bool, true, zero, suc, ◌+◌, ◌<◌, ◌≤◌, List, [], ◌∷◌, ◌++◌, length, take, drop, refl, sym, ap, ◌∙◌, append_assoc, append-nil, arith, inl, inr}
 use Rattle.std.specs.Prelude.{Option, Some, None, Result, Ok, Err, IfOk, IfErr, IfSome, OnOk}
 use Rattle.std.specs.Io.KnownBytes.{Appends, Consumes, Keeps, IsAtEnd}
 use Rattle.std.proofs.lemmas.List.{take-append-drop}
@@ -7,18 +7,19 @@ use Rattle.std.proofs.lemmas.Result.{IfOk-weaker, IfErr-weaker, MatchResult-from
 use Rattle.std.proofs.Math.Seq.{take-append-add}
 use Rattle.bm_base.specs.declared.config.Config.{Config}
 use Rattle.bm_base.specs.State.{State, first_state}
+use Rattle.bm_tool.specs.declared.limits.TheConstants.{MAX_LINES, MAX_BYTES, PIECE}
 use Rattle.bm_tool.specs.declared.session.Session.{Session}
 use Rattle.bm_tool.specs.declared.fault.Summary.{Summary}
 use Rattle.bm_tool.specs.declared.fault.Fault.{Fault}
 use Rattle.bm_tool.specs.declared.fault.Fault.TheVariants as fault
-use Rattle.bm_tool.specs.Lines.{lines_of}
-use Rattle.bm_tool.specs.Text.{max_lines, max_bytes, texts, text}
+use Rattle.bm_tool.specs.Lines.{lines_of, whole_lines}
+use Rattle.bm_tool.specs.Text.{texts, text}
 use Rattle.bm_tool.specs.Starting.{StartFault}
-use Rattle.bm_tool.specs.Progress.{Progress, PieceFault, IsSummary}
-use Rattle.bm_tool.specs.Outcome.{Faulted, Leaves, FaultCounts, HasCause, ConfigOfFault, ChecksConfig}
+use Rattle.bm_tool.specs.Progress.{Progress, Answered, PieceFault, IsSummary}
+use Rattle.bm_tool.specs.Outcome.{Faulted, WantsMemory, Leaves, IsFlushedAtRead, FaultCounts, HasCause, ConfigOfFault, ChecksConfig}
 use Rattle.bm_base.specs.Configuration.{config_refusal}
 use Rattle.bm_tool.proofs.LineLemmas.{whole_lines-split}
-use Rattle.bm_tool.proofs.ProgressLemmas.{Appends-nil, stopped_more}
+use Rattle.bm_tool.proofs.ProgressLemmas.{Appends-nil, answered_more}
 
 -- ---- known bytes
 
@@ -60,11 +61,18 @@ take_room xs ys most room n e h = rw (← e, take-append-add xs (take n ys) room
 
 -- a run that did not begin has read and written nothing
 pub faulted_at_start : (config : Config) (old : Option (List ℕ)) (f : Fault) → StartFault config f → Faulted config [] old old f
-unfolding texts
+unfolding texts whole_lines
 faulted_at_start config old fault.Config h = (refl, refl)
 faulted_at_start config old fault.Read h = absurd h
 faulted_at_start config old fault.Write h = tt
-faulted_at_start config old fault.Memory h = (0, Appends-nil old)
+faulted_at_start config old fault.Memory h = record {
+  done = [];
+  piece = [];
+  read = refl;
+  bounded = omega arith;
+  answered = 0;
+  written = record { no_fewer = omega arith; no_more = omega arith; wrote = Appends-nil old };
+}
 faulted_at_start config old fault.TooMuch h = absurd h
 
 pub counts_at_start : (config : Config) (reads writes : ℕ) (f : Fault) → StartFault config f → FaultCounts reads reads writes writes f
@@ -82,56 +90,73 @@ config_at_start config fault.Memory h = h
 config_at_start config fault.TooMuch h = absurd h
 
 -- a run that began was configured well
-pub config_of_piece : (config : Config) (start new : Option (List ℕ)) (bytes : List ℕ) (before now : ℕ) (f : Fault) → config_refusal config ≡ None
-    → PieceFault (first_state config) start new bytes before now f → ConfigOfFault config f
-config_of_piece config start new bytes before now fault.Config allowed h = absurd h
-config_of_piece config start new bytes before now fault.Read allowed h = allowed
-config_of_piece config start new bytes before now fault.Write allowed h = allowed
-config_of_piece config start new bytes before now fault.Memory allowed h = allowed
-config_of_piece config start new bytes before now fault.TooMuch allowed h = allowed
+pub config_of_piece : (config : Config) (start new : Option (List ℕ)) (state : State) (done piece : List ℕ) (before now : ℕ) (f : Fault) → config_refusal config ≡ None
+    → PieceFault (first_state config) start new state done piece before now f → ConfigOfFault config f
+config_of_piece config start new state done piece before now fault.Config allowed h = absurd h
+config_of_piece config start new state done piece before now fault.Read allowed h = allowed
+config_of_piece config start new state done piece before now fault.Write allowed h = allowed
+config_of_piece config start new state done piece before now fault.Memory allowed h = allowed
+config_of_piece config start new state done piece before now fault.TooMuch allowed h = allowed
 
-pub config_of_finished : (config : Config) (start new : Option (List ℕ)) (bytes : List ℕ) (before now : ℕ) (result : Result Summary Fault) → config_refusal config ≡ None
-    → IfErr result (PieceFault (first_state config) start new bytes before now) → ChecksConfig config result
-config_of_finished config start new bytes before now (Ok s) allowed h = allowed
-config_of_finished config start new bytes before now (Err f) allowed h = config_of_piece config start new bytes before now f allowed h
+pub config_of_finished : (config : Config) (start new : Option (List ℕ)) (state : State) (done piece : List ℕ) (before now : ℕ) (result : Result Summary Fault) → config_refusal config ≡ None
+    → IfErr result (PieceFault (first_state config) start new state done piece before now) → ChecksConfig config result
+config_of_finished config start new state done piece before now (Ok s) allowed h = allowed
+config_of_finished config start new state done piece before now (Err f) allowed h = config_of_piece config start new state done piece before now f allowed h
+
+-- no read failed
+pub flushed_at_start : (config : Config) (old new : Bool) (f : Fault) → StartFault config f → f ≡ fault.Read → old ≡ true → new ≡ true
+flushed_at_start config old new fault.Config h e = cc
+flushed_at_start config old new fault.Read h e = absurd h
+flushed_at_start config old new fault.Write h e = absurd h
+flushed_at_start config old new fault.Memory h e = cc
+flushed_at_start config old new fault.TooMuch h e = absurd h
+
+pub flushed_of_piece : (M : State) (start new : Option (List ℕ)) (state : State) (done piece : List ℕ) (before now : ℕ) (was is : Bool) (f : Fault) → PieceFault M start new state done piece before now f
+    → f ≡ fault.Read → was ≡ true → is ≡ true
+flushed_of_piece M start new state done piece before now was is fault.Config h e = absurd h
+flushed_of_piece M start new state done piece before now was is fault.Read h e = absurd h
+flushed_of_piece M start new state done piece before now was is fault.Write h e = cc
+flushed_of_piece M start new state done piece before now was is fault.Memory h e = cc
+flushed_of_piece M start new state done piece before now was is fault.TooMuch h e = cc
 
 -- the bytes that were handed on are the first of the input
-pub faulted_of_piece : (config : Config) (bytes more all : List ℕ) (old new : Option (List ℕ)) (before now : ℕ) (f : Fault) → all ≡ bytes ++ more → take max_bytes all ≡ bytes
-    → PieceFault (first_state config) old new bytes before now f → Faulted config all old new f
-faulted_of_piece config bytes more all old new before now fault.Config e t h = absurd h
-faulted_of_piece config bytes more all old new before now fault.Read e t h = absurd h
-faulted_of_piece config bytes more all old new before now fault.Write e t h = tt
-faulted_of_piece config bytes more all old new before now fault.Memory e t h = rw e (stopped_more _ old new bytes more h.1)
-faulted_of_piece config bytes more all old new before now fault.TooMuch e t h = (inr (rw t h.1.0), rw t h.1.1)
+pub faulted_of_piece : (config : Config) (done piece more : List ℕ) (old new : Option (List ℕ)) (state : State) (before now : ℕ) (f : Fault) → take MAX_BYTES (done ++ (piece ++ more)) ≡ done ++ piece
+    → length (piece ++ more) ≤ PIECE → PieceFault (first_state config) old new state done piece before now f → Faulted config (done ++ (piece ++ more)) old new f
+faulted_of_piece config done piece more old new state before now fault.Config t b h = absurd h
+faulted_of_piece config done piece more old new state before now fault.Read t b h = absurd h
+faulted_of_piece config done piece more old new state before now fault.Write t b h = tt
+faulted_of_piece config done piece more old new state before now fault.Memory t b h = record { done = done; piece = piece ++ more; read = refl; bounded = b; answered = h.1.answered; written = answered_more _ old new done piece more _ h.1.written }
+faulted_of_piece config done piece more old new state before now fault.TooMuch t b h = (inr (rw t h.1.0), rw t h.1.1)
 
-pub counts_of_piece : (M : State) (start new : Option (List ℕ)) (bytes : List ℕ) (reads reads' before now : ℕ) (f : Fault) → reads' ≡ reads → PieceFault M start new bytes before now f → FaultCounts reads reads' before now f
-counts_of_piece M start new bytes reads reads' before now fault.Config e h = absurd h
-counts_of_piece M start new bytes reads reads' before now fault.Read e h = absurd h
-counts_of_piece M start new bytes reads reads' before now fault.Write e h = (e, h)
-counts_of_piece M start new bytes reads reads' before now fault.Memory e h = (e, h.0)
-counts_of_piece M start new bytes reads reads' before now fault.TooMuch e h = (e, h.0)
+pub counts_of_piece : (M : State) (start new : Option (List ℕ)) (state : State) (done piece : List ℕ) (reads reads' before now : ℕ) (f : Fault) → reads' ≡ reads → PieceFault M start new state done piece before now f
+    → FaultCounts reads reads' before now f
+counts_of_piece M start new state done piece reads reads' before now fault.Config e h = absurd h
+counts_of_piece M start new state done piece reads reads' before now fault.Read e h = absurd h
+counts_of_piece M start new state done piece reads reads' before now fault.Write e h = (e, h)
+counts_of_piece M start new state done piece reads reads' before now fault.Memory e h = (e, h.0)
+counts_of_piece M start new state done piece reads reads' before now fault.TooMuch e h = (e, h.0)
 
 -- too many bytes: all lines of those that are taken are answered
-pub too_many_bytes : (config : Config) (all bytes : List ℕ) (old new : Option (List ℕ)) (s : Session) → take max_bytes all ≡ bytes → max_bytes < length all
+pub too_many_bytes : (config : Config) (all bytes : List ℕ) (old new : Option (List ℕ)) (s : Session) → take MAX_BYTES all ≡ bytes → MAX_BYTES < length all
     → Progress (first_state config) old new s bytes → Faulted config all old new fault.TooMuch
 too_many_bytes config all bytes old new s t many p =
-    (inl many, rw (t, whole_lines-split p.splits, take_whole max_lines p.lines (omega (arith, p.count, s.few))) p.wrote)
+    (inl many, rw (t, whole_lines-split p.splits, take_whole MAX_LINES p.lines (omega (arith, p.count, s.few))) p.wrote)
 
-pub finished_leaves : (config : Config) (input : List ℕ) (left old new : Option (List ℕ)) (before now : ℕ) (result : Result Summary Fault) → IsAtEnd left → length input ≤ max_bytes
+pub finished_leaves : (config : Config) (input : List ℕ) (left old new : Option (List ℕ)) (state : State) (before now : ℕ) (result : Result Summary Fault) → IsAtEnd left → length input ≤ MAX_BYTES
     → IfOk result (λ summary. Appends old new (texts (first_state config) (lines_of input)) × IsSummary (first_state config) (lines_of input) summary)
-    → IfErr result (PieceFault (first_state config) old new input before now) → Leaves config input left old new result
-finished_leaves config input left old new before now result at_end bounded ok err =
+    → IfErr result (PieceFault (first_state config) old new state input [] before now) → Leaves config input left old new result
+finished_leaves config input left old new state before now result at_end bounded ok err =
     MatchResult-from_both result _ _
     (IfOk-weaker result _ _ (λ summary h. record { at_end = at_end; bounded = bounded; wrote = h.0; counted = h.1 }) ok)
-    (IfErr-weaker result _ _ (λ f h. faulted_of_piece config input [] input old new before now f (sym (append-nil input)) (take_whole max_bytes input bounded) h) err)
+    (IfErr-weaker result _ _ (λ f h. rw append-nil at (faulted_of_piece config input [] [] old new state before now f (rw append-nil (take_whole MAX_BYTES input bounded)) (omega arith) h)) err)
 
-pub finished_causes : (M : State) (start new : Option (List ℕ)) (bytes : List ℕ) (reads reads' before now : ℕ) (result : Result Summary Fault) → reads' ≡ reads → OnOk result (now ≡ before)
-    → IfErr result (PieceFault M start new bytes before now) → HasCause reads reads' before now result
-finished_causes M start new bytes reads reads' before now result same ok err =
-    MatchResult-from_both result _ _ (IfOk-weaker result _ _ (λ _ h. (same, h)) ok) (IfErr-weaker result _ _ (λ f h. counts_of_piece M start new bytes reads reads' before now f same h) err)
+pub finished_causes : (M : State) (start new : Option (List ℕ)) (state : State) (done piece : List ℕ) (reads reads' before now : ℕ) (result : Result Summary Fault) → reads' ≡ reads → OnOk result (now ≡ before)
+    → IfErr result (PieceFault M start new state done piece before now) → HasCause reads reads' before now result
+finished_causes M start new state done piece reads reads' before now result same ok err =
+    MatchResult-from_both result _ _ (IfOk-weaker result _ _ (λ _ h. (same, h)) ok) (IfErr-weaker result _ _ (λ f h. counts_of_piece M start new state done piece reads reads' before now f same h) err)
 
-pub room_split : (xs ys : List ℕ) (room n : ℕ) → room ≤ n → xs ++ take n ys ≡ (xs ++ take room ys) ++ drop room (take n ys)
-room_split xs ys room n h = rw (← take-take room n ys h, append_assoc, take-append-drop) refl
+pub room_split : (ys : List ℕ) (room n : ℕ) → room ≤ n → take n ys ≡ take room ys ++ drop room (take n ys)
+room_split ys room n h = rw (← take-take room n ys h, take-append-drop) refl
 
 -- all that the reader told was read
 pub text_of_known : (config : Config) (before left : Option (List ℕ)) (input : List ℕ) (old new : Option (List ℕ)) (result : Result Summary Fault) → Consumes before left input → IsAtEnd left

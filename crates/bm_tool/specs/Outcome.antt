@@ -1,35 +1,46 @@
 -- What a run that read an input leaves.
-use Rattle.std.specs.Prelude.{◌≡◌, ℕ, ◌+◌, ◌<◌, ◌≤◌, ◌⊎◌, List, [], length, take, Option, Some, None, Result, MatchResult}
+use Rattle.std.specs.Prelude.{◌≡◌, ℕ, ◌+◌, ◌<◌, ◌≤◌, ◌⊎◌, List, [], ◌++◌, length, take, Option, Some, None, Result, MatchResult, Bool, true, IfErr}
 use Rattle.std.specs.Io.KnownBytes.{Appends, IsAtEnd}
 use Rattle.bm_base.specs.declared.config.Config.{Config}
 use Rattle.bm_base.specs.declared.refusal.Refusal.TheVariants.{BadConfig}
 use Rattle.bm_base.specs.Configuration.{config_refusal}
 use Rattle.bm_base.specs.State.{first_state}
 use Rattle.bm_tool.specs.declared.fault.Summary.{Summary}
+use Rattle.bm_tool.specs.declared.limits.TheConstants.{MAX_LINES, MAX_BYTES, PIECE}
 use Rattle.bm_tool.specs.declared.fault.Fault.{Fault}
 use Rattle.bm_tool.specs.declared.fault.Fault.TheVariants as fault
 use Rattle.bm_tool.specs.Lines.{lines_of, whole_lines}
-use Rattle.bm_tool.specs.Text.{max_lines, max_bytes, texts, text}
-use Rattle.bm_tool.specs.Progress.{Stopped, IsSummary}
+use Rattle.bm_tool.specs.Text.{texts, text}
+use Rattle.bm_tool.specs.Progress.{Answered, IsSummary}
 
 -- more bytes or lines were read than a run takes
 abbrev pub IsTooMuch : List ℕ → Type 0
-IsTooMuch input = (max_bytes < length input) ⊎ (max_lines < length (lines_of (take max_bytes input)))
+IsTooMuch input = (MAX_BYTES < length input) ⊎ (MAX_LINES < length (lines_of (take MAX_BYTES input)))
 
 -- the input was read to its end, and all of it is answered
 pub record Finished (config : Config) (input : List ℕ) (left old new : Option (List ℕ)) (summary : Summary) : Type 0 where
   pub at_end : IsAtEnd left
-  pub bounded : length input ≤ max_bytes
+  pub bounded : length input ≤ MAX_BYTES
   pub wrote : Appends old new (text config input)
   pub counted : IsSummary (first_state config) (lines_of input) summary
+
+-- Memory was refused. The input is what was read before, and the last piece: all lines whose end was read before are answered,
+-- of those whose end is in the piece some first ones, and no more is written. At the end of input the piece is empty.
+pub record WantsMemory (config : Config) (input : List ℕ) (old new : Option (List ℕ)) : Type 0 where
+  pub done : List ℕ
+  pub piece : List ℕ
+  pub read : input ≡ done ++ piece
+  pub bounded : length piece ≤ PIECE
+  pub answered : ℕ
+  pub written : Answered (first_state config) old new done piece answered
 
 -- what stands written after each fault
 abbrev pub Faulted : Config → List ℕ → Option (List ℕ) → Option (List ℕ) → Fault → Type 0
 Faulted config input old new fault.Config = (input ≡ []) × (new ≡ old)
-Faulted config input old new fault.Read = (length input ≤ max_bytes) × (length (lines_of input) ≤ max_lines) × Appends old new (texts (first_state config) (whole_lines input))
+Faulted config input old new fault.Read = (length input ≤ MAX_BYTES) × (length (lines_of input) ≤ MAX_LINES) × Appends old new (texts (first_state config) (whole_lines input))
 Faulted config input old new fault.Write = Unit {0}
-Faulted config input old new fault.Memory = Stopped (first_state config) old new input
-Faulted config input old new fault.TooMuch = IsTooMuch input × Appends old new (texts (first_state config) (take max_lines (whole_lines (take max_bytes input))))
+Faulted config input old new fault.Memory = WantsMemory config input old new
+Faulted config input old new fault.TooMuch = IsTooMuch input × Appends old new (texts (first_state config) (take MAX_LINES (whole_lines (take MAX_BYTES input))))
 
 abbrev pub Leaves : Config → List ℕ → Option (List ℕ) → Option (List ℕ) → Option (List ℕ) → Result Summary Fault → Type 0
 Leaves config input left old new result = MatchResult result (Finished config input left old new) (Faulted config input old new)
@@ -53,3 +64,7 @@ ConfigOfFault config _ = config_refusal config ≡ None
 -- a run refuses the configuration exactly where it is outside its ranges
 abbrev pub ChecksConfig : Config → Result Summary Fault → Type 0
 ChecksConfig config result = MatchResult result (λ _. config_refusal config ≡ None) (ConfigOfFault config)
+
+-- a read is made only where all that was written is flushed, as it was at the start: so it is where a read fails
+abbrev pub IsFlushedAtRead : Bool → Bool → Result Summary Fault → Type 0
+IsFlushedAtRead old new result = IfErr result (λ f. f ≡ fault.Read → old ≡ true → new ≡ true)

@@ -6,21 +6,12 @@ use Rattle.bm_base.specs.declared.call.Call.{Call}
 use Rattle.bm_base.specs.State.{State, first_state}
 use Rattle.bm_manager.specs.Built.{built_step}
 use Rattle.bm_base.specs.Answering.{is_refused}
+use Rattle.bm_tool.specs.declared.limits.TheConstants.{MAX_LINE}
 use Rattle.bm_tool.specs.declared.reply.Asked.{Asked}
 use Rattle.bm_tool.specs.declared.reply.Asked.TheVariants.{Long, Bad, Asks}
 use Rattle.bm_tool.specs.Print.{answer_text}
 use Rattle.bm_tool.specs.CallOf.{call_of}
 use Rattle.bm_tool.specs.Lines.{lines_of, ended}
-
--- the bytes of the longest line, without its line end
-abbrev pub max_line : ℕ
-max_line = 4_194_304
-
-abbrev pub max_lines : ℕ
-max_lines = 1_048_576
-
-abbrev pub max_bytes : ℕ
-max_bytes = 1_073_741_824
 
 abbrev pub asked_by : Option Call → Asked
 asked_by None = Bad
@@ -28,7 +19,7 @@ asked_by (Some k) = Asks k
 
 -- what a line asks, where it is not too long
 unfoldable pub asked : List ℕ → Asked
-asked line = if nat_lt max_line (length line) then Long else asked_by (call_of line)
+asked line = if nat_lt MAX_LINE (length line) then Long else asked_by (call_of line)
 
 -- what is answered, the state after it, and whether the answer begins with `refused`
 

@@ -64,7 +64,7 @@ impl<T> Counted<T> {
         Counted {
             inner,
             faults: 0,
-            is_flushed: false,
+            is_flushed: true,
         }
     }
 

@@ -1,11 +1,10 @@
 // The line that is being read.
-ghost use Rattle.std.specs.Prelude.{◌≡◌, ◌++◌, ◌<◌, ◌≤◌, [], List, ℕ, length, OnOk, IsTrue, ◌↔◌, IfSome, IfNone, take, drop, ◌∷◌, ◌+◌, false, not};
+ghost use Rattle.std.specs.Prelude.{◌≡◌, ◌++◌, ◌<◌, ◌≤◌, [], List, ℕ, length, OnOk, OnErr, IsTrue, ◌↔◌, IfSome, IfNone, take, drop, ◌∷◌, ◌+◌, false, not};
 ghost use Rattle.bm_tool.specs.Lines.{IsPart, line_end};
+ghost use Rattle.bm_tool.specs.declared.limits.TheConstants.{MAX_LINE};
 
+use crate::limits::MAX_LINE;
 use std::alloc::{AllocError, Global};
-
-/// The bytes of the longest line that is read, without its line end.
-pub const MAX_LINE: usize = 4_194_304;
 
 pub const LINE_END: u8 = b'\n';
 
@@ -14,7 +13,7 @@ pub const LINE_END: u8 = b'\n';
 pub struct Line {
     pub bytes: Vec<u8>,
     pub is_long: bool,
-    ghost bounded: { length bytes.items ≤ 4_194_304 },
+    ghost bounded: { length bytes.items ≤ MAX_LINE },
 }
 
 impl Line {
@@ -30,9 +29,11 @@ impl Line {
         }
     }
 
-    /// Adds bytes that have no line end.
+    /// Adds bytes that have no line end. Memory is wanted only for a line that may be read.
     pub fn add(&mut self, part: &[u8]) -> Result<(), AllocError>
-        ensures { OnOk result ((rest : List ℕ) → Holds self.old rest → Holds self.new (rest ++ part.now)) }
+        ensures holds { OnOk result ((rest : List ℕ) → Holds self.old rest → Holds self.new (rest ++ part.now)) }
+        ensures not_long { OnErr result (self.old.is_long ≡ false) }
+        ensures fits { OnErr result (length self.old.bytes.items + length part.now ≤ MAX_LINE) }
     {
         if self.is_long || part.len() > MAX_LINE.saturating_sub(self.bytes.len()) {
             self.is_long = true;

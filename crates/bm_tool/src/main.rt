@@ -7,6 +7,7 @@ mod ends;
 mod fault;
 mod fields;
 mod from_fields;
+mod limits;
 mod line;
 mod op;
 mod print;

@@ -1,5 +1,5 @@
 // The answer to one line.
-ghost use Rattle.std.specs.Prelude.{◌≡◌, IfOk, List, ℕ, string_bytes, true, false};
+ghost use Rattle.std.specs.Prelude.{◌≡◌, ◌⊎◌, IfOk, OnErr, List, ℕ, string_bytes, true, false};
 ghost use Rattle.bm_base.specs.Answering.{wants_memory, is_refused};
 ghost use Rattle.bm_tool.specs.Held.{Holds};
 ghost use Rattle.bm_tool.specs.Lines.{ended};
@@ -43,11 +43,12 @@ pub fn asked_by(alloc: Global, line: &Line) -> Result<Asked, AllocError>
     }
 }
 
-/// Makes the call, if there is one. Where memory runs out, the manager may have taken it.
+/// Makes the call, if there is one. Where memory runs out, the manager took it or not.
 pub fn reply_to(alloc: Global, manager: &mut Manager, asked: &Asked) -> Result<Reply, AllocError>
     ensures text { IfOk result (λ r. string_bytes r.text ≡ ended (asked_text manager.old asked.now)) }
     ensures refused { IfOk result (λ r. r.is_refused ≡ asked_refused manager.old asked.now) }
     ensures next { IfOk result (λ _. manager.new ≡ asked_next manager.old asked.now) }
+    ensures worked { OnErr result ((manager.new ≡ manager.old) ⊎ (manager.new ≡ asked_next manager.old asked.now)) }
 {
     match asked {
         Asked::Long => refused(alloc, "refused 21 LongLine\n"),

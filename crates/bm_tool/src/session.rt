@@ -1,19 +1,19 @@
 // The state of a run between two reads.
-ghost use Rattle.std.specs.Prelude.{◌≡◌, true, ◌≤◌, ◌<◌, ◌+◌, ◌^◌, ◌∷◌, [], ◌++◌, ℕ, List, Option, length, None, IfOk, OnOk, IfErr};
+ghost use Rattle.std.specs.Prelude.{◌≡◌, true, ◌≤◌, ◌<◌, ◌+◌, ◌^◌, ◌∷◌, [], ◌++◌, ℕ, List, Option, length, None, IfOk, OnOk, OnErr, IfErr};
 ghost use Rattle.bm_base.specs.State.{State, first_state};
 ghost use Rattle.bm_base.specs.Configuration.{config_refusal};
-ghost use Rattle.bm_tool.specs.Held.{is_begun};
+ghost use Rattle.bm_tool.specs.Held.{Holds, is_begun};
 ghost use Rattle.bm_tool.specs.Starting.{StartFault};
+ghost use Rattle.bm_tool.specs.declared.limits.TheConstants.{MAX_LINES};
 
 use crate::ends::Sink;
 use crate::fault::{Fault, Summary};
+use crate::limits::MAX_LINES;
 use crate::line::{Line, line_end};
 use crate::reply::{asked_by, reply_to};
 use bm_base::{Config, Refusal};
 use bm_manager::Manager;
 use std::alloc::Global;
-
-const MAX_LINES: u64 = 1_048_576;
 
 /// The manager, the line that is being read, and how many lines were answered and refused.
 #[derive(Drop)]
@@ -23,16 +23,16 @@ pub struct Session {
     pub line: Line,
     pub lines: u64,
     pub refused: u64,
-    ghost few: { lines ≤ 1_048_576 },
+    ghost few: { lines ≤ MAX_LINES },
     ghost counted: { refused ≤ lines },
-    ghost begun: { is_begun line ≡ true → lines < 1_048_576 },
+    ghost begun: { is_begun line ≡ true → lines < MAX_LINES },
 }
 
 impl Session {
     ghost use Rattle.bm_tool.specs.Lines.{line_end, lines_of};
-    ghost use Rattle.bm_tool.specs.Text.{max_lines, texts};
+    ghost use Rattle.bm_tool.specs.Text.{texts};
     ghost use Rattle.std.specs.Io.KnownBytes.{Appends};
-    ghost use Rattle.bm_tool.specs.Progress.{Progress, LineFault, PieceFault, IsSummary};
+    ghost use Rattle.bm_tool.specs.Progress.{Progress, MayBeWorked, LineFault, PieceFault, IsSummary};
 
     /// Nothing is read and nothing answered yet.
     pub fn new(alloc: Global, config: &Config) -> Result<Session, Fault>
@@ -53,13 +53,15 @@ impl Session {
     /// Answers the line that is held, and begins the next.
     pub fn end_line<W: Sink>(&mut self, writer: &mut W) -> Result<(), Fault>
         requires sound { W.faults writer.old ≡ 0 }
-        requires few { self.old.lines < max_lines }
+        requires few { self.old.lines < MAX_LINES }
         ensures ok { OnOk result ((M : State) (start : Option (List ℕ)) (bytes : List ℕ)
             → Progress M start (W.contents writer.old) self.old bytes
             → Progress M start (W.contents writer.new) self.new (bytes ++ line_end ∷ [])) }
         ensures faults { OnOk result (W.faults writer.new ≡ W.faults writer.old) }
         ensures err { IfErr result (LineFault (W.contents writer.old) (W.contents writer.new)
             (W.faults writer.old) (W.faults writer.new)) }
+        ensures worked { OnErr result ((rest : List ℕ) → Holds self.old.line rest
+            → MayBeWorked self.old.manager rest self.new.manager) }
     {
         let asked = asked_by(self.alloc, &self.line)?;
         let reply = reply_to(self.alloc, &mut self.manager, &asked)?;
@@ -75,7 +77,7 @@ impl Session {
     /// Takes the bytes up to the first line end, and gives back those behind it.
     fn take_line<'p, W: Sink>(&mut self, piece: &'p [u8], writer: &mut W) -> Result<&'p [u8], Fault>
         requires sound { W.faults writer.old ≡ 0 }
-        requires few { self.old.lines < max_lines }
+        requires few { self.old.lines < MAX_LINES }
         requires more { 0 < length piece.now }
         ensures ok { IfOk result (λ left. (M : State) (start : Option (List ℕ)) (bytes : List ℕ)
             → Progress M start (W.contents writer.old) self.old bytes
@@ -85,7 +87,7 @@ impl Session {
         ensures faults { OnOk result (W.faults writer.new ≡ W.faults writer.old) }
         ensures err { IfErr result (λ f. (M : State) (start : Option (List ℕ)) (bytes : List ℕ)
             → Progress M start (W.contents writer.old) self.old bytes
-            → PieceFault M start (W.contents writer.new) (bytes ++ piece.now)
+            → PieceFault M start (W.contents writer.new) self.new.manager bytes piece.now
             (W.faults writer.old) (W.faults writer.new) f) }
     {
         match line_end(piece) {
@@ -101,16 +103,17 @@ impl Session {
         }
     }
 
-    /// Answers all lines whose end is in the piece, and keeps the rest.
+    /// Answers all lines whose end is in the piece, flushes, and keeps the rest.
     pub fn take_piece<W: Sink>(&mut self, piece: &[u8], writer: &mut W) -> Result<(), Fault>
         requires sound { W.faults writer.old ≡ 0 }
         ensures ok { OnOk result ((M : State) (start : Option (List ℕ)) (bytes : List ℕ)
             → Progress M start (W.contents writer.old) self.old bytes
             → Progress M start (W.contents writer.new) self.new (bytes ++ piece.now)) }
+        ensures flushed { OnOk result (W.is_flushed writer.new ≡ true) }
         ensures faults { OnOk result (W.faults writer.new ≡ W.faults writer.old) }
         ensures err { IfErr result (λ f. (M : State) (start : Option (List ℕ)) (bytes : List ℕ)
             → Progress M start (W.contents writer.old) self.old bytes
-            → PieceFault M start (W.contents writer.new) (bytes ++ piece.now)
+            → PieceFault M start (W.contents writer.new) self.new.manager bytes piece.now
             (W.faults writer.old) (W.faults writer.new) f) }
     {
         let mut left = piece;
@@ -120,7 +123,10 @@ impl Session {
             }
             left = self.take_line(left, writer)?;
         }
-        Ok(())
+        match writer.flush() {
+            Ok(()) => Ok(()),
+            Err(_) => Err(Fault::Write),
+        }
     }
 
     /// Answers the rest, if there is one, and flushes.
@@ -134,7 +140,7 @@ impl Session {
         ensures faults { OnOk result (W.faults writer.new ≡ W.faults writer.old) }
         ensures err { IfErr result (λ f. (M : State) (start : Option (List ℕ)) (bytes : List ℕ)
             → Progress M start (W.contents writer.old) self.old bytes
-            → PieceFault M start (W.contents writer.new) bytes
+            → PieceFault M start (W.contents writer.new) self.new.manager bytes []
             (W.faults writer.old) (W.faults writer.new) f) }
     {
         if !self.line.is_empty() {

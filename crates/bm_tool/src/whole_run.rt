@@ -2,17 +2,14 @@
 ghost use Rattle.std.specs.Prelude.{◌≡◌, ◌+◌, ◌<◌, ◌^◌, ℕ, List, IfSome, OnOk, true};
 ghost use Rattle.std.specs.Io.KnownBytes.{Appends, Consumes};
 ghost use Rattle.bm_tool.specs.Text.{text};
-ghost use Rattle.bm_tool.specs.Outcome.{Leaves, HasCause, ChecksConfig};
+ghost use Rattle.bm_tool.specs.Outcome.{Leaves, HasCause, ChecksConfig, IsFlushedAtRead};
 
 use crate::ends::{Sink, Source};
 use crate::fault::{Fault, Summary};
+use crate::limits::{MAX_BYTES, PIECE};
 use crate::session::Session;
 use bm_base::Config;
 use std::alloc::Global;
-
-const MAX_BYTES: usize = 1_073_741_824;
-
-const PIECE: usize = 8192;
 
 /// Answers each line of the input by a line of the output.
 pub fn run<R: Source, W: Sink, H>(
@@ -33,6 +30,8 @@ pub fn run<R: Source, W: Sink, H>(
     ensures leaves { (input : List ℕ) × Consumes (R.remaining reader.old) (R.remaining reader.new) input
         × Leaves config.now input (R.remaining reader.new) (W.contents writer.old) (W.contents writer.new) result }
     ensures flushed { OnOk result (W.is_flushed writer.new ≡ true) }
+    // No answer is held back while more input is waited for.
+    ensures at_reads { IsFlushedAtRead (W.is_flushed writer.old) (W.is_flushed writer.new) result }
     // A fault of the reader or the writer comes only where a read, or a write or the flush, failed.
     ensures cause { HasCause (R.faults reader.old) (R.faults reader.new)
         (W.faults writer.old) (W.faults writer.new) result }

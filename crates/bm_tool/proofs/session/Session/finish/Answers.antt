@@ -1,15 +1,16 @@
-use Rattle.std.proofs.Common.{◌++◌, [], ◌∷◌, append-nil}
+use Rattle.std.proofs.Common.{◌++◌, [], ◌∷◌}
 use Rattle.std.proofs.lemmas.Result.{err_from_is_err_and}
 use Rattle.bm_tool.specs.Lines.{line_end}
 use Rattle.bm_tool.specs.Progress.{Progress}
-use Rattle.bm_tool.proofs.ProgressLemmas.{progress_stopped, piece_fault_of_line, lines_of-ended, lines_of-empty, finished}
+use Rattle.bm_tool.proofs.ProgressLemmas.{interrupted_rest, piece_fault_of_line, lines_of-ended, lines_of-empty, finished}
 use Rattle.bm_tool.proofs.session.Session.finish.Goals as goal
 use Rattle.bm_tool.proofs.session.Session.finish.Goals.{then-not-is_empty+in_ok-end_line, else-not-is_empty}
 
 pub returns-in_err-end_line-clause-err : goal.returns-in_err-end_line-clause-err
 returns-in_err-end_line-clause-err g c =
     let e = err_from_is_err_and c.from_residual.result c.from_residual.ensures.1 in
-    rw (e.1, e.2) (λ M start bytes p. piece_fault_of_line M start _ _ _ _ _ _ c.in_err-end_line.ensures.err (rw append-nil at (progress_stopped M start _ _ bytes [] p)))
+    rw (e.1, e.2) (λ M start bytes p. piece_fault_of_line M start _ _ _ _ _ _ _ _ c.in_err-end_line.ensures.err
+    (interrupted_rest M start _ _ _ bytes p (λ none. let told = (c.is_empty.ensures.holds p.rest p.holds).1 none in let but = c.if-not-is_empty.true in cc) (c.in_err-end_line.ensures.worked p.rest p.holds)))
 
 pub returns-clause-ok : goal.returns-clause-ok
 returns-clause-ok g c = λ M start bytes p. elim c.if-not-is_empty.branch [

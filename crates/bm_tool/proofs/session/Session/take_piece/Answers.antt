@@ -1,6 +1,6 @@
 use Rattle.std.proofs.Common.{◌<◌, ◌++◌, length, sym, ap, ◌∙◌, append_assoc}
 use Rattle.std.proofs.lemmas.Result.{err_from_is_err_and}
-use Rattle.bm_tool.proofs.ProgressLemmas.{positive, progress_overflows}
+use Rattle.bm_tool.proofs.ProgressLemmas.{positive, progress_overflows, progress_keeps, fault_earlier}
 use Rattle.bm_tool.proofs.session.Session.take_piece.Goals as goal
 
 pub returns-then-self-eq-MAX_LINES-clause-err : goal.returns-then-self-eq-MAX_LINES-clause-err
@@ -14,7 +14,7 @@ returns-in_err-left-clause-err g c =
     let e = err_from_is_err_and c.from_residual.result c.from_residual.ensures.1 in
     rw (e.1, e.2) (λ M start bytes p.
     let q = c.loop-left.invariant.progress M start bytes p in
-    rw (q.1, ← append_assoc, ← c.loop-left.invariant.faults) (c.in_err-left.ensures.err M start (bytes ++ q.0) q.2))
+    rw (q.1, ← c.loop-left.invariant.faults) (fault_earlier M start _ _ bytes q.0 _ _ _ _ (c.in_err-left.ensures.err M start (bytes ++ q.0) q.2)))
 
 pub loop-left-preserved : goal.loop-left-preserved
 loop-left-preserved g c = record {

@@ -1,0 +1,13 @@
+// How much is read at most.
+
+/// The bytes of the longest line that is read, without its line end.
+pub const MAX_LINE: usize = 4_194_304;
+
+/// The lines of a run.
+pub const MAX_LINES: u64 = 1_048_576;
+
+/// The bytes of a run.
+pub const MAX_BYTES: usize = 1_073_741_824;
+
+/// The bytes of a piece, that is of one read.
+pub const PIECE: usize = 65_536;
