@@ -1,5 +1,5 @@
 //! The one that publishes versions.
-ghost use Rattle.std.specs.Prelude.{◌≡◌, ◌≤◌, [], ◌∷◌, ◌++◌, IfOk, IfErr, OnOk, OnErr, MatchResult, Some};
+ghost use Rattle.std.specs.Prelude.{◌≡◌, ◌≤◌, ◌^◌, ◌↔◌, IsTrue, length, [], ◌∷◌, ◌++◌, IfOk, IfErr, OnOk, OnErr, MatchResult, Some};
 ghost use Rattle.std.specs.Arc.{arc_value};
 ghost use Rattle.left_right.specs.Sides.{view as sight};
 ghost use Rattle.bm_view.specs.Version.{opening};
@@ -48,6 +48,13 @@ impl Model for Publisher {
         × (p.writer.desk.shown.value.book ≡ p.journal.book)
         × (shown_in p.writer.desk.shown.value.log ≡ versions p.journal.log)
         × IsHistory (versions p.journal.log) };
+}
+
+// Whether the journal has so many entries, two for each call of `publish`, that nothing is published any more.
+fn is_spent(journal: &Journal) -> bool
+    ensures { IsTrue result ↔ (2 ^ 62 ≤ length journal.now.log) }
+{
+    journal.entries() >= MOST_ENTRIES
 }
 
 // Shows what goes on from what is shown. At `Err` the value before is shown.
@@ -103,7 +110,7 @@ impl Publisher {
         ensures memory { IfErr result (λ refusal. refusal ≡ Refusal.Memory) }
     {
         let calls = table.calls();
-        if self.journal.entries() >= MOST_ENTRIES {
+        if is_spent(&self.journal) {
             return Err(Refusal::Memory);
         }
         let Some(pen) = self.journal.propose(&table) else {
