@@ -1,0 +1,45 @@
+// Runs of a crew of the calling thread alone, as many pieces as it is ready for.
+ghost use Rattle.std.specs.Prelude.{◌≡◌, IfOk, vec_len};
+
+use crate::MOST;
+use crate::tally::Tally;
+use crate::windows::{begun, ended};
+use bm_base::Refusal;
+use bm_crew::{Crew, NoGate};
+use std::alloc::{AllocError, Global};
+use std::sync::Wait;
+use std::thread::Threads;
+
+pub fn go_over<R: Eprint + Threads + Wait + Sync>(rt: &R, alloc: Global) -> Result<Tally, Refusal> {
+    let mut tally = Tally::new();
+    for size in 1..=MOST {
+        let items = pieces(alloc, size)?;
+        let ready = Crew::ready::<u64, u64>(alloc, size as usize, 1)?;
+        begun(rt, "run");
+        let squares = ready.run(rt, items, &|_, x: u64| x.wrapping_mul(x), &NoGate);
+        for number in 0..size {
+            tally.note(squares.get(number as usize).copied() == Some(square(number)));
+        }
+        ended(rt, "run");
+        begun(rt, "control");
+        tally.control(Crew::ready::<u64, u64>(alloc, size as usize, 1).is_err());
+        ended(rt, "control");
+    }
+    Ok(tally)
+}
+
+fn square(number: u32) -> (u32, u64) {
+    let x = u64::from(number);
+    (number, x.wrapping_mul(x))
+}
+
+/// So many pieces, each its shard's number.
+fn pieces(alloc: Global, size: u32) -> Result<Vec<(u32, u64)>, AllocError>
+    ensures { IfOk result (λ made. vec_len made ≡ size) }
+{
+    let mut made = Vec::new(alloc);
+    for number in 0..size {
+        made.push((number, u64::from(number)))?;
+    }
+    Ok(made)
+}

@@ -1,0 +1,86 @@
+"""What the checks on built programs share."""
+
+import os
+import subprocess
+import sys
+import tempfile
+from pathlib import Path
+
+TOP = Path(__file__).resolve().parents[2]
+
+EXAMPLES = TOP / "examples"
+
+
+class Failed(Exception):
+    """What a check found wrong."""
+
+
+def want(is_so, why):
+    if not is_so:
+        raise Failed(why)
+
+
+class Report:
+    """A line for each check, and the count of both kinds at the end."""
+
+    def __init__(self):
+        self.passed = 0
+        self.failed = 0
+
+    def check(self, name, body, *arguments):
+        try:
+            body(*arguments)
+        except Exception as error:
+            self.failed += 1
+            why = str(error) if isinstance(error, Failed) else repr(error)
+            print(f"FAILED {name}: {why}", flush=True)
+        else:
+            self.passed += 1
+            print(f"passed {name}", flush=True)
+
+    def end(self):
+        print(f"{self.passed} passed, {self.failed} failed")
+        sys.exit(1 if self.failed else 0)
+
+
+def program(crate):
+    """The program of a crate, which is built only if it is missing."""
+    path = TOP / "crates" / crate / "out" / crate
+    if not path.exists():
+        subprocess.run(
+            ["rt", "run"],
+            cwd=TOP / "crates" / crate,
+            stdin=subprocess.DEVNULL,
+            stdout=subprocess.DEVNULL,
+            stderr=subprocess.DEVNULL,
+        )
+    if not path.exists():
+        sys.exit(f"the program of {crate} cannot be built")
+    return str(path)
+
+
+def stored_output(crate):
+    return (TOP / "crates" / crate / "stdout").read_bytes()
+
+
+class MemoryWatch:
+    """Runs programs with memory_watch.c before their allocator."""
+
+    def __init__(self):
+        self.folder = tempfile.TemporaryDirectory()
+        self.library = os.path.join(self.folder.name, "memory_watch.so")
+        self.log = os.path.join(self.folder.name, "log")
+        source = Path(__file__).with_name("memory_watch.c")
+        subprocess.run(
+            ["cc", "-shared", "-fPIC", "-O2", "-o", self.library, str(source)], check=True
+        )
+
+    def run(self, command, stdin=subprocess.DEVNULL, timeout=60, **settings):
+        """The ended process, and the lines of the log, each a list of words."""
+        Path(self.log).write_text("")
+        words = dict(os.environ, LD_PRELOAD=self.library, MEMORY_LOG=self.log)
+        words.update((name, str(value)) for name, value in settings.items())
+        ended = subprocess.run(
+            command, stdin=stdin, capture_output=True, env=words, timeout=timeout
+        )
+        return ended, [line.split() for line in Path(self.log).read_text().splitlines()]
