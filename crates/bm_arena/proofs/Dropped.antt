@@ -130,10 +130,10 @@ module _ (slots new : Slab Entry) (x id : ℕ) (removed : Some id ≡ option_map
   pub drop_entry-arena : IsDistinct nat_eq (keys_of after) → IsArena new after heads delimiter
   drop_entry-arena each = dropped-arena slots new x entry.0 entry.1 entry.3 is ids after heads delimiter arena differs updates_own each
 
-  pub drop_entry-view : (steps : ℕ) → after ≡ swap_remove_entry (nat_eq id) ids → (b : Block) → get_or (seen_slots slots) x None ≡ Some b
-      → ◌≡◌ {A = Contents} (record { blocks = seen_slots new; ids = after; lists = lists_from new heads; delimiter = delimiter; steps = steps })
-      (dropped (record { blocks = seen_slots slots; ids = ids; lists = lists_from slots heads; delimiter = delimiter; steps = steps }) x b.id)
-  drop_entry-view steps after_is b seen =
+  pub drop_entry-view : (steps bound : ℕ) → after ≡ swap_remove_entry (nat_eq id) ids → (b : Block) → get_or (seen_slots slots) x None ≡ Some b
+      → ◌≡◌ {A = Contents} (record { blocks = seen_slots new; ids = after; lists = lists_from new heads; delimiter = delimiter; steps = steps; bound = bound })
+      (dropped (record { blocks = seen_slots slots; ids = ids; lists = lists_from slots heads; delimiter = delimiter; steps = steps; bound = bound }) x b.id)
+  drop_entry-view steps bound after_is b seen =
       let named : b.id ≡ id = ap (λ (c : Block). c.id) (same_Some b (seen_entry entry.0) (sym seen ∙ seen_at slots x entry.0 entry.1)) ∙ entry.2 in
       let blocks = dropped-blocks slots new x entry.0 entry.1 entry.3 is ids after heads delimiter arena differs updates_own in
       let lists = dropped-lists slots new x entry.0 entry.1 entry.3 is ids after heads delimiter arena differs updates_own in

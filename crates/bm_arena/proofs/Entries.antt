@@ -1,5 +1,5 @@
 -- What a new entry without triplets, a new head and more room leave of an arena's invariant.
-use Rattle.std.proofs.Common.{◌≡◌, ◌≢◌, ◌⊎◌, ℕ, ◌<◌, List, [], ◌∷◌, ◌++◌, map, get_or, false, cond, eqb, Option, Some, None, refl, subst, inl, inr, sym, ap, ◌∙◌, arith}
+use Rattle.std.proofs.Common.{◌≡◌, ◌≢◌, ◌⊎◌, ℕ, ◌<◌, List, [], ◌∷◌, ◌++◌, map, get_or, false, cond, eqb, Option, Some, None, refl, subst, inl, inr, sym, ap, ◌∙◌, arith, max, ◌+◌}
 use Rattle.std.specs.Option.{option_map}
 use Rattle.std.specs.Map.{lookup, keys_of}
 use Rattle.std.specs.List.{IsDistinct, AllByRecursion}
@@ -186,12 +186,12 @@ module _ (old new : Slab Entry) (key : ℕ) (e : Entry) (vacant : get old key �
     };
   }
 
-  pub IsAdded-view : (steps : ℕ) → e.info ≡ None → e.triplets.capacity ≡ 3
+  pub IsAdded-view : (steps bound : ℕ) → e.info ≡ None → e.triplets.capacity ≡ 3
       → IsAdded
-      (record { blocks = seen_slots old; ids = ids; lists = lists_from old heads; delimiter = delimiter; steps = steps })
-      (record { blocks = seen_slots new; ids = ids ++ (e.id, key) ∷ []; lists = lists_from new heads; delimiter = delimiter; steps = steps })
+      (record { blocks = seen_slots old; ids = ids; lists = lists_from old heads; delimiter = delimiter; steps = steps; bound = bound })
+      (record { blocks = seen_slots new; ids = ids ++ (e.id, key) ∷ []; lists = lists_from new heads; delimiter = delimiter; steps = steps; bound = max bound (key + 1) })
       e.id key
-  IsAdded-view steps no_info three = record {
+  IsAdded-view steps bound no_info three = record {
     vacant = seen-inserted_before old new key e vacant up bare;
     entry = seen_here ∙ ap Some (empty_seen no_info three);
     marked = added_unmarked;
@@ -201,6 +201,7 @@ module _ (old new : Slab Entry) (key : ℕ) (e : Entry) (vacant : get old key �
     lists = lists_from-inserted old new key e vacant up bare heads arena.sound arena.unique;
     steps = refl;
     delimiter = refl;
+    bound = refl;
   }
     where
       empty_seen : e.info ≡ None → e.triplets.capacity ≡ 3 → seen_entry e ≡ empty_block e.id
@@ -263,11 +264,11 @@ module _ (slots mid new : Slab Entry) (capacity key slot : ℕ) (e : Entry) (ids
   pub add_entry-arena : IsArena new entries heads delimiter
   add_entry-arena = rw (entries_are, ← same_key) (IsArena-added mid new key e vacant up bare ids heads delimiter mid_arena (sym absent) key_below each_listed)
 
-  pub add_entry-added : (steps : ℕ) → e.info ≡ None → e.triplets.capacity ≡ 3
+  pub add_entry-added : (steps bound above : ℕ) → above ≡ max bound (slot + 1) → e.info ≡ None → e.triplets.capacity ≡ 3
       → IsAdded
-      (record { blocks = seen_slots slots; ids = ids; lists = lists_from slots heads; delimiter = delimiter; steps = steps })
-      (record { blocks = seen_slots new; ids = entries; lists = lists_from new heads; delimiter = delimiter; steps = steps })
+      (record { blocks = seen_slots slots; ids = ids; lists = lists_from slots heads; delimiter = delimiter; steps = steps; bound = bound })
+      (record { blocks = seen_slots new; ids = entries; lists = lists_from new heads; delimiter = delimiter; steps = steps; bound = above })
       e.id slot
-  add_entry-added steps no_info three =
-      let added = IsAdded-view mid new key e vacant up bare ids heads delimiter mid_arena (sym absent) key_below steps no_info three in
-      rw (entries_are, ← same_key) (rw grown at added)
+  add_entry-added steps bound above above_is no_info three =
+      let added = IsAdded-view mid new key e vacant up bare ids heads delimiter mid_arena (sym absent) key_below steps bound no_info three in
+      rw (entries_are, above_is, ← same_key) (rw grown at added)

@@ -1,6 +1,6 @@
 -- What a new head leaves of an arena's invariant, and of what is seen of it.
-use Rattle.std.proofs.Common.{◌≡◌, ℕ, ◌≤◌, ◌+◌, List, [], ◌∷◌, ◌++◌, length, get_or, Bool, false, Option, Some, None, is_some, IsSome, refl, subst, inl, inr, sym, ap, ◌∙◌, arith}
-use Rattle.std.specs.Option.{option_map, option_and_then, unwrap_or}
+use Rattle.std.proofs.Common.{◌≡◌, ◌≢◌, ℕ, ◌≤◌, ◌+◌, List, [], ◌∷◌, ◌++◌, length, get_or, Bool, false, Option, Some, None, is_some, IsSome, refl, subst, inl, inr, sym, ap, ◌∙◌, arith}
+use Rattle.std.specs.Option.{option_map, option_map_or, option_and_then, unwrap_or}
 use Rattle.std.specs.Map.{lookup, keys_of}
 use Rattle.std.specs.List.{IsDistinct}
 use Rattle.std.specs.Prelude.{nat_eq}
@@ -11,15 +11,30 @@ use Rattle.slab.specs.Slab.{Slab, get}
 use Rattle.bm_arena.specs.declared.types.Entry.{Entry}
 use Rattle.bm_arena.specs.Triplets.{Block, links_of, seen_slots, at_slot, with_capacity, capacity_at, change_block}
 use Rattle.bm_arena.specs.Lists.{IsList}
-use Rattle.bm_arena.specs.Contents.{Contents, IsReserved, with_room, find_marks}
+use Rattle.bm_arena.specs.Contents.{Contents, IsReserved, with_room, find_marks, room_at, block_at}
 use Rattle.bm_arena.specs.Inside.{list_from, lists_from, IsArena}
 use Rattle.bm_arena.proofs.Seeing.{lookup-lists_from, marks_in, entry_seen}
 use Rattle.bm_arena.proofs.Entries.{lookup-push_before, lookup-push_here, lookup-push_cases}
-use Rattle.bm_arena.proofs.Reading.{walk-nowhere, reserve-arena, reserve-blocks, reserve-lists}
+use Rattle.bm_arena.proofs.Reading.{walk-nowhere, room-seen, reserve-arena, reserve-blocks, reserve-lists}
 use Rattle.bm_arena.proofs.Triplets.{get_or-set_here}
 
 pub IsReserved-refl : (a : Contents) → IsReserved a a
-IsReserved-refl a = record { blocks = λ _ _. refl; marks = λ _ _. refl; lists = λ _. refl; heads = λ _ h. h; ids = refl; delimiter = refl; steps = refl }
+IsReserved-refl a = record {
+  blocks = λ _ _. refl;
+  marker = room_itself (block_at a a.delimiter);
+  room = omega arith;
+  marks = λ _ _. refl;
+  lists = λ _. refl;
+  heads = λ _ h. h;
+  ids = refl;
+  delimiter = refl;
+  steps = refl;
+  bound = refl;
+}
+  where
+    room_itself : (o : Option Block) → o ≡ option_map (with_room (option_map_or (λ (b : Block). b.room) o 0)) o
+    room_itself None = refl
+    room_itself (Some b) = refl
 
 pub IsReserved-trans : (a b c : Contents) → IsReserved a b → IsReserved b c → IsReserved a c
 IsReserved-trans a b c p q = record {
@@ -30,7 +45,14 @@ IsReserved-trans a b c p q = record {
   ids = q.ids ∙ p.ids;
   delimiter = q.delimiter ∙ p.delimiter;
   steps = q.steps ∙ p.steps;
+  bound = q.bound ∙ p.bound;
+  marker = rw p.delimiter at q.marker ∙ ap (option_map (with_room (room_at c a.delimiter))) p.marker ∙ room_again (block_at a a.delimiter);
+  room = let more : room_at b a.delimiter ≤ room_at c a.delimiter = rw p.delimiter at q.room in omega (arith, p.room, more);
 }
+  where
+    room_again : (o : Option Block) → option_map (with_room (room_at c a.delimiter)) (option_map (with_room (room_at b a.delimiter)) o) ≡ option_map (with_room (room_at c a.delimiter)) o
+    room_again None = refl
+    room_again (Some b) = refl
 
 -- a storage that had no head has one, of an empty list
 module _ (slots : Slab Entry) (ids : List (ℕ × ℕ)) (heads : List (ℕ × Option ℕ)) (delimiter s : ℕ) (arena : IsArena slots ids heads delimiter)
@@ -122,12 +144,18 @@ marks-change_room blocks x room y s =
 -- the delimiter got room, and then a storage a head
 module _ (slots new : Slab Entry) (ids : List (ℕ × ℕ)) (heads : List (ℕ × Option ℕ)) (delimiter : ℕ)
     (is : new ≡ at_slot (with_capacity (capacity_at new delimiter)) slots delimiter) (grows : capacity_at slots delimiter ≤ capacity_at new delimiter)
-    (arena : IsArena slots ids heads delimiter) (steps : ℕ) where
+    (arena : IsArena slots ids heads delimiter) (steps bound : ℕ) where
   abbrev seen_as : Slab Entry → List (ℕ × Option ℕ) → Contents
-  seen_as s hs = record { blocks = seen_slots s; ids = ids; lists = lists_from s hs; delimiter = delimiter; steps = steps }
+  seen_as s hs = record { blocks = seen_slots s; ids = ids; lists = lists_from s hs; delimiter = delimiter; steps = steps; bound = bound }
 
   pub roomier-arena : IsArena new ids heads delimiter
   roomier-arena = reserve-arena slots new delimiter is grows ids heads delimiter arena
+
+  marker-roomier : get_or (seen_slots new) delimiter None ≡ option_map (with_room (option_map_or (λ (b : Block). b.room) (get_or (seen_slots new) delimiter None) 0)) (get_or (seen_slots slots) delimiter None)
+  marker-roomier =
+      let blocks = reserve-blocks slots new delimiter is grows ids heads delimiter arena in
+      ap (λ bs. get_or bs delimiter None) blocks ∙ get_or-set_here (seen_slots slots) delimiter (option_map (with_room (capacity_at new delimiter))) refl
+      ∙ ap (λ r. option_map (with_room r) (get_or (seen_slots slots) delimiter None)) (sym (room-seen new delimiter))
 
   pub roomier-kept : (after : List (ℕ × Option ℕ)) → after ≡ heads → IsReserved (seen_as slots heads) (seen_as new after)
   roomier-kept after same =
@@ -141,7 +169,15 @@ module _ (slots new : Slab Entry) (ids : List (ℕ × ℕ)) (heads : List (ℕ �
         ids = refl;
         delimiter = refl;
         steps = refl;
+        bound = refl;
+        marker = marker-roomier;
+        room = rw (room-seen slots delimiter, room-seen new delimiter) grows;
       })
+
+  pub roomier-named : (after : List (ℕ × Option ℕ)) → after ≡ heads → (q : ℕ) → IsSome (lookup (nat_eq q) (lists_from new after)) → IsSome (lookup (nat_eq q) (lists_from slots heads))
+  roomier-named after same q some =
+      let lists = reserve-lists slots new delimiter is grows ids heads delimiter arena in
+      rw (same, lists) at some
 
   module _ (s : ℕ) (absent : lookup (nat_eq s) heads ≡ None) (after : List (ℕ × Option ℕ)) (after_is : after ≡ heads ++ (s, None) ∷ []) where
     pub headed-arena : IsDistinct nat_eq (keys_of after) → (count additional : ℕ) → count ≡ length heads → additional ≡ count + 1 → ((e : Entry) → get new delimiter ≡ Some e → length e.triplets.items + additional ≤ e.triplets.capacity) → IsArena new ids after delimiter
@@ -166,4 +202,22 @@ module _ (slots new : Slab Entry) (ids : List (ℕ × ℕ)) (heads : List (ℕ �
           ids = refl;
           delimiter = refl;
           steps = refl;
+          bound = refl;
+          marker = (IsReserved-refl (seen_as new heads)).marker;
+          room = omega arith;
         }))
+
+    -- and no other storage got a head
+    pub headed-named : (q : ℕ) → q ≢ s → IsSome (lookup (nat_eq q) (lists_from new after)) → IsSome (lookup (nat_eq q) (lists_from slots heads))
+    headed-named q differs some =
+        let seen = rw (after_is, lookup-lists_from new q (heads ++ (s, None) ∷ [])) at some in
+        rw (lookup-lists_from slots q heads) (by (lookup (nat_eq q) heads) (lookup (nat_eq q) (heads ++ (s, None) ∷ [])) refl refl seen)
+      where
+        by : (o p : Option (Option ℕ)) → lookup (nat_eq q) heads ≡ o → lookup (nat_eq q) (heads ++ (s, None) ∷ []) ≡ p → IsSome (option_map (list_from new q) p) → IsSome (option_map (list_from slots q) (lookup (nat_eq q) heads))
+        by (Some first) p is _ _ = rw is refl
+        by None None is _ there = absurd (false≢true there)
+        by None (Some first) is push _ =
+            elim (lookup-push_cases q s None first heads push) [
+              | inl before ↦ absurd (none-some first (sym is ∙ before))
+              | inr now ↦ absurd (differs now.0)
+            ]

@@ -11,9 +11,9 @@ use Rattle.bm_arena.specs.declared.types.Triplet.{Triplet}
 use Rattle.bm_arena.specs.Triplets.{triplet_at, links_of, seen_slots}
 use Rattle.bm_arena.specs.Lists.{Among, Distinct, Chain}
 use Rattle.bm_arena.specs.Contents.{IsLawful, slot_after, first_of}
-use Rattle.bm_arena.specs.Inside.{list_from, lists_from, IsSound, IsArena}
+use Rattle.bm_arena.specs.Inside.{list_from, lists_from, IsSound, IsBoundedArena}
 use Rattle.bm_arena.proofs.Sound.{Chain-member}
-use Rattle.bm_arena.proofs.Seeing.{marks_in, marks_of, marks-seen, lookup-lists_from}
+use Rattle.bm_arena.proofs.Seeing.{marks_in, marks_of, marks-seen, entry_seen, lookup-lists_from}
 
 -- each list visits each slot once, and visits just the slots that have a replica on its storage
 module _ (slots : Slab Entry) (heads : List (ℕ × Option ℕ)) (sound : IsSound slots heads) where
@@ -33,19 +33,20 @@ module _ (slots : Slab Entry) (heads : List (ℕ × Option ℕ)) (sound : IsSoun
       let found = sound.complete x s t is in
       rw (lookup-lists_from slots s heads, found.1) found.2
 
-pub IsLawful-arena : (slots : Slab Entry) (heads : List (ℕ × Option ℕ)) (ids : List (ℕ × ℕ)) (delimiter : ℕ) → IsArena slots ids heads delimiter → (steps : ℕ)
-    → IsLawful (record { blocks = seen_slots slots; ids = ids; lists = lists_from slots heads; delimiter = delimiter; steps = steps })
-IsLawful-arena slots heads ids delimiter arena steps = record {
-  distinct = λ s. rw (lookup-lists_from slots s heads) (distinct_from slots heads arena.sound s (lookup (nat_eq s) heads) refl);
+pub IsLawful-arena : (slots : Slab Entry) (heads : List (ℕ × Option ℕ)) (ids : List (ℕ × ℕ)) (delimiter bound : ℕ) → IsBoundedArena slots ids heads delimiter bound → (steps : ℕ)
+    → IsLawful (record { blocks = seen_slots slots; ids = ids; lists = lists_from slots heads; delimiter = delimiter; steps = steps; bound = bound })
+IsLawful-arena slots heads ids delimiter bound whole steps = record {
+  distinct = λ s. rw (lookup-lists_from slots s heads) (distinct_from slots heads whole.arena.sound s (lookup (nat_eq s) heads) refl);
   exact = λ x s. (
-    λ there. marked_from slots heads arena.sound x s (lookup (nat_eq s) heads) refl (rw (lookup-lists_from slots s heads) at there),
-    λ some. listed_from slots heads arena.sound x s (triplet_at slots x s) refl (rw (marks-seen slots x s) at some),
+    λ there. marked_from slots heads whole.arena.sound x s (lookup (nat_eq s) heads) refl (rw (lookup-lists_from slots s heads) at there),
+    λ some. listed_from slots heads whole.arena.sound x s (triplet_at slots x s) refl (rw (marks-seen slots x s) at some),
   );
-  once = arena.sound.once;
-  found = arena.numbers.there;
-  known = arena.numbers.known;
-  each = arena.numbers.each;
-  marker = rw arena.numbers.marker.1 refl;
+  once = whole.arena.sound.once;
+  found = whole.arena.numbers.there;
+  known = whole.arena.numbers.known;
+  each = whole.arena.numbers.each;
+  marker = rw whole.arena.numbers.marker.1 refl;
+  bounded = λ slot b is. let e = entry_seen slots slot b is in whole.bounded slot e.0 e.1;
 }
 
 -- the slot that follows in a list is the one that the next link leads to

@@ -132,6 +132,7 @@ others-linked_front a slot s m = record {
   ids = refl;
   delimiter = refl;
   steps = refl;
+  bound = refl;
 }
   where
     stays : (q : ℕ) → q ≢ s → (o : Option Block) → option_and_then (λ (b : Block). find_marks b.replicas q) (option_map (with_replica s m) o) ≡ option_and_then (λ (b : Block). find_marks b.replicas q) o
@@ -168,6 +169,7 @@ module _ (a : Contents) (lawful : IsLawful a) (slot s : ℕ) where
     ids = refl;
     delimiter = refl;
     steps = refl;
+    bound = refl;
   }
     where
       by : (q : ℕ) → q ≢ s → (o : Option Block) → block_at a slot ≡ o → option_and_then (λ (b : Block). find_marks (fill_first (λ (r : ℕ × Marks). eqb r.0 s) b.replicas) q) o ≡ option_and_then (λ (b : Block). find_marks b.replicas q) o
@@ -185,6 +187,7 @@ others-moved_front a slot s = record {
   ids = refl;
   delimiter = refl;
   steps = refl;
+  bound = refl;
 }
 
 -- the marks of a replica that was linked, where the block has room

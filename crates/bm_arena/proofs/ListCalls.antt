@@ -99,11 +99,11 @@ module _ (slots : Slab Entry) (heads : List (ℕ × Option ℕ)) (first : Option
             (AreIds-change (seen_slots slots) ids delimiter (length heads) x (with_replica storage marks) (λ _. refl) (λ _ _. omega arith) arena.numbers);
       })
 
-  pub link_front-view : (mid new : Slab Entry) (entries : List (ℕ × Option ℕ)) (w : Option ℕ) (steps counted : ℕ) → mid ≡ added slots x new_triplet → new ≡ attached mid first x storage → entries ≡ set_value (nat_eq storage) heads w → w ≡ Some x → counted ≡ count_up steps
-      → ◌≡◌ {A = Contents} (record { ids = ids; delimiter = delimiter; blocks = seen_slots new; lists = lists_from new entries; steps = counted })
-      (linked_front (record { ids = ids; delimiter = delimiter; blocks = seen_slots slots; lists = lists_from slots heads; steps = steps }) x storage marks)
-  link_front-view mid new entries w steps counted mid_is new_is entries_is w_is counted_is =
-      rw (entries_is, w_is, new_is, mid_is, counted_is) (linked-view slots heads first storage arena.sound (sym known) x marks here.0 here.1 here.2 arena.unique ids delimiter steps)
+  pub link_front-view : (mid new : Slab Entry) (entries : List (ℕ × Option ℕ)) (w : Option ℕ) (steps counted bound : ℕ) → mid ≡ added slots x new_triplet → new ≡ attached mid first x storage → entries ≡ set_value (nat_eq storage) heads w → w ≡ Some x → counted ≡ count_up steps
+      → ◌≡◌ {A = Contents} (record { ids = ids; delimiter = delimiter; blocks = seen_slots new; lists = lists_from new entries; steps = counted; bound = bound })
+      (linked_front (record { ids = ids; delimiter = delimiter; blocks = seen_slots slots; lists = lists_from slots heads; steps = steps; bound = bound }) x storage marks)
+  link_front-view mid new entries w steps counted bound mid_is new_is entries_is w_is counted_is =
+      rw (entries_is, w_is, new_is, mid_is, counted_is) (linked-view slots heads first storage arena.sound (sym known) x marks here.0 here.1 here.2 arena.unique ids delimiter steps bound)
 
 -- a storage whose head is not found has none
 pub no_head : (slots : Slab Entry) (heads : List (ℕ × Option ℕ)) (storage : ℕ) → None ≡ lookup (nat_eq storage) heads → IsSome (lookup (nat_eq storage) (lists_from slots heads)) → ⊥
@@ -132,11 +132,11 @@ module _ (slots : Slab Entry) (heads : List (ℕ × Option ℕ)) (first : Option
             (AreIds-change (seen_slots slots) ids delimiter (length heads) x (without_replica storage) (λ _. refl) (λ _ _. omega arith) arena.numbers);
       })
 
-  pub unlink-view : (mid new : Slab Entry) (entries : List (ℕ × Option ℕ)) (w : Option ℕ) (steps counted : ℕ) → mid ≡ detached slots t storage → new ≡ removed mid x storage → entries ≡ set_value (nat_eq storage) heads w → w ≡ first_after first t → counted ≡ count_up steps
-      → ◌≡◌ {A = Contents} (record { ids = ids; delimiter = delimiter; blocks = seen_slots new; lists = lists_from new entries; steps = counted })
-      (unlinked (record { ids = ids; delimiter = delimiter; blocks = seen_slots slots; lists = lists_from slots heads; steps = steps }) x storage)
-  unlink-view mid new entries w steps counted mid_is new_is entries_is w_is counted_is =
-      rw (entries_is, w_is, new_is, mid_is, counted_is) (out-view slots heads first storage arena.sound (sym known) x t holder.0 holder.1 (sym own) arena.unique ids delimiter steps)
+  pub unlink-view : (mid new : Slab Entry) (entries : List (ℕ × Option ℕ)) (w : Option ℕ) (steps counted bound : ℕ) → mid ≡ detached slots t storage → new ≡ removed mid x storage → entries ≡ set_value (nat_eq storage) heads w → w ≡ first_after first t → counted ≡ count_up steps
+      → ◌≡◌ {A = Contents} (record { ids = ids; delimiter = delimiter; blocks = seen_slots new; lists = lists_from new entries; steps = counted; bound = bound })
+      (unlinked (record { ids = ids; delimiter = delimiter; blocks = seen_slots slots; lists = lists_from slots heads; steps = steps; bound = bound }) x storage)
+  unlink-view mid new entries w steps counted bound mid_is new_is entries_is w_is counted_is =
+      rw (entries_is, w_is, new_is, mid_is, counted_is) (out-view slots heads first storage arena.sound (sym known) x t holder.0 holder.1 (sym own) arena.unique ids delimiter steps bound)
 
   pub move_front-sound : (mid new : Slab Entry) (middle w : Option ℕ) (entries : List (ℕ × Option ℕ)) → mid ≡ detached slots t storage → middle ≡ first_after first t → new ≡ attached mid middle x storage → entries ≡ set_value (nat_eq storage) heads w → w ≡ Some x → IsDistinct nat_eq (keys_of entries) → IsArena new ids entries delimiter
   move_front-sound mid new middle w entries mid_is middle_is new_is entries_is w_is unique =
@@ -147,11 +147,11 @@ module _ (slots : Slab Entry) (heads : List (ℕ × Option ℕ)) (first : Option
         numbers = rw (moved-seen slots heads first storage arena.sound (sym known) x t holder.0 holder.1 (sym own), length-set_value storage (Some x) heads) arena.numbers;
       })
 
-  pub move_front-view : (mid new : Slab Entry) (middle w : Option ℕ) (entries : List (ℕ × Option ℕ)) (steps counted : ℕ) → mid ≡ detached slots t storage → middle ≡ first_after first t → new ≡ attached mid middle x storage → entries ≡ set_value (nat_eq storage) heads w → w ≡ Some x → counted ≡ count_up steps
-      → ◌≡◌ {A = Contents} (record { ids = ids; delimiter = delimiter; blocks = seen_slots new; lists = lists_from new entries; steps = counted })
-      (moved_front (record { ids = ids; delimiter = delimiter; blocks = seen_slots slots; lists = lists_from slots heads; steps = steps }) x storage)
-  move_front-view mid new middle w entries steps counted mid_is middle_is new_is entries_is w_is counted_is =
-      rw (entries_is, w_is, new_is, mid_is, middle_is, counted_is) (moved-view slots heads first storage arena.sound (sym known) x t holder.0 holder.1 (sym own) arena.unique ids delimiter steps)
+  pub move_front-view : (mid new : Slab Entry) (middle w : Option ℕ) (entries : List (ℕ × Option ℕ)) (steps counted bound : ℕ) → mid ≡ detached slots t storage → middle ≡ first_after first t → new ≡ attached mid middle x storage → entries ≡ set_value (nat_eq storage) heads w → w ≡ Some x → counted ≡ count_up steps
+      → ◌≡◌ {A = Contents} (record { ids = ids; delimiter = delimiter; blocks = seen_slots new; lists = lists_from new entries; steps = counted; bound = bound })
+      (moved_front (record { ids = ids; delimiter = delimiter; blocks = seen_slots slots; lists = lists_from slots heads; steps = steps; bound = bound }) x storage)
+  move_front-view mid new middle w entries steps counted bound mid_is middle_is new_is entries_is w_is counted_is =
+      rw (entries_is, w_is, new_is, mid_is, middle_is, counted_is) (moved-view slots heads first storage arena.sound (sym known) x t holder.0 holder.1 (sym own) arena.unique ids delimiter steps bound)
 
 -- a replica that is seen has a head and a triplet
 pub no_replica : (slots : Slab Entry) (storage x : ℕ) → None ≡ triplet_at slots x storage → IsSome (marks_in (seen_slots slots) x storage) → ⊥

@@ -99,10 +99,10 @@ module _ (slots : Slab Entry) (heads : List (ℕ × Option ℕ)) (first : Option
     pub linked-sound : IsSound linked (set_value (nat_eq storage) heads (Some x))
     linked-sound = IsSound-step slots linked storage (Some x) (x ∷ old_list) linked-others linked-len linked-list heads first sound known linked-all linked-once
 
-    pub linked-view : IsDistinct nat_eq (keys_of heads) → (ids : List (ℕ × ℕ)) (delimiter steps : ℕ)
-        → ◌≡◌ {A = Contents} (record { ids = ids; delimiter = delimiter; blocks = seen_slots linked; lists = lists_from linked (set_value (nat_eq storage) heads (Some x)); steps = count_up steps })
-        (linked_front (record { ids = ids; delimiter = delimiter; blocks = seen_slots slots; lists = lists_from slots heads; steps = steps }) x storage marks)
-    linked-view distinct ids delimiter steps =
+    pub linked-view : IsDistinct nat_eq (keys_of heads) → (ids : List (ℕ × ℕ)) (delimiter steps bound : ℕ)
+        → ◌≡◌ {A = Contents} (record { ids = ids; delimiter = delimiter; blocks = seen_slots linked; lists = lists_from linked (set_value (nat_eq storage) heads (Some x)); steps = count_up steps; bound = bound })
+        (linked_front (record { ids = ids; delimiter = delimiter; blocks = seen_slots slots; lists = lists_from slots heads; steps = steps; bound = bound }) x storage marks)
+    linked-view distinct ids delimiter steps bound =
         rw (linked-seen, lists-step slots linked storage (Some x) (x ∷ old_list) linked-others linked-len linked-list heads distinct, lookup-lists_from slots storage heads, known) refl
 
   -- a replica that is there was taken out of its list, between its neighbours
@@ -178,10 +178,10 @@ module _ (slots : Slab Entry) (heads : List (ℕ × Option ℕ)) (first : Option
     pub out-sound : IsSound out (set_value (nat_eq storage) heads (first_after first t))
     out-sound = IsSound-step slots out storage (first_after first t) rest out-others out-len out-list heads first sound known out-all out-once
 
-    pub out-view : IsDistinct nat_eq (keys_of heads) → (ids : List (ℕ × ℕ)) (delimiter steps : ℕ)
-        → ◌≡◌ {A = Contents} (record { ids = ids; delimiter = delimiter; blocks = seen_slots out; lists = lists_from out (set_value (nat_eq storage) heads (first_after first t)); steps = count_up steps })
-        (unlinked (record { ids = ids; delimiter = delimiter; blocks = seen_slots slots; lists = lists_from slots heads; steps = steps }) x storage)
-    out-view distinct ids delimiter steps =
+    pub out-view : IsDistinct nat_eq (keys_of heads) → (ids : List (ℕ × ℕ)) (delimiter steps bound : ℕ)
+        → ◌≡◌ {A = Contents} (record { ids = ids; delimiter = delimiter; blocks = seen_slots out; lists = lists_from out (set_value (nat_eq storage) heads (first_after first t)); steps = count_up steps; bound = bound })
+        (unlinked (record { ids = ids; delimiter = delimiter; blocks = seen_slots slots; lists = lists_from slots heads; steps = steps; bound = bound }) x storage)
+    out-view distinct ids delimiter steps bound =
         rw (out-seen, lists-step slots out storage (first_after first t) rest out-others out-len out-list heads distinct, lookup-lists_from slots storage heads, known) refl
 
     -- or its slot was linked again, at the head
@@ -216,8 +216,8 @@ module _ (slots : Slab Entry) (heads : List (ℕ × Option ℕ)) (first : Option
         IsSound-step slots moved storage (Some x) (x ∷ rest) moved-others moved-len moved-list heads first sound known moved-all
         (λ y b is. sound.once y b (ap (λ bs. get_or bs y None) (sym moved-seen) ∙ is))
 
-    pub moved-view : IsDistinct nat_eq (keys_of heads) → (ids : List (ℕ × ℕ)) (delimiter steps : ℕ)
-        → ◌≡◌ {A = Contents} (record { ids = ids; delimiter = delimiter; blocks = seen_slots moved; lists = lists_from moved (set_value (nat_eq storage) heads (Some x)); steps = count_up steps })
-        (moved_front (record { ids = ids; delimiter = delimiter; blocks = seen_slots slots; lists = lists_from slots heads; steps = steps }) x storage)
-    moved-view distinct ids delimiter steps =
+    pub moved-view : IsDistinct nat_eq (keys_of heads) → (ids : List (ℕ × ℕ)) (delimiter steps bound : ℕ)
+        → ◌≡◌ {A = Contents} (record { ids = ids; delimiter = delimiter; blocks = seen_slots moved; lists = lists_from moved (set_value (nat_eq storage) heads (Some x)); steps = count_up steps; bound = bound })
+        (moved_front (record { ids = ids; delimiter = delimiter; blocks = seen_slots slots; lists = lists_from slots heads; steps = steps; bound = bound }) x storage)
+    moved-view distinct ids delimiter steps bound =
         rw (moved-seen, lists-step slots moved storage (Some x) (x ∷ rest) moved-others moved-len moved-list heads distinct, lookup-lists_from slots storage heads, known) refl

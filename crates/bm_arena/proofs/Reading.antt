@@ -1,5 +1,5 @@
 -- What walking a list, making room and putting the delimiter rest on.
-use Rattle.std.proofs.Common.{◌≡◌, ℕ, zero, suc, ◌<◌, ◌≤◌, List, [], ◌∷◌, length, get_or, eqb, Bool, true, false, not, is_some, Option, Some, None, IsSome, IsSomeAnd, refl, subst, inl, inr, sym, ap, ◌∙◌, arith}
+use Rattle.std.proofs.Common.{◌≡◌, ℕ, zero, suc, ◌<◌, ◌≤◌, ◌+◌, map, List, [], ◌∷◌, length, get_or, eqb, Bool, true, false, not, is_some, Option, Some, None, IsSome, IsSomeAnd, refl, subst, inl, inr, sym, ap, ◌∙◌, arith}
 use Rattle.std.specs.Option.{option_map, option_and_then, option_map_or, unwrap_or}
 use Rattle.std.specs.Map.{lookup, keys_of}
 use Rattle.std.specs.Prelude.{nat_eq}
@@ -20,7 +20,7 @@ use Rattle.bm_arena.proofs.Lists.{walk-chain, length-distinct_below, length-with
 use Rattle.bm_arena.proofs.Triplets.{read}
 use Rattle.bm_arena.proofs.Replicas.{keys, none-absent}
 use Rattle.bm_arena.proofs.Sound.{Chain-member, triplet_at_within}
-use Rattle.bm_arena.proofs.Seeing.{lookup-lists_from, marks_in, marks_of, marks-seen, none_inside, entry_seen, storages_seen}
+use Rattle.bm_arena.proofs.Seeing.{lookup-lists_from, marks_in, marks_of, marks-seen, none_inside, entry_seen, seen_at, storages_seen}
 use Rattle.bm_arena.proofs.Relinked.{reserved-arena, reserved-lists, reserved-blocks}
 
 pub walk-listed : (slots : Slab Entry) (heads : List (ℕ × Option ℕ)) (storage left : ℕ) (first : Option ℕ) → IsSound slots heads → length slots.slots ≤ left → Some first ≡ lookup (nat_eq storage) heads → walk (links_of slots storage) left first ≡ unwrap_or (lookup (nat_eq storage) (lists_from slots heads)) []
@@ -41,7 +41,7 @@ walk-headless slots heads storage left first none start =
     rw (lookup-lists_from slots storage heads, ← none, start) (walk-nowhere (links_of slots storage) left)
 
 -- more room
-room-seen : (slots : Slab Entry) (x : ℕ) → option_map_or (λ (b : Block). b.room) (get_or (seen_slots slots) x None) 0 ≡ capacity_at slots x
+pub room-seen : (slots : Slab Entry) (x : ℕ) → option_map_or (λ (b : Block). b.room) (get_or (seen_slots slots) x None) 0 ≡ capacity_at slots x
 room-seen slots x = ap (λ o. option_map_or (λ (b : Block). b.room) o 0) (get_or-map (option_map seen_entry) slots.slots x None) ∙ by (get slots x)
   where
     by : (o : Option Entry) → option_map_or (λ (b : Block). b.room) (option_map seen_entry o) 0 ≡ option_map_or (λ (e : Entry). e.triplets.capacity) o 0
@@ -64,17 +64,17 @@ module _ (slots new : Slab Entry) (x : ℕ) (is : new ≡ at_slot (with_capacity
   pub reserve-lists : lists_from new heads ≡ lists_from slots heads
   reserve-lists = reserved-lists slots new x (capacity_at new x) is grows_entry ids heads delimiter arena
 
-  pub reserve-view : (steps : ℕ) →
-      let after : Contents = record { blocks = seen_slots new; ids = ids; lists = lists_from new heads; delimiter = delimiter; steps = steps } in
-      let before : Contents = record { blocks = seen_slots slots; ids = ids; lists = lists_from slots heads; delimiter = delimiter; steps = steps } in
+  pub reserve-view : (steps bound : ℕ) →
+      let after : Contents = record { blocks = seen_slots new; ids = ids; lists = lists_from new heads; delimiter = delimiter; steps = steps; bound = bound } in
+      let before : Contents = record { blocks = seen_slots slots; ids = ids; lists = lists_from slots heads; delimiter = delimiter; steps = steps; bound = bound } in
       after ≡ record before { blocks = change_block (with_room (room_at after x)) before.blocks x }
-  reserve-view steps =
-      let same : seen_slots new ≡ change_block (with_room (room_at (record { blocks = seen_slots new; ids = ids; lists = lists_from new heads; delimiter = delimiter; steps = steps }) x)) (seen_slots slots) x =
+  reserve-view steps bound =
+      let same : seen_slots new ≡ change_block (with_room (room_at (record { blocks = seen_slots new; ids = ids; lists = lists_from new heads; delimiter = delimiter; steps = steps; bound = bound }) x)) (seen_slots slots) x =
       reserve-blocks ∙ ap (λ r. change_block (with_room r) (seen_slots slots) x) (sym (room-seen new x)) in
       ap2 same reserve-lists
     where
       ap2 : {bs cs : List (Option Block)} {ls ms : List (ℕ × List ℕ)} → bs ≡ cs → ls ≡ ms
-          → ◌≡◌ {A = Contents} (record { blocks = bs; ids = ids; lists = ls; delimiter = delimiter; steps = steps }) (record { blocks = cs; ids = ids; lists = ms; delimiter = delimiter; steps = steps })
+          → ◌≡◌ {A = Contents} (record { blocks = bs; ids = ids; lists = ls; delimiter = delimiter; steps = steps; bound = bound }) (record { blocks = cs; ids = ids; lists = ms; delimiter = delimiter; steps = steps; bound = bound })
       ap2 p q = rw (p, q) refl
 
 -- numbers each once, all of them among others, are no more than those
@@ -165,3 +165,10 @@ empty-headed slots heads s first found answer sound known same is =
 
 pub empty-headless : (slots : Slab Entry) (heads : List (ℕ × Option ℕ)) (s : ℕ) → None ≡ lookup (nat_eq s) heads → unwrap_or (lookup (nat_eq s) (lists_from slots heads)) [] ≡ []
 empty-headless slots heads s none = rw (lookup-lists_from slots s heads, ← none) refl
+
+-- a block that is seen with room has an entry with room
+pub room-entry : (slots : Slab Entry) (x : ℕ) → IsSomeAnd (get_or (seen_slots slots) x None) (λ (b : Block). length b.replicas < b.room) → (e : Entry) → get slots x ≡ Some e → length e.triplets.items + 1 ≤ e.triplets.capacity
+room-entry slots x room e at =
+    let P : Option Block → Type 0 = λ o. IsSomeAnd o (λ (b : Block). length b.replicas < b.room) in
+    let fits : length (map seen_triplet e.triplets.items) < e.triplets.capacity = subst P (seen_at slots x e at) room in
+    omega (arith, fits, length-map e.triplets.items seen_triplet)

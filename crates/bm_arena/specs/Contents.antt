@@ -1,6 +1,6 @@
 -- What a contract sees of an arena, what its calls make of it, and what holds of it at all times.
 -- Source: Hadoop 2's BlockInfo (triplets), BlocksMap, and the delimiter by which BlockManager compares a full report.
-use Rattle.std.specs.Prelude.{◌≡◌, ◌↔◌, ℕ, ◌+◌, ◌^◌, ◌-◌, ◌==◌, ◌<◌, ◌≢◌, List, [], ◌∷◌, ◌++◌, length, map, nat_eq, nat_lt, Option, Some, None, IsSome, IsSomeAnd, if◌then◌else◌, slice_index_or, slice_set, false}
+use Rattle.std.specs.Prelude.{◌≡◌, ◌↔◌, ℕ, ◌+◌, ◌^◌, ◌-◌, ◌==◌, ◌<◌, ◌≤◌, ◌≢◌, max, List, [], ◌∷◌, ◌++◌, length, map, nat_eq, nat_lt, Option, Some, None, IsSome, IsSomeAnd, if◌then◌else◌, slice_index_or, slice_set, false}
 use Rattle.std.specs.Option.{option_map, option_and_then, option_map_or, unwrap_or}
 use Rattle.std.specs.Map.{lookup, set_value, keys_of}
 use Rattle.std.specs.List.{IsDistinct}
@@ -12,13 +12,14 @@ use Rattle.bm_arena.specs.Triplets.{Block, change_block, fill_first}
 use Rattle.bm_arena.specs.Lists.{Among, Distinct, without}
 
 -- the block or nothing at each slot; each block's number with its slot; each storage with a head, and the slots of its list in order;
--- the slot that marks a place in a list; the count of list operations
+-- the slot that marks a place in a list; the count of list operations; one above the greatest slot that was held at any time
 pub record Contents : Type 0 where
   pub blocks : List (Option Block)
   pub ids : List (ℕ × ℕ)
   pub lists : List (ℕ × List ℕ)
   pub delimiter : ℕ
   pub steps : ℕ
+  pub bound : ℕ
 
 abbrev pub block_at : Contents → ℕ → Option Block
 block_at a slot = slice_index_or a.blocks slot None
@@ -113,6 +114,7 @@ pub record IsAdded (old new : Contents) (id slot : ℕ) : Type 0 where
   pub lists : new.lists ≡ old.lists
   pub steps : new.steps ≡ old.steps
   pub delimiter : new.delimiter ≡ old.delimiter
+  pub bound : new.bound ≡ max old.bound (slot + 1)
 
 -- the first of the slots
 abbrev pub first_of : List ℕ → Option ℕ
@@ -132,15 +134,18 @@ room_at a slot = option_map_or (λ (b : Block). b.room) (block_at a slot) 0
 abbrev pub no_marks : Marks
 no_marks = record { tag = Good; excess = false; ordered = false }
 
--- only room changed: more storages may have a head, with no slot in their lists, and the delimiter may have more room
+-- only room changed: more storages may have a head, with no slot in their lists, and the delimiter's entry may have more room
 pub record IsReserved (old new : Contents) : Type 0 where
   pub blocks : (slot : ℕ) → slot ≢ old.delimiter → block_at new slot ≡ block_at old slot
+  pub marker : block_at new old.delimiter ≡ option_map (with_room (room_at new old.delimiter)) (block_at old old.delimiter)
+  pub room : room_at old old.delimiter ≤ room_at new old.delimiter
   pub marks : (slot storage : ℕ) → marks_at new slot storage ≡ marks_at old slot storage
   pub lists : (storage : ℕ) → list_of new storage ≡ list_of old storage
   pub heads : (storage : ℕ) → HasHead old storage → HasHead new storage
   pub ids : new.ids ≡ old.ids
   pub delimiter : new.delimiter ≡ old.delimiter
   pub steps : new.steps ≡ old.steps
+  pub bound : new.bound ≡ old.bound
 
 -- the arena after the entry of a number was dropped: the last number takes its place
 abbrev pub dropped : Contents → ℕ → ℕ → Contents
@@ -162,6 +167,8 @@ pub record IsLawful (a : Contents) : Type 0 where
   pub each : IsDistinct nat_eq (keys_of a.ids)
   -- the delimiter's slot is held
   pub marker : IsSome (block_at a a.delimiter)
+  -- each slot that is held lies below the bound
+  pub bounded : (slot : ℕ) (b : Block) → block_at a slot ≡ Some b → slot < a.bound
 
 -- what is known of a block beside its replicas
 abbrev pub known_of : Option Block → Option (ℕ × Option BlockInfo)
@@ -178,3 +185,4 @@ pub record KeepsOthers (old new : Contents) (slot storage : ℕ) : Type 0 where
   pub ids : new.ids ≡ old.ids
   pub delimiter : new.delimiter ≡ old.delimiter
   pub steps : new.steps ≡ count_up old.steps
+  pub bound : new.bound ≡ old.bound

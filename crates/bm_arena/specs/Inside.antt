@@ -2,7 +2,7 @@
 use Rattle.std.specs.Prelude.{◌≡◌, ◌≢◌, ◌<◌, ◌≤◌, ℕ, List, map, length, nat_eq, Option, Some, None, slice_index_or}
 use Rattle.std.specs.Map.{lookup, keys_of}
 use Rattle.std.specs.List.{IsDistinct}
-use Rattle.slab.specs.Slab.{Slab}
+use Rattle.slab.specs.Slab.{Slab, get}
 use Rattle.bm_arena.specs.declared.types.Entry.{Entry}
 use Rattle.bm_arena.specs.declared.types.Triplet.{Triplet}
 use Rattle.bm_arena.specs.SlotLinks.{end_of_list}
@@ -45,3 +45,12 @@ pub record IsArena (slots : Slab Entry) (ids : List (ℕ × ℕ)) (heads : List 
   pub sound : IsSound slots heads
   pub unique : IsDistinct nat_eq (keys_of heads)
   pub numbers : AreIds (seen_slots slots) ids delimiter (length heads)
+
+-- each slot that is held lies below the bound
+abbrev pub AllBelow : Slab Entry → ℕ → Type 0
+AllBelow slots bound = (slot : ℕ) (e : Entry) → get slots slot ≡ Some e → slot < bound
+
+-- the same, and a bound of the slots
+pub record IsBoundedArena (slots : Slab Entry) (ids : List (ℕ × ℕ)) (heads : List (ℕ × Option ℕ)) (delimiter bound : ℕ) : Type 0 where
+  pub arena : IsArena slots ids heads delimiter
+  pub bounded : AllBelow slots bound

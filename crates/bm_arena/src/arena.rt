@@ -1,5 +1,5 @@
 // The arena: its fields, what a contract sees of them, and its making.
-ghost use Rattle.std.specs.Prelude.{◌≡◌, ◌≢◌, ℕ, None, Some, [], IfOk, IfErr};
+ghost use Rattle.std.specs.Prelude.{◌≡◌, ◌≢◌, ◌+◌, ℕ, None, Some, [], IfOk, IfErr};
 ghost use Rattle.bm_base.specs.declared.refusal.Refusal.TheVariants.{Memory};
 ghost use Rattle.bm_arena.specs.Contents.{block_at, empty_block, count_up, IsLawful};
 
@@ -18,9 +18,9 @@ pub type Slot = usize;
 /// The blocks of one shard with their replicas, and for each storage the list of the slots of its blocks.
 ///
 /// A contract sees it as `Contents`: the block in each slot, the slots of the block numbers, the list of each storage, the slot
-/// of the delimiter and the number of steps. Only `new`, `reserve_heads`, `reserve_triplet` and `add_entry` take memory; every
-/// other call takes none and succeeds under its conditions. A refused call leaves what is seen as it was, but for room made: heads
-/// with empty lists, and a greater `slot_bound`. A list operation takes a constant number of steps beside a look along the few
+/// of the delimiter, the number of steps and a bound of the slots. Only `new`, `reserve_heads`, `reserve_triplet` and `add_entry` take memory; every
+/// other call takes none and succeeds under its conditions. A refused call leaves what is seen as it was, but that a refused
+/// `reserve_heads` may leave heads with empty lists. A list operation takes a constant number of steps beside a look along the few
 /// replicas of the blocks that it touches. A look-up, a list operation and `add_entry` hash a number once at most.
 #[derive(Drop)]
 pub struct Arena {
@@ -32,6 +32,8 @@ pub struct Arena {
     // The slot of an entry that is no block, and marks a place in a list.
     pub(crate) delimiter: usize,
     pub(crate) steps: u64,
+    // One above the greatest slot that was ever held.
+    pub(crate) bound: usize,
     pub(crate) alloc: Global,
 }
 
@@ -41,7 +43,7 @@ impl Model for Arena {
     ghost Value = { Contents };
 
     ghost use Rattle.bm_arena.specs.Triplets.{seen_slots};
-    ghost use Rattle.bm_arena.specs.Inside.{lists_from, IsArena};
+    ghost use Rattle.bm_arena.specs.Inside.{lists_from, IsBoundedArena};
 
     ghost view = { λ a. record {
       blocks = seen_slots a.slots;
@@ -49,9 +51,10 @@ impl Model for Arena {
       lists = lists_from a.slots a.heads.entries;
       delimiter = a.delimiter;
       steps = a.steps;
+      bound = a.bound;
     } };
 
-    ghost invariant = { λ a. IsArena a.slots a.ids.entries a.heads.entries a.delimiter };
+    ghost invariant = { λ a. IsBoundedArena a.slots a.ids.entries a.heads.entries a.delimiter a.bound };
 }
 
 // Counts one more, and stays at the last value.
@@ -69,6 +72,7 @@ impl Arena {
         ensures steps { IfOk result (λ a. a.steps ≡ 0) }
         ensures blocks { IfOk result (λ a. (slot : ℕ) → slot ≢ a.delimiter → block_at a slot ≡ None) }
         ensures delimiter { IfOk result (λ a. block_at a a.delimiter ≡ Some (empty_block 0)) }
+        ensures bound { IfOk result (λ a. a.bound ≡ a.delimiter + 1) }
         ensures lawful { IfOk result (λ a. IsLawful a) }
         ensures refused { IfErr result (λ e. e ≡ Memory) }
     {
@@ -85,6 +89,7 @@ impl Arena {
             heads: IndexMap::new(alloc),
             delimiter,
             steps: 0,
+            bound: delimiter + 1,
             alloc,
         })
     }

@@ -29,6 +29,7 @@ impl Arena {
                 info: None,
                 triplets: SmallVec::new(self.alloc),
             });
+            self.bound = self.bound.max(slot + 1);
         }
         Ok(slot)
     }
@@ -49,11 +50,13 @@ impl Arena {
         }
     }
 
-    /// Makes room for one more replica of the block in `slot`, so that `link_front` has it. Up to three replicas take no memory.
-    /// `Memory`.
+    /// Makes room for one more replica of the block in `slot`, so that `link_front` has it. Where it has room, nothing is done;
+    /// so up to three replicas take no memory. `Memory`.
     pub fn reserve_triplet(&mut self, slot: Slot) -> Result<(), Refusal>
         requires { IsSome (block_at self.old slot) }
         ensures room { OnOk result (HasRoom self.new slot) }
+        ensures succeeds { HasRoom self.old slot → IsOk result }
+        ensures had_room { HasRoom self.old slot → self.new ≡ self.old }
         ensures rest { self.new ≡ record self.old { blocks = change_block (with_room (room_at self.new slot)) self.old.blocks slot } }
         ensures grows { room_at self.old slot ≤ room_at self.new slot }
         ensures refused { IfErr result (λ e. e ≡ Memory) }

@@ -18,4 +18,5 @@ mod types;
 mod walk;
 
 pub use arena::{Arena, Slot};
+pub use bm_base::{BlockInfo, Marks};
 pub use walk::Walk;

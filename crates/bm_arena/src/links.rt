@@ -1,5 +1,5 @@
 // Reads and writes of the triplets of one block, and the linking of one slot between its neighbours.
-ghost use Rattle.std.specs.Prelude.{OnSome, OnOk, OnErr, IsSomeAnd, if◌then◌else◌, is_some, ◌≡◌, ◌<◌, ◌≤◌, slice_get, Some, None, IsSome, slice_set, position, ◌==◌};
+ghost use Rattle.std.specs.Prelude.{OnSome, OnOk, OnErr, IsOk, IsSomeAnd, if◌then◌else◌, is_some, ◌≡◌, ◌<◌, ◌≤◌, slice_get, Some, None, IsSome, slice_set, position, ◌==◌};
 ghost use Rattle.std.specs.Option.{option_map, option_and_then};
 ghost use Rattle.slab.specs.Slab.{get};
 ghost use Rattle.bm_arena.specs.declared.types.Entry.{Entry};
@@ -164,6 +164,8 @@ pub(crate) fn reserve_triplets(
     ensures rest { slots.new ≡ at_slot (with_capacity (capacity_at slots.new slot)) slots.old slot }
     ensures grows { capacity_at slots.old slot ≤ capacity_at slots.new slot }
     ensures room { OnOk result ((e : _) → get slots.new slot ≡ Some e → HasRoomFor e.triplets additional) }
+    ensures succeeds { ((e : _) → get slots.old slot ≡ Some e → HasRoomFor e.triplets additional) → IsOk result }
+    ensures had_room { ((e : _) → get slots.old slot ≡ Some e → HasRoomFor e.triplets additional) → slots.new ≡ slots.old }
     ensures refused { OnErr result (slots.new ≡ slots.old) }
 {
     match slots.get_mut(slot) {

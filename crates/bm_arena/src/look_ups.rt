@@ -68,11 +68,12 @@ impl Arena {
         links::replica_at(&self.slots, slot, i)
     }
 
-    /// A number above every slot that is held.
+    /// A number above every slot that is held: one above the greatest that was held at any time.
     pub fn slot_bound(&self) -> usize
-        ensures { (slot : ℕ) → IsSome (block_at self.now slot) → slot < result }
+        ensures bound { result ≡ self.now.bound }
+        ensures above { (slot : ℕ) → IsSome (block_at self.now slot) → slot < result }
     {
-        self.slots.capacity()
+        self.bound
     }
 
     /// Whether `slot` is held.

@@ -7,7 +7,7 @@ ghost use Rattle.indexmap.specs.IndexMap.{insert_entry};
 ghost use Rattle.bm_base.specs.declared.refusal.Refusal.TheVariants.{Memory};
 ghost use Rattle.bm_arena.specs.SlotLinks.{end_of_list};
 
-use crate::slot_link::END;
+use crate::slot_link::fits_link;
 use crate::types::Entry;
 use bm_base::Refusal;
 use indexmap::{IndexMap, map};
@@ -34,7 +34,7 @@ pub(crate) fn slot_for(
         map::Entry::Vacant(place) => {
             slots.reserve(1)?;
             let slot = slots.vacant_key();
-            if slot >= END as usize {
+            if !fits_link(slot) {
                 return Err(Refusal::Memory);
             }
             place.insert(slot);

@@ -15,9 +15,11 @@ use bm_base::{Marks, Refusal, StorageId};
 
 impl Arena {
     /// Makes a head for each of the storages, so that linking a block that has room, and putting the delimiter, take no memory.
-    /// A storage that has a head keeps it and its list. `Memory`: then some of the storages may have got a head.
+    /// A storage that has a head keeps it and its list; no storage beside those named gets one, also where it is refused. `Memory`:
+    /// then some of the storages may have got a head.
     pub fn reserve_heads(&mut self, storages: &[StorageId]) -> Result<(), Refusal>
         ensures heads { OnOk result (EachIndex storages.now (λ k. HasHead self.new (slice_index storages.now k))) }
+        ensures named { (other : ℕ) → EachIndex storages.now (λ k. other ≢ slice_index storages.now k) → HasHead self.new other → HasHead self.old other }
         ensures kept { IsReserved self.old self.new }
         ensures refused { IfErr result (λ e. e ≡ Memory) }
         ensures lawful { IsLawful self.new }
@@ -32,6 +34,7 @@ impl Arena {
     // The delimiter gets room for one more triplet with each head.
     fn reserve_head(&mut self, storage: StorageId) -> Result<(), Refusal>
         ensures head { OnOk result (HasHead self.new storage) }
+        ensures named { (other : ℕ) → other ≢ storage → HasHead self.new other → HasHead self.old other }
         ensures kept { IsReserved self.old self.new }
         ensures refused { IfErr result (λ e. e ≡ Memory) }
         ensures lawful { IsLawful self.new }

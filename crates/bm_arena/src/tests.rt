@@ -76,10 +76,10 @@ fn move_front(rt: &impl Abort, arena: &mut Arena, slot: usize) {
     arena.move_front(slot, FIRST);
 }
 
-fn put_delimiter(rt: &impl Abort, arena: &mut Arena) {
-    assert!(rt; arena.has_head(FIRST));
-    assert!(rt; !arena.has_delimiter(FIRST));
-    arena.put_delimiter(FIRST);
+fn put_delimiter(rt: &impl Abort, arena: &mut Arena, storage: StorageId) {
+    assert!(rt; arena.has_head(storage));
+    assert!(rt; !arena.has_delimiter(storage));
+    arena.put_delimiter(storage);
 }
 
 fn take_delimiter(rt: &impl Abort, arena: &mut Arena) {
@@ -115,7 +115,7 @@ fn check_walk(rt: &impl Abort, arena: &Arena, storage: StorageId, blocks: [u64; 
 
 fn check_delimiter(rt: &impl Abort, arena: &mut Arena, slots: [usize; 3]) {
     let [seven, eight, nine] = slots;
-    put_delimiter(rt, arena);
+    put_delimiter(rt, arena, FIRST);
     move_front(rt, arena, eight);
     assert_eq!(rt; behind_the_delimiter(rt, arena), Some(nine));
     assert_eq!(rt; behind(rt, arena, nine), Some(seven));
@@ -155,7 +155,7 @@ fn check_slots(rt: &impl Abort, arena: &Arena, seven: usize, eight: usize) {
     assert_eq!(rt; arena.find(BlockId(6)), None);
     assert_eq!(rt; arena.slot_at(1), Some(eight));
     assert_eq!(rt; arena.slot_at(3), None);
-    assert!(rt; seven < arena.slot_bound());
+    assert_eq!(rt; arena.slot_bound(), 4);
     assert!(rt; !arena.is_delimiter(seven));
 }
 
@@ -228,7 +228,70 @@ fn entries_and_heads_are_dropped(rt: HostRuntime) -> Result<(), Fail> {
     drop_entry(&rt, &mut arena, seven);
     check_dropped(&rt, &arena, nine);
     assert_eq!(rt; add(&rt, &mut arena, 5), seven);
+    assert_eq!(rt; arena.slot_bound(), 4);
     drop_head(&rt, &mut arena, SECOND);
     arena.lawful();
+    Ok(())
+}
+
+// The blocks 0 to `count` - 1, each with a replica on the first storage.
+fn add_many(rt: &impl Abort, arena: &mut Arena, count: u64) {
+    reserve(rt, arena, &[FIRST]);
+    for id in 0..count {
+        let slot = add(rt, arena, id);
+        link(rt, arena, slot, FIRST);
+    }
+}
+
+fn length_of(arena: &Arena, storage: StorageId) -> u64 {
+    let mut length: u64 = 0;
+    for _slot in arena.walk(storage) {
+        length = length.wrapping_add(1);
+    }
+    length
+}
+
+#[test]
+fn a_thousand_blocks_are_taken(rt: HostRuntime) -> Result<(), Fail> {
+    let mut arena = Arena::new(rt.alloc())?;
+    add_many(&rt, &mut arena, 1000);
+    assert_eq!(rt; arena.count(), 1000);
+    assert_eq!(rt; length_of(&arena, FIRST), 1000);
+    assert_eq!(rt; arena.steps(), 1000);
+    assert_eq!(rt; arena.slot_bound(), 1001);
+    Ok(())
+}
+
+// A replica of a block on each of the storages 0 to `count` - 1.
+fn link_many(rt: &impl Abort, arena: &mut Arena, slot: usize, count: u32) {
+    for storage in 0..count {
+        reserve(rt, arena, &[StorageId(storage)]);
+        link(rt, arena, slot, StorageId(storage));
+    }
+}
+
+#[test]
+fn seventeen_replicas_of_a_block_are_taken(rt: HostRuntime) -> Result<(), Fail> {
+    let mut arena = Arena::new(rt.alloc())?;
+    let slot = add(&rt, &mut arena, 7);
+    link_many(&rt, &mut arena, slot, 17);
+    assert_eq!(rt; arena.triplet_at(slot, 16), Some((StorageId(16), GOOD)));
+    assert_eq!(rt; arena.triplet_at(slot, 17), None);
+    Ok(())
+}
+
+// The delimiter at the head of each of the lists 0 to `count` - 1.
+fn put_delimiters(rt: &impl Abort, arena: &mut Arena, count: u32) {
+    for storage in 0..count {
+        reserve(rt, arena, &[StorageId(storage)]);
+        put_delimiter(rt, arena, StorageId(storage));
+    }
+}
+
+#[test]
+fn delimiter_stands_in_1024_lists(rt: HostRuntime) -> Result<(), Fail> {
+    let mut arena = Arena::new(rt.alloc())?;
+    put_delimiters(&rt, &mut arena, 1024);
+    assert_eq!(rt; arena.steps(), 1024);
     Ok(())
 }

@@ -1,13 +1,18 @@
 use Rattle.bm_arena.proofs.Lawfulness.{IsLawful-arena}
 use Rattle.bm_arena.proofs.Dropped.{drop_entry-arena, drop_entry-view, drop_entry-none, drop_entry-entries, drop_entry-numbers, drop_entry-lists}
+use Rattle.bm_arena.proofs.Bounds.{below-dropped}
 use Rattle.bm_arena.proofs.arena.Arena.drop_entry.Goals as goal
 
 pub invariant_of-self : goal.invariant_of-self
 invariant_of-self c =
     let bare = rw (← c.self.view_is) at c.requires.bare in
     let apart = rw (← c.self.view_is) at c.requires.entry in
-    drop_entry-arena c.self.inside.slots c.remove_entry.new.slots c.args.slot c.in-Some.id c.in-Some.ensures.id c.in-Some.ensures.slots bare
-    c.self.inside.ids.entries c.swap_remove.new.self.entries c.self.inside.heads.entries c.self.inside.delimiter c.self.invariant apart c.swap_remove.ensures.updates.0 c.swap_remove.ensures.unique
+    record {
+      arena =
+          drop_entry-arena c.self.inside.slots c.remove_entry.new.slots c.args.slot c.in-Some.id c.in-Some.ensures.id c.in-Some.ensures.slots bare
+          c.self.inside.ids.entries c.swap_remove.new.self.entries c.self.inside.heads.entries c.self.inside.delimiter c.self.invariant.arena apart c.swap_remove.ensures.updates.0 c.swap_remove.ensures.unique;
+      bounded = below-dropped c.self.inside.slots c.remove_entry.new.slots c.args.slot c.self.inside.bound c.in-Some.ensures.slots c.self.invariant.bounded;
+    }
 
 pub invariant_of-self-in_default : goal.invariant_of-self-in_default
 invariant_of-self-in_default c =
@@ -21,11 +26,11 @@ returns-in-Some-clause-after c b seen =
     let at = rw (← c.self.view_is) at seen in
     rw (← c.self.view_is)
     (drop_entry-view c.self.inside.slots c.remove_entry.new.slots c.args.slot c.in-Some.id c.in-Some.ensures.id c.in-Some.ensures.slots bare
-    c.self.inside.ids.entries c.swap_remove.new.self.entries c.self.inside.heads.entries c.self.inside.delimiter c.self.invariant apart c.swap_remove.ensures.updates.0
-    c.self.inside.steps c.swap_remove.ensures.entries b at)
+    c.self.inside.ids.entries c.swap_remove.new.self.entries c.self.inside.heads.entries c.self.inside.delimiter c.self.invariant.arena apart c.swap_remove.ensures.updates.0
+    c.self.inside.steps c.self.inside.bound c.swap_remove.ensures.entries b at)
 
 pub returns-in-Some-clause-lawful : goal.returns-in-Some-clause-lawful
-returns-in-Some-clause-lawful c = IsLawful-arena _ _ _ _ (invariant_of-self c) _
+returns-in-Some-clause-lawful c = IsLawful-arena _ _ _ _ _ (invariant_of-self c) _
 
 pub returns-in_default-clause-lawful : goal.returns-in_default-clause-lawful
 returns-in_default-clause-lawful c =
@@ -38,7 +43,7 @@ returns-in-Some-clause-entries c y =
     let apart = rw (← c.self.view_is) at c.requires.entry in
     rw (← c.self.view_is)
     (drop_entry-entries c.self.inside.slots c.remove_entry.new.slots c.args.slot c.in-Some.id c.in-Some.ensures.id c.in-Some.ensures.slots bare
-    c.self.inside.ids.entries c.swap_remove.new.self.entries c.self.inside.heads.entries c.self.inside.delimiter c.self.invariant apart c.swap_remove.ensures.updates.0 y)
+    c.self.inside.ids.entries c.swap_remove.new.self.entries c.self.inside.heads.entries c.self.inside.delimiter c.self.invariant.arena apart c.swap_remove.ensures.updates.0 y)
 
 pub returns-in-Some-clause-numbers : goal.returns-in-Some-clause-numbers
 returns-in-Some-clause-numbers c b seen q =
@@ -47,7 +52,7 @@ returns-in-Some-clause-numbers c b seen q =
     let at = rw (← c.self.view_is) at seen in
     rw (← c.self.view_is)
     (drop_entry-numbers c.self.inside.slots c.remove_entry.new.slots c.args.slot c.in-Some.id c.in-Some.ensures.id c.in-Some.ensures.slots bare
-    c.self.inside.ids.entries c.swap_remove.new.self.entries c.self.inside.heads.entries c.self.inside.delimiter c.self.invariant apart c.swap_remove.ensures.updates.0 b at q)
+    c.self.inside.ids.entries c.swap_remove.new.self.entries c.self.inside.heads.entries c.self.inside.delimiter c.self.invariant.arena apart c.swap_remove.ensures.updates.0 b at q)
 
 pub returns-in-Some-clause-lists : goal.returns-in-Some-clause-lists
 returns-in-Some-clause-lists c =
@@ -55,4 +60,4 @@ returns-in-Some-clause-lists c =
     let apart = rw (← c.self.view_is) at c.requires.entry in
     rw (← c.self.view_is)
     (drop_entry-lists c.self.inside.slots c.remove_entry.new.slots c.args.slot c.in-Some.id c.in-Some.ensures.id c.in-Some.ensures.slots bare
-    c.self.inside.ids.entries c.swap_remove.new.self.entries c.self.inside.heads.entries c.self.inside.delimiter c.self.invariant apart c.swap_remove.ensures.updates.0)
+    c.self.inside.ids.entries c.swap_remove.new.self.entries c.self.inside.heads.entries c.self.inside.delimiter c.self.invariant.arena apart c.swap_remove.ensures.updates.0)

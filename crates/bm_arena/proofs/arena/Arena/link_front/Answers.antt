@@ -3,22 +3,27 @@ use Rattle.bm_arena.specs.Contents.{Contents, list_of, marks_at, KeepsOthers}
 use Rattle.bm_arena.proofs.Laws.{list_of-linked_front, marks_at-linked, others-linked_front}
 use Rattle.bm_arena.proofs.ListCalls.{link_front-sound, link_front-view, no_head}
 use Rattle.bm_arena.proofs.Lawfulness.{IsLawful-arena}
+use Rattle.bm_arena.proofs.Bounds.{below-linked}
 use Rattle.bm_arena.proofs.arena.Arena.link_front.Goals as goal
 
 pub invariant_of-self : goal.invariant_of-self
 invariant_of-self c =
     let room = rw (← c.self.view_is) at c.requires.room in
     let absent = rw (← c.self.view_is, ← c.storage.view_is) at c.requires.absent in
-    link_front-sound c.self.inside.slots c.self.inside.heads.entries c.in-Some.first.now c.storage.inside.0 c.args.slot c.args.marks c.self.inside.ids.entries c.self.inside.delimiter c.self.invariant c.in-Some.ensures.value room absent
-    c.add_triplet.new.slots c.attach.new.slots _ c.attach.new.first c.add_triplet.ensures c.attach.ensures.slots (c.get_mut.follows.holds c.attach.new.first).0 c.attach.ensures.first (c.get_mut.follows.holds c.attach.new.first).4
+    record {
+      arena =
+          link_front-sound c.self.inside.slots c.self.inside.heads.entries c.in-Some.first.now c.storage.inside.0 c.args.slot c.args.marks c.self.inside.ids.entries c.self.inside.delimiter c.self.invariant.arena c.in-Some.ensures.value room absent
+          c.add_triplet.new.slots c.attach.new.slots _ c.attach.new.first c.add_triplet.ensures c.attach.ensures.slots (c.get_mut.follows.holds c.attach.new.first).0 c.attach.ensures.first (c.get_mut.follows.holds c.attach.new.first).4;
+      bounded = below-linked c.self.inside.slots c.add_triplet.new.slots c.attach.new.slots c.in-Some.first.now c.args.slot c.storage.inside.0 _ c.self.inside.bound c.add_triplet.ensures c.attach.ensures.slots c.self.invariant.bounded;
+    }
 
 pub returns-in-Some-clause-after : goal.returns-in-Some-clause-after
 returns-in-Some-clause-after c =
     let room = rw (← c.self.view_is) at c.requires.room in
     let absent = rw (← c.self.view_is, ← c.storage.view_is) at c.requires.absent in
     rw (← c.self.view_is, ← c.storage.view_is)
-    (link_front-view c.self.inside.slots c.self.inside.heads.entries c.in-Some.first.now c.storage.inside.0 c.args.slot c.args.marks c.self.inside.ids.entries c.self.inside.delimiter c.self.invariant c.in-Some.ensures.value room absent
-    c.add_triplet.new.slots c.attach.new.slots _ c.attach.new.first c.self.inside.steps c.count_up-self-inside.result c.add_triplet.ensures c.attach.ensures.slots (c.get_mut.follows.holds c.attach.new.first).0 c.attach.ensures.first
+    (link_front-view c.self.inside.slots c.self.inside.heads.entries c.in-Some.first.now c.storage.inside.0 c.args.slot c.args.marks c.self.inside.ids.entries c.self.inside.delimiter c.self.invariant.arena c.in-Some.ensures.value room absent
+    c.add_triplet.new.slots c.attach.new.slots _ c.attach.new.first c.self.inside.steps c.count_up-self-inside.result c.self.inside.bound c.add_triplet.ensures c.attach.ensures.slots (c.get_mut.follows.holds c.attach.new.first).0 c.attach.ensures.first
     c.count_up-self-inside.ensures)
 
 pub returns-in_default : goal.returns-in_default
@@ -27,7 +32,7 @@ returns-in_default c =
     absurd (no_head c.self.inside.slots c.self.inside.heads.entries c.storage.inside.0 c.in_default.ensures.value head)
 
 pub returns-in-Some-clause-lawful : goal.returns-in-Some-clause-lawful
-returns-in-Some-clause-lawful c = IsLawful-arena c.attach.new.slots _ _ _ (invariant_of-self c) _
+returns-in-Some-clause-lawful c = IsLawful-arena c.attach.new.slots _ _ _ _ (invariant_of-self c) _
 
 pub returns-in-Some-clause-list : goal.returns-in-Some-clause-list
 returns-in-Some-clause-list c =

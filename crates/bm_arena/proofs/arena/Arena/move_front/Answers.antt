@@ -3,18 +3,23 @@ use Rattle.bm_arena.specs.Contents.{Contents, list_of, KeepsOthers, IsLawful}
 use Rattle.bm_arena.proofs.Laws.{head-lawful, list_of-moved_front, others-moved_front}
 use Rattle.bm_arena.proofs.ListCalls.{move_front-sound, move_front-view, no_replica}
 use Rattle.bm_arena.proofs.Lawfulness.{IsLawful-arena}
+use Rattle.bm_arena.proofs.Bounds.{below-moved}
 use Rattle.bm_arena.proofs.arena.Arena.move_front.Goals as goal
 
 pub invariant_of-self : goal.invariant_of-self
 invariant_of-self c =
-    move_front-sound c.self.inside.slots c.self.inside.heads.entries c.in-Some-get_mut.first.now c.storage.inside.0 c.args.slot c.in-Some.triplet c.self.inside.ids.entries c.self.inside.delimiter c.self.invariant c.in-Some-get_mut.ensures.value c.in-Some.ensures
-    c.detach.new.slots c.attach.new.slots c.detach.new.first c.attach.new.first _ c.detach.ensures.slots c.detach.ensures.first c.attach.ensures.slots (c.get_mut.follows.holds c.attach.new.first).0 c.attach.ensures.first (c.get_mut.follows.holds c.attach.new.first).4
+    record {
+      arena =
+          move_front-sound c.self.inside.slots c.self.inside.heads.entries c.in-Some-get_mut.first.now c.storage.inside.0 c.args.slot c.in-Some.triplet c.self.inside.ids.entries c.self.inside.delimiter c.self.invariant.arena c.in-Some-get_mut.ensures.value c.in-Some.ensures
+          c.detach.new.slots c.attach.new.slots c.detach.new.first c.attach.new.first _ c.detach.ensures.slots c.detach.ensures.first c.attach.ensures.slots (c.get_mut.follows.holds c.attach.new.first).0 c.attach.ensures.first (c.get_mut.follows.holds c.attach.new.first).4;
+      bounded = below-moved c.self.inside.slots c.detach.new.slots c.attach.new.slots c.detach.new.first c.args.slot c.storage.inside.0 c.in-Some.triplet c.self.inside.bound c.detach.ensures.slots c.attach.ensures.slots c.self.invariant.bounded;
+    }
 
 pub returns-in-Some-get_mut-clause-after : goal.returns-in-Some-get_mut-clause-after
 returns-in-Some-get_mut-clause-after c =
     rw (← c.self.view_is, ← c.storage.view_is)
-    (move_front-view c.self.inside.slots c.self.inside.heads.entries c.in-Some-get_mut.first.now c.storage.inside.0 c.args.slot c.in-Some.triplet c.self.inside.ids.entries c.self.inside.delimiter c.self.invariant c.in-Some-get_mut.ensures.value c.in-Some.ensures
-    c.detach.new.slots c.attach.new.slots c.detach.new.first c.attach.new.first _ c.self.inside.steps c.count_up-self-inside.result c.detach.ensures.slots c.detach.ensures.first c.attach.ensures.slots (c.get_mut.follows.holds c.attach.new.first).0 c.attach.ensures.first
+    (move_front-view c.self.inside.slots c.self.inside.heads.entries c.in-Some-get_mut.first.now c.storage.inside.0 c.args.slot c.in-Some.triplet c.self.inside.ids.entries c.self.inside.delimiter c.self.invariant.arena c.in-Some-get_mut.ensures.value c.in-Some.ensures
+    c.detach.new.slots c.attach.new.slots c.detach.new.first c.attach.new.first _ c.self.inside.steps c.count_up-self-inside.result c.self.inside.bound c.detach.ensures.slots c.detach.ensures.first c.attach.ensures.slots (c.get_mut.follows.holds c.attach.new.first).0 c.attach.ensures.first
     c.count_up-self-inside.ensures)
 
 pub returns-in_default : goal.returns-in_default
@@ -23,11 +28,11 @@ returns-in_default c =
     absurd (no_replica c.self.inside.slots c.storage.inside.0 c.args.slot c.in_default.ensures there)
 
 pub returns-in-Some-get_mut-clause-lawful : goal.returns-in-Some-get_mut-clause-lawful
-returns-in-Some-get_mut-clause-lawful c = IsLawful-arena c.attach.new.slots _ _ _ (invariant_of-self c) _
+returns-in-Some-get_mut-clause-lawful c = IsLawful-arena c.attach.new.slots _ _ _ _ (invariant_of-self c) _
 
 pub returns-in-Some-get_mut-clause-list : goal.returns-in-Some-get_mut-clause-list
 returns-in-Some-get_mut-clause-list c =
-    let lawful : IsLawful c.args.self.now = rw (← c.self.view_is) (IsLawful-arena c.self.inside.slots _ _ _ c.self.invariant _) in
+    let lawful : IsLawful c.args.self.now = rw (← c.self.view_is) (IsLawful-arena c.self.inside.slots _ _ _ _ c.self.invariant _) in
     ap (λ a. list_of a c.args.storage) (returns-in-Some-get_mut-clause-after c) ∙ list_of-moved_front c.args.self.now c.args.slot c.args.storage (head-lawful c.args.self.now lawful c.args.slot c.args.storage c.requires)
 
 pub returns-in-Some-get_mut-clause-others : goal.returns-in-Some-get_mut-clause-others

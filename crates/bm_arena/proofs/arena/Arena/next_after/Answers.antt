@@ -6,7 +6,7 @@ use Rattle.bm_arena.proofs.arena.Arena.next_after.Goals as goal
 pub returns-in-Some : goal.returns-in-Some
 returns-in-Some c =
     rw (← c.self.view_is, ← c.storage.view_is, ← c.unwrap_or-slot.ensures)
-    (c.slot.ensures ∙ next_after-list c.self.inside.slots c.self.inside.heads.entries c.storage.inside.0 c.unwrap_or-slot.result c.in-Some.triplet c.self.invariant.sound c.in-Some.ensures)
+    (c.slot.ensures ∙ next_after-list c.self.inside.slots c.self.inside.heads.entries c.storage.inside.0 c.unwrap_or-slot.result c.in-Some.triplet c.self.invariant.arena.sound c.in-Some.ensures)
 
 pub returns-in-None : goal.returns-in-None
 returns-in-None c =

@@ -1,22 +1,50 @@
+use Rattle.std.proofs.Common.{refl}
+use Rattle.std.proofs.lemmas.Bool.{false≢true}
 use Rattle.bm_arena.proofs.Lawfulness.{IsLawful-arena}
-use Rattle.bm_arena.proofs.Reading.{reserve-arena, reserve-view}
+use Rattle.bm_arena.proofs.Reading.{reserve-arena, reserve-view, room-entry}
+use Rattle.bm_arena.proofs.Bounds.{below-changed}
 use Rattle.bm_arena.proofs.arena.Arena.reserve_triplet.Goals as goal
 
 pub invariant_of-self : goal.invariant_of-self
 invariant_of-self c =
-    reserve-arena c.self.inside.slots c.reserve_triplets.new.slots c.args.slot c.reserve_triplets.ensures.rest c.reserve_triplets.ensures.grows c.self.inside.ids.entries c.self.inside.heads.entries c.self.inside.delimiter c.self.invariant
+    record {
+      arena =
+          reserve-arena c.self.inside.slots c.reserve_triplets.new.slots c.args.slot c.reserve_triplets.ensures.rest c.reserve_triplets.ensures.grows c.self.inside.ids.entries c.self.inside.heads.entries c.self.inside.delimiter c.self.invariant.arena;
+      bounded = below-changed _ c.self.inside.slots c.reserve_triplets.new.slots c.args.slot c.self.inside.bound c.reserve_triplets.ensures.rest c.self.invariant.bounded;
+    }
 
 pub returns-clause-rest : goal.returns-clause-rest
 returns-clause-rest c =
     rw (← c.self.view_is)
-    (reserve-view c.self.inside.slots c.reserve_triplets.new.slots c.args.slot c.reserve_triplets.ensures.rest c.reserve_triplets.ensures.grows c.self.inside.ids.entries c.self.inside.heads.entries c.self.inside.delimiter c.self.invariant c.self.inside.steps)
+    (reserve-view c.self.inside.slots c.reserve_triplets.new.slots c.args.slot c.reserve_triplets.ensures.rest c.reserve_triplets.ensures.grows c.self.inside.ids.entries c.self.inside.heads.entries c.self.inside.delimiter c.self.invariant.arena c.self.inside.steps c.self.inside.bound)
 
 pub invariant_of-self-2 : goal.invariant_of-self-2
 invariant_of-self-2 c =
-    reserve-arena c.self.inside.slots c.reserve_triplets.new.slots c.args.slot c.reserve_triplets.ensures.rest c.reserve_triplets.ensures.grows c.self.inside.ids.entries c.self.inside.heads.entries c.self.inside.delimiter c.self.invariant
+    record {
+      arena =
+          reserve-arena c.self.inside.slots c.reserve_triplets.new.slots c.args.slot c.reserve_triplets.ensures.rest c.reserve_triplets.ensures.grows c.self.inside.ids.entries c.self.inside.heads.entries c.self.inside.delimiter c.self.invariant.arena;
+      bounded = below-changed _ c.self.inside.slots c.reserve_triplets.new.slots c.args.slot c.self.inside.bound c.reserve_triplets.ensures.rest c.self.invariant.bounded;
+    }
 
 pub returns-in_err-reserve_triplets-clause-lawful : goal.returns-in_err-reserve_triplets-clause-lawful
-returns-in_err-reserve_triplets-clause-lawful c = IsLawful-arena _ _ _ _ (invariant_of-self c) _
+returns-in_err-reserve_triplets-clause-lawful c = IsLawful-arena _ _ _ _ _ (invariant_of-self c) _
 
 pub returns-clause-lawful : goal.returns-clause-lawful
-returns-clause-lawful c = IsLawful-arena _ _ _ _ (invariant_of-self-2 c) _
+returns-clause-lawful c = IsLawful-arena _ _ _ _ _ (invariant_of-self-2 c) _
+
+pub returns-in_err-reserve_triplets-clause-succeeds : goal.returns-in_err-reserve_triplets-clause-succeeds
+returns-in_err-reserve_triplets-clause-succeeds c room =
+    let has = rw (← c.self.view_is) at room in
+    absurd (false≢true (c.in_err-reserve_triplets.ensures.succeeds (room-entry c.self.inside.slots c.args.slot has)))
+
+pub returns-in_err-reserve_triplets-clause-had_room : goal.returns-in_err-reserve_triplets-clause-had_room
+returns-in_err-reserve_triplets-clause-had_room c room =
+    let has = rw (← c.self.view_is) at room in
+    let same = c.reserve_triplets.ensures.had_room (room-entry c.self.inside.slots c.args.slot has) in
+    rw (← c.self.view_is, same) refl
+
+pub returns-clause-had_room : goal.returns-clause-had_room
+returns-clause-had_room c room =
+    let has = rw (← c.self.view_is) at room in
+    let same = c.reserve_triplets.ensures.had_room (room-entry c.self.inside.slots c.args.slot has) in
+    rw (← c.self.view_is, same) refl

@@ -7,6 +7,6 @@ pub returns : goal.returns
 returns c =
     rw (← c.self.view_is, ← c.storage.view_is)
     (elim c.match-get.branch [
-      | in-Some w ↦ walk-listed c.self.inside.slots c.self.inside.heads.entries c.storage.inside.0 c.capacity.result c.match-get.first c.self.invariant.sound c.capacity.ensures.slots (ap Some w.first-is ∙ w.in-Some.ensures.value)
+      | in-Some w ↦ walk-listed c.self.inside.slots c.self.inside.heads.entries c.storage.inside.0 c.capacity.result c.match-get.first c.self.invariant.arena.sound c.capacity.ensures.slots (ap Some w.first-is ∙ w.in-Some.ensures.value)
       | in-None w ↦ walk-headless c.self.inside.slots c.self.inside.heads.entries c.storage.inside.0 c.capacity.result c.match-get.first w.in-None.ensures.value w.first-is
     ])
