@@ -3,9 +3,9 @@
 mod calls;
 mod cluster;
 mod lines;
+mod noting;
 mod reports;
 mod rounds;
-mod story;
 mod streams;
 mod support;
 mod vectors;

@@ -1,5 +1,5 @@
 // The calls of the tool: accepted, and refused with each later check failing too.
-use crate::tests::support::{FIRST_PATH, FIRST_PATH_ANSWERS, run_over, run_with};
+use crate::tests::support::{FIRST_PATH, FIRST_PATH_ANSWERS, run_over, run_with, usual};
 use crate::{Fault, Summary};
 use bm_base::Config;
 use std::test::Fail;
@@ -146,7 +146,7 @@ fn a_replica_is_good_by_its_stamp_and_moves_between_sister_storages(rt: HostRunt
 fn calls_run_out(rt: HostRuntime) {
     let config = Config {
         first_call: 18_446_744_073_709_551_614,
-        ..Config::standard()
+        ..usual()
     };
     let input = "{\"op\":\"add\",\"id\":7,\"gen\":1,\"len\":10,\"repl\":3}
 {\"op\":\"add\",\"id\":8,\"gen\":1,\"len\":10,\"repl\":3}
@@ -163,7 +163,7 @@ fn calls_run_out(rt: HostRuntime) {
     assert_eq!(rt; text.as_slice(), answers.as_bytes());
     let spent = Config {
         first_call: u64::MAX,
-        ..Config::standard()
+        ..usual()
     };
     let (result, text) = run_with(&rt, rt.alloc(), &spent, FIRST_PATH.as_bytes());
     assert!(rt; result.is_ok());
@@ -176,7 +176,7 @@ fn calls_run_out(rt: HostRuntime) {
 fn a_configuration_is_refused_before_anything_is_read(rt: HostRuntime) {
     let config = Config {
         shards: 0,
-        ..Config::standard()
+        ..usual()
     };
     let (result, text) = run_with(&rt, rt.alloc(), &config, FIRST_PATH.as_bytes());
     assert_eq!(rt; result, Err(Fault::Config));

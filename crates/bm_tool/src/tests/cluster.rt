@@ -1,5 +1,5 @@
 // Scripts of calls on four DataNodes, two on each of two racks, and their answers, worked out by hand.
-use crate::tests::support::{answers_on_cluster, cluster_then, run_over, run_with};
+use crate::tests::support::{answers_on_cluster, cluster_then, run_over, run_with, usual};
 use bm_base::Config;
 use std::test::Fail;
 
@@ -451,7 +451,7 @@ refused 20 BadLine
 fn rounds_run_out_on_a_cluster(rt: HostRuntime) -> Result<(), Fail> {
     let config = Config {
         first_round: 18_446_744_073_709_551_614,
-        ..Config::standard()
+        ..usual()
     };
     let input = cluster_then(rt.alloc(), "{\"op\":\"round\"}\n{\"op\":\"round\"}\n")?;
     let (result, text) = run_with(&rt, rt.alloc(), &config, input.as_slice());

@@ -1,8 +1,9 @@
 // Lines as they come: what is read, and what is answered by `BadLine` or `LongLine`.
-use crate::tests::support::{ByteByByte, FIRST_PATH, FIRST_PATH_ANSWERS, run_over};
+use crate::tests::noting::ByteByByte;
+use crate::tests::support::{FIRST_PATH, FIRST_PATH_ANSWERS, run_over, run_with, usual};
 use crate::{Counted, Summary, run};
 use bm_base::Config;
-use std::alloc::Global;
+use std::alloc::{AllocError, Global};
 use std::test::Fail;
 
 const BAD: &str = "refused 20 BadLine\n";
@@ -179,16 +180,22 @@ fn bytes_that_are_no_text_are_a_bad_line(rt: HostRuntime) {
     assert_eq!(rt; result, Ok(summary));
 }
 
-/// A line with so many brackets within brackets beside its fields.
-fn nested(alloc: Global, depth: usize) -> Result<Vec<u8>, Fail> {
-    let mut line = Vec::new(alloc);
-    line.extend_from_slice(b"{\"op\":\"list_places\",\"id\":7,\"x\":")?;
+/// So many brackets within brackets.
+fn push_brackets(line: &mut Vec<u8>, depth: usize) -> Result<(), AllocError> {
     for _ in 0..depth {
         line.push(b'[')?;
     }
     for _ in 0..depth {
         line.push(b']')?;
     }
+    Ok(())
+}
+
+/// A line with so many brackets within brackets beside its fields.
+fn nested(alloc: Global, depth: usize) -> Result<Vec<u8>, Fail> {
+    let mut line = Vec::new(alloc);
+    line.extend_from_slice(b"{\"op\":\"list_places\",\"id\":7,\"x\":")?;
+    push_brackets(&mut line, depth)?;
     line.extend_from_slice(b"}\n")?;
     Ok(line)
 }
@@ -207,12 +214,37 @@ fn nesting_is_limited_by_the_parser(rt: HostRuntime) -> Result<(), Fail> {
         let (_, text) = run_over(&rt, alloc, line.as_slice());
         assert_eq!(rt; text.as_slice(), want.as_bytes(), "at {depth}");
     }
-    let mut brackets = vec![in alloc; b'['; 200]?;
-    for _ in 0..200 {
-        brackets.push(b']')?;
-    }
-    let (_, text) = run_over(&rt, alloc, brackets.as_slice());
-    assert_eq!(rt; text.as_slice(), BAD.as_bytes());
+    Ok(())
+}
+
+/// Nine lines, of which seven are refused.
+fn nine_lines(alloc: Global) -> Result<Vec<u8>, Fail> {
+    let mut input = Vec::new(alloc);
+    input.extend_from_slice(b"{\"op\":\"round\"\n\xFF\n\n")?;
+    push_brackets(&mut input, 200)?;
+    input.extend_from_slice(b"\n{\"op\":\"round\",\"x\":")?;
+    push_brackets(&mut input, 100)?;
+    input.extend_from_slice(
+        b"}\n{\"op\":\"level\",\"id\":-1}\n{\"op\":\"add\",\"id\":7,\"gen\":1,\"len\":10,\"repl\":4294967296}\n{\"op\":\"add\",\"id\":7,\"gen\":1,\"len\":10,\"repl\":4294967295}\n{\"op\":\"round\"}\r\n",
+    )?;
+    Ok(input)
+}
+
+#[test]
+fn nine_lines_of_which_two_are_accepted(rt: HostRuntime) -> Result<(), Fail> {
+    let alloc = rt.alloc();
+    let input = nine_lines(alloc)?;
+    let (result, text) = run_with(&rt, alloc, &Config::standard(), input.as_slice());
+    let summary = Summary {
+        lines: 9,
+        accepted: 2,
+        refused: 7,
+    };
+    assert_eq!(rt; result, Ok(summary));
+    assert_eq!(rt;
+        text.as_slice(),
+        b"refused 20 BadLine\nrefused 20 BadLine\nrefused 20 BadLine\nrefused 20 BadLine\nround 1\nrefused 20 BadLine\nrefused 20 BadLine\nrefused 8 BadReplication\nround 2\n".as_slice()
+    );
     Ok(())
 }
 
@@ -245,7 +277,7 @@ fn pieces_are_of_no_matter(rt: HostRuntime) {
     let alloc = rt.alloc();
     let mut reader = Counted::new(ByteByByte(FIRST_PATH.as_bytes()));
     let mut writer = Counted::new(Vec::new(alloc));
-    let result = run(&rt, alloc, &mut reader, &mut writer, &Config::standard());
+    let result = run(&rt, alloc, &mut reader, &mut writer, &usual());
     assert!(rt; result.is_ok());
     assert_eq!(rt;
         writer.into_inner().as_slice(),

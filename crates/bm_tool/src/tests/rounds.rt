@@ -1,5 +1,5 @@
 // Rounds: what is ordered to be deleted, in which order, and how often.
-use crate::tests::support::{run_over, run_with};
+use crate::tests::support::{run_over, run_with, usual};
 use bm_base::Config;
 use std::test::Fail;
 
@@ -7,7 +7,7 @@ use std::test::Fail;
 fn rounds_and_calls_run_out(rt: HostRuntime) {
     let config = Config {
         first_round: 18_446_744_073_709_551_614,
-        ..Config::standard()
+        ..usual()
     };
     let input = "{\"op\":\"round\"}\n{\"op\":\"round\"}\n";
     let (result, text) = run_with(&rt, rt.alloc(), &config, input.as_bytes());
@@ -18,7 +18,7 @@ fn rounds_and_calls_run_out(rt: HostRuntime) {
     );
     let config = Config {
         first_call: 18_446_744_073_709_551_614,
-        ..Config::standard()
+        ..usual()
     };
     let input = "{\"op\":\"add\",\"id\":7,\"gen\":1,\"len\":10,\"repl\":3}
 {\"op\":\"add\",\"id\":8,\"gen\":1,\"len\":10,\"repl\":3}
@@ -33,7 +33,7 @@ fn rounds_and_calls_run_out(rt: HostRuntime) {
     let config = Config {
         first_round: u64::MAX,
         first_call: u64::MAX,
-        ..Config::standard()
+        ..usual()
     };
     let (_, text) = run_with(&rt, rt.alloc(), &config, b"{\"op\":\"round\"}");
     assert_eq!(rt; text.as_slice(), b"refused 12 RoundsSpent\n".as_slice());
@@ -77,7 +77,7 @@ fn deletes_come_by_node_then_storage_then_block_and_are_limited_for_each_node(rt
         "ok 0 0\nok 0 0\nok 2 0\nok 1 0\nok 3 0\nround 1; delete 1 11 1; delete 1 11 2; delete 2 5 9; delete 2 22 1\nround 2; delete 1 11 4; delete 2 22 3\nround 3\nok 0 0\nround 4; delete 2 5 9\n";
     let config = Config {
         invalidate: 2,
-        ..Config::standard()
+        ..usual()
     };
     let (result, text) = run_with(&rt, rt.alloc(), &config, input.as_bytes());
     assert!(rt; result.is_ok());

@@ -1,12 +1,17 @@
-// A whole run over memory, and readers and writers that fail.
-ghost use Rattle.std.specs.Prelude.{◌≡◌, IfOk};
-
+// A whole run over memory.
 use crate::{Counted, Fault, Summary, run};
 use bm_base::Config;
 use std::alloc::{AllocError, Global};
-use std::io;
-use std::io::{Read, Write};
 use std::test::Fail;
+
+/// What the worked examples run with.
+pub fn usual() -> Config {
+    Config {
+        shards: 3,
+        workers: 2,
+        ..Config::standard()
+    }
+}
 
 /// The first path through the tool: a node, a block, its first replica and its places.
 pub const FIRST_PATH: &str =
@@ -51,87 +56,7 @@ pub fn run_with<H>(
     (result, writer.into_inner())
 }
 
-/// The same with the standard configuration.
+/// The same with the worked examples' configuration.
 pub fn run_over<H>(rt: &H, alloc: Global, input: &[u8]) -> (Result<Summary, Fault>, Vec<u8>) {
-    run_with(rt, alloc, &Config::standard(), input)
-}
-
-/// A reader that gives at most a line for each read, until a read fails.
-#[derive(Drop)]
-pub struct LineByLine<'a> {
-    pub left: &'a [u8],
-    pub good_reads: usize,
-}
-
-impl Read for LineByLine<'_> {
-    fn read(&mut self, buf: &mut [u8]) -> io::Result<usize> {
-        if self.good_reads == 0 {
-            return Err(io::Error::from(io::ErrorKind::Interrupted));
-        }
-        self.good_reads -= 1;
-        let end = match self.left.iter().position(|byte| *byte == b'\n') {
-            Some(at) => at + 1,
-            None => self.left.len(),
-        };
-        let mut line = &self.left[..end];
-        let count = line.read(buf)?;
-        self.left = self.left.get(count..).unwrap_or(&[]);
-        Ok(count)
-    }
-}
-
-/// A reader that gives one byte for each read.
-#[derive(Drop)]
-pub struct ByteByByte<'a>(pub &'a [u8]);
-
-impl Read for ByteByByte<'_> {
-    fn read(&mut self, buf: &mut [u8]) -> io::Result<usize> {
-        let end = self.0.len().min(1);
-        let mut byte = &self.0[..end];
-        let count = byte.read(buf)?;
-        self.0 = self.0.get(count..).unwrap_or(&[]);
-        Ok(count)
-    }
-}
-
-/// A reader that gives one byte for ever.
-#[derive(Drop)]
-pub struct Forever(pub u8);
-
-impl Read for Forever {
-    fn read(&mut self, buf: &mut [u8]) -> io::Result<usize> {
-        buf.fill(self.0);
-        Ok(buf.len())
-    }
-}
-
-/// A writer whose calls fail once so many were good, and that counts the bytes of the good ones.
-#[derive(Drop)]
-pub struct Failing {
-    pub good_calls: usize,
-    pub count: usize,
-}
-
-impl Failing {
-    fn call(&mut self, count: usize) -> io::Result<usize>
-        ensures { IfOk result (λ n. n ≡ count) }
-    {
-        if self.good_calls == 0 {
-            return Err(io::Error::from(io::ErrorKind::BrokenPipe));
-        }
-        self.good_calls -= 1;
-        self.count = self.count.saturating_add(count);
-        Ok(count)
-    }
-}
-
-impl Write for Failing {
-    fn write(&mut self, buf: &[u8]) -> io::Result<usize> {
-        self.call(buf.len())
-    }
-
-    fn flush(&mut self) -> io::Result<()> {
-        self.call(0)?;
-        Ok(())
-    }
+    run_with(rt, alloc, &usual(), input)
 }

@@ -1,5 +1,6 @@
 // Worked values of what the crates below answer.
-use bm_base::{BlockId, Level, level_of, shard_of};
+use bm_base::{BlockId, Level, Refusal, level_of, shard_of};
+use std::test::Fail;
 
 #[test]
 fn blocks_are_cut_by_their_numbers(rt: HostRuntime) {
@@ -25,4 +26,67 @@ fn levels_by_live_replicas_replication_and_racks(rt: HostRuntime) {
             "at {live} of {repl}"
         );
     }
+}
+
+#[test]
+fn refusals_say_why(rt: HostRuntime) -> Result<(), Fail> {
+    let alloc = rt.alloc();
+    for (refusal, number, want) in [
+        (Refusal::UnknownNode, 1, "the node is not alive"),
+        (Refusal::NodeKnown, 2, "the node is alive already"),
+        (Refusal::UnknownStorage, 3, "the storage is not known"),
+        (
+            Refusal::StorageKnown,
+            4,
+            "a storage is known already, or named twice",
+        ),
+        (Refusal::UnknownBlock, 5, "the block is not known"),
+        (Refusal::BlockKnown, 6, "the block is known already"),
+        (
+            Refusal::StillStored,
+            7,
+            "a stray replica of the block's number is still stored",
+        ),
+        (
+            Refusal::BadReplication,
+            8,
+            "the replication is not between 1 and 16",
+        ),
+        (
+            Refusal::OldGeneration,
+            9,
+            "the generation is not greater than the block's",
+        ),
+        (
+            Refusal::TooMany,
+            10,
+            "a limit on nodes, storages or report entries would be passed",
+        ),
+        (
+            Refusal::NotItsStorage,
+            11,
+            "a storage stands on another node",
+        ),
+        (
+            Refusal::RoundsSpent,
+            12,
+            "the round number is at its last value",
+        ),
+        (
+            Refusal::CallsSpent,
+            13,
+            "the number of accepted calls is at its last value",
+        ),
+        (Refusal::Memory, 14, "memory was refused"),
+        (
+            Refusal::BadConfig,
+            15,
+            "the configuration is outside its ranges",
+        ),
+    ] {
+        assert_eq!(rt; refusal.number(), number, "at {want}");
+        let text = format!(in alloc; "{refusal}")?;
+        assert_eq!(rt; text.as_str(), want, "at {number}");
+    }
+    Ok(())
 }
