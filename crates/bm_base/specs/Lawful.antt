@@ -7,13 +7,13 @@ use Rattle.bm_base.specs.declared.storage.StorageInfo.{StorageInfo}
 use Rattle.bm_base.specs.Map.{get, contains_key, len}
 use Rattle.bm_base.specs.State.{Cluster, Holdings, State}
 use Rattle.bm_base.specs.Replicas.{is_good, is_stray, are_sisters}
-use Rattle.bm_base.specs.Refusals.{max_nodes, max_storages, max_replication}
+use Rattle.bm_base.specs.declared.limits.TheConstants.{MAX_NODES, MAX_STORAGES, MAX_REPLICATION}
 
 -- of the cluster: each storage stands on an alive node, and the limits are kept
 pub record IsLawfulCluster (C : Cluster) : Type 0 where
   pub alive : (s : ℕ) (i : StorageInfo) → get C.storages s ≡ Some i → IsTrue (contains_key C.nodes i.node)
-  pub few_nodes : len C.nodes ≤ max_nodes
-  pub few_storages : len C.storages ≤ max_storages
+  pub few_nodes : len C.nodes ≤ MAX_NODES
+  pub few_storages : len C.storages ≤ MAX_STORAGES
 
 -- of the blocks and replicas beside a cluster
 pub record IsLawfulHoldings (C : Cluster) (H : Holdings) : Type 0 where
@@ -29,7 +29,7 @@ pub record IsLawfulHoldings (C : Cluster) (H : Holdings) : Type 0 where
   -- a transfer on its way is of a known block
   pub pending_known : (p : ReplicaId) → IsSome (get H.pending p) → IsTrue (contains_key H.blocks p.block)
   -- one to sixteen replicas of a block are wanted
-  pub replicated : (b : ℕ) (i : BlockInfo) → get H.blocks b ≡ Some i → (1 ≤ i.repl) × (i.repl ≤ max_replication)
+  pub replicated : (b : ℕ) (i : BlockInfo) → get H.blocks b ≡ Some i → (1 ≤ i.repl) × (i.repl ≤ MAX_REPLICATION)
 
 -- the numbers fit their types
 pub record HasFittingNumbers (M : State) : Type 0 where

@@ -3,6 +3,7 @@ use Rattle.std.specs.Prelude.{ℕ, ◌+◌, Bool, false, not, ◌&&◌, ◌||◌
 use Rattle.std.specs.Option.{option_map_or}
 use Rattle.std.specs.List.{list_any}
 use Rattle.bm_base.specs.declared.replica.Stamp.{Stamp}
+use Rattle.bm_base.specs.declared.limits.TheConstants.{MAX_NODES, MAX_STORAGES, MAX_ENTRIES, MAX_REPLICATION}
 use Rattle.bm_base.specs.declared.event.Event.{Event}
 use Rattle.bm_base.specs.declared.event.Event.TheVariants.{Register, Dead, StorageFailed, Heartbeat, AddBlock, DeleteBlock, SetReplication, Restamp, Received, Deleted, Corrupt, FullReport}
 use Rattle.bm_base.specs.declared.refusal.Refusal.{Refusal}
@@ -58,24 +59,12 @@ knows_block H b = contains_key H.blocks b
 unfoldable pub is_still_stored : Holdings → ℕ → Bool
 is_still_stored H b = list_any (λ e. (e.0.block == b) && is_stray e.1.tag) (entries H.replicas)
 
-abbrev pub max_replication : ℕ
-max_replication = 16
-
 abbrev pub is_bad_replication : ℕ → Bool
-is_bad_replication repl = (repl == 0) || nat_lt max_replication repl
+is_bad_replication repl = (repl == 0) || nat_lt MAX_REPLICATION repl
 
 -- whether the generation is not greater than the block's
 unfoldable pub is_old : Holdings → ℕ → Stamp → Bool
 is_old H b stamp = option_map_or (λ i. nat_le stamp.generation i.stamp.generation) (get H.blocks b) false
-
-abbrev pub max_nodes : ℕ
-max_nodes = 256
-
-abbrev pub max_storages : ℕ
-max_storages = 1024
-
-abbrev pub max_entries : ℕ
-max_entries = 65536
 
 -- the greatest u64, at which rounds and calls are spent
 abbrev pub last_number : ℕ
@@ -86,7 +75,7 @@ unfoldable pub cluster_checks : Cluster → Event → List (Refusal × Bool)
 cluster_checks C (Register n rack ss) =
     (NodeKnown when knows_node C n)
     ∷ (StorageKnown when (has_repeats ss || list_any (knows_storage C) ss))
-    ∷ (TooMany when (nat_le max_nodes (len C.nodes) || nat_lt max_storages (len C.storages + length ss)))
+    ∷ (TooMany when (nat_le MAX_NODES (len C.nodes) || nat_lt MAX_STORAGES (len C.storages + length ss)))
     ∷ []
 cluster_checks C (Dead n) = (UnknownNode when not (knows_node C n)) ∷ []
 cluster_checks C (StorageFailed s) = (UnknownStorage when not (knows_storage C s)) ∷ []
@@ -98,7 +87,7 @@ cluster_checks C (Heartbeat n rs) =
 cluster_checks C (Received s b stamp) = (UnknownStorage when not (knows_storage C s)) ∷ []
 cluster_checks C (Deleted s b) = (UnknownStorage when not (knows_storage C s)) ∷ []
 cluster_checks C (Corrupt s b) = (UnknownStorage when not (knows_storage C s)) ∷ []
-cluster_checks C (FullReport s es) = (UnknownStorage when not (knows_storage C s)) ∷ (TooMany when nat_lt max_entries (length es)) ∷ []
+cluster_checks C (FullReport s es) = (UnknownStorage when not (knows_storage C s)) ∷ (TooMany when nat_lt MAX_ENTRIES (length es)) ∷ []
 cluster_checks C _ = []
 
 -- the checks of an event on the blocks, in their order

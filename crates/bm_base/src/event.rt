@@ -23,7 +23,7 @@ pub struct Remaining {
 #[derive(Debug, Drop)]
 pub enum Event {
     /// A DataNode comes with its storages, which have no remaining bytes until a heartbeat tells of some.
-    /// `NodeKnown`; `StorageKnown` where a storage is known or named twice; `TooMany` past 256 nodes or 1,024 storages.
+    /// `NodeKnown`; `StorageKnown` where a storage is known or named twice; `TooMany` past `MAX_NODES` nodes or `MAX_STORAGES` storages.
     Register {
         node: NodeId,
         rack: Rack,
@@ -81,7 +81,7 @@ pub enum Event {
         storage: StorageId,
         id: BlockId,
     },
-    /// All replicas on a storage; the last entry of a block counts. `UnknownStorage`; `TooMany` past 65,536 entries.
+    /// All replicas on a storage; the last entry of a block counts. `UnknownStorage`; `TooMany` past `MAX_ENTRIES` entries.
     FullReport {
         storage: StorageId,
         entries: Items<Entry>,

@@ -10,14 +10,12 @@ ghost use Rattle.bm_base.specs.Answering.{checked};
 use crate::standing::are_sisters;
 use crate::tally;
 use bm_base::{
-    BlockId, BlockInfo, Done, Event, Items, Marks, NumberMap, Refusal, ReplicaId, ReplicaMap,
+    BlockId, BlockInfo, Done, Event, Items, MAX_REPLICATION, Marks, NumberMap, Refusal, ReplicaId, ReplicaMap,
     Stamp, StorageId, Tag,
 };
 use bm_topo::Topology;
 use std::alloc::{AllocError, Global};
 use std::marker::Model;
-
-const MAX_REPLICATION: u32 = 16;
 
 /// The blocks, their replicas and the transfers on their way.
 #[derive(Drop)]

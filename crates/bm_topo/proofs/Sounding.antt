@@ -11,7 +11,8 @@ use Rattle.bm_base.specs.Map.{Map, by_number, empty, entries, get, len, insert, 
 use Rattle.bm_base.specs.State.{Cluster}
 use Rattle.bm_base.specs.Replicas.{has_storage, node_of}
 use Rattle.bm_base.specs.Events.{set_remaining}
-use Rattle.bm_base.specs.Refusals.{first_of, cluster_checks, knows_node, max_nodes, max_storages}
+use Rattle.bm_base.specs.Refusals.{first_of, cluster_checks, knows_node}
+use Rattle.bm_base.specs.declared.limits.TheConstants.{MAX_NODES, MAX_STORAGES}
 use Rattle.bm_base.proofs.MapLaws.{same_map, get-keep, get-empty}
 use Rattle.bm_base.proofs.Differences.{len-keep-le}
 use Rattle.bm_topo.specs.Keys.{HasSmallKeys}
@@ -85,8 +86,8 @@ unknown (Some x) h = cc
 
 pub record IsNew (C : Cluster) (n : ℕ) (ss : List ℕ) : Type 0 where
   pub absent : get C.nodes n ≡ None
-  pub few_nodes : len C.nodes + 1 ≤ max_nodes
-  pub few_storages : len C.storages + length ss ≤ max_storages
+  pub few_nodes : len C.nodes + 1 ≤ MAX_NODES
+  pub few_storages : len C.storages + length ss ≤ MAX_STORAGES
 
 pub registration_is_new : (C : Cluster) (n rack : ℕ) (ss : List ℕ) → first_of (cluster_checks C (Register n rack ss)) ≡ None → IsNew C n ss
 unfolding cluster_checks knows_node
@@ -95,8 +96,8 @@ registration_is_new C n rack ss h =
     let second = none_here _ _ _ first.1 in
     let third = none_here _ _ _ second.1 in
     let few = either_false _ _ third.0 in
-    let nodes = leb-false max_nodes (len C.nodes) few.0 in
-    let storages = ltb-false max_storages (len C.storages + length ss) few.1 in
+    let nodes = leb-false MAX_NODES (len C.nodes) few.0 in
+    let storages = ltb-false MAX_STORAGES (len C.storages + length ss) few.1 in
     record { absent = unknown _ first.0; few_nodes = omega (arith, nodes); few_storages = omega (arith, storages) }
 
 -- where a node registers

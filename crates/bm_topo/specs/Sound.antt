@@ -2,7 +2,7 @@
 use Rattle.std.specs.Prelude.{ℕ, ◌≤◌}
 use Rattle.bm_base.specs.declared.storage.StorageInfo.{StorageInfo}
 use Rattle.bm_base.specs.Map.{Map, by_number, len}
-use Rattle.bm_base.specs.Refusals.{max_nodes, max_storages}
+use Rattle.bm_base.specs.declared.limits.TheConstants.{MAX_NODES, MAX_STORAGES}
 use Rattle.bm_topo.specs.Keys.{HasSmallKeys}
 use Rattle.bm_topo.specs.Racks.{CountsRacks}
 
@@ -11,6 +11,6 @@ pub record IsSound (nodes racks : Map by_number ℕ) (storages : Map by_number S
   pub node_ids : HasSmallKeys nodes
   pub storage_ids : HasSmallKeys storages
   -- the limits are kept, so that counts have 32 bits
-  pub few_nodes : len nodes ≤ max_nodes
-  pub few_storages : len storages ≤ max_storages
+  pub few_nodes : len nodes ≤ MAX_NODES
+  pub few_storages : len storages ≤ MAX_STORAGES
   pub counted : CountsRacks racks nodes

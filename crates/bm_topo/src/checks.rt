@@ -4,18 +4,13 @@ ghost use Rattle.std.specs.List.{list_any};
 ghost use Rattle.bm_base.specs.Map as map;
 ghost use Rattle.bm_base.specs.Lists as lists;
 ghost use Rattle.bm_base.specs.Replicas as replicas;
-ghost use Rattle.bm_base.specs.Refusals.{first_of, cluster_checks, knows_node, knows_storage, max_nodes, max_storages};
+ghost use Rattle.bm_base.specs.Refusals.{first_of, cluster_checks, knows_node, knows_storage};
+ghost use Rattle.bm_base.specs.declared.limits.TheConstants.{MAX_NODES, MAX_STORAGES};
 ghost use Rattle.bm_base.specs.Answering.{checked};
 ghost use Rattle.bm_base.specs.declared.event.Event.TheVariants as event;
 
 use crate::topology::Topology;
-use bm_base::{Event, NodeId, Rack, Refusal, Remaining, StorageId};
-
-const MAX_NODES: usize = 256;
-
-const MAX_STORAGES: u128 = 1024;
-
-const MAX_ENTRIES: usize = 65536;
+use bm_base::{Event, MAX_ENTRIES, MAX_NODES, MAX_STORAGES, NodeId, Rack, Refusal, Remaining, StorageId};
 
 impl Topology {
     /// Whether a storage is named twice, or known.
@@ -36,12 +31,12 @@ impl Topology {
 
     /// Whether a node with these storages would be too many.
     fn is_full(&self, storages: &[StorageId]) -> bool
-        ensures { result ≡ (nat_le max_nodes (map.len self.now.cluster.nodes) || nat_lt max_storages (map.len self.now.cluster.storages + length storages.now)) }
+        ensures { result ≡ (nat_le MAX_NODES (map.len self.now.cluster.nodes) || nat_lt MAX_STORAGES (map.len self.now.cluster.storages + length storages.now)) }
     {
         if self.nodes.len() >= MAX_NODES {
             return true;
         }
-        self.storages.len() as u128 + storages.len() as u128 > MAX_STORAGES
+        self.storages.len() as u128 + storages.len() as u128 > MAX_STORAGES as u128
     }
 
     fn lacks_one(&self, remaining: &[Remaining]) -> bool

@@ -3,7 +3,7 @@ ghost use Rattle.std.specs.Prelude.{◌≡◌, ◌≤◌, IfOk, IsOk, option_map
 ghost use Rattle.bm_base.specs.Map as map;
 ghost use Rattle.bm_base.specs.State as state;
 ghost use Rattle.bm_base.specs.Replicas as replicas;
-ghost use Rattle.bm_base.specs.Refusals.{max_nodes, max_storages};
+ghost use Rattle.bm_base.specs.declared.limits.TheConstants.{MAX_NODES, MAX_STORAGES};
 
 use bm_base::{NodeId, NumberMap, Rack, Refusal, StorageId, StorageInfo};
 use std::alloc::Global;
@@ -12,7 +12,7 @@ use std::marker::Model;
 /// The alive DataNodes with their racks, and their storages with what is free there.
 ///
 /// A contract sees the cluster of the definitions, and for how many further nodes, racks and storages there is room. Look-ups
-/// are by place or by binary search, in at most 256 nodes and 1,024 storages; none takes memory.
+/// are by place or by binary search, in at most `MAX_NODES` nodes and `MAX_STORAGES` storages; none takes memory.
 #[derive(Drop)]
 pub struct Topology {
     pub(crate) nodes: NumberMap<Rack>,
@@ -84,18 +84,18 @@ impl Topology {
         }
     }
 
-    /// How many nodes are alive, at most 256.
+    /// How many nodes are alive, at most `MAX_NODES`.
     pub fn alive_nodes(&self) -> u32
         ensures count { result ≡ map.len self.now.cluster.nodes }
-        ensures few { result ≤ max_nodes }
+        ensures few { result ≤ MAX_NODES }
     {
         self.nodes.len() as u32
     }
 
-    /// How many storages there are, at most 1,024.
+    /// How many storages there are, at most `MAX_STORAGES`.
     pub fn storage_count(&self) -> u32
         ensures count { result ≡ map.len self.now.cluster.storages }
-        ensures few { result ≤ max_storages }
+        ensures few { result ≤ MAX_STORAGES }
     {
         self.storages.len() as u32
     }

@@ -13,7 +13,8 @@ use Rattle.bm_base.specs.Map.{Map, get, keep, revise, revise_at, contains_key}
 use Rattle.bm_base.specs.State.{Cluster, Holdings, State, replica_at, by_replica}
 use Rattle.bm_base.specs.Replicas.{has_storage}
 use Rattle.bm_base.specs.Events.{change_cluster, change_holdings, change, add_block, delete_block, set_replication, restamp, make_bad, remove_replica, without_storages, without_pending, revise_block, enter, report}
-use Rattle.bm_base.specs.Refusals.{first_of, cluster_checks, block_checks, knows_storage, knows_block, is_still_stored, is_bad_replication, refusal_of, max_entries}
+use Rattle.bm_base.specs.Refusals.{first_of, cluster_checks, block_checks, knows_storage, knows_block, is_still_stored, is_bad_replication, refusal_of}
+use Rattle.bm_base.specs.declared.limits.TheConstants.{MAX_ENTRIES}
 use Rattle.bm_base.specs.Calls.{after_event}
 use Rattle.bm_base.specs.Lawful.{IsLawful, IsLawfulHoldings, HasFittingNumbers}
 use Rattle.laws_of_events.proofs.Options.{there, is_there}
@@ -39,7 +40,7 @@ received_known C s b stamp h = fails_not (contains_key C.storages s) (first_fail
 
 reported_known : (C : Cluster) (s : ℕ) (es : List Entry) → first_of (cluster_checks C (FullReport s es)) ≡ None → contains_key C.storages s ≡ true
 unfolding cluster_checks knows_storage
-reported_known C s es h = fails_not (contains_key C.storages s) (both_fail UnknownStorage TooMany (not (knows_storage C s)) (nat_lt max_entries (length es)) h).0
+reported_known C s es h = fails_not (contains_key C.storages s) (both_fail UnknownStorage TooMany (not (knows_storage C s)) (nat_lt MAX_ENTRIES (length es)) h).0
 
 corrupt_known : (H : Holdings) (s b : ℕ) → first_of (block_checks H (Corrupt s b)) ≡ None → knows_block H b ≡ true
 unfolding block_checks

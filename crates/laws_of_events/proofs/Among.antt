@@ -10,7 +10,8 @@ use Rattle.bm_base.specs.Map.{Map, by_number, get, keep, remove, contains_key}
 use Rattle.bm_base.specs.State.{Cluster, Holdings, by_replica}
 use Rattle.bm_base.specs.Replicas.{node_of, has_storage, is_good, is_stray}
 use Rattle.bm_base.specs.Events.{register, heartbeat, without_node, without_storage, without_storages, remove_replica}
-use Rattle.bm_base.specs.Refusals.{max_replication, knows_storage}
+use Rattle.bm_base.specs.Refusals.{knows_storage}
+use Rattle.bm_base.specs.declared.limits.TheConstants.{MAX_REPLICATION}
 use Rattle.bm_base.specs.Lawful.{IsLawfulHoldings}
 use Rattle.bm_base.proofs.MapLaws.{get-remove}
 use Rattle.bm_base.proofs.Keeping.{get-keep_there}
@@ -33,7 +34,7 @@ pub record HasLawfulMarks (G : Holdings) : Type 0 where
   pub strays : (p : ReplicaId) (m : Marks) → get G.replicas p ≡ Some m → is_stray m.tag ≡ not (contains_key G.blocks p.block)
   pub excess_is_good : (p : ReplicaId) (m : Marks) → get G.replicas p ≡ Some m → IsTrue m.excess → IsTrue (is_good m.tag)
   pub pending_known : (p : ReplicaId) → is_some (get G.pending p) ≡ true → IsTrue (contains_key G.blocks p.block)
-  pub replicated : (b : ℕ) (i : BlockInfo) → get G.blocks b ≡ Some i → (1 ≤ i.repl) × (i.repl ≤ max_replication)
+  pub replicated : (b : ℕ) (i : BlockInfo) → get G.blocks b ≡ Some i → (1 ≤ i.repl) × (i.repl ≤ MAX_REPLICATION)
 
 pub marks_of : (C : Cluster) (H : Holdings) → IsLawfulHoldings C H → HasLawfulMarks H
 marks_of C H L = record { strays = L.strays; excess_is_good = L.excess_is_good; pending_known = L.pending_known; replicated = L.replicated }

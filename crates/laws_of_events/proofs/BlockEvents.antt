@@ -13,7 +13,8 @@ use Rattle.bm_base.specs.Map.{Map, by_number, get, insert, keep, revise, revise_
 use Rattle.bm_base.specs.State.{Cluster, Holdings, by_replica, replica_cmp}
 use Rattle.bm_base.specs.Replicas.{is_good, is_stray}
 use Rattle.bm_base.specs.Events.{add_block, delete_block, set_replication, restamp, make_bad, without_pending, revise_block, as_stray, as_bad, as_restamped}
-use Rattle.bm_base.specs.Refusals.{max_replication, knows_block, is_still_stored, is_bad_replication}
+use Rattle.bm_base.specs.Refusals.{knows_block, is_still_stored, is_bad_replication}
+use Rattle.bm_base.specs.declared.limits.TheConstants.{MAX_REPLICATION}
 use Rattle.bm_base.specs.Lawful.{IsLawfulHoldings}
 use Rattle.bm_base.proofs.MapLaws.{get-remove}
 use Rattle.bm_base.proofs.Ties.{number_tie}
@@ -21,11 +22,11 @@ use Rattle.laws_of_events.proofs.Options.{there, is_there, not_passed}
 use Rattle.laws_of_events.proofs.Maps.{Holds, same_key, get_kept, get_removed, get_revised, get_elsewhere, known_inserted, known_revised, holds_inserted, passes_entry}
 use Rattle.laws_of_events.proofs.Among.{lawful_among, among_here}
 
-fits_replication : (repl : ℕ) → is_bad_replication repl ≡ false → (1 ≤ repl) × (repl ≤ max_replication)
+fits_replication : (repl : ℕ) → is_bad_replication repl ≡ false → (1 ≤ repl) × (repl ≤ MAX_REPLICATION)
 fits_replication repl e =
-    let parts = or_parts (repl == 0) (nat_lt max_replication repl) e in
+    let parts = or_parts (repl == 0) (nat_lt MAX_REPLICATION repl) e in
     let other : repl ≡ 0 → ⊥ = eqb-false repl 0 parts.0 in
-    (omega arith, ltb-false max_replication repl parts.1)
+    (omega arith, ltb-false MAX_REPLICATION repl parts.1)
 
 -- whether it is replica q of block b that passes
 abbrev passing : ℕ → ReplicaId × Marks → Bool
@@ -49,7 +50,7 @@ added_lawful C H b stamp repl L unknown none fine =
           ] refl;
       excess_is_good = L.excess_is_good;
       pending_known = λ q e. known_inserted H.blocks b (record { stamp = stamp; repl = repl }) q.block (L.pending_known q e);
-      replicated = holds_inserted (λ _ i. (1 ≤ i.repl) × (i.repl ≤ max_replication)) H.blocks b (record { stamp = stamp; repl = repl }) L.replicated (fits_replication repl fine);
+      replicated = holds_inserted (λ _ i. (1 ≤ i.repl) × (i.repl ≤ MAX_REPLICATION)) H.blocks b (record { stamp = stamp; repl = repl }) L.replicated (fits_replication repl fine);
     })
 
 -- the marks of a block's replicas changed
@@ -113,7 +114,7 @@ replication_lawful C H b repl L fine =
       strays = λ q m e. L.strays q m e ∙ ap not (sym (info_known H.blocks b (λ i. record i { repl = repl }) q.block));
       excess_is_good = L.excess_is_good;
       pending_known = λ q e. info_known H.blocks b (λ i. record i { repl = repl }) q.block ∙ L.pending_known q e;
-      replicated = info_after H.blocks b (λ i. record i { repl = repl }) (λ _ i. (1 ≤ i.repl) × (i.repl ≤ max_replication)) L.replicated (λ _ _ _. fits_replication repl fine);
+      replicated = info_after H.blocks b (λ i. record i { repl = repl }) (λ _ i. (1 ≤ i.repl) × (i.repl ≤ MAX_REPLICATION)) L.replicated (λ _ _ _. fits_replication repl fine);
     })
 
 still_no_stray : (t : Tag) → is_stray (if is_good t then Stale else t) ≡ is_stray t
@@ -132,7 +133,7 @@ restamped_lawful C H b stamp L =
           (λ q m e _. L.strays q m e ∙ ap not (sym (info_known H.blocks b (λ i. record i { stamp = stamp }) q.block)));
       excess_is_good = marks_after H b as_restamped (λ q m. IsTrue m.excess → IsTrue (is_good m.tag)) (λ q m e t in_excess. cc) (λ q m e t. L.excess_is_good q m e);
       pending_known = λ q e. info_known H.blocks b (λ i. record i { stamp = stamp }) q.block ∙ L.pending_known q (pending_left H b as_restamped q e).0;
-      replicated = info_after H.blocks b (λ i. record i { stamp = stamp }) (λ _ i. (1 ≤ i.repl) × (i.repl ≤ max_replication)) L.replicated (λ q i e. L.replicated q i e);
+      replicated = info_after H.blocks b (λ i. record i { stamp = stamp }) (λ _ i. (1 ≤ i.repl) × (i.repl ≤ MAX_REPLICATION)) L.replicated (λ q i e. L.replicated q i e);
     })
 
 -- one replica found bad

@@ -15,7 +15,8 @@ use Rattle.bm_base.specs.State.{Cluster}
 use Rattle.bm_base.specs.Lists.{has_repeats}
 use Rattle.bm_base.specs.Replicas.{has_storage}
 use Rattle.bm_base.specs.Events.{register, heartbeat, set_remaining, without_node, without_storage, change_cluster}
-use Rattle.bm_base.specs.Refusals.{first_of, cluster_checks, knows_node, knows_storage, max_nodes, max_storages}
+use Rattle.bm_base.specs.Refusals.{first_of, cluster_checks, knows_node, knows_storage}
+use Rattle.bm_base.specs.declared.limits.TheConstants.{MAX_NODES, MAX_STORAGES}
 use Rattle.bm_base.specs.Lawful.{IsLawfulCluster}
 use Rattle.bm_base.proofs.MapLaws.{get-revise}
 use Rattle.bm_base.proofs.Differences.{len-keep-le}
@@ -33,18 +34,18 @@ fresh n ss = map (λ s. (s, record { node = n; remaining = 0 })) ss
 
 pub record IsRegistrable (C : Cluster) (n : ℕ) (ss : List ℕ) : Type 0 where
   pub unknown : list_any (knows_storage C) ss ≡ false
-  pub few_nodes : len C.nodes < max_nodes
-  pub few_storages : len C.storages + length ss ≤ max_storages
+  pub few_nodes : len C.nodes < MAX_NODES
+  pub few_storages : len C.storages + length ss ≤ MAX_STORAGES
 
 pub registrable : (C : Cluster) (n rack : ℕ) (ss : List ℕ) → first_of (cluster_checks C (Register n rack ss)) ≡ None → IsRegistrable C n ss
 unfolding cluster_checks
 registrable C n rack ss h =
-    let f = all_fail NodeKnown StorageKnown TooMany (knows_node C n) (has_repeats ss || list_any (knows_storage C) ss) (nat_le max_nodes (len C.nodes) || nat_lt max_storages (len C.storages + length ss)) h in
-    let limits = or_parts (nat_le max_nodes (len C.nodes)) (nat_lt max_storages (len C.storages + length ss)) f.2 in
+    let f = all_fail NodeKnown StorageKnown TooMany (knows_node C n) (has_repeats ss || list_any (knows_storage C) ss) (nat_le MAX_NODES (len C.nodes) || nat_lt MAX_STORAGES (len C.storages + length ss)) h in
+    let limits = or_parts (nat_le MAX_NODES (len C.nodes)) (nat_lt MAX_STORAGES (len C.storages + length ss)) f.2 in
     record {
       unknown = (or_parts (has_repeats ss) (list_any (knows_storage C) ss) f.1).1;
-      few_nodes = leb-false max_nodes (len C.nodes) limits.0;
-      few_storages = ltb-false max_storages (len C.storages + length ss) limits.1;
+      few_nodes = leb-false MAX_NODES (len C.nodes) limits.0;
+      few_storages = ltb-false MAX_STORAGES (len C.storages + length ss) limits.1;
     }
 
 registered : (C : Cluster) (n rack : ℕ) (ss : List ℕ) → IsLawfulCluster C → IsRegistrable C n ss → IsLawfulCluster (register C n rack ss)

@@ -7,6 +7,7 @@ use Rattle.bm_base.specs.declared.replica.Tag.TheVariants.{Good, Stray}
 use Rattle.bm_base.specs.declared.replica.Marks.{Marks}
 use Rattle.bm_base.specs.declared.replica.BlockInfo.{BlockInfo}
 use Rattle.bm_base.specs.declared.storage.StorageInfo.{StorageInfo}
+use Rattle.bm_base.specs.declared.limits.TheConstants.{MAX_NODES, MAX_STORAGES, MAX_REPLICATION}
 use Rattle.bm_base.specs.Map.{get, len}
 use Rattle.bm_base.specs.State.{Cluster, Holdings, State, first_state}
 use Rattle.bm_base.specs.Calls.{state_after}
@@ -27,9 +28,9 @@ pub record IsSound (C : Cluster) (H : Holdings) : Type 0 where
   pub transfers_known : (p : ReplicaId) → IsSome (get H.pending p) → IsSome (get H.blocks p.block)
   -- what is on its way to a storage is not there yet
   pub transfers_to_come : (p : ReplicaId) → IsSome (get H.pending p) → get H.replicas p ≡ None
-  pub nodes : len C.nodes ≤ 256
-  pub storages : len C.storages ≤ 1024
-  pub replication : (b : ℕ) (i : BlockInfo) → get H.blocks b ≡ Some i → (1 ≤ i.repl) × (i.repl ≤ 16)
+  pub nodes : len C.nodes ≤ MAX_NODES
+  pub storages : len C.storages ≤ MAX_STORAGES
+  pub replication : (b : ℕ) (i : BlockInfo) → get H.blocks b ≡ Some i → (1 ≤ i.repl) × (i.repl ≤ MAX_REPLICATION)
 
 abbrev pub SoundState : State → Type 0
 SoundState M = IsSound M.cluster M.holdings
