@@ -10,8 +10,8 @@ use Rattle.std.proofs.Math.ListN.{get_or-map}
 use Rattle.slab.specs.Slab.{Slab, get, Updates}
 use Rattle.bm_arena.specs.declared.types.Entry.{Entry}
 use Rattle.bm_arena.specs.Triplets.{Block, find_triplet, triplet_at, links_of, seen_slots, seen_entry}
-use Rattle.bm_arena.specs.Lists.{Distinct}
-use Rattle.bm_arena.specs.SlotLinks.{end_of_list}
+use Rattle.bm_base.specs.SlotLists.{Distinct}
+use Rattle.bm_base.specs.SlotLinks.{end_of_links}
 use Rattle.bm_arena.specs.Contents.{IsAdded, empty_block}
 use Rattle.bm_arena.specs.Inside.{list_from, lists_from, storages_of, IsSound, IsArena}
 use Rattle.bm_arena.proofs.Triplets.{read}
@@ -140,7 +140,7 @@ lookup-push q k v (e ∷ es) none =
 -- a new number
 module _ (old new : Slab Entry) (key : ℕ) (e : Entry) (vacant : get old key ≡ None) (up : Updates old new key (Some e)) (bare : e.triplets.items ≡ [])
     (ids : List (ℕ × ℕ)) (heads : List (ℕ × Option ℕ)) (delimiter : ℕ) (arena : IsArena old ids heads delimiter) (absent : lookup (nat_eq e.id) ids ≡ None)
-    (below : key < end_of_list) where
+    (below : key < end_of_links) where
   seen_here : get_or (seen_slots new) key None ≡ Some (seen_entry e)
   seen_here = seen-inserted_here old new key e vacant up bare
 
@@ -225,7 +225,7 @@ module _ (old new : Slab Entry) (key : ℕ) (e : Entry) (empty : old.slots ≡ [
   pub first_blocks : (slot : ℕ) → slot ≢ key → get_or (seen_slots new) slot None ≡ None
   first_blocks slot differs = seen-inserted_other old new key e nothing_there up bare slot differs ∙ ap (λ l. get_or (map (option_map seen_entry) l) slot None) empty
 
-  pub IsArena-first : (ids : List (ℕ × ℕ)) (heads : List (ℕ × Option ℕ)) → ids ≡ [] → heads ≡ [] → key < end_of_list → IsArena new ids heads key
+  pub IsArena-first : (ids : List (ℕ × ℕ)) (heads : List (ℕ × Option ℕ)) → ids ≡ [] → heads ≡ [] → key < end_of_links → IsArena new ids heads key
   unfolding IsDistinct
   IsArena-first ids heads no_ids no_heads below =
       rw (no_ids, no_heads) (record {
@@ -248,14 +248,14 @@ module _ (old new : Slab Entry) (key : ℕ) (e : Entry) (empty : old.slots ≡ [
 module _ (slots mid new : Slab Entry) (capacity key slot : ℕ) (e : Entry) (ids entries : List (ℕ × ℕ)) (heads : List (ℕ × Option ℕ)) (delimiter : ℕ)
     (grown : mid ≡ record slots { capacity = capacity }) (key_is : key ≡ mid.vacant_key) (slot_is : slot ≡ mid.vacant_key)
     (vacant : get mid key ≡ None) (up : Updates mid new key (Some e)) (bare : e.triplets.items ≡ [])
-    (absent : None ≡ lookup (nat_eq e.id) ids) (entries_are : entries ≡ ids ++ (e.id, slot) ∷ []) (each : IsDistinct nat_eq (keys_of entries)) (below : slot < end_of_list) (arena : IsArena slots ids heads delimiter) where
+    (absent : None ≡ lookup (nat_eq e.id) ids) (entries_are : entries ≡ ids ++ (e.id, slot) ∷ []) (each : IsDistinct nat_eq (keys_of entries)) (below : slot < end_of_links) (arena : IsArena slots ids heads delimiter) where
   same_key : key ≡ slot
   same_key = key_is ∙ sym slot_is
 
   mid_arena : IsArena mid ids heads delimiter
   mid_arena = IsArena-capacity slots mid capacity ids heads delimiter grown arena
 
-  key_below : key < end_of_list
+  key_below : key < end_of_links
   key_below = rw same_key below
 
   each_listed : IsDistinct nat_eq (keys_of (ids ++ (e.id, key) ∷ []))

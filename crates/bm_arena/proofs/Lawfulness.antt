@@ -9,8 +9,10 @@ use Rattle.slab.specs.Slab.{Slab}
 use Rattle.bm_arena.specs.declared.types.Entry.{Entry}
 use Rattle.bm_arena.specs.declared.types.Triplet.{Triplet}
 use Rattle.bm_arena.specs.Triplets.{triplet_at, links_of, seen_slots}
-use Rattle.bm_arena.specs.Lists.{Among, Distinct, Chain}
-use Rattle.bm_arena.specs.Contents.{IsLawful, slot_after, first_of}
+use Rattle.bm_base.specs.SlotLists.{Among, Distinct}
+use Rattle.bm_arena.specs.Lists.{Chain}
+use Rattle.bm_base.specs.SlotLists.{slot_after, first_of}
+use Rattle.bm_arena.specs.Contents.{IsLawful}
 use Rattle.bm_arena.specs.Inside.{list_from, lists_from, IsSound, IsBoundedArena}
 use Rattle.bm_arena.proofs.Sound.{Chain-member}
 use Rattle.bm_arena.proofs.Seeing.{marks_in, marks_of, marks-seen, entry_seen, lookup-lists_from}

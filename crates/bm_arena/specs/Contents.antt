@@ -9,7 +9,7 @@ use Rattle.bm_base.specs.declared.replica.Marks.{Marks}
 use Rattle.bm_base.specs.declared.replica.Tag.TheVariants.{Good}
 use Rattle.bm_base.specs.declared.replica.BlockInfo.{BlockInfo}
 use Rattle.bm_arena.specs.Triplets.{Block, change_block, fill_first}
-use Rattle.bm_arena.specs.Lists.{Among, Distinct, without}
+use Rattle.bm_base.specs.SlotLists.{Among, Distinct, without}
 
 -- the block or nothing at each slot; each block's number with its slot; each storage with a head, and the slots of its list in order;
 -- the slot that marks a place in a list; the count of list operations; one above the greatest slot that was held at any time
@@ -115,16 +115,6 @@ pub record IsAdded (old new : Contents) (id slot : ℕ) : Type 0 where
   pub steps : new.steps ≡ old.steps
   pub delimiter : new.delimiter ≡ old.delimiter
   pub bound : new.bound ≡ max old.bound (slot + 1)
-
--- the first of the slots
-abbrev pub first_of : List ℕ → Option ℕ
-first_of [] = None
-first_of (x ∷ xs) = Some x
-
--- the slot that stands behind x
-abbrev pub slot_after : ℕ → List ℕ → Option ℕ
-slot_after x [] = None
-slot_after x (y ∷ ys) = if y == x then first_of ys else slot_after x ys
 
 -- how many replicas fit at a slot with no allocation
 abbrev pub room_at : Contents → ℕ → ℕ

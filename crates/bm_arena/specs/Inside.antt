@@ -5,9 +5,10 @@ use Rattle.std.specs.List.{IsDistinct}
 use Rattle.slab.specs.Slab.{Slab, get}
 use Rattle.bm_arena.specs.declared.types.Entry.{Entry}
 use Rattle.bm_arena.specs.declared.types.Triplet.{Triplet}
-use Rattle.bm_arena.specs.SlotLinks.{end_of_list}
+use Rattle.bm_base.specs.SlotLinks.{end_of_links}
 use Rattle.bm_arena.specs.Triplets.{Block, links_of, seen_slots, triplet_at}
-use Rattle.bm_arena.specs.Lists.{Among, Distinct, walk, IsList}
+use Rattle.bm_base.specs.SlotLists.{Among, Distinct}
+use Rattle.bm_arena.specs.Lists.{walk, IsList}
 
 -- the slots met from `first` on by the next links of a storage
 abbrev pub list_from : Slab Entry → ℕ → Option ℕ → List ℕ
@@ -38,7 +39,7 @@ pub record AreIds (blocks : List (Option Block)) (ids : List (ℕ × ℕ)) (deli
   -- the delimiter has room for a triplet of each head
   pub marker : (b : Block) × (slice_index_or blocks delimiter None ≡ Some b) × (heads ≤ b.room)
   -- a link can name each slot that is held
-  pub small : (slot : ℕ) (b : Block) → slice_index_or blocks slot None ≡ Some b → slot < end_of_list
+  pub small : (slot : ℕ) (b : Block) → slice_index_or blocks slot None ≡ Some b → slot < end_of_links
 
 -- what is true of an arena's fields
 pub record IsArena (slots : Slab Entry) (ids : List (ℕ × ℕ)) (heads : List (ℕ × Option ℕ)) (delimiter : ℕ) : Type 0 where

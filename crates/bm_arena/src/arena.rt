@@ -3,9 +3,8 @@ ghost use Rattle.std.specs.Prelude.{◌≡◌, ◌≢◌, ◌+◌, ℕ, None, So
 ghost use Rattle.bm_base.specs.declared.refusal.Refusal.TheVariants.{Memory};
 ghost use Rattle.bm_arena.specs.Contents.{block_at, empty_block, count_up, IsLawful};
 
-use crate::slot_link::SlotLink;
 use crate::types::Entry;
-use bm_base::Refusal;
+use bm_base::{Refusal, SlotLink};
 use indexmap::IndexMap;
 use slab::Slab;
 use smallvec::SmallVec;

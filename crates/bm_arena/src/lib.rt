@@ -10,7 +10,6 @@ mod block_entries;
 mod links;
 mod look_ups;
 mod numbers;
-mod slot_link;
 mod storage_lists;
 #[cfg(test)]
 mod tests;

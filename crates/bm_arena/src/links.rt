@@ -4,12 +4,11 @@ ghost use Rattle.std.specs.Option.{option_map, option_and_then};
 ghost use Rattle.slab.specs.Slab.{get};
 ghost use Rattle.bm_arena.specs.declared.types.Entry.{Entry};
 ghost use Rattle.smallvec.specs.SmallVec.{HasRoomFor};
-ghost use Rattle.bm_arena.specs.SlotLinks.{end_of_list};
+ghost use Rattle.bm_base.specs.SlotLinks.{end_of_links};
 ghost use Rattle.bm_arena.specs.Triplets.{seen_triplet, with_capacity, capacity_at, at_slot, added, removed, fill_first, is_of, attached, detached, find_triplet, change_triplet, with_previous, with_next, with_triplet_marks, triplet_at, change_at};
 
-use crate::slot_link::{NO_LINK, SlotLink};
 use crate::types::{Entry, Triplet};
-use bm_base::{BlockInfo, Marks, StorageId};
+use bm_base::{BlockInfo, Marks, NO_LINK, SlotLink, StorageId};
 use slab::Slab;
 use smallvec::SmallVec;
 use std::alloc::AllocError;
@@ -99,7 +98,7 @@ pub(crate) fn set_info(slots: &mut Slab<Entry>, slot: usize, info: Option<BlockI
 
 // Links a slot, which has its triplet, before the slot that was first.
 pub(crate) fn attach(slots: &mut Slab<Entry>, first: &mut SlotLink, slot: usize, storage: u32)
-    requires { slot < end_of_list }
+    requires { slot < end_of_links }
     ensures slots { slots.new ≡ attached slots.old first.old slot storage }
     ensures first { first.new ≡ Some slot }
 {

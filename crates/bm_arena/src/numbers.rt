@@ -5,11 +5,10 @@ ghost use Rattle.std.specs.List.{IsDistinct};
 ghost use Rattle.slab.specs.Slab.{HasRoomFor};
 ghost use Rattle.indexmap.specs.IndexMap.{insert_entry};
 ghost use Rattle.bm_base.specs.declared.refusal.Refusal.TheVariants.{Memory};
-ghost use Rattle.bm_arena.specs.SlotLinks.{end_of_list};
+ghost use Rattle.bm_base.specs.SlotLinks.{end_of_links};
 
-use crate::slot_link::fits_link;
 use crate::types::Entry;
-use bm_base::Refusal;
+use bm_base::{Refusal, fits_link};
 use indexmap::{IndexMap, map};
 use slab::Slab;
 
@@ -23,7 +22,7 @@ pub(crate) fn slot_for(
     ensures there { (was : ℕ) → lookup (nat_eq id) ids.old.entries ≡ Some was → IsOk result }
     ensures known { IfOk result (λ r. r.1 ≡ false → (Some r.0 ≡ lookup (nat_eq id) ids.old.entries) × (ids.new.entries ≡ ids.old.entries) × (slots.new ≡ slots.old)) }
     ensures absent { IfOk result (λ r. r.1 ≡ true → None ≡ lookup (nat_eq id) ids.old.entries) }
-    ensures listed { IfOk result (λ r. r.1 ≡ true → (r.0 ≡ slots.new.vacant_key) × (r.0 < end_of_list) × HasRoomFor slots.new 1 × (ids.new.entries ≡ insert_entry nat_eq ids.old.entries id r.0)) }
+    ensures listed { IfOk result (λ r. r.1 ≡ true → (r.0 ≡ slots.new.vacant_key) × (r.0 < end_of_links) × HasRoomFor slots.new 1 × (ids.new.entries ≡ insert_entry nat_eq ids.old.entries id r.0)) }
     ensures grown { slots.new ≡ record slots.old { capacity = slots.new.capacity } }
     ensures unique { IsDistinct nat_eq (keys_of ids.new.entries) }
     ensures refused { IfErr result (λ e. e ≡ Memory) }

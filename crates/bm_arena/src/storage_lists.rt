@@ -3,15 +3,15 @@ ghost use Rattle.std.specs.Prelude.{nat_eq, slice_index, EachIndex, ◌≡◌, �
 ghost use Rattle.std.specs.Option.{unwrap_or};
 ghost use Rattle.indexmap.specs.IndexMap.{swap_remove_entry};
 ghost use Rattle.bm_base.specs.declared.refusal.Refusal.TheVariants.{Memory};
-ghost use Rattle.bm_arena.specs.Contents.{IsReserved, no_marks, list_of, slot_after, HasHead, HasRoom, marks_at, linked_front, unlinked, moved_front, KeepsOthers, IsLawful};
-ghost use Rattle.bm_arena.specs.Lists.{without};
+ghost use Rattle.bm_base.specs.SlotLists.{slot_after};
+ghost use Rattle.bm_arena.specs.Contents.{IsReserved, no_marks, list_of, HasHead, HasRoom, marks_at, linked_front, unlinked, moved_front, KeepsOthers, IsLawful};
+ghost use Rattle.bm_base.specs.SlotLists.{without};
 
 use crate::arena::{Arena, Slot, count_up};
 use crate::links;
-use crate::slot_link::NO_LINK;
 use crate::types::{NO_MARKS, Triplet};
 use crate::walk::Walk;
-use bm_base::{Marks, Refusal, StorageId};
+use bm_base::{Marks, NO_LINK, Refusal, StorageId};
 
 impl Arena {
     /// Makes a head for each of the storages, so that linking a block that has room, and putting the delimiter, take no memory.

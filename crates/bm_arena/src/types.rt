@@ -1,6 +1,5 @@
 // What stands in a slot: a block's entry with its triplets.
-use crate::slot_link::{NO_LINK, SlotLink};
-use bm_base::{BlockInfo, Marks, Tag};
+use bm_base::{BlockInfo, Marks, NO_LINK, SlotLink, Tag};
 use smallvec::SmallVec;
 
 /// A replica of a block: its storage, the neighbours of the block in that storage's list, and its marks.

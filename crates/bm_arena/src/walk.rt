@@ -2,8 +2,8 @@
 ghost use Rattle.std.specs.Iterator.{YieldsFirst, item_count};
 
 use crate::links;
-use crate::slot_link::{NO_LINK, SlotLink};
 use crate::types::Entry;
+use bm_base::{NO_LINK, SlotLink};
 use slab::Slab;
 use std::marker::Model;
 

@@ -33,5 +33,5 @@ pub use places::Places;
 pub use refusal::Refusal;
 pub use replica::{BlockInfo, Marks, Replica, ReplicaId, Stamp, Tag};
 pub use replica_map::ReplicaMap;
-pub use slot_link::{END_OF_LINKS, NO_LINK, SlotLink};
+pub use slot_link::{END_OF_LINKS, NO_LINK, SlotLink, fits_link};
 pub use storage::StorageInfo;

@@ -10,8 +10,8 @@ ghost use Rattle.bm_base.specs.Answering.{checked};
 use crate::standing::are_sisters;
 use crate::tally;
 use bm_base::{
-    BlockId, BlockInfo, Done, Event, Items, MAX_REPLICATION, Marks, NumberMap, Refusal, ReplicaId, ReplicaMap,
-    Stamp, StorageId, Tag,
+    BlockId, BlockInfo, Done, Event, Items, MAX_REPLICATION, Marks, NumberMap, Refusal, ReplicaId,
+    ReplicaMap, Stamp, StorageId, Tag,
 };
 use bm_topo::Topology;
 use std::alloc::{AllocError, Global};

@@ -10,7 +10,9 @@ ghost use Rattle.bm_base.specs.Answering.{checked};
 ghost use Rattle.bm_base.specs.declared.event.Event.TheVariants as event;
 
 use crate::topology::Topology;
-use bm_base::{Event, MAX_ENTRIES, MAX_NODES, MAX_STORAGES, NodeId, Rack, Refusal, Remaining, StorageId};
+use bm_base::{
+    Event, MAX_ENTRIES, MAX_NODES, MAX_STORAGES, NodeId, Rack, Refusal, Remaining, StorageId,
+};
 
 impl Topology {
     /// Whether a storage is named twice, or known.
