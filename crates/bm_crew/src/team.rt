@@ -77,7 +77,7 @@ impl<T: Send + Drop, U: Send + Drop> Team<T, U> {
     }
 }
 
-/// PutStep all items into the bag, each with its place.
+/// Puts all items into the bag, each with its place.
 fn put_all<T: Drop, R: Wait>(
     rt: &R,
     bag: &Bag<(u32, T)>,

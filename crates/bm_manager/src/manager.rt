@@ -17,6 +17,16 @@ use std::marker::Model;
 ///
 /// A contract sees it as the state of the definitions: the limits of its configuration, the cluster, the blocks and their
 /// replicas, the round and the number of accepted calls.
+///
+/// ```text
+/// let mut manager = Manager::new(alloc, Config::standard())?;
+/// manager.apply(&Event::AddBlock { id: BlockId(7), stamp, repl: 2 })?;
+/// manager.apply(&Event::Received { storage: StorageId(11), id: BlockId(7), stamp })?;
+/// let storages = manager.places(BlockId(7))?;
+/// let commands = manager.round()?;
+/// ```
+///
+/// A refused call has changed nothing; after `Err(Memory)` the same call may be made again.
 #[derive(Drop)]
 pub struct Manager {
     pub(crate) alloc: Global,
