@@ -15,6 +15,9 @@ pub record Room : Type 0 where
   pub racks : ℕ
   pub storages : ℕ
 
+abbrev pub no_room : Room
+no_room = record { nodes = 0; racks = 0; storages = 0 }
+
 pub record Seen : Type 0 where
   pub cluster : Cluster
   pub room : Room

@@ -4,6 +4,7 @@ ghost use Rattle.bm_base.specs.Map as map;
 ghost use Rattle.bm_base.specs.State as state;
 ghost use Rattle.bm_base.specs.Replicas as replicas;
 ghost use Rattle.bm_base.specs.declared.limits.TheConstants.{MAX_NODES, MAX_STORAGES};
+ghost use Rattle.bm_topo.specs.Seen.{no_room};
 
 use bm_base::{NodeId, NumberMap, Rack, Refusal, StorageId, StorageInfo};
 use std::alloc::Global;
@@ -38,10 +39,11 @@ impl Model for Topology {
 }
 
 impl Topology {
-    /// An empty cluster. Takes no memory yet, so it succeeds.
+    /// An empty cluster, with no room. Takes no memory yet, so it succeeds.
     #[tactic(auto, unfolding(bm_base::specs::State::empty_cluster))]
     pub fn new(alloc: Global) -> Result<Topology, Refusal>
         ensures empty { IfOk result (λ t. t.cluster ≡ state.empty_cluster) }
+        ensures room { IfOk result (λ t. t.room ≡ no_room) }
         ensures succeeds { IsOk result }
     {
         Ok(Topology {
