@@ -1,9 +1,89 @@
-// On a cluster of four nodes with a storage each, two on each of two racks, the choices are those worked out by hand.
+// On clusters of a few nodes the choices are those worked out by hand: a list of cases for each question.
 use crate::{Scheduled, Streams, excess_of, least_source, least_target};
 use bm_base::{Event, Items, Level, NodeId, Rack, Remaining, StorageId};
 use bm_topo::Topology;
 use std::alloc::Global;
 use std::process::Abort;
+
+/// A node, its rack and its storages.
+#[derive(Clone, Copy)]
+struct Node<'a> {
+    number: u32,
+    rack: u32,
+    storages: &'a [u32],
+}
+
+const SEVENTEEN: [u32; 17] = [
+    101, 102, 103, 104, 105, 106, 107, 108, 109, 110, 111, 112, 113, 114, 115, 116, 117,
+];
+
+/// Two nodes with a storage each on each of two racks, a node with two storages on a third, one with seventeen on a fourth.
+static NODES: [Node<'static>; 6] = [
+    Node {
+        number: 1,
+        rack: 1,
+        storages: &[11],
+    },
+    Node {
+        number: 2,
+        rack: 1,
+        storages: &[21],
+    },
+    Node {
+        number: 3,
+        rack: 2,
+        storages: &[31],
+    },
+    Node {
+        number: 4,
+        rack: 2,
+        storages: &[41],
+    },
+    Node {
+        number: 9,
+        rack: 3,
+        storages: &[5, 6],
+    },
+    Node {
+        number: 10,
+        rack: 4,
+        storages: &SEVENTEEN,
+    },
+];
+
+/// How many bytes are free on the storages of each of the nodes. A node with none is not in the cluster.
+const FOUR_NODES: [u64; 6] = [1000, 1000, 1000, 1000, 0, 0];
+
+fn named(rt: &impl Abort, alloc: Global, numbers: &[u32]) -> Vec<StorageId> {
+    let mut storages = Vec::new(alloc);
+    for number in numbers {
+        storages.push(StorageId(*number)).expect(rt, "memory");
+    }
+    storages
+}
+
+fn number_of(storage: Option<StorageId>) -> Option<u32> {
+    match storage {
+        Some(storage) => Some(storage.0),
+        None => None,
+    }
+}
+
+/// Tells how many bytes are free on each of a node's storages.
+fn heartbeat(rt: &impl Abort, alloc: Global, node: &Node<'_>, free: u64) -> Event {
+    let mut told = Vec::new(alloc);
+    for number in node.storages {
+        let row = Remaining {
+            storage: StorageId(*number),
+            remaining: free,
+        };
+        told.push(row).expect(rt, "memory");
+    }
+    Event::Heartbeat {
+        node: NodeId(node.number),
+        remaining: Items::from_vec(told),
+    }
+}
 
 fn take(rt: &impl Abort, topology: &mut Topology, event: &Event) {
     topology.check(event).expect(rt, "an event to be taken");
@@ -11,344 +91,368 @@ fn take(rt: &impl Abort, topology: &mut Topology, event: &Event) {
     topology.commit(event);
 }
 
-/// A node with these storages joins, each with so many bytes free.
-fn join(
-    rt: &impl Abort,
-    topology: &mut Topology,
-    alloc: Global,
-    node: u32,
-    rack: u32,
-    storages: &[StorageId],
-    free: u64,
-) {
-    let names = Vec::from_slice(alloc, storages).expect(rt, "memory");
+fn join(rt: &impl Abort, alloc: Global, topology: &mut Topology, node: &Node<'_>, free: u64) {
     let joins = Event::Register {
-        node: NodeId(node),
-        rack: Rack(rack),
-        storages: Items::from_vec(names),
+        node: NodeId(node.number),
+        rack: Rack(node.rack),
+        storages: Items::from_vec(named(rt, alloc, node.storages)),
     };
     take(rt, topology, &joins);
-    for storage in storages {
-        tell(rt, topology, alloc, node, *storage, free);
-    }
+    take(rt, topology, &heartbeat(rt, alloc, node, free));
 }
 
-/// A heartbeat says how many bytes are free on a storage.
-fn tell(
-    rt: &impl Abort,
-    topology: &mut Topology,
-    alloc: Global,
-    node: u32,
-    storage: StorageId,
-    free: u64,
-) {
-    let told = [Remaining {
-        storage,
-        remaining: free,
-    }];
-    let told = Vec::from_slice(alloc, told.as_slice()).expect(rt, "memory");
-    let beats = Event::Heartbeat {
-        node: NodeId(node),
-        remaining: Items::from_vec(told),
-    };
-    take(rt, topology, &beats);
-}
-
-fn four_nodes(rt: &impl Abort, alloc: Global) -> Topology {
+fn cluster(rt: &impl Abort, alloc: Global, free: &[u64; 6]) -> Topology {
     let mut topology = Topology::new(alloc).expect(rt, "memory");
-    for (node, rack) in [(1, 1), (2, 1), (3, 2), (4, 2)] {
-        let storage = StorageId(10 * node + 1);
-        join(
-            rt,
-            &mut topology,
-            alloc,
-            node,
-            rack,
-            [storage].as_slice(),
-            1000,
-        );
+    for place in 0..6 {
+        if free[place] > 0 {
+            join(rt, alloc, &mut topology, &NODES[place], free[place]);
+        }
     }
     topology
 }
 
+/// Which of the live replicas are in excess where `repl` are wanted.
+#[derive(Clone, Copy)]
+struct Excess<'a> {
+    free: [u64; 6],
+    live: &'a [u32],
+    repl: u32,
+    chosen: &'a [u32],
+}
+
+static EXCESSES: [Excess<'static>; 6] = [
+    // The greatest storage of a shared rack.
+    Excess {
+        free: FOUR_NODES,
+        live: &[11, 21, 31],
+        repl: 2,
+        chosen: &[21],
+    },
+    Excess {
+        free: FOUR_NODES,
+        live: &[11, 21, 31, 41],
+        repl: 1,
+        chosen: &[41, 21, 31],
+    },
+    Excess {
+        free: FOUR_NODES,
+        live: &[11, 31],
+        repl: 2,
+        chosen: &[],
+    },
+    // One of seventeen replicas on one rack, where sixteen are wanted.
+    Excess {
+        free: [0, 0, 0, 0, 0, 1000],
+        live: &SEVENTEEN,
+        repl: 16,
+        chosen: &[117],
+    },
+    // A full storage before an empty one.
+    Excess {
+        free: [999, 1000, 1000, 1000, 0, 0],
+        live: &[11, 21, 31],
+        repl: 2,
+        chosen: &[11],
+    },
+    Excess {
+        free: [999, 1000, 5, 1000, 0, 0],
+        live: &[11, 21, 31],
+        repl: 1,
+        chosen: &[11, 31],
+    },
+];
+
+fn excess_on(
+    rt: &impl Abort,
+    alloc: Global,
+    topology: &Topology,
+    case: &Excess<'_>,
+) -> Vec<StorageId> {
+    let live = named(rt, alloc, case.live);
+    excess_of(alloc, live.as_slice(), case.repl, topology).expect(rt, "memory")
+}
+
+fn check_excess(rt: &impl Abort, alloc: Global, case: &Excess<'_>) {
+    let topology = cluster(rt, alloc, &case.free);
+    let chosen = excess_on(rt, alloc, &topology, case);
+    assert!(rt; chosen.as_slice() == named(rt, alloc, case.chosen).as_slice());
+}
+
+#[test]
+fn replicas_in_excess(rt: HostRuntime) {
+    for case in &EXCESSES {
+        check_excess(&rt, rt.alloc(), case);
+    }
+}
+
+/// The source of a copy, after one transfer from each storage of `sent`.
+#[derive(Clone, Copy)]
+struct Source<'a> {
+    free: [u64; 6],
+    sent: &'a [u32],
+    live: &'a [u32],
+    level: Level,
+    chosen: Option<u32>,
+}
+
+static SOURCES: [Source<'static>; 7] = [
+    // The node that sends fewest.
+    Source {
+        free: FOUR_NODES,
+        sent: &[],
+        live: &[11, 21],
+        level: Level::UnderReplicated,
+        chosen: Some(11),
+    },
+    Source {
+        free: FOUR_NODES,
+        sent: &[11, 11],
+        live: &[11, 21],
+        level: Level::UnderReplicated,
+        chosen: Some(21),
+    },
+    Source {
+        free: FOUR_NODES,
+        sent: &[11, 11, 21, 21],
+        live: &[11, 21],
+        level: Level::UnderReplicated,
+        chosen: None,
+    },
+    Source {
+        free: FOUR_NODES,
+        sent: &[11, 11, 21, 21],
+        live: &[11, 21],
+        level: Level::Highest,
+        chosen: Some(11),
+    },
+    // The transfers of all storages of a node count.
+    Source {
+        free: [1000, 1000, 1000, 1000, 1000, 0],
+        sent: &[],
+        live: &[6, 5],
+        level: Level::VeryUnderReplicated,
+        chosen: Some(5),
+    },
+    Source {
+        free: [1000, 1000, 1000, 1000, 1000, 0],
+        sent: &[],
+        live: &[5, 41],
+        level: Level::VeryUnderReplicated,
+        chosen: Some(41),
+    },
+    Source {
+        free: [1000, 1000, 1000, 1000, 1000, 0],
+        sent: &[6, 6],
+        live: &[5],
+        level: Level::VeryUnderReplicated,
+        chosen: None,
+    },
+];
+
 /// One transfer more from a storage.
 fn send(rt: &impl Abort, streams: &mut Streams, source: StorageId) {
-    if let Some(node) = streams.nodes.get(u64::from(source.0)) {
-        assert!(rt; streams.count_of(node) < 256_000);
-    }
+    let node = streams
+        .nodes
+        .get(u64::from(source.0))
+        .expect(rt, "a storage of the cluster");
+    assert!(rt; streams.count_of(node) < 256_000);
     streams.add(source);
 }
 
+fn source_after(
+    rt: &impl Abort,
+    alloc: Global,
+    topology: &Topology,
+    case: &Source<'_>,
+) -> Option<u32> {
+    let live = named(rt, alloc, case.live);
+    let mut streams = Streams::new(alloc, topology).expect(rt, "memory");
+    for source in case.sent {
+        send(rt, &mut streams, StorageId(*source));
+    }
+    number_of(least_source(live.as_slice(), case.level, topology, &streams))
+}
+
+fn check_source(rt: &impl Abort, alloc: Global, case: &Source<'_>) {
+    let topology = cluster(rt, alloc, &case.free);
+    assert!(rt; source_after(rt, alloc, &topology, case) == case.chosen);
+}
+
+#[test]
+fn source_of_a_copy(rt: HostRuntime) {
+    for case in &SOURCES {
+        check_source(&rt, rt.alloc(), case);
+    }
+}
+
+/// The target of a copy of `len` bytes, after so many bytes were sent to each storage of `filled`.
+#[derive(Clone, Copy)]
+struct Target<'a> {
+    free: [u64; 6],
+    filled: &'a [(u32, u64)],
+    held: &'a [u32],
+    barred: &'a [u32],
+    len: u64,
+    level: Level,
+    chosen: Option<u32>,
+}
+
+static TARGETS: [Target<'static>; 12] = [
+    // The most room on another rack.
+    Target {
+        free: FOUR_NODES,
+        filled: &[],
+        held: &[11],
+        barred: &[11],
+        len: 10,
+        level: Level::Highest,
+        chosen: Some(31),
+    },
+    Target {
+        free: FOUR_NODES,
+        filled: &[],
+        held: &[11],
+        barred: &[11],
+        len: 1001,
+        level: Level::Highest,
+        chosen: None,
+    },
+    Target {
+        free: FOUR_NODES,
+        filled: &[],
+        held: &[11, 21, 31, 41],
+        barred: &[11, 21, 31, 41],
+        len: 10,
+        level: Level::Highest,
+        chosen: None,
+    },
+    Target {
+        free: FOUR_NODES,
+        filled: &[(31, 10)],
+        held: &[11],
+        barred: &[11],
+        len: 10,
+        level: Level::Highest,
+        chosen: Some(41),
+    },
+    // A length that just fits.
+    Target {
+        free: FOUR_NODES,
+        filled: &[],
+        held: &[11],
+        barred: &[11],
+        len: 1000,
+        level: Level::Highest,
+        chosen: Some(31),
+    },
+    Target {
+        free: FOUR_NODES,
+        filled: &[(31, 1), (41, 1)],
+        held: &[11],
+        barred: &[11],
+        len: 1000,
+        level: Level::Highest,
+        chosen: Some(21),
+    },
+    Target {
+        free: FOUR_NODES,
+        filled: &[(31, 1), (41, 1)],
+        held: &[11],
+        barred: &[11],
+        len: 999,
+        level: Level::Highest,
+        chosen: Some(31),
+    },
+    // A badly distributed block leaves its rack.
+    Target {
+        free: FOUR_NODES,
+        filled: &[],
+        held: &[11],
+        barred: &[11, 31, 41],
+        len: 10,
+        level: Level::BadlyDistributed,
+        chosen: None,
+    },
+    Target {
+        free: FOUR_NODES,
+        filled: &[],
+        held: &[11],
+        barred: &[11, 31, 41],
+        len: 10,
+        level: Level::UnderReplicated,
+        chosen: Some(21),
+    },
+    // The third copy goes to one of two racks, and further ones to any.
+    Target {
+        free: [1000, 1000, 1000, 1000, 9000, 0],
+        filled: &[],
+        held: &[11, 31],
+        barred: &[11, 31],
+        len: 10,
+        level: Level::UnderReplicated,
+        chosen: Some(21),
+    },
+    Target {
+        free: [1000, 1000, 1000, 1000, 9000, 0],
+        filled: &[],
+        held: &[11, 21, 31],
+        barred: &[11, 21, 31],
+        len: 10,
+        level: Level::UnderReplicated,
+        chosen: Some(5),
+    },
+    Target {
+        free: [1000, 1000, 1000, 1000, 9000, 0],
+        filled: &[],
+        held: &[11, 21, 31],
+        barred: &[6],
+        len: 10,
+        level: Level::UnderReplicated,
+        chosen: Some(11),
+    },
+];
+
 /// So many bytes more to a storage.
 fn fill(rt: &impl Abort, scheduled: &mut Scheduled, target: StorageId, len: u64) {
-    if let Some(row) = scheduled.rows.get(u64::from(target.0)) {
-        assert!(rt; row.scheduled <= row.remaining);
-        assert!(rt; len <= row.remaining - row.scheduled);
-    }
+    let row = scheduled
+        .rows
+        .get(u64::from(target.0))
+        .expect(rt, "a storage of the cluster");
+    assert!(rt; row.scheduled <= row.remaining);
+    assert!(rt; len <= row.remaining - row.scheduled);
     scheduled.add(target, len);
 }
 
-const S11: StorageId = StorageId(11);
+fn target_after(
+    rt: &impl Abort,
+    alloc: Global,
+    topology: &Topology,
+    case: &Target<'_>,
+) -> Option<u32> {
+    let held = named(rt, alloc, case.held);
+    let barred = named(rt, alloc, case.barred);
+    let mut scheduled = Scheduled::new(alloc, topology).expect(rt, "memory");
+    for (target, len) in case.filled {
+        fill(rt, &mut scheduled, StorageId(*target), *len);
+    }
+    number_of(least_target(
+        held.as_slice(),
+        barred.as_slice(),
+        case.len,
+        case.level,
+        topology,
+        &scheduled,
+    ))
+}
 
-const S21: StorageId = StorageId(21);
-
-const S31: StorageId = StorageId(31);
-
-const S41: StorageId = StorageId(41);
-
-#[test]
-fn greatest_storage_of_a_shared_rack_is_in_excess(rt: HostRuntime) {
-    let alloc = rt.alloc();
-    let topology = four_nodes(&rt, alloc);
-    let three = excess_of(alloc, [S11, S21, S31].as_slice(), 2, &topology).expect(&rt, "memory");
-    assert!(rt; three.as_slice() == [S21].as_slice());
-    let four = excess_of(alloc, [S11, S21, S31, S41].as_slice(), 1, &topology).expect(
-        &rt, "memory",
-    );
-    assert!(rt; four.as_slice() == [S41, S21, S31].as_slice());
-    let two = excess_of(alloc, [S11, S31].as_slice(), 2, &topology).expect(&rt, "memory");
-    assert!(rt; two.is_empty());
+fn check_target(rt: &impl Abort, alloc: Global, case: &Target<'_>) {
+    let topology = cluster(rt, alloc, &case.free);
+    assert!(rt; target_after(rt, alloc, &topology, case) == case.chosen);
 }
 
 #[test]
-fn full_storage_is_in_excess_before_an_empty_one(rt: HostRuntime) {
-    let alloc = rt.alloc();
-    let mut topology = four_nodes(&rt, alloc);
-    tell(&rt, &mut topology, alloc, 1, S11, 999);
-    let one = excess_of(alloc, [S11, S21, S31].as_slice(), 2, &topology).expect(&rt, "memory");
-    assert!(rt; one.as_slice() == [S11].as_slice());
-    tell(&rt, &mut topology, alloc, 3, S31, 5);
-    let two = excess_of(alloc, [S11, S21, S31].as_slice(), 1, &topology).expect(&rt, "memory");
-    assert!(rt; two.as_slice() == [S11, S31].as_slice());
-}
-
-#[test]
-fn source_whose_node_sends_fewest(rt: HostRuntime) {
-    let alloc = rt.alloc();
-    let topology = four_nodes(&rt, alloc);
-    let live = [S11, S21];
-    let mut streams = Streams::new(alloc, &topology).expect(&rt, "memory");
-    let level = Level::UnderReplicated;
-    assert_eq!(rt;
-        least_source(live.as_slice(), level, &topology, &streams),
-        Some(S11)
-    );
-    send(&rt, &mut streams, S11);
-    send(&rt, &mut streams, S11);
-    assert_eq!(rt;
-        least_source(live.as_slice(), level, &topology, &streams),
-        Some(S21)
-    );
-    send(&rt, &mut streams, S21);
-    send(&rt, &mut streams, S21);
-    assert_eq!(rt;
-        least_source(live.as_slice(), level, &topology, &streams),
-        None
-    );
-    let highest = Level::Highest;
-    assert_eq!(rt;
-        least_source(live.as_slice(), highest, &topology, &streams),
-        Some(S11)
-    );
-}
-
-#[test]
-fn transfers_of_all_storages_of_a_node_count(rt: HostRuntime) {
-    let alloc = rt.alloc();
-    let mut topology = four_nodes(&rt, alloc);
-    let (s5, s6) = (StorageId(5), StorageId(6));
-    join(&rt, &mut topology, alloc, 9, 3, [s5, s6].as_slice(), 1000);
-    let mut streams = Streams::new(alloc, &topology).expect(&rt, "memory");
-    let level = Level::VeryUnderReplicated;
-    assert_eq!(rt;
-        least_source([s6, s5].as_slice(), level, &topology, &streams),
-        Some(s5)
-    );
-    assert_eq!(rt;
-        least_source([s5, S41].as_slice(), level, &topology, &streams),
-        Some(S41)
-    );
-    send(&rt, &mut streams, s6);
-    send(&rt, &mut streams, s6);
-    assert_eq!(rt;
-        least_source([s5].as_slice(), level, &topology, &streams),
-        None
-    );
-}
-
-#[test]
-fn target_on_another_rack_with_most_room(rt: HostRuntime) {
-    let alloc = rt.alloc();
-    let topology = four_nodes(&rt, alloc);
-    let held = [S11];
-    let all = [S11, S21, S31, S41];
-    let level = Level::Highest;
-    let mut scheduled = Scheduled::new(alloc, &topology).expect(&rt, "memory");
-    assert_eq!(rt;
-        least_target(
-            held.as_slice(),
-            held.as_slice(),
-            10,
-            level,
-            &topology,
-            &scheduled
-        ),
-        Some(S31)
-    );
-    assert_eq!(rt;
-        least_target(
-            held.as_slice(),
-            held.as_slice(),
-            1001,
-            level,
-            &topology,
-            &scheduled
-        ),
-        None
-    );
-    assert_eq!(rt;
-        least_target(
-            all.as_slice(),
-            all.as_slice(),
-            10,
-            level,
-            &topology,
-            &scheduled
-        ),
-        None
-    );
-    fill(&rt, &mut scheduled, S31, 10);
-    assert_eq!(rt;
-        least_target(
-            held.as_slice(),
-            held.as_slice(),
-            10,
-            level,
-            &topology,
-            &scheduled
-        ),
-        Some(S41)
-    );
-}
-
-#[test]
-fn length_that_just_fits(rt: HostRuntime) {
-    let alloc = rt.alloc();
-    let topology = four_nodes(&rt, alloc);
-    let held = [S11];
-    let level = Level::Highest;
-    let mut scheduled = Scheduled::new(alloc, &topology).expect(&rt, "memory");
-    assert_eq!(rt;
-        least_target(
-            held.as_slice(),
-            held.as_slice(),
-            1000,
-            level,
-            &topology,
-            &scheduled
-        ),
-        Some(S31)
-    );
-    fill(&rt, &mut scheduled, S31, 1);
-    fill(&rt, &mut scheduled, S41, 1);
-    assert_eq!(rt;
-        least_target(
-            held.as_slice(),
-            held.as_slice(),
-            1000,
-            level,
-            &topology,
-            &scheduled
-        ),
-        Some(S21)
-    );
-    assert_eq!(rt;
-        least_target(
-            held.as_slice(),
-            held.as_slice(),
-            999,
-            level,
-            &topology,
-            &scheduled
-        ),
-        Some(S31)
-    );
-}
-
-#[test]
-fn badly_distributed_block_leaves_its_rack(rt: HostRuntime) {
-    let alloc = rt.alloc();
-    let topology = four_nodes(&rt, alloc);
-    let held = [S11];
-    let barred = [S11, S31, S41];
-    let scheduled = Scheduled::new(alloc, &topology).expect(&rt, "memory");
-    let bad = Level::BadlyDistributed;
-    assert_eq!(rt;
-        least_target(
-            held.as_slice(),
-            barred.as_slice(),
-            10,
-            bad,
-            &topology,
-            &scheduled
-        ),
-        None
-    );
-    let under = Level::UnderReplicated;
-    assert_eq!(rt;
-        least_target(
-            held.as_slice(),
-            barred.as_slice(),
-            10,
-            under,
-            &topology,
-            &scheduled
-        ),
-        Some(S21)
-    );
-}
-
-#[test]
-fn third_copy_goes_to_one_of_two_racks(rt: HostRuntime) {
-    let alloc = rt.alloc();
-    let mut topology = four_nodes(&rt, alloc);
-    let (s5, s6) = (StorageId(5), StorageId(6));
-    join(&rt, &mut topology, alloc, 9, 3, [s5, s6].as_slice(), 9000);
-    let scheduled = Scheduled::new(alloc, &topology).expect(&rt, "memory");
-    let level = Level::UnderReplicated;
-    let two = [S11, S31];
-    assert_eq!(rt;
-        least_target(
-            two.as_slice(),
-            two.as_slice(),
-            10,
-            level,
-            &topology,
-            &scheduled
-        ),
-        Some(S21)
-    );
-    let three = [S11, S21, S31];
-    assert_eq!(rt;
-        least_target(
-            three.as_slice(),
-            three.as_slice(),
-            10,
-            level,
-            &topology,
-            &scheduled
-        ),
-        Some(s5)
-    );
-    assert_eq!(rt;
-        least_target(
-            three.as_slice(),
-            [s6].as_slice(),
-            10,
-            level,
-            &topology,
-            &scheduled
-        ),
-        Some(S11)
-    );
+fn target_of_a_copy(rt: HostRuntime) {
+    for case in &TARGETS {
+        check_target(&rt, rt.alloc(), case);
+    }
 }
