@@ -12,7 +12,7 @@ use Rattle.bm_arena.specs.Triplets.{triplet_at, links_of, seen_slots}
 use Rattle.bm_base.specs.SlotLists.{Among, Distinct}
 use Rattle.bm_arena.specs.Lists.{Chain}
 use Rattle.bm_base.specs.SlotLists.{slot_after, first_of}
-use Rattle.bm_arena.specs.Contents.{IsLawful}
+use Rattle.bm_arena.specs.Contents.{IsLawful, before_in, slot_before}
 use Rattle.bm_arena.specs.Inside.{list_from, lists_from, IsSound, IsBoundedArena}
 use Rattle.bm_arena.proofs.Sound.{Chain-member}
 use Rattle.bm_arena.proofs.Seeing.{marks_in, marks_of, marks-seen, entry_seen, lookup-lists_from}
@@ -75,3 +75,24 @@ next_after-list slots heads s x t sound own =
     let found = sound.complete x s t (sym own) in
     rw (lookup-lists_from slots s heads, found.1)
     (sym (slot_after-chain (links_of slots s) x t (sym own) None found.0 (list_from slots s found.0) (sound.lists s found.0 found.1).chain found.2))
+
+-- the slot that stands before it is the one that the previous link leads to
+before_in-chain : (links : ℕ → Option Triplet) (x : ℕ) (t : Triplet) → links x ≡ Some t → (before start : Option ℕ) (xs : List ℕ) → Chain links before start xs → Among x xs → before_in before x xs ≡ t.previous
+before_in-chain links x t own before start [] chain there = absurd there
+before_in-chain links x t own before start (y ∷ ys) chain there =
+    elim (cases_Bool (eqb y x)) [
+      | inl here ↦
+          let same : chain.1 ≡ t = same_Some chain.1 t (sym chain.2 ∙ ap links (eqb-true y x here) ∙ own) in
+          rw here (sym chain.3 ∙ ap (λ (u : Triplet). u.previous) same)
+      | inr other ↦
+          rw other (elim there [
+            | inl same ↦ absurd (eqb-false y x other (sym same))
+            | inr later ↦ before_in-chain links x t own (Some y) chain.1.next ys chain.4 later
+          ])
+    ]
+
+pub previous_before-list : (slots : Slab Entry) (heads : List (ℕ × Option ℕ)) (s x : ℕ) (t : Triplet) → IsSound slots heads → Some t ≡ triplet_at slots x s → t.previous ≡ slot_before x (unwrap_or (lookup (nat_eq s) (lists_from slots heads)) [])
+previous_before-list slots heads s x t sound own =
+    let found = sound.complete x s t (sym own) in
+    rw (lookup-lists_from slots s heads, found.1)
+    (sym (before_in-chain (links_of slots s) x t (sym own) None found.0 (list_from slots s found.0) (sound.lists s found.0 found.1).chain found.2))

@@ -116,6 +116,14 @@ pub record IsAdded (old new : Contents) (id slot : ℕ) : Type 0 where
   pub delimiter : new.delimiter ≡ old.delimiter
   pub bound : new.bound ≡ max old.bound (slot + 1)
 
+-- the slot that stands before x, where `before` stands before the first
+abbrev pub before_in : Option ℕ → ℕ → List ℕ → Option ℕ
+before_in before x [] = None
+before_in before x (y ∷ ys) = if y == x then before else before_in (Some y) x ys
+
+abbrev pub slot_before : ℕ → List ℕ → Option ℕ
+slot_before x xs = before_in None x xs
+
 -- how many replicas fit at a slot with no allocation
 abbrev pub room_at : Contents → ℕ → ℕ
 room_at a slot = option_map_or (λ (b : Block). b.room) (block_at a slot) 0

@@ -4,7 +4,7 @@ ghost use Rattle.std.specs.Option.{unwrap_or};
 ghost use Rattle.indexmap.specs.IndexMap.{swap_remove_entry};
 ghost use Rattle.bm_base.specs.declared.refusal.Refusal.TheVariants.{Memory};
 ghost use Rattle.bm_base.specs.SlotLists.{slot_after};
-ghost use Rattle.bm_arena.specs.Contents.{IsReserved, no_marks, list_of, HasHead, HasRoom, marks_at, linked_front, unlinked, moved_front, KeepsOthers, IsLawful};
+ghost use Rattle.bm_arena.specs.Contents.{IsReserved, no_marks, list_of, slot_before, HasHead, HasRoom, marks_at, linked_front, unlinked, moved_front, KeepsOthers, IsLawful};
 ghost use Rattle.bm_base.specs.SlotLists.{without};
 
 use crate::arena::{Arena, Slot, count_up};
@@ -156,6 +156,18 @@ impl Arena {
         let slot = slot.unwrap_or(self.delimiter);
         match links::find(&self.slots, slot, storage.0) {
             Some(triplet) => triplet.next.slot(),
+            None => None,
+        }
+    }
+
+    /// The slot before `slot` in a storage's list, in which it is; None before the first one. So the links back are the reverse of
+    /// those along the list. Takes no memory.
+    pub fn previous_before(&self, storage: StorageId, slot: Slot) -> Option<Slot>
+        requires { IsSome (marks_at self.now slot storage) }
+        ensures { result ≡ slot_before slot (list_of self.now storage) }
+    {
+        match links::find(&self.slots, slot, storage.0) {
+            Some(triplet) => triplet.previous.slot(),
             None => None,
         }
     }

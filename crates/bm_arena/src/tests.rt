@@ -97,6 +97,11 @@ fn behind(rt: &impl Abort, arena: &Arena, slot: usize) -> Option<usize> {
     arena.next_after(FIRST, Some(slot))
 }
 
+fn before(rt: &impl Abort, arena: &Arena, slot: usize) -> Option<usize> {
+    assert!(rt; arena.marks(slot, FIRST).is_some());
+    arena.previous_before(FIRST, slot)
+}
+
 // Storage 11 with the blocks 9, 8 and 7, and a storage 12 with none.
 fn three_blocks(rt: &impl Abort, arena: &mut Arena) -> [usize; 3] {
     reserve(rt, arena, &[FIRST, SECOND]);
@@ -120,6 +125,8 @@ fn check_delimiter(rt: &impl Abort, arena: &mut Arena, slots: [usize; 3]) {
     assert_eq!(rt; behind_the_delimiter(rt, arena), Some(nine));
     assert_eq!(rt; behind(rt, arena, nine), Some(seven));
     assert_eq!(rt; behind(rt, arena, seven), None);
+    assert_eq!(rt; before(rt, arena, seven), Some(nine));
+    assert_eq!(rt; before(rt, arena, eight), None);
     take_delimiter(rt, arena);
 }
 
