@@ -1,0 +1,46 @@
+// As many shards and workers as may be.
+ghost use Rattle.std.specs.Prelude.{◌≡◌, IfOk, vec_len};
+
+use bm_base::{Config, Refusal};
+use bm_crew::{Crew, NoGate};
+use bm_manager::Manager;
+use std::alloc::{AllocError, Global};
+use std::sync::Wait;
+use std::thread::Threads;
+
+const SHARDS: u32 = 64;
+
+const WORKERS: u32 = 16;
+
+pub fn run_all<R: Print + Threads + Wait + Sync>(rt: &R, alloc: Global) -> Result<(), Refusal> {
+    Manager::new(alloc, config(SHARDS, WORKERS))?;
+    let is_limit = Manager::new(alloc, config(SHARDS + 1, WORKERS)).is_err()
+        && Manager::new(alloc, config(SHARDS, WORKERS + 1)).is_err();
+    let items = pieces(alloc)?;
+    let ready = Crew::ready::<u64, u64>(alloc, SHARDS as usize, WORKERS as usize)?;
+    let results = ready.run(rt, items, &|_, x: u64| x.wrapping_mul(x), &NoGate);
+    let count = results.len();
+    let last = results.get(63).copied() == Some((63, 3969));
+    let _ = println!(rt;
+        "{count} shards worked, the last as it must: {last}; more refused: {is_limit}"
+    );
+    Ok(())
+}
+
+fn config(shards: u32, workers: u32) -> Config {
+    Config {
+        shards,
+        workers,
+        ..Config::standard()
+    }
+}
+
+fn pieces(alloc: Global) -> Result<Vec<(u32, u64)>, AllocError>
+    ensures { IfOk result (λ made. vec_len made ≡ SHARDS) }
+{
+    let mut made = Vec::new(alloc);
+    for number in 0..SHARDS {
+        made.push((number, u64::from(number)))?;
+    }
+    Ok(made)
+}
