@@ -60,20 +60,21 @@ take_room xs ys most room n e h = rw (← e, take-append-add xs (take n ys) room
 -- ---- the outcome
 
 -- a run that did not begin has read and written nothing
-pub faulted_at_start : (config : Config) (old : Option (List ℕ)) (f : Fault) → StartFault config f → Faulted config [] old old f
+pub faulted_at_start : (config : Config) (last : ℕ) (old : Option (List ℕ)) (f : Fault) → StartFault config f → Faulted config [] last old old f
 unfolding texts whole_lines
-faulted_at_start config old fault.Config h = (refl, refl)
-faulted_at_start config old fault.Read h = absurd h
-faulted_at_start config old fault.Write h = tt
-faulted_at_start config old fault.Memory h = record {
+faulted_at_start config last old fault.Config h = (refl, refl)
+faulted_at_start config last old fault.Read h = absurd h
+faulted_at_start config last old fault.Write h = tt
+faulted_at_start config last old fault.Memory h = record {
   done = [];
   piece = [];
   read = refl;
+  is_last = omega arith;
   bounded = omega arith;
   answered = 0;
   written = record { no_fewer = omega arith; no_more = omega arith; wrote = Appends-nil old };
 }
-faulted_at_start config old fault.TooMuch h = absurd h
+faulted_at_start config last old fault.TooMuch h = absurd h
 
 pub counts_at_start : (config : Config) (reads writes : ℕ) (f : Fault) → StartFault config f → FaultCounts reads reads writes writes f
 counts_at_start config reads writes fault.Config h = (refl, refl)
@@ -120,13 +121,19 @@ flushed_of_piece M start new state done piece before now was is fault.Memory h e
 flushed_of_piece M start new state done piece before now was is fault.TooMuch h e = cc
 
 -- the bytes that were handed on are the first of the input
-pub faulted_of_piece : (config : Config) (done piece more : List ℕ) (old new : Option (List ℕ)) (state : State) (before now : ℕ) (f : Fault) → take MAX_BYTES (done ++ (piece ++ more)) ≡ done ++ piece
-    → length (piece ++ more) ≤ PIECE → PieceFault (first_state config) old new state done piece before now f → Faulted config (done ++ (piece ++ more)) old new f
-faulted_of_piece config done piece more old new state before now fault.Config t b h = absurd h
-faulted_of_piece config done piece more old new state before now fault.Read t b h = absurd h
-faulted_of_piece config done piece more old new state before now fault.Write t b h = tt
-faulted_of_piece config done piece more old new state before now fault.Memory t b h = record { done = done; piece = piece ++ more; read = refl; bounded = b; answered = h.1.answered; written = answered_more _ old new done piece more _ h.1.written }
-faulted_of_piece config done piece more old new state before now fault.TooMuch t b h = (inr (rw t h.1.0), rw t h.1.1)
+pub faulted_of_piece : (config : Config) (done piece more : List ℕ) (last : ℕ) (old new : Option (List ℕ)) (state : State) (before now : ℕ) (f : Fault) → take MAX_BYTES (done ++ (piece ++ more)) ≡ done ++ piece
+    → length (piece ++ more) ≤ last → length (piece ++ more) ≤ PIECE → PieceFault (first_state config) old new state done piece before now f → Faulted config (done ++ (piece ++ more)) last old new f
+faulted_of_piece config done piece more last old new state before now fault.Config t l b h = absurd h
+faulted_of_piece config done piece more last old new state before now fault.Read t l b h = absurd h
+faulted_of_piece config done piece more last old new state before now fault.Write t l b h = tt
+faulted_of_piece config done piece more last old new state before now fault.Memory t l b h = record { done = done; piece = piece ++ more; read = refl; is_last = l; bounded = b; answered = h.1.answered; written = answered_more _ old new done piece more _ h.1.written }
+faulted_of_piece config done piece more last old new state before now fault.TooMuch t l b h = (inr (rw t h.1.0), rw t h.1.1)
+
+-- the same where all of them were handed on
+pub faulted_of_whole : (config : Config) (done piece : List ℕ) (last : ℕ) (old new : Option (List ℕ)) (state : State) (before now : ℕ) (f : Fault) → take MAX_BYTES (done ++ piece) ≡ done ++ piece
+    → length piece ≤ last → length piece ≤ PIECE → PieceFault (first_state config) old new state done piece before now f → Faulted config (done ++ piece) last old new f
+faulted_of_whole config done piece last old new state before now f t l b h =
+    rw append-nil at (faulted_of_piece config done piece [] last old new state before now f (rw append-nil t) (rw append-nil l) (rw append-nil b) h)
 
 pub counts_of_piece : (M : State) (start new : Option (List ℕ)) (state : State) (done piece : List ℕ) (reads reads' before now : ℕ) (f : Fault) → reads' ≡ reads → PieceFault M start new state done piece before now f
     → FaultCounts reads reads' before now f
@@ -137,18 +144,18 @@ counts_of_piece M start new state done piece reads reads' before now fault.Memor
 counts_of_piece M start new state done piece reads reads' before now fault.TooMuch e h = (e, h.0)
 
 -- too many bytes: all lines of those that are taken are answered
-pub too_many_bytes : (config : Config) (all bytes : List ℕ) (old new : Option (List ℕ)) (s : Session) → take MAX_BYTES all ≡ bytes → MAX_BYTES < length all
-    → Progress (first_state config) old new s bytes → Faulted config all old new fault.TooMuch
-too_many_bytes config all bytes old new s t many p =
+pub too_many_bytes : (config : Config) (all bytes : List ℕ) (last : ℕ) (old new : Option (List ℕ)) (s : Session) → take MAX_BYTES all ≡ bytes → MAX_BYTES < length all
+    → Progress (first_state config) old new s bytes → Faulted config all last old new fault.TooMuch
+too_many_bytes config all bytes last old new s t many p =
     (inl many, rw (t, whole_lines-split p.splits, take_whole MAX_LINES p.lines (omega (arith, p.count, s.few))) p.wrote)
 
-pub finished_leaves : (config : Config) (input : List ℕ) (left old new : Option (List ℕ)) (state : State) (before now : ℕ) (result : Result Summary Fault) → IsAtEnd left → length input ≤ MAX_BYTES
+pub finished_leaves : (config : Config) (input : List ℕ) (last : ℕ) (left old new : Option (List ℕ)) (state : State) (before now : ℕ) (result : Result Summary Fault) → IsAtEnd left → length input ≤ MAX_BYTES
     → IfOk result (λ summary. Appends old new (texts (first_state config) (lines_of input)) × IsSummary (first_state config) (lines_of input) summary)
-    → IfErr result (PieceFault (first_state config) old new state input [] before now) → Leaves config input left old new result
-finished_leaves config input left old new state before now result at_end bounded ok err =
+    → IfErr result (PieceFault (first_state config) old new state input [] before now) → Leaves config input left last old new result
+finished_leaves config input last left old new state before now result at_end bounded ok err =
     MatchResult-from_both result _ _
     (IfOk-weaker result _ _ (λ summary h. record { at_end = at_end; bounded = bounded; wrote = h.0; counted = h.1 }) ok)
-    (IfErr-weaker result _ _ (λ f h. rw append-nil at (faulted_of_piece config input [] [] old new state before now f (rw append-nil (take_whole MAX_BYTES input bounded)) (omega arith) h)) err)
+    (IfErr-weaker result _ _ (λ f h. rw append-nil at (faulted_of_piece config input [] [] last old new state before now f (rw append-nil (take_whole MAX_BYTES input bounded)) (omega arith) (omega arith) h)) err)
 
 pub finished_causes : (M : State) (start new : Option (List ℕ)) (state : State) (done piece : List ℕ) (reads reads' before now : ℕ) (result : Result Summary Fault) → reads' ≡ reads → OnOk result (now ≡ before)
     → IfErr result (PieceFault M start new state done piece before now) → HasCause reads reads' before now result

@@ -9,5 +9,8 @@ module _ {T : Type 0} where
   abbrev pub faults_of : Counted T → ℕ
   faults_of c = c.faults
 
+  abbrev pub last_of : Counted T → ℕ
+  last_of c = c.last
+
   abbrev pub is_flushed : Counted T → Bool
   is_flushed c = c.is_flushed

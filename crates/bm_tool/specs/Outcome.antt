@@ -24,26 +24,27 @@ pub record Finished (config : Config) (input : List ℕ) (left old new : Option 
   pub wrote : Appends old new (text config input)
   pub counted : IsSummary (first_state config) (lines_of input) summary
 
--- Memory was refused. The input is what was read before, and the last piece: all lines whose end was read before are answered,
--- of those whose end is in the piece some first ones, and no more is written. At the end of input the piece is empty.
-pub record WantsMemory (config : Config) (input : List ℕ) (old new : Option (List ℕ)) : Type 0 where
+-- Memory was refused. The input is what was read before, and the last piece, which is no longer than what the last read gave: all
+-- lines whose end was read before are answered, of those whose end is in the piece some first ones, and no more is written.
+pub record WantsMemory (config : Config) (input : List ℕ) (last : ℕ) (old new : Option (List ℕ)) : Type 0 where
   pub done : List ℕ
   pub piece : List ℕ
   pub read : input ≡ done ++ piece
+  pub is_last : length piece ≤ last
   pub bounded : length piece ≤ PIECE
   pub answered : ℕ
   pub written : Answered (first_state config) old new done piece answered
 
--- what stands written after each fault
-abbrev pub Faulted : Config → List ℕ → Option (List ℕ) → Option (List ℕ) → Fault → Type 0
-Faulted config input old new fault.Config = (input ≡ []) × (new ≡ old)
-Faulted config input old new fault.Read = (length input ≤ MAX_BYTES) × (length (lines_of input) ≤ MAX_LINES) × Appends old new (texts (first_state config) (whole_lines input))
-Faulted config input old new fault.Write = Unit {0}
-Faulted config input old new fault.Memory = WantsMemory config input old new
-Faulted config input old new fault.TooMuch = IsTooMuch input × Appends old new (texts (first_state config) (take MAX_LINES (whole_lines (take MAX_BYTES input))))
+-- what stands written after each fault, where the last read gave so many bytes
+abbrev pub Faulted : Config → List ℕ → ℕ → Option (List ℕ) → Option (List ℕ) → Fault → Type 0
+Faulted config input last old new fault.Config = (input ≡ []) × (new ≡ old)
+Faulted config input last old new fault.Read = (length input ≤ MAX_BYTES) × (length (lines_of input) ≤ MAX_LINES) × Appends old new (texts (first_state config) (whole_lines input))
+Faulted config input last old new fault.Write = Unit {0}
+Faulted config input last old new fault.Memory = WantsMemory config input last old new
+Faulted config input last old new fault.TooMuch = IsTooMuch input × Appends old new (texts (first_state config) (take MAX_LINES (whole_lines (take MAX_BYTES input))))
 
-abbrev pub Leaves : Config → List ℕ → Option (List ℕ) → Option (List ℕ) → Option (List ℕ) → Result Summary Fault → Type 0
-Leaves config input left old new result = MatchResult result (Finished config input left old new) (Faulted config input old new)
+abbrev pub Leaves : Config → List ℕ → Option (List ℕ) → ℕ → Option (List ℕ) → Option (List ℕ) → Result Summary Fault → Type 0
+Leaves config input left last old new result = MatchResult result (Finished config input left old new) (Faulted config input last old new)
 
 -- the failures of the reader and of the writer, before and after
 abbrev pub FaultCounts : ℕ → ℕ → ℕ → ℕ → Fault → Type 0
@@ -65,6 +66,7 @@ ConfigOfFault config _ = config_refusal config ≡ None
 abbrev pub ChecksConfig : Config → Result Summary Fault → Type 0
 ChecksConfig config result = MatchResult result (λ _. config_refusal config ≡ None) (ConfigOfFault config)
 
--- a read is made only where all that was written is flushed, as it was at the start: so it is where a read fails
+-- Where a read fails, all that was written before is flushed, if it was so at the start. That it is flushed before each read, and
+-- not on the way out alone, no clause about the end of a run can say.
 abbrev pub IsFlushedAtRead : Bool → Bool → Result Summary Fault → Type 0
 IsFlushedAtRead old new result = IfErr result (λ f. f ≡ fault.Read → old ≡ true → new ≡ true)

@@ -1,5 +1,5 @@
 // Readers and writers that count their failures.
-ghost use Rattle.std.specs.Prelude.{◌≡◌, ◌+◌, ◌^◌, ◌<◌, ℕ, Bool, true, false, List, Option, OnOk, OnErr, is_err, if◌then◌else◌};
+ghost use Rattle.std.specs.Prelude.{◌≡◌, ◌+◌, ◌^◌, ◌<◌, ℕ, Bool, true, false, List, Option, OnOk, OnErr, IfOk, is_err, if◌then◌else◌};
 ghost use Rattle.std.specs.Io.{ReadsAtMost};
 ghost use Rattle.std.specs.Io.KnownBytes.{Appends, Keeps, ReadConsumes};
 ghost use Rattle.bm_tool.specs.Ends.{Counts};
@@ -15,10 +15,14 @@ pub trait Source {
     /// How many reads have failed.
     ghost faults: { Self → ℕ };
 
+    /// How many bytes the last read gave.
+    ghost last: { Self → ℕ };
+
     fn read(&mut self, buf: &mut [u8]) -> io::Result<usize>
         requires { faults self.old ≡ 0 }
         ensures bound { ReadsAtMost result buf.new }
         ensures bytes { ReadConsumes (remaining self.old) (remaining self.new) result buf.new }
+        ensures last { IfOk result (λ n. last self.new ≡ n) }
         ensures cause { Counts (faults self.old) (faults self.new) result };
 }
 
@@ -51,19 +55,25 @@ pub trait Sink {
 pub struct Counted<T> {
     inner: T,
     faults: u64,
+    // How many bytes the last read gave.
+    last: usize,
+    // Whether nothing was written since the last flush.
     is_flushed: bool,
 }
 
 impl<T> Counted<T> {
-    ghost use Rattle.bm_tool.specs.Counted.{inner_of, faults_of};
+    ghost use Rattle.bm_tool.specs.Counted.{inner_of, faults_of, is_flushed};
 
+    /// Nothing failed, and nothing is written yet.
     pub fn new(inner: T) -> Counted<T>
         ensures inner { inner_of result ≡ inner }
         ensures faults { faults_of result ≡ 0 }
+        ensures flushed { is_flushed result ≡ true }
     {
         Counted {
             inner,
             faults: 0,
+            last: 0,
             is_flushed: true,
         }
     }
@@ -76,16 +86,19 @@ impl<T> Counted<T> {
 }
 
 impl<R: Read> Source for Counted<R> {
-    ghost use Rattle.bm_tool.specs.Counted.{inner_of, faults_of};
+    ghost use Rattle.bm_tool.specs.Counted.{inner_of, faults_of, last_of};
 
     ghost remaining = { λ c. R.remaining (inner_of c) };
 
     ghost faults = { λ c. faults_of c };
 
+    ghost last = { λ c. last_of c };
+
     fn read(&mut self, buf: &mut [u8]) -> io::Result<usize> {
         let result = self.inner.read(buf);
-        if result.is_err() {
-            self.faults += 1;
+        match &result {
+            Ok(count) => self.last = *count,
+            Err(_) => self.faults += 1,
         }
         result
     }

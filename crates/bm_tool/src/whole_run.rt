@@ -28,9 +28,10 @@ pub fn run<R: Source, W: Sink, H>(
         Appends (W.contents writer.old) (W.contents writer.new) (text config.now input))) }
     // What was read, and what stands written for it.
     ensures leaves { (input : List ℕ) × Consumes (R.remaining reader.old) (R.remaining reader.new) input
-        × Leaves config.now input (R.remaining reader.new) (W.contents writer.old) (W.contents writer.new) result }
+        × Leaves config.now input (R.remaining reader.new) (R.last reader.new)
+        (W.contents writer.old) (W.contents writer.new) result }
     ensures flushed { OnOk result (W.is_flushed writer.new ≡ true) }
-    // No answer is held back while more input is waited for.
+    // Where a read fails, no answer to what was read before is held back.
     ensures at_reads { IsFlushedAtRead (W.is_flushed writer.old) (W.is_flushed writer.new) result }
     // A fault of the reader or the writer comes only where a read, or a write or the flush, failed.
     ensures cause { HasCause (R.faults reader.old) (R.faults reader.new)

@@ -5,13 +5,13 @@ use Rattle.bm_base.specs.State.{State, first_state}
 use Rattle.bm_tool.specs.declared.limits.TheConstants.{MAX_BYTES}
 use Rattle.bm_tool.proofs.LineLemmas.{whole_lines-split}
 use Rattle.bm_tool.proofs.ProgressLemmas.{few_lines}
-use Rattle.bm_tool.proofs.RunLemmas.{Consumes-nil, Consumes-then, Consumes-keeps, take_whole, take_room, room_split, faulted_at_start, counts_at_start, config_at_start, config_of_piece, config_of_finished, faulted_of_piece, counts_of_piece, too_many_bytes, finished_leaves, finished_causes, text_of_known, flushed_at_start, flushed_of_piece}
+use Rattle.bm_tool.proofs.RunLemmas.{Consumes-nil, Consumes-then, Consumes-keeps, take_whole, take_room, room_split, faulted_at_start, counts_at_start, config_at_start, config_of_piece, config_of_finished, faulted_of_piece, faulted_of_whole, counts_of_piece, too_many_bytes, finished_leaves, finished_causes, text_of_known, flushed_at_start, flushed_of_piece}
 use Rattle.bm_tool.proofs.whole_run.run.Goals as goal
 
 pub returns-in_err-session-clause-leaves : goal.returns-in_err-session-clause-leaves
 returns-in_err-session-clause-leaves g c =
     let e = err_from_is_err_and c.from_residual.result c.from_residual.ensures.1 in
-    ([], Consumes-nil _, rw (e.1, e.2) (faulted_at_start c.args.config.now _ _ c.in_err-session.ensures.err))
+    ([], Consumes-nil _, rw (e.1, e.2) (faulted_at_start c.args.config.now _ _ _ c.in_err-session.ensures.err))
 
 pub returns-in_err-session-clause-cause : goal.returns-in_err-session-clause-cause
 returns-in_err-session-clause-cause g c =
@@ -63,7 +63,7 @@ returns-then-n-eq0-clause-leaves g c =
     let M : State = first_state c.args.config.now in (
       q.0,
       rw append-nil at (Consumes-then _ _ _ _ _ q.1 none),
-      finished_leaves c.args.config.now q.0 _ _ _ _ _ _ c.finish.result (c.in-Ok.ensures.bytes.1 c.if-n-eq0.true (omega (arith, c.loop-n.invariant.room))) (omega (arith, q.2, c.loop-n.invariant.few))
+      finished_leaves c.args.config.now q.0 _ _ _ _ _ _ _ c.finish.result (c.in-Ok.ensures.bytes.1 c.if-n-eq0.true (omega (arith, c.loop-n.invariant.room))) (omega (arith, q.2, c.loop-n.invariant.few))
           (IfOk-weaker c.finish.result _ _ (λ summary h. h M _ q.0 q.3) c.finish.ensures.ok)
           (IfErr-weaker c.finish.result _ _ (λ f h. h M _ q.0 q.3) c.finish.ensures.err),
     )
@@ -84,8 +84,9 @@ returns-in_err-take_piece-clause-leaves g c =
     let split : read ≡ take room c.read.new.buf ++ drop room read = room_split c.read.new.buf room c.in-Ok.n (omega arith) in (
       q.0 ++ read,
       Consumes-then _ _ _ _ _ q.1 c.in-Ok.ensures.bytes.0,
-      rw (e.1, e.2, split) (faulted_of_piece c.args.config.now q.0 (take room c.read.new.buf) (drop room read) _ _ _ _ _ _
+      rw (e.1, e.2, split) (faulted_of_piece c.args.config.now q.0 (take room c.read.new.buf) (drop room read) _ _ _ _ _ _ _
           (rw (← split) (take_room q.0 c.read.new.buf MAX_BYTES room c.in-Ok.n (omega (arith, q.2, c.loop-n.invariant.few)) (omega arith)))
+          (rw (← split) (omega (arith, length-take-le c.in-Ok.n c.read.new.buf c.in-Ok.ensures.bound.0, c.in-Ok.ensures.last)))
           (rw (← split) (omega (arith, length-take-le c.in-Ok.n c.read.new.buf c.in-Ok.ensures.bound.0, c.in-Ok.ensures.bound.0, c.loop-n.invariant.room)))
           (c.in_err-take_piece.ensures.err (first_state c.args.config.now) _ q.0 q.3)),
     )
@@ -103,7 +104,7 @@ returns-then-n-room-clause-leaves g c =
     let read : List ℕ = take c.in-Ok.n c.read.new.buf in (
       q.0 ++ read,
       Consumes-then _ _ _ _ _ q.1 c.in-Ok.ensures.bytes.0,
-      too_many_bytes c.args.config.now (q.0 ++ read) (q.0 ++ take room c.read.new.buf) _ _ _
+      too_many_bytes c.args.config.now (q.0 ++ read) (q.0 ++ take room c.read.new.buf) 0 _ _ _
           (take_room q.0 c.read.new.buf MAX_BYTES room c.in-Ok.n (omega (arith, q.2, c.loop-n.invariant.few)) (omega arith))
           (omega (arith, length-append q.0 read, length-take-le c.in-Ok.n c.read.new.buf c.in-Ok.ensures.bound.0, q.2, c.loop-n.invariant.few))
           (c.in_ok-take_piece.ensures.ok (first_state c.args.config.now) _ q.0 q.3),
@@ -116,10 +117,11 @@ returns-in_err-take_piece-2-clause-leaves g c =
     let read : List ℕ = take c.in-Ok.n c.read.new.buf in (
       q.0 ++ read,
       Consumes-then _ _ _ _ _ q.1 c.in-Ok.ensures.bytes.0,
-      rw (e.1, e.2) (rw append-nil at (faulted_of_piece c.args.config.now q.0 read [] _ _ _ _ _ _
-          (rw append-nil (take_whole MAX_BYTES (q.0 ++ read) (omega (arith, length-append q.0 read, length-take-le c.in-Ok.n c.read.new.buf c.in-Ok.ensures.bound.0, q.2, c.loop-n.invariant.few))))
-          (rw append-nil (omega (arith, length-take-le c.in-Ok.n c.read.new.buf c.in-Ok.ensures.bound.0, c.in-Ok.ensures.bound.0, c.loop-n.invariant.room)))
-          (c.in_err-take_piece-2.ensures.err (first_state c.args.config.now) _ q.0 q.3))),
+      rw (e.1, e.2) (faulted_of_whole c.args.config.now q.0 read _ _ _ _ _ _ _
+          (take_whole MAX_BYTES (q.0 ++ read) (omega (arith, length-append q.0 read, length-take-le c.in-Ok.n c.read.new.buf c.in-Ok.ensures.bound.0, q.2, c.loop-n.invariant.few)))
+          (omega (arith, length-take-le c.in-Ok.n c.read.new.buf c.in-Ok.ensures.bound.0, c.in-Ok.ensures.last))
+          (omega (arith, length-take-le c.in-Ok.n c.read.new.buf c.in-Ok.ensures.bound.0, c.in-Ok.ensures.bound.0, c.loop-n.invariant.room))
+          (c.in_err-take_piece-2.ensures.err (first_state c.args.config.now) _ q.0 q.3)),
     )
 
 pub returns-in_err-take_piece-2-clause-cause : goal.returns-in_err-take_piece-2-clause-cause
