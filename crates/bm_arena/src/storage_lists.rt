@@ -1,5 +1,5 @@
 // The lists of storages: one doubly linked list of slots for each storage that has a head, through the triplets of the blocks.
-ghost use Rattle.std.specs.Prelude.{nat_eq, slice_index, EachIndex, ◌≡◌, ◌≢◌, ℕ, None, Some, IsSome, [], ◌∷◌, IfErr, OnOk};
+ghost use Rattle.std.specs.Prelude.{nat_eq, slice_index, EachIndex, ◌≡◌, ◌≢◌, ℕ, None, Some, IsSome, [], ◌∷◌, IfErr, OnOk, IsOk};
 ghost use Rattle.std.specs.Option.{unwrap_or};
 ghost use Rattle.indexmap.specs.IndexMap.{swap_remove_entry};
 ghost use Rattle.bm_base.specs.declared.refusal.Refusal.TheVariants.{Memory};
@@ -15,11 +15,12 @@ use bm_base::{Marks, NO_LINK, Refusal, StorageId};
 
 impl Arena {
     /// Makes a head for each of the storages, so that linking a block that has room, and putting the delimiter, take no memory.
-    /// A storage that has a head keeps it and its list; no storage beside those named gets one, also where it is refused. `Memory`:
-    /// then some of the storages may have got a head.
+    /// A storage that has a head keeps it and its list; no storage beside those named gets one, also where it is refused. Where all
+    /// have heads nothing is done. `Memory`: then some of the storages may have got a head.
     pub fn reserve_heads(&mut self, storages: &[StorageId]) -> Result<(), Refusal>
         ensures heads { OnOk result (EachIndex storages.now (λ k. HasHead self.new (slice_index storages.now k))) }
         ensures named { (other : ℕ) → EachIndex storages.now (λ k. other ≢ slice_index storages.now k) → HasHead self.new other → HasHead self.old other }
+        ensures had { EachIndex storages.now (λ k. HasHead self.old (slice_index storages.now k)) → IsOk result × (self.new ≡ self.old) }
         ensures kept { IsReserved self.old self.new }
         ensures refused { IfErr result (λ e. e ≡ Memory) }
         ensures lawful { IsLawful self.new }
@@ -35,6 +36,7 @@ impl Arena {
     fn reserve_head(&mut self, storage: StorageId) -> Result<(), Refusal>
         ensures head { OnOk result (HasHead self.new storage) }
         ensures named { (other : ℕ) → other ≢ storage → HasHead self.new other → HasHead self.old other }
+        ensures had { HasHead self.old storage → IsOk result × (self.new ≡ self.old) }
         ensures kept { IsReserved self.old self.new }
         ensures refused { IfErr result (λ e. e ≡ Memory) }
         ensures lawful { IsLawful self.new }

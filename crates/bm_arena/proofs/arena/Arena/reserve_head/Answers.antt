@@ -1,6 +1,7 @@
 use Rattle.bm_arena.proofs.Lawfulness.{IsLawful-arena}
 use Rattle.std.proofs.Common.{sym, refl, ◌∙◌, ◌+◌, None}
 use Rattle.std.specs.Prelude.{nat_eq}
+use Rattle.std.proofs.lemmas.Bool.{false≢true}
 use Rattle.indexmap.proofs.CallerLemmas.{insert_entry-new}
 use Rattle.bm_arena.proofs.Heads.{head-seen, no_lookup, roomier-arena, roomier-kept, headed-arena, headed-here, headed-kept, headed-named, roomier-named}
 use Rattle.bm_arena.proofs.Bounds.{below-changed}
@@ -79,3 +80,21 @@ returns-clause-named c q differs some =
     let other = rw (← c.storage.view_is) at differs in
     rw (← c.self.view_is)
     (headed-named c.self.inside.slots c.reserve_triplets.new.slots c.self.inside.ids.entries c.self.inside.heads.entries c.self.inside.delimiter c.reserve_triplets.ensures.rest c.reserve_triplets.ensures.grows c.self.invariant.arena c.self.inside.steps c.self.inside.bound c.storage.inside.0 absent c.insert.new.self.entries (c.in_ok-insert.ensures.entries ∙ insert_entry-new nat_eq c.self.inside.heads c.storage.inside.0 None absent) q other some)
+
+pub returns-in_err-reserve_triplets-clause-had : goal.returns-in_err-reserve_triplets-clause-had
+returns-in_err-reserve_triplets-clause-had c some =
+    let same = head-seen c.self.inside.slots c.self.inside.heads.entries c.storage.inside.0 c.contains_key.result c.contains_key.ensures in
+    let there = rw (← c.self.view_is, ← c.storage.view_is) at some in
+    absurd (false≢true (sym c.if-contains_key.false ∙ same ∙ there))
+
+pub returns-in_err-insert-clause-had : goal.returns-in_err-insert-clause-had
+returns-in_err-insert-clause-had c some =
+    let same = head-seen c.self.inside.slots c.self.inside.heads.entries c.storage.inside.0 c.contains_key.result c.contains_key.ensures in
+    let there = rw (← c.self.view_is, ← c.storage.view_is) at some in
+    absurd (false≢true (sym c.if-contains_key.false ∙ same ∙ there))
+
+pub returns-clause-had : goal.returns-clause-had
+returns-clause-had c some =
+    let same = head-seen c.self.inside.slots c.self.inside.heads.entries c.storage.inside.0 c.contains_key.result c.contains_key.ensures in
+    let there = rw (← c.self.view_is, ← c.storage.view_is) at some in
+    absurd (false≢true (sym c.if-contains_key.false ∙ same ∙ there))
