@@ -55,7 +55,9 @@ def program(crate):
             stderr=subprocess.DEVNULL,
         )
     if not path.exists():
-        sys.exit(f"the program of {crate} cannot be built")
+        print(f"FAILED program of {crate}: it cannot be built")
+        print("0 passed, 1 failed")
+        sys.exit(1)
     return str(path)
 
 
