@@ -1,5 +1,5 @@
 -- What the tables of a topology can hold, as contracts see it.
-use Rattle.std.proofs.Common.{◌≡◌, ℕ, ◌≤◌, ◌-◌, true, false, cond, arith, refl, ◌∙◌, subst}
+use Rattle.std.proofs.Common.{◌≡◌, ℕ, ◌≤◌, ◌-◌, true, false, cond, arith, refl, subst}
 use Rattle.std.specs.Prelude.{◌==◌}
 use Rattle.bm_base.specs.declared.storage.StorageInfo.{StorageInfo}
 use Rattle.bm_base.specs.Map.{Map, by_number, len, remove, revise_at}

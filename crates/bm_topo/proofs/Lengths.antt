@@ -1,5 +1,5 @@
 -- How many entries a table has after each change.
-use Rattle.std.proofs.Common.{ℕ, ◌+◌, ◌≤◌, Bool, true, false, cond, List, [], ◌∷◌, length, Option, Some, None, arith}
+use Rattle.std.proofs.Common.{ℕ, ◌+◌, ◌≤◌, true, false, cond, List, [], ◌∷◌, length, Option, Some, None, arith}
 use Rattle.bm_base.specs.Map.{Map, by_number, entries, len, insert, insert_all, alter, alter_list, with_value, remove, revise, revise_at, contains_key}
 use Rattle.bm_base.proofs.Differences.{len-insert}
 
