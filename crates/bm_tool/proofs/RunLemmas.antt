@@ -15,8 +15,8 @@ use Rattle.bm_tool.specs.declared.fault.Fault.TheVariants as fault
 use Rattle.bm_tool.specs.Lines.{lines_of, whole_lines}
 use Rattle.bm_tool.specs.Text.{texts, text}
 use Rattle.bm_tool.specs.Starting.{StartFault}
-use Rattle.bm_tool.specs.Progress.{Progress, Answered, PieceFault, IsSummary}
-use Rattle.bm_tool.specs.Outcome.{Faulted, WantsMemory, Leaves, IsFlushedAtRead, FaultCounts, HasCause, ConfigOfFault, ChecksConfig}
+use Rattle.bm_tool.specs.Progress.{Progress, PieceFault, IsSummary}
+use Rattle.bm_tool.specs.Outcome.{Faulted, Leaves, FaultCounts, HasCause, ConfigOfFault, ChecksConfig}
 use Rattle.bm_base.specs.Configuration.{config_refusal}
 use Rattle.bm_tool.proofs.LineLemmas.{whole_lines-split}
 use Rattle.bm_tool.proofs.ProgressLemmas.{Appends-nil, answered_more}

@@ -1,6 +1,6 @@
 use Rattle.std.proofs.Common.{◌<◌, ◌++◌, length, sym, ap, ◌∙◌, append_assoc}
 use Rattle.std.proofs.lemmas.Result.{err_from_is_err_and}
-use Rattle.bm_tool.proofs.ProgressLemmas.{positive, progress_overflows, progress_keeps, fault_earlier}
+use Rattle.bm_tool.proofs.ProgressLemmas.{positive, progress_overflows, fault_earlier}
 use Rattle.bm_tool.proofs.session.Session.take_piece.Goals as goal
 
 pub returns-then-self-eq-MAX_LINES-clause-err : goal.returns-then-self-eq-MAX_LINES-clause-err
