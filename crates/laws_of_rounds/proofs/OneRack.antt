@@ -9,7 +9,7 @@ use Rattle.bm_base.specs.declared.replica.BlockInfo.{BlockInfo}
 use Rattle.bm_base.specs.Map.{Map, by_number, get, entries}
 use Rattle.bm_base.specs.State.{Cluster, State, replica_at}
 use Rattle.bm_base.specs.Lists.{has, has_repeats, distinct}
-use Rattle.bm_base.specs.Replicas.{live, is_live, is_live_on, racks, rack_of, node_of, is_multi_rack}
+use Rattle.bm_base.specs.Replicas.{live, is_live_on, racks, rack_of, node_of, is_multi_rack}
 use Rattle.bm_base.specs.Levels.{level, level_of}
 use Rattle.bm_base.specs.Lawful.{IsLawful}
 use Rattle.laws_of_rounds.specs.Levels.{AreOnOneRack, HasTwoRacks}
