@@ -41,6 +41,7 @@ takes_memory _ = true
 abbrev pub may_want_memory : Call → Bool
 may_want_memory (call.Apply e) = takes_memory e
 may_want_memory (call.LevelOf b) = false
+may_want_memory (call.Retired n) = false
 may_want_memory call.Calls = false
 may_want_memory call.Rounds = false
 may_want_memory _ = true

@@ -12,10 +12,10 @@ use Rattle.bm_base.specs.declared.call.Answer.TheVariants as answer
 use Rattle.bm_base.specs.Map.{Map, contains_key, entries}
 use Rattle.bm_base.specs.State.{Holdings, State, by_replica}
 use Rattle.bm_base.specs.Levels.{level}
-use Rattle.bm_base.specs.Queries.{all_replicas, corrupt_replicas, excess_replicas, missing_blocks, blocks_on, places}
+use Rattle.bm_base.specs.Queries.{all_replicas, corrupt_replicas, excess_replicas, missing_blocks, blocks_on, places, is_retired}
 use Rattle.bm_base.specs.Events.{change_holdings, change}
 use Rattle.bm_base.specs.Rounds.{whole_round}
-use Rattle.bm_base.specs.Refusals.{refusal_of, round_refusal, storage_refusal, block_refusal}
+use Rattle.bm_base.specs.Refusals.{refusal_of, round_refusal, node_refusal, storage_refusal, block_refusal}
 
 -- how many replicas `new` has that `old` has not
 unfoldable pub new_replicas : Map by_replica Marks → Map by_replica Marks → ℕ
@@ -53,6 +53,7 @@ step_with next_round M call.Missing = (answer.Blocks (missing_blocks M.cluster M
 step_with next_round M (call.BlocksOn s) = refused_or M (storage_refusal M.cluster s) (answer.Blocks (blocks_on M.holdings s), M)
 step_with next_round M (call.Places b) = refused_or M (block_refusal M.holdings b) (answer.Storages (places M.holdings b), M)
 step_with next_round M (call.LevelOf b) = refused_or M (block_refusal M.holdings b) (answer.LevelIs (level M.cluster M.holdings b), M)
+step_with next_round M (call.Retired n) = refused_or M (node_refusal M.cluster n) (answer.IsRetired (is_retired M.cluster M.holdings n), M)
 step_with next_round M call.Calls = (answer.Number M.calls, M)
 step_with next_round M call.Rounds = (answer.Number M.round, M)
 

@@ -1,5 +1,6 @@
 -- Codes, by which proofs tell values of a state apart: a record is stored as the tuple of its fields, an enum as a number.
 use Rattle.std.specs.Prelude.{◌≡◌, ℕ, zero, suc, Bool, refl}
+use base.Stored.{coded_unit}
 use Rattle.std.specs.Coded.{Coded, code_by, coded×, coded_ℕ, coded_bool}
 use Rattle.bm_base.specs.declared.replica.ReplicaId.{ReplicaId}
 use Rattle.bm_base.specs.declared.replica.Tag.{Tag}
@@ -8,7 +9,7 @@ use Rattle.bm_base.specs.declared.replica.Marks.{Marks}
 use Rattle.bm_base.specs.declared.replica.Stamp.{Stamp}
 use Rattle.bm_base.specs.declared.replica.BlockInfo.{BlockInfo}
 use Rattle.bm_base.specs.declared.storage.StorageInfo.{StorageInfo}
-use Rattle.bm_base.specs.Map.{Map, by_number, code}
+use Rattle.bm_base.specs.Map.{Map, Set, by_number, code}
 use Rattle.bm_base.specs.State.{Cluster, Holdings, RoundLimits, State, by_replica}
 
 abbrev pub number_of_tag : Tag → ℕ
@@ -51,8 +52,9 @@ coded_storage = code_by (ℕ × ℕ) (coded× coded_ℕ coded_ℕ) (λ i. (i.nod
 
 abbrev pub coded_cluster : Coded Cluster
 coded_cluster =
-    code_by (Map by_number ℕ × Map by_number StorageInfo) (coded× (code coded_ℕ coded_ℕ) (code coded_ℕ coded_storage))
-    (λ C. (C.nodes, C.storages)) (λ t. record { nodes = t.0; storages = t.1 }) (λ _. refl)
+    code_by (Map by_number ℕ × (Set by_number × Map by_number StorageInfo))
+    (coded× (code coded_ℕ coded_ℕ) (coded× (code coded_ℕ coded_unit) (code coded_ℕ coded_storage)))
+    (λ C. (C.nodes, (C.draining, C.storages))) (λ t. record { nodes = t.0; draining = t.1.0; storages = t.1.1 }) (λ _. refl)
 
 abbrev pub coded_holdings : Coded Holdings
 coded_holdings =

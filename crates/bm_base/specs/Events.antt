@@ -10,13 +10,13 @@ use Rattle.bm_base.specs.declared.replica.Tag.TheVariants.{Good, Stale, Bad, Str
 use Rattle.bm_base.specs.declared.replica.Marks.{Marks}
 use Rattle.bm_base.specs.declared.replica.Stamp.{Stamp}
 use Rattle.bm_base.specs.declared.storage.StorageInfo.{StorageInfo}
-use Rattle.bm_base.specs.declared.event.Entry.{Entry}
 use Rattle.bm_base.specs.declared.event.Remaining.{Remaining}
 use Rattle.bm_base.specs.declared.event.Event.{Event}
-use Rattle.bm_base.specs.declared.event.Event.TheVariants.{Register, Dead, StorageFailed, Heartbeat, AddBlock, DeleteBlock, SetReplication, Restamp, Received, Deleted, Corrupt, FullReport}
+use Rattle.bm_base.specs.declared.event.Event.TheVariants.{Register, Dead, StorageFailed, Heartbeat, Drain, Undrain, AddBlock, DeleteBlock, SetReplication, Restamp, Received, Deleted, Corrupt, FullReport}
 use Rattle.bm_base.specs.Map.{Map, by_number, get, insert, insert_all, keep, revise, revise_at, remove}
 use Rattle.bm_base.specs.State.{Cluster, Holdings, State, replica_at}
-use Rattle.bm_base.specs.Replicas.{is_good, is_bad, has_storage, are_sisters}
+use Rattle.bm_base.specs.Replicas.{is_good, is_bad, has_storage, are_sisters, drains}
+use Rattle.bm_base.specs.Entries.{Told, expanded}
 
 abbrev pub same_stamp : Stamp → Stamp → Bool
 same_stamp a b = (a.generation == b.generation) && (a.len == b.len)
@@ -52,23 +52,23 @@ enter C H p stamp = record H {
   pending = remove H.pending p;
 }
 
--- A full report of storage s.
+-- A full report of storage s, by what its entries tell.
 
-unfoldable pub is_named : List Entry → ℕ → Bool
-is_named es b = list_any (λ e. e.id == b) es
+unfoldable pub is_named : List Told → ℕ → Bool
+is_named ts b = list_any (λ t. t.id == b) ts
 
 -- whether a replica leaves by the report: one on s that it does not name, or one of a named block on another storage of the node
-unfoldable pub leaves_by_report : Cluster → ℕ → List Entry → ReplicaId → Bool
-leaves_by_report C s es q = if q.storage == s then not (is_named es q.block) else is_named es q.block && are_sisters C s q.storage
+unfoldable pub leaves_by_report : Cluster → ℕ → List Told → ReplicaId → Bool
+leaves_by_report C s ts q = if q.storage == s then not (is_named ts q.block) else is_named ts q.block && are_sisters C s q.storage
 
--- Each named replica is entered, the last entry of a block counting, since it is inserted last; others leave as said,
+-- Each named replica is entered, what is told last of a block counting, since it is inserted last; others leave as said,
 -- and the transfers to the named replicas have arrived. "Was" speaks of the holdings before the report.
-unfoldable pub report : Cluster → Holdings → ℕ → List Entry → Holdings
-report C H s es = record H {
+unfoldable pub report : Cluster → Holdings → ℕ → List Told → Holdings
+report C H s ts = record H {
   replicas =
-      insert_all (keep H.replicas (λ q _. not (leaves_by_report C s es q)))
-      (map (λ e. (replica_at e.id s, entered H (replica_at e.id s) e.stamp)) es);
-  pending = keep H.pending (λ q _. not ((q.storage == s) && is_named es q.block));
+      insert_all (keep H.replicas (λ q _. not (leaves_by_report C s ts q)))
+      (map (λ t. (replica_at t.id s, entered H (replica_at t.id s) t.stamp)) ts);
+  pending = keep H.pending (λ q _. not ((q.storage == s) && is_named ts q.block));
 }
 
 -- Blocks.
@@ -123,12 +123,17 @@ without_storages H gone = record H {
   pending = keep H.pending (λ q _. not (gone q.storage));
 }
 
+-- A node begins to drain: the transfers to its storages leave. Nothing changes where it drains already.
+unfoldable pub without_transfers_to_drained : Cluster → Holdings → ℕ → Holdings
+without_transfers_to_drained C H n = if drains C n then H else record H { pending = keep H.pending (λ q _. not (has_storage C n q.storage)) }
+
 -- The cluster.
 
--- the node and its storages are there, with no remaining bytes yet
+-- the node and its storages are there, with no remaining bytes yet, and it does not drain
 unfoldable pub register : Cluster → ℕ → ℕ → List ℕ → Cluster
 register C n rack ss = record {
   nodes = insert C.nodes n rack;
+  draining = remove C.draining n;
   storages = insert_all C.storages (map (λ s. (s, record { node = n; remaining = 0 })) ss);
 }
 
@@ -141,10 +146,16 @@ unfoldable pub heartbeat : Cluster → List Remaining → Cluster
 heartbeat C rs = record C { storages = set_remaining C.storages rs }
 
 unfoldable pub without_node : Cluster → ℕ → Cluster
-without_node C n = record { nodes = remove C.nodes n; storages = keep C.storages (λ s _. not (has_storage C n s)) }
+without_node C n = record { nodes = remove C.nodes n; draining = remove C.draining n; storages = keep C.storages (λ s _. not (has_storage C n s)) }
 
 unfoldable pub without_storage : Cluster → ℕ → Cluster
 without_storage C s = record C { storages = remove C.storages s }
+
+unfoldable pub drain : Cluster → ℕ → Cluster
+drain C n = record C { draining = insert C.draining n tt }
+
+unfoldable pub undrain : Cluster → ℕ → Cluster
+undrain C n = record C { draining = remove C.draining n }
 
 -- what an event makes of the cluster
 unfoldable pub change_cluster : Cluster → Event → Cluster
@@ -152,12 +163,15 @@ change_cluster C (Register n rack ss) = register C n rack ss
 change_cluster C (Dead n) = without_node C n
 change_cluster C (StorageFailed s) = without_storage C s
 change_cluster C (Heartbeat n rs) = heartbeat C rs
+change_cluster C (Drain n) = drain C n
+change_cluster C (Undrain n) = undrain C n
 change_cluster C _ = C
 
 -- what an event makes of the blocks and replicas, where the cluster is C before it
 unfoldable pub change_holdings : Cluster → Holdings → Event → Holdings
 change_holdings C H (Dead n) = without_storages H (has_storage C n)
 change_holdings C H (StorageFailed s) = without_storages H (λ t. t == s)
+change_holdings C H (Drain n) = without_transfers_to_drained C H n
 change_holdings C H (AddBlock b stamp repl) = add_block H b stamp repl
 change_holdings C H (DeleteBlock b) = delete_block H b
 change_holdings C H (SetReplication b repl) = set_replication H b repl
@@ -165,7 +179,7 @@ change_holdings C H (Restamp b stamp) = restamp H b stamp
 change_holdings C H (Received s b stamp) = enter C H (replica_at b s) stamp
 change_holdings C H (Deleted s b) = remove_replica H (replica_at b s)
 change_holdings C H (Corrupt s b) = make_bad H (replica_at b s)
-change_holdings C H (FullReport s es) = report C H s es
+change_holdings C H (FullReport s es) = report C H s (expanded es)
 change_holdings C H _ = H
 
 abbrev pub change : State → Event → State

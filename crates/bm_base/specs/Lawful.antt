@@ -6,12 +6,13 @@ use Rattle.bm_base.specs.declared.replica.BlockInfo.{BlockInfo}
 use Rattle.bm_base.specs.declared.storage.StorageInfo.{StorageInfo}
 use Rattle.bm_base.specs.Map.{get, contains_key, len}
 use Rattle.bm_base.specs.State.{Cluster, Holdings, State}
-use Rattle.bm_base.specs.Replicas.{is_good, is_stray, are_sisters}
+use Rattle.bm_base.specs.Replicas.{is_good, is_stray, drains, are_sisters}
 use Rattle.bm_base.specs.declared.limits.TheConstants.{MAX_NODES, MAX_STORAGES, MAX_REPLICATION}
 
--- of the cluster: each storage stands on an alive node, and the limits are kept
+-- of the cluster: each storage stands on an alive node, only alive nodes drain, and the limits are kept
 pub record IsLawfulCluster (C : Cluster) : Type 0 where
   pub alive : (s : ℕ) (i : StorageInfo) → get C.storages s ≡ Some i → IsTrue (contains_key C.nodes i.node)
+  pub draining_alive : (n : ℕ) → IsTrue (drains C n) → IsTrue (contains_key C.nodes n)
   pub few_nodes : len C.nodes ≤ MAX_NODES
   pub few_storages : len C.storages ≤ MAX_STORAGES
 

@@ -3,28 +3,37 @@
 use Rattle.std.specs.Prelude.{ℕ, ◌*◌, Bool, false, ◌&&◌, if◌then◌else◌, ◌==◌, nat_lt, nat_le, length, Option, Some, None, option_and_then}
 use Rattle.std.specs.Option.{option_map_or}
 use Rattle.bm_base.specs.declared.level.Level.{Level}
-use Rattle.bm_base.specs.declared.level.Level.TheVariants.{Highest, VeryUnderReplicated, UnderReplicated, BadlyDistributed, NoLiveReplica}
+use Rattle.bm_base.specs.declared.level.Level.TheVariants.{Highest, VeryUnderReplicated, UnderReplicated, BadlyDistributed, NoUsableReplica}
 use Rattle.bm_base.specs.Map.{get}
 use Rattle.bm_base.specs.State.{Cluster, Holdings}
-use Rattle.bm_base.specs.Replicas.{live, racks, is_multi_rack}
+use Rattle.bm_base.specs.Replicas.{live, drained, racks, is_multi_rack}
 
 abbrev pub level_number : Level → ℕ
 level_number Highest = 0
 level_number VeryUnderReplicated = 1
 level_number UnderReplicated = 2
 level_number BadlyDistributed = 3
-level_number NoLiveReplica = 4
+level_number NoUsableReplica = 4
 
--- How urgent a block is of which `repl` replicas are wanted and `live` are there, on so many racks.
--- With enough of them it is badly distributed where they share one rack although the cluster has several; else it has no level.
-unfoldable pub level_of : ℕ → ℕ → ℕ → Bool → Option Level
-level_of live repl racks multi =
+-- the level of a block of which no replica is live and so many are drained: the drained ones can still be copied
+abbrev pub level_without_live : ℕ → Level
+level_without_live drained = if drained == 0 then NoUsableReplica else Highest
+
+-- How urgent a block is of which `repl` replicas are wanted, `live` are live, on so many racks, and `drained` are drained.
+-- With enough live it is badly distributed where they share one rack although the cluster has several; else it has no level.
+unfoldable pub level_of : ℕ → ℕ → ℕ → ℕ → Bool → Option Level
+level_of live drained repl racks multi =
     if nat_le repl live then (if nat_lt 1 repl && (racks == 1) && multi then Some BadlyDistributed else None)
-    else Some (if live == 0 then NoLiveReplica else if live == 1 then Highest else if nat_lt (live * 3) repl then VeryUnderReplicated else UnderReplicated)
+    else Some (
+    if live == 0 then level_without_live drained
+    else if live == 1 then Highest
+    else if nat_lt (live * 3) repl then VeryUnderReplicated
+    else UnderReplicated)
 
 -- the level of a known block
 unfoldable pub level : Cluster → Holdings → ℕ → Option Level
-level C H b = option_and_then (λ i. level_of (length (live C H b)) i.repl (length (racks C (live C H b))) (is_multi_rack C)) (get H.blocks b)
+level C H b =
+    option_and_then (λ i. level_of (length (live C H b)) (length (drained C H b)) i.repl (length (racks C (live C H b))) (is_multi_rack C)) (get H.blocks b)
 
 -- whether a level is there and is this one
 abbrev pub is_at : Level → Option Level → Bool

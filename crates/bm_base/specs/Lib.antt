@@ -18,7 +18,8 @@ pub mod Queries
 pub mod Lawful
 pub mod Shards
 pub mod Versions
--- What changes it: events, and the steps of a round.
+-- What changes it: reports, events, and the steps of a round.
+pub mod Entries
 pub mod Events
 pub mod Excess
 pub mod Transfers

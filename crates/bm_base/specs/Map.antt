@@ -1,6 +1,7 @@
 -- A finite map that computes: its entries in the rising order of their keys, and so one list for each map.
 --     Order K          how keys compare: a total order in which only equal keys tie
 --     Map o X          from keys in the order o to values of X.    code      its code, from those of the keys and of the values
+--     Set o            of keys in the order o
 --     get, contains_key, insert, remove, len, keys, entries      as Rust's `BTreeMap`
 --     alter m f        each value anew by its key: `None` takes the entry out
 --     keep m p         the entries that pass
@@ -61,6 +62,10 @@ module _ {K X : Type 0} (R : K → K → Ordering) where
   pub is_sorted-alter : (f : K → X → Option X) (es : List (K × X)) → T (is_sorted R es) → T (is_sorted R (alter_list f es))
   is_sorted-alter f [] h = tt
   is_sorted-alter f (e ∷ es) h = sorted_with_value e.0 (f e.0 e.1) (alter_list f es) (below_alter f e.0 es (first _ _ h)) (is_sorted-alter f es (second _ _ h))
+
+-- a finite set: its members, each with nothing beside it
+abbrev pub Set : {K : Type 0} → Order K → Type 0
+Set o = Map o (Unit {0})
 
 module _ {K X : Type 0} {o : Order K} where
   unfoldable pub entries : Map o X → List (K × X)

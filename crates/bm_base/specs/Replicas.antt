@@ -1,11 +1,11 @@
 -- Words on replicas and on where they stand.
 -- Source: HDFS Architecture guide, "Replica Placement: The First Baby Steps"; Hadoop 2's NumberReplicas.
-use Rattle.std.specs.Prelude.{ℕ, Bool, true, false, not, ◌&&◌, ◌==◌, nat_lt, List, map, filter, filter_map, length, Option, option_and_then, option_map}
+use Rattle.std.specs.Prelude.{ℕ, Bool, true, false, not, ◌&&◌, ◌==◌, nat_lt, nat_le, List, map, filter, filter_map, length, Option, option_and_then, option_map}
 use Rattle.std.specs.Option.{option_map_or}
 use Rattle.bm_base.specs.declared.replica.Tag.{Tag}
 use Rattle.bm_base.specs.declared.replica.Tag.TheVariants.{Good, Stale, Bad, Stray}
 use Rattle.bm_base.specs.declared.replica.Marks.{Marks}
-use Rattle.bm_base.specs.Map.{get, entries}
+use Rattle.bm_base.specs.Map.{get, contains_key, entries}
 use Rattle.bm_base.specs.State.{Cluster, Holdings}
 use Rattle.bm_base.specs.Lists.{distinct}
 
@@ -27,9 +27,9 @@ is_corrupt Stale = true
 is_corrupt Bad = true
 is_corrupt _ = false
 
--- good, and not in excess
-abbrev pub is_live : Marks → Bool
-is_live m = is_good m.tag && not m.excess
+-- usable: good, and not in excess. On a node that drains it is drained, elsewhere live.
+abbrev pub is_usable : Marks → Bool
+is_usable m = is_good m.tag && not m.excess
 
 -- the node of a storage, and its rack
 unfoldable pub node_of : Cluster → ℕ → Option ℕ
@@ -42,6 +42,13 @@ rack_of C s = option_and_then (λ n. get C.nodes n) (node_of C s)
 unfoldable pub has_storage : Cluster → ℕ → ℕ → Bool
 has_storage C n s = option_map_or (λ m. m == n) (node_of C s) false
 
+-- whether node n drains, and whether storage s stands on a node that does
+unfoldable pub drains : Cluster → ℕ → Bool
+drains C n = contains_key C.draining n
+
+unfoldable pub is_draining : Cluster → ℕ → Bool
+is_draining C s = option_map_or (drains C) (node_of C s) false
+
 -- whether two storages are different ones of one node
 unfoldable pub are_sisters : Cluster → ℕ → ℕ → Bool
 are_sisters C s t = not (t == s) && option_map_or (λ n. has_storage C n t) (node_of C s) false
@@ -50,14 +57,27 @@ are_sisters C s t = not (t == s) && option_map_or (λ n. has_storage C n t) (nod
 unfoldable pub storages_where : (ℕ → Marks → Bool) → Holdings → ℕ → List ℕ
 storages_where p H b = map (λ e. e.0.storage) (filter (λ e. (e.0.block == b) && p e.0.storage e.1) (entries H.replicas))
 
--- Whether a replica on storage s with these marks is live. The cluster and the storage are handed in and not read: which
--- replicas are live is decided here alone, and does not depend on where they stand.
+-- whether a replica on storage s with these marks is live: usable, on a node that does not drain
 abbrev pub is_live_on : Cluster → ℕ → Marks → Bool
-is_live_on C s m = is_live m
+is_live_on C s m = is_usable m && not (is_draining C s)
 
--- the storages of the block's live replicas
+-- whether it is drained: usable, on a node that drains
+abbrev pub is_drained_on : Cluster → ℕ → Marks → Bool
+is_drained_on C s m = is_usable m && is_draining C s
+
+-- the storages of the block's live replicas, of its drained ones, and of both together
 abbrev pub live : Cluster → Holdings → ℕ → List ℕ
 live C H b = storages_where (is_live_on C) H b
+
+abbrev pub drained : Cluster → Holdings → ℕ → List ℕ
+drained C H b = storages_where (is_drained_on C) H b
+
+abbrev pub usable : Holdings → ℕ → List ℕ
+usable H b = storages_where (λ _ m. is_usable m) H b
+
+-- whether as many replicas of a known block are live as are wanted
+unfoldable pub has_enough_live : Cluster → Holdings → ℕ → Bool
+has_enough_live C H b = option_map_or (λ i. nat_le i.repl (length (live C H b))) (get H.blocks b) false
 
 -- the racks on which storages stand, each once, rising
 unfoldable pub racks : Cluster → List ℕ → List ℕ

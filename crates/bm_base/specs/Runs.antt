@@ -6,49 +6,50 @@ use Rattle.bm_base.specs.declared.call.Answer.{Answer}
 use Rattle.bm_base.specs.Map.{entries, empty, get, insert, alter, keep, revise, revise_at, remove, len, keys}
 use Rattle.bm_base.specs.Lists.{distinct}
 use Rattle.bm_base.specs.State.{first_state, empty_cluster, empty_holdings}
-use Rattle.bm_base.specs.Replicas.{node_of, rack_of, has_storage, are_sisters, storages_where, racks, is_multi_rack}
+use Rattle.bm_base.specs.Replicas.{node_of, rack_of, has_storage, drains, is_draining, are_sisters, storages_where, has_enough_live, racks, is_multi_rack}
 use Rattle.bm_base.specs.Levels.{level_of, level}
-use Rattle.bm_base.specs.Queries.{all_replicas, replicas_where, missing_blocks, blocks_on}
-use Rattle.bm_base.specs.Events.{was_bad, was_excess, entered_tag, entered, replaces, enter, is_named, leaves_by_report, report, without_pending, revise_block, add_block, delete_block, set_replication, restamp, make_bad, remove_replica, without_storages, register, heartbeat, without_node, without_storage, change_cluster, change_holdings}
+use Rattle.bm_base.specs.Queries.{all_replicas, replicas_where, missing_blocks, blocks_on, is_held_back_by, is_retired}
+use Rattle.bm_base.specs.Entries.{told_by, expanded, numbers_in}
+use Rattle.bm_base.specs.Events.{was_bad, was_excess, entered_tag, entered, replaces, enter, is_named, leaves_by_report, report, without_pending, revise_block, add_block, delete_block, set_replication, restamp, make_bad, remove_replica, without_storages, without_transfers_to_drained, register, heartbeat, without_node, without_storage, drain, undrain, change_cluster, change_holdings}
 use Rattle.bm_base.specs.Excess.{without_expired, without_unordered_excess, remaining, share_rack, has_rack_mate, excess_cmp, excess_of, excess_in, marked, begun, started}
 use Rattle.bm_base.specs.Transfers.{pending_targets, wishes_for, wishes, streams_from, scheduled_to, room, node_number, source_cmp, least_source_by, least_source, targets_of, holders_of, barred_for, is_on_racks, class_of, target_cmp, is_barred, is_target, least_target_by, least_target, transfer_for, transfers}
-use Rattle.bm_base.specs.Deletes.{has_enough_live, is_deletable, deletable_on, deletes_of, deletes}
+use Rattle.bm_base.specs.Deletes.{is_deletable, deletable_on, deletes_of, deletes}
 use Rattle.bm_base.specs.Rounds.{node_commands, commands_of, is_commanded, finished, whole_round, narrow_round}
-use Rattle.bm_base.specs.Refusals.{knows_node, knows_storage, knows_block, is_still_stored, is_old, cluster_checks, block_checks, calls_spent, refusal_of, round_refusal, storage_refusal, block_refusal}
+use Rattle.bm_base.specs.Refusals.{knows_node, knows_storage, knows_block, is_still_stored, is_old, is_too_long, cluster_checks, block_checks, calls_spent, refusal_of, round_refusal, node_refusal, storage_refusal, block_refusal}
 use Rattle.bm_base.specs.Calls.{new_replicas, done, done_by, after_event, step_with, answers, answers_by}
 
 -- what the calls answer, one after another, from the first state of a configuration
 unfoldable pub run_of : Config → List Call → List Answer
 unfolding entries empty get insert alter keep revise revise_at remove len keys distinct empty_cluster empty_holdings
-    node_of rack_of has_storage are_sisters storages_where racks is_multi_rack level_of level
-    all_replicas replicas_where missing_blocks blocks_on
-    was_bad was_excess entered_tag entered replaces enter is_named leaves_by_report report without_pending revise_block
-    add_block delete_block set_replication restamp make_bad remove_replica without_storages
-    register heartbeat without_node without_storage change_cluster change_holdings
+    node_of rack_of has_storage drains is_draining are_sisters storages_where has_enough_live racks is_multi_rack level_of level
+    all_replicas replicas_where missing_blocks blocks_on is_held_back_by is_retired
+    was_bad was_excess entered_tag entered replaces enter told_by expanded numbers_in is_named leaves_by_report report without_pending revise_block
+    add_block delete_block set_replication restamp make_bad remove_replica without_storages without_transfers_to_drained
+    register heartbeat without_node without_storage drain undrain change_cluster change_holdings
     without_expired without_unordered_excess remaining share_rack has_rack_mate excess_cmp excess_of excess_in marked begun started
     pending_targets wishes_for wishes streams_from scheduled_to room node_number source_cmp least_source_by least_source
     targets_of holders_of barred_for is_on_racks class_of target_cmp is_barred is_target least_target_by least_target transfer_for transfers
-    has_enough_live is_deletable deletable_on deletes_of deletes
+    is_deletable deletable_on deletes_of deletes
     node_commands commands_of is_commanded finished whole_round
-    knows_node knows_storage knows_block is_still_stored is_old
-    cluster_checks block_checks calls_spent refusal_of round_refusal storage_refusal block_refusal
+    knows_node knows_storage knows_block is_still_stored is_old is_too_long
+    cluster_checks block_checks calls_spent refusal_of round_refusal node_refusal storage_refusal block_refusal
     new_replicas done done_by after_event step_with
 run_of config calls = answers (first_state config) calls
 
 -- the same as far as rounds are built
 unfoldable pub narrow_run_of : Config → List Call → List Answer
 unfolding entries empty get insert alter keep revise revise_at remove len keys distinct empty_cluster empty_holdings
-    node_of rack_of has_storage are_sisters storages_where racks is_multi_rack level_of level
-    all_replicas replicas_where missing_blocks blocks_on
-    was_bad was_excess entered_tag entered replaces enter is_named leaves_by_report report without_pending revise_block
-    add_block delete_block set_replication restamp make_bad remove_replica without_storages
-    register heartbeat without_node without_storage change_cluster change_holdings
+    node_of rack_of has_storage drains is_draining are_sisters storages_where has_enough_live racks is_multi_rack level_of level
+    all_replicas replicas_where missing_blocks blocks_on is_held_back_by is_retired
+    was_bad was_excess entered_tag entered replaces enter told_by expanded numbers_in is_named leaves_by_report report without_pending revise_block
+    add_block delete_block set_replication restamp make_bad remove_replica without_storages without_transfers_to_drained
+    register heartbeat without_node without_storage drain undrain change_cluster change_holdings
     without_expired without_unordered_excess remaining share_rack has_rack_mate excess_cmp excess_of excess_in marked begun started
     pending_targets wishes_for wishes streams_from scheduled_to room node_number source_cmp least_source_by least_source
     targets_of holders_of barred_for is_on_racks class_of target_cmp is_barred is_target least_target_by least_target transfer_for transfers
-    has_enough_live is_deletable deletable_on deletes_of deletes
+    is_deletable deletable_on deletes_of deletes
     node_commands commands_of is_commanded finished whole_round narrow_round
-    knows_node knows_storage knows_block is_still_stored is_old
-    cluster_checks block_checks calls_spent refusal_of round_refusal storage_refusal block_refusal
+    knows_node knows_storage knows_block is_still_stored is_old is_too_long
+    cluster_checks block_checks calls_spent refusal_of round_refusal node_refusal storage_refusal block_refusal
     new_replicas done done_by after_event step_with
 narrow_run_of config calls = answers_by (step_with narrow_round) (first_state config) calls

@@ -13,7 +13,7 @@ use Rattle.bm_base.specs.declared.replica.Marks.{Marks}
 use Rattle.bm_base.specs.declared.replica.BlockInfo.{BlockInfo}
 use Rattle.bm_base.specs.declared.storage.StorageInfo.{StorageInfo}
 use Rattle.bm_base.specs.declared.config.Config.{Config}
-use Rattle.bm_base.specs.Map.{Order, Map, by_number, empty}
+use Rattle.bm_base.specs.Map.{Order, Map, Set, by_number, empty}
 
 -- replicas by block, and then by storage
 abbrev pub replica_cmp : ReplicaId → ReplicaId → Ordering
@@ -39,6 +39,8 @@ replica_at b s = record { block = b; storage = s }
 pub record Cluster : Type 0 where
   -- an alive node's rack
   pub nodes : Map by_number ℕ
+  -- the alive nodes that drain: they are to be taken away once their replicas are copied
+  pub draining : Set by_number
   pub storages : Map by_number StorageInfo
 
 -- the blocks, their replicas and the transfers on their way
@@ -67,7 +69,7 @@ pub record State : Type 0 where
   pub calls : ℕ
 
 unfoldable pub empty_cluster : Cluster
-empty_cluster = record { nodes = empty; storages = empty }
+empty_cluster = record { nodes = empty; draining = empty; storages = empty }
 
 unfoldable pub empty_holdings : Holdings
 empty_holdings = record { blocks = empty; replicas = empty; pending = empty }

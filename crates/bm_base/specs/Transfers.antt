@@ -7,12 +7,12 @@ use Rattle.std.specs.Ordering.{nat_cmp, ordering_then}
 use Rattle.std.specs.Option.{option_map_or}
 use Rattle.std.specs.List.{list_any}
 use Rattle.bm_base.specs.declared.level.Level.{Level}
-use Rattle.bm_base.specs.declared.level.Level.TheVariants.{Highest, VeryUnderReplicated, UnderReplicated, BadlyDistributed, NoLiveReplica}
+use Rattle.bm_base.specs.declared.level.Level.TheVariants.{Highest, VeryUnderReplicated, UnderReplicated, BadlyDistributed, NoUsableReplica}
 use Rattle.bm_base.specs.declared.commands.Transfer.{Transfer}
 use Rattle.bm_base.specs.Map.{get, keys, entries, len}
 use Rattle.bm_base.specs.State.{RoundLimits, Cluster, Holdings}
 use Rattle.bm_base.specs.Lists.{has, distinct, least}
-use Rattle.bm_base.specs.Replicas.{live, storages_where, node_of, rack_of, has_storage, racks}
+use Rattle.bm_base.specs.Replicas.{live, usable, storages_where, node_of, rack_of, has_storage, is_draining, racks}
 use Rattle.bm_base.specs.Levels.{level, is_at}
 use Rattle.bm_base.specs.Excess.{remaining}
 
@@ -28,11 +28,11 @@ unfoldable pub pending_targets : Holdings → ℕ → List ℕ
 pending_targets H b = map (λ e. e.0.storage) (filter (λ e. e.0.block == b) (entries H.pending))
 
 -- How many copies a block at this level wants, where so many live replicas are wanted: a badly distributed one wants one where
--- none is on its way; one without a live replica none, since there is nothing to copy; any other as many as are missing, those
+-- none is on its way; one without a usable replica none, since there is nothing to copy; any other as many as are missing, those
 -- on their way counted as there.
 abbrev pub wished_count : Cluster → Holdings → Level → ℕ → ℕ → ℕ
 wished_count C H BadlyDistributed repl b = if length (pending_targets H b) == 0 then 1 else 0
-wished_count C H NoLiveReplica repl b = 0
+wished_count C H NoUsableReplica repl b = 0
 wished_count C H _ repl b = repl - (length (live C H b) + length (pending_targets H b))
 
 -- the wishes for one block, where it is at this level
@@ -60,27 +60,35 @@ scheduled_to chosen s = sum_by (λ t. if t.target == s then t.stamp.len else 0) 
 unfoldable pub room : Cluster → (ℕ → ℕ) → ℕ → ℕ
 room C sent s = remaining C s - sent s
 
--- of how many transfers a node may be the source in one round: Hadoop's hard limit for the most urgent blocks, else the soft one
-abbrev pub stream_limit : Level → ℕ
-stream_limit Highest = 4
-stream_limit _ = 2
+-- of how many transfers a node may be the source in one round: Hadoop's hard limit for the most urgent blocks and for a node
+-- that drains, else the soft one
+abbrev pub stream_limit : Level → Bool → ℕ
+stream_limit Highest is_drained = 4
+stream_limit _ is_drained = if is_drained then 4 else 2
 
 -- the node of a storage; 0 for an unknown storage
 unfoldable pub node_number : Cluster → ℕ → ℕ
 node_number C s = unwrap_or (node_of C s) 0
 
--- which source goes before which: one whose node sends fewer, then the lesser node, then the lesser storage
-unfoldable pub source_cmp : Cluster → (ℕ → ℕ) → ℕ → ℕ → Ordering
-source_cmp C streams s t = ordering_then (nat_cmp (streams s) (streams t)) (ordering_then (nat_cmp (node_number C s) (node_number C t)) (nat_cmp s t))
+-- drained sources come before live ones
+abbrev pub source_rank : Bool → ℕ
+source_rank is_drained = if is_drained then 0 else 1
 
--- The source of a wish at this level, among the storages of the block's live replicas: the least whose node may send one more.
+-- which source goes before which: one on a node that drains, then one whose node sends fewer, then the lesser node, then the
+-- lesser storage
+unfoldable pub source_cmp : Cluster → (ℕ → ℕ) → ℕ → ℕ → Ordering
+source_cmp C streams s t =
+    ordering_then (nat_cmp (source_rank (is_draining C s)) (source_rank (is_draining C t)))
+    (ordering_then (nat_cmp (streams s) (streams t)) (ordering_then (nat_cmp (node_number C s) (node_number C t)) (nat_cmp s t)))
+
+-- The source of a wish at this level, among the storages of the block's usable replicas: the least whose node may send one more.
 -- `streams` says for each storage of how many transfers its node is the source already.
 unfoldable pub least_source_by : Cluster → (ℕ → ℕ) → Level → List ℕ → Option ℕ
-least_source_by C streams urgency live = least (source_cmp C streams) (filter (λ s. nat_lt (streams s) (stream_limit urgency)) live)
+least_source_by C streams urgency usable = least (source_cmp C streams) (filter (λ s. nat_lt (streams s) (stream_limit urgency (is_draining C s))) usable)
 
 -- the same, by the transfers that were chosen
 unfoldable pub least_source : Cluster → List Transfer → Level → List ℕ → Option ℕ
-least_source C chosen urgency live = least_source_by C (streams_from C chosen) urgency live
+least_source C chosen urgency usable = least_source_by C (streams_from C chosen) urgency usable
 
 unfoldable pub targets_of : List Transfer → ℕ → List ℕ
 targets_of chosen b = map (λ t. t.target) (filter (λ t. t.block == b) chosen)
@@ -114,11 +122,12 @@ target_cmp C sent holders s t =
 unfoldable pub is_barred : Cluster → List ℕ → ℕ → Bool
 is_barred C barred s = list_any (λ t. option_map_or (λ n. has_storage C n s) (node_of C t) false) barred
 
--- A storage may be the target where the length fits beside what is sent to it, its node is not barred, and, for a badly
--- distributed block that is held on one rack, it stands on another rack.
+-- A storage may be the target where the length fits beside what is sent to it, its node does not drain and is not barred, and,
+-- for a badly distributed block that is held on one rack, it stands on another rack.
 unfoldable pub is_target : Cluster → (ℕ → ℕ) → Level → List ℕ → List ℕ → ℕ → ℕ → Bool
 is_target C sent urgency holders barred len s =
     nat_le (len + sent s) (remaining C s)
+    && not (is_draining C s)
     && not (is_barred C barred s)
     && not (is_at BadlyDistributed (Some urgency) && (length (racks C holders) == 1) && (class_of C holders s == 1))
 
@@ -136,7 +145,7 @@ transfer_for limits C H chosen w =
     if nat_le (limits.work * len C.nodes) (length chosen) then None
     else option_and_then (λ i. option_and_then (λ s. option_map (λ t. record { block = w.block; stamp = i.stamp; source = s; target = t })
     (least_target C chosen w.urgency (holders_of C H chosen w.block) (barred_for H chosen w.block) i.stamp.len))
-    (least_source C chosen w.urgency (live C H w.block)))
+    (least_source C chosen w.urgency (usable H w.block)))
     (get H.blocks w.block)
 
 -- the transfers chosen wish by wish, behind those of chosen

@@ -1,7 +1,7 @@
 // The calls of a manager, and what they answer.
 use crate::commands::Commands;
 use crate::event::{Done, Event};
-use crate::ids::{BlockId, StorageId};
+use crate::ids::{BlockId, NodeId, StorageId};
 use crate::items::Items;
 use crate::level::Level;
 use crate::refusal::Refusal;
@@ -19,6 +19,7 @@ pub enum Call {
     BlocksOn(StorageId),
     Places(BlockId),
     LevelOf(BlockId),
+    Retired(NodeId),
     Calls,
     Rounds,
 }
@@ -38,6 +39,8 @@ pub enum Answer {
     /// The places of a block.
     Storages(Items<StorageId>),
     LevelIs(Option<Level>),
+    /// Whether a node can be taken away.
+    IsRetired(bool),
     /// The number of accepted calls, or of the last round.
     Number(u64),
     Refused(Refusal),

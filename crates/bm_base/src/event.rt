@@ -1,13 +1,31 @@
 // What DataNodes and the namespace tell the block manager.
+ghost use Rattle.std.specs.Prelude.{◌≡◌};
+
 use crate::ids::{BlockId, NodeId, Rack, StorageId};
 use crate::items::Items;
 use crate::replica::Stamp;
 
-/// One line of a full block report.
+/// One entry of a full block report: the replicas of a run of block numbers, all with one stamp.
 #[derive(Clone, Copy, Debug, PartialEq, Eq)]
 pub struct Entry {
-    pub id: BlockId,
+    /// The first number of the run.
+    pub from: BlockId,
+    /// Its last number; a run that ends before it begins names none.
+    pub to: BlockId,
     pub stamp: Stamp,
+}
+
+impl Entry {
+    /// The entry of one block.
+    pub fn one(id: BlockId, stamp: Stamp) -> Entry
+        ensures { result ≡ record { from = id; to = id; stamp = stamp } }
+    {
+        Entry {
+            from: id,
+            to: id,
+            stamp,
+        }
+    }
 }
 
 /// The free bytes of a storage, as a heartbeat tells them.
@@ -36,6 +54,15 @@ pub enum Event {
     /// A storage has failed: it leaves with its replicas and the transfers to it. `UnknownStorage`.
     StorageFailed {
         storage: StorageId,
+    },
+    /// A DataNode is to be taken away: it drains. Its replicas count no more and are copied to other nodes, no copy is put on it,
+    /// and the transfers to it leave. One that drains goes on draining. `UnknownNode`.
+    Drain {
+        node: NodeId,
+    },
+    /// A DataNode drains no more; its replicas count again. `UnknownNode`.
+    Undrain {
+        node: NodeId,
     },
     /// The remaining bytes of storages of a DataNode; the last value for a storage counts.
     /// `UnknownNode`; `UnknownStorage`; `NotItsStorage` where a storage is another node's.
@@ -81,7 +108,8 @@ pub enum Event {
         storage: StorageId,
         id: BlockId,
     },
-    /// All replicas on a storage; the last entry of a block counts. `UnknownStorage`; `TooMany` past `MAX_ENTRIES` entries.
+    /// All replicas on a storage; the last entry of a block counts. `UnknownStorage`; `TooMany` past `MAX_ENTRIES` entries or
+    /// `MAX_NUMBERS` block numbers in all runs together, repeats counted.
     FullReport {
         storage: StorageId,
         entries: Items<Entry>,

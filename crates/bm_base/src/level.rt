@@ -6,7 +6,7 @@ ghost use Rattle.bm_base.specs.Levels.{level_number, level_of};
 /// number.
 #[derive(Clone, Copy, Debug, PartialEq, Eq)]
 pub enum Level {
-    /// 0: one live replica is left, and more are wanted.
+    /// 0: one live replica is left, or none but drained ones, and more are wanted.
     Highest,
     /// 1: two or more replicas are live, and fewer than a third of those wanted.
     VeryUnderReplicated,
@@ -14,8 +14,8 @@ pub enum Level {
     UnderReplicated,
     /// 3: enough replicas are live, more than one is wanted, and all of them stand on one rack although the cluster has several.
     BadlyDistributed,
-    /// 4: more are wanted and none is live, so there is nothing to copy from.
-    NoLiveReplica,
+    /// 4: more are wanted and none is live or drained, so there is nothing to copy from.
+    NoUsableReplica,
 }
 
 impl Level {
@@ -28,16 +28,17 @@ impl Level {
             Level::VeryUnderReplicated => 1,
             Level::UnderReplicated => 2,
             Level::BadlyDistributed => 3,
-            Level::NoLiveReplica => 4,
+            Level::NoUsableReplica => 4,
         }
     }
 }
 
-/// How urgent a block is of which `repl` replicas are wanted and `live` are there, on so many racks, where `multi` says that
-/// the alive nodes stand on two racks or more. `None` where enough replicas are live and not badly distributed. Takes no memory.
+/// How urgent a block is of which `repl` replicas are wanted, `live` are live, on so many racks, and `drained` are drained, where
+/// `multi` says that the alive nodes stand on two racks or more. `None` where enough replicas are live and not badly distributed.
+/// Takes no memory.
 #[tactic(auto, unfolding(crate::specs::Levels::level_of))]
-pub fn level_of(live: usize, repl: u32, racks: usize, multi: bool) -> Option<Level>
-    ensures { result ≡ level_of live repl racks multi }
+pub fn level_of(live: usize, drained: usize, repl: u32, racks: usize, multi: bool) -> Option<Level>
+    ensures { result ≡ level_of live drained repl racks multi }
 {
     if live >= repl as usize {
         let is_on_one_rack = racks == 1 && multi;
@@ -48,7 +49,8 @@ pub fn level_of(live: usize, repl: u32, racks: usize, multi: bool) -> Option<Lev
         };
     }
     Some(match live {
-        0 => Level::NoLiveReplica,
+        0 if drained == 0 => Level::NoUsableReplica,
+        0 => Level::Highest,
         1 => Level::Highest,
         _ if live * 3 < repl as usize => Level::VeryUnderReplicated,
         _ => Level::UnderReplicated,

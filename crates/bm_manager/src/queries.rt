@@ -103,9 +103,9 @@ impl Holdings {
     }
 
     fn is_missing(&self, topology: &Topology, id: BlockId) -> bool
-        ensures { result ≡ levels.is_at Level.NoLiveReplica (levels.level topology.now.cluster self.now id) }
+        ensures { result ≡ levels.is_at Level.NoUsableReplica (levels.level topology.now.cluster self.now id) }
     {
-        matches!(self.level(topology, id), Some(Level::NoLiveReplica))
+        matches!(self.level(topology, id), Some(Level::NoUsableReplica))
     }
 
     /// How urgently the block wants replicas; `None` of an unknown block.
@@ -130,7 +130,7 @@ impl Holdings {
     {
         let mut count = 0;
         for (replica, marks) in self.replicas.entries() {
-            if replica.block == id && is_live(marks) {
+            if replica.block == id && is_usable(marks) {
                 count += 1;
             }
         }
@@ -162,9 +162,9 @@ impl Holdings {
 
 /// The rack of a replica that is a live one of the block.
 fn live_rack(topology: &Topology, id: BlockId, replica: &ReplicaId, marks: &Marks) -> Option<Rack>
-    ensures { result ≡ (if (replica.now.block == id) && replicas.is_live marks.now then replicas.rack_of topology.now.cluster replica.now.storage else None) }
+    ensures { result ≡ (if (replica.now.block == id) && replicas.is_usable marks.now then replicas.rack_of topology.now.cluster replica.now.storage else None) }
 {
-    if replica.block == id && is_live(marks) {
+    if replica.block == id && is_usable(marks) {
         topology.rack_of(replica.storage)
     } else {
         None
@@ -179,8 +179,8 @@ pub fn is_corrupt(tag: Tag) -> bool
 }
 
 /// Good, and not in excess.
-pub fn is_live(marks: &Marks) -> bool
-    ensures { result ≡ replicas.is_live marks.now }
+pub fn is_usable(marks: &Marks) -> bool
+    ensures { result ≡ replicas.is_usable marks.now }
 {
     matches!(marks.tag, Tag::Good) && !marks.excess
 }

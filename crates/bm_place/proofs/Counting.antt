@@ -8,7 +8,7 @@ use Rattle.std.proofs.lemmas.List.Sums.{sum_by-append}
 use Rattle.std.proofs.lemmas.Bool.{eqb-true, eq-eqb, ltb-true}
 use Rattle.bm_base.specs.declared.commands.Transfer.{Transfer}
 use Rattle.bm_base.specs.declared.level.Level.{Level}
-use Rattle.bm_base.specs.declared.level.Level.TheVariants.{Highest, VeryUnderReplicated, UnderReplicated, BadlyDistributed, NoLiveReplica}
+use Rattle.bm_base.specs.declared.level.Level.TheVariants.{Highest, VeryUnderReplicated, UnderReplicated, BadlyDistributed, NoUsableReplica}
 use Rattle.bm_base.specs.declared.storage.StorageInfo.{StorageInfo}
 use Rattle.bm_base.specs.Lists.{has}
 use Rattle.bm_base.specs.Map.{Map, by_number, get, keys, revise_at}
@@ -184,7 +184,7 @@ limit_most Highest = omega arith
 limit_most VeryUnderReplicated = omega arith
 limit_most UnderReplicated = omega arith
 limit_most BadlyDistributed = omega arith
-limit_most NoLiveReplica = omega arith
+limit_most NoUsableReplica = omega arith
 
 pub countable : (C : Cluster) (sends : ℕ → ℕ) (urgency : Level) (R : ℕ → ℕ → Ordering) (live : List ℕ) (m : Option ℕ) → IsLeastOf R (λ s. nat_lt (streams_by C sends s) (stream_limit urgency)) live m
     → IfSome m (λ s. IfSome (get (sender_table C sends).nodes s) (λ n. count_at (sender_table C sends).counts n < max_transfers))

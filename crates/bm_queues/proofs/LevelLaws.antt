@@ -5,7 +5,7 @@ use Rattle.std.proofs.lemmas.Bool.{cases_eq, eq-eqb, ne_eqb}
 use Rattle.std.proofs.lemmas.Option.{none-some, same_Some}
 use Rattle.std.proofs.lemmas.List.{get_or-set_same, get_or-set_other, get_or_past, length-set, take_all}
 use Rattle.bm_base.specs.declared.level.Level.{Level}
-use Rattle.bm_base.specs.declared.level.Level.TheVariants.{Highest, VeryUnderReplicated, UnderReplicated, BadlyDistributed, NoLiveReplica}
+use Rattle.bm_base.specs.declared.level.Level.TheVariants.{Highest, VeryUnderReplicated, UnderReplicated, BadlyDistributed, NoUsableReplica}
 use Rattle.bm_base.specs.Levels.{level_number}
 use Rattle.bm_queues.specs.LevelBytes.{level_of_byte}
 use Rattle.bm_base.specs.SlotLists.{Among, without, slot_after}
@@ -19,21 +19,21 @@ five-at k next back Highest = refl
 five-at k next back VeryUnderReplicated = refl
 five-at k next back UnderReplicated = refl
 five-at k next back BadlyDistributed = refl
-five-at k next back NoLiveReplica = refl
+five-at k next back NoUsableReplica = refl
 
 pub level_below : (l : Level) → level_number l < 5
 level_below Highest = omega arith
 level_below VeryUnderReplicated = omega arith
 level_below UnderReplicated = omega arith
 level_below BadlyDistributed = omega arith
-level_below NoLiveReplica = omega arith
+level_below NoUsableReplica = omega arith
 
 back_again : (l : Level) → level_of_byte (level_number l) ≡ Some l
 back_again Highest = refl
 back_again VeryUnderReplicated = refl
 back_again UnderReplicated = refl
 back_again BadlyDistributed = refl
-back_again NoLiveReplica = refl
+back_again NoUsableReplica = refl
 
 pub same_level : (l m : Level) → level_number l ≡ level_number m → l ≡ m
 same_level l m same = same_Some l m (sym (back_again l) ∙ ap level_of_byte same ∙ back_again m)
@@ -44,7 +44,7 @@ level_with zero h = (Highest, refl)
 level_with (suc zero) h = (VeryUnderReplicated, refl)
 level_with (suc (suc zero)) h = (UnderReplicated, refl)
 level_with (suc (suc (suc zero))) h = (BadlyDistributed, refl)
-level_with (suc (suc (suc (suc zero)))) h = (NoLiveReplica, refl)
+level_with (suc (suc (suc (suc zero)))) h = (NoUsableReplica, refl)
 level_with (suc (suc (suc (suc (suc n))))) h = absurd (omega arith)
 
 -- a slot that has a level lies below the room

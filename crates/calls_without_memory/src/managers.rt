@@ -53,7 +53,7 @@ fn tell(manager: &mut Manager, number: u32, tally: &mut Tally) {
     );
     let stamp = stamp(2);
     tally.note(manager.apply(&Event::Restamp { id, stamp }).is_ok());
-    tally.note(manager.level(id) == Ok(Some(Level::NoLiveReplica)));
+    tally.note(manager.level(id) == Ok(Some(Level::NoUsableReplica)));
     tally.note(manager.apply(&Event::Corrupt { storage, id }).is_ok());
     let gone = Done {
         added: 0,

@@ -12,7 +12,7 @@ use Rattle.bm_base.specs.declared.commands.Transfer.{Transfer}
 use Rattle.bm_base.specs.Map.{get, contains_key, entries, keys, len}
 use Rattle.bm_base.specs.State.{RoundLimits, Cluster, Holdings, replica_at}
 use Rattle.bm_base.specs.Lists.{has, least}
-use Rattle.bm_base.specs.Replicas.{is_live, is_live_on, live, storages_where}
+use Rattle.bm_base.specs.Replicas.{is_usable, is_live_on, live, storages_where}
 use Rattle.bm_base.specs.Excess.{excess_cmp, excess_among, excess_of, excess_in}
 use Rattle.bm_base.specs.Transfers.{WishedCopy, least_source, least_target_by, least_target, scheduled_to, target_cmp, is_target, holders_of, barred_for, transfer_for, transfers_from, transfers, wishes}
 use Rattle.laws_of_events.proofs.Options.{is_there, revised, chained}
@@ -51,11 +51,11 @@ excess_of_block P C lives None h = tt
 excess_of_block P C lives (Some i) h = each_in_excess P C (length lives - i.repl) lives h
 
 -- what is put in excess is live
-pub in_excess_live : (C : Cluster) (H : Holdings) (q : ReplicaId) (m : Marks) → get H.replicas q ≡ Some m → has (excess_in C H q.block) q.storage ≡ true → is_live m ≡ true
+pub in_excess_live : (C : Cluster) (H : Holdings) (q : ReplicaId) (m : Marks) → get H.replicas q ≡ Some m → has (excess_in C H q.block) q.storage ≡ true → is_usable m ≡ true
 unfolding excess_in
 in_excess_live C H q m e h =
     let one = has_one (HasOne (is_live_on C) H q.block) (excess_in C H q.block) q.storage (excess_of_block (HasOne (is_live_on C) H q.block) C (live C H q.block) (get H.blocks q.block) (each_storage (is_live_on C) H q.block)) h in
-    ap is_live (same_Some m one.0 (sym e ∙ one.1)) ∙ one.2
+    ap is_usable (same_Some m one.0 (sym e ∙ one.1)) ∙ one.2
 
 -- A transfer that may be put among those on their way.
 abbrev pub IsPlaced : Cluster → Holdings → Transfer → Type 0

@@ -9,11 +9,11 @@ use Rattle.bm_base.specs.declared.replica.Tag.{Tag}
 use Rattle.bm_base.specs.declared.replica.Tag.TheVariants.{Good, Stale, Bad, Stray}
 use Rattle.bm_base.specs.declared.replica.Marks.{Marks}
 use Rattle.bm_base.specs.declared.replica.BlockInfo.{BlockInfo}
-use Rattle.bm_base.specs.declared.level.Level.TheVariants.{Highest, VeryUnderReplicated, UnderReplicated, BadlyDistributed, NoLiveReplica}
+use Rattle.bm_base.specs.declared.level.Level.TheVariants.{Highest, VeryUnderReplicated, UnderReplicated, BadlyDistributed, NoUsableReplica}
 use Rattle.bm_base.specs.Map.{get, entries, keys}
 use Rattle.bm_base.specs.Lists.{has}
 use Rattle.bm_base.specs.State.{Cluster, Holdings, replica_at}
-use Rattle.bm_base.specs.Replicas.{is_good, is_corrupt, is_live, is_live_on, live, storages_where, racks, is_multi_rack}
+use Rattle.bm_base.specs.Replicas.{is_good, is_corrupt, is_usable, is_live_on, live, storages_where, racks, is_multi_rack}
 use Rattle.bm_base.specs.Levels.{level_of, level, is_at}
 use Rattle.bm_base.specs.Queries.{all_replicas, replicas_where, missing_blocks, blocks_on}
 use Rattle.bm_base.specs.Lawful.{IsLawfulHoldings}
@@ -136,31 +136,31 @@ places_listed H b s = (
 -- Missing blocks.
 
 -- the level of a block of which at least one replica is wanted is that of a missing one just where none is live
-no_live_level : (n repl racks : ℕ) (multi : Bool) → is_at NoLiveReplica (level_of n repl racks multi) ≡ true → n ≡ 0
+no_live_level : (n repl racks : ℕ) (multi : Bool) → is_at NoUsableReplica (level_of n repl racks multi) ≡ true → n ≡ 0
 unfolding level_of
 no_live_level n repl racks multi h = by_enough (nat_le repl n) (nat_lt 1 repl && (racks == 1) && multi) h
   where
     by_number : (zero_live one_live few : Bool) → (n == 0) ≡ zero_live
-        → is_at NoLiveReplica (Some (if zero_live then NoLiveReplica else if one_live then Highest else if few then VeryUnderReplicated else UnderReplicated)) ≡ true → n ≡ 0
+        → is_at NoUsableReplica (Some (if zero_live then NoUsableReplica else if one_live then Highest else if few then VeryUnderReplicated else UnderReplicated)) ≡ true → n ≡ 0
     by_number true one_live few e h = eqb-true n 0 e
     by_number false true few e h = cc
     by_number false false true e h = cc
     by_number false false false e h = cc
 
-    by_enough : (enough bad : Bool) → is_at NoLiveReplica (if enough then (if bad then Some BadlyDistributed else None)
-        else Some (if n == 0 then NoLiveReplica else if n == 1 then Highest else if nat_lt (n * 3) repl then VeryUnderReplicated else UnderReplicated)) ≡ true → n ≡ 0
+    by_enough : (enough bad : Bool) → is_at NoUsableReplica (if enough then (if bad then Some BadlyDistributed else None)
+        else Some (if n == 0 then NoUsableReplica else if n == 1 then Highest else if nat_lt (n * 3) repl then VeryUnderReplicated else UnderReplicated)) ≡ true → n ≡ 0
     by_enough true true h = cc
     by_enough true false h = cc
     by_enough false bad h = by_number (n == 0) (n == 1) (nat_lt (n * 3) repl) refl h
 
-level_no_live : (repl racks : ℕ) (multi : Bool) → 1 ≤ repl → is_at NoLiveReplica (level_of 0 repl racks multi) ≡ true
+level_no_live : (repl racks : ℕ) (multi : Bool) → 1 ≤ repl → is_at NoUsableReplica (level_of 0 repl racks multi) ≡ true
 unfolding level_of
 level_no_live repl racks multi h = rw (lt-leb repl 0 h) refl
 
-live_marks : (m : Marks) → is_live m ≡ true → (m.tag ≡ Good) × (m.excess ≡ false)
+live_marks : (m : Marks) → is_usable m ≡ true → (m.tag ≡ Good) × (m.excess ≡ false)
 live_marks m h = let parts = and_parts (is_good m.tag) (not m.excess) h in (found_good m.tag parts.0, not-true m.excess parts.1)
 
-marks_live : (m : Marks) → m.tag ≡ Good → m.excess ≡ false → is_live m ≡ true
+marks_live : (m : Marks) → m.tag ≡ Good → m.excess ≡ false → is_usable m ≡ true
 marks_live m e h = and_from (is_good m.tag) (not m.excess) (ap is_good e) (ap not h)
 
 has_none : (xs : List ℕ) (s : ℕ) → length xs ≡ 0 → has xs s ≡ true → ⊥
@@ -173,7 +173,7 @@ none_listed (x ∷ xs) never = absurd (never x (ap (λ b. b || has xs x) (eq-eqb
 
 module _ (C : Cluster) (H : Holdings) (b : ℕ) where
   abbrev no_level : ℕ → Bool
-  no_level c = is_at NoLiveReplica (level C H c)
+  no_level c = is_at NoUsableReplica (level C H c)
 
   level_is : (i : BlockInfo) → get H.blocks b ≡ Some i → level C H b ≡ level_of (length (live C H b)) i.repl (length (racks C (live C H b))) (is_multi_rack C)
   unfolding level
@@ -190,14 +190,14 @@ module _ (C : Cluster) (H : Holdings) (b : ℕ) where
       let key : e.0 ≡ b = eqb-true e.0 b parts.1 in
       let info : get H.blocks b ≡ Some e.1 = ap (get H.blocks) (sym key) ∙ e.2 in
       let none : length (live C H b) ≡ 0 =
-      no_live_level (length (live C H b)) e.1.repl (length (racks C (live C H b))) (is_multi_rack C) (ap (is_at NoLiveReplica) (sym (level_is e.1 info)) ∙ ap no_level (sym key) ∙ parts.0) in
+      no_live_level (length (live C H b)) e.1.repl (length (racks C (live C H b))) (is_multi_rack C) (ap (is_at NoUsableReplica) (sym (level_is e.1 info)) ∙ ap no_level (sym key) ∙ parts.0) in
       (e.1, info, λ s held. has_none (live C H b) s none (where_stored (is_live_on C) H b s held.0 held.1 (marks_live held.0 held.2.0 held.2.1)))
 
   is_missing : IsLawfulHoldings C H → law.IsMissing H b → has (missing_blocks C H) b ≡ true
   is_missing L missing =
       let none : length (live C H b) ≡ 0 = none_listed (live C H b) (λ s h. let m = stored_where (is_live_on C) H b s h in missing.2 s (m.0, m.1, live_marks m.0 m.2)) in
       let at : no_level b ≡ true =
-      ap (is_at NoLiveReplica) (level_is missing.0 missing.1) ∙ ap (λ n. is_at NoLiveReplica (level_of n missing.0.repl (length (racks C (live C H b))) (is_multi_rack C))) none
+      ap (is_at NoUsableReplica) (level_is missing.0 missing.1) ∙ ap (λ n. is_at NoUsableReplica (level_of n missing.0.repl (length (racks C (live C H b))) (is_multi_rack C))) none
       ∙ level_no_live missing.0.repl (length (racks C (live C H b))) (is_multi_rack C) (L.replicated b missing.0 missing.1).0 in
       shown_missing ∙ passes_entry H.blocks (λ e. no_level e.0 && (e.0 == b)) b missing.0 missing.1 (and_from (no_level b) (b == b) at (eq-eqb b b refl))
 

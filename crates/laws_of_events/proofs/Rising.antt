@@ -9,7 +9,7 @@ use Rattle.std.proofs.lemmas.Bool.{and_parts}
 use Rattle.bm_base.specs.declared.replica.ReplicaId.{ReplicaId}
 use Rattle.bm_base.specs.declared.replica.Marks.{Marks}
 use Rattle.bm_base.specs.Conjunction.{first, second}
-use Rattle.bm_base.specs.declared.level.Level.TheVariants.{NoLiveReplica}
+use Rattle.bm_base.specs.declared.level.Level.TheVariants.{NoUsableReplica}
 use Rattle.bm_base.specs.Map.{Map, Order, by_number, entries, keys}
 use Rattle.bm_base.specs.State.{Cluster, Holdings, by_replica, replica_cmp}
 use Rattle.bm_base.specs.Replicas.{is_good, is_corrupt, storages_where}
@@ -124,7 +124,7 @@ places_rise test H b =
 missing_rise : (C : Cluster) (H : Holdings) → AllPairs (λ b c. b < c) (missing_blocks C H)
 unfolding missing_blocks keys
 missing_rise C H =
-    let p : ℕ → Bool = λ b. is_at NoLiveReplica (level C H b) in
+    let p : ℕ → Bool = λ b. is_at NoUsableReplica (level C H b) in
     let all : Rise (λ b c. b < c) (map (λ e. e.0) (entries H.blocks)) =
     rise_mapped (λ e f. nat_cmp e.0 f.0 ≡ Less) (λ b c. b < c) (λ e. e.0) (λ e f h. ranked e.0 f.0 Less (sym h)) (entries H.blocks) (entries_rise by_number H.blocks) in
     rise_pairs (λ b c. b < c) (missing_blocks C H)

@@ -5,7 +5,7 @@ use Rattle.std.specs.declared.cmp.Ordering.{Ordering}
 use Rattle.std.proofs.Common.{refl, sym, ap, subst, ◌∙◌, append_assoc, append-nil}
 use Rattle.std.proofs.lemmas.Bool.{eqb-true, ltb-true, leb-false, false≢true}
 use Rattle.bm_base.specs.declared.level.Level.{Level}
-use Rattle.bm_base.specs.declared.level.Level.TheVariants.{Highest, VeryUnderReplicated, UnderReplicated, BadlyDistributed, NoLiveReplica}
+use Rattle.bm_base.specs.declared.level.Level.TheVariants.{Highest, VeryUnderReplicated, UnderReplicated, BadlyDistributed, NoUsableReplica}
 use Rattle.bm_base.specs.declared.replica.BlockInfo.{BlockInfo}
 use Rattle.bm_base.specs.declared.commands.Transfer.{Transfer}
 use Rattle.bm_base.specs.Map.{get, keys, len}
@@ -56,7 +56,7 @@ level_again zero = Highest
 level_again (suc zero) = VeryUnderReplicated
 level_again (suc (suc zero)) = UnderReplicated
 level_again (suc (suc (suc zero))) = BadlyDistributed
-level_again (suc (suc (suc (suc n)))) = NoLiveReplica
+level_again (suc (suc (suc (suc n)))) = NoUsableReplica
 
 level_back : (l : Level) → level_again (level_number l) ≡ l
 unfolding level_again
@@ -64,7 +64,7 @@ level_back Highest = refl
 level_back VeryUnderReplicated = refl
 level_back UnderReplicated = refl
 level_back BadlyDistributed = refl
-level_back NoLiveReplica = refl
+level_back NoUsableReplica = refl
 
 pub level_at : (l : Level) (found : Option Level) → is_at l found ≡ true → found ≡ Some l
 level_at l None e = absurd (false≢true e)

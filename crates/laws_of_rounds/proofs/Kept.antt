@@ -11,7 +11,7 @@ use Rattle.bm_base.specs.declared.replica.BlockInfo.{BlockInfo}
 use Rattle.bm_base.specs.Map.{get}
 use Rattle.bm_base.specs.State.{Cluster, State, replica_at}
 use Rattle.bm_base.specs.Lists.{has}
-use Rattle.bm_base.specs.Replicas.{is_live, is_live_on, is_good, is_stray, is_corrupt}
+use Rattle.bm_base.specs.Replicas.{is_usable, is_live_on, is_good, is_stray, is_corrupt}
 use Rattle.bm_base.specs.Excess.{begun, started, without_expired, without_unordered_excess, marked, excess_in, excess_among}
 use Rattle.bm_base.specs.Deletes.{has_enough_live, is_deletable}
 use Rattle.bm_base.specs.Lawful.{IsLawful}
@@ -153,8 +153,8 @@ pub live_stays : (M : State) (b t : ℕ) → has (live_after M b) t ≡ true →
 live_stays M b t there h =
     let is = deleted_is M (replica_at b t) h in
     let marks = deleted_marks M (replica_at b t) is.0 is.2 in
-    let live_mark : is_live is.0 ≡ true =
-    sym (ap (λ o. option_map_or is_live o false) is.1) ∙ sym (has_where (is_live_on M.cluster) (started M).holdings b t) ∙ sym (ap (λ xs. has xs t) (after_marked M b)) ∙ there in
+    let live_mark : is_usable is.0 ≡ true =
+    sym (ap (λ o. option_map_or is_usable o false) is.1) ∙ sym (has_where (is_live_on M.cluster) (started M).holdings b t) ∙ sym (ap (λ xs. has xs t) (after_marked M b)) ∙ there in
     live_is_kept is.0.tag is.0.excess live_mark (weaker_kind is.0 (has_enough_live M.cluster (started M).holdings b) marks.1)
 
 -- the first of some

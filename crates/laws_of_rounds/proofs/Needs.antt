@@ -3,7 +3,7 @@ use Rattle.std.specs.Prelude.{◌≡◌, ℕ, ◌+◌, ◌≤◌, ◌<◌, ◌�
 use Rattle.std.proofs.Common.{cond, sym, ap, subst, ◌∙◌, arith}
 use Rattle.std.proofs.lemmas.Bool.Decides.{nat_tests}
 use Rattle.std.specs.Ordering.{nat_cmp, eq_by_cmp}
-use Rattle.bm_base.specs.declared.level.Level.TheVariants.{NoLiveReplica}
+use Rattle.bm_base.specs.declared.level.Level.TheVariants.{NoUsableReplica}
 use Rattle.bm_base.specs.declared.replica.BlockInfo.{BlockInfo}
 use Rattle.bm_base.specs.Map.{get, revise_at}
 use Rattle.bm_base.specs.State.{Cluster, Holdings}
@@ -24,11 +24,11 @@ pub one_more : (live repl racks more_racks : ℕ) (multi : Bool) → (1 ≤ live
 unfolding level_of
 one_more live repl racks more_racks multi some more = grind (arith, nat_tests)
 
-four_counted : (live repl racks : ℕ) (multi : Bool) → 1 ≤ repl → level_of live repl racks multi ≡ Some NoLiveReplica → live ≡ 0
+four_counted : (live repl racks : ℕ) (multi : Bool) → 1 ≤ repl → level_of live repl racks multi ≡ Some NoUsableReplica → live ≡ 0
 unfolding level_of
 four_counted live repl racks multi h e = grind (arith, nat_tests)
 
-counted_four : (live repl racks : ℕ) (multi : Bool) → 1 ≤ repl → live ≡ 0 → level_of live repl racks multi ≡ Some NoLiveReplica
+counted_four : (live repl racks : ℕ) (multi : Bool) → 1 ≤ repl → live ≡ 0 → level_of live repl racks multi ≡ Some NoUsableReplica
 unfolding level_of
 counted_four live repl racks multi h e = grind (arith, nat_tests)
 
@@ -50,7 +50,7 @@ module _ (C : Cluster) (H : Holdings) (b : ℕ) where
   unfolding level
   level_unknown e = ap (option_and_then (λ i. level_of (length (live C H b)) i.repl (length (racks C (live C H b))) (is_multi_rack C))) e
 
-  pub four : (i : BlockInfo) → 1 ≤ i.repl → get H.blocks b ≡ Some i → (level C H b ≡ Some NoLiveReplica) ↔ (length (live C H b) ≡ 0)
+  pub four : (i : BlockInfo) → 1 ≤ i.repl → get H.blocks b ≡ Some i → (level C H b ≡ Some NoUsableReplica) ↔ (length (live C H b) ≡ 0)
   four i wanted known =
       let is = level_known i known in (
         λ e. four_counted (length (live C H b)) i.repl (length (racks C (live C H b))) (is_multi_rack C) wanted (sym is ∙ e),

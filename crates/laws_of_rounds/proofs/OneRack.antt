@@ -4,7 +4,7 @@ use Rattle.std.specs.Option.{option_map_or}
 use Rattle.std.proofs.Common.{cond, refl, sym, ap, ◌∙◌, arith}
 use Rattle.std.proofs.lemmas.Bool.{eqb-true, lt-ltb, ltb-true, false≢true, true≢false}
 use Rattle.std.proofs.lemmas.Bool.Decides.{nat_tests}
-use Rattle.bm_base.specs.declared.level.Level.TheVariants.{Highest, VeryUnderReplicated, UnderReplicated, BadlyDistributed, NoLiveReplica}
+use Rattle.bm_base.specs.declared.level.Level.TheVariants.{Highest, VeryUnderReplicated, UnderReplicated, BadlyDistributed, NoUsableReplica}
 use Rattle.bm_base.specs.declared.replica.BlockInfo.{BlockInfo}
 use Rattle.bm_base.specs.Map.{Map, by_number, get, entries}
 use Rattle.bm_base.specs.State.{Cluster, State, replica_at}
@@ -134,14 +134,14 @@ badly_two : (n repl rs : ℕ) (multi : Bool) → level_of n repl rs multi ≡ So
 unfolding level_of
 badly_two n repl rs multi e = by_tests (nat_le repl n) (nat_lt 1 repl) refl (rs == 1) multi e
   where
-    other : (a b c : Bool) → Some (cond a NoLiveReplica (cond b Highest (cond c VeryUnderReplicated UnderReplicated))) ≡ Some BadlyDistributed → ⊥
+    other : (a b c : Bool) → Some (cond a NoUsableReplica (cond b Highest (cond c VeryUnderReplicated UnderReplicated))) ≡ Some BadlyDistributed → ⊥
     other true b c e = cc
     other false true c e = cc
     other false false true e = cc
     other false false false e = cc
 
     by_tests : (a p : Bool) → nat_lt 1 repl ≡ p → (q r : Bool)
-        → cond a (cond (p && q && r) (Some BadlyDistributed) None) (Some (cond (n == 0) NoLiveReplica (cond (n == 1) Highest (cond (nat_lt (n * 3) repl) VeryUnderReplicated UnderReplicated)))) ≡ Some BadlyDistributed
+        → cond a (cond (p && q && r) (Some BadlyDistributed) None) (Some (cond (n == 0) NoUsableReplica (cond (n == 1) Highest (cond (nat_lt (n * 3) repl) VeryUnderReplicated UnderReplicated)))) ≡ Some BadlyDistributed
         → (2 ≤ repl) × (r ≡ true)
     by_tests true true f true true e = (ltb-true 1 repl f, refl)
     by_tests true true f true false e = absurd (false≢true (ap is_some e))

@@ -19,7 +19,7 @@ use Rattle.bm_base.specs.declared.replica.Marks.{Marks}
 use Rattle.bm_base.specs.declared.replica.Stamp.{Stamp}
 use Rattle.bm_base.specs.Map.{Map, get, insert, insert_all, keep, revise, revise_at, remove}
 use Rattle.bm_base.specs.State.{Cluster, Holdings, State, by_replica, replica_cmp, replica_at, first_state, empty_holdings}
-use Rattle.bm_base.specs.Replicas.{is_good, is_stray, is_corrupt, is_live, is_live_on}
+use Rattle.bm_base.specs.Replicas.{is_good, is_stray, is_corrupt, is_usable, is_live_on}
 use Rattle.bm_base.specs.Events.{entered, enter, report, without_pending, revise_block, as_stray, as_bad, as_restamped, add_block, delete_block, set_replication, restamp, make_bad, remove_replica, without_storages, change_holdings}
 use Rattle.bm_base.specs.Excess.{begun, started}
 use Rattle.bm_base.specs.Lists.{has}
@@ -40,7 +40,7 @@ use Rattle.laws_of_rounds.proofs.Stands.{has_where}
 
 -- a mark of a replica: where its delete was commanded, it is not live
 abbrev pub IsDone : Marks → Type 0
-IsDone m = m.ordered ≡ true → is_live m ≡ false
+IsDone m = m.ordered ≡ true → is_usable m ≡ false
 
 -- of all marks of a map
 abbrev pub AreDone : Map by_replica Marks → Type 0
@@ -146,20 +146,20 @@ done_started M h q m e =
     subst IsDone was.2 (done_remarked (surplus_of M q.block) q.storage was.0 (h q was.0 was.1))
 
 -- what is chosen to be deleted is not live
-chosen_not_live : (M : State) (q : ReplicaId) (m : Marks) → get (started M).holdings.replicas q ≡ Some m → is_commanded (chosen_deletes_of M) q ≡ true → is_live m ≡ false
+chosen_not_live : (M : State) (q : ReplicaId) (m : Marks) → get (started M).holdings.replicas q ≡ Some m → is_commanded (chosen_deletes_of M) q ≡ true → is_usable m ≡ false
 unfolding is_commanded started begun
 chosen_not_live M q m e h =
     let found = each_any (IsChosen M.cluster (started M).holdings) (λ d. (d.storage == q.storage) && (d.block == q.block)) (chosen_deletes_of M) (chosen_deletes M.cluster (started M).holdings M.limits) h in
     let is = at_same found.0 q found.2 in
     let same : found.1.marks ≡ m = some_same found.1.marks m (sym (subst (λ p. get (started M).holdings.replicas p ≡ Some found.1.marks) is found.1.is_there) ∙ e) in
     let marks = deleted_marks M q found.1.marks (subst (λ p. is_deletable M.cluster (started M).holdings p found.1.marks ≡ true) is found.1.deletable) in
-    by_live (is_live m) refl (subst (λ n. (is_stray n.tag ≡ true) ⊎ ((n.excess ≡ true) ⊎ (is_corrupt n.tag ≡ true))) same (weaker_kind found.1.marks (has_enough_live M.cluster (started M).holdings q.block) marks.1))
+    by_live (is_usable m) refl (subst (λ n. (is_stray n.tag ≡ true) ⊎ ((n.excess ≡ true) ⊎ (is_corrupt n.tag ≡ true))) same (weaker_kind found.1.marks (has_enough_live M.cluster (started M).holdings q.block) marks.1))
   where
-    by_live : (b : Bool) → is_live m ≡ b → (is_stray m.tag ≡ true) ⊎ ((m.excess ≡ true) ⊎ (is_corrupt m.tag ≡ true)) → b ≡ false
+    by_live : (b : Bool) → is_usable m ≡ b → (is_stray m.tag ≡ true) ⊎ ((m.excess ≡ true) ⊎ (is_corrupt m.tag ≡ true)) → b ≡ false
     by_live true f kind = absurd (live_is_kept m.tag m.excess f kind)
     by_live false f kind = refl
 
-done_commanded : (t : Bool) (m : Marks) → (t ≡ true → is_live m ≡ false) → IsDone m → IsDone (if t then record m { ordered = true } else m)
+done_commanded : (t : Bool) (m : Marks) → (t ≡ true → is_usable m ≡ false) → IsDone m → IsDone (if t then record m { ordered = true } else m)
 done_commanded true m chosen old e = chosen refl
 done_commanded false m chosen old e = old e
 
@@ -204,7 +204,7 @@ done_reached c ks = done_calls (first_state c) ks (done_first c)
 
 -- The replica that stays.
 
-live_parts : (m : Marks) → is_live m ≡ true → (is_good m.tag ≡ true) × (m.excess ≡ false)
+live_parts : (m : Marks) → is_usable m ≡ true → (is_good m.tag ≡ true) × (m.excess ≡ false)
 live_parts m e = by_tests (is_good m.tag) m.excess e
   where
     by_tests : (g x : Bool) → (g && not x) ≡ true → (g ≡ true) × (x ≡ false)
@@ -220,11 +220,11 @@ pub good_stays : (M : State) (b s : ℕ) (i : BlockInfo) → IsDoneState M → I
     → (t : ℕ) × (m : Marks) × (get (after_round M).holdings.replicas (replica_at b t) ≡ Some m) × (is_good m.tag ≡ true) × (m.excess ≡ false) × (m.ordered ≡ false)
 good_stays M b s i done lawful known h =
     let one = one_stays M b s i lawful known h in
-    let there = mark_of is_live (get (after_round M).holdings.replicas (replica_at b one.0)) (sym (has_where (is_live_on M.cluster) (after_round M).holdings b one.0) ∙ one.1) in
+    let there = mark_of is_usable (get (after_round M).holdings.replicas (replica_at b one.0)) (sym (has_where (is_live_on M.cluster) (after_round M).holdings b one.0) ∙ one.1) in
     let parts = live_parts there.0 there.2 in
     (one.0, there.0, there.1, parts.0, parts.1, unordered there.0 there.2 (done_round M done (replica_at b one.0) there.0 there.1))
   where
-    unordered : (m : Marks) → is_live m ≡ true → IsDone m → m.ordered ≡ false
+    unordered : (m : Marks) → is_usable m ≡ true → IsDone m → m.ordered ≡ false
     unordered m live h = by_order m.ordered (λ e. true≢false (sym live ∙ h e))
       where
         by_order : (x : Bool) → (x ≡ true → ⊥) → x ≡ false

@@ -11,7 +11,7 @@ use Rattle.bm_base.specs.declared.replica.BlockInfo.{BlockInfo}
 use Rattle.bm_base.specs.Map.{get}
 use Rattle.bm_base.specs.State.{State, replica_at}
 use Rattle.bm_base.specs.Lists.{has}
-use Rattle.bm_base.specs.Replicas.{is_live, is_live_on, is_good, is_stray, is_corrupt}
+use Rattle.bm_base.specs.Replicas.{is_usable, is_live_on, is_good, is_stray, is_corrupt}
 use Rattle.bm_base.specs.Excess.{begun, started, without_expired, without_unordered_excess, marked, excess_in, excess_of, excess_among}
 use Rattle.bm_base.specs.Deletes.{has_enough_live}
 use Rattle.bm_base.specs.Lawful.{IsLawful}
@@ -66,14 +66,14 @@ pub marks_unmarked : (M : State) (q : ReplicaId) → get (unmarked M).holdings.r
 unfolding begun without_expired without_unordered_excess
 marks_unmarked M q = get-revise M.holdings.replicas (λ _ m. unordered_dropped m) q
 
-dropped_good : (o : Bool) (m : Marks) → is_live (if o then m else record m { excess = false }) ≡ true → is_good m.tag ≡ true
+dropped_good : (o : Bool) (m : Marks) → is_usable (if o then m else record m { excess = false }) ≡ true → is_good m.tag ≡ true
 dropped_good true m e = and_first (is_good m.tag) (not m.excess) e
 dropped_good false m e = and_first (is_good m.tag) true e
 
 pub surplus_good : (M : State) (b s : ℕ) (n : Marks) → get M.holdings.replicas (replica_at b s) ≡ Some n → has (surplus_of M b) s ≡ true → is_good n.tag ≡ true
 surplus_good M b s n found h =
     dropped_good n.ordered n
-    (sym (ap (λ o. option_map_or is_live o false) (marks_unmarked M (replica_at b s) ∙ ap (option_map unordered_dropped) found))
+    (sym (ap (λ o. option_map_or is_usable o false) (marks_unmarked M (replica_at b s) ∙ ap (option_map unordered_dropped) found))
     ∙ sym (has_where (is_live_on M.cluster) (unmarked M).holdings b s) ∙ surplus_live M b s h)
 
 dropped_excess : (o : Bool) (m : Marks) → (if o then m else record m { excess = false }).excess ≡ true → m.excess ≡ true
@@ -211,15 +211,15 @@ counted_by t x o good e = ap (λ u. is_good u && not (if o then x else false)) g
     of_marks false true f = refl
     of_marks false false f = refl
 
-dropped_is : (o : Bool) (m : Marks) → is_live (if o then m else record m { excess = false }) ≡ (is_good m.tag && not (if o then m.excess else false))
+dropped_is : (o : Bool) (m : Marks) → is_usable (if o then m else record m { excess = false }) ≡ (is_good m.tag && not (if o then m.excess else false))
 dropped_is true m = refl
 dropped_is false m = refl
 
 live_before : (M : State) (b s : ℕ) → has (live_unmarked M b) s ≡ option_map_or (λ m. is_good m.tag && not (if m.ordered then m.excess else false)) (get M.holdings.replicas (replica_at b s)) false
 live_before M b s =
-    has_where (is_live_on M.cluster) (unmarked M).holdings b s ∙ ap (λ o. option_map_or is_live o false) (marks_unmarked M (replica_at b s)) ∙ by_marks (get M.holdings.replicas (replica_at b s))
+    has_where (is_live_on M.cluster) (unmarked M).holdings b s ∙ ap (λ o. option_map_or is_usable o false) (marks_unmarked M (replica_at b s)) ∙ by_marks (get M.holdings.replicas (replica_at b s))
   where
-    by_marks : (o : Option Marks) → option_map_or is_live (option_map unordered_dropped o) false ≡ option_map_or (λ m. is_good m.tag && not (if m.ordered then m.excess else false)) o false
+    by_marks : (o : Option Marks) → option_map_or is_usable (option_map unordered_dropped o) false ≡ option_map_or (λ m. is_good m.tag && not (if m.ordered then m.excess else false)) o false
     by_marks None = refl
     by_marks (Some m) = dropped_is m.ordered m
 

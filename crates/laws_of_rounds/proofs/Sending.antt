@@ -8,7 +8,7 @@ use Rattle.std.proofs.lemmas.List.Sums.{length-filter, sum_by_push}
 use Rattle.bm_base.specs.declared.replica.ReplicaId.{ReplicaId}
 use Rattle.bm_base.specs.declared.replica.Marks.{Marks}
 use Rattle.bm_base.specs.declared.level.Level.{Level}
-use Rattle.bm_base.specs.declared.level.Level.TheVariants.{Highest, VeryUnderReplicated, UnderReplicated, BadlyDistributed, NoLiveReplica}
+use Rattle.bm_base.specs.declared.level.Level.TheVariants.{Highest, VeryUnderReplicated, UnderReplicated, BadlyDistributed, NoUsableReplica}
 use Rattle.bm_base.specs.declared.storage.StorageInfo.{StorageInfo}
 use Rattle.bm_base.specs.declared.replica.BlockInfo.{BlockInfo}
 use Rattle.bm_base.specs.declared.commands.Transfer.{Transfer}
@@ -55,14 +55,14 @@ limit_cases Highest found n e h = inl e
 limit_cases VeryUnderReplicated found n e h = inr h
 limit_cases UnderReplicated found n e h = inr h
 limit_cases BadlyDistributed found n e h = inr h
-limit_cases NoLiveReplica found n e h = inr h
+limit_cases NoUsableReplica found n e h = inr h
 
 limit_four : (l : Level) (n : ℕ) → n < stream_limit l → n < 4
 limit_four Highest n h = h
 limit_four VeryUnderReplicated n h = omega arith
 limit_four UnderReplicated n h = omega arith
 limit_four BadlyDistributed n h = omega arith
-limit_four NoLiveReplica n h = omega arith
+limit_four NoUsableReplica n h = omega arith
 
 pub two_below : (M : State) (front back : List Transfer) (t : Transfer) → transfers_chosen M ≡ front ++ t ∷ back
     → (level M.cluster (started M).holdings t.block ≡ Some Highest) ⊎ (streams_from M.cluster front t.source < 2)

@@ -13,7 +13,7 @@ use Rattle.bm_base.specs.declared.commands.NodeCommands.{NodeCommands}
 use Rattle.bm_base.specs.Map.{get, keys}
 use Rattle.bm_base.specs.State.{RoundLimits, Cluster, Holdings, State, replica_at}
 use Rattle.bm_base.specs.Lists.{has}
-use Rattle.bm_base.specs.Replicas.{node_of, has_storage, live, is_live, is_live_on}
+use Rattle.bm_base.specs.Replicas.{node_of, has_storage, live, is_usable, is_live_on}
 use Rattle.bm_base.specs.Levels.{level}
 use Rattle.bm_base.specs.Excess.{begun, started, marked, without_expired, without_unordered_excess}
 use Rattle.bm_base.specs.Deletes.{deletes_of, deletes}
@@ -188,7 +188,7 @@ pub some_value : {X : Type 0} (o : Option X) → is_some o ≡ true → (x : X) 
 some_value None e = absurd (false≢true e)
 some_value (Some x) e = (x, refl)
 
-pub live_there : (o : Option Marks) → option_map_or is_live o false ≡ true → is_some o ≡ true
+pub live_there : (o : Option Marks) → option_map_or is_usable o false ≡ true → is_some o ≡ true
 live_there None e = e
 live_there (Some m) e = refl
 

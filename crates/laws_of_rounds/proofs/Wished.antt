@@ -5,7 +5,7 @@ use Rattle.std.proofs.Common.{cond, refl, sym, ap, ◌∙◌, arith, inl, inr, a
 use Rattle.std.proofs.lemmas.Bool.{eqb-true, leb-true, false≢true, true≢false}
 use Rattle.std.proofs.lemmas.List.{length-map}
 use Rattle.bm_base.specs.declared.level.Level.{Level}
-use Rattle.bm_base.specs.declared.level.Level.TheVariants.{Highest, VeryUnderReplicated, UnderReplicated, BadlyDistributed, NoLiveReplica}
+use Rattle.bm_base.specs.declared.level.Level.TheVariants.{Highest, VeryUnderReplicated, UnderReplicated, BadlyDistributed, NoUsableReplica}
 use Rattle.bm_base.specs.declared.replica.BlockInfo.{BlockInfo}
 use Rattle.bm_base.specs.declared.commands.Transfer.{Transfer}
 use Rattle.bm_base.specs.Map.{get, keys, entries}
@@ -106,7 +106,7 @@ module _ (C : Cluster) (H : Holdings) where
         by_level (Some VeryUnderReplicated) = omega arith
         by_level (Some UnderReplicated) = omega arith
         by_level (Some BadlyDistributed) = omega arith
-        by_level (Some NoLiveReplica) = omega arith
+        by_level (Some NoUsableReplica) = omega arith
 
 -- Transfers of one block.
 
@@ -169,7 +169,7 @@ lacks C H b repl n None some h = absurd (omega arith)
 lacks C H b repl n (Some Highest) some h = inl (omega arith)
 lacks C H b repl n (Some VeryUnderReplicated) some h = inl (omega arith)
 lacks C H b repl n (Some UnderReplicated) some h = inl (omega arith)
-lacks C H b repl n (Some NoLiveReplica) some h = absurd (omega arith)
+lacks C H b repl n (Some NoUsableReplica) some h = absurd (omega arith)
 lacks C H b repl n (Some BadlyDistributed) some h = inr (of_pending (length (pending_targets H b)) n some h)
   where
     of_pending : (p m : ℕ) → 1 ≤ m → m ≤ (if p == 0 then 1 else 0) → (Some BadlyDistributed ≡ Some BadlyDistributed) × (p ≡ 0) × (m ≡ 1)
@@ -217,7 +217,7 @@ unfolding level_of
 badly_counted n repl rs multi e = by_tests (nat_le repl n) refl (nat_lt 1 repl) (rs == 1) multi e
   where
     by_tests : (a : Bool) → nat_le repl n ≡ a → (p q r : Bool)
-        → (if a then (if p && q && r then Some BadlyDistributed else None) else Some (if n == 0 then NoLiveReplica else if n == 1 then Highest else if nat_lt (n * 3) repl then VeryUnderReplicated else UnderReplicated)) ≡ Some BadlyDistributed
+        → (if a then (if p && q && r then Some BadlyDistributed else None) else Some (if n == 0 then NoUsableReplica else if n == 1 then Highest else if nat_lt (n * 3) repl then VeryUnderReplicated else UnderReplicated)) ≡ Some BadlyDistributed
         → (repl ≤ n) × (q ≡ true)
     by_tests true f true true true e = (leb-true repl n f, refl)
     by_tests true f true true false e = absurd (false≢true (ap is_some e))
@@ -225,7 +225,7 @@ badly_counted n repl rs multi e = by_tests (nat_le repl n) refl (nat_lt 1 repl) 
     by_tests true f false q r e = absurd (false≢true (ap is_some e))
     by_tests false f p q r e = absurd (other (n == 0) (n == 1) (nat_lt (n * 3) repl) e)
       where
-        other : (a b c : Bool) → Some (if a then NoLiveReplica else if b then Highest else if c then VeryUnderReplicated else UnderReplicated) ≡ Some BadlyDistributed → ⊥
+        other : (a b c : Bool) → Some (if a then NoUsableReplica else if b then Highest else if c then VeryUnderReplicated else UnderReplicated) ≡ Some BadlyDistributed → ⊥
         other true b c e = cc
         other false true c e = cc
         other false false true e = cc

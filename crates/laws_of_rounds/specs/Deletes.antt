@@ -11,7 +11,7 @@ use Rattle.bm_base.specs.declared.commands.NodeCommands.{NodeCommands}
 use Rattle.bm_base.specs.Map.{get}
 use Rattle.bm_base.specs.State.{State, replica_at, first_state}
 use Rattle.bm_base.specs.Lists.{has}
-use Rattle.bm_base.specs.Replicas.{is_good, is_live, is_stray, is_corrupt, node_of}
+use Rattle.bm_base.specs.Replicas.{is_good, is_usable, is_stray, is_corrupt, node_of}
 use Rattle.bm_base.specs.Excess.{started}
 use Rattle.bm_base.specs.Rounds.{whole_round}
 use Rattle.bm_base.specs.Lawful.{IsLawful}
@@ -89,7 +89,7 @@ OnlyTheLimitDefers =
 abbrev pub OrderedReplicaIsNotLive : Type 0
 OrderedReplicaIsNotLive =
     (config : Config) (ks : List Call) (q : ReplicaId) (m : Marks)
-    → get (state_after (first_state config) ks).holdings.replicas q ≡ Some m → m.ordered ≡ true → is_live m ≡ false
+    → get (state_after (first_state config) ks).holdings.replicas q ≡ Some m → m.ordered ≡ true → is_usable m ≡ false
 
 -- Where a round commands the delete of a replica of a known block, a replica of the block is left that is good and not in
 -- excess, and of which no round has commanded the delete, neither this one nor an earlier one.

@@ -1,7 +1,7 @@
 -- Laws of levels.
 use Rattle.std.specs.Prelude.{◌≡◌, ℕ, ◌+◌, ◌≤◌, ◌<◌, ◌↔◌, Bool, true, false, length, Option, Some, None, List}
 use Rattle.bm_base.specs.declared.level.Level.{Level}
-use Rattle.bm_base.specs.declared.level.Level.TheVariants.{Highest, VeryUnderReplicated, UnderReplicated, BadlyDistributed, NoLiveReplica}
+use Rattle.bm_base.specs.declared.level.Level.TheVariants.{Highest, VeryUnderReplicated, UnderReplicated, BadlyDistributed, NoUsableReplica}
 use Rattle.bm_base.specs.declared.replica.BlockInfo.{BlockInfo}
 use Rattle.bm_base.specs.Map.{get}
 use Rattle.bm_base.specs.State.{Cluster, Holdings, State}
@@ -18,7 +18,7 @@ need (Some BadlyDistributed) = 1
 need (Some UnderReplicated) = 2
 need (Some VeryUnderReplicated) = 3
 need (Some Highest) = 4
-need (Some NoLiveReplica) = 5
+need (Some NoUsableReplica) = 5
 
 abbrev pub UnknownBlockHasNoLevel : Type 0
 UnknownBlockHasNoLevel = (C : Cluster) (H : Holdings) (b : ℕ) → get H.blocks b ≡ None → level C H b ≡ None
@@ -26,7 +26,7 @@ UnknownBlockHasNoLevel = (C : Cluster) (H : Holdings) (b : ℕ) → get H.blocks
 abbrev pub LevelFourIsNoLiveReplica : Type 0
 LevelFourIsNoLiveReplica =
     (M : State) (b : ℕ) (i : BlockInfo) → IsLawful M → get M.holdings.blocks b ≡ Some i
-    → (level M.cluster M.holdings b ≡ Some NoLiveReplica) ↔ (length (live M.cluster M.holdings b) ≡ 0)
+    → (level M.cluster M.holdings b ≡ Some NoUsableReplica) ↔ (length (live M.cluster M.holdings b) ≡ 0)
 
 -- storages all of which stand on one rack
 abbrev pub AreOnOneRack : Cluster → List ℕ → Type 0
@@ -64,7 +64,7 @@ OneReplicaMoreIsNoMoreNeed =
     → need (level_of (live + 1) repl more_racks multi) ≤ need (level_of live repl racks multi)
 
 abbrev pub FirstReplicaMakesABlockTheFirstToCopy : Type 0
-FirstReplicaMakesABlockTheFirstToCopy = (level_of 0 3 0 true ≡ Some NoLiveReplica) × (level_of 1 3 1 true ≡ Some Highest)
+FirstReplicaMakesABlockTheFirstToCopy = (level_of 0 3 0 true ≡ Some NoUsableReplica) × (level_of 1 3 1 true ≡ Some Highest)
 
 abbrev pub SecondRackMayRaiseNeed : Type 0
 SecondRackMayRaiseNeed = (level_of 2 2 1 false ≡ None) × (level_of 2 2 1 true ≡ Some BadlyDistributed)

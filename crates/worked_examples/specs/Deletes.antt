@@ -2,7 +2,7 @@
 use Rattle.std.specs.Prelude.{List, [], ◌∷◌}
 use Rattle.bm_base.specs.declared.call.Call.{Call}
 use Rattle.bm_base.specs.declared.call.Answer.{Answer}
-use Rattle.bm_base.specs.declared.level.Level.TheVariants.{NoLiveReplica}
+use Rattle.bm_base.specs.declared.level.Level.TheVariants.{NoUsableReplica}
 use Rattle.bm_base.specs.declared.refusal.Refusal.TheVariants.{BlockKnown, StillStored, OldGeneration}
 use Rattle.worked_examples.specs.Script.{◌gives◌, HoldsOnCluster, usual, dead, add_block, delete_block, restamp, received, received_version, deleted, corrupt, report, level, round, places, list_corrupt, list_missing, list_excess, ok, at_level, commands, copies_by, copy, deletes_by, delete, blocks, storages, replica_ids, entry, refused}
 
@@ -59,7 +59,7 @@ restamp_makes_stale = HoldsOnCluster usual (
     ∷ received 31 7 gives ok 1 0
     ∷ restamp 7 2 gives ok 0 0
     ∷ list_corrupt gives replica_ids ((7, 11) ∷ (7, 31) ∷ [])
-    ∷ level 7 gives at_level NoLiveReplica
+    ∷ level 7 gives at_level NoUsableReplica
     ∷ received_version 31 7 2 gives ok 0 0
     ∷ list_corrupt gives replica_ids ((7, 11) ∷ [])
     ∷ restamp 7 2 gives refused OldGeneration

@@ -2,7 +2,7 @@
 use Rattle.std.specs.Prelude.{List, [], ◌∷◌, ◌++◌}
 use Rattle.bm_base.specs.declared.call.Call.{Call}
 use Rattle.bm_base.specs.declared.call.Answer.{Answer}
-use Rattle.bm_base.specs.declared.level.Level.TheVariants.{Highest, VeryUnderReplicated, UnderReplicated, BadlyDistributed, NoLiveReplica}
+use Rattle.bm_base.specs.declared.level.Level.TheVariants.{Highest, VeryUnderReplicated, UnderReplicated, BadlyDistributed, NoUsableReplica}
 use Rattle.bm_base.specs.declared.refusal.Refusal.TheVariants.{UnknownBlock, BadReplication}
 use Rattle.worked_examples.specs.Script.{◌gives◌, HoldsOnCluster, usual, dead, add_block, set_replication, received, level, round, list_missing, list_excess, ok, at_level, at_no_level, commands, copies_by, copy, deletes_by, delete, blocks, replica_ids, refused}
 
@@ -10,7 +10,7 @@ abbrev pub block_without_replicas_is_missing : Type 0
 block_without_replicas_is_missing = HoldsOnCluster usual (
     add_block 7 3 gives ok 0 0
     ∷ list_missing gives blocks (7 ∷ [])
-    ∷ level 7 gives at_level NoLiveReplica
+    ∷ level 7 gives at_level NoUsableReplica
     ∷ round gives commands 1 []
     ∷ [])
 

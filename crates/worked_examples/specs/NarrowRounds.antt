@@ -1,6 +1,6 @@
 -- Rounds as far as they are built: strays and corrupt replicas are deleted, nothing is marked, nothing is copied.
 use Rattle.std.specs.Prelude.{List, [], ◌∷◌, ◌++◌}
-use Rattle.bm_base.specs.declared.level.Level.TheVariants.{NoLiveReplica}
+use Rattle.bm_base.specs.declared.level.Level.TheVariants.{NoUsableReplica}
 use Rattle.bm_base.specs.declared.replica.Tag.TheVariants.{Stale, Stray}
 use Rattle.bm_base.specs.declared.refusal.Refusal.TheVariants.{RoundsSpent}
 use Rattle.worked_examples.specs.Script.{◌gives◌, HoldsNarrowly, usual, registrations, add_block, received, report, entry, level, round, list_missing, list_replicas, list_corrupt, list_excess, ok, at_level, blocks, commands, deletes_by, delete, replicas, replica, replica_ids, refused}
@@ -10,7 +10,7 @@ abbrev pub nothing_to_delete : Type 0
 nothing_to_delete = HoldsNarrowly usual (registrations ++ (
     add_block 7 3 gives ok 0 0
     ∷ list_missing gives blocks (7 ∷ [])
-    ∷ level 7 gives at_level NoLiveReplica
+    ∷ level 7 gives at_level NoUsableReplica
     ∷ round gives commands 1 []
     ∷ []))
 

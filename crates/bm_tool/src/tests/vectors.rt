@@ -11,7 +11,7 @@ fn blocks_are_cut_by_their_numbers(rt: HostRuntime) {
 #[test]
 fn levels_by_live_replicas_replication_and_racks(rt: HostRuntime) {
     for (live, repl, racks, multi, want) in [
-        (0, 1, 0, true, Some(Level::NoLiveReplica)),
+        (0, 1, 0, true, Some(Level::NoUsableReplica)),
         (1, 1, 1, true, None),
         (1, 2, 1, true, Some(Level::Highest)),
         (2, 6, 2, true, Some(Level::UnderReplicated)),
