@@ -10,54 +10,69 @@ use Rattle.bm_topo.specs.Sound.{IsSound}
 use Rattle.bm_topo.proofs.Lengths.{len-remove, len-revise_at}
 use Rattle.bm_topo.proofs.RackCount.{racks_counted}
 
-abbrev pub seen_of : Table ℕ → Table ℕ → Table StorageInfo → Seen
-seen_of nodes racks storages = record {
-  cluster = record { nodes = nodes.map; storages = storages.map };
-  room = record { nodes = nodes.room; racks = racks.room; storages = storages.room };
+abbrev pub seen_of : Table ℕ → Table (Unit {0}) → Table ℕ → Table StorageInfo → Seen
+seen_of nodes draining racks storages = record {
+  cluster = record { nodes = nodes.map; draining = draining.map; storages = storages.map };
+  room = record { nodes = nodes.room; draining = draining.room; racks = racks.room; storages = storages.room };
 }
 
--- three tables, and what becomes of them, each within its capacity
-pub record IsWithin (nodes nodes' racks racks' : Table ℕ) (storages storages' : Table StorageInfo) : Type 0 where
+-- four tables, and what becomes of them, each within its capacity
+pub record IsWithin (nodes nodes' racks racks' : Table ℕ) (draining draining' : Table (Unit {0})) (storages storages' : Table StorageInfo) : Type 0 where
   pub nodes_same : capacity nodes' ≡ capacity nodes
+  pub draining_same : capacity draining' ≡ capacity draining
   pub racks_same : capacity racks' ≡ capacity racks
   pub storages_same : capacity storages' ≡ capacity storages
 
 -- and none is longer
-pub record IsNoLonger (nodes nodes' racks racks' : Table ℕ) (storages storages' : Table StorageInfo) : Type 0 where
+pub record IsNoLonger (nodes nodes' racks racks' : Table ℕ) (draining draining' : Table (Unit {0})) (storages storages' : Table StorageInfo) : Type 0 where
   pub nodes_fewer : len nodes'.map ≤ len nodes.map
+  pub draining_fewer : len draining'.map ≤ len draining.map
   pub racks_fewer : len racks'.map ≤ len racks.map
   pub storages_fewer : len storages'.map ≤ len storages.map
 
-module _ (nodes nodes' racks racks' : Table ℕ) (storages storages' : Table StorageInfo) (old : Seen) (is : seen_of nodes racks storages ≡ old) where
-  pub same_capacity : IsSound nodes.map racks.map storages.map → IsSound nodes'.map racks'.map storages'.map → IsWithin nodes nodes' racks racks' storages storages' → IsSameCapacity old (seen_of nodes' racks' storages')
+module _ (nodes nodes' racks racks' : Table ℕ) (draining draining' : Table (Unit {0})) (storages storages' : Table StorageInfo) (old : Seen) (is : seen_of nodes draining racks storages ≡ old) where
+  pub same_capacity : IsSound nodes.map racks.map storages.map → IsSound nodes'.map racks'.map storages'.map → IsWithin nodes nodes' racks racks' draining draining' storages storages' → IsSameCapacity old (seen_of nodes' draining' racks' storages')
   same_capacity sound sound' within =
       let before = racks_counted racks.map nodes.map sound.counted in
       let after = racks_counted racks'.map nodes'.map sound'.counted in
-      let same : IsSameCapacity (seen_of nodes racks storages) (seen_of nodes' racks' storages') = record {
+      let same : IsSameCapacity (seen_of nodes draining racks storages) (seen_of nodes' draining' racks' storages') = record {
         nodes = within.nodes_same;
+        draining = within.draining_same;
         racks = omega (arith, before, after, within.racks_same);
         storages = within.storages_same;
       } in
-      subst (λ s. IsSameCapacity s (seen_of nodes' racks' storages')) is same
+      subst (λ s. IsSameCapacity s (seen_of nodes' draining' racks' storages')) is same
 
-  pub no_less : IsWithin nodes nodes' racks racks' storages storages' → IsNoLonger nodes nodes' racks racks' storages storages' → IsNoLess old.room (seen_of nodes' racks' storages').room
+  pub no_less : IsWithin nodes nodes' racks racks' draining draining' storages storages' → IsNoLonger nodes nodes' racks racks' draining draining' storages storages' → IsNoLess old.room (seen_of nodes' draining' racks' storages').room
   no_less within shorter =
-      let same : IsNoLess (seen_of nodes racks storages).room (seen_of nodes' racks' storages').room = (
+      let same : IsNoLess (seen_of nodes draining racks storages).room (seen_of nodes' draining' racks' storages').room = (
         omega (arith, within.nodes_same, shorter.nodes_fewer),
+        omega (arith, within.draining_same, shorter.draining_fewer),
         omega (arith, within.racks_same, shorter.racks_fewer),
         omega (arith, within.storages_same, shorter.storages_fewer),
       ) in
-      subst (λ s. IsNoLess s.room (seen_of nodes' racks' storages').room) is same
+      subst (λ s. IsNoLess s.room (seen_of nodes' draining' racks' storages').room) is same
 
 -- where the storages alone change
-pub no_less_storages : (nodes racks : Table ℕ) (storages storages' : Table StorageInfo) (old : Seen) → seen_of nodes racks storages ≡ old → capacity storages' ≡ capacity storages → len storages'.map ≤ len storages.map
-    → IsNoLess old.room (seen_of nodes racks storages').room
-no_less_storages nodes racks storages storages' old is same fewer =
-    no_less nodes nodes racks racks storages storages' old is (record { nodes_same = refl; racks_same = refl; storages_same = same })
-    (record { nodes_fewer = omega arith; racks_fewer = omega arith; storages_fewer = fewer })
+pub no_less_storages : (nodes racks : Table ℕ) (draining : Table (Unit {0})) (storages storages' : Table StorageInfo) (old : Seen)
+    → seen_of nodes draining racks storages ≡ old → capacity storages' ≡ capacity storages → len storages'.map ≤ len storages.map
+    → IsNoLess old.room (seen_of nodes draining racks storages').room
+no_less_storages nodes racks draining storages storages' old is same fewer =
+    no_less nodes nodes racks racks draining draining storages storages' old is
+    (record { nodes_same = refl; draining_same = refl; racks_same = refl; storages_same = same })
+    (record { nodes_fewer = omega arith; draining_fewer = omega arith; racks_fewer = omega arith; storages_fewer = fewer })
+
+-- where the nodes that drain, and no others, change
+pub no_less_draining : (nodes racks : Table ℕ) (draining draining' : Table (Unit {0})) (storages : Table StorageInfo) (old : Seen)
+    → seen_of nodes draining racks storages ≡ old → capacity draining' ≡ capacity draining → len draining'.map ≤ len draining.map
+    → IsNoLess old.room (seen_of nodes draining' racks storages).room
+no_less_draining nodes racks draining draining' storages old is same fewer =
+    no_less nodes nodes racks racks draining draining' storages storages old is
+    (record { nodes_same = refl; draining_same = same; racks_same = refl; storages_same = refl })
+    (record { nodes_fewer = omega arith; draining_fewer = fewer; racks_fewer = omega arith; storages_fewer = omega arith })
 
 pub no_less-then : (a b c : Room) → IsNoLess a b → IsNoLess b c → IsNoLess a c
-no_less-then a b c p q = (omega (arith, p.0, q.0), omega (arith, p.1, q.1), omega (arith, p.2, q.2))
+no_less-then a b c p q = (omega (arith, p.0, q.0), omega (arith, p.1, q.1), omega (arith, p.2, q.2), omega (arith, p.3, q.3))
 
 -- the counts, once one of n nodes has left rack r, are no more
 pub len-without_one : (racks : Map by_number ℕ) (r n : ℕ) → len (without_one racks r n) ≤ len racks

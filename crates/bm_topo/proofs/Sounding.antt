@@ -7,7 +7,7 @@ use Rattle.std.proofs.lemmas.Bool.{leb-false, ltb-false}
 use Rattle.bm_base.specs.declared.storage.StorageInfo.{StorageInfo}
 use Rattle.bm_base.specs.declared.event.Event.TheVariants.{Register}
 use Rattle.bm_base.specs.declared.event.Remaining.{Remaining}
-use Rattle.bm_base.specs.Map.{Map, by_number, empty, entries, get, len, insert, insert_all, keep, remove, revise_at}
+use Rattle.bm_base.specs.Map.{Map, Set, by_number, empty, entries, get, len, insert, insert_all, keep, remove, revise_at}
 use Rattle.bm_base.specs.State.{Cluster}
 use Rattle.bm_base.specs.Replicas.{has_storage, node_of}
 use Rattle.bm_base.specs.Events.{set_remaining}
@@ -101,10 +101,10 @@ registration_is_new C n rack ss h =
     record { absent = unknown _ first.0; few_nodes = omega (arith, nodes); few_storages = omega (arith, storages) }
 
 -- where a node registers
-pub sound-joined : (nodes racks more counts : Map by_number ℕ) (storages all : Map by_number StorageInfo) (n v count : ℕ) (ss : List ℕ) → n < 2 ^ 32
-    → IsNew (record { nodes = nodes; storages = storages }) n ss → count ≡ on_rack nodes v → more ≡ insert nodes n v → counts ≡ insert racks v (count + 1)
+pub sound-joined : (nodes racks more counts : Map by_number ℕ) (draining : Set by_number) (storages all : Map by_number StorageInfo) (n v count : ℕ) (ss : List ℕ) → n < 2 ^ 32
+    → IsNew (record { nodes = nodes; draining = draining; storages = storages }) n ss → count ≡ on_rack nodes v → more ≡ insert nodes n v → counts ≡ insert racks v (count + 1)
     → all ≡ insert_all storages (named n ss) → (HasSmallKeys storages → HasSmallKeys all) → IsSound nodes racks storages → IsSound more counts all
-sound-joined nodes racks more counts storages all n v count ss fits new count_is more_is counts_are all_is small h = record {
+sound-joined nodes racks more counts draining storages all n v count ss fits new count_is more_is counts_are all_is small h = record {
   node_ids = subst (λ m. HasSmallKeys m) (sym more_is) (small_keys_insert nodes n v fits h.node_ids);
   storage_ids = small h.storage_ids;
   few_nodes = (let e = ap len more_is in let few = len-insert_most nodes n v in omega (arith, e, few, new.few_nodes));

@@ -1,52 +1,57 @@
--- What contracts see of a topology: the cluster of the definitions, and the room for registrations.
+-- What contracts see of a topology: the cluster of the definitions, and the room for registrations and for draining.
 use Rattle.std.specs.Prelude.{◌≡◌, ℕ, ◌+◌, ◌≤◌, Bool, true, false, length, refl}
 use Rattle.std.specs.Coded.{Coded, code_by, coded×, coded_ℕ}
 use Rattle.bm_base.specs.declared.event.Event.{Event}
-use Rattle.bm_base.specs.declared.event.Event.TheVariants.{Register}
+use Rattle.bm_base.specs.declared.event.Event.TheVariants.{Register, Drain}
 use Rattle.bm_base.specs.Lists.{distinct}
 use Rattle.bm_base.specs.Map.{len}
 use Rattle.bm_base.specs.State.{Cluster}
 use Rattle.bm_base.specs.Codes.{coded_cluster}
 use Rattle.bm_topo.specs.Racks.{racks_of}
 
--- for how many further nodes, racks and storages there is room
+-- for how many further nodes, nodes that drain, racks and storages there is room
 pub record Room : Type 0 where
   pub nodes : ℕ
+  pub draining : ℕ
   pub racks : ℕ
   pub storages : ℕ
 
 abbrev pub no_room : Room
-no_room = record { nodes = 0; racks = 0; storages = 0 }
+no_room = record { nodes = 0; draining = 0; racks = 0; storages = 0 }
 
 pub record Seen : Type 0 where
   pub cluster : Cluster
   pub room : Room
 
--- whether an event makes the cluster greater; only then its preparation takes memory
+-- whether an event adds something to the cluster; only then its preparation takes memory
 abbrev pub grows_cluster : Event → Bool
 grows_cluster (Register n rack ss) = true
+grows_cluster (Drain n) = true
 grows_cluster _ = false
 
 -- whether the room suffices for an event
 abbrev pub IsReadyFor : Event → Room → Type 0
 IsReadyFor (Register n rack ss) room = (1 ≤ room.nodes) × (1 ≤ room.racks) × (length ss ≤ room.storages)
+IsReadyFor (Drain n) room = 1 ≤ room.draining
 IsReadyFor _ room = Unit {0}
 
 -- whether there is as much room as before, or more
 abbrev pub IsNoLess : Room → Room → Type 0
-IsNoLess before after = (before.nodes ≤ after.nodes) × (before.racks ≤ after.racks) × (before.storages ≤ after.storages)
+IsNoLess before after = (before.nodes ≤ after.nodes) × (before.draining ≤ after.draining) × (before.racks ≤ after.racks) × (before.storages ≤ after.storages)
 
--- whether as many nodes, racks on which nodes stand, and storages can be had without memory, those that are there among them:
+-- whether as many nodes, nodes that drain, racks on which nodes stand, and storages can be had without memory, those that are there among them:
 -- nothing was taken, and nothing given back
 pub record IsSameCapacity (before after : Seen) : Type 0 where
   pub nodes : len after.cluster.nodes + after.room.nodes ≡ len before.cluster.nodes + before.room.nodes
+  pub draining : len after.cluster.draining + after.room.draining ≡ len before.cluster.draining + before.room.draining
   pub racks : length (distinct (racks_of after.cluster.nodes)) + after.room.racks ≡ length (distinct (racks_of before.cluster.nodes)) + before.room.racks
   pub storages : len after.cluster.storages + after.room.storages ≡ len before.cluster.storages + before.room.storages
 
 abbrev pub coded_room : Coded Room
 coded_room =
-    code_by (ℕ × (ℕ × ℕ)) (coded× coded_ℕ (coded× coded_ℕ coded_ℕ))
-    (λ r. (r.nodes, (r.racks, r.storages))) (λ t. record { nodes = t.0; racks = t.1.0; storages = t.1.1 }) (λ _. refl)
+    code_by ((ℕ × ℕ) × (ℕ × ℕ)) (coded× (coded× coded_ℕ coded_ℕ) (coded× coded_ℕ coded_ℕ))
+    (λ r. ((r.nodes, r.draining), (r.racks, r.storages)))
+    (λ t. record { nodes = t.0.0; draining = t.0.1; racks = t.1.0; storages = t.1.1 }) (λ _. refl)
 
 abbrev pub coded_seen : Coded Seen
 coded_seen = code_by (Cluster × Room) (coded× coded_cluster coded_room) (λ s. (s.cluster, s.room)) (λ t. record { cluster = t.0; room = t.1 }) (λ _. refl)

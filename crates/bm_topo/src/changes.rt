@@ -13,9 +13,9 @@ use bm_base::{Event, NodeId, Rack, Refusal, Remaining, StorageId};
 use std::alloc::AllocError;
 
 impl Topology {
-    /// Makes the room that the event's [`Topology::commit`] needs, where [`Topology::check`] passed. Only a registration needs
-    /// room in the cluster, so only it can answer `Memory`, and not where there is room already: then nothing changes. The
-    /// cluster stays as it is, and so does room that was made before.
+    /// Makes the room that the event's [`Topology::commit`] needs, where [`Topology::check`] passed. Only a registration and a node
+    /// that drains need room in the cluster, so only they can answer `Memory`, and not where there is room already: then nothing
+    /// changes. The cluster stays as it is, and so does room that was made before.
     pub fn prepare(&mut self, event: &Event) -> Result<(), Refusal>
         requires { first_of (cluster_checks self.old.cluster event.now) ≡ None }
         ensures ready { OnOk result (IsReadyFor event.now self.new.room) }
@@ -28,6 +28,7 @@ impl Topology {
     {
         match event {
             Event::Register { storages, .. } => Ok(self.reserve(storages.as_slice().len())?),
+            Event::Drain { .. } => Ok(self.draining.reserve(1)?),
             _ => Ok(()),
         }
     }
@@ -67,6 +68,8 @@ impl Topology {
             Event::Dead { node } => self.drop_node(*node),
             Event::StorageFailed { storage } => self.drop_storage(*storage),
             Event::Heartbeat { remaining, .. } => self.set_remaining(remaining.as_slice()),
+            Event::Drain { node } => self.drain(*node),
+            Event::Undrain { node } => self.undrain(*node),
             Event::AddBlock { .. }
             | Event::DeleteBlock { .. }
             | Event::SetReplication { .. }
@@ -92,6 +95,7 @@ impl Topology {
         let count = self.count_on(rack);
         self.racks.insert_reserved(u64::from(rack.0), count + 1);
         self.nodes.insert_reserved(u64::from(node.0), rack);
+        self.draining.remove(u64::from(node.0));
         add_storages(&mut self.storages, node, storages);
     }
 
@@ -101,6 +105,7 @@ impl Topology {
         ensures kept { IsNoLess self.old.room self.new.room }
     {
         drop_storages(&mut self.storages, node);
+        self.draining.remove(u64::from(node.0));
         self.forget_node(node);
     }
 
@@ -115,6 +120,22 @@ impl Topology {
         let count = self.count_on(rack);
         leave_rack(&mut self.racks, rack, count);
         self.nodes.remove(u64::from(node.0));
+    }
+
+    fn drain(&mut self, node: NodeId)
+        requires { 1 ≤ self.old.room.draining }
+        ensures after { self.new.cluster ≡ events.drain self.old.cluster node }
+        ensures no_growth { IsSameCapacity self.old self.new }
+    {
+        self.draining.insert_reserved(u64::from(node.0), ());
+    }
+
+    fn undrain(&mut self, node: NodeId)
+        ensures after { self.new.cluster ≡ events.undrain self.old.cluster node }
+        ensures no_growth { IsSameCapacity self.old self.new }
+        ensures kept { IsNoLess self.old.room self.new.room }
+    {
+        self.draining.remove(u64::from(node.0));
     }
 
     fn drop_storage(&mut self, storage: StorageId)

@@ -1,17 +1,19 @@
 // The checks of an event on the cluster, in their order.
-ghost use Rattle.std.specs.Prelude.{◌≡◌, ◌+◌, ◌||◌, not, nat_le, nat_lt, length, None, OnOk, if◌then◌else◌};
+ghost use Rattle.std.specs.Prelude.{◌≡◌, ◌≤◌, ◌^◌, ◌+◌, ◌||◌, not, nat_le, nat_lt, length, None, OnOk, if◌then◌else◌};
 ghost use Rattle.std.specs.List.{list_any};
 ghost use Rattle.bm_base.specs.Map as map;
 ghost use Rattle.bm_base.specs.Lists as lists;
 ghost use Rattle.bm_base.specs.Replicas as replicas;
-ghost use Rattle.bm_base.specs.Refusals.{first_of, cluster_checks, knows_node, knows_storage};
+ghost use Rattle.bm_base.specs.Refusals.{first_of, cluster_checks, knows_node, knows_storage, is_too_long};
+ghost use Rattle.bm_base.specs.Entries.{run_length};
 ghost use Rattle.bm_base.specs.declared.limits.TheConstants.{MAX_NODES, MAX_STORAGES};
 ghost use Rattle.bm_base.specs.Answering.{checked};
 ghost use Rattle.bm_base.specs.declared.event.Event.TheVariants as event;
 
 use crate::topology::Topology;
 use bm_base::{
-    Event, MAX_ENTRIES, MAX_NODES, MAX_STORAGES, NodeId, Rack, Refusal, Remaining, StorageId,
+    Entry, Event, MAX_ENTRIES, MAX_NODES, MAX_NUMBERS, MAX_STORAGES, NodeId, Rack, Refusal,
+    Remaining, StorageId,
 };
 
 impl Topology {
@@ -90,6 +92,17 @@ impl Topology {
         Ok(())
     }
 
+    fn check_node(&self, node: NodeId) -> Result<(), Refusal>
+        ensures { result ≡ (if knows_node self.now.cluster node then Ok tt else Err Refusal.UnknownNode) }
+    {
+        let is_known = self.knows_node(node);
+        if is_known {
+            Ok(())
+        } else {
+            Err(Refusal::UnknownNode)
+        }
+    }
+
     fn check_storage(&self, storage: StorageId) -> Result<(), Refusal>
         ensures { result ≡ (if knows_storage self.now.cluster storage then Ok tt else Err Refusal.UnknownStorage) }
     {
@@ -116,13 +129,9 @@ impl Topology {
             Event::Heartbeat { node, remaining } => {
                 self.check_heartbeat(*node, remaining.as_slice())
             }
-            Event::Dead { node } => {
-                if self.knows_node(*node) {
-                    Ok(())
-                } else {
-                    Err(Refusal::UnknownNode)
-                }
-            }
+            Event::Dead { node } => self.check_node(*node),
+            Event::Drain { node } => self.check_node(*node),
+            Event::Undrain { node } => self.check_node(*node),
             Event::StorageFailed { storage } => self.check_storage(*storage),
             Event::Received { storage, .. } => self.check_storage(*storage),
             Event::Deleted { storage, .. } => self.check_storage(*storage),
@@ -131,7 +140,7 @@ impl Topology {
                 if !self.knows_storage(*storage) {
                     return Err(Refusal::UnknownStorage);
                 }
-                if entries.as_slice().len() > MAX_ENTRIES {
+                if is_too_long(entries.as_slice()) {
                     return Err(Refusal::TooMany);
                 }
                 Ok(())
@@ -178,6 +187,35 @@ fn has_repeats(storages: &[StorageId]) -> bool
             return true;
         }
         rest = others;
+    }
+    false
+}
+
+/// How many numbers an entry of a report names.
+fn run_length(entry: &Entry) -> u128
+    ensures count { result ≡ run_length entry.now }
+    ensures few { result ≤ 2 ^ 64 }
+{
+    if entry.from.0 > entry.to.0 {
+        return 0;
+    }
+    u128::from(entry.to.0 - entry.from.0) + 1
+}
+
+/// Whether a report has too many entries, or names too many numbers. Nothing is added up past the limit.
+#[tactic(auto, unfolding(bm_base::specs::Refusals::is_too_long, bm_base::specs::Entries::numbers_in))]
+fn is_too_long(entries: &[Entry]) -> bool
+    ensures { result ≡ is_too_long entries.now }
+{
+    if entries.len() > MAX_ENTRIES {
+        return true;
+    }
+    let mut numbers = 0u128;
+    for entry in entries {
+        numbers += run_length(entry);
+        if numbers > u128::from(MAX_NUMBERS) {
+            return true;
+        }
     }
     false
 }

@@ -20,7 +20,7 @@ impl Topology {
     }
 
     /// Whether the alive nodes will stand on two racks or more once the event is committed. Takes no memory.
-    #[tactic(auto, unfolding(bm_base::specs::Events::change_cluster, bm_base::specs::Events::register, bm_base::specs::Events::without_node, bm_base::specs::Events::without_storage, bm_base::specs::Events::heartbeat, bm_base::specs::Replicas::is_multi_rack, crate::specs::Racks::is_multi))]
+    #[tactic(auto, unfolding(bm_base::specs::Events::change_cluster, bm_base::specs::Events::register, bm_base::specs::Events::without_node, bm_base::specs::Events::without_storage, bm_base::specs::Events::heartbeat, bm_base::specs::Events::drain, bm_base::specs::Events::undrain, bm_base::specs::Replicas::is_multi_rack, crate::specs::Racks::is_multi))]
     pub fn multi_after(&self, event: &Event) -> bool
         ensures { result ≡ replicas.is_multi_rack (change_cluster self.now.cluster event.now) }
     {
@@ -29,6 +29,8 @@ impl Topology {
             Event::Dead { node } => self.is_multi_without(*node),
             Event::StorageFailed { .. }
             | Event::Heartbeat { .. }
+            | Event::Drain { .. }
+            | Event::Undrain { .. }
             | Event::AddBlock { .. }
             | Event::DeleteBlock { .. }
             | Event::SetReplication { .. }

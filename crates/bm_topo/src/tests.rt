@@ -22,8 +22,14 @@ enum Told {
     Dies(u32),
     /// A storage fails.
     Fails(u32),
-    /// A storage reports so many replicas.
+    /// A storage reports so many replicas of one block.
     Reports(u32, usize),
+    /// A storage reports a run of blocks, from a number to a number, so many times.
+    ReportsRuns(u32, u64, u64, usize),
+    /// A node is to drain.
+    Drains(u32),
+    /// A node is to drain no more.
+    Stays(u32),
 }
 
 /// What is done with what is told.
@@ -52,6 +58,8 @@ enum Step {
     FreeOn(u32),
     NodeAt(u32),
     StorageAt(u32),
+    NodeDrains(u32),
+    OnDraining(u32),
 }
 
 /// What a step answers.
@@ -75,12 +83,13 @@ fn storages(rt: &impl Abort, alloc: Global, first: u32, count: u32) -> Items<Sto
     Items::from_vec(ids)
 }
 
-/// So many entries of one block.
-fn entries(rt: &impl Abort, alloc: Global, count: usize) -> Items<Entry> {
+/// So many entries of one run of blocks.
+fn entries(rt: &impl Abort, alloc: Global, from: u64, to: u64, count: usize) -> Items<Entry> {
     let mut entries = Vec::new(alloc);
     for _ in 0..count {
         let entry = Entry {
-            id: BlockId(7),
+            from: BlockId(from),
+            to: BlockId(to),
             stamp: Stamp {
                 generation: Gen(1),
                 len: 10,
@@ -139,8 +148,14 @@ fn event_of(rt: &impl Abort, alloc: Global, told: Told) -> Event {
         },
         Told::Reports(storage, count) => Event::FullReport {
             storage: StorageId(storage),
-            entries: entries(rt, alloc, count),
+            entries: entries(rt, alloc, 7, 7, count),
         },
+        Told::ReportsRuns(storage, from, to, count) => Event::FullReport {
+            storage: StorageId(storage),
+            entries: entries(rt, alloc, from, to, count),
+        },
+        Told::Drains(node) => Event::Drain { node: NodeId(node) },
+        Told::Stays(node) => Event::Undrain { node: NodeId(node) },
     }
 }
 
@@ -213,6 +228,11 @@ fn answer_of(rt: &impl Abort, alloc: Global, topology: &mut Topology, step: Step
         Step::Do(deed, told) => done_with(topology, deed, &event_of(rt, alloc, told)),
         Step::Crowd => crowd(topology, alloc),
         Step::HasRacks => yes(topology.multi_rack()),
+        Step::OnDraining(storage) => yes(topology.is_draining(StorageId(storage))),
+        Step::NodeDrains(node) => match topology.node_drains(NodeId(node)) {
+            Some(drains) => yes(drains),
+            None => Answer::Nothing,
+        },
         _ => number(looked_up(topology, step)),
     }
 }
@@ -414,7 +434,7 @@ fn what_is_given_up_leaves_the_cluster(rt: HostRuntime) {
     );
 }
 
-const REFUSALS_IN_THE_ORDER_OF_THE_CHECKS: [(Step, Answer); 12] = [
+const REFUSALS_IN_THE_ORDER_OF_THE_CHECKS: [(Step, Answer); 14] = [
     (
         Step::Do(Deed::Check, Told::ComesWithTwo(1, 99, 99)),
         Answer::Refused(Refusal::NodeKnown),
@@ -460,6 +480,14 @@ const REFUSALS_IN_THE_ORDER_OF_THE_CHECKS: [(Step, Answer); 12] = [
         Step::Do(Deed::Check, Told::Reports(99, 65_537)),
         Answer::Refused(Refusal::UnknownStorage),
     ),
+    (
+        Step::Do(Deed::Check, Told::Drains(9)),
+        Answer::Refused(Refusal::UnknownNode),
+    ),
+    (
+        Step::Do(Deed::Check, Told::Stays(9)),
+        Answer::Refused(Refusal::UnknownNode),
+    ),
 ];
 
 #[test]
@@ -496,33 +524,154 @@ fn no_257th_node(rt: HostRuntime) {
     );
 }
 
-const NO_1025TH_STORAGE: [(Step, Answer); 6] = [
+const NO_4097TH_STORAGE: [(Step, Answer); 6] = [
     (
-        Step::Do(Deed::Take, Told::Comes(1, 1, 0, 1023)),
+        Step::Do(Deed::Take, Told::Comes(1, 1, 0, 4095)),
         Answer::Fine,
     ),
     (
-        Step::Do(Deed::Check, Told::ComesWithTwo(2, 2000, 2001)),
+        Step::Do(Deed::Check, Told::ComesWithTwo(2, 5000, 5001)),
         Answer::Refused(Refusal::TooMany),
     ),
     (
-        Step::Do(Deed::Take, Told::Comes(2, 1, 2000, 1)),
+        Step::Do(Deed::Take, Told::Comes(2, 1, 5000, 1)),
         Answer::Fine,
     ),
-    (Step::Storages, Answer::Number(1024)),
-    (Step::StorageAt(1023), Answer::Number(2000)),
+    (Step::Storages, Answer::Number(4096)),
+    (Step::StorageAt(4095), Answer::Number(5000)),
     (
-        Step::Do(Deed::Check, Told::Comes(3, 1, 2001, 1)),
+        Step::Do(Deed::Check, Told::Comes(3, 1, 5001, 1)),
         Answer::Refused(Refusal::TooMany),
     ),
 ];
 
 #[test]
-fn no_1025th_storage(rt: HostRuntime) {
+fn no_4097th_storage(rt: HostRuntime) {
     go_from(
         &rt,
         rt.alloc(),
         NOTHING.as_slice(),
-        NO_1025TH_STORAGE.as_slice(),
+        NO_4097TH_STORAGE.as_slice(),
+    );
+}
+
+const STORAGES_AT_THE_LIMIT: [(Step, Answer); 3] = [
+    (
+        Step::Do(Deed::Take, Told::Comes(5, 1, 1001, 4092)),
+        Answer::Fine,
+    ),
+    (Step::Storages, Answer::Number(4096)),
+    (
+        Step::Do(Deed::Take, Told::Comes(6, 1, 6000, 1)),
+        Answer::Refused(Refusal::TooMany),
+    ),
+];
+
+#[test]
+fn storages_at_the_limit(rt: HostRuntime) {
+    go_from(
+        &rt,
+        rt.alloc(),
+        FOUR_NODES.as_slice(),
+        STORAGES_AT_THE_LIMIT.as_slice(),
+    );
+}
+
+/// A report may name 1,048,576 numbers in its runs together; one that ends before it begins names none.
+const NUMBERS_OF_A_REPORT_AT_THE_LIMIT: [(Step, Answer); 8] = [
+    (
+        Step::Do(Deed::Check, Told::ReportsRuns(11, 0, 1_048_575, 1)),
+        Answer::Fine,
+    ),
+    (
+        Step::Do(Deed::Check, Told::ReportsRuns(11, 0, 1_048_576, 1)),
+        Answer::Refused(Refusal::TooMany),
+    ),
+    (
+        Step::Do(
+            Deed::Check,
+            Told::ReportsRuns(
+                11,
+                18_446_744_073_709_551_615,
+                18_446_744_073_709_551_615,
+                1,
+            ),
+        ),
+        Answer::Fine,
+    ),
+    (
+        Step::Do(
+            Deed::Check,
+            Told::ReportsRuns(11, 0, 18_446_744_073_709_551_615, 65_536),
+        ),
+        Answer::Refused(Refusal::TooMany),
+    ),
+    (
+        Step::Do(Deed::Check, Told::ReportsRuns(11, 1, 16, 65_536)),
+        Answer::Fine,
+    ),
+    (
+        Step::Do(Deed::Check, Told::ReportsRuns(11, 1, 17, 65_536)),
+        Answer::Refused(Refusal::TooMany),
+    ),
+    (
+        Step::Do(
+            Deed::Check,
+            Told::ReportsRuns(11, 18_446_744_073_709_551_615, 0, 65_536),
+        ),
+        Answer::Fine,
+    ),
+    (
+        Step::Do(Deed::Check, Told::ReportsRuns(11, 9, 8, 65_537)),
+        Answer::Refused(Refusal::TooMany),
+    ),
+];
+
+#[test]
+fn numbers_of_a_report_at_the_limit(rt: HostRuntime) {
+    go_from(
+        &rt,
+        rt.alloc(),
+        FOUR_NODES.as_slice(),
+        NUMBERS_OF_A_REPORT_AT_THE_LIMIT.as_slice(),
+    );
+}
+
+const NODES_DRAIN_UNTIL_THEY_STAY_OR_DIE: [(Step, Answer); 26] = [
+    (Step::NodeDrains(1), Answer::No),
+    (Step::NodeDrains(9), Answer::Nothing),
+    (Step::OnDraining(11), Answer::No),
+    (Step::OnDraining(99), Answer::No),
+    (Step::Do(Deed::GiveUp, Told::Drains(1)), Answer::Fine),
+    (Step::NodeDrains(1), Answer::No),
+    (Step::Do(Deed::Take, Told::Drains(1)), Answer::Fine),
+    (Step::Do(Deed::Take, Told::Drains(3)), Answer::Fine),
+    (Step::Do(Deed::Take, Told::Drains(1)), Answer::Fine),
+    (Step::NodeDrains(1), Answer::Yes),
+    (Step::NodeDrains(2), Answer::No),
+    (Step::OnDraining(11), Answer::Yes),
+    (Step::OnDraining(21), Answer::No),
+    (Step::OnDraining(31), Answer::Yes),
+    (Step::HasRacks, Answer::Yes),
+    (Step::Do(Deed::Foresee, Told::Drains(4)), Answer::Yes),
+    (Step::Nodes, Answer::Number(4)),
+    (Step::FreeOn(11), Answer::Number(1000)),
+    (Step::Do(Deed::Take, Told::Stays(1)), Answer::Fine),
+    (Step::Do(Deed::Take, Told::Stays(1)), Answer::Fine),
+    (Step::NodeDrains(1), Answer::No),
+    (Step::OnDraining(31), Answer::Yes),
+    (Step::Do(Deed::Take, Told::Dies(3)), Answer::Fine),
+    (Step::NodeDrains(3), Answer::Nothing),
+    (Step::Do(Deed::Take, Told::Comes(3, 2, 31, 1)), Answer::Fine),
+    (Step::NodeDrains(3), Answer::No),
+];
+
+#[test]
+fn nodes_drain_until_they_stay_or_die(rt: HostRuntime) {
+    go_from(
+        &rt,
+        rt.alloc(),
+        FOUR_NODES.as_slice(),
+        NODES_DRAIN_UNTIL_THEY_STAY_OR_DIE.as_slice(),
     );
 }

@@ -1,8 +1,9 @@
 // The tables of the cluster, and what they answer.
-ghost use Rattle.std.specs.Prelude.{◌≡◌, ◌≤◌, IfOk, IsOk, option_map, slice_get};
+ghost use Rattle.std.specs.Prelude.{◌≡◌, ◌≤◌, IfOk, IsOk, Some, None, option_map, slice_get, if◌then◌else◌};
 ghost use Rattle.bm_base.specs.Map as map;
 ghost use Rattle.bm_base.specs.State as state;
 ghost use Rattle.bm_base.specs.Replicas as replicas;
+ghost use Rattle.bm_base.specs.Refusals.{knows_node};
 ghost use Rattle.bm_base.specs.declared.limits.TheConstants.{MAX_NODES, MAX_STORAGES};
 ghost use Rattle.bm_topo.specs.Seen.{no_room};
 
@@ -10,13 +11,15 @@ use bm_base::{NodeId, NumberMap, Rack, Refusal, StorageId, StorageInfo};
 use std::alloc::Global;
 use std::marker::Model;
 
-/// The alive DataNodes with their racks, and their storages with what is free there.
+/// The alive DataNodes with their racks, those of them that drain, and their storages with what is free there.
 ///
-/// A contract sees the cluster of the definitions, and for how many further nodes, racks and storages there is room. Look-ups
-/// are by place or by binary search, in at most `MAX_NODES` nodes and `MAX_STORAGES` storages; none takes memory.
+/// A contract sees the cluster of the definitions, and for how many further nodes, racks, storages and nodes that drain there is
+/// room. Look-ups are by place or by binary search, in at most `MAX_NODES` nodes and `MAX_STORAGES` storages; none takes memory.
 #[derive(Drop)]
 pub struct Topology {
     pub(crate) nodes: NumberMap<Rack>,
+    /// The alive nodes that drain.
+    pub(crate) draining: NumberMap<()>,
     /// For each rack on which nodes stand, how many.
     pub(crate) racks: NumberMap<u32>,
     pub(crate) storages: NumberMap<StorageInfo>,
@@ -31,8 +34,8 @@ impl Model for Topology {
     ghost coded = { coded_seen };
 
     ghost view = { λ t. record {
-      cluster = record { nodes = t.nodes.map; storages = t.storages.map };
-      room = record { nodes = t.nodes.room; racks = t.racks.room; storages = t.storages.room };
+      cluster = record { nodes = t.nodes.map; draining = t.draining.map; storages = t.storages.map };
+      room = record { nodes = t.nodes.room; draining = t.draining.room; racks = t.racks.room; storages = t.storages.room };
     } };
 
     ghost invariant = { λ t. IsSound t.nodes.map t.racks.map t.storages.map };
@@ -48,6 +51,7 @@ impl Topology {
     {
         Ok(Topology {
             nodes: NumberMap::new(alloc),
+            draining: NumberMap::new(alloc),
             racks: NumberMap::new(alloc),
             storages: NumberMap::new(alloc),
         })
@@ -72,6 +76,28 @@ impl Topology {
     {
         match self.node_of(storage) {
             Some(node) => self.nodes.get(u64::from(node.0)),
+            None => None,
+        }
+    }
+
+    /// Whether a storage stands on a node that drains; not where the storage is not known.
+    #[tactic(auto, unfolding(bm_base::specs::Replicas::is_draining, bm_base::specs::Replicas::drains))]
+    pub fn is_draining(&self, storage: StorageId) -> bool
+        ensures { result ≡ replicas.is_draining self.now.cluster storage }
+    {
+        match self.node_of(storage) {
+            Some(node) => self.draining.get(u64::from(node.0)).is_some(),
+            None => false,
+        }
+    }
+
+    /// Whether a node drains; `None` where it is not alive.
+    #[tactic(auto, unfolding(bm_base::specs::Replicas::drains, bm_base::specs::Refusals::knows_node))]
+    pub fn node_drains(&self, node: NodeId) -> Option<bool>
+        ensures { result ≡ (if knows_node self.now.cluster node then Some (replicas.drains self.now.cluster node) else None) }
+    {
+        match self.nodes.get(u64::from(node.0)) {
+            Some(_) => Some(self.draining.get(u64::from(node.0)).is_some()),
             None => None,
         }
     }

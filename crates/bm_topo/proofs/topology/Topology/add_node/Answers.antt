@@ -1,6 +1,6 @@
 use Rattle.std.proofs.Common.{◌≡◌, ◌+◌, None, arith, ap, sym, subst, ◌∙◌}
 use Rattle.bm_base.specs.declared.event.Event.TheVariants.{Register}
-use Rattle.bm_base.specs.Map.{insert, insert_all, len}
+use Rattle.bm_base.specs.Map.{insert, insert_all, remove, len}
 use Rattle.bm_base.specs.Events.{register}
 use Rattle.bm_base.specs.Refusals.{first_of, cluster_checks}
 use Rattle.bm_topo.specs.Named.{named}
@@ -23,7 +23,7 @@ invariant_of-self c =
     let count = c.count_on-count.ensures ∙ sym (ap (λ t. on_rack t.cluster.nodes c.args.rack) c.self.view_is) in
     let nodes = c.insert_reserved-2.ensures.after ∙ ap (λ k. insert c.self.inside.nodes.map k c.args.rack) (c.from-2.ensures ∙ c.node.view_is) in
     let racks = c.insert_reserved.ensures.after ∙ ap (λ k. insert c.self.inside.racks.map k (c.count_on-count.result + 1)) (c.from.ensures ∙ c.rack.view_is) in
-    sound-joined c.self.inside.nodes.map c.self.inside.racks.map _ _ c.self.inside.storages.map _ c.args.node c.args.rack c.count_on-count.result c.args.storages.now (omega arith) new count nodes racks
+    sound-joined c.self.inside.nodes.map c.self.inside.racks.map _ _ c.self.inside.draining.map c.self.inside.storages.map _ c.args.node c.args.rack c.count_on-count.result c.args.storages.now (omega arith) new count nodes racks
     c.add_storages.ensures.after c.add_storages.ensures.small c.self.invariant
 
 pub returns-clause-after : goal.returns-clause-after
@@ -33,13 +33,15 @@ returns-clause-after c =
     c.insert_reserved-2.ensures.after ∙ ap (λ k. insert c.self.inside.nodes.map k c.args.rack) (c.from-2.ensures ∙ c.node.view_is)
     ∙ ap (λ t. insert t.cluster.nodes c.args.node c.args.rack) c.self.view_is in
     let storages = c.add_storages.ensures.after ∙ ap (λ t. insert_all t.cluster.storages (named c.args.node c.args.storages.now)) c.self.view_is in
-    λ i. record { nodes = nodes i; storages = storages i }
+    let draining = c.remove.ensures.after ∙ ap (remove c.self.inside.draining.map) (c.from-3.ensures ∙ c.node.view_is) ∙ ap (λ t. remove t.cluster.draining c.args.node) c.self.view_is in
+    λ i. record { nodes = nodes i; draining = draining i; storages = storages i }
 
 pub returns-clause-no_growth : goal.returns-clause-no_growth
 returns-clause-no_growth c =
-    same_capacity c.self.inside.nodes c.insert_reserved-2.new.self c.self.inside.racks c.insert_reserved.new.self c.self.inside.storages c.add_storages.new.storages c.args.self.now c.self.view_is c.self.invariant
+    same_capacity c.self.inside.nodes c.insert_reserved-2.new.self c.self.inside.racks c.insert_reserved.new.self c.self.inside.draining c.remove.new.self c.self.inside.storages c.add_storages.new.storages c.args.self.now c.self.view_is c.self.invariant
     (invariant_of-self c) (record {
       nodes_same = c.insert_reserved-2.ensures.no_growth;
+      draining_same = c.remove.ensures.no_growth;
       racks_same = c.insert_reserved.ensures.no_growth;
       storages_same = c.add_storages.ensures.no_growth;
     })

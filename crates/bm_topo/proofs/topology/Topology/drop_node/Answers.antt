@@ -1,9 +1,10 @@
-use Rattle.std.proofs.Common.{not, ap, ◌∙◌, arith}
+use Rattle.std.proofs.Common.{not, refl, ap, ◌∙◌, arith}
 use Rattle.std.specs.Prelude.{◌==◌}
 use Rattle.bm_base.specs.Map.{keep, len, remove}
 use Rattle.bm_base.proofs.Differences.{len-keep-le}
 use Rattle.bm_base.specs.Events.{without_node}
-use Rattle.bm_topo.proofs.Capacity.{seen_of, no_less_storages, no_less-then}
+use Rattle.bm_topo.proofs.Capacity.{seen_of, no_less, no_less-then}
+use Rattle.bm_topo.proofs.Lengths.{len-remove}
 use Rattle.bm_topo.proofs.Sounding.{sound-kept, others_kept}
 use Rattle.bm_topo.proofs.topology.Topology.drop_node.Goals as goal
 
@@ -15,13 +16,18 @@ unfolding without_node
 returns-clause-after c =
     let nodes = ap (λ t. remove t.cluster.nodes c.args.node) c.self.view_is in
     let storages = c.drop_storages.ensures.after ∙ ap (λ t. keep t.cluster.storages (λ _ i. not (i.node == c.args.node))) c.self.view_is ∙ others_kept c.args.self.now.cluster c.args.node in
-    c.forget_node.ensures.after ∙ (λ i. record { nodes = nodes i; storages = storages i })
+    let draining = c.remove.ensures.after ∙ ap (remove c.self.inside.draining.map) (c.from.ensures ∙ c.node.view_is) ∙ ap (λ t. remove t.cluster.draining c.args.node) c.self.view_is in
+    c.forget_node.ensures.after ∙ (λ i. record { nodes = nodes i; draining = draining i; storages = storages i })
 
 pub returns-clause-kept : goal.returns-clause-kept
 returns-clause-kept c =
     let fewer = len-keep-le c.self.inside.storages.map (λ _ i. not (i.node == c.args.node)) in
     let is = ap len c.drop_storages.ensures.after in
-    let without = seen_of c.self.inside.nodes c.self.inside.racks c.drop_storages.new.storages in
+    let left = len-remove c.self.inside.draining.map c.from.result in
+    let left_is = ap len c.remove.ensures.after in
+    let without = seen_of c.self.inside.nodes c.remove.new.self c.self.inside.racks c.drop_storages.new.storages in
     no_less-then c.args.self.now.room without.room c.forget_node.new.self.room
-    (no_less_storages c.self.inside.nodes c.self.inside.racks c.self.inside.storages c.drop_storages.new.storages c.args.self.now c.self.view_is c.drop_storages.ensures.no_growth (omega (arith, fewer, is)))
+    (no_less c.self.inside.nodes c.self.inside.nodes c.self.inside.racks c.self.inside.racks c.self.inside.draining c.remove.new.self c.self.inside.storages c.drop_storages.new.storages c.args.self.now c.self.view_is
+    (record { nodes_same = refl; draining_same = c.remove.ensures.no_growth; racks_same = refl; storages_same = c.drop_storages.ensures.no_growth })
+    (record { nodes_fewer = omega arith; draining_fewer = omega (arith, left, left_is); racks_fewer = omega arith; storages_fewer = omega (arith, fewer, is) }))
     c.forget_node.ensures.kept

@@ -13,11 +13,12 @@ pub returns-clause-after : goal.returns-clause-after
 unfolding without_storage
 returns-clause-after c =
     let nodes = ap (λ t. t.cluster.nodes) c.self.view_is in
+    let draining = ap (λ t. t.cluster.draining) c.self.view_is in
     let storages = c.remove.ensures.after ∙ ap (remove c.self.inside.storages.map) (c.from.ensures ∙ c.storage.view_is) ∙ ap (λ t. remove t.cluster.storages c.args.storage) c.self.view_is in
-    λ i. record { nodes = nodes i; storages = storages i }
+    λ i. record { nodes = nodes i; draining = draining i; storages = storages i }
 
 pub returns-clause-kept : goal.returns-clause-kept
 returns-clause-kept c =
     let fewer = len-remove c.self.inside.storages.map c.from.result in
     let is = ap len c.remove.ensures.after in
-    no_less_storages c.self.inside.nodes c.self.inside.racks c.self.inside.storages c.remove.new.self c.args.self.now c.self.view_is c.remove.ensures.no_growth (omega (arith, fewer, is))
+    no_less_storages c.self.inside.nodes c.self.inside.racks c.self.inside.draining c.self.inside.storages c.remove.new.self c.args.self.now c.self.view_is c.remove.ensures.no_growth (omega (arith, fewer, is))

@@ -10,7 +10,7 @@ use Rattle.bm_topo.proofs.topology.Topology.forget_node.Goals as goal
 pub returns-in_default-clause-after : goal.returns-in_default-clause-after
 returns-in_default-clause-after c =
     let nodes = sym (remove_absent c.args.self.now.cluster.nodes c.args.node (sym c.rack_of_node.ensures ∙ c.in_default.is)) in
-    λ i. record { nodes = nodes i; storages = c.args.self.now.cluster.storages }
+    λ i. record { nodes = nodes i; draining = c.args.self.now.cluster.draining; storages = c.args.self.now.cluster.storages }
 
 pub leave_rack-requires : goal.leave_rack-requires
 leave_rack-requires c =
@@ -26,8 +26,8 @@ invariant_of-self c =
 
 pub returns-clause-no_growth : goal.returns-clause-no_growth
 returns-clause-no_growth c =
-    same_capacity c.self.inside.nodes c.remove.new.self c.self.inside.racks c.leave_rack.new.racks c.self.inside.storages c.self.inside.storages c.args.self.now c.self.view_is c.self.invariant (invariant_of-self c)
-    (record { nodes_same = c.remove.ensures.no_growth; racks_same = c.leave_rack.ensures.no_growth; storages_same = refl })
+    same_capacity c.self.inside.nodes c.remove.new.self c.self.inside.racks c.leave_rack.new.racks c.self.inside.draining c.self.inside.draining c.self.inside.storages c.self.inside.storages c.args.self.now c.self.view_is c.self.invariant (invariant_of-self c)
+    (record { nodes_same = c.remove.ensures.no_growth; draining_same = refl; racks_same = c.leave_rack.ensures.no_growth; storages_same = refl })
 
 pub returns-clause-kept : goal.returns-clause-kept
 returns-clause-kept c =
@@ -35,6 +35,6 @@ returns-clause-kept c =
     let nodes_is = ap len c.remove.ensures.after in
     let racks = len-without_one c.self.inside.racks.map c.in-Some.rack c.count_on-count.result in
     let racks_is = ap len c.leave_rack.ensures.after in
-    no_less c.self.inside.nodes c.remove.new.self c.self.inside.racks c.leave_rack.new.racks c.self.inside.storages c.self.inside.storages c.args.self.now c.self.view_is
-    (record { nodes_same = c.remove.ensures.no_growth; racks_same = c.leave_rack.ensures.no_growth; storages_same = refl })
-    (record { nodes_fewer = omega (arith, nodes, nodes_is); racks_fewer = omega (arith, racks, racks_is); storages_fewer = omega arith })
+    no_less c.self.inside.nodes c.remove.new.self c.self.inside.racks c.leave_rack.new.racks c.self.inside.draining c.self.inside.draining c.self.inside.storages c.self.inside.storages c.args.self.now c.self.view_is
+    (record { nodes_same = c.remove.ensures.no_growth; draining_same = refl; racks_same = c.leave_rack.ensures.no_growth; storages_same = refl })
+    (record { nodes_fewer = omega (arith, nodes, nodes_is); draining_fewer = omega arith; racks_fewer = omega (arith, racks, racks_is); storages_fewer = omega arith })

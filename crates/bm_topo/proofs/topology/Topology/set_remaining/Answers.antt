@@ -12,11 +12,12 @@ pub returns-clause-after : goal.returns-clause-after
 unfolding heartbeat
 returns-clause-after c =
     let nodes = ap (λ t. t.cluster.nodes) c.self.view_is in
+    let draining = ap (λ t. t.cluster.draining) c.self.view_is in
     let storages = c.set_remaining.ensures.after ∙ ap (λ t. set_remaining t.cluster.storages c.args.remaining.now) c.self.view_is in
-    λ i. record { nodes = nodes i; storages = storages i }
+    λ i. record { nodes = nodes i; draining = draining i; storages = storages i }
 
 pub returns-clause-kept : goal.returns-clause-kept
 returns-clause-kept c =
     let fewer = len-set_remaining c.args.remaining.now c.self.inside.storages.map in
     let is = ap len c.set_remaining.ensures.after in
-    no_less_storages c.self.inside.nodes c.self.inside.racks c.self.inside.storages c.set_remaining.new.storages c.args.self.now c.self.view_is c.set_remaining.ensures.no_growth (omega (arith, fewer, is))
+    no_less_storages c.self.inside.nodes c.self.inside.racks c.self.inside.draining c.self.inside.storages c.set_remaining.new.storages c.args.self.now c.self.view_is c.set_remaining.ensures.no_growth (omega (arith, fewer, is))

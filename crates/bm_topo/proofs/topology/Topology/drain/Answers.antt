@@ -1,0 +1,18 @@
+use Rattle.std.proofs.Common.{refl, ap, ◌∙◌}
+use Rattle.bm_base.specs.Map.{insert}
+use Rattle.bm_base.specs.Events.{drain}
+use Rattle.bm_topo.proofs.Capacity.{same_capacity}
+use Rattle.bm_topo.proofs.topology.Topology.drain.Goals as goal
+
+pub returns-clause-after : goal.returns-clause-after
+unfolding drain
+returns-clause-after c =
+    let nodes = ap (λ t. t.cluster.nodes) c.self.view_is in
+    let draining = c.insert_reserved.ensures.after ∙ ap (λ k. insert c.self.inside.draining.map k tt) (c.from.ensures ∙ c.node.view_is) ∙ ap (λ t. insert t.cluster.draining c.args.node tt) c.self.view_is in
+    let storages = ap (λ t. t.cluster.storages) c.self.view_is in
+    λ i. record { nodes = nodes i; draining = draining i; storages = storages i }
+
+pub returns-clause-no_growth : goal.returns-clause-no_growth
+returns-clause-no_growth c =
+    same_capacity c.self.inside.nodes c.self.inside.nodes c.self.inside.racks c.self.inside.racks c.self.inside.draining c.insert_reserved.new.self c.self.inside.storages c.self.inside.storages c.args.self.now c.self.view_is c.self.invariant
+    c.self.invariant (record { nodes_same = refl; draining_same = c.insert_reserved.ensures.no_growth; racks_same = refl; storages_same = refl })
