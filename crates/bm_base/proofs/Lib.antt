@@ -7,5 +7,6 @@ pub mod Ties
 pub mod Keeping
 pub mod Differences
 pub mod Distinct
+pub mod Naming
 pub mod SlotLists
 pub mod Room

@@ -6,10 +6,11 @@ use Rattle.bm_base.specs.declared.replica.Marks.{Marks}
 use Rattle.bm_base.specs.declared.replica.Stamp.{Stamp}
 use Rattle.bm_base.specs.declared.event.Done.{Done}
 use Rattle.bm_base.specs.Map.{keep, len, remove}
-use Rattle.bm_base.specs.State.{Holdings}
-use Rattle.bm_base.specs.Events.{without_storages, delete_block, set_replication, restamp, remove_replica, make_bad, without_pending, revise_block, as_stray, as_restamped}
+use Rattle.bm_base.specs.State.{Cluster, Holdings}
+use Rattle.bm_base.specs.Replicas.{drains, has_storage}
+use Rattle.bm_base.specs.Events.{without_storages, delete_block, set_replication, restamp, remove_replica, make_bad, without_pending, revise_block, as_stray, as_restamped, without_transfers_to_drained}
 use Rattle.bm_base.specs.Map.{revise_at}
-use Rattle.bm_base.specs.Calls.{done}
+use Rattle.bm_base.specs.Calls.{done, new_replicas}
 use Rattle.bm_manager.specs.declared.changes.BlockChange.{BlockChange}
 use Rattle.bm_manager.specs.Changed.{changed, changed_entry}
 use Rattle.bm_manager.proofs.Counts.{same_replicas, none_by_revise, gone_by_keep, gone_by_remove}
@@ -36,6 +37,12 @@ done-restamp H b stamp = let k = none_by_revise H.replicas (λ q m. if q.block =
 pub done-set_replication : (H : Holdings) (b repl : ℕ) → counted 0 0 ≡ done H (set_replication H b repl)
 unfolding done set_replication
 done-set_replication H b repl = λ i. counted (sym (same_replicas H.replicas) i) (sym (same_replicas H.replicas) i)
+
+pub done-begun_to_drain : (C : Cluster) (H : Holdings) (n : ℕ) → counted 0 0 ≡ done H (without_transfers_to_drained C H n)
+unfolding done without_transfers_to_drained
+done-begun_to_drain C H n =
+    let same : counted 0 0 ≡ counted (new_replicas H.replicas H.replicas) (new_replicas H.replicas H.replicas) = λ i. counted (sym (same_replicas H.replicas) i) (sym (same_replicas H.replicas) i) in
+    elim (drains C n) as (λ b. counted 0 0 ≡ done H (if b then H else record H { pending = keep H.pending (λ q _. not (has_storage C n q.storage)) })) [ true ↦ same | false ↦ same ]
 
 pub done-make_bad : (H : Holdings) (p : ReplicaId) → counted 0 0 ≡ done H (make_bad H p)
 unfolding done make_bad revise_at

@@ -2,9 +2,9 @@
 use Rattle.std.proofs.Common.{◌≡◌, ◌+◌, [], true, if◌then◌else◌, refl}
 use Rattle.bm_base.specs.Map.{revise}
 use Rattle.bm_base.specs.State.{State}
-use Rattle.bm_base.specs.Replicas.{storages_where}
+use Rattle.bm_base.specs.Replicas.{storages_where, has_enough_live}
 use Rattle.bm_base.specs.Excess.{without_expired, begun}
-use Rattle.bm_base.specs.Deletes.{has_enough_live, is_deletable, deletable_on, deletes_of, deletes}
+use Rattle.bm_base.specs.Deletes.{is_deletable, deletable_on, deletes_of, deletes}
 use Rattle.bm_base.specs.Rounds.{commands_of, finished, is_commanded, narrow_round}
 
 pub narrow_commands : (M : State) → (narrow_round M).0 ≡ commands_of M.cluster (M.round + 1) [] (deletes M.limits M.cluster M.holdings)

@@ -11,9 +11,9 @@ use Rattle.bm_base.specs.declared.call.Answer.TheVariants as answer
 use Rattle.bm_base.specs.State.{State}
 use Rattle.bm_manager.specs.Built.{built_step}
 use Rattle.bm_base.specs.Levels.{level}
-use Rattle.bm_base.specs.Queries.{all_replicas, corrupt_replicas, excess_replicas, missing_blocks, blocks_on, places}
+use Rattle.bm_base.specs.Queries.{all_replicas, corrupt_replicas, excess_replicas, missing_blocks, blocks_on, places, is_retired}
 use Rattle.bm_base.specs.Calls.{step_with, refused_or, done_by, after_event, counted}
-use Rattle.bm_base.specs.Refusals.{refusal_of, round_refusal, storage_refusal, block_refusal}
+use Rattle.bm_base.specs.Refusals.{refusal_of, round_refusal, node_refusal, storage_refusal, block_refusal}
 use Rattle.bm_base.specs.Rounds.{narrow_round}
 use Rattle.bm_base.specs.Answering.{Refuses, MayAnswer, state_left, may_want_memory, is_refused, wants_memory}
 
@@ -89,6 +89,10 @@ step_places M b = refl
 pub step_level : (M : State) (b : ℕ) → built_step M (call.LevelOf b) ≡ refused_or M (block_refusal M.holdings b) (answer.LevelIs (level M.cluster M.holdings b), M)
 unfolding built_step step_with
 step_level M b = refl
+
+pub step_retired : (M : State) (n : ℕ) → built_step M (call.Retired n) ≡ refused_or M (node_refusal M.cluster n) (answer.IsRetired (is_retired M.cluster M.holdings n), M)
+unfolding built_step step_with
+step_retired M n = refl
 
 pub step_calls : (M : State) → built_step M call.Calls ≡ (answer.Number M.calls, M)
 unfolding built_step step_with

@@ -11,6 +11,6 @@ grows_holdings (Received s b stamp) = true
 grows_holdings (FullReport s es) = true
 grows_holdings _ = false
 
--- beside these, only a registration takes memory
+-- beside these, only a registration and a node that drains take memory
 abbrev pub needs_memory : Event → Bool
 needs_memory e = grows_cluster e || grows_holdings e

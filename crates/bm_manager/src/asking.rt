@@ -2,13 +2,13 @@
 ghost use Rattle.std.specs.Prelude.{◌≡◌, true, false, None, IfOk, IfErr, OnOk};
 ghost use Rattle.bm_base.specs.Queries as queries;
 ghost use Rattle.bm_base.specs.Levels as levels;
-ghost use Rattle.bm_base.specs.Refusals.{storage_refusal, block_refusal};
+ghost use Rattle.bm_base.specs.Refusals.{node_refusal, storage_refusal, block_refusal};
 ghost use Rattle.bm_base.specs.Answering.{Refuses};
 ghost use Rattle.bm_base.specs.declared.refusal.Refusal.TheVariants.{Memory};
 
 use crate::manager::Manager;
 use crate::standing::knows_storage;
-use bm_base::{BlockId, Items, Level, Refusal, Replica, ReplicaId, StorageId};
+use bm_base::{BlockId, Items, Level, NodeId, Refusal, Replica, ReplicaId, StorageId};
 
 impl Manager {
     /// How many calls were accepted, from `first_call` on. Takes no memory.
@@ -62,7 +62,7 @@ impl Manager {
         Ok(self.holdings.blocks_on(self.alloc, storage)?)
     }
 
-    /// The known blocks of which no replica is live, rising. `Memory`.
+    /// The known blocks of which no replica is usable, rising. `Memory`.
     pub fn missing(&self) -> Result<Items<BlockId>, Refusal>
         ensures missing { IfOk result (λ v. v ≡ queries.missing_blocks self.now.cluster self.now.holdings) }
         ensures refused { IfErr result (λ e. e ≡ Memory) }
@@ -81,6 +81,20 @@ impl Manager {
             return Err(Refusal::UnknownBlock);
         }
         Ok(self.holdings.places(self.alloc, id)?)
+    }
+
+    /// Whether a node can be taken away: it drains, and each block with a drained replica on it has as many live ones as are
+    /// wanted. `UnknownNode`. Takes no memory.
+    #[tactic(auto, unfolding(bm_base::specs::Refusals::node_refusal, bm_base::specs::Queries::is_retired))]
+    pub fn retired(&self, node: NodeId) -> Result<bool, Refusal>
+        ensures known { OnOk result (node_refusal self.now.cluster node ≡ None) }
+        ensures retired { IfOk result (λ b. b ≡ queries.is_retired self.now.cluster self.now.holdings node) }
+        ensures refused { IfErr result (Refuses (node_refusal self.now.cluster node) false) }
+    {
+        match self.topology.node_drains(node) {
+            None => Err(Refusal::UnknownNode),
+            Some(drains) => Ok(drains && !self.holdings.is_held_back(&self.topology, node)),
+        }
     }
 
     /// How urgently the block wants replicas; `None` where it wants none. `UnknownBlock`. Takes no memory.

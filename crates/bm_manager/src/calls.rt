@@ -51,6 +51,10 @@ impl Manager {
                 Ok(level) => Answer::LevelIs(level),
                 Err(refusal) => Answer::Refused(refusal),
             },
+            Call::Retired(node) => match self.retired(*node) {
+                Ok(is_retired) => Answer::IsRetired(is_retired),
+                Err(refusal) => Answer::Refused(refusal),
+            },
             Call::Calls => Answer::Number(self.calls()),
             Call::Rounds => Answer::Number(self.rounds()),
         }

@@ -1,10 +1,11 @@
 // What each event changes in the blocks and replicas. New blocks, received replicas and full reports take memory; all others
 // change entries in place.
-ghost use Rattle.std.specs.Prelude.{◌≡◌, ◌==◌, not, if◌then◌else◌, IsTrue, IfOk, OnOk, OnErr, ◌++◌};
+ghost use Rattle.std.specs.Prelude.{◌≡◌, ◌==◌, not, if◌then◌else◌, None, IsTrue, IfOk, OnOk, OnErr, ◌++◌};
 ghost use Rattle.bm_base.specs.Map as map;
 ghost use Rattle.bm_base.specs.Events as events;
 ghost use Rattle.bm_base.specs.Replicas as replicas_of;
 ghost use Rattle.bm_base.specs.Calls as calls;
+ghost use Rattle.bm_base.specs.Refusals.{first_of, cluster_checks, knows_node};
 ghost use Rattle.bm_manager.specs.Changed.{changed};
 ghost use Rattle.bm_manager.specs.Growth.{grows_holdings};
 
@@ -28,16 +29,21 @@ pub enum BlockChange {
 }
 
 impl Holdings {
-    /// Changes the blocks and replicas by an event, where the cluster is as before it. An `Err` changes nothing.
+    /// Changes the blocks and replicas by an event that no check on the cluster refuses, where the cluster is as before it. An
+    /// `Err` changes nothing.
     #[tactic(auto, unfolding(bm_base::specs::Events::change_holdings))]
     pub fn change(&mut self, topology: &Topology, event: &Event) -> Result<Done, AllocError>
+        requires { first_of (cluster_checks topology.now.cluster event.now) ≡ None }
         ensures done { IfOk result (λ d. d ≡ calls.done self.old (events.change_holdings topology.now.cluster self.old event.now)) }
         ensures state { OnOk result (self.new ≡ events.change_holdings topology.now.cluster self.old event.now) }
         ensures memory { OnErr result (IsTrue (grows_holdings event.now)) }
         ensures unchanged { OnErr result (self.new ≡ self.old) }
     {
         match event {
-            Event::Register { .. } | Event::Heartbeat { .. } => Ok(self.unchanged()),
+            Event::Register { .. } | Event::Heartbeat { .. } | Event::Undrain { .. } => {
+                Ok(self.unchanged())
+            }
+            Event::Drain { node } => Ok(self.begin_to_drain(topology, *node)),
             Event::Dead { node } => Ok(self.drop_node(topology, *node)),
             Event::StorageFailed { storage } => Ok(self.drop_storage(*storage)),
             Event::AddBlock { id, stamp, repl } => self.add_block(*id, *stamp, *repl),
@@ -98,6 +104,19 @@ impl Holdings {
         drop_on_storage(&mut self.replicas, storage);
         drop_on_storage(&mut self.pending, storage);
         tally::gone(before - self.replicas.len())
+    }
+
+    /// The transfers to the storages of a node leave, but where the node drains already.
+    #[tactic(auto, unfolding(bm_base::specs::Events::without_transfers_to_drained))]
+    fn begin_to_drain(&mut self, topology: &Topology, node: NodeId) -> Done
+        requires { IsTrue (knows_node topology.now.cluster node) }
+        ensures done { result ≡ calls.done self.old (events.without_transfers_to_drained topology.now.cluster self.old node) }
+        ensures state { self.new ≡ events.without_transfers_to_drained topology.now.cluster self.old node }
+    {
+        if topology.node_drains(node) != Some(true) {
+            drop_on_node(&mut self.pending, topology, node);
+        }
+        tally::none()
     }
 
     /// The block is not known any more, its replicas are stray, and the transfers of it leave.

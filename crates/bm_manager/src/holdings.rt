@@ -163,6 +163,8 @@ impl Holdings {
             | Event::Dead { .. }
             | Event::StorageFailed { .. }
             | Event::Heartbeat { .. }
+            | Event::Drain { .. }
+            | Event::Undrain { .. }
             | Event::Received { .. }
             | Event::Deleted { .. }
             | Event::FullReport { .. } => Ok(()),

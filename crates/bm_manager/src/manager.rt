@@ -76,8 +76,8 @@ impl Manager {
 
     /// Takes one event. The refusals are those of its variant in their order, then `CallsSpent` where the number of accepted
     /// calls is at its last value, then `Memory`; a refused event changes nothing. Heartbeat, DeleteBlock, SetReplication,
-    /// Restamp, Deleted and Corrupt take no memory, and Dead and StorageFailed take none so far, so they are accepted where no
-    /// check refuses them.
+    /// Restamp, Deleted and Corrupt take no memory, and Dead, StorageFailed and Undrain take none so far, so they are accepted where
+    /// no check refuses them.
     #[tactic(auto, unfolding(bm_base::specs::Calls::after_event, bm_base::specs::Calls::done_by))]
     pub fn apply(&mut self, event: &Event) -> Result<Done, Refusal>
         ensures accepted { OnOk result (refusal_of self.old event.now ≡ None) }

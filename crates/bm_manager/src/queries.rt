@@ -1,12 +1,17 @@
 // What can be asked of the blocks and replicas.
 ghost use Rattle.std.specs.Prelude.{◌≡◌, ◌==◌, ◌&&◌, length, filter_map, None, if◌then◌else◌, IfOk};
+ghost use Rattle.std.specs.List.{list_any};
+ghost use Rattle.bm_base.specs.Map as map;
 ghost use Rattle.bm_base.specs.Replicas as replicas;
 ghost use Rattle.bm_base.specs.Queries as queries;
 ghost use Rattle.bm_base.specs.Spread.{spread};
 ghost use Rattle.bm_base.specs.Levels as levels;
 
 use crate::holdings::Holdings;
-use bm_base::{BlockId, Items, Level, Marks, Rack, Replica, ReplicaId, StorageId, Tag, level_of};
+use crate::standing::has_storage;
+use bm_base::{
+    BlockId, Items, Level, Marks, NodeId, Rack, Replica, ReplicaId, StorageId, Tag, level_of,
+};
 use bm_topo::Topology;
 use std::alloc::{AllocError, Global};
 
@@ -83,7 +88,7 @@ impl Holdings {
         Ok(Items::from_vec(blocks))
     }
 
-    /// The known blocks of which no replica is live, rising.
+    /// The known blocks of which no replica is usable, rising.
     #[tactic(auto, unfolding(bm_base::specs::Queries::missing_blocks, bm_base::specs::Map::keys))]
     pub fn missing_blocks(
         &self,
@@ -116,8 +121,9 @@ impl Holdings {
         match self.blocks.get(id.0) {
             Some(info) => {
                 let live = self.live_count(topology, id);
+                let drained = self.drained_count(topology, id);
                 let racks = self.live_rack_spread(topology, id);
-                level_of(live, info.repl, racks, topology.multi_rack())
+                level_of(live, drained, info.repl, racks, topology.multi_rack())
             }
             None => None,
         }
@@ -125,16 +131,77 @@ impl Holdings {
 
     /// How many replicas of the block are live.
     #[tactic(auto, unfolding(bm_base::specs::Replicas::storages_where))]
-    pub fn live_count(&self, _topology: &Topology, id: BlockId) -> usize
-        ensures { result ≡ length (replicas.live _topology.now.cluster self.now id) }
+    pub fn live_count(&self, topology: &Topology, id: BlockId) -> usize
+        ensures { result ≡ length (replicas.live topology.now.cluster self.now id) }
     {
         let mut count = 0;
         for (replica, marks) in self.replicas.entries() {
-            if replica.block == id && is_usable(marks) {
+            if replica.block == id && is_live_on(topology, replica.storage, marks) {
                 count += 1;
             }
         }
         count
+    }
+
+    /// How many replicas of the block are drained.
+    #[tactic(auto, unfolding(bm_base::specs::Replicas::storages_where))]
+    fn drained_count(&self, topology: &Topology, id: BlockId) -> usize
+        ensures { result ≡ length (replicas.drained topology.now.cluster self.now id) }
+    {
+        let mut count = 0;
+        for (replica, marks) in self.replicas.entries() {
+            if replica.block == id && is_drained_on(topology, replica.storage, marks) {
+                count += 1;
+            }
+        }
+        count
+    }
+
+    /// Whether as many replicas of the block are live as are wanted; not of an unknown block.
+    #[tactic(auto, unfolding(bm_base::specs::Replicas::has_enough_live))]
+    pub fn has_enough_live(&self, topology: &Topology, id: BlockId) -> bool
+        ensures { result ≡ replicas.has_enough_live topology.now.cluster self.now id }
+    {
+        match self.blocks.get(id.0) {
+            Some(info) => self.live_count(topology, id) >= info.repl as usize,
+            None => false,
+        }
+    }
+
+    /// Whether a replica of the block is drained on a storage of the node.
+    #[tactic(auto, unfolding(bm_base::specs::Replicas::storages_where))]
+    fn is_drained_at(&self, topology: &Topology, node: NodeId, id: BlockId) -> bool
+        ensures { result ≡ list_any (replicas.has_storage topology.now.cluster node) (replicas.drained topology.now.cluster self.now id) }
+    {
+        for (replica, marks) in self.replicas.entries() {
+            let is_its = replica.block == id && is_drained_on(topology, replica.storage, marks);
+            if is_its && has_storage(topology, node, replica.storage) {
+                return true;
+            }
+        }
+        false
+    }
+
+    /// Whether the block holds the node back.
+    #[tactic(auto, unfolding(bm_base::specs::Queries::is_held_back_by))]
+    fn is_held_back_by(&self, topology: &Topology, node: NodeId, id: BlockId) -> bool
+        ensures { result ≡ queries.is_held_back_by topology.now.cluster self.now node id }
+    {
+        let is_drained = self.is_drained_at(topology, node, id);
+        is_drained && !self.has_enough_live(topology, id)
+    }
+
+    /// Whether a block holds the node back.
+    #[tactic(auto, unfolding(bm_base::specs::Map::keys))]
+    pub fn is_held_back(&self, topology: &Topology, node: NodeId) -> bool
+        ensures { result ≡ list_any (queries.is_held_back_by topology.now.cluster self.now node) (map.keys self.now.blocks) }
+    {
+        for (number, _) in self.blocks.entries() {
+            if self.is_held_back_by(topology, node, BlockId(*number)) {
+                return true;
+            }
+        }
+        false
     }
 
     /// On how many racks the block's live replicas stand, 2 for more.
@@ -162,9 +229,9 @@ impl Holdings {
 
 /// The rack of a replica that is a live one of the block.
 fn live_rack(topology: &Topology, id: BlockId, replica: &ReplicaId, marks: &Marks) -> Option<Rack>
-    ensures { result ≡ (if (replica.now.block == id) && replicas.is_usable marks.now then replicas.rack_of topology.now.cluster replica.now.storage else None) }
+    ensures { result ≡ (if (replica.now.block == id) && replicas.is_live_on topology.now.cluster replica.now.storage marks.now then replicas.rack_of topology.now.cluster replica.now.storage else None) }
 {
-    if replica.block == id && is_usable(marks) {
+    if replica.block == id && is_live_on(topology, replica.storage, marks) {
         topology.rack_of(replica.storage)
     } else {
         None
@@ -176,6 +243,22 @@ pub fn is_corrupt(tag: Tag) -> bool
     ensures { result ≡ replicas.is_corrupt tag }
 {
     matches!(tag, Tag::Stale | Tag::Bad)
+}
+
+/// Usable, on a node that does not drain.
+fn is_live_on(topology: &Topology, storage: StorageId, marks: &Marks) -> bool
+    ensures { result ≡ replicas.is_live_on topology.now.cluster storage marks.now }
+{
+    let is_usable = is_usable(marks);
+    is_usable && !topology.is_draining(storage)
+}
+
+/// Usable, on a node that drains.
+fn is_drained_on(topology: &Topology, storage: StorageId, marks: &Marks) -> bool
+    ensures { result ≡ replicas.is_drained_on topology.now.cluster storage marks.now }
+{
+    let is_usable = is_usable(marks);
+    is_usable && topology.is_draining(storage)
 }
 
 /// Good, and not in excess.

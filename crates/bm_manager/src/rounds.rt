@@ -20,16 +20,6 @@ use bm_topo::Topology;
 use std::alloc::{AllocError, Global};
 
 impl Holdings {
-    #[tactic(auto, unfolding(bm_base::specs::Deletes::has_enough_live))]
-    fn has_enough_live(&self, topology: &Topology, id: BlockId) -> bool
-        ensures { result ≡ deletes_of_round.has_enough_live topology.now.cluster self.now id }
-    {
-        match self.blocks.get(id.0) {
-            Some(info) => self.live_count(topology, id) >= info.repl as usize,
-            None => false,
-        }
-    }
-
     /// Whether a replica is to be deleted and was not ordered to be.
     #[tactic(auto, unfolding(bm_base::specs::Deletes::is_deletable))]
     fn is_deletable(&self, topology: &Topology, replica: &ReplicaId, marks: &Marks) -> bool

@@ -3,7 +3,7 @@ use Rattle.std.proofs.Common.{ap, sym, subst, ◌∙◌, refl}
 use Rattle.bm_base.specs.declared.call.Answer.TheVariants as answer
 use Rattle.bm_base.specs.Answering.{MayAnswer, state_left}
 use Rattle.bm_manager.specs.Built.{built_step}
-use Rattle.bm_manager.proofs.Runs.{ok_answer, ok_left, err_answer, err_left, step_answer, memory_answer, step_apply, step_round, step_replicas, step_corrupt, step_excess, step_blocks_on, step_missing, step_places, step_level, step_calls, step_rounds}
+use Rattle.bm_manager.proofs.Runs.{ok_answer, ok_left, err_answer, err_left, step_answer, memory_answer, step_apply, step_round, step_replicas, step_corrupt, step_excess, step_blocks_on, step_missing, step_places, step_level, step_retired, step_calls, step_rounds}
 use Rattle.bm_manager.proofs.manager.Manager.answer.Goals as goal
 
 pub returns-in-Ok-clause-answer : goal.returns-in-Ok-clause-answer
@@ -138,6 +138,28 @@ returns-in-Err-level-clause-state c =
     let M = c.args.self.now in
     err_left M _ _ _ (step_level M c.in-LevelOf.id) M c.in-Err-level.refusal c.in-Err-level.ensures.refused refl
     ∙ ap (λ k. state_left built_step M k (answer.Refused c.in-Err-level.refusal)) (sym c.in-LevelOf.is)
+
+pub returns-in-Ok-retired-clause-answer : goal.returns-in-Ok-retired-clause-answer
+returns-in-Ok-retired-clause-answer c =
+    let M = c.args.self.now in
+    subst (λ k. MayAnswer built_step M k (answer.IsRetired c.in-Ok-retired.is_retired)) (sym c.in-Retired.is) (ok_answer M _ _ _ (step_retired M c.in-Retired.node) _ c.in-Ok-retired.ensures.known (ap answer.IsRetired c.in-Ok-retired.ensures.retired))
+
+pub returns-in-Ok-retired-clause-state : goal.returns-in-Ok-retired-clause-state
+returns-in-Ok-retired-clause-state c =
+    let M = c.args.self.now in
+    ok_left M _ _ _ (step_retired M c.in-Retired.node) M c.in-Ok-retired.ensures.known refl ∙ ap (λ k. (built_step M k).1) (sym c.in-Retired.is)
+
+pub returns-in-Err-retired-clause-answer : goal.returns-in-Err-retired-clause-answer
+returns-in-Err-retired-clause-answer c =
+    let M = c.args.self.now in
+    subst (λ k. MayAnswer built_step M k (answer.Refused c.in-Err-retired.refusal)) (sym c.in-Retired.is)
+    (err_answer M _ _ _ (step_retired M c.in-Retired.node) c.in-Err-retired.refusal refl c.in-Err-retired.ensures.refused)
+
+pub returns-in-Err-retired-clause-state : goal.returns-in-Err-retired-clause-state
+returns-in-Err-retired-clause-state c =
+    let M = c.args.self.now in
+    err_left M _ _ _ (step_retired M c.in-Retired.node) M c.in-Err-retired.refusal c.in-Err-retired.ensures.refused refl
+    ∙ ap (λ k. state_left built_step M k (answer.Refused c.in-Err-retired.refusal)) (sym c.in-Retired.is)
 
 pub returns-in-Calls-clause-answer : goal.returns-in-Calls-clause-answer
 returns-in-Calls-clause-answer c =

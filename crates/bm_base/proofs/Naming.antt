@@ -1,0 +1,34 @@
+-- Which numbers the entries of a report name, by the ends of their runs.
+use Rattle.std.proofs.Common.{◌≡◌, ℕ, zero, suc, ◌+◌, ◌-◌, Bool, true, false, ◌&&◌, ◌||◌, List, [], ◌∷◌, ◌++◌, map, refl, sym, ap, ◌∙◌, arith}
+use Rattle.std.specs.Prelude.{◌==◌, nat_le, nat_lt, flat_map}
+use Rattle.std.specs.List.{list_any}
+use Rattle.std.proofs.lemmas.List.Folds.{list_any-append}
+use Rattle.std.proofs.lemmas.Bool.Decides.{nat_tests}
+use Rattle.bm_base.specs.declared.event.Entry.{Entry}
+use Rattle.bm_base.specs.Entries.{Told, count_up, run_length, told_by, expanded}
+use Rattle.bm_base.specs.Events.{is_named}
+
+any_mapped : {X Y : Type 0} (p : Y → Bool) (f : X → Y) (xs : List X) → list_any p (map f xs) ≡ list_any (λ x. p (f x)) xs
+any_mapped p f [] = refl
+any_mapped p f (x ∷ xs) = ap (λ b. p (f x) || b) (any_mapped p f xs)
+
+any_flat : {X Y : Type 0} (p : Y → Bool) (f : X → List Y) (xs : List X) → list_any p (flat_map f xs) ≡ list_any (λ x. list_any p (f x)) xs
+any_flat p f [] = refl
+any_flat p f (x ∷ xs) = list_any-append p (f x) (flat_map f xs) ∙ ap (λ b. list_any p (f x) || b) (any_flat p f xs)
+
+any_same : {X : Type 0} (p q : X → Bool) (xs : List X) → ((x : X) → p x ≡ q x) → list_any p xs ≡ list_any q xs
+any_same p q [] h = refl
+any_same p q (x ∷ xs) h = λ i. h x i || any_same p q xs h i
+
+-- among k numbers from n on
+counted : (n k b : ℕ) → list_any (λ x. x == b) (count_up n k) ≡ (nat_le n b && nat_lt b (n + k))
+counted n zero b = grind (arith, nat_tests)
+counted n (suc k) b = ap (λ c. (n == b) || c) (counted (suc n) k b) ∙ grind (arith, nat_tests)
+
+pub named_by : (e : Entry) (b : ℕ) → list_any (λ t. t.id == b) (told_by e) ≡ (nat_le e.from b && nat_le b e.to)
+unfolding told_by
+named_by e b = any_mapped _ _ (count_up e.from (run_length e)) ∙ counted e.from (run_length e) b ∙ grind (arith, nat_tests)
+
+pub named_in : (es : List Entry) (b : ℕ) → is_named (expanded es) b ≡ list_any (λ e. nat_le e.from b && nat_le b e.to) es
+unfolding is_named expanded
+named_in es b = any_flat (λ t. t.id == b) told_by es ∙ any_same _ _ es (λ e. named_by e b)
