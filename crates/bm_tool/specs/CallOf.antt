@@ -7,7 +7,7 @@ use Rattle.serde_json.specs.Find.{get, as_str}
 use Rattle.bm_base.specs.declared.replica.Stamp.{Stamp}
 use Rattle.bm_base.specs.declared.event.Entry.{Entry}
 use Rattle.bm_base.specs.declared.event.Remaining.{Remaining}
-use Rattle.bm_base.specs.declared.event.Event.TheVariants.{Register, Heartbeat, Dead, StorageFailed, AddBlock, DeleteBlock, SetReplication, Restamp, Received, Deleted, Corrupt, FullReport}
+use Rattle.bm_base.specs.declared.event.Event.TheVariants.{Register, Heartbeat, Dead, StorageFailed, Drain, Undrain, AddBlock, DeleteBlock, SetReplication, Restamp, Received, Deleted, Corrupt, FullReport}
 use Rattle.bm_base.specs.declared.call.Call.{Call}
 use Rattle.bm_base.specs.declared.call.Call.TheVariants as call
 use Rattle.bm_tool.specs.declared.op.Op.{Op}
@@ -59,6 +59,8 @@ stamp_fields d = stamp_from (number_field (codes "gen") d) (number_field (codes 
 -- the call of this name with the fields of the object
 abbrev pub call_for : Op → Data → Option Call
 call_for op.Register d = register_from (small_field (codes "node") d) (small_field (codes "rack") d) (small_list_field (codes "storages") d)
+call_for op.Drain d = option_map (λ n. call.Apply (Drain n)) (small_field (codes "node") d)
+call_for op.Undrain d = option_map (λ n. call.Apply (Undrain n)) (small_field (codes "node") d)
 call_for op.Add d = add_from (number_field (codes "id") d) (stamp_fields d) (small_field (codes "repl") d)
 call_for op.Received d = received_from (small_field (codes "storage") d) (number_field (codes "id") d) (stamp_fields d)
 call_for op.Heartbeat d = heartbeat_from (small_field (codes "node") d) (remaining_field (codes "remaining") d)
@@ -77,6 +79,7 @@ call_for op.ListMissing d = Some call.Missing
 call_for op.ListStorage d = option_map call.BlocksOn (small_field (codes "storage") d)
 call_for op.ListPlaces d = option_map call.Places (number_field (codes "id") d)
 call_for op.Level d = option_map call.LevelOf (number_field (codes "id") d)
+call_for op.Retired d = option_map call.Retired (small_field (codes "node") d)
 
 -- an object whose text `op` names a call, and that has its fields
 abbrev pub call_in : Data → Option Call

@@ -1,5 +1,5 @@
 -- The text of an answer, without its line end.
-use Rattle.std.specs.Prelude.{ℕ, List, [], ◌++◌, Option, Some, None, codes, decimal}
+use Rattle.std.specs.Prelude.{ℕ, Bool, true, false, List, [], ◌++◌, Option, Some, None, codes, decimal}
 use Rattle.std.specs.List.{flat_map}
 use Rattle.bm_base.specs.declared.refusal.Refusal.{Refusal}
 use Rattle.bm_base.specs.declared.refusal.Refusal.TheVariants.{UnknownNode, NodeKnown, UnknownStorage, StorageKnown, UnknownBlock, BlockKnown, StillStored, BadReplication, OldGeneration, TooMany, NotItsStorage, RoundsSpent, CallsSpent, Memory, BadConfig}
@@ -58,6 +58,10 @@ abbrev pub level_item : Option Level → List ℕ
 level_item None = codes "; none"
 level_item (Some urgency) = codes "; " ++ decimal (level_number urgency)
 
+abbrev pub yes_item : Bool → List ℕ
+yes_item true = codes "; yes"
+yes_item false = codes "; no"
+
 abbrev pub transfer_item : ℕ → Transfer → List ℕ
 transfer_item node t =
     codes "; copy " ++ (decimal node ++ (codes " " ++ (decimal t.block ++ (codes " " ++ (decimal t.stamp.generation
@@ -90,6 +94,7 @@ head_text call.Missing = codes "missing"
 head_text (call.BlocksOn s) = codes "storage " ++ decimal s
 head_text (call.Places b) = codes "places " ++ decimal b
 head_text (call.LevelOf b) = codes "level " ++ decimal b
+head_text (call.Retired n) = codes "retired " ++ decimal n
 head_text _ = []
 
 -- the text of an answer to a call; no line asks for a number alone
@@ -102,4 +107,5 @@ answer_text k (answer.ReplicaIds ps) = head_text k ++ flat_map replica_id_item p
 answer_text k (answer.Blocks bs) = head_text k ++ flat_map number_item bs
 answer_text k (answer.Storages ss) = head_text k ++ flat_map number_item ss
 answer_text k (answer.LevelIs urgency) = head_text k ++ level_item urgency
+answer_text k (answer.IsRetired is_so) = head_text k ++ yes_item is_so
 answer_text k (answer.Number n) = []

@@ -60,6 +60,8 @@ fn call_for(alloc: Global, op: Op, value: &Value) -> Result<Option<Call>, AllocE
         Op::Heartbeat => heartbeat(alloc, node, value),
         Op::Dead => Ok(from::dead_from(node)),
         Op::StorageFailed => Ok(from::storage_failed_from(storage)),
+        Op::Drain => Ok(from::drain_from(node)),
+        Op::Undrain => Ok(from::undrain_from(node)),
         Op::Add => Ok(from::add_from(id, stamp_fields(value), repl)),
         Op::Delete => Ok(from::delete_from(id)),
         Op::SetReplication => Ok(from::set_replication_from(id, repl)),
@@ -75,6 +77,7 @@ fn call_for(alloc: Global, op: Op, value: &Value) -> Result<Option<Call>, AllocE
         Op::ListStorage => Ok(from::blocks_on_from(storage)),
         Op::ListPlaces => Ok(from::places_from(id)),
         Op::Level => Ok(from::level_from(id)),
+        Op::Retired => Ok(from::retired_from(node)),
     }
 }
 

@@ -64,7 +64,8 @@ fn storages_of(alloc: Global, items: &[Value]) -> Result<Option<Vec<StorageId>>,
     Ok(Some(storages))
 }
 
-/// A list of block, generation and length, three numbers each.
+/// A list of items of three numbers, a block, its generation and its length, or of four, the first and the last block of a run
+/// before these.
 pub fn entries_field(
     alloc: Global,
     value: &Value,
@@ -104,9 +105,16 @@ fn entry_among(items: &[Value]) -> Option<Entry>
     ensures { result ≡ entry_among (map view items.now) }
 {
     match items {
-        [id, generation, len] => {
-            entry_from(id.as_u64(), stamp_from(generation.as_u64(), len.as_u64()))
-        }
+        [id, generation, len] => entry_from(
+            id.as_u64(),
+            id.as_u64(),
+            stamp_from(generation.as_u64(), len.as_u64()),
+        ),
+        [from, to, generation, len] => entry_from(
+            from.as_u64(),
+            to.as_u64(),
+            stamp_from(generation.as_u64(), len.as_u64()),
+        ),
         _ => None,
     }
 }
@@ -168,12 +176,13 @@ fn remaining_from(storage: Option<u32>, remaining: Option<u64>) -> Option<Remain
     }
 }
 
-fn entry_from(id: Option<u64>, stamp: Option<Stamp>) -> Option<Entry>
-    ensures { result ≡ entry_from id stamp }
+fn entry_from(from: Option<u64>, to: Option<u64>, stamp: Option<Stamp>) -> Option<Entry>
+    ensures { result ≡ entry_from from to stamp }
 {
-    match (id, stamp) {
-        (Some(id), Some(stamp)) => Some(Entry {
-            id: BlockId(id),
+    match (from, to, stamp) {
+        (Some(from), Some(to), Some(stamp)) => Some(Entry {
+            from: BlockId(from),
+            to: BlockId(to),
             stamp,
         }),
         _ => None,

@@ -90,6 +90,24 @@ pub fn storage_failed_from(storage: Option<u32>) -> Option<Call>
     }
 }
 
+pub fn drain_from(node: Option<u32>) -> Option<Call>
+    ensures { result ≡ option_map (λ n. call.Apply (event.Drain n)) node }
+{
+    match node {
+        Some(node) => Some(Call::Apply(Event::Drain { node: NodeId(node) })),
+        None => None,
+    }
+}
+
+pub fn undrain_from(node: Option<u32>) -> Option<Call>
+    ensures { result ≡ option_map (λ n. call.Apply (event.Undrain n)) node }
+{
+    match node {
+        Some(node) => Some(Call::Apply(Event::Undrain { node: NodeId(node) })),
+        None => None,
+    }
+}
+
 pub fn delete_from(id: Option<u64>) -> Option<Call>
     ensures { result ≡ option_map (λ n. call.Apply (event.DeleteBlock n)) id }
 {
@@ -122,6 +140,15 @@ pub fn level_from(id: Option<u64>) -> Option<Call>
 {
     match id {
         Some(id) => Some(Call::LevelOf(BlockId(id))),
+        None => None,
+    }
+}
+
+pub fn retired_from(node: Option<u32>) -> Option<Call>
+    ensures { result ≡ option_map (λ n. call.Retired n) node }
+{
+    match node {
+        Some(node) => Some(Call::Retired(NodeId(node))),
         None => None,
     }
 }

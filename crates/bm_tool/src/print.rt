@@ -1,7 +1,7 @@
 // The text of an answer.
 ghost use Rattle.std.specs.Prelude.{◌≡◌, ◌++◌, IfOk, OnOk, string_bytes};
 ghost use Rattle.std.specs.List.{flat_map};
-ghost use Rattle.bm_tool.specs.Print.{answer_text, head_text, done_text, refused_text, round_text, refusal_name, tag_name, number_item, replica_item, replica_id_item, level_item, transfer_item, delete_item, node_items};
+ghost use Rattle.bm_tool.specs.Print.{answer_text, head_text, done_text, refused_text, round_text, refusal_name, tag_name, number_item, replica_item, replica_id_item, level_item, yes_item, transfer_item, delete_item, node_items};
 
 use bm_base::{
     Answer, BlockId, Call, Commands, Delete, Done, Level, NodeCommands, NodeId, Refusal, Replica,
@@ -44,6 +44,13 @@ fn tag_name(tag: Tag) -> &'static str
     }
 }
 
+/// The item of an answer that is yes or no.
+fn yes_item(is_so: bool) -> &'static str
+    ensures { result.now ≡ yes_item is_so }
+{
+    if is_so { "; yes" } else { "; no" }
+}
+
 /// The line of an answer to a call, without its line end.
 pub fn line_of(alloc: Global, call: &Call, answer: &Answer) -> Result<String, AllocError>
     ensures { IfOk result (λ s. string_bytes s ≡ answer_text call.now answer.now) }
@@ -76,6 +83,11 @@ pub fn line_of(alloc: Global, call: &Call, answer: &Answer) -> Result<String, Al
         Answer::LevelIs(level) => {
             let mut line = head_of(alloc, call)?;
             write_level(&mut line, *level)?;
+            Ok(line)
+        }
+        Answer::IsRetired(is_so) => {
+            let mut line = head_of(alloc, call)?;
+            line.push_str(yes_item(*is_so))?;
             Ok(line)
         }
     }
@@ -126,6 +138,10 @@ fn head_of(alloc: Global, call: &Call) -> Result<String, AllocError>
         Call::LevelOf(id) => {
             let number = id.0;
             format!(in alloc; "level {number}")
+        }
+        Call::Retired(node) => {
+            let number = node.0;
+            format!(in alloc; "retired {number}")
         }
         Call::Apply(_) | Call::Round | Call::Calls | Call::Rounds => Ok(String::new(alloc)),
     }
