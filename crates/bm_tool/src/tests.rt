@@ -2,10 +2,12 @@
 // that fail. Each expected line is written by hand from the rules in docs/FORMATS.md.
 mod calls;
 mod cluster;
+mod draining;
 mod lines;
 mod noting;
 mod reports;
 mod rounds;
+mod runs;
 mod streams;
 mod support;
 mod vectors;

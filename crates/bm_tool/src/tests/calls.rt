@@ -35,21 +35,21 @@ fn register_is_refused_in_the_order_of_its_checks(rt: HostRuntime) -> Result<(),
     input.extend_from_slice(b"{\"op\":\"register\",\"node\":1,\"rack\":1,\"storages\":[11,12]}\n")?;
     // The node is known, a storage is named twice and known, and there are too many.
     input.extend_from_slice(b"{\"op\":\"register\",\"node\":1,\"rack\":1,\"storages\":[11,11")?;
-    push_storages(&mut input, 2000, 1023)?;
+    push_storages(&mut input, 5000, 4095)?;
     input.extend_from_slice(b"]}\n")?;
     // A storage is named twice, and there are too many.
     input.extend_from_slice(b"{\"op\":\"register\",\"node\":2,\"rack\":1,\"storages\":[13,13")?;
-    push_storages(&mut input, 2000, 1023)?;
+    push_storages(&mut input, 5000, 4095)?;
     input.extend_from_slice(b"]}\n")?;
     // A storage is known, and there are too many.
     input.extend_from_slice(b"{\"op\":\"register\",\"node\":2,\"rack\":1,\"storages\":[12")?;
-    push_storages(&mut input, 2000, 1023)?;
+    push_storages(&mut input, 5000, 4095)?;
     input.extend_from_slice(b"]}\n")?;
     // One storage too many, and then as many as may be.
     input.extend_from_slice(b"{\"op\":\"register\",\"node\":2,\"rack\":1,\"storages\":[13")?;
-    push_storages(&mut input, 2000, 1022)?;
+    push_storages(&mut input, 5000, 4094)?;
     input.extend_from_slice(b"]}\n{\"op\":\"register\",\"node\":2,\"rack\":1,\"storages\":[13")?;
-    push_storages(&mut input, 2000, 1021)?;
+    push_storages(&mut input, 5000, 4093)?;
     input.extend_from_slice(
         b"]}\n{\"op\":\"register\",\"node\":3,\"rack\":1,\"storages\":[14]}\n",
     )?;

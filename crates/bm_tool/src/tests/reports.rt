@@ -107,7 +107,7 @@ fn bad_reports_are_bad_lines(rt: HostRuntime) -> Result<(), Fail> {
     let alloc = rt.alloc();
     for blocks in [
         "[[7,1]]",
-        "[[7,1,10,3]]",
+        "[[7,8,1,10,3]]",
         "[[]]",
         "[7,1,10]",
         "[[7,1,10],[8,1,\"10\"]]",

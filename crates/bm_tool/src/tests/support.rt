@@ -43,6 +43,34 @@ pub fn answers_on_cluster<H>(rt: &H, alloc: Global, script: &str) -> Result<Vec<
     Ok(Vec::from_slice(alloc, answers)?)
 }
 
+/// A script on the cluster, and its answers, worked out by hand.
+pub struct Row {
+    pub script: &'static str,
+    pub answers: &'static str,
+}
+
+/// How many shards and workers there may be: no answer depends on it.
+const SHARDS_AND_WORKERS: [(u32, u32); 4] = [(3, 2), (1, 1), (5, 4), (2, 16)];
+
+/// The script on the cluster is answered so, whatever the number of shards and workers.
+pub fn is_answered<H>(rt: &H, alloc: Global, row: &Row) -> Result<(), Fail> {
+    for (shards, workers) in SHARDS_AND_WORKERS {
+        let config = Config {
+            shards,
+            workers,
+            ..Config::standard()
+        };
+        let input = cluster_then(alloc, row.script)?;
+        let (result, text) = run_with(rt, alloc, &config, input.as_slice());
+        assert!(rt; result.is_ok());
+        assert_eq!(rt;
+            text.as_slice().get(56..).unwrap_or(&[]),
+            row.answers.as_bytes()
+        );
+    }
+    Ok(())
+}
+
 /// What `run` answers and writes for an input in memory.
 pub fn run_with<H>(
     rt: &H,

@@ -10,20 +10,26 @@ fn blocks_are_cut_by_their_numbers(rt: HostRuntime) {
 
 #[test]
 fn levels_by_live_replicas_replication_and_racks(rt: HostRuntime) {
-    for (live, repl, racks, multi, want) in [
-        (0, 1, 0, true, Some(Level::NoUsableReplica)),
-        (1, 1, 1, true, None),
-        (1, 2, 1, true, Some(Level::Highest)),
-        (2, 6, 2, true, Some(Level::UnderReplicated)),
-        (2, 7, 2, true, Some(Level::VeryUnderReplicated)),
-        (2, 2, 1, true, Some(Level::BadlyDistributed)),
-        (2, 2, 1, false, None),
-        (3, 2, 1, true, Some(Level::BadlyDistributed)),
+    for (live, drained, repl, racks, multi, want) in [
+        (0, 0, 1, 0, true, Some(Level::NoUsableReplica)),
+        (1, 0, 1, 1, true, None),
+        (1, 0, 2, 1, true, Some(Level::Highest)),
+        (2, 0, 6, 2, true, Some(Level::UnderReplicated)),
+        (2, 0, 7, 2, true, Some(Level::VeryUnderReplicated)),
+        (2, 0, 2, 1, true, Some(Level::BadlyDistributed)),
+        (2, 0, 2, 1, false, None),
+        (3, 0, 2, 1, true, Some(Level::BadlyDistributed)),
+        // With drained replicas: they are worth something only where none is live.
+        (0, 1, 1, 0, true, Some(Level::Highest)),
+        (0, 2, 16, 0, false, Some(Level::Highest)),
+        (1, 1, 2, 1, true, Some(Level::Highest)),
+        (2, 3, 6, 2, true, Some(Level::UnderReplicated)),
+        (1, 1, 1, 1, true, None),
     ] {
         assert_eq!(rt;
-            level_of(live, repl, racks, multi),
+            level_of(live, drained, repl, racks, multi),
             want,
-            "at {live} of {repl}"
+            "at {live} and {drained} of {repl}"
         );
     }
 }

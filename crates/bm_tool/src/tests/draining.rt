@@ -1,0 +1,105 @@
+// Nodes that drain, as far as no round has to copy.
+use crate::tests::support::{Row, is_answered};
+use std::test::Fail;
+
+/// Its only replica is drained: the block is needed most urgently, and not missing; the node is retired once another is live.
+const DRAINING_BLOCK: Row = Row {
+    script: "{\"op\":\"add\",\"id\":7,\"gen\":1,\"len\":10,\"repl\":1}
+{\"op\":\"received\",\"storage\":11,\"id\":7,\"gen\":1,\"len\":10}
+{\"op\":\"retired\",\"node\":1}
+{\"op\":\"drain\",\"node\":1}
+{\"op\":\"level\",\"id\":7}
+{\"op\":\"list_missing\"}
+{\"op\":\"list_places\",\"id\":7}
+{\"op\":\"retired\",\"node\":1}
+{\"op\":\"retired\",\"node\":2}
+{\"op\":\"received\",\"storage\":21,\"id\":7,\"gen\":1,\"len\":10}
+{\"op\":\"level\",\"id\":7}
+{\"op\":\"retired\",\"node\":1}
+{\"op\":\"drain\",\"node\":1}
+{\"op\":\"retired\",\"node\":1}
+{\"op\":\"undrain\",\"node\":1}
+{\"op\":\"undrain\",\"node\":1}
+{\"op\":\"retired\",\"node\":1}
+{\"op\":\"drain\",\"node\":9}
+{\"op\":\"undrain\",\"node\":9}
+{\"op\":\"retired\",\"node\":9}
+",
+    answers: "ok 0 0
+ok 1 0
+retired 1; no
+ok 0 0
+level 7; 0
+missing
+places 7; 11
+retired 1; no
+retired 2; no
+ok 1 0
+level 7; none
+retired 1; yes
+ok 0 0
+retired 1; yes
+ok 0 0
+ok 0 0
+retired 1; no
+refused 1 UnknownNode
+refused 1 UnknownNode
+refused 1 UnknownNode
+",
+};
+
+#[test]
+fn draining_block_is_retired_once_another_is_live(rt: HostRuntime) -> Result<(), Fail> {
+    is_answered(&rt, rt.alloc(), &DRAINING_BLOCK)
+}
+
+/// A retired node can die: no block is missing that was not. One that holds replicas back can't.
+const RETIRED_NODE_DIES: Row = Row {
+    script: "{\"op\":\"add\",\"id\":7,\"gen\":1,\"len\":10,\"repl\":1}
+{\"op\":\"add\",\"id\":8,\"gen\":1,\"len\":10,\"repl\":2}
+{\"op\":\"received\",\"storage\":11,\"id\":7,\"gen\":1,\"len\":10}
+{\"op\":\"received\",\"storage\":11,\"id\":8,\"gen\":1,\"len\":10}
+{\"op\":\"received\",\"storage\":21,\"id\":7,\"gen\":1,\"len\":10}
+{\"op\":\"received\",\"storage\":21,\"id\":8,\"gen\":1,\"len\":10}
+{\"op\":\"drain\",\"node\":1}
+{\"op\":\"retired\",\"node\":1}
+{\"op\":\"level\",\"id\":8}
+{\"op\":\"corrupt\",\"storage\":11,\"id\":8}
+{\"op\":\"retired\",\"node\":1}
+{\"op\":\"list_missing\"}
+{\"op\":\"dead\",\"node\":1}
+{\"op\":\"list_missing\"}
+{\"op\":\"register\",\"node\":1,\"rack\":1,\"storages\":[11]}
+{\"op\":\"retired\",\"node\":1}
+{\"op\":\"drain\",\"node\":2}
+{\"op\":\"level\",\"id\":7}
+{\"op\":\"dead\",\"node\":2}
+{\"op\":\"list_missing\"}
+",
+    answers: "ok 0 0
+ok 0 0
+ok 1 0
+ok 1 0
+ok 1 0
+ok 1 0
+ok 0 0
+retired 1; no
+level 8; 0
+ok 0 0
+retired 1; yes
+missing
+ok 0 2
+missing
+ok 0 0
+retired 1; no
+ok 0 0
+level 7; 0
+ok 0 2
+missing; 7; 8
+",
+};
+
+#[test]
+fn retired_node_can_die(rt: HostRuntime) -> Result<(), Fail> {
+    is_answered(&rt, rt.alloc(), &RETIRED_NODE_DIES)
+}
