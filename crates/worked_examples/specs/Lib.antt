@@ -7,3 +7,4 @@ pub mod NarrowRounds
 pub mod Reports
 pub mod Refusals
 pub mod Limits
+pub mod Draining

@@ -1,8 +1,10 @@
 -- How many nodes, storages and report entries there may be.
-use Rattle.std.specs.Prelude.{ℕ, zero, suc, ◌+◌, ◌-◌, ◌*◌, List, [], ◌∷◌, ◌++◌, map, replicate}
+use Rattle.std.specs.Prelude.{ℕ, zero, suc, ◌+◌, ◌-◌, List, [], ◌∷◌, ◌++◌, map, replicate}
 use Rattle.bm_base.specs.declared.replica.Tag.TheVariants.{Good}
 use Rattle.bm_base.specs.declared.refusal.Refusal.TheVariants.{UnknownNode, NodeKnown, UnknownStorage, StorageKnown, TooMany, CallsSpent}
-use Rattle.worked_examples.specs.Script.{◌gives◌, Holds, usual, register, dead, storage_failed, report, entry, list_replicas, add_block, ok, replicas, replica, refused}
+use Rattle.bm_base.specs.declared.call.Call.{Call}
+use Rattle.bm_base.specs.declared.call.Answer.{Answer}
+use Rattle.worked_examples.specs.Script.{◌gives◌, Holds, HoldsOnCluster, usual, register, dead, storage_failed, report, entry, run, list_replicas, add_block, ok, replicas, replica, refused}
 
 -- so many numbers from the first on
 abbrev pub numbers_from : ℕ → ℕ → List ℕ
@@ -20,17 +22,6 @@ no_257th_node = Holds (record usual { first_call = 18446744073709551357 }) (map 
     ∷ register 256 1 [] gives refused TooMany
     ∷ dead 256 gives refused UnknownNode
     ∷ dead 257 gives refused CallsSpent
-    ∷ []))
-
--- sixteen nodes with 64 storages each
-abbrev pub no_1025th_storage : Type 0
-no_1025th_storage = Holds usual (map (λ n. register n 1 (numbers_from (64 * (17 - n)) 64) gives ok 0 0) (numbers_from 1 16) ++ (
-    register 17 1 (7 ∷ []) gives refused TooMany
-    ∷ register 17 1 (64 ∷ []) gives refused StorageKnown
-    ∷ register 17 1 [] gives ok 0 0
-    ∷ storage_failed 64 gives ok 0 0
-    ∷ register 18 1 (7 ∷ 8 ∷ []) gives refused TooMany
-    ∷ register 18 1 (7 ∷ []) gives ok 0 0
     ∷ []))
 
 -- the two accepted calls are the last that can be counted
@@ -52,3 +43,29 @@ report_of_65536_entries = Holds usual (
     ∷ report 11 (replicate 65536 (entry 7 1)) gives ok 1 0
     ∷ list_replicas gives replicas (replica 7 11 Good ∷ [])
     ∷ [])
+
+-- one number more than the runs of a report may name
+abbrev pub too_many_numbers_in_a_report : Type 0
+too_many_numbers_in_a_report = HoldsOnCluster usual (report 11 (run 0 1048576 1 ∷ []) gives refused TooMany ∷ [])
+
+-- so many numbers down from the last
+abbrev pub numbers_down : ℕ → ℕ → List ℕ
+numbers_down last zero = []
+numbers_down last (suc k) = last ∷ numbers_down (last - 1) k
+
+-- with the four of the cluster these are 4,096 storages; they come in falling order, so that the definitions compute
+abbrev pub as_many_as_may_be : List ℕ
+as_many_as_may_be = numbers_down 5092 4092
+
+abbrev pub past_the_limit : List (Call × Answer)
+past_the_limit =
+    register 6 1 (6000 ∷ []) gives refused TooMany
+    ∷ register 6 1 (1001 ∷ []) gives refused StorageKnown
+    ∷ register 6 1 [] gives ok 0 0
+    ∷ storage_failed 1001 gives ok 0 0
+    ∷ register 7 1 (6000 ∷ 6001 ∷ []) gives refused TooMany
+    ∷ register 7 1 (6000 ∷ []) gives ok 0 0
+    ∷ []
+
+abbrev pub storages_at_the_limit : Type 0
+storages_at_the_limit = HoldsOnCluster usual (register 5 1 as_many_as_may_be gives ok 0 0 ∷ past_the_limit)

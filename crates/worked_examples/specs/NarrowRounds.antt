@@ -1,5 +1,5 @@
 -- Rounds as far as they are built: strays and corrupt replicas are deleted, nothing is marked, nothing is copied.
-use Rattle.std.specs.Prelude.{List, [], ◌∷◌, ◌++◌}
+use Rattle.std.specs.Prelude.{[], ◌∷◌, ◌++◌}
 use Rattle.bm_base.specs.declared.level.Level.TheVariants.{NoUsableReplica}
 use Rattle.bm_base.specs.declared.replica.Tag.TheVariants.{Stale, Stray}
 use Rattle.bm_base.specs.declared.refusal.Refusal.TheVariants.{RoundsSpent}

@@ -4,7 +4,7 @@ use Rattle.bm_base.specs.declared.replica.Tag.TheVariants.{Stray}
 use Rattle.bm_base.specs.declared.refusal.Refusal.TheVariants.{UnknownNode, NodeKnown, UnknownStorage, StorageKnown, UnknownBlock, BlockKnown, StillStored, BadReplication, OldGeneration, NotItsStorage, RoundsSpent, CallsSpent, BadConfig}
 use Rattle.bm_base.specs.declared.config.Config.{Config}
 use Rattle.bm_base.specs.Configuration.{config_refusal}
-use Rattle.worked_examples.specs.Script.{◌gives◌, Holds, HoldsOnCluster, usual, register, dead, storage_failed, heartbeat, remaining, add_block, delete_block, set_replication, restamp, received, deleted, corrupt, report, round, list_replicas, list_storage, places, level, count_calls, count_rounds, ok, commands, replicas, replica, storages, number, refused}
+use Rattle.worked_examples.specs.Script.{◌gives◌, Holds, HoldsOnCluster, usual, register, dead, storage_failed, heartbeat, remaining, drain, undrain, add_block, delete_block, set_replication, restamp, received, deleted, corrupt, report, round, list_replicas, list_storage, places, level, retired, count_calls, count_rounds, ok, commands, replicas, replica, storages, is_not_retired, number, refused}
 
 abbrev pub refusals_are_named : Type 0
 refusals_are_named = HoldsOnCluster usual (
@@ -57,6 +57,10 @@ spent_calls_are_checked_last = HoldsOnCluster (record usual { first_call = 18446
     ∷ dead 1 gives refused CallsSpent
     ∷ storage_failed 99 gives refused UnknownStorage
     ∷ storage_failed 11 gives refused CallsSpent
+    ∷ drain 9 gives refused UnknownNode
+    ∷ drain 1 gives refused CallsSpent
+    ∷ undrain 9 gives refused UnknownNode
+    ∷ undrain 1 gives refused CallsSpent
     ∷ heartbeat 9 [] gives refused UnknownNode
     ∷ heartbeat 1 (remaining 99 5 ∷ []) gives refused UnknownStorage
     ∷ heartbeat 1 (remaining 21 5 ∷ []) gives refused NotItsStorage
@@ -86,6 +90,8 @@ spent_calls_are_checked_last = HoldsOnCluster (record usual { first_call = 18446
     ∷ list_storage 99 gives refused UnknownStorage
     ∷ places 8 gives refused UnknownBlock
     ∷ level 8 gives refused UnknownBlock
+    ∷ retired 9 gives refused UnknownNode
+    ∷ retired 1 gives is_not_retired
     ∷ places 7 gives storages []
     ∷ list_replicas gives replicas (replica 8 11 Stray ∷ [])
     ∷ count_calls gives number 18446744073709551615

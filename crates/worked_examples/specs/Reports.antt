@@ -3,8 +3,8 @@ use Rattle.std.specs.Prelude.{List, [], ◌∷◌, ◌++◌}
 use Rattle.bm_base.specs.declared.call.Call.{Call}
 use Rattle.bm_base.specs.declared.call.Answer.{Answer}
 use Rattle.bm_base.specs.declared.replica.Tag.TheVariants.{Good, Stale, Bad, Stray}
-use Rattle.bm_base.specs.declared.refusal.Refusal.TheVariants.{UnknownStorage}
-use Rattle.worked_examples.specs.Script.{◌gives◌, Holds, HoldsOnCluster, usual, register, heartbeat, remaining, add_block, received, corrupt, report, entry, round, places, list_replicas, list_corrupt, list_excess, list_storage, ok, commands, deletes_by, delete, replicas, replica, replica_ids, blocks, storages, refused}
+use Rattle.bm_base.specs.declared.refusal.Refusal.TheVariants.{UnknownStorage, TooMany}
+use Rattle.worked_examples.specs.Script.{◌gives◌, Holds, HoldsOnCluster, usual, register, heartbeat, remaining, add_block, received, corrupt, report, entry, run, round, places, list_replicas, list_corrupt, list_excess, list_storage, ok, commands, deletes_by, delete, replicas, replica, replica_ids, blocks, storages, refused}
 use Rattle.worked_examples.specs.Deletes.{one_in_excess}
 
 abbrev pub four_lines : Type 0
@@ -76,3 +76,19 @@ report_ends_with_wrong_stamp = HoldsOnCluster usual (one_in_excess ++ (
     ∷ list_excess gives replica_ids []
     ∷ list_corrupt gives replica_ids ((7, 21) ∷ [])
     ∷ []))
+
+-- the entry behind the run tells another generation of one of its blocks
+abbrev pub report_in_runs : Type 0
+report_in_runs = HoldsOnCluster usual (
+    add_block 8 3 gives ok 0 0
+    ∷ report 11 (run 7 9 1 ∷ entry 8 0 ∷ []) gives ok 3 0
+    ∷ list_replicas gives replicas (replica 7 11 Stray ∷ replica 8 11 Stale ∷ replica 9 11 Stray ∷ [])
+    ∷ report 11 (run 9 8 1 ∷ []) gives ok 0 3
+    ∷ [])
+
+abbrev pub run_at_the_last_number : Type 0
+run_at_the_last_number = HoldsOnCluster usual (
+    report 11 (run 18446744073709551615 18446744073709551615 1 ∷ []) gives ok 1 0
+    ∷ report 11 (run 0 18446744073709551615 1 ∷ []) gives refused TooMany
+    ∷ list_storage 11 gives blocks (18446744073709551615 ∷ [])
+    ∷ [])

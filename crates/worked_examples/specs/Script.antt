@@ -1,5 +1,5 @@
 -- The words of scripts: calls of a manager, each beside the answer that it gives.
-use Rattle.std.specs.Prelude.{◌≡◌, ℕ, List, [], ◌∷◌, ◌++◌, map, Some, None}
+use Rattle.std.specs.Prelude.{◌≡◌, ℕ, true, false, List, [], ◌∷◌, ◌++◌, map, Some, None}
 use Rattle.bm_base.specs.declared.config.Config.{Config}
 use Rattle.bm_base.specs.declared.replica.Stamp.{Stamp}
 use Rattle.bm_base.specs.declared.replica.Tag.{Tag}
@@ -38,8 +38,12 @@ HoldsNarrowly config script = narrow_run_of config (map (λ l. l.0) script) ≡ 
 abbrev pub stamp : ℕ → Stamp
 stamp generation = record { generation = generation; len = 10 }
 
+-- the entry of one block, and that of a run of blocks
 abbrev pub entry : ℕ → ℕ → Entry
-entry block generation = record { id = block; stamp = stamp generation }
+entry block generation = record { from = block; to = block; stamp = stamp generation }
+
+abbrev pub run : ℕ → ℕ → ℕ → Entry
+run first last generation = record { from = first; to = last; stamp = stamp generation }
 
 abbrev pub remaining : ℕ → ℕ → Remaining
 remaining storage bytes = record { storage = storage; remaining = bytes }
@@ -75,6 +79,12 @@ storage_failed storage = call.Apply (event.StorageFailed storage)
 
 abbrev pub heartbeat : ℕ → List Remaining → Call
 heartbeat node rs = call.Apply (event.Heartbeat node rs)
+
+abbrev pub drain : ℕ → Call
+drain node = call.Apply (event.Drain node)
+
+abbrev pub undrain : ℕ → Call
+undrain node = call.Apply (event.Undrain node)
 
 abbrev pub add_block : ℕ → ℕ → Call
 add_block block replication = call.Apply (event.AddBlock block (stamp 1) replication)
@@ -127,6 +137,9 @@ places block = call.Places block
 abbrev pub level : ℕ → Call
 level block = call.LevelOf block
 
+abbrev pub retired : ℕ → Call
+retired node = call.Retired node
+
 abbrev pub count_calls : Call
 count_calls = call.Calls
 
@@ -161,6 +174,13 @@ at_level urgency = answer.LevelIs (Some urgency)
 
 abbrev pub at_no_level : Answer
 at_no_level = answer.LevelIs None
+
+-- a node can be taken away, or not yet
+abbrev pub is_retired : Answer
+is_retired = answer.IsRetired true
+
+abbrev pub is_not_retired : Answer
+is_not_retired = answer.IsRetired false
 
 abbrev pub number : ℕ → Answer
 number n = answer.Number n

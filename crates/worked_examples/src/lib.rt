@@ -6,6 +6,7 @@
 
 pub mod copies;
 pub mod deletes;
+pub mod draining;
 pub mod levels;
 pub mod limits;
 pub mod narrow_rounds;

@@ -35,3 +35,14 @@ pub fn report_ends_with_right_stamp()
 pub fn report_ends_with_wrong_stamp()
     ensures { example.report_ends_with_wrong_stamp }
 {}
+
+/// A run names each number from its first to its last, and a later entry of one of them counts in its place; one that ends
+/// before it begins names none.
+pub fn report_in_runs()
+    ensures { example.report_in_runs }
+{}
+
+/// A run may end at the greatest number of 64 bits; one of all numbers is refused, and changes nothing.
+pub fn run_at_the_last_number()
+    ensures { example.run_at_the_last_number }
+{}
