@@ -13,7 +13,7 @@ use Rattle.bm_base.specs.declared.storage.StorageInfo.{StorageInfo}
 use Rattle.bm_base.specs.Lists.{has}
 use Rattle.bm_base.specs.Map.{Map, by_number, get, keys, revise_at}
 use Rattle.bm_base.specs.State.{Cluster}
-use Rattle.bm_base.specs.Replicas.{node_of, has_storage}
+use Rattle.bm_base.specs.Replicas.{node_of, has_storage, is_draining}
 use Rattle.bm_base.specs.Transfers.{node_number, streams_from, scheduled_to, stream_limit}
 use Rattle.bm_base.proofs.MapLaws.{same_map, get-revise}
 use Rattle.bm_base.proofs.Ties.{number_tie}
@@ -179,16 +179,22 @@ few_at : (counts : Map by_number ℕ) (o : Option ℕ) (limit : ℕ) → limit �
 few_at counts None limit most few = tt
 few_at counts (Some n) limit most few = omega (arith, most, few)
 
-limit_most : (urgency : Level) → stream_limit urgency ≤ 4
-limit_most Highest = omega arith
-limit_most VeryUnderReplicated = omega arith
-limit_most UnderReplicated = omega arith
-limit_most BadlyDistributed = omega arith
-limit_most NoUsableReplica = omega arith
+limit_most : (urgency : Level) (is_drained : Bool) → stream_limit urgency is_drained ≤ 4
+limit_most Highest is_drained = omega arith
+limit_most VeryUnderReplicated true = omega arith
+limit_most VeryUnderReplicated false = omega arith
+limit_most UnderReplicated true = omega arith
+limit_most UnderReplicated false = omega arith
+limit_most BadlyDistributed true = omega arith
+limit_most BadlyDistributed false = omega arith
+limit_most NoUsableReplica true = omega arith
+limit_most NoUsableReplica false = omega arith
 
-pub countable : (C : Cluster) (sends : ℕ → ℕ) (urgency : Level) (R : ℕ → ℕ → Ordering) (live : List ℕ) (m : Option ℕ) → IsLeastOf R (λ s. nat_lt (streams_by C sends s) (stream_limit urgency)) live m
+pub countable : (C : Cluster) (sends : ℕ → ℕ) (urgency : Level) (R : ℕ → ℕ → Ordering) (usable : List ℕ) (m : Option ℕ)
+    → IsLeastOf R (λ s. nat_lt (streams_by C sends s) (stream_limit urgency (is_draining C s))) usable m
     → IfSome m (λ s. IfSome (get (sender_table C sends).nodes s) (λ n. count_at (sender_table C sends).counts n < max_transfers))
-countable C sends urgency R live None h = tt
-countable C sends urgency R live (Some s) h =
+countable C sends urgency R usable None h = tt
+countable C sends urgency R usable (Some s) h =
+    let limit = stream_limit urgency (is_draining C s) in
     subst (λ o. IfSome o (λ n. count_at (sender_table C sends).counts n < max_transfers)) (sym (node_in_table C s))
-    (few_at (sender_table C sends).counts (node_of C s) (stream_limit urgency) (limit_most urgency) (subst (λ k. k < stream_limit urgency) (sym (count_as C sends s)) (ltb-true (streams_by C sends s) (stream_limit urgency) h.0)))
+    (few_at (sender_table C sends).counts (node_of C s) limit (limit_most urgency (is_draining C s)) (subst (λ k. k < limit) (sym (count_as C sends s)) (ltb-true (streams_by C sends s) limit h.0)))

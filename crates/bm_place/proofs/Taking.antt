@@ -10,7 +10,7 @@ use Rattle.bm_base.specs.declared.level.Level.TheVariants.{BadlyDistributed}
 use Rattle.bm_base.specs.Map.{keys}
 use Rattle.bm_base.specs.State.{Cluster}
 use Rattle.bm_base.specs.Lists.{least}
-use Rattle.bm_base.specs.Replicas.{rack_of, has_storage}
+use Rattle.bm_base.specs.Replicas.{rack_of, has_storage, is_draining}
 use Rattle.bm_base.specs.Levels.{is_at}
 use Rattle.bm_base.specs.Excess.{remaining}
 use Rattle.bm_base.specs.Transfers.{room, class_of, target_cmp, is_barred, is_target, least_target_by}
@@ -32,18 +32,21 @@ unfolding target_cmp room
 ordered_as C sent holders s t =
     λ i. ordering_then (nat_cmp (sym (class_standing C holders s) i) (sym (class_standing C holders t) i)) (ordering_then (nat_cmp (remaining C t - sent t) (remaining C s - sent s)) (nat_cmp s t))
 
-tests_swapped : (a b c : Bool) → (a && c && b) ≡ (a && b && c)
-tests_swapped true true true = refl
-tests_swapped true true false = refl
-tests_swapped true false true = refl
-tests_swapped true false false = refl
-tests_swapped false b c = refl
+tests_swapped : (a b c d : Bool) → ((d && a && c) && b) ≡ (a && d && b && c)
+tests_swapped true true true true = refl
+tests_swapped true true false true = refl
+tests_swapped true false true true = refl
+tests_swapped true false false true = refl
+tests_swapped false b c true = refl
+tests_swapped true b c false = refl
+tests_swapped false b c false = refl
 
 tested_as : (C : Cluster) (sent : ℕ → ℕ) (urgency : Level) (holders barred : List ℕ) (len s : ℕ) → is_free C (standing_of C holders) urgency barred len (target_at C sent s) ≡ is_target C sent urgency holders barred len s
 unfolding is_target is_barred is_barred_by has_storage
 tested_as C sent urgency holders barred len s =
     tests_swapped (nat_le (len + sent s) (remaining C s)) (not (is_barred_by C barred (target_at C sent s))) (not (is_at BadlyDistributed (Some urgency) && is_one (standing_of C holders).racks && (class_in (standing_of C holders) (rack_of C s) == 1)))
-    ∙ (λ i. nat_le (len + sent s) (remaining C s) && not (is_barred_by C barred (target_at C sent s)) && not (is_at BadlyDistributed (Some urgency) && sym (one_standing C holders) i && (sym (class_standing C holders s) i == 1)))
+    (not (is_draining C s))
+    ∙ (λ i. nat_le (len + sent s) (remaining C s) && not (is_draining C s) && not (is_barred_by C barred (target_at C sent s)) && not (is_at BadlyDistributed (Some urgency) && sym (one_standing C holders) i && (sym (class_standing C holders s) i == 1)))
 
 rows_of_listed : {X : Type 0} (f : ℕ → X) (ks : List ℕ) → map (λ e. e.1) (listed f ks) ≡ map f ks
 rows_of_listed f [] = refl

@@ -10,7 +10,7 @@ use Rattle.bm_base.specs.declared.level.Level.TheVariants.{BadlyDistributed}
 use Rattle.bm_base.specs.Lists.{has, distinct}
 use Rattle.bm_base.specs.Map.{get, keys}
 use Rattle.bm_base.specs.State.{Cluster}
-use Rattle.bm_base.specs.Replicas.{node_of, has_storage, racks}
+use Rattle.bm_base.specs.Replicas.{node_of, has_storage, is_draining, racks}
 use Rattle.bm_base.specs.Levels.{is_at}
 use Rattle.bm_base.specs.Excess.{remaining}
 use Rattle.bm_base.specs.Transfers.{room, class_of, target_cmp, is_barred, is_target, is_on_racks}
@@ -19,22 +19,23 @@ use Rattle.bm_place.specs.Least.{IsLeastOf}
 use Rattle.bm_place.specs.Targets.{target_at, target_table, LeavesRack}
 use Rattle.bm_place.proofs.Tables.{get-table}
 
-three : (a b c : Bool) → (a && b && c) ≡ true → (a ≡ true) × (b ≡ true) × (c ≡ true)
-three true true true e = (refl, refl, refl)
-three true true false e = cc
-three true false c e = cc
-three false b c e = cc
+four : (a b c d : Bool) → (a && b && c && d) ≡ true → (a ≡ true) × (b ≡ true) × (c ≡ true) × (d ≡ true)
+four true true true true e = (refl, refl, refl, refl)
+four true true true false e = cc
+four true true false d e = cc
+four true false c d e = cc
+four false b c d e = cc
 
 not_true : (b : Bool) → not b ≡ true → b ≡ false
 not_true true e = cc
 not_true false e = refl
 
--- the three parts of what a target is
-parts : (C : Cluster) (sent : ℕ → ℕ) (urgency : Level) (holders barred : List ℕ) (len s : ℕ) → is_target C sent urgency holders barred len s ≡ true → (len + sent s ≤ remaining C s) × (is_barred C barred s ≡ false)
+-- what a target is
+parts : (C : Cluster) (sent : ℕ → ℕ) (urgency : Level) (holders barred : List ℕ) (len s : ℕ) → is_target C sent urgency holders barred len s ≡ true → (len + sent s ≤ remaining C s) × (is_draining C s ≡ false) × (is_barred C barred s ≡ false)
 unfolding is_target
 parts C sent urgency holders barred len s e =
-    let all = three (nat_le (len + sent s) (remaining C s)) (not (is_barred C barred s)) (not (is_at BadlyDistributed (Some urgency) && (length (racks C holders) == 1) && (class_of C holders s == 1))) e in
-    (leb-true (len + sent s) (remaining C s) all.0, not_true (is_barred C barred s) all.1)
+    let all = four (nat_le (len + sent s) (remaining C s)) (not (is_draining C s)) (not (is_barred C barred s)) (not (is_at BadlyDistributed (Some urgency) && (length (racks C holders) == 1) && (class_of C holders s == 1))) e in
+    (leb-true (len + sent s) (remaining C s) all.0, not_true (is_draining C s) all.1, not_true (is_barred C barred s) all.2)
 
 module _ (C : Cluster) (sent : ℕ → ℕ) (urgency : Level) (holders barred : List ℕ) (len : ℕ) where
   abbrev IsFound : Option ℕ → Type 0
@@ -43,6 +44,10 @@ module _ (C : Cluster) (sent : ℕ → ℕ) (urgency : Level) (holders barred : 
   pub has_room : (m : Option ℕ) → IsFound m → IfSome m (λ s. len + sent s ≤ remaining C s)
   has_room None h = tt
   has_room (Some s) h = (parts C sent urgency holders barred len s h.0).0
+
+  pub on_kept_node : (m : Option ℕ) → IsFound m → IfSome m (λ s. is_draining C s ≡ false)
+  on_kept_node None h = tt
+  on_kept_node (Some s) h = (parts C sent urgency holders barred len s h.0).1
 
   not_any : (q : ℕ → Bool) (bs : List ℕ) (b : ℕ) → list_any q bs ≡ false → has bs b ≡ true → q b ≡ false
   not_any q [] b none there = cc
@@ -58,7 +63,7 @@ module _ (C : Cluster) (sent : ℕ → ℕ) (urgency : Level) (holders barred : 
   on_unbarred_node None h = tt
   on_unbarred_node (Some s) h = λ b n there at.
       ap (λ o. option_map_or (λ n. has_storage C n s) o false) (sym at)
-      ∙ not_any (λ t. option_map_or (λ n. has_storage C n s) (node_of C t) false) barred b (parts C sent urgency holders barred len s h.0).1 there
+      ∙ not_any (λ t. option_map_or (λ n. has_storage C n s) (node_of C t) false) barred b (parts C sent urgency holders barred len s h.0).2 there
 
   one_true : (n : ℕ) → n ≡ 1 → (n == 1) ≡ true
   one_true n e = eq-eqb n 1 e

@@ -1,14 +1,16 @@
 -- The storages of a cluster as sources of copies, by the nodes that send them.
-use Rattle.std.specs.Prelude.{ℕ, ◌+◌, refl, List, map, count_by}
+use Rattle.std.specs.Prelude.{◌≡◌, ◌<◌, ℕ, ◌+◌, Bool, true, false, nat_lt, refl, List, map, count_by, Option}
 use Rattle.std.specs.declared.cmp.Ordering.{Ordering}
 use Rattle.std.specs.Ordering.{nat_cmp, ordering_then}
 use Rattle.std.specs.Option.{option_map_or}
 use Rattle.std.specs.Coded.{Coded, code_by, coded×, coded_ℕ}
+use Rattle.bm_base.specs.declared.level.Level.{Level}
 use Rattle.bm_base.specs.declared.commands.Transfer.{Transfer}
 use Rattle.bm_base.specs.Map.{Map, by_number, get, keys, revise_at, code}
 use Rattle.bm_base.specs.State.{Cluster}
-use Rattle.bm_base.specs.Replicas.{node_of, has_storage}
-use Rattle.bm_base.specs.Transfers.{node_number}
+use Rattle.bm_base.specs.Lists.{has}
+use Rattle.bm_base.specs.Replicas.{node_of, has_storage, is_draining}
+use Rattle.bm_base.specs.Transfers.{node_number, source_rank, stream_limit}
 use Rattle.bm_place.specs.declared.source.Source.{Source}
 use Rattle.bm_place.specs.Tables.{table}
 
@@ -41,11 +43,23 @@ with_one_from s S = option_map_or (λ n. record S { counts = revise_at S.counts 
 
 -- a storage as a source, where `streams` says of how many transfers its node is the source
 abbrev pub source_at : Cluster → (ℕ → ℕ) → ℕ → Source
-source_at C streams s = record { streams = streams s; node = node_number C s; storage = s }
+source_at C streams s = record { is_drained = is_draining C s; streams = streams s; node = node_number C s; storage = s }
 
 -- which goes before which: the same on rows as `source_cmp`
 abbrev pub cmp_sources : Source → Source → Ordering
-cmp_sources s t = ordering_then (nat_cmp s.streams t.streams) (ordering_then (nat_cmp s.node t.node) (nat_cmp s.storage t.storage))
+cmp_sources s t =
+    ordering_then (nat_cmp (source_rank s.is_drained) (source_rank t.is_drained))
+    (ordering_then (nat_cmp s.streams t.streams) (ordering_then (nat_cmp s.node t.node) (nat_cmp s.storage t.storage)))
+
+-- whether its node may be the source of one more transfer at a level: the same on rows as the test of `least_source_by`
+abbrev pub may_send : Level → Source → Bool
+may_send urgency s = nat_lt s.streams (stream_limit urgency s.is_drained)
+
+-- where one of the storages stands on a node that drains and is the source of fewer than four transfers, what was found stands on
+-- a node that drains
+abbrev pub TakesDrained : Cluster → (ℕ → ℕ) → List ℕ → Option ℕ → Type 0
+TakesDrained C streams usable found =
+    (s : ℕ) → has usable s ≡ true → is_draining C s ≡ true → streams s < 4 → option_map_or (is_draining C) found false ≡ true
 
 abbrev pub coded_senders : Coded Senders
 coded_senders =

@@ -4,13 +4,13 @@ use Rattle.std.specs.declared.cmp.Ordering.{Ordering}
 use Rattle.std.specs.Ordering.{nat_cmp, ordering_then}
 use Rattle.std.specs.Option.{option_map_or, IfSome}
 use Rattle.std.specs.List.{list_any}
-use Rattle.std.specs.Coded.{Coded, code_by, coded×, coded_ℕ, coded_option}
+use Rattle.std.specs.Coded.{Coded, code_by, coded×, coded_ℕ, coded_bool, coded_option}
 use Rattle.bm_base.specs.declared.level.Level.{Level}
 use Rattle.bm_base.specs.declared.level.Level.TheVariants.{BadlyDistributed}
 use Rattle.bm_base.specs.Map.{Map, by_number, keys}
 use Rattle.bm_base.specs.State.{Cluster}
 use Rattle.bm_base.specs.Lists.{has}
-use Rattle.bm_base.specs.Replicas.{node_of, rack_of, racks}
+use Rattle.bm_base.specs.Replicas.{node_of, rack_of, is_draining, racks}
 use Rattle.bm_base.specs.Levels.{is_at}
 use Rattle.bm_base.specs.Excess.{remaining}
 use Rattle.bm_base.specs.Transfers.{is_target, is_on_racks}
@@ -21,7 +21,7 @@ use Rattle.bm_place.specs.Tables.{table}
 
 -- a storage of the cluster as a target, where `sent` says for each storage how many bytes are sent to it
 abbrev pub target_at : Cluster → (ℕ → ℕ) → ℕ → Target
-target_at C sent s = record { storage = s; node = node_of C s; rack = rack_of C s; remaining = remaining C s; scheduled = sent s }
+target_at C sent s = record { storage = s; node = node_of C s; rack = rack_of C s; is_draining = is_draining C s; remaining = remaining C s; scheduled = sent s }
 
 -- the table of a cluster: all its storages as targets
 abbrev pub target_table : Cluster → (ℕ → ℕ) → Map by_number Target
@@ -36,9 +36,9 @@ abbrev pub cmp_targets : Standing → Target → Target → Ordering
 cmp_targets w s t =
     ordering_then (nat_cmp (class_in w s.rack) (class_in w t.rack)) (ordering_then (nat_cmp (room_on t) (room_on s)) (nat_cmp s.storage t.storage))
 
--- whether the length fits, and, for a badly distributed block that is held on one rack, the rack is another
+-- whether its node does not drain, the length fits, and, for a badly distributed block that is held on one rack, the rack is another
 abbrev pub is_open : Standing → Level → ℕ → Target → Bool
-is_open w urgency len t = nat_le (len + t.scheduled) t.remaining && not (is_at BadlyDistributed (Some urgency) && is_one w.racks && (class_in w t.rack == 1))
+is_open w urgency len t = not t.is_draining && nat_le (len + t.scheduled) t.remaining && not (is_at BadlyDistributed (Some urgency) && is_one w.racks && (class_in w t.rack == 1))
 
 -- whether it stands on the node of one of these storages: the same on rows as `is_barred`
 unfoldable pub is_barred_by : Cluster → List ℕ → Target → Bool
@@ -50,9 +50,10 @@ is_free C w urgency barred len t = is_open w urgency len t && not (is_barred_by 
 
 abbrev pub coded_target : Coded Target
 coded_target =
-    code_by (ℕ × (Option ℕ × (Option ℕ × (ℕ × ℕ)))) (coded× coded_ℕ (coded× (coded_option coded_ℕ) (coded× (coded_option coded_ℕ) (coded× coded_ℕ coded_ℕ))))
-    (λ t. (t.storage, (t.node, (t.rack, (t.remaining, t.scheduled)))))
-    (λ u. record { storage = u.0; node = u.1.0; rack = u.1.1.0; remaining = u.1.1.1.0; scheduled = u.1.1.1.1 }) (λ _. refl)
+    code_by (ℕ × (Option ℕ × (Option ℕ × (Bool × (ℕ × ℕ)))))
+    (coded× coded_ℕ (coded× (coded_option coded_ℕ) (coded× (coded_option coded_ℕ) (coded× coded_bool (coded× coded_ℕ coded_ℕ)))))
+    (λ t. (t.storage, (t.node, (t.rack, (t.is_draining, (t.remaining, t.scheduled))))))
+    (λ u. record { storage = u.0; node = u.1.0; rack = u.1.1.0; is_draining = u.1.1.1.0; remaining = u.1.1.1.1.0; scheduled = u.1.1.1.1.1 }) (λ _. refl)
 
 -- whether a storage stands on none of the racks of these
 abbrev pub is_off_racks : Cluster → List ℕ → ℕ → Bool

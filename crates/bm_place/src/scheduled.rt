@@ -14,12 +14,13 @@ use bm_topo::Topology;
 use std::alloc::Global;
 use std::marker::Model;
 
-/// A storage as a target: where it stands, its remaining bytes, and how many are sent to it.
+/// A storage as a target: where it stands, whether its node drains, its remaining bytes, and how many are sent to it.
 #[derive(Clone, Copy)]
 pub struct Target {
     pub storage: StorageId,
     pub node: Option<NodeId>,
     pub rack: Option<Rack>,
+    pub is_draining: bool,
     pub remaining: u64,
     pub scheduled: u64,
 }
@@ -27,8 +28,8 @@ pub struct Target {
 /// How many bytes are sent to each storage in a round, beside where it stands.
 ///
 /// Made once for a round: it keeps what the cluster was when it was made, and knows nothing of transfers of earlier rounds. A
-/// contract sees a table with a row for each storage: the storage, its node and rack, its remaining bytes and the bytes that
-/// are sent to it.
+/// contract sees a table with a row for each storage: the storage, its node and rack, whether the node drains, its remaining
+/// bytes and the bytes that are sent to it.
 #[derive(Drop)]
 pub struct Scheduled {
     pub(crate) rows: NumberMap<Target>,
@@ -48,8 +49,8 @@ impl Model for Scheduled {
 }
 
 impl Scheduled {
-    /// Nothing is sent yet to any storage of the cluster. `Memory` where a growth of the table is refused. Looks up each storage
-    /// of the cluster once.
+    /// Nothing is sent yet to any storage of the cluster. `Memory` where a growth of the table is refused. Goes over the
+    /// storages of the cluster once, by a few look-ups each.
     pub fn new(alloc: Global, topology: &Topology) -> Result<Scheduled, Refusal>
         ensures none_yet { IfOk result (λ t. t ≡ targets.target_table topology.now.cluster (λ _. 0)) }
         ensures of_transfers { IfOk result (λ t. t ≡ targets.target_table topology.now.cluster (transfers.scheduled_to [])) }
@@ -103,6 +104,7 @@ fn target_at(topology: &Topology, storage: StorageId) -> Target
         storage,
         node: topology.node_of(storage),
         rack: topology.rack_of(storage),
+        is_draining: topology.is_draining(storage),
         remaining: remaining_on(topology, storage),
         scheduled: 0,
     }

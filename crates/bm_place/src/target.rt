@@ -4,7 +4,7 @@ ghost use Rattle.std.specs.Option.{IfSome};
 ghost use Rattle.bm_base.specs.declared.commands.Transfer.{Transfer};
 ghost use Rattle.bm_base.specs.Map as map;
 ghost use Rattle.bm_base.specs.Lists.{has};
-ghost use Rattle.bm_base.specs.Replicas.{node_of, has_storage};
+ghost use Rattle.bm_base.specs.Replicas.{node_of, has_storage, is_draining};
 ghost use Rattle.bm_base.specs.Excess.{remaining};
 ghost use Rattle.bm_base.specs.Transfers as transfers;
 ghost use Rattle.bm_place.specs.Least.{IsLeastOf};
@@ -19,14 +19,14 @@ use bm_topo::Topology;
 /// The storage to which a block of `len` bytes is copied at this level. `held` are the storages that hold the block or will,
 /// `barred` those on whose nodes no copy may be put; an unknown one has no rack, and bars nothing.
 ///
-/// A storage may be taken where `len` fits beside the bytes that are sent to it already, and its node is not barred. Where
-/// `held` stands on one rack, another rack goes first, and for a badly distributed block no other may be taken; where `held` is
-/// just two storages on two racks, these racks go first. Then more room, then the lesser storage. `None` only where none may
-/// be taken.
+/// A storage may be taken where `len` fits beside the bytes that are sent to it already, and its node does not drain and is not
+/// barred. Where `held` stands on one rack, another rack goes first, and for a badly distributed block no other may be taken;
+/// where `held` is just two storages on two racks, these racks go first. Then more room, then the lesser storage. `None` only
+/// where none may be taken.
 ///
 /// `scheduled` was made of the same cluster; else nothing is said of the answer. Goes over `held` once, by a look-up each, and
-/// over the storages of the cluster once: room and class take constant time, and whether the node is barred is asked last, only
-/// where the storage would be taken, by a look-up for each of `barred`. Takes no memory.
+/// over the storages of the cluster once: room, class and whether the node drains take constant time, and whether the node is
+/// barred is asked last, only where the storage would be taken, by a look-up for each of `barred`. Takes no memory.
 pub fn least_target(
     held: &[StorageId],
     barred: &[StorageId],
@@ -40,6 +40,7 @@ pub fn least_target(
     ensures room { (sent : ℕ → ℕ) → scheduled.now ≡ targets.target_table topology.now.cluster sent → IfSome result (λ s. len + sent s ≤ remaining topology.now.cluster s) }
     ensures fits { (sent : ℕ → ℕ) → scheduled.now ≡ targets.target_table topology.now.cluster sent → IfSome result (λ s. IfSome (map.get scheduled.now s) (λ t. len + t.scheduled ≤ t.remaining)) }
     ensures unbarred_node { (sent : ℕ → ℕ) → scheduled.now ≡ targets.target_table topology.now.cluster sent → IfSome result (λ s. (b n : ℕ) → has barred.now b ≡ true → node_of topology.now.cluster b ≡ Some n → has_storage topology.now.cluster n s ≡ false) }
+    ensures not_draining { (sent : ℕ → ℕ) → scheduled.now ≡ targets.target_table topology.now.cluster sent → IfSome result (λ s. is_draining topology.now.cluster s ≡ false) }
     ensures other_rack { (sent : ℕ → ℕ) → scheduled.now ≡ targets.target_table topology.now.cluster sent → targets.LeavesRack topology.now.cluster sent level held.now barred.now len result }
     ensures of_transfers { (chosen : List Transfer) → scheduled.now ≡ targets.target_table topology.now.cluster (transfers.scheduled_to chosen) → result ≡ transfers.least_target topology.now.cluster chosen level held.now barred.now len }
 {
@@ -80,11 +81,15 @@ fn is_taken(
         && !is_barred(target, topology, barred)
 }
 
-/// Whether the length fits, and, for a badly distributed block that is held on one rack, the rack is another.
+/// Whether the node does not drain, the length fits, and, for a badly distributed block that is held on one rack, the rack is
+/// another.
 fn is_open(target: &Target, standing: &Standing, len: u64, level: Level) -> bool
     ensures { result ≡ targets.is_open standing.now level len target.now }
 {
-    if target.scheduled > target.remaining || len > target.remaining - target.scheduled {
+    if target.is_draining
+        || target.scheduled > target.remaining
+        || len > target.remaining - target.scheduled
+    {
         return false;
     }
     !(level == Level::BadlyDistributed

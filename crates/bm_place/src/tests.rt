@@ -101,12 +101,21 @@ fn join(rt: &impl Abort, alloc: Global, topology: &mut Topology, node: &Node<'_>
     take(rt, topology, &heartbeat(rt, alloc, node, free));
 }
 
-fn cluster(rt: &impl Abort, alloc: Global, free: &[u64; 6]) -> Topology {
+fn drain(rt: &impl Abort, topology: &mut Topology, node: u32) {
+    let drains = Event::Drain { node: NodeId(node) };
+    take(rt, topology, &drains);
+}
+
+/// A cluster of nodes, some of which drain.
+fn cluster(rt: &impl Abort, alloc: Global, free: &[u64; 6], draining: &[u32]) -> Topology {
     let mut topology = Topology::new(alloc).expect(rt, "memory");
     for place in 0..6 {
         if free[place] > 0 {
             join(rt, alloc, &mut topology, &NODES[place], free[place]);
         }
+    }
+    for node in draining {
+        drain(rt, &mut topology, *node);
     }
     topology
 }
@@ -173,7 +182,7 @@ fn excess_on(
 }
 
 fn check_excess(rt: &impl Abort, alloc: Global, case: &Excess<'_>) {
-    let topology = cluster(rt, alloc, &case.free);
+    let topology = cluster(rt, alloc, &case.free, &[]);
     let chosen = excess_on(rt, alloc, &topology, case);
     assert!(rt; chosen.as_slice() == named(rt, alloc, case.chosen).as_slice());
 }
@@ -185,67 +194,118 @@ fn replicas_in_excess(rt: HostRuntime) {
     }
 }
 
-/// The source of a copy, after one transfer from each storage of `sent`.
+/// The source of a copy, where these nodes drain, after one transfer from each storage of `sent`.
 #[derive(Clone, Copy)]
 struct Source<'a> {
     free: [u64; 6],
+    draining: &'a [u32],
     sent: &'a [u32],
-    live: &'a [u32],
+    usable: &'a [u32],
     level: Level,
     chosen: Option<u32>,
 }
 
-static SOURCES: [Source<'static>; 7] = [
+static SOURCES: [Source<'static>; 12] = [
     // The node that sends fewest.
     Source {
         free: FOUR_NODES,
+        draining: &[],
         sent: &[],
-        live: &[11, 21],
+        usable: &[11, 21],
         level: Level::UnderReplicated,
         chosen: Some(11),
     },
     Source {
         free: FOUR_NODES,
+        draining: &[],
         sent: &[11, 11],
-        live: &[11, 21],
+        usable: &[11, 21],
         level: Level::UnderReplicated,
         chosen: Some(21),
     },
     Source {
         free: FOUR_NODES,
+        draining: &[],
         sent: &[11, 11, 21, 21],
-        live: &[11, 21],
+        usable: &[11, 21],
         level: Level::UnderReplicated,
         chosen: None,
     },
     Source {
         free: FOUR_NODES,
+        draining: &[],
         sent: &[11, 11, 21, 21],
-        live: &[11, 21],
+        usable: &[11, 21],
         level: Level::Highest,
         chosen: Some(11),
     },
     // The transfers of all storages of a node count.
     Source {
         free: [1000, 1000, 1000, 1000, 1000, 0],
+        draining: &[],
         sent: &[],
-        live: &[6, 5],
+        usable: &[6, 5],
         level: Level::VeryUnderReplicated,
         chosen: Some(5),
     },
     Source {
         free: [1000, 1000, 1000, 1000, 1000, 0],
+        draining: &[],
         sent: &[],
-        live: &[5, 41],
+        usable: &[5, 41],
         level: Level::VeryUnderReplicated,
         chosen: Some(41),
     },
     Source {
         free: [1000, 1000, 1000, 1000, 1000, 0],
+        draining: &[],
         sent: &[6, 6],
-        live: &[5],
+        usable: &[5],
         level: Level::VeryUnderReplicated,
         chosen: None,
+    },
+    // A node that drains goes first, although it sends more.
+    Source {
+        free: FOUR_NODES,
+        draining: &[2],
+        sent: &[21],
+        usable: &[11, 21],
+        level: Level::UnderReplicated,
+        chosen: Some(21),
+    },
+    // It may send four at each level, and not a fifth.
+    Source {
+        free: FOUR_NODES,
+        draining: &[2],
+        sent: &[21, 21, 21],
+        usable: &[11, 21],
+        level: Level::UnderReplicated,
+        chosen: Some(21),
+    },
+    Source {
+        free: FOUR_NODES,
+        draining: &[2],
+        sent: &[21, 21, 21, 21],
+        usable: &[11, 21],
+        level: Level::UnderReplicated,
+        chosen: Some(11),
+    },
+    Source {
+        free: FOUR_NODES,
+        draining: &[2],
+        sent: &[21, 21, 21, 21],
+        usable: &[21],
+        level: Level::Highest,
+        chosen: None,
+    },
+    // Of two that drain the one that sends fewer.
+    Source {
+        free: FOUR_NODES,
+        draining: &[2, 3],
+        sent: &[21],
+        usable: &[11, 21, 31],
+        level: Level::UnderReplicated,
+        chosen: Some(31),
     },
 ];
 
@@ -265,16 +325,16 @@ fn source_after(
     topology: &Topology,
     case: &Source<'_>,
 ) -> Option<u32> {
-    let live = named(rt, alloc, case.live);
+    let usable = named(rt, alloc, case.usable);
     let mut streams = Streams::new(alloc, topology).expect(rt, "memory");
     for source in case.sent {
         send(rt, &mut streams, StorageId(*source));
     }
-    number_of(least_source(live.as_slice(), case.level, topology, &streams))
+    number_of(least_source(usable.as_slice(), case.level, topology, &streams))
 }
 
 fn check_source(rt: &impl Abort, alloc: Global, case: &Source<'_>) {
-    let topology = cluster(rt, alloc, &case.free);
+    let topology = cluster(rt, alloc, &case.free, case.draining);
     assert!(rt; source_after(rt, alloc, &topology, case) == case.chosen);
 }
 
@@ -285,10 +345,11 @@ fn source_of_a_copy(rt: HostRuntime) {
     }
 }
 
-/// The target of a copy of `len` bytes, after so many bytes were sent to each storage of `filled`.
+/// The target of a copy of `len` bytes, where these nodes drain, after so many bytes were sent to each storage of `filled`.
 #[derive(Clone, Copy)]
 struct Target<'a> {
     free: [u64; 6],
+    draining: &'a [u32],
     filled: &'a [(u32, u64)],
     held: &'a [u32],
     barred: &'a [u32],
@@ -297,10 +358,11 @@ struct Target<'a> {
     chosen: Option<u32>,
 }
 
-static TARGETS: [Target<'static>; 12] = [
+static TARGETS: [Target<'static>; 15] = [
     // The most room on another rack.
     Target {
         free: FOUR_NODES,
+        draining: &[],
         filled: &[],
         held: &[11],
         barred: &[11],
@@ -310,6 +372,7 @@ static TARGETS: [Target<'static>; 12] = [
     },
     Target {
         free: FOUR_NODES,
+        draining: &[],
         filled: &[],
         held: &[11],
         barred: &[11],
@@ -319,6 +382,7 @@ static TARGETS: [Target<'static>; 12] = [
     },
     Target {
         free: FOUR_NODES,
+        draining: &[],
         filled: &[],
         held: &[11, 21, 31, 41],
         barred: &[11, 21, 31, 41],
@@ -328,6 +392,7 @@ static TARGETS: [Target<'static>; 12] = [
     },
     Target {
         free: FOUR_NODES,
+        draining: &[],
         filled: &[(31, 10)],
         held: &[11],
         barred: &[11],
@@ -338,6 +403,7 @@ static TARGETS: [Target<'static>; 12] = [
     // A length that just fits.
     Target {
         free: FOUR_NODES,
+        draining: &[],
         filled: &[],
         held: &[11],
         barred: &[11],
@@ -347,6 +413,7 @@ static TARGETS: [Target<'static>; 12] = [
     },
     Target {
         free: FOUR_NODES,
+        draining: &[],
         filled: &[(31, 1), (41, 1)],
         held: &[11],
         barred: &[11],
@@ -356,6 +423,7 @@ static TARGETS: [Target<'static>; 12] = [
     },
     Target {
         free: FOUR_NODES,
+        draining: &[],
         filled: &[(31, 1), (41, 1)],
         held: &[11],
         barred: &[11],
@@ -366,6 +434,7 @@ static TARGETS: [Target<'static>; 12] = [
     // A badly distributed block leaves its rack.
     Target {
         free: FOUR_NODES,
+        draining: &[],
         filled: &[],
         held: &[11],
         barred: &[11, 31, 41],
@@ -375,6 +444,7 @@ static TARGETS: [Target<'static>; 12] = [
     },
     Target {
         free: FOUR_NODES,
+        draining: &[],
         filled: &[],
         held: &[11],
         barred: &[11, 31, 41],
@@ -385,6 +455,7 @@ static TARGETS: [Target<'static>; 12] = [
     // The third copy goes to one of two racks, and further ones to any.
     Target {
         free: [1000, 1000, 1000, 1000, 9000, 0],
+        draining: &[],
         filled: &[],
         held: &[11, 31],
         barred: &[11, 31],
@@ -394,6 +465,7 @@ static TARGETS: [Target<'static>; 12] = [
     },
     Target {
         free: [1000, 1000, 1000, 1000, 9000, 0],
+        draining: &[],
         filled: &[],
         held: &[11, 21, 31],
         barred: &[11, 21, 31],
@@ -403,12 +475,44 @@ static TARGETS: [Target<'static>; 12] = [
     },
     Target {
         free: [1000, 1000, 1000, 1000, 9000, 0],
+        draining: &[],
         filled: &[],
         held: &[11, 21, 31],
         barred: &[6],
         len: 10,
         level: Level::UnderReplicated,
         chosen: Some(11),
+    },
+    // A storage of a node that drains is no target.
+    Target {
+        free: FOUR_NODES,
+        draining: &[3],
+        filled: &[],
+        held: &[11],
+        barred: &[11],
+        len: 10,
+        level: Level::Highest,
+        chosen: Some(41),
+    },
+    Target {
+        free: FOUR_NODES,
+        draining: &[2, 3, 4],
+        filled: &[],
+        held: &[11],
+        barred: &[11],
+        len: 10,
+        level: Level::Highest,
+        chosen: None,
+    },
+    Target {
+        free: FOUR_NODES,
+        draining: &[3, 4],
+        filled: &[],
+        held: &[11],
+        barred: &[11],
+        len: 10,
+        level: Level::BadlyDistributed,
+        chosen: None,
     },
 ];
 
@@ -446,7 +550,7 @@ fn target_after(
 }
 
 fn check_target(rt: &impl Abort, alloc: Global, case: &Target<'_>) {
-    let topology = cluster(rt, alloc, &case.free);
+    let topology = cluster(rt, alloc, &case.free, case.draining);
     assert!(rt; target_after(rt, alloc, &topology, case) == case.chosen);
 }
 

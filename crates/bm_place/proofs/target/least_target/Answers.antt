@@ -8,7 +8,7 @@ use Rattle.bm_place.specs.Least.{IsLeastOf}
 use Rattle.bm_place.proofs.Tables.{entries-table}
 use Rattle.bm_place.proofs.Best.{least-bears}
 use Rattle.bm_place.proofs.Taking.{target_found, target_cmp_total}
-use Rattle.bm_place.proofs.Telling.{has_room, fits_row, on_unbarred_node, on_other_rack}
+use Rattle.bm_place.proofs.Telling.{has_room, fits_row, on_kept_node, on_unbarred_node, on_other_rack}
 use Rattle.bm_place.proofs.target.least_target.Goals as goal
 
 pub returns-clause-choice : goal.returns-clause-choice
@@ -41,6 +41,9 @@ returns-clause-fits c sent made =
 
 pub returns-clause-unbarred_node : goal.returns-clause-unbarred_node
 returns-clause-unbarred_node c sent made = on_unbarred_node c.args.topology.now.cluster sent c.args.level c.args.held.now c.args.barred.now c.args.len c.storage_of.result (returns-clause-least c sent made)
+
+pub returns-clause-not_draining : goal.returns-clause-not_draining
+returns-clause-not_draining c sent made = on_kept_node c.args.topology.now.cluster sent c.args.level c.args.held.now c.args.barred.now c.args.len c.storage_of.result (returns-clause-least c sent made)
 
 pub returns-clause-other_rack : goal.returns-clause-other_rack
 returns-clause-other_rack c sent made = on_other_rack c.args.topology.now.cluster sent c.args.level c.args.held.now c.args.barred.now c.args.len c.storage_of.result (returns-clause-least c sent made)
