@@ -25,6 +25,10 @@ pub mod Excess
 pub mod Transfers
 pub mod Deletes
 pub mod Rounds
+-- The same choices over parts, as shards find them.
+pub mod Ordered
+pub mod RoundParts
+pub mod Choices
 -- What calls answer.
 pub mod Refusals
 pub mod Configuration

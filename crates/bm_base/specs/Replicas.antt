@@ -1,6 +1,6 @@
 -- Words on replicas and on where they stand.
 -- Source: HDFS Architecture guide, "Replica Placement: The First Baby Steps"; Hadoop 2's NumberReplicas.
-use Rattle.std.specs.Prelude.{ℕ, Bool, true, false, not, ◌&&◌, ◌==◌, nat_lt, nat_le, List, map, filter, filter_map, length, Option, option_and_then, option_map}
+use Rattle.std.specs.Prelude.{ℕ, Bool, true, false, not, ◌&&◌, ◌==◌, nat_lt, nat_le, List, ◌++◌, map, filter, filter_map, length, Option, option_and_then, option_map}
 use Rattle.std.specs.Option.{option_map_or}
 use Rattle.bm_base.specs.declared.replica.Tag.{Tag}
 use Rattle.bm_base.specs.declared.replica.Tag.TheVariants.{Good, Stale, Bad, Stray}
@@ -65,15 +65,15 @@ is_live_on C s m = is_usable m && not (is_draining C s)
 abbrev pub is_drained_on : Cluster → ℕ → Marks → Bool
 is_drained_on C s m = is_usable m && is_draining C s
 
--- the storages of the block's live replicas, of its drained ones, and of both together
+-- the storages of the block's live replicas, of its drained ones, and of both, from which copies can be made
 abbrev pub live : Cluster → Holdings → ℕ → List ℕ
 live C H b = storages_where (is_live_on C) H b
 
 abbrev pub drained : Cluster → Holdings → ℕ → List ℕ
 drained C H b = storages_where (is_drained_on C) H b
 
-abbrev pub usable : Holdings → ℕ → List ℕ
-usable H b = storages_where (λ _ m. is_usable m) H b
+abbrev pub sources_of : Cluster → Holdings → ℕ → List ℕ
+sources_of C H b = live C H b ++ drained C H b
 
 -- whether as many replicas of a known block are live as are wanted
 unfoldable pub has_enough_live : Cluster → Holdings → ℕ → Bool

@@ -12,7 +12,7 @@ use Rattle.bm_base.specs.declared.commands.Transfer.{Transfer}
 use Rattle.bm_base.specs.Map.{get, keys, entries, len}
 use Rattle.bm_base.specs.State.{RoundLimits, Cluster, Holdings}
 use Rattle.bm_base.specs.Lists.{has, distinct, least}
-use Rattle.bm_base.specs.Replicas.{live, usable, storages_where, node_of, rack_of, has_storage, is_draining, racks}
+use Rattle.bm_base.specs.Replicas.{live, sources_of, storages_where, node_of, rack_of, has_storage, is_draining, racks}
 use Rattle.bm_base.specs.Levels.{level, is_at}
 use Rattle.bm_base.specs.Excess.{remaining}
 
@@ -95,7 +95,7 @@ targets_of chosen b = map (λ t. t.target) (filter (λ t. t.block == b) chosen)
 
 -- the storages that hold a live replica of the block or will: of its live replicas, its transfers on their way and its chosen targets
 unfoldable pub holders_of : Cluster → Holdings → List Transfer → ℕ → List ℕ
-holders_of C H chosen b = distinct (live C H b ++ pending_targets H b ++ targets_of chosen b)
+holders_of C H chosen b = live C H b ++ pending_targets H b ++ targets_of chosen b
 
 -- the storages on whose nodes no copy of the block may be put: of its replicas of any tag, its transfers on their way and its
 -- chosen targets
@@ -145,7 +145,7 @@ transfer_for limits C H chosen w =
     if nat_le (limits.work * len C.nodes) (length chosen) then None
     else option_and_then (λ i. option_and_then (λ s. option_map (λ t. record { block = w.block; stamp = i.stamp; source = s; target = t })
     (least_target C chosen w.urgency (holders_of C H chosen w.block) (barred_for H chosen w.block) i.stamp.len))
-    (least_source C chosen w.urgency (usable H w.block)))
+    (least_source C chosen w.urgency (sources_of C H w.block)))
     (get H.blocks w.block)
 
 -- the transfers chosen wish by wish, behind those of chosen
