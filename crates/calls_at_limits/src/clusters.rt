@@ -8,10 +8,10 @@ use std::alloc::Global;
 
 const NODES: u32 = 256;
 
-const STORAGES_OF_A_NODE: u32 = 4;
+const STORAGES_OF_A_NODE: u32 = 16;
 
-/// 256 nodes come with four storages each. Then neither a node without any may come, nor, in the place of a dead one, a node
-/// with five.
+/// 256 nodes come with sixteen storages each. Then neither a node without any may come, nor, in the place of a dead one, a node
+/// with seventeen.
 pub fn fill_cluster<R: Print>(rt: &R, alloc: Global) -> Result<(), Refusal> {
     let mut manager = Manager::new(alloc, Config::standard())?;
     let joined = join_all(&mut manager, alloc);
@@ -44,7 +44,7 @@ fn join(manager: &mut Manager, alloc: Global, node: u32, count: u32) -> Result<D
 fn register(alloc: Global, node: u32, count: u32) -> Result<Event, Refusal> {
     let mut storages = Vec::new(alloc);
     for place in 0..count {
-        storages.push(StorageId(node.wrapping_mul(8).wrapping_add(place)))?;
+        storages.push(StorageId(node.wrapping_mul(32).wrapping_add(place)))?;
     }
     Ok(Event::Register {
         node: NodeId(node),
@@ -60,12 +60,12 @@ pub fn find_excess<R: Print>(rt: &R, alloc: Global) -> Result<(), Refusal> {
     for node in 0..17 {
         let event = register(alloc, node, 1)?;
         take(&mut topology, &event)?;
-        live.push(StorageId(node * 8))?;
+        live.push(StorageId(node * 32))?;
     }
     let excess = excess_of(alloc, live.as_slice(), 1, &topology)?;
     let count = excess.len();
-    let first = excess.get(0).copied() == Some(StorageId(128));
-    let last = excess.get(15).copied() == Some(StorageId(8));
+    let first = excess.get(0).copied() == Some(StorageId(512));
+    let last = excess.get(15).copied() == Some(StorageId(32));
     let _ = println!(rt; "{count} of 17 replicas in excess; first and last: {first}, {last}");
     Ok(())
 }

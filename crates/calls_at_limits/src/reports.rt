@@ -8,6 +8,13 @@ use std::alloc::Global;
 
 const ENTRIES: u64 = 65536;
 
+const NUMBERS: u64 = 1_048_576;
+
+const STAMP: Stamp = Stamp {
+    generation: Gen(1),
+    len: 10,
+};
+
 pub fn report_all<R: Print>(rt: &R, alloc: Global) -> Result<(), Refusal> {
     let mut manager = Manager::new(alloc, Config::standard())?;
     let done = tell(&mut manager, alloc);
@@ -18,7 +25,28 @@ pub fn report_all<R: Print>(rt: &R, alloc: Global) -> Result<(), Refusal> {
     let removed = emptied?.removed;
     let _ = println!(rt; "{added} replicas by a report; a longer one refused: {is_limit}");
     let _ = println!(rt; "{removed} replicas gone by an empty report");
+    report_run(rt, alloc, &mut manager)
+}
+
+/// As many replicas as a report may tell, in one run.
+fn report_run<R: Print>(rt: &R, alloc: Global, manager: &mut Manager) -> Result<(), Refusal> {
+    let added = tell_run(manager, alloc, NUMBERS - 1)?.added;
+    let is_limit = tell_run(manager, alloc, NUMBERS) == Err(Refusal::TooMany);
+    let _ = println!(rt; "{added} replicas by a run; a longer one refused: {is_limit}");
     Ok(())
+}
+
+/// A report of one run of blocks, from number 0 to the last.
+fn tell_run(manager: &mut Manager, alloc: Global, last: u64) -> Result<Done, Refusal> {
+    let run = Entry {
+        from: BlockId(0),
+        to: BlockId(last),
+        stamp: STAMP,
+    };
+    manager.apply(&Event::FullReport {
+        storage: StorageId(11),
+        entries: Items::from_vec(Vec::from_slice(alloc, [run].as_slice())?),
+    })
 }
 
 /// A node comes, and reports as many blocks as may be.
@@ -45,13 +73,7 @@ fn register(alloc: Global) -> Result<Event, Refusal> {
 fn report(alloc: Global, count: u64) -> Result<Event, Refusal> {
     let mut entries = Vec::new(alloc);
     for number in 0..count {
-        entries.push(Entry {
-            id: BlockId(number),
-            stamp: Stamp {
-                generation: Gen(1),
-                len: 10,
-            },
-        })?;
+        entries.push(Entry::one(BlockId(number), STAMP))?;
     }
     Ok(Event::FullReport {
         storage: StorageId(11),

@@ -73,16 +73,7 @@ fn register(alloc: Global, node: u32) -> Result<Event, Refusal> {
 }
 
 fn report(alloc: Global) -> Result<Event, Refusal> {
-    let entries = [
-        Entry {
-            id: BLOCK,
-            stamp: stamp(),
-        },
-        Entry {
-            id: STRAY,
-            stamp: stamp(),
-        },
-    ];
+    let entries = [Entry::one(BLOCK, stamp()), Entry::one(STRAY, stamp())];
     Ok(Event::FullReport {
         storage: StorageId(21),
         entries: Items::from_vec(Vec::from_slice(alloc, entries.as_slice())?),
