@@ -14,9 +14,9 @@ use Rattle.bm_base.specs.declared.commands.NodeCommands.{NodeCommands}
 use Rattle.bm_base.specs.Map.{Map, Order, get, entries, keys}
 use Rattle.bm_base.specs.State.{RoundLimits, Cluster, Holdings, State, by_replica}
 use Rattle.bm_base.specs.Lists.{has}
-use Rattle.bm_base.specs.Replicas.{is_stray, is_corrupt, node_of, has_storage}
+use Rattle.bm_base.specs.Replicas.{is_stray, is_corrupt, node_of, has_storage, has_enough_live}
 use Rattle.bm_base.specs.Excess.{begun, started, marked, without_expired, without_unordered_excess}
-use Rattle.bm_base.specs.Deletes.{has_enough_live, is_deletable, deletable_on, deletes_of, deletes}
+use Rattle.bm_base.specs.Deletes.{is_deletable, deletable_on, deletes_of, deletes}
 use Rattle.bm_base.specs.Lawful.{IsLawful}
 use Rattle.bm_base.specs.Rounds.{whole_round, commands_of, node_commands, has_commands}
 use Rattle.laws_of_rounds.specs.Words.{IsAmong, IsDeleteCommanded, live_marked, transfers_chosen}

@@ -11,13 +11,13 @@ use Rattle.bm_base.specs.declared.replica.BlockInfo.{BlockInfo}
 use Rattle.bm_base.specs.Map.{get}
 use Rattle.bm_base.specs.State.{Cluster, State, replica_at}
 use Rattle.bm_base.specs.Lists.{has}
-use Rattle.bm_base.specs.Replicas.{is_usable, is_live_on, is_good, is_stray, is_corrupt}
+use Rattle.bm_base.specs.Replicas.{is_usable, is_live_on, is_good, is_stray, is_corrupt, is_draining, has_enough_live}
 use Rattle.bm_base.specs.Excess.{begun, started, without_expired, without_unordered_excess, marked, excess_in, excess_among}
-use Rattle.bm_base.specs.Deletes.{has_enough_live, is_deletable}
+use Rattle.bm_base.specs.Deletes.{is_deletable}
 use Rattle.bm_base.specs.Lawful.{IsLawful}
 use Rattle.bm_base.proofs.MapLaws.{get-revise}
 use Rattle.laws_of_rounds.specs.Words.{unmarked, live_unmarked, live_marked, live_after}
-use Rattle.laws_of_rounds.proofs.Listed.{or_left, same_again, some_same}
+use Rattle.laws_of_rounds.proofs.Listed.{and_first, or_left, same_again, some_same}
 use Rattle.laws_of_rounds.proofs.Stands.{has_where}
 use Rattle.laws_of_rounds.proofs.Marked.{unordered_dropped, marked_in, after_marked, excess_known, marked_count}
 use Rattle.laws_of_rounds.proofs.Commanded.{IsTested, deleted_is}
@@ -153,9 +153,9 @@ pub live_stays : (M : State) (b t : ℕ) → has (live_after M b) t ≡ true →
 live_stays M b t there h =
     let is = deleted_is M (replica_at b t) h in
     let marks = deleted_marks M (replica_at b t) is.0 is.2 in
-    let live_mark : is_usable is.0 ≡ true =
-    sym (ap (λ o. option_map_or is_usable o false) is.1) ∙ sym (has_where (is_live_on M.cluster) (started M).holdings b t) ∙ sym (ap (λ xs. has xs t) (after_marked M b)) ∙ there in
-    live_is_kept is.0.tag is.0.excess live_mark (weaker_kind is.0 (has_enough_live M.cluster (started M).holdings b) marks.1)
+    let live_mark : is_live_on M.cluster t is.0 ≡ true =
+    sym (ap (λ o. option_map_or (is_live_on M.cluster t) o false) is.1) ∙ sym (has_where (is_live_on M.cluster) (started M).holdings b t) ∙ sym (ap (λ xs. has xs t) (after_marked M b)) ∙ there in
+    live_is_kept is.0.tag is.0.excess (and_first (is_usable is.0) (not (is_draining M.cluster t)) live_mark) (weaker_kind is.0 (has_enough_live M.cluster (started M).holdings b) marks.1)
 
 -- the first of some
 some_first : (xs : List ℕ) → 1 ≤ length xs → (t : ℕ) × (has xs t ≡ true)

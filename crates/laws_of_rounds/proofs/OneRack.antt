@@ -9,7 +9,7 @@ use Rattle.bm_base.specs.declared.replica.BlockInfo.{BlockInfo}
 use Rattle.bm_base.specs.Map.{Map, by_number, get, entries}
 use Rattle.bm_base.specs.State.{Cluster, State, replica_at}
 use Rattle.bm_base.specs.Lists.{has, has_repeats, distinct}
-use Rattle.bm_base.specs.Replicas.{live, is_live_on, racks, rack_of, node_of, is_multi_rack}
+use Rattle.bm_base.specs.Replicas.{live, drained, is_live_on, racks, rack_of, node_of, is_multi_rack}
 use Rattle.bm_base.specs.Levels.{level, level_of}
 use Rattle.bm_base.specs.Lawful.{IsLawful}
 use Rattle.laws_of_rounds.specs.Levels.{AreOnOneRack, HasTwoRacks}
@@ -20,7 +20,7 @@ use Rattle.laws_of_rounds.proofs.Grouped.{once_keys}
 use Rattle.laws_of_rounds.proofs.Racked.{some_passing}
 use Rattle.laws_of_rounds.proofs.Sets.{has_distinct, has_filter_map, rack_among}
 use Rattle.laws_of_rounds.proofs.Wished.{badly_counted}
-use Rattle.laws_of_rounds.proofs.Told.{among_map, has_among, some_value, live_there}
+use Rattle.laws_of_rounds.proofs.Told.{among_map, has_among, some_value, passing_there}
 use Rattle.laws_of_rounds.proofs.Deferred.{among_found}
 
 -- Lists in which each number stands once.
@@ -126,33 +126,34 @@ two_multi C h =
 
 -- Levels.
 
-counted_badly : (n repl rs : ℕ) (multi : Bool) → 2 ≤ repl → repl ≤ n → rs ≡ 1 → multi ≡ true → level_of n repl rs multi ≡ Some BadlyDistributed
+counted_badly : (n d repl rs : ℕ) (multi : Bool) → 2 ≤ repl → repl ≤ n → rs ≡ 1 → multi ≡ true → level_of n d repl rs multi ≡ Some BadlyDistributed
 unfolding level_of
-counted_badly n repl rs multi a b c d = grind (arith, nat_tests)
+counted_badly n d repl rs multi a b c e = grind (arith, nat_tests)
 
-badly_two : (n repl rs : ℕ) (multi : Bool) → level_of n repl rs multi ≡ Some BadlyDistributed → (2 ≤ repl) × (multi ≡ true)
+badly_two : (n d repl rs : ℕ) (multi : Bool) → level_of n d repl rs multi ≡ Some BadlyDistributed → (2 ≤ repl) × (multi ≡ true)
 unfolding level_of
-badly_two n repl rs multi e = by_tests (nat_le repl n) (nat_lt 1 repl) refl (rs == 1) multi e
+badly_two n d repl rs multi e = by_tests (nat_le repl n) (nat_lt 1 repl) refl (rs == 1) multi e
   where
-    other : (a b c : Bool) → Some (cond a NoUsableReplica (cond b Highest (cond c VeryUnderReplicated UnderReplicated))) ≡ Some BadlyDistributed → ⊥
-    other true b c e = cc
-    other false true c e = cc
-    other false false true e = cc
-    other false false false e = cc
+    other : (a z b c : Bool) → Some (cond a (cond z NoUsableReplica Highest) (cond b Highest (cond c VeryUnderReplicated UnderReplicated))) ≡ Some BadlyDistributed → ⊥
+    other true true b c e = cc
+    other true false b c e = cc
+    other false z true c e = cc
+    other false z false true e = cc
+    other false z false false e = cc
 
     by_tests : (a p : Bool) → nat_lt 1 repl ≡ p → (q r : Bool)
-        → cond a (cond (p && q && r) (Some BadlyDistributed) None) (Some (cond (n == 0) NoUsableReplica (cond (n == 1) Highest (cond (nat_lt (n * 3) repl) VeryUnderReplicated UnderReplicated)))) ≡ Some BadlyDistributed
+        → cond a (cond (p && q && r) (Some BadlyDistributed) None) (Some (cond (n == 0) (cond (d == 0) NoUsableReplica Highest) (cond (n == 1) Highest (cond (nat_lt (n * 3) repl) VeryUnderReplicated UnderReplicated)))) ≡ Some BadlyDistributed
         → (2 ≤ repl) × (r ≡ true)
     by_tests true true f true true e = (ltb-true 1 repl f, refl)
     by_tests true true f true false e = absurd (false≢true (ap is_some e))
     by_tests true true f false r e = absurd (false≢true (ap is_some e))
     by_tests true false f q r e = absurd (false≢true (ap is_some e))
-    by_tests false p f q r e = absurd (other (n == 0) (n == 1) (nat_lt (n * 3) repl) e)
+    by_tests false p f q r e = absurd (other (n == 0) (d == 0) (n == 1) (nat_lt (n * 3) repl) e)
 
 live_rack : (M : State) (b s : ℕ) → IsLawful M → has (live M.cluster M.holdings b) s ≡ true → (r : ℕ) × (rack_of M.cluster s ≡ Some r)
 unfolding rack_of node_of
 live_rack M b s lawful h =
-    let there = live_there (get M.holdings.replicas (replica_at b s)) (sym (has_where (is_live_on M.cluster) M.holdings b s) ∙ h) in
+    let there = passing_there (is_live_on M.cluster s) (get M.holdings.replicas (replica_at b s)) (sym (has_where (is_live_on M.cluster) M.holdings b s) ∙ h) in
     let storage = some_value (get M.cluster.storages s) (lawful.holdings.stored (replica_at b s) there) in
     let node = some_value (get M.cluster.nodes storage.0.node) (lawful.cluster.alive s storage.0 storage.1) in
     (node.0, ap (λ o. option_and_then (λ n. get M.cluster.nodes n) (option_map (λ i. i.node) o)) storage.1 ∙ node.1)
@@ -169,12 +170,12 @@ level_three M b i lawful known =
     let is = level_known M.cluster M.holdings b i known in
     let racked : (s : ℕ) → has ss s ≡ true → (r : ℕ) × (rack_of M.cluster s ≡ Some r) = λ s h. live_rack M b s lawful h in (
       λ e.
-          let counted = badly_counted (length ss) i.repl (length (racks M.cluster ss)) (is_multi_rack M.cluster) (sym is ∙ e) in
-          let two = badly_two (length ss) i.repl (length (racks M.cluster ss)) (is_multi_rack M.cluster) (sym is ∙ e) in
+          let counted = badly_counted (length ss) (length (drained M.cluster M.holdings b)) i.repl (length (racks M.cluster ss)) (is_multi_rack M.cluster) (sym is ∙ e) in
+          let two = badly_two (length ss) (length (drained M.cluster M.holdings b)) i.repl (length (racks M.cluster ss)) (is_multi_rack M.cluster) (sym is ∙ e) in
           (two.0, counted.0, on_one M.cluster ss racked (eqb-true (length (racks M.cluster ss)) 1 counted.1), multi_two M.cluster two.1),
       λ h.
           let wanted = h.0 in
           let enough = h.1 in
           let one = some_first ss (omega (arith, wanted, enough)) in
-          is ∙ counted_badly (length ss) i.repl (length (racks M.cluster ss)) (is_multi_rack M.cluster) wanted enough (one_on M.cluster ss racked h.2 one.0 one.1) (two_multi M.cluster h.3),
+          is ∙ counted_badly (length ss) (length (drained M.cluster M.holdings b)) i.repl (length (racks M.cluster ss)) (is_multi_rack M.cluster) wanted enough (one_on M.cluster ss racked h.2 one.0 one.1) (two_multi M.cluster h.3),
     )

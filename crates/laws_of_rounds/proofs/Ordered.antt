@@ -1,4 +1,4 @@
--- No call makes a replica live whose delete was commanded: it is live again once it is reported, and then the command is forgotten.
+-- No call makes a replica usable whose delete was commanded: it is usable again once it is reported, and then the command is forgotten.
 use Rattle.std.specs.Prelude.{◌≡◌, ℕ, Bool, true, false, not, ◌&&◌, ◌==◌, ◌⊎◌, if◌then◌else◌, List, [], ◌∷◌, map, Option, Some, None, is_some, option_and_then}
 use Rattle.std.specs.Option.{option_map_or}
 use Rattle.std.specs.Ordering.{eq_by_cmp}
@@ -8,8 +8,8 @@ use Rattle.bm_base.specs.declared.config.Config.{Config}
 use Rattle.bm_base.specs.declared.call.Call.{Call}
 use Rattle.bm_base.specs.declared.call.Call.TheVariants as call
 use Rattle.bm_base.specs.declared.event.Event.{Event}
-use Rattle.bm_base.specs.declared.event.Event.TheVariants.{Register, Dead, StorageFailed, Heartbeat, AddBlock, DeleteBlock, SetReplication, Restamp, Received, Deleted, Corrupt, FullReport}
-use Rattle.bm_base.specs.declared.event.Entry.{Entry}
+use Rattle.bm_base.specs.declared.event.Event.TheVariants.{Register, Dead, StorageFailed, Heartbeat, Drain, Undrain, AddBlock, DeleteBlock, SetReplication, Restamp, Received, Deleted, Corrupt, FullReport}
+use Rattle.bm_base.specs.Entries.{Told, expanded}
 use Rattle.bm_base.specs.declared.refusal.Refusal.{Refusal}
 use Rattle.bm_base.specs.declared.call.Answer.{Answer}
 use Rattle.bm_base.specs.declared.replica.ReplicaId.{ReplicaId}
@@ -19,15 +19,15 @@ use Rattle.bm_base.specs.declared.replica.Marks.{Marks}
 use Rattle.bm_base.specs.declared.replica.Stamp.{Stamp}
 use Rattle.bm_base.specs.Map.{Map, get, insert, insert_all, keep, revise, revise_at, remove}
 use Rattle.bm_base.specs.State.{Cluster, Holdings, State, by_replica, replica_cmp, replica_at, first_state, empty_holdings}
-use Rattle.bm_base.specs.Replicas.{is_good, is_stray, is_corrupt, is_usable, is_live_on}
-use Rattle.bm_base.specs.Events.{entered, enter, report, without_pending, revise_block, as_stray, as_bad, as_restamped, add_block, delete_block, set_replication, restamp, make_bad, remove_replica, without_storages, change_holdings}
+use Rattle.bm_base.specs.Replicas.{is_good, is_stray, is_corrupt, is_usable, is_draining, drains, has_storage, has_enough_live}
+use Rattle.bm_base.specs.Events.{entered, enter, report, without_pending, revise_block, as_stray, as_bad, as_restamped, add_block, delete_block, set_replication, restamp, make_bad, remove_replica, without_storages, without_transfers_to_drained, change_holdings}
 use Rattle.bm_base.specs.Excess.{begun, started}
 use Rattle.bm_base.specs.Lists.{has}
-use Rattle.bm_base.specs.Deletes.{is_deletable, has_enough_live}
+use Rattle.bm_base.specs.Deletes.{is_deletable}
 use Rattle.bm_base.specs.Lawful.{IsLawful}
 use Rattle.bm_base.specs.declared.replica.BlockInfo.{BlockInfo}
 use Rattle.bm_base.specs.Rounds.{is_commanded}
-use Rattle.bm_base.specs.Refusals.{refusal_of, round_refusal, storage_refusal, block_refusal}
+use Rattle.bm_base.specs.Refusals.{refusal_of, round_refusal, node_refusal, storage_refusal, block_refusal}
 use Rattle.bm_base.specs.Calls.{after_event, refused_or, step_with, step, state_after}
 use Rattle.bm_base.proofs.MapLaws.{get-empty, get-insert, get-keep, get-revise, get-remove}
 use Rattle.laws_of_rounds.specs.Words.{after_round}
@@ -36,9 +36,9 @@ use Rattle.laws_of_rounds.proofs.Marked.{unordered_dropped, ordered_by}
 use Rattle.laws_of_rounds.proofs.Commanded.{IsTested, IsChosen, chosen_deletes, chosen_deletes_of, at_same}
 use Rattle.laws_of_rounds.proofs.Kept.{one_stays, remarked, surplus_of, marks_started, from_some, deleted_marks, live_is_kept, weaker_kind}
 use Rattle.laws_of_rounds.proofs.Later.{marks_after}
-use Rattle.laws_of_rounds.proofs.Stands.{has_where}
+use Rattle.laws_of_rounds.proofs.Lively.{live_is}
 
--- a mark of a replica: where its delete was commanded, it is not live
+-- a mark of a replica: where its delete was commanded, it is not usable
 abbrev pub IsDone : Marks → Type 0
 IsDone m = m.ordered ≡ true → is_usable m ≡ false
 
@@ -104,15 +104,26 @@ done_entered : (H : Holdings) (p : ReplicaId) (stamp : Stamp) → IsDone (entere
 unfolding entered
 done_entered H p stamp e = absurd (false≢true e)
 
-done_entries : (H : Holdings) (s : ℕ) (es : List Entry) (r : Map by_replica Marks) → AreDone r → AreDone (insert_all r (map (λ e. (replica_at e.id s, entered H (replica_at e.id s) e.stamp)) es))
-done_entries H s [] r h = h
-done_entries H s (e ∷ es) r h =
-    done_entries H s es (insert r (replica_at e.id s) (entered H (replica_at e.id s) e.stamp)) (done_inserted r (replica_at e.id s) (entered H (replica_at e.id s) e.stamp) (done_entered H (replica_at e.id s) e.stamp) h)
+done_told : (H : Holdings) (s : ℕ) (ts : List Told) (r : Map by_replica Marks) → AreDone r → AreDone (insert_all r (map (λ t. (replica_at t.id s, entered H (replica_at t.id s) t.stamp)) ts))
+done_told H s [] r h = h
+done_told H s (t ∷ ts) r h =
+    done_told H s ts (insert r (replica_at t.id s) (entered H (replica_at t.id s) t.stamp)) (done_inserted r (replica_at t.id s) (entered H (replica_at t.id s) t.stamp) (done_entered H (replica_at t.id s) t.stamp) h)
+
+-- a change of the transfers on their way leaves the marks
+done_drained : (C : Cluster) (H : Holdings) (n : ℕ) → AreDone H.replicas → AreDone (without_transfers_to_drained C H n).replicas
+unfolding without_transfers_to_drained
+done_drained C H n h =
+    elim (drains C n) as (λ t. AreDone (if t then H else record H { pending = keep H.pending (λ q _. not (has_storage C n q.storage)) }).replicas) [
+      | true ↦ h
+      | false ↦ h
+    ]
 
 pub done_event : (C : Cluster) (H : Holdings) (e : Event) → AreDone H.replicas → AreDone (change_holdings C H e).replicas
 unfolding change_holdings without_storages add_block delete_block without_pending set_replication restamp enter remove_replica make_bad revise_at report
 done_event C H (Register n rack ss) h = h
 done_event C H (Heartbeat n rs) h = h
+done_event C H (Drain n) h = done_drained C H n h
+done_event C H (Undrain n) h = h
 done_event C H (Dead n) h = done_kept H.replicas _ h
 done_event C H (StorageFailed s) h = done_kept H.replicas _ h
 done_event C H (AddBlock b stamp repl) h = h
@@ -124,7 +135,7 @@ done_event C H (Deleted s b) h = done_removed H.replicas (replica_at b s) h
 done_event C H (Corrupt s b) h =
     done_revised H.replicas (λ q m. if eq_by_cmp replica_cmp q (replica_at b s) then as_bad m else m)
     (λ q m old. done_if (eq_by_cmp replica_cmp q (replica_at b s)) as_bad m (not_good (as_bad m) refl) old) h
-done_event C H (FullReport s es) h = done_entries H s es _ (done_kept H.replicas _ h)
+done_event C H (FullReport s es) h = done_told H s (expanded es) _ (done_kept H.replicas _ h)
 
 -- Rounds.
 
@@ -145,10 +156,10 @@ done_started M h q m e =
     let was = from_some (remarked (surplus_of M q.block) q.storage) (get M.holdings.replicas q) m (sym (marks_started M q) ∙ e) in
     subst IsDone was.2 (done_remarked (surplus_of M q.block) q.storage was.0 (h q was.0 was.1))
 
--- what is chosen to be deleted is not live
-chosen_not_live : (M : State) (q : ReplicaId) (m : Marks) → get (started M).holdings.replicas q ≡ Some m → is_commanded (chosen_deletes_of M) q ≡ true → is_usable m ≡ false
+-- what is chosen to be deleted is not usable
+chosen_not_usable : (M : State) (q : ReplicaId) (m : Marks) → get (started M).holdings.replicas q ≡ Some m → is_commanded (chosen_deletes_of M) q ≡ true → is_usable m ≡ false
 unfolding is_commanded started begun
-chosen_not_live M q m e h =
+chosen_not_usable M q m e h =
     let found = each_any (IsChosen M.cluster (started M).holdings) (λ d. (d.storage == q.storage) && (d.block == q.block)) (chosen_deletes_of M) (chosen_deletes M.cluster (started M).holdings M.limits) h in
     let is = at_same found.0 q found.2 in
     let same : found.1.marks ≡ m = some_same found.1.marks m (sym (subst (λ p. get (started M).holdings.replicas p ≡ Some found.1.marks) is found.1.is_there) ∙ e) in
@@ -166,7 +177,7 @@ done_commanded false m chosen old e = old e
 pub done_round : (M : State) → AreDone M.holdings.replicas → AreDone (after_round M).holdings.replicas
 done_round M h q m e =
     let was = from_some (ordered_by (chosen_deletes_of M) q) (get (started M).holdings.replicas q) m (sym (marks_after M q) ∙ e) in
-    subst IsDone was.2 (done_commanded (is_commanded (chosen_deletes_of M) q) was.0 (chosen_not_live M q was.0 was.1) (done_started M h q was.0 was.1))
+    subst IsDone was.2 (done_commanded (is_commanded (chosen_deletes_of M) q) was.0 (chosen_not_usable M q was.0 was.1) (done_started M h q was.0 was.1))
 
 -- Calls.
 
@@ -188,6 +199,7 @@ done_step M call.Missing h = h
 done_step M (call.BlocksOn s) h = done_or M (storage_refusal M.cluster s) _ h h
 done_step M (call.Places b) h = done_or M (block_refusal M.holdings b) _ h h
 done_step M (call.LevelOf b) h = done_or M (block_refusal M.holdings b) _ h h
+done_step M (call.Retired n) h = done_or M (node_refusal M.cluster n) _ h h
 done_step M call.Calls h = h
 done_step M call.Rounds h = h
 
@@ -204,28 +216,15 @@ done_reached c ks = done_calls (first_state c) ks (done_first c)
 
 -- The replica that stays.
 
-live_parts : (m : Marks) → is_usable m ≡ true → (is_good m.tag ≡ true) × (m.excess ≡ false)
-live_parts m e = by_tests (is_good m.tag) m.excess e
-  where
-    by_tests : (g x : Bool) → (g && not x) ≡ true → (g ≡ true) × (x ≡ false)
-    by_tests true false f = (refl, refl)
-    by_tests true true f = absurd (false≢true f)
-    by_tests false x f = absurd (false≢true f)
-
-mark_of : (p : Marks → Bool) (o : Option Marks) → option_map_or p o false ≡ true → (m : Marks) × (o ≡ Some m) × (p m ≡ true)
-mark_of p None e = absurd (false≢true e)
-mark_of p (Some m) e = (m, refl, e)
-
 pub good_stays : (M : State) (b s : ℕ) (i : BlockInfo) → IsDoneState M → IsLawful M → get M.holdings.blocks b ≡ Some i → IsTested M (replica_at b s)
-    → (t : ℕ) × (m : Marks) × (get (after_round M).holdings.replicas (replica_at b t) ≡ Some m) × (is_good m.tag ≡ true) × (m.excess ≡ false) × (m.ordered ≡ false)
+    → (t : ℕ) × (m : Marks) × (get (after_round M).holdings.replicas (replica_at b t) ≡ Some m) × (m.tag ≡ Good) × (m.excess ≡ false) × (m.ordered ≡ false) × (is_draining M.cluster t ≡ false)
 good_stays M b s i done lawful known h =
     let one = one_stays M b s i lawful known h in
-    let there = mark_of is_usable (get (after_round M).holdings.replicas (replica_at b one.0)) (sym (has_where (is_live_on M.cluster) (after_round M).holdings b one.0) ∙ one.1) in
-    let parts = live_parts there.0 there.2 in
-    (one.0, there.0, there.1, parts.0, parts.1, unordered there.0 there.2 (done_round M done (replica_at b one.0) there.0 there.1))
+    let is = (live_is M.cluster (after_round M).holdings b one.0).0 one.1 in
+    (one.0, is.0, is.1, is.2, is.3, unordered is.0 (ap (λ t. is_good t && not is.0.excess) is.2 ∙ ap not is.3) (done_round M done (replica_at b one.0) is.0 is.1), is.4)
   where
     unordered : (m : Marks) → is_usable m ≡ true → IsDone m → m.ordered ≡ false
-    unordered m live h = by_order m.ordered (λ e. true≢false (sym live ∙ h e))
+    unordered m usable h = by_order m.ordered (λ e. true≢false (sym usable ∙ h e))
       where
         by_order : (x : Bool) → (x ≡ true → ⊥) → x ≡ false
         by_order true f = absurd (f refl)

@@ -13,7 +13,7 @@ use Rattle.bm_base.specs.declared.storage.StorageInfo.{StorageInfo}
 use Rattle.bm_base.specs.Map.{get}
 use Rattle.bm_base.specs.State.{Cluster, State, replica_at}
 use Rattle.bm_base.specs.Lists.{has, has_repeats, least}
-use Rattle.bm_base.specs.Replicas.{is_usable, is_live_on, rack_of, node_of}
+use Rattle.bm_base.specs.Replicas.{is_live_on, rack_of, node_of}
 use Rattle.bm_base.specs.Excess.{excess_cmp, excess_among, remaining, share_rack, has_rack_mate, started}
 use Rattle.bm_base.specs.Lawful.{IsLawful}
 use Rattle.laws_of_rounds.specs.Words.{unmarked, live_unmarked, live_marked}
@@ -261,7 +261,7 @@ rack_known C s r i e f =
 
 pub live_on_rack : (M : State) (b s : ℕ) → IsLawful M → has (live_unmarked M b) s ≡ true → share_rack M.cluster s s ≡ true
 live_on_rack M b s lawful h =
-    let there = is_some_value is_usable (get (unmarked M).holdings.replicas (replica_at b s)) (sym (has_where (is_live_on M.cluster) (unmarked M).holdings b s) ∙ h) in
+    let there = is_some_value (is_live_on M.cluster s) (get (unmarked M).holdings.replicas (replica_at b s)) (sym (has_where (is_live_on M.cluster) (unmarked M).holdings b s) ∙ h) in
     let was = mapped_some unordered_dropped (get M.holdings.replicas (replica_at b s)) there.0 (sym (marks_unmarked M (replica_at b s)) ∙ there.1) in
     let storage = some_again (get M.cluster.storages s) (lawful.holdings.stored (replica_at b s) (ap is_some was.1)) in
     let node = some_again (get M.cluster.nodes storage.0.node) (lawful.cluster.alive s storage.0 storage.1) in

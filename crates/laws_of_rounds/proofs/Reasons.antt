@@ -11,9 +11,8 @@ use Rattle.bm_base.specs.declared.replica.BlockInfo.{BlockInfo}
 use Rattle.bm_base.specs.Map.{get}
 use Rattle.bm_base.specs.State.{State, replica_at}
 use Rattle.bm_base.specs.Lists.{has}
-use Rattle.bm_base.specs.Replicas.{is_usable, is_live_on, is_good, is_stray, is_corrupt}
+use Rattle.bm_base.specs.Replicas.{is_usable, is_live_on, is_good, is_stray, is_corrupt, is_draining, has_enough_live}
 use Rattle.bm_base.specs.Excess.{begun, started, without_expired, without_unordered_excess, marked, excess_in, excess_of, excess_among}
-use Rattle.bm_base.specs.Deletes.{has_enough_live}
 use Rattle.bm_base.specs.Lawful.{IsLawful}
 use Rattle.bm_base.proofs.MapLaws.{get-revise}
 use Rattle.laws_of_rounds.specs.Words.{unmarked, live_unmarked, live_marked, live_after}
@@ -73,8 +72,9 @@ dropped_good false m e = and_first (is_good m.tag) true e
 pub surplus_good : (M : State) (b s : ℕ) (n : Marks) → get M.holdings.replicas (replica_at b s) ≡ Some n → has (surplus_of M b) s ≡ true → is_good n.tag ≡ true
 surplus_good M b s n found h =
     dropped_good n.ordered n
-    (sym (ap (λ o. option_map_or is_usable o false) (marks_unmarked M (replica_at b s) ∙ ap (option_map unordered_dropped) found))
-    ∙ sym (has_where (is_live_on M.cluster) (unmarked M).holdings b s) ∙ surplus_live M b s h)
+    (and_first (is_usable (unordered_dropped n)) (not (is_draining M.cluster s))
+    (sym (ap (λ o. option_map_or (is_live_on M.cluster s) o false) (marks_unmarked M (replica_at b s) ∙ ap (option_map unordered_dropped) found))
+    ∙ sym (has_where (is_live_on M.cluster) (unmarked M).holdings b s) ∙ surplus_live M b s h))
 
 dropped_excess : (o : Bool) (m : Marks) → (if o then m else record m { excess = false }).excess ≡ true → m.excess ≡ true
 dropped_excess true m e = e
@@ -194,6 +194,10 @@ other_is_new M q n found unordered excess =
           ∙ ap (λ t. not t && has (live_unmarked M q.block) q.storage) chosen,
     )
 
+not_true : (d : Bool) → not d ≡ true → d ≡ false
+not_true true e = absurd (false≢true e)
+not_true false e = refl
+
 counts_by : (t : Tag) (x o : Bool) → (is_good t && not (if o then x else false)) ≡ true → (t ≡ Good) × ((x && o) ≡ false)
 counts_by Good true true e = absurd (false≢true e)
 counts_by Good true false e = (refl, refl)
@@ -215,22 +219,29 @@ dropped_is : (o : Bool) (m : Marks) → is_usable (if o then m else record m { e
 dropped_is true m = refl
 dropped_is false m = refl
 
-live_before : (M : State) (b s : ℕ) → has (live_unmarked M b) s ≡ option_map_or (λ m. is_good m.tag && not (if m.ordered then m.excess else false)) (get M.holdings.replicas (replica_at b s)) false
+live_before : (M : State) (b s : ℕ)
+    → has (live_unmarked M b) s ≡ option_map_or (λ m. (is_good m.tag && not (if m.ordered then m.excess else false)) && not (is_draining M.cluster s)) (get M.holdings.replicas (replica_at b s)) false
 live_before M b s =
-    has_where (is_live_on M.cluster) (unmarked M).holdings b s ∙ ap (λ o. option_map_or is_usable o false) (marks_unmarked M (replica_at b s)) ∙ by_marks (get M.holdings.replicas (replica_at b s))
+    has_where (is_live_on M.cluster) (unmarked M).holdings b s ∙ ap (λ o. option_map_or (is_live_on M.cluster s) o false) (marks_unmarked M (replica_at b s)) ∙ by_marks (get M.holdings.replicas (replica_at b s))
   where
-    by_marks : (o : Option Marks) → option_map_or is_usable (option_map unordered_dropped o) false ≡ option_map_or (λ m. is_good m.tag && not (if m.ordered then m.excess else false)) o false
+    by_marks : (o : Option Marks)
+        → option_map_or (is_live_on M.cluster s) (option_map unordered_dropped o) false ≡ option_map_or (λ m. (is_good m.tag && not (if m.ordered then m.excess else false)) && not (is_draining M.cluster s)) o false
     by_marks None = refl
-    by_marks (Some m) = dropped_is m.ordered m
+    by_marks (Some m) = ap (λ u. u && not (is_draining M.cluster s)) (dropped_is m.ordered m)
 
 pub live_before_is : (M : State) (b s : ℕ)
-    → (has (live_unmarked M b) s ≡ true) ↔ ((m : Marks) × (get M.holdings.replicas (replica_at b s) ≡ Some m) × (m.tag ≡ Good) × ((m.excess && m.ordered) ≡ false))
+    → (has (live_unmarked M b) s ≡ true)
+    ↔ ((m : Marks) × (get M.holdings.replicas (replica_at b s) ≡ Some m) × (m.tag ≡ Good) × ((m.excess && m.ordered) ≡ false) × (is_draining M.cluster s ≡ false))
 live_before_is M b s = (
-  λ h. found (get M.holdings.replicas (replica_at b s)) (sym (live_before M b s) ∙ h),
-  λ h. live_before M b s ∙ ap (λ o. option_map_or (λ m. is_good m.tag && not (if m.ordered then m.excess else false)) o false) h.1 ∙ counted_by h.0.tag h.0.excess h.0.ordered h.2 h.3,
+  λ h. found (is_draining M.cluster s) (get M.holdings.replicas (replica_at b s)) (sym (live_before M b s) ∙ h),
+  λ h. live_before M b s ∙ ap (λ o. option_map_or (λ m. (is_good m.tag && not (if m.ordered then m.excess else false)) && not (is_draining M.cluster s)) o false) h.1
+      ∙ ap (λ d. (is_good h.0.tag && not (if h.0.ordered then h.0.excess else false)) && not d) h.4 ∙ ap (λ u. u && true) (counted_by h.0.tag h.0.excess h.0.ordered h.2 h.3),
 )
   where
-    found : (o : Option Marks) → option_map_or (λ m. is_good m.tag && not (if m.ordered then m.excess else false)) o false ≡ true
-        → (m : Marks) × (o ≡ Some m) × (m.tag ≡ Good) × ((m.excess && m.ordered) ≡ false)
-    found None e = absurd (false≢true e)
-    found (Some m) e = let is = counts_by m.tag m.excess m.ordered e in (m, refl, is.0, is.1)
+    found : (d : Bool) (o : Option Marks) → option_map_or (λ m. (is_good m.tag && not (if m.ordered then m.excess else false)) && not d) o false ≡ true
+        → (m : Marks) × (o ≡ Some m) × (m.tag ≡ Good) × ((m.excess && m.ordered) ≡ false) × (d ≡ false)
+    found d None e = absurd (false≢true e)
+    found d (Some m) e =
+        let counts = is_good m.tag && not (if m.ordered then m.excess else false) in
+        let is = counts_by m.tag m.excess m.ordered (and_first counts (not d) e) in
+        (m, refl, is.0, is.1, not_true d (and_second counts (not d) e))

@@ -17,20 +17,21 @@ use Rattle.bm_base.specs.declared.commands.NodeCommands.{NodeCommands}
 use Rattle.bm_base.specs.Map.{get, keys, entries, len}
 use Rattle.bm_base.specs.State.{RoundLimits, Cluster, Holdings, State, replica_at}
 use Rattle.bm_base.specs.Lists.{has, has_repeats}
-use Rattle.bm_base.specs.Replicas.{live, node_of, has_storage, storages_where}
+use Rattle.bm_base.specs.Replicas.{usable, node_of, has_storage, is_draining, storages_where}
 use Rattle.bm_base.specs.Levels.{level, is_at}
 use Rattle.bm_base.specs.Excess.{begun, started, marked, without_expired, without_unordered_excess, remaining}
 use Rattle.bm_base.specs.Transfers.{pending_targets, streams_from, scheduled_to, stream_limit, targets_of, holders_of, barred_for, is_barred, is_target, class_of}
 use Rattle.bm_base.specs.Replicas.{racks}
 use Rattle.bm_base.specs.Rounds.{whole_round, commands_of, node_commands, has_commands}
-use Rattle.laws_of_rounds.specs.Words.{IsAmong, transfers_chosen, transfers_commanded, live_marked}
+use Rattle.laws_of_rounds.specs.Words.{IsAmong, transfers_chosen, transfers_commanded, live_marked, drained_marked}
 use Rattle.laws_of_rounds.specs.Transfers.{IsFreshNode}
-use Rattle.laws_of_rounds.proofs.Listed.{any_append, or_left, or_right, same_again, filter_append, length_append, filter_filter, any_map, any_filter}
+use Rattle.laws_of_rounds.proofs.Listed.{and_first, and_second, any_append, or_left, or_right, same_again, filter_append, length_append, filter_filter, any_map, any_filter}
 use Rattle.laws_of_rounds.proofs.Stands.{has_where, has_listed, listed}
 use Rattle.laws_of_rounds.proofs.Grouped.{has_keys, once_keys, on_one_node, each_node, all_of_each}
 use Rattle.laws_of_rounds.proofs.Commanded.{chosen_deletes_of}
 use Rattle.laws_of_rounds.proofs.Kept.{marks_started}
 use Rattle.laws_of_rounds.proofs.Racked.{passing_some}
+use Rattle.laws_of_rounds.proofs.Lively.{usable_is}
 use Rattle.laws_of_rounds.proofs.Choosing.{EachAfter, after_split, after_whole, IsChosenAfter, each_chosen, source_is, target_is}
 
 -- each transfer of the next round was chosen
@@ -43,33 +44,53 @@ chosen_at M front back t is = after_split (IsChosenAfter M.limits M.cluster (sta
 
 -- Sources.
 
-pub source_live : (M : State) (front back : List Transfer) (t : Transfer) → transfers_chosen M ≡ front ++ t ∷ back
-    → (has (live_marked M t.block) t.source ≡ true) × ((i : BlockInfo) × (get M.holdings.blocks t.block ≡ Some i) × (t.stamp ≡ i.stamp))
+pub source_usable : (M : State) (front back : List Transfer) (t : Transfer) → transfers_chosen M ≡ front ++ t ∷ back
+    → (has (usable (started M).holdings t.block) t.source ≡ true) × ((i : BlockInfo) × (get M.holdings.blocks t.block ≡ Some i) × (t.stamp ≡ i.stamp))
 unfolding started begun marked without_expired without_unordered_excess
-source_live M front back t is =
+source_usable M front back t is =
     let why = chosen_at M front back t is in
-    ((source_is M.cluster front why.urgency (live M.cluster (started M).holdings t.block) t.source why.source).1, (why.info, why.known, why.stamp))
+    ((source_is M.cluster front why.urgency (usable (started M).holdings t.block) t.source why.source).1, (why.info, why.known, why.stamp))
 
-limit_cases : (l : Level) (found : Option Level) (n : ℕ) → found ≡ Some l → n < stream_limit l → (found ≡ Some Highest) ⊎ (n < 2)
-limit_cases Highest found n e h = inl e
-limit_cases VeryUnderReplicated found n e h = inr h
-limit_cases UnderReplicated found n e h = inr h
-limit_cases BadlyDistributed found n e h = inr h
-limit_cases NoUsableReplica found n e h = inr h
+pub source_live_or_drained : (M : State) (front back : List Transfer) (t : Transfer) → transfers_chosen M ≡ front ++ t ∷ back
+    → ((has (live_marked M t.block) t.source ≡ true) ⊎ (has (drained_marked M t.block) t.source ≡ true)) × ((i : BlockInfo) × (get M.holdings.blocks t.block ≡ Some i) × (t.stamp ≡ i.stamp))
+source_live_or_drained M front back t is =
+    let there = source_usable M front back t is in (
+      either (has (live_marked M t.block) t.source) (has (drained_marked M t.block) t.source) (sym (usable_is M.cluster (started M).holdings t.block t.source) ∙ there.0),
+      there.1,
+    )
+  where
+    either : (a b : Bool) → (a || b) ≡ true → (a ≡ true) ⊎ (b ≡ true)
+    either true b e = inl refl
+    either false b e = inr e
 
-limit_four : (l : Level) (n : ℕ) → n < stream_limit l → n < 4
-limit_four Highest n h = h
-limit_four VeryUnderReplicated n h = omega arith
-limit_four UnderReplicated n h = omega arith
-limit_four BadlyDistributed n h = omega arith
-limit_four NoUsableReplica n h = omega arith
+limit_cases : (l : Level) (found : Option Level) (d : Bool) (n : ℕ) → found ≡ Some l → d ≡ false → n < stream_limit l d → (found ≡ Some Highest) ⊎ (n < 2)
+limit_cases Highest found d n e s h = inl e
+limit_cases VeryUnderReplicated found false n e s h = inr h
+limit_cases UnderReplicated found false n e s h = inr h
+limit_cases BadlyDistributed found false n e s h = inr h
+limit_cases NoUsableReplica found false n e s h = inr h
+limit_cases VeryUnderReplicated found true n e s h = absurd (true≢false s)
+limit_cases UnderReplicated found true n e s h = absurd (true≢false s)
+limit_cases BadlyDistributed found true n e s h = absurd (true≢false s)
+limit_cases NoUsableReplica found true n e s h = absurd (true≢false s)
 
-pub two_below : (M : State) (front back : List Transfer) (t : Transfer) → transfers_chosen M ≡ front ++ t ∷ back
+limit_two : (d : Bool) (n : ℕ) → n < (if d then 4 else 2) → n < 4
+limit_two true n h = h
+limit_two false n h = omega (arith, h)
+
+limit_four : (l : Level) (d : Bool) (n : ℕ) → n < stream_limit l d → n < 4
+limit_four Highest d n h = h
+limit_four VeryUnderReplicated d n h = limit_two d n h
+limit_four UnderReplicated d n h = limit_two d n h
+limit_four BadlyDistributed d n h = limit_two d n h
+limit_four NoUsableReplica d n h = limit_two d n h
+
+pub two_below : (M : State) (front back : List Transfer) (t : Transfer) → transfers_chosen M ≡ front ++ t ∷ back → is_draining M.cluster t.source ≡ false
     → (level M.cluster (started M).holdings t.block ≡ Some Highest) ⊎ (streams_from M.cluster front t.source < 2)
-two_below M front back t is =
+two_below M front back t is staying =
     let why = chosen_at M front back t is in
-    limit_cases why.urgency (level M.cluster (started M).holdings t.block) (streams_from M.cluster front t.source) why.at_level
-    (source_is M.cluster front why.urgency (live M.cluster (started M).holdings t.block) t.source why.source).0
+    limit_cases why.urgency (level M.cluster (started M).holdings t.block) (is_draining M.cluster t.source) (streams_from M.cluster front t.source) why.at_level staying
+    (source_is M.cluster front why.urgency (usable (started M).holdings t.block) t.source why.source).0
 
 pub node_is : (C : Cluster) (n s : ℕ) → has_storage C n s ≡ true → node_of C s ≡ Some n
 unfolding has_storage
@@ -106,7 +127,7 @@ module _ (limits : RoundLimits) (C : Cluster) (H : Holdings) where
       ∙ length_append (filter (λ (u : Transfer). has_storage C n u.source) front) (filter (λ (u : Transfer). has_storage C n u.source) (t ∷ [])) in
       (elim (has_storage C n t.source) as (λ b. has_storage C n t.source ≡ b → length (filter (λ (u : Transfer). has_storage C n u.source) (front ++ t ∷ [])) ≤ 4) [
         | true ↦ λ e.
-            let below = limit_four why.urgency (streams_from C front t.source) (source_is C front why.urgency (live C H t.block) t.source why.source).0 in
+            let below = limit_four why.urgency (is_draining C t.source) (streams_from C front t.source) (source_is C front why.urgency (usable H t.block) t.source why.source).0 in
             let same = streams_of_node C front n t.source e in
             let one : length (filter (λ (u : Transfer). has_storage C n u.source) (t ∷ [])) ≤ 1 = one_at_most (has_storage C n t.source) t in
             omega (arith, long, below, same, one)
@@ -211,22 +232,33 @@ few_commanded M =
 
 -- Targets.
 
-three_parts : (a b c : Bool) → (a && b && c) ≡ true → (a ≡ true) × ((b ≡ true) × (c ≡ true))
-three_parts true true true e = (refl, (refl, refl))
-three_parts true true false e = absurd (false≢true e)
-three_parts true false c e = absurd (false≢true e)
-three_parts false b c e = absurd (false≢true e)
+-- why a storage may be the target of a block of n bytes
+pub record IsFit (C : Cluster) (front : List Transfer) (urgency : Level) (holders barred : List ℕ) (n u : ℕ) : Type 0 where
+  pub fits : n + scheduled_to front u ≤ remaining C u
+  pub staying : is_draining C u ≡ false
+  pub free : is_barred C barred u ≡ false
+  pub apart : (is_at BadlyDistributed (Some urgency) && (length (racks C holders) == 1) && (class_of C holders u == 1)) ≡ false
 
 not_true : (b : Bool) → not b ≡ true → b ≡ false
 not_true true e = absurd (false≢true e)
 not_true false e = refl
 
 pub target_parts : (C : Cluster) (front : List Transfer) (urgency : Level) (holders barred : List ℕ) (n u : ℕ) → is_target C (scheduled_to front) urgency holders barred n u ≡ true
-    → (n + scheduled_to front u ≤ remaining C u) × ((is_barred C barred u ≡ false) × ((is_at BadlyDistributed (Some urgency) && (length (racks C holders) == 1) && (class_of C holders u == 1)) ≡ false))
+    → IsFit C front urgency holders barred n u
 unfolding is_target
 target_parts C front urgency holders barred n u e =
-    let parts = three_parts (nat_le (n + scheduled_to front u) (remaining C u)) (not (is_barred C barred u)) (not (is_at BadlyDistributed (Some urgency) && (length (racks C holders) == 1) && (class_of C holders u == 1))) e in
-    (leb-true (n + scheduled_to front u) (remaining C u) parts.0, (not_true (is_barred C barred u) parts.1.0, not_true (is_at BadlyDistributed (Some urgency) && (length (racks C holders) == 1) && (class_of C holders u == 1)) parts.1.1))
+    let badly = is_at BadlyDistributed (Some urgency) && (length (racks C holders) == 1) && (class_of C holders u == 1) in
+    let fits = nat_le (n + scheduled_to front u) (remaining C u) in
+    let staying = not (is_draining C u) in
+    let free = not (is_barred C barred u) in
+    let three = and_first (fits && staying && free) (not badly) e in
+    let two = and_first (fits && staying) free three in
+    record {
+      fits = leb-true (n + scheduled_to front u) (remaining C u) (and_first fits staying two);
+      staying = not_true (is_draining C u) (and_second fits staying two);
+      free = not_true (is_barred C barred u) (and_second (fits && staying) free three);
+      apart = not_true badly (and_second (fits && staying && free) (not badly) e);
+    }
 
 some_of : {X : Type 0} (o : Option X) → is_some o ≡ true → (x : X) × (o ≡ Some x)
 some_of None e = absurd (false≢true e)
@@ -311,10 +343,11 @@ fresh_node M front back t is =
     let known = storage_known M.cluster t.target at.1 in
     record {
       known = known;
-      no_replica = λ s there. not_barred M.cluster (barred_for H front t.block) t.target s known.0 parts.1.0 known.1
+      not_draining = parts.staying;
+      no_replica = λ s there. not_barred M.cluster (barred_for H front t.block) t.target s known.0 parts.free known.1
           (barred_replica H front t.block s (ap is_some (marks_started M (replica_at t.block s)) ∙ mapped_there _ (get M.holdings.replicas (replica_at t.block s)) there));
-      none_pending = λ s there. not_barred M.cluster (barred_for H front t.block) t.target s known.0 parts.1.0 known.1 (barred_pending H front t.block s (has_pending H t.block s ∙ there));
-      no_other = λ u there same. not_barred M.cluster (barred_for H front t.block) t.target u.target known.0 parts.1.0 known.1 (barred_target H front t.block u.target (among_targets front u t.block there same));
+      none_pending = λ s there. not_barred M.cluster (barred_for H front t.block) t.target s known.0 parts.free known.1 (barred_pending H front t.block s (has_pending H t.block s ∙ there));
+      no_other = λ u there same. not_barred M.cluster (barred_for H front t.block) t.target u.target known.0 parts.free known.1 (barred_target H front t.block u.target (among_targets front u t.block there same));
     }
 
 sent_more : (C : Cluster) (limits : RoundLimits) (H : Holdings) (s : ℕ) (front : List Transfer) (t : Transfer) → scheduled_to front s ≤ remaining C s → IsChosenAfter limits C H front t
@@ -325,7 +358,7 @@ sent_more C limits H s front t fits why =
     let parts = target_parts C front why.urgency (holders_of C H front t.block) (barred_for H front t.block) why.info.stamp.len t.target at.0 in
     let long = sum_by_push (λ (u : Transfer). if u.target == s then u.stamp.len else 0) front t in
     let len_is = ap (λ x. x.len) why.stamp in
-    by_target (t.target == s) refl (t.stamp.len) parts.0 len_is long
+    by_target (t.target == s) refl (t.stamp.len) parts.fits len_is long
   where
     by_target : (b : Bool) → (t.target == s) ≡ b → (l : ℕ) → why.info.stamp.len + scheduled_to front t.target ≤ remaining C t.target → l ≡ why.info.stamp.len
         → scheduled_to (front ++ t ∷ []) s ≡ scheduled_to front s + (if t.target == s then l else 0) → scheduled_to (front ++ t ∷ []) s ≤ remaining C s

@@ -13,7 +13,7 @@ use Rattle.bm_base.specs.declared.commands.NodeCommands.{NodeCommands}
 use Rattle.bm_base.specs.Map.{get, keys}
 use Rattle.bm_base.specs.State.{RoundLimits, Cluster, Holdings, State, replica_at}
 use Rattle.bm_base.specs.Lists.{has}
-use Rattle.bm_base.specs.Replicas.{node_of, has_storage, live, is_usable, is_live_on}
+use Rattle.bm_base.specs.Replicas.{node_of, has_storage, usable, is_usable, drains, is_draining}
 use Rattle.bm_base.specs.Levels.{level}
 use Rattle.bm_base.specs.Excess.{begun, started, marked, without_expired, without_unordered_excess}
 use Rattle.bm_base.specs.Deletes.{deletes_of, deletes}
@@ -26,7 +26,7 @@ use Rattle.laws_of_rounds.proofs.Grouped.{has_keys, each_node, each_on_node, all
 use Rattle.laws_of_rounds.proofs.Commanded.{IsTested, chosen_deletes_of, deleted_is}
 use Rattle.laws_of_rounds.proofs.Kept.{marks_started, marks_before, remarked, remarked_ordered, surplus_of, from_some, remarked_tag}
 use Rattle.laws_of_rounds.proofs.Marked.{ordered_by}
-use Rattle.laws_of_rounds.proofs.Sending.{node_is, storage_is, streams_of_node, two_below, source_live}
+use Rattle.laws_of_rounds.proofs.Sending.{node_is, storage_is, streams_of_node, two_below, source_usable}
 use Rattle.laws_of_rounds.proofs.Later.{each_among, each_is, commanded_chosen, ordered_by_round, marks_after, pending_now}
 
 -- Each node its own.
@@ -90,13 +90,17 @@ unfiltered {X = X} p (y ∷ xs) front back x e = by_test (p y) refl front e (λ 
         (y ∷ r.0, r.1, ap (λ ws. y ∷ ws) r.2, ap (λ b. cond b (y ∷ filter p r.0) (filter p r.0)) t ∙ r.3, r.4)
 
 abbrev AreFirstTwo : State → NodeCommands → Type 0
-AreFirstTwo M k = (front back : List Transfer) (t : Transfer) → k.transfers ≡ front ++ t ∷ back → (level M.cluster (started M).holdings t.block ≡ Some Highest) ⊎ (length front < 2)
+AreFirstTwo M k = drains M.cluster k.node ≡ false → (front back : List Transfer) (t : Transfer) → k.transfers ≡ front ++ t ∷ back → (level M.cluster (started M).holdings t.block ≡ Some Highest) ⊎ (length front < 2)
+
+not_draining : (C : Cluster) (n s : ℕ) → has_storage C n s ≡ true → drains C n ≡ false → is_draining C s ≡ false
+unfolding is_draining
+not_draining C n s on staying = ap (λ o. option_map_or (drains C) o false) (node_is C n s on) ∙ staying
 
 first_two_of : (M : State) (ds : List Delete) (n : ℕ) → AreFirstTwo M (node_commands M.cluster (transfers_chosen M) ds n)
 unfolding node_commands
-first_two_of M ds n front back t e =
+first_two_of M ds n staying front back t e =
     let place = unfiltered (λ (u : Transfer). has_storage M.cluster n u.source) (transfers_chosen M) front back t e in
-    of_case (two_below M place.0 place.1 t place.2)
+    of_case (two_below M place.0 place.1 t place.2 (not_draining M.cluster n t.source place.4 staying))
     (streams_of_node M.cluster place.0 n t.source place.4 ∙ ap length place.3)
   where
     of_case : {k : ℕ} → (level M.cluster (started M).holdings t.block ≡ Some Highest) ⊎ (k < 2) → k ≡ length front → (level M.cluster (started M).holdings t.block ≡ Some Highest) ⊎ (length front < 2)
@@ -188,26 +192,26 @@ pub some_value : {X : Type 0} (o : Option X) → is_some o ≡ true → (x : X) 
 some_value None e = absurd (false≢true e)
 some_value (Some x) e = (x, refl)
 
-pub live_there : (o : Option Marks) → option_map_or is_usable o false ≡ true → is_some o ≡ true
-live_there None e = e
-live_there (Some m) e = refl
+pub passing_there : (p : Marks → Bool) (o : Option Marks) → option_map_or p o false ≡ true → is_some o ≡ true
+passing_there p None e = e
+passing_there p (Some m) e = refl
 
 mapped_was : {X Y : Type 0} (f : X → Y) (o : Option X) → is_some (option_map f o) ≡ true → is_some o ≡ true
 mapped_was f None e = e
 mapped_was f (Some x) e = refl
 
 -- the node of a source is alive
-source_alive : (M : State) (b s : ℕ) → IsLawful M → has (live M.cluster (started M).holdings b) s ≡ true → (n : ℕ) × (has (keys M.cluster.nodes) n ≡ true) × (has_storage M.cluster n s ≡ true)
+source_alive : (M : State) (b s : ℕ) → IsLawful M → has (usable (started M).holdings b) s ≡ true → (n : ℕ) × (has (keys M.cluster.nodes) n ≡ true) × (has_storage M.cluster n s ≡ true)
 unfolding node_of
 source_alive M b s lawful h =
-    let there = mapped_was (remarked (surplus_of M b) s) (get M.holdings.replicas (replica_at b s)) (sym (ap is_some (marks_started M (replica_at b s))) ∙ live_there (get (started M).holdings.replicas (replica_at b s)) (sym (has_where (is_live_on M.cluster) (started M).holdings b s) ∙ h)) in
+    let there = mapped_was (remarked (surplus_of M b) s) (get M.holdings.replicas (replica_at b s)) (sym (ap is_some (marks_started M (replica_at b s))) ∙ passing_there is_usable (get (started M).holdings.replicas (replica_at b s)) (sym (has_where (λ _ m. is_usable m) (started M).holdings b s) ∙ h)) in
     let storage = some_value (get M.cluster.storages s) (lawful.holdings.stored (replica_at b s) there) in
     (storage.0.node, has_keys M.cluster.nodes storage.0.node ∙ lawful.cluster.alive s storage.0 storage.1, storage_is M.cluster storage.0.node s (ap (option_map (λ i. i.node)) storage.1))
 
 pub chosen_told : (M : State) (t : Transfer) → IsLawful M → IsAmong (transfers_chosen M) t → IsTransferCommanded M t
 unfolding whole_round started begun
 chosen_told M t lawful at =
-    let alive = source_alive M t.block t.source lawful (source_live M at.0 at.1 t at.2).0 in
+    let alive = source_alive M t.block t.source lawful (source_usable M at.0 at.1 t at.2).0 in
     told_transfer M.cluster (started M).round (transfers_chosen M) (chosen_deletes_of M) alive.0 t alive.1 alive.2 at
 
 -- Deletes, and the state.

@@ -11,7 +11,7 @@ use Rattle.bm_base.specs.declared.commands.Transfer.{Transfer}
 use Rattle.bm_base.specs.Map.{get, keys, entries}
 use Rattle.bm_base.specs.State.{RoundLimits, Cluster, Holdings, State}
 use Rattle.bm_base.specs.Lists.{has, distinct}
-use Rattle.bm_base.specs.Replicas.{live, racks, rack_of, is_multi_rack}
+use Rattle.bm_base.specs.Replicas.{live, drained, usable, racks, rack_of, is_multi_rack}
 use Rattle.bm_base.specs.Levels.{level, level_of, is_at}
 use Rattle.bm_base.specs.Excess.{begun, started, marked, without_expired, without_unordered_excess, share_rack}
 use Rattle.bm_base.specs.Transfers.{WishedCopy, wished_count, wishes_for, wishes, pending_targets, targets_of, holders_of, barred_for, is_on_racks, class_of, least_source, least_target, transfer_for, transfers_from, transfers}
@@ -140,7 +140,7 @@ module _ (limits : RoundLimits) (C : Cluster) (H : Holdings) (b : ℕ) where
   pub of_wish : (front : List Transfer) (w : WishedCopy) (t : Transfer) → transfer_for limits C H front w ≡ Some t → t.block ≡ w.block
   unfolding transfer_for
   of_wish front w t e =
-      block_kept _ (get H.blocks w.block) (least_source C front w.urgency (live C H w.block))
+      block_kept _ (get H.blocks w.block) (least_source C front w.urgency (usable H w.block))
       (λ i. least_target C front w.urgency (holders_of C H front w.block) (barred_for H front w.block) i.stamp.len) w.block t e
 
   one_more : (front : List Transfer) (w : WishedCopy) (o : Option Transfer) → ((t : Transfer) → o ≡ Some t → t.block ≡ w.block)
@@ -212,24 +212,25 @@ no_more_than_lacks M b i known some =
 
 -- Another rack.
 
-pub badly_counted : (n repl rs : ℕ) (multi : Bool) → level_of n repl rs multi ≡ Some BadlyDistributed → (repl ≤ n) × ((rs == 1) ≡ true)
+pub badly_counted : (n d repl rs : ℕ) (multi : Bool) → level_of n d repl rs multi ≡ Some BadlyDistributed → (repl ≤ n) × ((rs == 1) ≡ true)
 unfolding level_of
-badly_counted n repl rs multi e = by_tests (nat_le repl n) refl (nat_lt 1 repl) (rs == 1) multi e
+badly_counted n d repl rs multi e = by_tests (nat_le repl n) refl (nat_lt 1 repl) (rs == 1) multi e
   where
     by_tests : (a : Bool) → nat_le repl n ≡ a → (p q r : Bool)
-        → (if a then (if p && q && r then Some BadlyDistributed else None) else Some (if n == 0 then NoUsableReplica else if n == 1 then Highest else if nat_lt (n * 3) repl then VeryUnderReplicated else UnderReplicated)) ≡ Some BadlyDistributed
+        → (if a then (if p && q && r then Some BadlyDistributed else None) else Some (if n == 0 then (if d == 0 then NoUsableReplica else Highest) else if n == 1 then Highest else if nat_lt (n * 3) repl then VeryUnderReplicated else UnderReplicated)) ≡ Some BadlyDistributed
         → (repl ≤ n) × (q ≡ true)
     by_tests true f true true true e = (leb-true repl n f, refl)
     by_tests true f true true false e = absurd (false≢true (ap is_some e))
     by_tests true f true false r e = absurd (false≢true (ap is_some e))
     by_tests true f false q r e = absurd (false≢true (ap is_some e))
-    by_tests false f p q r e = absurd (other (n == 0) (n == 1) (nat_lt (n * 3) repl) e)
+    by_tests false f p q r e = absurd (other (n == 0) (d == 0) (n == 1) (nat_lt (n * 3) repl) e)
       where
-        other : (a b c : Bool) → Some (if a then NoUsableReplica else if b then Highest else if c then VeryUnderReplicated else UnderReplicated) ≡ Some BadlyDistributed → ⊥
-        other true b c e = cc
-        other false true c e = cc
-        other false false true e = cc
-        other false false false e = cc
+        other : (a z b c : Bool) → Some (if a then (if z then NoUsableReplica else Highest) else if b then Highest else if c then VeryUnderReplicated else UnderReplicated) ≡ Some BadlyDistributed → ⊥
+        other true true b c e = cc
+        other true false b c e = cc
+        other false z true c e = cc
+        other false z false true e = cc
+        other false z false false e = cc
 
 empty_of : {X : Type 0} (xs : List X) → length xs ≡ 0 → xs ≡ []
 empty_of [] e = refl
@@ -306,14 +307,14 @@ second_rack_shared M front back t is badly s there =
     let C : Cluster = M.cluster in
     let H : Holdings = (started M).holdings in
     let why = chosen_at M front back t is in
-    let counted = badly_counted (length (live C H t.block)) why.info.repl (length (racks C (live C H t.block))) (is_multi_rack C) (sym (level_known C H t.block why.info why.known) ∙ badly) in
+    let counted = badly_counted (length (live C H t.block)) (length (drained C H t.block)) why.info.repl (length (racks C (live C H t.block))) (is_multi_rack C) (sym (level_known C H t.block why.info why.known) ∙ badly) in
     let long : length (targets_of (transfers_chosen M) t.block) ≡ length (targets_of front t.block) + length (targets_of (t ∷ back) t.block) =
     ap (λ ts. length (targets_of ts t.block)) is ∙ count_append front (t ∷ back) t.block in
     let head = head_count t back in
     let at = target_is C front why.urgency (holders_of C H front t.block) (barred_for H front t.block) why.info.stamp.len t.target why.target in
     let parts = target_parts C front why.urgency (holders_of C H front t.block) (barred_for H front t.block) why.info.stamp.len t.target at.0 in
     let urgent : why.urgency ≡ BadlyDistributed = some_same why.urgency BadlyDistributed (sym why.at_level ∙ badly) in
-    let off = first_off (is_at BadlyDistributed (Some why.urgency)) (length (racks C (holders_of C H front t.block)) == 1) (class_of C (holders_of C H front t.block) t.target == 1) (ap (λ l. is_at BadlyDistributed (Some l)) urgent) parts.1.1 in
+    let off = first_off (is_at BadlyDistributed (Some why.urgency)) (length (racks C (holders_of C H front t.block)) == 1) (class_of C (holders_of C H front t.block) t.target == 1) (ap (λ l. is_at BadlyDistributed (Some l)) urgent) parts.apart in
     let none = none_other C H front t.block why.info.repl (length (targets_of (transfers_chosen M) t.block)) (length (targets_of back t.block)) (omega (arith, long, head)) counted.0
     (no_more_targets M t.block why.info (known_before M t.block why.info why.known) (omega (arith, long, head))) in
     elsewhere C H front t.block t.target s none.0 none.1 counted.1 off there

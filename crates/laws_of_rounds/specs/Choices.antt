@@ -26,6 +26,7 @@ on node remaining = record { node = node; remaining = remaining }
 abbrev pub three_racks : Cluster
 three_racks = record {
   nodes = insert_all empty ((1, 1) ∷ (2, 1) ∷ (3, 2) ∷ (4, 2) ∷ (5, 3) ∷ []);
+  draining = empty;
   storages = insert_all empty ((11, on 1 100) ∷ (12, on 5 90) ∷ (21, on 2 100) ∷ (31, on 3 80) ∷ (41, on 4 100) ∷ (51, on 5 200) ∷ (52, on 1 60) ∷ []);
 }
 
@@ -181,5 +182,5 @@ ExpiresAfterPend =
 -- Levels at their edges: seven wanted and two live are fewer than a third, six wanted and two live are a third.
 abbrev pub LevelsAtTheirEdges : Type 0
 LevelsAtTheirEdges =
-    (level_of 2 7 2 true ≡ Some VeryUnderReplicated) × (level_of 2 6 2 true ≡ Some UnderReplicated)
-    × (level_of 2 2 1 true ≡ Some BadlyDistributed) × (level_of 2 2 1 false ≡ None) × (level_of 1 1 1 true ≡ None) × (level_of 2 2 2 true ≡ None)
+    (level_of 2 0 7 2 true ≡ Some VeryUnderReplicated) × (level_of 2 0 6 2 true ≡ Some UnderReplicated)
+    × (level_of 2 0 2 1 true ≡ Some BadlyDistributed) × (level_of 2 0 2 1 false ≡ None) × (level_of 1 0 1 1 true ≡ None) × (level_of 2 0 2 2 true ≡ None)

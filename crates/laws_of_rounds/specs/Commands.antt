@@ -7,7 +7,7 @@ use Rattle.bm_base.specs.declared.level.Level.TheVariants.{Highest}
 use Rattle.bm_base.specs.declared.commands.Transfer.{Transfer}
 use Rattle.bm_base.specs.Map.{get}
 use Rattle.bm_base.specs.State.{State, replica_at}
-use Rattle.bm_base.specs.Replicas.{node_of}
+use Rattle.bm_base.specs.Replicas.{node_of, drains}
 use Rattle.bm_base.specs.Levels.{level}
 use Rattle.bm_base.specs.Excess.{started}
 use Rattle.bm_base.specs.Lawful.{IsLawful}
@@ -19,10 +19,11 @@ abbrev pub EachNodeItsOwn : Type 0
 EachNodeItsOwn =
     (M : State) → All (λ k. All (λ t. node_of M.cluster t.source ≡ Some k.node) k.transfers × All (λ d. node_of M.cluster d.storage ≡ Some k.node) k.deletes) (whole_round M).0.nodes
 
--- of the transfers that a node is commanded, those of blocks of other levels than the highest are among the first two
+-- of the transfers that a node is commanded that does not drain, those of blocks of other levels than the highest are among the
+-- first two
 abbrev pub FirstTwoOfANode : Type 0
 FirstTwoOfANode =
-    (M : State) → All (λ k. (front back : List Transfer) (t : Transfer) → k.transfers ≡ front ++ t ∷ back
+    (M : State) → All (λ k. drains M.cluster k.node ≡ false → (front back : List Transfer) (t : Transfer) → k.transfers ≡ front ++ t ∷ back
     → (level M.cluster (started M).holdings t.block ≡ Some Highest) ⊎ (length front < 2)) (whole_round M).0.nodes
 
 -- in a lawful state, what a round chooses it commands

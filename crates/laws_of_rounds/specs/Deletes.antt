@@ -11,7 +11,7 @@ use Rattle.bm_base.specs.declared.commands.NodeCommands.{NodeCommands}
 use Rattle.bm_base.specs.Map.{get}
 use Rattle.bm_base.specs.State.{State, replica_at, first_state}
 use Rattle.bm_base.specs.Lists.{has}
-use Rattle.bm_base.specs.Replicas.{is_good, is_usable, is_stray, is_corrupt, node_of}
+use Rattle.bm_base.specs.Replicas.{is_usable, is_stray, is_corrupt, node_of, is_draining}
 use Rattle.bm_base.specs.Excess.{started}
 use Rattle.bm_base.specs.Rounds.{whole_round}
 use Rattle.bm_base.specs.Lawful.{IsLawful}
@@ -85,16 +85,17 @@ OnlyTheLimitDefers =
 
 -- Over every list of calls.
 
--- a replica whose delete was commanded, and which was not reported since, is not live
-abbrev pub OrderedReplicaIsNotLive : Type 0
-OrderedReplicaIsNotLive =
+-- a replica whose delete was commanded, and which was not reported since, is neither live nor drained
+abbrev pub OrderedReplicaIsNotUsable : Type 0
+OrderedReplicaIsNotUsable =
     (config : Config) (ks : List Call) (q : ReplicaId) (m : Marks)
     → get (state_after (first_state config) ks).holdings.replicas q ≡ Some m → m.ordered ≡ true → is_usable m ≡ false
 
 -- Where a round commands the delete of a replica of a known block, a replica of the block is left that is good and not in
--- excess, and of which no round has commanded the delete, neither this one nor an earlier one.
+-- excess, on a node that does not drain, and of which no round has commanded the delete, neither this one nor an earlier one.
 abbrev pub GoodReplicaIsLeftByAllRounds : Type 0
 GoodReplicaIsLeftByAllRounds =
     (config : Config) (ks : List Call) (b s : ℕ) (i : BlockInfo)
     → let M = state_after (first_state config) ks in IsLawful M → get M.holdings.blocks b ≡ Some i → IsDeleteCommanded M (replica_at b s)
-    → (t : ℕ) × (m : Marks) × (get (after_round M).holdings.replicas (replica_at b t) ≡ Some m) × (is_good m.tag ≡ true) × (m.excess ≡ false) × (m.ordered ≡ false)
+    → (t : ℕ) × (m : Marks) × (get (after_round M).holdings.replicas (replica_at b t) ≡ Some m) × (m.tag ≡ Good) × (m.excess ≡ false) × (m.ordered ≡ false)
+    × (is_draining M.cluster t ≡ false)

@@ -6,9 +6,10 @@ use Rattle.bm_base.specs.declared.replica.BlockInfo.{BlockInfo}
 use Rattle.bm_base.specs.Map.{get}
 use Rattle.bm_base.specs.State.{Cluster, Holdings, State}
 use Rattle.bm_base.specs.Lists.{has}
-use Rattle.bm_base.specs.Replicas.{live, rack_of}
+use Rattle.bm_base.specs.Replicas.{live, drained, rack_of}
 use Rattle.bm_base.specs.Levels.{level, level_of}
 use Rattle.bm_base.specs.Lawful.{IsLawful}
+use Rattle.bm_base.specs.Queries.{missing_blocks}
 use Rattle.bm_base.specs.Events.{set_replication}
 
 -- How much a block is in need of replicas, told from its level: not at all where it has none, and most where no replica is left.
@@ -23,10 +24,17 @@ need (Some NoUsableReplica) = 5
 abbrev pub UnknownBlockHasNoLevel : Type 0
 UnknownBlockHasNoLevel = (C : Cluster) (H : Holdings) (b : ℕ) → get H.blocks b ≡ None → level C H b ≡ None
 
-abbrev pub LevelFourIsNoLiveReplica : Type 0
-LevelFourIsNoLiveReplica =
+abbrev pub LevelFourIsNoUsableReplica : Type 0
+LevelFourIsNoUsableReplica =
     (M : State) (b : ℕ) (i : BlockInfo) → IsLawful M → get M.holdings.blocks b ≡ Some i
-    → (level M.cluster M.holdings b ≡ Some NoUsableReplica) ↔ (length (live M.cluster M.holdings b) ≡ 0)
+    → (level M.cluster M.holdings b ≡ Some NoUsableReplica) ↔ ((length (live M.cluster M.holdings b) ≡ 0) × (length (drained M.cluster M.holdings b) ≡ 0))
+
+-- with no live replica and a drained one a block is the first to be copied, and not missing
+abbrev pub OnlyDrainedIsLevelZero : Type 0
+OnlyDrainedIsLevelZero =
+    (M : State) (b : ℕ) (i : BlockInfo) → IsLawful M → get M.holdings.blocks b ≡ Some i
+    → length (live M.cluster M.holdings b) ≡ 0 → 1 ≤ length (drained M.cluster M.holdings b)
+    → (level M.cluster M.holdings b ≡ Some Highest) × (has (missing_blocks M.cluster M.holdings) b ≡ false)
 
 -- storages all of which stand on one rack
 abbrev pub AreOnOneRack : Cluster → List ℕ → Type 0
@@ -47,24 +55,30 @@ ShortOfReplicas =
     (M : State) (b : ℕ) (i : BlockInfo) → IsLawful M → get M.holdings.blocks b ≡ Some i
     → (2 ≤ need (level M.cluster M.holdings b)) ↔ (length (live M.cluster M.holdings b) < i.repl)
 
--- so many are live, on so many racks; `repl` are wanted, and then `more`
+-- so many are live, on so many racks, and so many drained; `repl` are wanted, and then `more`
 abbrev pub MoreWantedIsNoLessNeed : Type 0
 MoreWantedIsNoLessNeed =
-    (live repl more racks : ℕ) (multi : Bool) → repl ≤ more → need (level_of live repl racks multi) ≤ need (level_of live more racks multi)
+    (live drained repl more racks : ℕ) (multi : Bool) → repl ≤ more → need (level_of live drained repl racks multi) ≤ need (level_of live drained more racks multi)
 
 abbrev pub RaisedReplicationIsNoLessNeed : Type 0
 RaisedReplicationIsNoLessNeed =
     (C : Cluster) (H : Holdings) (b more : ℕ) (i : BlockInfo) → get H.blocks b ≡ Some i → i.repl ≤ more
     → need (level C H b) ≤ need (level C (set_replication H b more) b)
 
--- one live replica more stands on the racks of the others or on one more; live replicas stand on one rack at least
+-- One live replica more stands on the racks of the others or on one more; live replicas stand on one rack at least. As many may
+-- be drained then as before, or more or fewer, as where a drained one becomes live.
 abbrev pub OneReplicaMoreIsNoMoreNeed : Type 0
 OneReplicaMoreIsNoMoreNeed =
-    (live repl racks more_racks : ℕ) (multi : Bool) → (1 ≤ live → 1 ≤ racks) → racks ≤ more_racks
-    → need (level_of (live + 1) repl more_racks multi) ≤ need (level_of live repl racks multi)
+    (live drained drained_then repl racks more_racks : ℕ) (multi : Bool) → (1 ≤ live → 1 ≤ racks) → racks ≤ more_racks
+    → need (level_of (live + 1) drained_then repl more_racks multi) ≤ need (level_of live drained repl racks multi)
+
+abbrev pub OneDrainedReplicaMoreIsNoMoreNeed : Type 0
+OneDrainedReplicaMoreIsNoMoreNeed =
+    (live drained repl racks : ℕ) (multi : Bool) → need (level_of live (drained + 1) repl racks multi) ≤ need (level_of live drained repl racks multi)
 
 abbrev pub FirstReplicaMakesABlockTheFirstToCopy : Type 0
-FirstReplicaMakesABlockTheFirstToCopy = (level_of 0 3 0 true ≡ Some NoUsableReplica) × (level_of 1 3 1 true ≡ Some Highest)
+FirstReplicaMakesABlockTheFirstToCopy =
+    (level_of 0 0 3 0 true ≡ Some NoUsableReplica) × (level_of 1 0 3 1 true ≡ Some Highest) × (level_of 0 1 3 0 true ≡ Some Highest)
 
 abbrev pub SecondRackMayRaiseNeed : Type 0
-SecondRackMayRaiseNeed = (level_of 2 2 1 false ≡ None) × (level_of 2 2 1 true ≡ Some BadlyDistributed)
+SecondRackMayRaiseNeed = (level_of 2 0 2 1 false ≡ None) × (level_of 2 0 2 1 true ≡ Some BadlyDistributed)

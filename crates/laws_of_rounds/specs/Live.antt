@@ -1,18 +1,32 @@
--- What is live: the words in which the other laws speak.
-use Rattle.std.specs.Prelude.{◌≡◌, ℕ, ◌↔◌, true, false, Some}
+-- What is live, and what is drained: the words in which the other laws speak.
+use Rattle.std.specs.Prelude.{◌≡◌, ℕ, ◌↔◌, true, false, ◌||◌, Some}
 use Rattle.bm_base.specs.declared.replica.Tag.TheVariants.{Good}
 use Rattle.bm_base.specs.declared.replica.Marks.{Marks}
 use Rattle.bm_base.specs.Map.{get}
 use Rattle.bm_base.specs.State.{Cluster, Holdings, replica_at}
 use Rattle.bm_base.specs.Lists.{has, has_repeats}
-use Rattle.bm_base.specs.Replicas.{live}
+use Rattle.bm_base.specs.Replicas.{live, drained, usable, is_draining}
 
--- a storage stands among a block's live ones exactly where its replica of the block is good and not in excess
-abbrev pub LiveIsGoodAndNotInExcess : Type 0
-LiveIsGoodAndNotInExcess =
+-- a storage stands among a block's live ones exactly where its replica of the block is good and not in excess, and its node does
+-- not drain
+abbrev pub LiveIsGoodNotInExcessAndNotDraining : Type 0
+LiveIsGoodNotInExcessAndNotDraining =
     (C : Cluster) (H : Holdings) (b s : ℕ)
-    → (has (live C H b) s ≡ true) ↔ ((m : Marks) × (get H.replicas (replica_at b s) ≡ Some m) × (m.tag ≡ Good) × (m.excess ≡ false))
+    → (has (live C H b) s ≡ true) ↔ ((m : Marks) × (get H.replicas (replica_at b s) ≡ Some m) × (m.tag ≡ Good) × (m.excess ≡ false) × (is_draining C s ≡ false))
 
--- and it stands there once
+-- and among its drained ones exactly where the replica is good and not in excess, and the node drains
+abbrev pub DrainedIsGoodNotInExcessAndDraining : Type 0
+DrainedIsGoodNotInExcessAndDraining =
+    (C : Cluster) (H : Holdings) (b s : ℕ)
+    → (has (drained C H b) s ≡ true) ↔ ((m : Marks) × (get H.replicas (replica_at b s) ≡ Some m) × (m.tag ≡ Good) × (m.excess ≡ false) × (is_draining C s ≡ true))
+
+-- the usable ones are these two together
+abbrev pub UsableIsLiveOrDrained : Type 0
+UsableIsLiveOrDrained = (C : Cluster) (H : Holdings) (b s : ℕ) → has (usable H b) s ≡ (has (live C H b) s || has (drained C H b) s)
+
+-- a storage stands once among the live ones, and among the drained ones
 abbrev pub LiveStandsOnce : Type 0
 LiveStandsOnce = (C : Cluster) (H : Holdings) (b : ℕ) → has_repeats (live C H b) ≡ false
+
+abbrev pub DrainedStandsOnce : Type 0
+DrainedStandsOnce = (C : Cluster) (H : Holdings) (b : ℕ) → has_repeats (drained C H b) ≡ false

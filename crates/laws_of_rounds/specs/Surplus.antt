@@ -7,16 +7,17 @@ use Rattle.bm_base.specs.declared.replica.BlockInfo.{BlockInfo}
 use Rattle.bm_base.specs.Map.{get}
 use Rattle.bm_base.specs.State.{State, replica_at}
 use Rattle.bm_base.specs.Lists.{has}
-use Rattle.bm_base.specs.Replicas.{rack_of}
+use Rattle.bm_base.specs.Replicas.{rack_of, is_draining}
 use Rattle.bm_base.specs.Excess.{started}
 use Rattle.bm_base.specs.Lawful.{IsLawful}
 use Rattle.laws_of_rounds.specs.Words.{live_unmarked, live_marked, live_after}
 
--- Before a round marks, live are the good replicas but those in excess of which the delete was commanded.
+-- Before a round marks, live are the good replicas on nodes that do not drain, but those in excess of which the delete was
+-- commanded.
 abbrev pub LiveBeforeMarking : Type 0
 LiveBeforeMarking =
     (M : State) (b s : ℕ)
-    → (has (live_unmarked M b) s ≡ true) ↔ ((m : Marks) × (get M.holdings.replicas (replica_at b s) ≡ Some m) × (m.tag ≡ Good) × ((m.excess && m.ordered) ≡ false))
+    → (has (live_unmarked M b) s ≡ true) ↔ ((m : Marks) × (get M.holdings.replicas (replica_at b s) ≡ Some m) × (m.tag ≡ Good) × ((m.excess && m.ordered) ≡ false) × (is_draining M.cluster s ≡ false))
 
 -- once a round has marked, a known block has at most its replication live
 abbrev pub AtMostReplicationIsLive : Type 0

@@ -1,5 +1,5 @@
 -- Laws of transfers. A round chooses transfers one after another; `front` are those chosen before one, `back` those after it.
-use Rattle.std.specs.Prelude.{◌≡◌, ℕ, ◌+◌, ◌*◌, ◌≤◌, ◌⊎◌, ◌==◌, true, if◌then◌else◌, List, ◌∷◌, ◌++◌, length, sum_by, count_by, Some, IsSome, ◌<◌}
+use Rattle.std.specs.Prelude.{◌≡◌, ℕ, ◌+◌, ◌*◌, ◌≤◌, ◌⊎◌, ◌==◌, true, false, if◌then◌else◌, List, ◌∷◌, ◌++◌, length, sum_by, count_by, Some, IsSome, ◌<◌}
 use Rattle.std.specs.List.{All}
 use Rattle.bm_base.specs.declared.replica.BlockInfo.{BlockInfo}
 use Rattle.bm_base.specs.declared.level.Level.{Level}
@@ -9,11 +9,11 @@ use Rattle.bm_base.specs.declared.commands.Transfer.{Transfer}
 use Rattle.bm_base.specs.Map.{get, entries, len}
 use Rattle.bm_base.specs.State.{State, replica_at}
 use Rattle.bm_base.specs.Lists.{has}
-use Rattle.bm_base.specs.Replicas.{node_of, rack_of}
+use Rattle.bm_base.specs.Replicas.{node_of, rack_of, is_draining}
 use Rattle.bm_base.specs.Levels.{level, level_number}
 use Rattle.bm_base.specs.Excess.{started}
 use Rattle.bm_base.specs.Rounds.{whole_round}
-use Rattle.laws_of_rounds.specs.Words.{IsAmong, transfers_chosen, transfers_commanded, live_marked}
+use Rattle.laws_of_rounds.specs.Words.{IsAmong, transfers_chosen, transfers_commanded, live_marked, drained_marked}
 
 -- what holds of each transfer of the next round, given those chosen before it
 abbrev pub ForEachTransfer : (State → List Transfer → Transfer → Type 0) → Type 0
@@ -27,10 +27,11 @@ AtMostWorkANode = (M : State) → length (transfers_commanded M) ≤ M.limits.wo
 
 -- Sources.
 
--- a transfer is of a known block, with its stamp, and its source holds a live replica of it
-abbrev pub SourceIsLive : Type 0
-SourceIsLive =
-    ForEachTransfer (λ M _ t. (has (live_marked M t.block) t.source ≡ true) × ((i : BlockInfo) × (get M.holdings.blocks t.block ≡ Some i) × (t.stamp ≡ i.stamp)))
+-- a transfer is of a known block, with its stamp, and its source holds a live replica of it or a drained one
+abbrev pub SourceIsLiveOrDrained : Type 0
+SourceIsLiveOrDrained =
+    ForEachTransfer (λ M _ t. ((has (live_marked M t.block) t.source ≡ true) ⊎ (has (drained_marked M t.block) t.source ≡ true))
+    × ((i : BlockInfo) × (get M.holdings.blocks t.block ≡ Some i) × (t.stamp ≡ i.stamp)))
 
 -- no node is the source of more than four transfers
 abbrev pub AtMostFourFromANode : Type 0
@@ -38,9 +39,10 @@ AtMostFourFromANode = (M : State) → All (λ k. length k.transfers ≤ 4) (whol
 
 -- Targets.
 
--- the node of the target has no replica of the block of any tag, is the target of no transfer of it on its way, and of no other of it in the round
+-- the node of the target does not drain, has no replica of the block of any tag, is the target of no transfer of it on its way, and of no other of it in the round
 pub record IsFreshNode (M : State) (front : List Transfer) (t : Transfer) : Type 0 where
   pub known : (n : ℕ) × (node_of M.cluster t.target ≡ Some n)
+  pub not_draining : is_draining M.cluster t.target ≡ false
   pub no_replica : (s : ℕ) → IsSome (get M.holdings.replicas (replica_at t.block s)) → node_of M.cluster s ≡ node_of M.cluster t.target → ⊥
   pub none_pending : (s : ℕ) → IsSome (get (started M).holdings.pending (replica_at t.block s)) → node_of M.cluster s ≡ node_of M.cluster t.target → ⊥
   pub no_other : (u : Transfer) → IsAmong front u → u.block ≡ t.block → node_of M.cluster u.target ≡ node_of M.cluster t.target → ⊥

@@ -6,7 +6,8 @@ pub fn each_node_its_own()
     ensures { law.EachNodeItsOwn }
 {}
 
-/// Of the transfers that a round commands a node, those of blocks of other levels than the highest are among the first two.
+/// Of the transfers that a round commands a node that does not drain, those of blocks of other levels than the highest are among
+/// the first two. A node that drains may be commanded four of any level.
 pub fn first_two_of_a_node()
     ensures { law.FirstTwoOfANode }
 {}

@@ -8,7 +8,8 @@ pub fn only_good_replica_is_not_deleted()
 {}
 
 /// More than that: in a lawful state, where a round commands the delete of a replica of a known block, another replica of the
-/// block is live after the round, that is, good and not in excess, and the round does not command its delete.
+/// block is live after the round, that is, good and not in excess, on a node that does not drain, and the round does not command
+/// its delete.
 pub fn last_good_replica_stays()
     ensures { law.LastGoodReplicaStays }
 {}
@@ -50,14 +51,15 @@ pub fn only_the_limit_defers()
     ensures { law.OnlyTheLimitDefers }
 {}
 
-/// Whatever calls were made, a replica of which a round commanded the delete, and which was not reported since, is not live.
-pub fn ordered_replica_is_not_live()
-    ensures { law.OrderedReplicaIsNotLive }
+/// Whatever calls were made, a replica of which a round commanded the delete, and which was not reported since, is neither live
+/// nor drained.
+pub fn ordered_replica_is_not_usable()
+    ensures { law.OrderedReplicaIsNotUsable }
 {}
 
 /// Whatever calls were made, where a round commands the delete of a replica of a known block, a replica of the block is left that
-/// is good and not in excess, and of which no round has commanded the delete since it was reported last. It is said of the states
-/// that are lawful, as all are that calls lead to.
+/// is good and not in excess, on a node that does not drain, and of which no round has commanded the delete since it was reported
+/// last. It is said of the states that are lawful, as all are that calls lead to.
 pub fn good_replica_is_left_by_all_rounds()
     ensures { law.GoodReplicaIsLeftByAllRounds }
 {}

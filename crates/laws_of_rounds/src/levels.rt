@@ -6,9 +6,14 @@ pub fn unknown_block_has_no_level()
     ensures { law.UnknownBlockHasNoLevel }
 {}
 
-/// In a lawful state a known block has level 4 exactly where no replica of it is live.
-pub fn level_four_is_no_live_replica()
-    ensures { law.LevelFourIsNoLiveReplica }
+/// In a lawful state a known block has level 4 exactly where no replica of it is live, and none is drained.
+pub fn level_four_is_no_usable_replica()
+    ensures { law.LevelFourIsNoUsableReplica }
+{}
+
+/// In a lawful state a known block with no live replica, but a drained one, has level 0, and so is not missing.
+pub fn only_drained_is_level_zero()
+    ensures { law.OnlyDrainedIsLevelZero }
 {}
 
 /// In a lawful state a known block has level 3 exactly where two or more replicas are wanted, as many are live, all of these stand
@@ -32,13 +37,20 @@ pub fn raised_replication_is_no_less_need()
     ensures { law.RaisedReplicationIsNoLessNeed }
 {}
 
-/// A block with one live replica more is in no more need of replicas. It is said of the counts.
+/// A block with one live replica more is in no more need of replicas, whatever becomes of its drained ones. It is said of the
+/// counts.
 pub fn one_replica_more_is_no_more_need()
     ensures { law.OneReplicaMoreIsNoMoreNeed }
 {}
 
+/// A block with one drained replica more is in no more need of replicas.
+pub fn one_drained_replica_more_is_no_more_need()
+    ensures { law.OneDrainedReplicaMoreIsNoMoreNeed }
+{}
+
 /// Where need is not counted as here but as the order in which rounds serve the levels, 0 before 1 before 2 before 3, and 4 not
-/// at all, one replica more may raise it: with no live replica a block gets no copy, and with one it is the first to get one.
+/// at all, one replica more may raise it: with none that is live or drained a block gets no copy, and with one it is the first to
+/// get one.
 pub fn first_replica_makes_a_block_the_first_to_copy()
     ensures { law.FirstReplicaMakesABlockTheFirstToCopy }
 {}

@@ -1,8 +1,8 @@
 // Which live replicas a round marks as being too many.
 ghost use Rattle.laws_of_rounds.specs.Surplus as law;
 
-/// Before a round marks, live are the good replicas but those in excess of which the delete was commanded: what an earlier round
-/// marked and did not command counts again.
+/// Before a round marks, live are the good replicas on nodes that do not drain, but those in excess of which the delete was
+/// commanded: what an earlier round marked and did not command counts again.
 pub fn live_before_marking()
     ensures { law.LiveBeforeMarking }
 {}

@@ -6,18 +6,18 @@ pub fn at_most_work_a_node()
     ensures { law.AtMostWorkANode }
 {}
 
-/// Each transfer is of a known block, with its stamp, from a storage that holds a live replica of it.
-pub fn source_is_live()
-    ensures { law.SourceIsLive }
+/// Each transfer is of a known block, with its stamp, from a storage that holds a live replica of it or a drained one.
+pub fn source_is_live_or_drained()
+    ensures { law.SourceIsLiveOrDrained }
 {}
 
-/// A round commands no node more than four transfers.
+/// A round commands no node more than four transfers, whether it drains or not.
 pub fn at_most_four_from_a_node()
     ensures { law.AtMostFourFromANode }
 {}
 
-/// A transfer's target stands on an alive node that has no replica of the block of any tag, to which no transfer of the block is
-/// on its way, and which is the target of no other transfer of the block in the round.
+/// A transfer's target stands on an alive node that does not drain, that has no replica of the block of any tag, to which no
+/// transfer of the block is on its way, and which is the target of no other transfer of the block in the round.
 pub fn target_is_on_fresh_node()
     ensures { law.TargetIsOnFreshNode }
 {}

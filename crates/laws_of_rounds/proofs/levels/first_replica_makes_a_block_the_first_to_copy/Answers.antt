@@ -4,4 +4,4 @@ use Rattle.laws_of_rounds.proofs.levels.first_replica_makes_a_block_the_first_to
 
 pub returns : goal.returns
 unfolding level_of
-returns c = (refl, refl)
+returns c = (refl, refl, refl)

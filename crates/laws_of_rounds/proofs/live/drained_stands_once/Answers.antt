@@ -1,0 +1,5 @@
+use Rattle.laws_of_rounds.proofs.Lively.{drained_once}
+use Rattle.laws_of_rounds.proofs.live.drained_stands_once.Goals as goal
+
+pub returns : goal.returns
+returns c = drained_once
