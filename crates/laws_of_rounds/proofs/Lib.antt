@@ -21,3 +21,4 @@ pub mod Deferred
 pub mod OneRack
 pub mod LastGood
 pub mod Lively
+pub mod Drained

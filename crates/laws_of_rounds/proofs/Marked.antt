@@ -70,7 +70,7 @@ unfolding storages_where marked
 live_marking C H b =
     revised_where (is_live_on C) H b (λ q m. marked_in (excess_in C H q.block) q.storage m) ∙ marked_list (λ s. not (is_draining C s)) b (excess_in C H) (entries H.replicas)
 
-ordered_usable : (t : Bool) (m : Marks) → is_usable (if t then record m { ordered = true } else m) ≡ is_usable m
+pub ordered_usable : (t : Bool) (m : Marks) → is_usable (if t then record m { ordered = true } else m) ≡ is_usable m
 ordered_usable true m = refl
 ordered_usable false m = refl
 

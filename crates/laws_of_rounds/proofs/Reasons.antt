@@ -11,11 +11,11 @@ use Rattle.bm_base.specs.declared.replica.BlockInfo.{BlockInfo}
 use Rattle.bm_base.specs.Map.{get}
 use Rattle.bm_base.specs.State.{State, replica_at}
 use Rattle.bm_base.specs.Lists.{has}
-use Rattle.bm_base.specs.Replicas.{is_usable, is_live_on, is_good, is_stray, is_corrupt, is_draining, has_enough_live}
+use Rattle.bm_base.specs.Replicas.{is_usable, is_live_on, is_good, is_stray, is_corrupt, is_draining, has_enough_live, storages_where}
 use Rattle.bm_base.specs.Excess.{begun, started, without_expired, without_unordered_excess, marked, excess_in, excess_of, excess_among}
 use Rattle.bm_base.specs.Lawful.{IsLawful}
 use Rattle.bm_base.proofs.MapLaws.{get-revise}
-use Rattle.laws_of_rounds.specs.Words.{unmarked, live_unmarked, live_marked, live_after}
+use Rattle.laws_of_rounds.specs.Words.{unmarked, live_unmarked, live_marked, live_after, drained_unmarked}
 use Rattle.laws_of_rounds.specs.Deletes.{MayBeDeleted}
 use Rattle.laws_of_rounds.proofs.Listed.{has_filter, or_left, or_right, same_again, and_first, and_second, some_same}
 use Rattle.laws_of_rounds.proofs.Stands.{has_where}
@@ -219,29 +219,45 @@ dropped_is : (o : Bool) (m : Marks) → is_usable (if o then m else record m { e
 dropped_is true m = refl
 dropped_is false m = refl
 
-live_before : (M : State) (b s : ℕ)
-    → has (live_unmarked M b) s ≡ option_map_or (λ m. (is_good m.tag && not (if m.ordered then m.excess else false)) && not (is_draining M.cluster s)) (get M.holdings.replicas (replica_at b s)) false
-live_before M b s =
-    has_where (is_live_on M.cluster) (unmarked M).holdings b s ∙ ap (λ o. option_map_or (is_live_on M.cluster s) o false) (marks_unmarked M (replica_at b s)) ∙ by_marks (get M.holdings.replicas (replica_at b s))
+-- what counts before a round marks, beside a test of the storage
+before_where : (on : ℕ → Bool) (M : State) (b s : ℕ)
+    → has (storages_where (λ t m. is_usable m && on t) (unmarked M).holdings b) s
+    ≡ option_map_or (λ m. (is_good m.tag && not (if m.ordered then m.excess else false)) && on s) (get M.holdings.replicas (replica_at b s)) false
+before_where on M b s =
+    has_where (λ t m. is_usable m && on t) (unmarked M).holdings b s ∙ ap (λ o. option_map_or (λ m. is_usable m && on s) o false) (marks_unmarked M (replica_at b s)) ∙ by_marks (get M.holdings.replicas (replica_at b s))
   where
     by_marks : (o : Option Marks)
-        → option_map_or (is_live_on M.cluster s) (option_map unordered_dropped o) false ≡ option_map_or (λ m. (is_good m.tag && not (if m.ordered then m.excess else false)) && not (is_draining M.cluster s)) o false
+        → option_map_or (λ m. is_usable m && on s) (option_map unordered_dropped o) false ≡ option_map_or (λ m. (is_good m.tag && not (if m.ordered then m.excess else false)) && on s) o false
     by_marks None = refl
-    by_marks (Some m) = ap (λ u. u && not (is_draining M.cluster s)) (dropped_is m.ordered m)
+    by_marks (Some m) = ap (λ u. u && on s) (dropped_is m.ordered m)
+
+before_is : (on : ℕ → Bool) (M : State) (b s : ℕ)
+    → (has (storages_where (λ t m. is_usable m && on t) (unmarked M).holdings b) s ≡ true)
+    ↔ ((m : Marks) × (get M.holdings.replicas (replica_at b s) ≡ Some m) × (m.tag ≡ Good) × ((m.excess && m.ordered) ≡ false) × (on s ≡ true))
+before_is on M b s = (
+  λ h. found (on s) (get M.holdings.replicas (replica_at b s)) (sym (before_where on M b s) ∙ h),
+  λ h. before_where on M b s ∙ ap (λ o. option_map_or (λ m. (is_good m.tag && not (if m.ordered then m.excess else false)) && on s) o false) h.1
+      ∙ ap (λ u. u && on s) (counted_by h.0.tag h.0.excess h.0.ordered h.2 h.3) ∙ h.4,
+)
+  where
+    found : (d : Bool) (o : Option Marks) → option_map_or (λ m. (is_good m.tag && not (if m.ordered then m.excess else false)) && d) o false ≡ true
+        → (m : Marks) × (o ≡ Some m) × (m.tag ≡ Good) × ((m.excess && m.ordered) ≡ false) × (d ≡ true)
+    found d None e = absurd (false≢true e)
+    found d (Some m) e =
+        let counts = is_good m.tag && not (if m.ordered then m.excess else false) in
+        let is = counts_by m.tag m.excess m.ordered (and_first counts d e) in
+        (m, refl, is.0, is.1, and_second counts d e)
 
 pub live_before_is : (M : State) (b s : ℕ)
     → (has (live_unmarked M b) s ≡ true)
     ↔ ((m : Marks) × (get M.holdings.replicas (replica_at b s) ≡ Some m) × (m.tag ≡ Good) × ((m.excess && m.ordered) ≡ false) × (is_draining M.cluster s ≡ false))
-live_before_is M b s = (
-  λ h. found (is_draining M.cluster s) (get M.holdings.replicas (replica_at b s)) (sym (live_before M b s) ∙ h),
-  λ h. live_before M b s ∙ ap (λ o. option_map_or (λ m. (is_good m.tag && not (if m.ordered then m.excess else false)) && not (is_draining M.cluster s)) o false) h.1
-      ∙ ap (λ d. (is_good h.0.tag && not (if h.0.ordered then h.0.excess else false)) && not d) h.4 ∙ ap (λ u. u && true) (counted_by h.0.tag h.0.excess h.0.ordered h.2 h.3),
-)
-  where
-    found : (d : Bool) (o : Option Marks) → option_map_or (λ m. (is_good m.tag && not (if m.ordered then m.excess else false)) && not d) o false ≡ true
-        → (m : Marks) × (o ≡ Some m) × (m.tag ≡ Good) × ((m.excess && m.ordered) ≡ false) × (d ≡ false)
-    found d None e = absurd (false≢true e)
-    found d (Some m) e =
-        let counts = is_good m.tag && not (if m.ordered then m.excess else false) in
-        let is = counts_by m.tag m.excess m.ordered (and_first counts (not d) e) in
-        (m, refl, is.0, is.1, not_true d (and_second counts (not d) e))
+live_before_is M b s =
+    let is = before_is (λ t. not (is_draining M.cluster t)) M b s in (
+      λ h. let m = is.0 h in (m.0, m.1, m.2, m.3, not_true (is_draining M.cluster s) m.4),
+      λ h. is.1 (h.0, h.1, h.2, h.3, ap not h.4),
+    )
+
+pub drained_before_is : (M : State) (b s : ℕ)
+    → (has (drained_unmarked M b) s ≡ true)
+    ↔ ((m : Marks) × (get M.holdings.replicas (replica_at b s) ≡ Some m) × (m.tag ≡ Good) × ((m.excess && m.ordered) ≡ false) × (is_draining M.cluster s ≡ true))
+drained_before_is M b s = before_is (is_draining M.cluster) M b s

@@ -8,12 +8,12 @@ use Rattle.bm_base.specs.declared.replica.Marks.{Marks}
 use Rattle.bm_base.specs.declared.replica.BlockInfo.{BlockInfo}
 use Rattle.bm_base.specs.declared.storage.StorageInfo.{StorageInfo}
 use Rattle.bm_base.specs.declared.level.Level.{Level}
-use Rattle.bm_base.specs.declared.level.Level.TheVariants.{Highest, VeryUnderReplicated, UnderReplicated, BadlyDistributed}
+use Rattle.bm_base.specs.declared.level.Level.TheVariants.{Highest, VeryUnderReplicated, UnderReplicated, BadlyDistributed, NoUsableReplica}
 use Rattle.bm_base.specs.declared.commands.Transfer.{Transfer}
 use Rattle.bm_base.specs.Map.{empty, insert_all}
 use Rattle.bm_base.specs.State.{Cluster, Holdings, replica_at}
 use Rattle.bm_base.specs.Levels.{level_number, level_of}
-use Rattle.bm_base.specs.Excess.{excess_of, without_expired}
+use Rattle.bm_base.specs.Excess.{excess_of, excess_in, without_expired}
 use Rattle.bm_base.specs.Transfers.{wishes, least_source, least_target, holders_of, barred_for, transfers}
 use Rattle.bm_base.specs.Deletes.{deletes}
 
@@ -89,6 +89,26 @@ SourceLimits =
     × (least_source three_racks (sent 6 11 31 10 ∷ sent 7 11 31 10 ∷ sent 8 11 31 10 ∷ []) Highest (11 ∷ []) ≡ Some 11)
     × (least_source three_racks (sent 5 11 31 10 ∷ sent 6 11 31 10 ∷ sent 7 11 31 10 ∷ sent 8 11 31 10 ∷ []) Highest (11 ∷ []) ≡ None)
 
+-- Nodes that drain.
+
+-- the cluster where these nodes drain
+abbrev pub draining : List ℕ → Cluster
+draining nodes = record three_racks { draining = insert_all empty (map (λ n. (n, tt)) nodes) }
+
+-- A source on a node that drains comes first, though its node sends more, until that one sends four; at every level it may send four.
+abbrev pub DrainedSourcesFirst : Type 0
+DrainedSourcesFirst =
+    (least_source (draining (3 ∷ [])) (sent 7 31 11 10 ∷ sent 8 31 11 10 ∷ sent 9 31 11 10 ∷ []) UnderReplicated (11 ∷ 31 ∷ []) ≡ Some 31)
+    × (least_source (draining (3 ∷ [])) (sent 6 31 11 10 ∷ sent 7 31 11 10 ∷ sent 8 31 11 10 ∷ sent 9 31 11 10 ∷ []) UnderReplicated (11 ∷ 31 ∷ []) ≡ Some 11)
+    × (least_source (draining (3 ∷ [])) (sent 6 31 11 10 ∷ sent 7 31 11 10 ∷ sent 8 31 11 10 ∷ sent 9 31 11 10 ∷ []) Highest (31 ∷ []) ≡ None)
+    × (least_source (draining (3 ∷ 4 ∷ [])) (sent 9 31 11 10 ∷ []) UnderReplicated (11 ∷ 31 ∷ 41 ∷ []) ≡ Some 41)
+
+-- The second copy goes to another rack, though more room is on a node that drains; and nowhere where all others drain.
+abbrev pub DrainingNodeIsNoTarget : Type 0
+DrainingNodeIsNoTarget =
+    (least_target (draining (5 ∷ [])) [] Highest (11 ∷ []) (11 ∷ []) 10 ≡ Some 41)
+    × (least_target (draining (2 ∷ 3 ∷ 4 ∷ 5 ∷ [])) [] Highest (11 ∷ []) (11 ∷ []) 10 ≡ None)
+
 -- Surplus.
 
 -- Of racks with two replicas one goes first, there the one with fewer remaining bytes, and of equal ones the greater storage; then of the rest.
@@ -159,6 +179,24 @@ OneMoreThanWanted =
     (transfers (record { work = 1; invalidate = 10; pend = 10 }) three_racks (holdings (block 4 2 ∷ []) (held 4 11 live_mark ∷ held 4 21 live_mark ∷ []) [])) ≡ (4, 11, 51) ∷ [])
     × (excess_of three_racks (11 ∷ 21 ∷ 51 ∷ []) 2 ≡ 21 ∷ [])
 
+-- Node 3 drains. Of block 1 two are wanted, one is live and one drained: it is copied from the drained one to another rack than
+-- the live one's. Block 2 has a drained one alone, and is copied. Of block 3 one is wanted and live, so that the drained one is
+-- neither copied nor surplus, and a corrupt one is deleted. Of block 4 one is wanted and one drained: it is copied, and a corrupt
+-- one waits.
+abbrev pub leaving : Holdings
+leaving =
+    holdings (block 1 2 ∷ block 2 1 ∷ block 3 1 ∷ block 4 1 ∷ [])
+    (held 1 11 live_mark ∷ held 1 31 live_mark ∷ held 2 31 live_mark ∷ held 3 11 live_mark ∷ held 3 21 (marks Bad false false) ∷ held 3 31 live_mark
+    ∷ held 4 21 (marks Bad false false) ∷ held 4 31 live_mark ∷ [])
+    []
+
+abbrev pub DrainedIsCopiedAndNotCounted : Type 0
+DrainedIsCopiedAndNotCounted =
+    (map {B = ℕ × ℕ × ℕ} (λ t. (t.block, t.source, t.target)) (transfers (record { work = 1; invalidate = 10; pend = 10 }) (draining (3 ∷ [])) leaving)
+    ≡ (1, 31, 51) ∷ (2, 31, 51) ∷ (4, 31, 51) ∷ [])
+    × (excess_in (draining (3 ∷ [])) leaving 3 ≡ [])
+    × (map {B = ℕ × ℕ} (λ d. (d.storage, d.block)) (deletes (record { work = 1; invalidate = 10; pend = 10 }) (draining (3 ∷ [])) leaving) ≡ (21, 3) ∷ [])
+
 -- Deletes.
 
 -- A node's deletes by storage and then by block, the first so many: stray replicas, those in excess, and corrupt ones of a
@@ -179,8 +217,11 @@ ExpiresAfterPend =
     (without_expired 2 5 (holdings [] [] (since 1 11 3 ∷ since 1 21 4 ∷ [])) ≡ holdings [] [] (since 1 21 4 ∷ []))
     × (without_expired 1 5 (holdings [] [] (since 1 11 3 ∷ since 1 21 4 ∷ [])) ≡ holdings [] [] [])
 
--- Levels at their edges: seven wanted and two live are fewer than a third, six wanted and two live are a third.
+-- Levels at their edges: seven wanted and two live are fewer than a third, six wanted and two live are a third. Drained replicas
+-- count only where none is live.
 abbrev pub LevelsAtTheirEdges : Type 0
 LevelsAtTheirEdges =
     (level_of 2 0 7 2 true ≡ Some VeryUnderReplicated) × (level_of 2 0 6 2 true ≡ Some UnderReplicated)
     × (level_of 2 0 2 1 true ≡ Some BadlyDistributed) × (level_of 2 0 2 1 false ≡ None) × (level_of 1 0 1 1 true ≡ None) × (level_of 2 0 2 2 true ≡ None)
+    × (level_of 0 0 1 0 true ≡ Some NoUsableReplica) × (level_of 0 1 1 0 true ≡ Some Highest) × (level_of 2 1 7 2 true ≡ Some VeryUnderReplicated)
+    × (level_of 1 1 1 1 true ≡ None)

@@ -16,7 +16,7 @@ use Rattle.bm_base.specs.Excess.{started}
 use Rattle.bm_base.specs.Rounds.{whole_round}
 use Rattle.bm_base.specs.Lawful.{IsLawful}
 use Rattle.bm_base.specs.Calls.{state_after}
-use Rattle.laws_of_rounds.specs.Words.{IsAmong, IsDeleteCommanded, after_round, live_marked, live_after}
+use Rattle.laws_of_rounds.specs.Words.{IsAmong, IsDeleteCommanded, after_round, live_marked, live_after, drained_after}
 
 -- The last good replica.
 
@@ -43,6 +43,10 @@ EnoughStayLive =
 -- what is live after a round, the round does not command to delete
 abbrev pub LiveReplicaIsNotDeleted : Type 0
 LiveReplicaIsNotDeleted = (M : State) (b t : ℕ) → has (live_after M b) t ≡ true → IsDeleteCommanded M (replica_at b t) → ⊥
+
+-- nor what is drained
+abbrev pub DrainedReplicaIsNotDeleted : Type 0
+DrainedReplicaIsNotDeleted = (M : State) (b t : ℕ) → has (drained_after M b) t ≡ true → IsDeleteCommanded M (replica_at b t) → ⊥
 
 -- What is deleted.
 

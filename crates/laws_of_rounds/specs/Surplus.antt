@@ -10,7 +10,7 @@ use Rattle.bm_base.specs.Lists.{has}
 use Rattle.bm_base.specs.Replicas.{rack_of, is_draining}
 use Rattle.bm_base.specs.Excess.{started}
 use Rattle.bm_base.specs.Lawful.{IsLawful}
-use Rattle.laws_of_rounds.specs.Words.{live_unmarked, live_marked, live_after}
+use Rattle.laws_of_rounds.specs.Words.{live_unmarked, live_marked, live_after, drained_unmarked, drained_marked, drained_after}
 
 -- Before a round marks, live are the good replicas on nodes that do not drain, but those in excess of which the delete was
 -- commanded.
@@ -18,6 +18,13 @@ abbrev pub LiveBeforeMarking : Type 0
 LiveBeforeMarking =
     (M : State) (b s : ℕ)
     → (has (live_unmarked M b) s ≡ true) ↔ ((m : Marks) × (get M.holdings.replicas (replica_at b s) ≡ Some m) × (m.tag ≡ Good) × ((m.excess && m.ordered) ≡ false) × (is_draining M.cluster s ≡ false))
+
+-- and drained are those on nodes that drain
+abbrev pub DrainedBeforeMarking : Type 0
+DrainedBeforeMarking =
+    (M : State) (b s : ℕ)
+    → (has (drained_unmarked M b) s ≡ true)
+    ↔ ((m : Marks) × (get M.holdings.replicas (replica_at b s) ≡ Some m) × (m.tag ≡ Good) × ((m.excess && m.ordered) ≡ false) × (is_draining M.cluster s ≡ true))
 
 -- once a round has marked, a known block has at most its replication live
 abbrev pub AtMostReplicationIsLive : Type 0
@@ -47,6 +54,16 @@ LastOfRackStays =
     → (v : ℕ) × (has (live_marked M b) v ≡ true) × (rack_of M.cluster v ≡ rack_of M.cluster s)
 
 -- Marks.
+
+-- A round marks none on a node that drains: what is in excess there once it has marked was so before, with its delete commanded.
+abbrev pub NoneOnADrainingNodeIsMarked : Type 0
+NoneOnADrainingNodeIsMarked =
+    (M : State) (q : ReplicaId) (n : Marks) → is_draining M.cluster q.storage ≡ true → get (started M).holdings.replicas q ≡ Some n → n.excess ≡ true
+    → (m : Marks) × (get M.holdings.replicas q ≡ Some m) × (m.excess ≡ true) × (m.ordered ≡ true)
+
+-- So what is drained before a round marks stays drained through the round, and no other replica becomes it.
+abbrev pub DrainedStayDrained : Type 0
+DrainedStayDrained = (M : State) (b : ℕ) → (drained_marked M b ≡ drained_unmarked M b) × (drained_after M b ≡ drained_unmarked M b)
 
 -- A replica in excess of which the delete was commanded stays in excess.
 abbrev pub OrderedExcessStays : Type 0

@@ -9,11 +9,11 @@ use Rattle.bm_base.specs.declared.commands.Transfer.{Transfer}
 use Rattle.bm_base.specs.Map.{get, entries, len}
 use Rattle.bm_base.specs.State.{State, replica_at}
 use Rattle.bm_base.specs.Lists.{has}
-use Rattle.bm_base.specs.Replicas.{node_of, rack_of, is_draining}
+use Rattle.bm_base.specs.Replicas.{node_of, rack_of, has_storage, drains, is_draining}
 use Rattle.bm_base.specs.Levels.{level, level_number}
 use Rattle.bm_base.specs.Excess.{started}
 use Rattle.bm_base.specs.Rounds.{whole_round}
-use Rattle.laws_of_rounds.specs.Words.{IsAmong, transfers_chosen, transfers_commanded, live_marked, drained_marked}
+use Rattle.laws_of_rounds.specs.Words.{IsAmong, IsTransferCommanded, transfers_chosen, transfers_commanded, live_marked, drained_marked}
 
 -- what holds of each transfer of the next round, given those chosen before it
 abbrev pub ForEachTransfer : (State → List Transfer → Transfer → Type 0) → Type 0
@@ -33,6 +33,13 @@ SourceIsLiveOrDrained =
     ForEachTransfer (λ M _ t. ((has (live_marked M t.block) t.source ≡ true) ⊎ (has (drained_marked M t.block) t.source ≡ true))
     × ((i : BlockInfo) × (get M.holdings.blocks t.block ≡ Some i) × (t.stamp ≡ i.stamp)))
 
+-- A drained replica is the source before every live one: where the source of a transfer is on a node that does not drain, the node
+-- of each drained replica of the block is the source of four transfers of the round already.
+abbrev pub DrainedSourceGoesFirst : Type 0
+DrainedSourceGoesFirst =
+    ForEachTransfer (λ M front t. (s n : ℕ) → has (drained_marked M t.block) s ≡ true → node_of M.cluster s ≡ Some n
+    → (is_draining M.cluster t.source ≡ true) ⊎ (count_by (λ u. has_storage M.cluster n u.source) front ≡ 4))
+
 -- no node is the source of more than four transfers
 abbrev pub AtMostFourFromANode : Type 0
 AtMostFourFromANode = (M : State) → All (λ k. length k.transfers ≤ 4) (whole_round M).0.nodes
@@ -49,6 +56,10 @@ pub record IsFreshNode (M : State) (front : List Transfer) (t : Transfer) : Type
 
 abbrev pub TargetIsOnFreshNode : Type 0
 TargetIsOnFreshNode = ForEachTransfer IsFreshNode
+
+-- the target of each transfer that a round commands stands on a node that does not drain
+abbrev pub NoDrainingNodeIsATarget : Type 0
+NoDrainingNodeIsATarget = (M : State) (t : Transfer) → IsTransferCommanded M t → (n : ℕ) × (node_of M.cluster t.target ≡ Some n) × (drains M.cluster n ≡ false)
 
 -- the lengths that are sent to a storage in a round fit what it has remaining
 abbrev pub SentFits : Type 0

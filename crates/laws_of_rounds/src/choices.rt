@@ -33,6 +33,21 @@ pub fn source_limits()
     ensures { row.SourceLimits }
 {}
 
+/// A source on a node that drains comes first, and may send four at every level.
+pub fn drained_sources_first()
+    ensures { row.DrainedSourcesFirst }
+{}
+
+/// A node that drains is no target, though it has the most room.
+pub fn draining_node_is_no_target()
+    ensures { row.DrainingNodeIsNoTarget }
+{}
+
+/// A drained replica is copied where too few are live, and counts neither as live nor as surplus.
+pub fn drained_is_copied_and_not_counted()
+    ensures { row.DrainedIsCopiedAndNotCounted }
+{}
+
 /// Surplus is taken from racks that hold two or more, then by fewer remaining bytes, then by the greater storage.
 pub fn surplus_goes_in_order()
     ensures { row.SurplusGoesInOrder }

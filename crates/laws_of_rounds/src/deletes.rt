@@ -25,6 +25,11 @@ pub fn live_replica_is_not_deleted()
     ensures { law.LiveReplicaIsNotDeleted }
 {}
 
+/// Nor of one that is drained after it.
+pub fn drained_replica_is_not_deleted()
+    ensures { law.DrainedReplicaIsNotDeleted }
+{}
+
 /// A round commands the delete of stray replicas, of replicas in excess and of corrupt ones alone.
 pub fn only_stray_excess_or_corrupt_is_deleted()
     ensures { law.OnlyWhatMayBeDeleted }

@@ -7,6 +7,11 @@ pub fn live_before_marking()
     ensures { law.LiveBeforeMarking }
 {}
 
+/// And drained are those good ones on nodes that drain.
+pub fn drained_before_marking()
+    ensures { law.DrainedBeforeMarking }
+{}
+
 /// Once a round has marked, a known block has at most as many live replicas as are wanted. Those in excess that were ordered keep
 /// their marks, and are not live.
 pub fn at_most_replication_is_live()
@@ -31,6 +36,16 @@ pub fn last_of_rack_stays()
 /// A round leaves of each known block as many live replicas as are wanted, or all of them where there are no more than that.
 pub fn round_leaves_enough_live()
     ensures { law.RoundLeavesEnoughLive }
+{}
+
+/// A round marks no replica on a node that drains: the mark goes to live ones alone.
+pub fn none_on_a_draining_node_is_marked()
+    ensures { law.NoneOnADrainingNodeIsMarked }
+{}
+
+/// What is drained as a round begins to mark stays drained through the round, and nothing else becomes it.
+pub fn drained_stay_drained()
+    ensures { law.DrainedStayDrained }
 {}
 
 /// A replica in excess of which the delete was commanded stays in excess as a round marks.

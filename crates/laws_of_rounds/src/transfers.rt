@@ -11,6 +11,11 @@ pub fn source_is_live_or_drained()
     ensures { law.SourceIsLiveOrDrained }
 {}
 
+/// A drained replica is the source before every live one, until its node sends four.
+pub fn drained_source_goes_first()
+    ensures { law.DrainedSourceGoesFirst }
+{}
+
 /// A round commands no node more than four transfers, whether it drains or not.
 pub fn at_most_four_from_a_node()
     ensures { law.AtMostFourFromANode }
@@ -20,6 +25,11 @@ pub fn at_most_four_from_a_node()
 /// transfer of the block is on its way, and which is the target of no other transfer of the block in the round.
 pub fn target_is_on_fresh_node()
     ensures { law.TargetIsOnFreshNode }
+{}
+
+/// No round makes a node that drains a target.
+pub fn no_draining_node_is_a_target()
+    ensures { law.NoDrainingNodeIsATarget }
 {}
 
 /// What a round sends to a storage fits what the storage had remaining.

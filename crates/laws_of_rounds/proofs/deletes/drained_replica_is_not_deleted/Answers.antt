@@ -1,0 +1,7 @@
+use Rattle.bm_base.specs.State.{replica_at}
+use Rattle.laws_of_rounds.proofs.Tested.{tested}
+use Rattle.laws_of_rounds.proofs.Drained.{drained_kept}
+use Rattle.laws_of_rounds.proofs.deletes.drained_replica_is_not_deleted.Goals as goal
+
+pub returns : goal.returns
+returns c = λ M b t there h. drained_kept M b t there (tested M (replica_at b t) h)
