@@ -11,7 +11,7 @@ use Rattle.bm_base.specs.declared.commands.Transfer.{Transfer}
 use Rattle.bm_base.specs.Map.{get, keys, len}
 use Rattle.bm_base.specs.State.{RoundLimits, Cluster, Holdings}
 use Rattle.bm_base.specs.Lists.{has, least}
-use Rattle.bm_base.specs.Replicas.{usable, is_draining}
+use Rattle.bm_base.specs.Replicas.{sources_of, is_draining}
 use Rattle.bm_base.specs.Levels.{level, level_number, is_at}
 use Rattle.bm_base.specs.Transfers.{WishedCopy, wished_count, wishes_for, wishes, streams_from, stream_limit, source_cmp, least_source_by, least_source, holders_of, barred_for, target_cmp, is_target, least_target_by, least_target, scheduled_to, transfer_for, transfers_from, transfers}
 use Rattle.laws_of_rounds.proofs.Listed.{Each, each_all, each_flat_map, has_filter, and_first, and_second, some_same}
@@ -105,7 +105,7 @@ pub record IsChosenAfter (limits : RoundLimits) (C : Cluster) (H : Holdings) (fr
   pub info : BlockInfo
   pub known : get H.blocks t.block ≡ Some info
   pub stamp : t.stamp ≡ info.stamp
-  pub source : least_source C front urgency (usable H t.block) ≡ Some t.source
+  pub source : least_source C front urgency (sources_of C H t.block) ≡ Some t.source
   pub target : least_target C front urgency (holders_of C H front t.block) (barred_for H front t.block) info.stamp.len ≡ Some t.target
 
 module _ (limits : RoundLimits) (C : Cluster) (H : Holdings) where
@@ -115,19 +115,19 @@ module _ (limits : RoundLimits) (C : Cluster) (H : Holdings) where
       by_limit (nat_le (limits.work * len C.nodes) (length front)) refl (get H.blocks w.block) refl is
     where
       chosen : (i : BlockInfo) → length front < limits.work * len C.nodes → get H.blocks w.block ≡ Some i
-          → (s u : ℕ) → least_source C front w.urgency (usable H w.block) ≡ Some s → least_target C front w.urgency (holders_of C H front w.block) (barred_for H front w.block) i.stamp.len ≡ Some u
+          → (s u : ℕ) → least_source C front w.urgency (sources_of C H w.block) ≡ Some s → least_target C front w.urgency (holders_of C H front w.block) (barred_for H front w.block) i.stamp.len ≡ Some u
           → record { block = w.block; stamp = i.stamp; source = s; target = u } ≡ t → IsChosenAfter limits C H front t
       chosen i few known s u from to same =
           subst (IsChosenAfter limits C H front) same (record { few = few; urgency = w.urgency; at_level = at; info = i; known = known; stamp = refl; source = from; target = to })
 
-      by_target : (i : BlockInfo) → length front < limits.work * len C.nodes → get H.blocks w.block ≡ Some i → (s : ℕ) → least_source C front w.urgency (usable H w.block) ≡ Some s
+      by_target : (i : BlockInfo) → length front < limits.work * len C.nodes → get H.blocks w.block ≡ Some i → (s : ℕ) → least_source C front w.urgency (sources_of C H w.block) ≡ Some s
           → (o : Option ℕ) → least_target C front w.urgency (holders_of C H front w.block) (barred_for H front w.block) i.stamp.len ≡ o
           → option_map (λ u. record { block = w.block; stamp = i.stamp; source = s; target = u }) o ≡ Some t → IsChosenAfter limits C H front t
       by_target i few known s from None to e = absurd (false≢true (ap is_some e))
       by_target i few known s from (Some u) to e = chosen i few known s u from to (some_same (record { block = w.block; stamp = i.stamp; source = s; target = u }) t e)
 
       by_source : (i : BlockInfo) → length front < limits.work * len C.nodes → get H.blocks w.block ≡ Some i
-          → (o : Option ℕ) → least_source C front w.urgency (usable H w.block) ≡ o
+          → (o : Option ℕ) → least_source C front w.urgency (sources_of C H w.block) ≡ o
           → option_and_then (λ s. option_map (λ u. record { block = w.block; stamp = i.stamp; source = s; target = u }) (least_target C front w.urgency (holders_of C H front w.block) (barred_for H front w.block) i.stamp.len)) o ≡ Some t
           → IsChosenAfter limits C H front t
       by_source i few known None from e = absurd (false≢true (ap is_some e))
@@ -135,12 +135,12 @@ module _ (limits : RoundLimits) (C : Cluster) (H : Holdings) where
 
       by_limit : (full : Bool) → nat_le (limits.work * len C.nodes) (length front) ≡ full → (o : Option BlockInfo) → get H.blocks w.block ≡ o
           → (if full then None else option_and_then (λ i. option_and_then (λ s. option_map (λ u. record { block = w.block; stamp = i.stamp; source = s; target = u })
-          (least_target C front w.urgency (holders_of C H front w.block) (barred_for H front w.block) i.stamp.len)) (least_source C front w.urgency (usable H w.block))) o) ≡ Some t
+          (least_target C front w.urgency (holders_of C H front w.block) (barred_for H front w.block) i.stamp.len)) (least_source C front w.urgency (sources_of C H w.block))) o) ≡ Some t
           → IsChosenAfter limits C H front t
       by_limit true full o is e = absurd (false≢true (ap is_some e))
       by_limit false full None is e = absurd (false≢true (ap is_some e))
       by_limit false full (Some i) is e =
-          by_source i (leb-false (limits.work * len C.nodes) (length front) full) is (least_source C front w.urgency (usable H w.block)) refl e
+          by_source i (leb-false (limits.work * len C.nodes) (length front) full) is (least_source C front w.urgency (sources_of C H w.block)) refl e
 
   pushed : (front : List Transfer) (w : WishedCopy) (o : Option Transfer) → transfer_for limits C H front w ≡ o → IsOfLevel C H w
       → EachAfter (IsChosenAfter limits C H) [] front → EachAfter (IsChosenAfter limits C H) [] (front ++ option_to_list o)

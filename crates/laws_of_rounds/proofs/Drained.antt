@@ -14,14 +14,14 @@ use Rattle.bm_base.specs.declared.commands.Delete.{Delete}
 use Rattle.bm_base.specs.Map.{get, entries}
 use Rattle.bm_base.specs.State.{Cluster, Holdings, State, replica_at}
 use Rattle.bm_base.specs.Lists.{has}
-use Rattle.bm_base.specs.Replicas.{live, drained, usable, is_usable, is_drained_on, is_draining, drains, has_storage, node_of, storages_where}
+use Rattle.bm_base.specs.Replicas.{live, drained, sources_of, is_usable, is_drained_on, is_draining, drains, has_storage, node_of, storages_where}
 use Rattle.bm_base.specs.Excess.{begun, started, marked, excess_in}
 use Rattle.bm_base.specs.Rounds.{finished, is_commanded, whole_round}
 use Rattle.bm_base.specs.Transfers.{stream_limit, streams_from, node_number, source_rank, source_cmp, least_source_by, least_source}
 use Rattle.laws_of_rounds.specs.Words.{IsTransferCommanded, transfers_chosen, unmarked, drained_unmarked, drained_marked, drained_after}
 use Rattle.laws_of_rounds.proofs.Listed.{has_filter, or_right, and_first, filter_append, length_append}
 use Rattle.laws_of_rounds.proofs.Stands.{revised_where, has_where}
-use Rattle.laws_of_rounds.proofs.Lively.{usable_is, drained_is}
+use Rattle.laws_of_rounds.proofs.Lively.{sources_are, drained_is}
 use Rattle.laws_of_rounds.proofs.Racked.{least_below}
 use Rattle.laws_of_rounds.proofs.Commanded.{IsTested, deleted_is}
 use Rattle.laws_of_rounds.proofs.Marked.{marked_in, ordered_by, ordered_usable, unordered_dropped}
@@ -142,8 +142,8 @@ drained_first M front back t is s n there at =
         let H : Holdings = (started M).holdings in
         let why = chosen_at M front back t is in
         inl
-        (drained_least M.cluster front why.urgency (usable H t.block) s t.source why.source
-        (usable_is M.cluster H t.block s ∙ or_right (has (live M.cluster H t.block) s) (has (drained_marked M t.block) s) there) ((drained_is M.cluster H t.block s).0 there).4 e)
+        (drained_least M.cluster front why.urgency (sources_of M.cluster H t.block) s t.source why.source
+        (sources_are M.cluster H t.block s ∙ or_right (has (live M.cluster H t.block) s) (has (drained_marked M t.block) s) there) ((drained_is M.cluster H t.block s).0 there).4 e)
     by_limit false e =
         let full = ltb-false (streams_from M.cluster front s) 4 e in
         let streams = streams_of_node M.cluster front n s (storage_is M.cluster n s at) in

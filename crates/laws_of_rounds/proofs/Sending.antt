@@ -17,7 +17,7 @@ use Rattle.bm_base.specs.declared.commands.NodeCommands.{NodeCommands}
 use Rattle.bm_base.specs.Map.{get, keys, entries, len}
 use Rattle.bm_base.specs.State.{RoundLimits, Cluster, Holdings, State, replica_at}
 use Rattle.bm_base.specs.Lists.{has, has_repeats}
-use Rattle.bm_base.specs.Replicas.{usable, node_of, has_storage, is_draining, storages_where}
+use Rattle.bm_base.specs.Replicas.{sources_of, node_of, has_storage, is_draining, storages_where}
 use Rattle.bm_base.specs.Levels.{level, is_at}
 use Rattle.bm_base.specs.Excess.{begun, started, marked, without_expired, without_unordered_excess, remaining}
 use Rattle.bm_base.specs.Transfers.{pending_targets, streams_from, scheduled_to, stream_limit, targets_of, holders_of, barred_for, is_barred, is_target, class_of}
@@ -31,7 +31,7 @@ use Rattle.laws_of_rounds.proofs.Grouped.{has_keys, once_keys, on_one_node, each
 use Rattle.laws_of_rounds.proofs.Commanded.{chosen_deletes_of}
 use Rattle.laws_of_rounds.proofs.Kept.{marks_started}
 use Rattle.laws_of_rounds.proofs.Racked.{passing_some}
-use Rattle.laws_of_rounds.proofs.Lively.{usable_is}
+use Rattle.laws_of_rounds.proofs.Lively.{sources_are}
 use Rattle.laws_of_rounds.proofs.Choosing.{EachAfter, after_split, after_whole, IsChosenAfter, each_chosen, source_is, target_is}
 
 -- each transfer of the next round was chosen
@@ -45,17 +45,17 @@ chosen_at M front back t is = after_split (IsChosenAfter M.limits M.cluster (sta
 -- Sources.
 
 pub source_usable : (M : State) (front back : List Transfer) (t : Transfer) → transfers_chosen M ≡ front ++ t ∷ back
-    → (has (usable (started M).holdings t.block) t.source ≡ true) × ((i : BlockInfo) × (get M.holdings.blocks t.block ≡ Some i) × (t.stamp ≡ i.stamp))
+    → (has (sources_of M.cluster (started M).holdings t.block) t.source ≡ true) × ((i : BlockInfo) × (get M.holdings.blocks t.block ≡ Some i) × (t.stamp ≡ i.stamp))
 unfolding started begun marked without_expired without_unordered_excess
 source_usable M front back t is =
     let why = chosen_at M front back t is in
-    ((source_is M.cluster front why.urgency (usable (started M).holdings t.block) t.source why.source).1, (why.info, why.known, why.stamp))
+    ((source_is M.cluster front why.urgency (sources_of M.cluster (started M).holdings t.block) t.source why.source).1, (why.info, why.known, why.stamp))
 
 pub source_live_or_drained : (M : State) (front back : List Transfer) (t : Transfer) → transfers_chosen M ≡ front ++ t ∷ back
     → ((has (live_marked M t.block) t.source ≡ true) ⊎ (has (drained_marked M t.block) t.source ≡ true)) × ((i : BlockInfo) × (get M.holdings.blocks t.block ≡ Some i) × (t.stamp ≡ i.stamp))
 source_live_or_drained M front back t is =
     let there = source_usable M front back t is in (
-      either (has (live_marked M t.block) t.source) (has (drained_marked M t.block) t.source) (sym (usable_is M.cluster (started M).holdings t.block t.source) ∙ there.0),
+      either (has (live_marked M t.block) t.source) (has (drained_marked M t.block) t.source) (sym (sources_are M.cluster (started M).holdings t.block t.source) ∙ there.0),
       there.1,
     )
   where
@@ -90,7 +90,7 @@ pub two_below : (M : State) (front back : List Transfer) (t : Transfer) → tran
 two_below M front back t is staying =
     let why = chosen_at M front back t is in
     limit_cases why.urgency (level M.cluster (started M).holdings t.block) (is_draining M.cluster t.source) (streams_from M.cluster front t.source) why.at_level staying
-    (source_is M.cluster front why.urgency (usable (started M).holdings t.block) t.source why.source).0
+    (source_is M.cluster front why.urgency (sources_of M.cluster (started M).holdings t.block) t.source why.source).0
 
 pub node_is : (C : Cluster) (n s : ℕ) → has_storage C n s ≡ true → node_of C s ≡ Some n
 unfolding has_storage
@@ -127,7 +127,7 @@ module _ (limits : RoundLimits) (C : Cluster) (H : Holdings) where
       ∙ length_append (filter (λ (u : Transfer). has_storage C n u.source) front) (filter (λ (u : Transfer). has_storage C n u.source) (t ∷ [])) in
       (elim (has_storage C n t.source) as (λ b. has_storage C n t.source ≡ b → length (filter (λ (u : Transfer). has_storage C n u.source) (front ++ t ∷ [])) ≤ 4) [
         | true ↦ λ e.
-            let below = limit_four why.urgency (is_draining C t.source) (streams_from C front t.source) (source_is C front why.urgency (usable H t.block) t.source why.source).0 in
+            let below = limit_four why.urgency (is_draining C t.source) (streams_from C front t.source) (source_is C front why.urgency (sources_of C H t.block) t.source why.source).0 in
             let same = streams_of_node C front n t.source e in
             let one : length (filter (λ (u : Transfer). has_storage C n u.source) (t ∷ [])) ≤ 1 = one_at_most (has_storage C n t.source) t in
             omega (arith, long, below, same, one)

@@ -13,7 +13,7 @@ use Rattle.bm_base.specs.declared.commands.NodeCommands.{NodeCommands}
 use Rattle.bm_base.specs.Map.{get, keys}
 use Rattle.bm_base.specs.State.{RoundLimits, Cluster, Holdings, State, replica_at}
 use Rattle.bm_base.specs.Lists.{has}
-use Rattle.bm_base.specs.Replicas.{node_of, has_storage, usable, is_usable, drains, is_draining}
+use Rattle.bm_base.specs.Replicas.{node_of, has_storage, sources_of, is_usable, drains, is_draining}
 use Rattle.bm_base.specs.Levels.{level}
 use Rattle.bm_base.specs.Excess.{begun, started, marked, without_expired, without_unordered_excess}
 use Rattle.bm_base.specs.Deletes.{deletes_of, deletes}
@@ -22,6 +22,7 @@ use Rattle.bm_base.specs.Rounds.{whole_round, commands_of, node_commands, has_co
 use Rattle.laws_of_rounds.specs.Words.{IsAmong, IsTransferCommanded, deletes_commanded, transfers_chosen, after_round}
 use Rattle.laws_of_rounds.proofs.Listed.{Each, each_all, each_weaker, each_filter_by, each_flat_map, each_any, or_left, or_right, same_again, some_same}
 use Rattle.laws_of_rounds.proofs.Stands.{has_where}
+use Rattle.laws_of_rounds.proofs.Lively.{sources_usable}
 use Rattle.laws_of_rounds.proofs.Grouped.{has_keys, each_node, each_on_node, all_of_each}
 use Rattle.laws_of_rounds.proofs.Commanded.{IsTested, chosen_deletes_of, deleted_is}
 use Rattle.laws_of_rounds.proofs.Kept.{marks_started, marks_before, remarked, remarked_ordered, surplus_of, from_some, remarked_tag}
@@ -201,10 +202,10 @@ mapped_was f None e = e
 mapped_was f (Some x) e = refl
 
 -- the node of a source is alive
-source_alive : (M : State) (b s : ℕ) → IsLawful M → has (usable (started M).holdings b) s ≡ true → (n : ℕ) × (has (keys M.cluster.nodes) n ≡ true) × (has_storage M.cluster n s ≡ true)
+source_alive : (M : State) (b s : ℕ) → IsLawful M → has (sources_of M.cluster (started M).holdings b) s ≡ true → (n : ℕ) × (has (keys M.cluster.nodes) n ≡ true) × (has_storage M.cluster n s ≡ true)
 unfolding node_of
 source_alive M b s lawful h =
-    let there = mapped_was (remarked (surplus_of M b) s) (get M.holdings.replicas (replica_at b s)) (sym (ap is_some (marks_started M (replica_at b s))) ∙ passing_there is_usable (get (started M).holdings.replicas (replica_at b s)) (sym (has_where (λ _ m. is_usable m) (started M).holdings b s) ∙ h)) in
+    let there = mapped_was (remarked (surplus_of M b) s) (get M.holdings.replicas (replica_at b s)) (sym (ap is_some (marks_started M (replica_at b s))) ∙ passing_there is_usable (get (started M).holdings.replicas (replica_at b s)) (sym (has_where (λ _ m. is_usable m) (started M).holdings b s) ∙ sym (sources_usable M.cluster (started M).holdings b s) ∙ h)) in
     let storage = some_value (get M.cluster.storages s) (lawful.holdings.stored (replica_at b s) there) in
     (storage.0.node, has_keys M.cluster.nodes storage.0.node ∙ lawful.cluster.alive s storage.0 storage.1, storage_is M.cluster storage.0.node s (ap (option_map (λ i. i.node)) storage.1))
 

@@ -11,7 +11,7 @@ use Rattle.bm_base.specs.declared.commands.Transfer.{Transfer}
 use Rattle.bm_base.specs.Map.{get, keys, entries}
 use Rattle.bm_base.specs.State.{RoundLimits, Cluster, Holdings, State}
 use Rattle.bm_base.specs.Lists.{has, distinct}
-use Rattle.bm_base.specs.Replicas.{live, drained, usable, racks, rack_of, is_multi_rack}
+use Rattle.bm_base.specs.Replicas.{live, drained, sources_of, racks, rack_of, is_multi_rack}
 use Rattle.bm_base.specs.Levels.{level, level_of, is_at}
 use Rattle.bm_base.specs.Excess.{begun, started, marked, without_expired, without_unordered_excess, share_rack}
 use Rattle.bm_base.specs.Transfers.{WishedCopy, wished_count, wishes_for, wishes, pending_targets, targets_of, holders_of, barred_for, is_on_racks, class_of, least_source, least_target, transfer_for, transfers_from, transfers}
@@ -140,7 +140,7 @@ module _ (limits : RoundLimits) (C : Cluster) (H : Holdings) (b : ℕ) where
   pub of_wish : (front : List Transfer) (w : WishedCopy) (t : Transfer) → transfer_for limits C H front w ≡ Some t → t.block ≡ w.block
   unfolding transfer_for
   of_wish front w t e =
-      block_kept _ (get H.blocks w.block) (least_source C front w.urgency (usable H w.block))
+      block_kept _ (get H.blocks w.block) (least_source C front w.urgency (sources_of C H w.block))
       (λ i. least_target C front w.urgency (holders_of C H front w.block) (barred_for H front w.block) i.stamp.len) w.block t e
 
   one_more : (front : List Transfer) (w : WishedCopy) (o : Option Transfer) → ((t : Transfer) → o ≡ Some t → t.block ≡ w.block)
@@ -236,10 +236,10 @@ empty_of : {X : Type 0} (xs : List X) → length xs ≡ 0 → xs ≡ []
 empty_of [] e = refl
 empty_of (x ∷ xs) e = absurd (omega arith)
 
-holders_alone : (C : Cluster) (H : Holdings) (front : List Transfer) (b : ℕ) → pending_targets H b ≡ [] → targets_of front b ≡ [] → holders_of C H front b ≡ distinct (live C H b)
+holders_alone : (C : Cluster) (H : Holdings) (front : List Transfer) (b : ℕ) → pending_targets H b ≡ [] → targets_of front b ≡ [] → holders_of C H front b ≡ live C H b
 unfolding holders_of
 holders_alone C H front b e f =
-    (λ j. distinct (live C H b ++ e j ++ f j)) ∙ ap distinct (append-nil (live C H b ++ []) ∙ append-nil (live C H b))
+    (λ j. live C H b ++ e j ++ f j) ∙ append-nil (live C H b ++ []) ∙ append-nil (live C H b)
 
 off_racks : (C : Cluster) (holders : List ℕ) (u : ℕ) → (length (racks C holders) == 1) ≡ true → (class_of C holders u == 1) ≡ false → is_on_racks C (racks C holders) u ≡ false
 unfolding class_of
@@ -270,8 +270,7 @@ head_count t back = count_append (t ∷ []) back t.block ∙ ap (λ n. n + lengt
 elsewhere : (C : Cluster) (H : Holdings) (front : List Transfer) (b u s : ℕ) → pending_targets H b ≡ [] → targets_of front b ≡ [] → (length (racks C (live C H b)) == 1) ≡ true
     → ((length (racks C (holders_of C H front b)) == 1) && (class_of C (holders_of C H front b) u == 1)) ≡ false → has (live C H b) s ≡ true → share_rack C s u ≡ false
 elsewhere C H front b u s pending targets one off there =
-    let same : racks C (holders_of C H front b) ≡ racks C (live C H b) =
-    ap (racks C) (holders_alone C H front b pending targets) ∙ racks_alike C (distinct (live C H b)) (live C H b) (has_distinct (live C H b)) in
+    let same : racks C (holders_of C H front b) ≡ racks C (live C H b) = ap (racks C) (holders_alone C H front b pending targets) in
     let single : (length (racks C (holders_of C H front b)) == 1) ≡ true = ap (λ rs. length rs == 1) same ∙ one in
     let away : is_on_racks C (racks C (live C H b)) u ≡ false =
     ap (λ rs. is_on_racks C rs u) (sym same)

@@ -1,11 +1,11 @@
 -- What is live, and what is drained: the words in which the other laws speak.
-use Rattle.std.specs.Prelude.{◌≡◌, ℕ, ◌↔◌, true, false, ◌||◌, Some}
+use Rattle.std.specs.Prelude.{◌≡◌, ℕ, List, ◌↔◌, true, false, ◌||◌, Some}
 use Rattle.bm_base.specs.declared.replica.Tag.TheVariants.{Good}
 use Rattle.bm_base.specs.declared.replica.Marks.{Marks}
 use Rattle.bm_base.specs.Map.{get}
 use Rattle.bm_base.specs.State.{Cluster, Holdings, replica_at}
 use Rattle.bm_base.specs.Lists.{has, has_repeats}
-use Rattle.bm_base.specs.Replicas.{live, drained, usable, is_draining}
+use Rattle.bm_base.specs.Replicas.{live, drained, sources_of, is_usable, is_draining, storages_where}
 
 -- a storage stands among a block's live ones exactly where its replica of the block is good and not in excess, and its node does
 -- not drain
@@ -20,9 +20,17 @@ DrainedIsGoodNotInExcessAndDraining =
     (C : Cluster) (H : Holdings) (b s : ℕ)
     → (has (drained C H b) s ≡ true) ↔ ((m : Marks) × (get H.replicas (replica_at b s) ≡ Some m) × (m.tag ≡ Good) × (m.excess ≡ false) × (is_draining C s ≡ true))
 
+-- those of a block's usable replicas, whatever their nodes
+abbrev pub usable : Holdings → ℕ → List ℕ
+usable H b = storages_where (λ _ m. is_usable m) H b
+
 -- the usable ones are these two together
 abbrev pub UsableIsLiveOrDrained : Type 0
 UsableIsLiveOrDrained = (C : Cluster) (H : Holdings) (b s : ℕ) → has (usable H b) s ≡ (has (live C H b) s || has (drained C H b) s)
+
+-- copies are made from the usable ones, and from no others
+abbrev pub SourcesAreUsable : Type 0
+SourcesAreUsable = (C : Cluster) (H : Holdings) (b s : ℕ) → has (sources_of C H b) s ≡ has (usable H b) s
 
 -- a storage stands once among the live ones, and among the drained ones
 abbrev pub LiveStandsOnce : Type 0

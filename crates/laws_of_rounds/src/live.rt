@@ -17,6 +17,11 @@ pub fn usable_is_live_or_drained()
     ensures { law.UsableIsLiveOrDrained }
 {}
 
+/// Copies are made from the usable replicas, and from no others.
+pub fn sources_are_usable()
+    ensures { law.SourcesAreUsable }
+{}
+
 /// A storage stands once among a block's live ones.
 pub fn live_stands_once()
     ensures { law.LiveStandsOnce }

@@ -1,0 +1,5 @@
+use Rattle.laws_of_rounds.proofs.Lively.{sources_usable}
+use Rattle.laws_of_rounds.proofs.live.sources_are_usable.Goals as goal
+
+pub returns : goal.returns
+returns c = sources_usable
