@@ -10,3 +10,4 @@ pub mod Distinct
 pub mod Naming
 pub mod SlotLists
 pub mod Room
+pub mod Entries
