@@ -83,7 +83,8 @@ told_by-cut e m h g =
 
 -- Which numbers are told.
 
-ids_told : (stamp : Stamp) (bs : List ℕ) → map (λ (t : Told). t.id) (map (λ b. record { id = b; stamp = stamp }) bs) ≡ bs
+-- the numbers of what is told with one stamp
+pub ids_told : (stamp : Stamp) (bs : List ℕ) → map (λ (t : Told). t.id) (map (λ b. record { id = b; stamp = stamp }) bs) ≡ bs
 ids_told stamp [] = refl
 ids_told stamp (b ∷ bs) = ap (λ xs. b ∷ xs) (ids_told stamp bs)
 

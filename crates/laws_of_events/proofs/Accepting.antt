@@ -1,36 +1,32 @@
 -- An accepted event leaves a lawful state lawful.
-use Rattle.std.proofs.Common.{◌≡◌, ℕ, ◌<◌, ◌^◌, Bool, true, false, not, Some, None, List, [], map, length, refl, sym, ◌∙◌}
-use Rattle.std.specs.Prelude.{◌==◌, nat_lt}
+use Rattle.std.proofs.Common.{◌≡◌, ℕ, ◌<◌, ◌^◌, Bool, true, false, not, Some, None, List, [], map, sym, ap, ◌∙◌}
+use Rattle.std.specs.Prelude.{◌==◌}
 use Rattle.bm_base.specs.declared.replica.ReplicaId.{ReplicaId}
 use Rattle.bm_base.specs.declared.replica.Marks.{Marks}
 use Rattle.bm_base.specs.declared.replica.Stamp.{Stamp}
 use Rattle.bm_base.specs.declared.replica.BlockInfo.{BlockInfo}
 use Rattle.bm_base.specs.declared.event.Entry.{Entry}
 use Rattle.bm_base.specs.declared.event.Event.{Event}
-use Rattle.bm_base.specs.declared.event.Event.TheVariants.{Register, Dead, StorageFailed, Heartbeat, AddBlock, DeleteBlock, SetReplication, Restamp, Received, Deleted, Corrupt, FullReport}
+use Rattle.bm_base.specs.declared.event.Event.TheVariants.{Register, Dead, StorageFailed, Heartbeat, Drain, Undrain, AddBlock, DeleteBlock, SetReplication, Restamp, Received, Deleted, Corrupt, FullReport}
 use Rattle.bm_base.specs.declared.refusal.Refusal.TheVariants.{UnknownStorage, UnknownBlock, BlockKnown, StillStored, BadReplication, TooMany}
 use Rattle.bm_base.specs.Map.{Map, get, keep, revise, revise_at, contains_key}
 use Rattle.bm_base.specs.State.{Cluster, Holdings, State, replica_at, by_replica}
 use Rattle.bm_base.specs.Replicas.{has_storage}
 use Rattle.bm_base.specs.Events.{change_cluster, change_holdings, change, add_block, delete_block, set_replication, restamp, make_bad, remove_replica, without_storages, without_pending, revise_block, enter, report}
-use Rattle.bm_base.specs.Refusals.{first_of, cluster_checks, block_checks, knows_storage, knows_block, is_still_stored, is_bad_replication, refusal_of}
-use Rattle.bm_base.specs.declared.limits.TheConstants.{MAX_ENTRIES}
+use Rattle.bm_base.specs.Entries.{expanded}
+use Rattle.bm_base.specs.Refusals.{first_of, is_too_long, cluster_checks, block_checks, knows_storage, knows_block, is_still_stored, is_bad_replication, refusal_of}
 use Rattle.bm_base.specs.Calls.{after_event}
 use Rattle.bm_base.specs.Lawful.{IsLawful, IsLawfulHoldings, HasFittingNumbers}
-use Rattle.laws_of_events.proofs.Options.{there, is_there}
+use Rattle.laws_of_events.proofs.Options.{there, is_there, fails_not}
 use Rattle.laws_of_events.proofs.Lists.{each_all, each_mapped}
 use Rattle.laws_of_events.proofs.Maps.{Holds, get_kept, get_removed, known_revised, holds_inserted, holds_insert_all}
 use Rattle.laws_of_events.proofs.Checks.{IsAccepted, accepted, all_fail, both_fail, first_fails}
 use Rattle.laws_of_events.proofs.ClusterEvents.{fit_cluster, lawful_cluster, registrable}
-use Rattle.laws_of_events.proofs.Among.{after_death, after_failure, after_registration, after_heartbeat, after_removal}
+use Rattle.laws_of_events.proofs.Among.{after_death, after_failure, after_registration, after_heartbeat, after_removal, after_drain, after_undrain, drained_blocks, drained_replicas, drained_before}
 use Rattle.laws_of_events.proofs.BlockEvents.{added_lawful, deleted_lawful, replication_lawful, restamped_lawful, found_lawful, info_after}
-use Rattle.laws_of_events.proofs.Entering.{enter_lawful, enter_pending, report_lawful, report_pending, put_by}
+use Rattle.laws_of_events.proofs.Entering.{enter_lawful, enter_pending, report_lawful, report_pending, put_by, told_below}
 use Rattle.laws_of_events.proofs.Rounding.{counted_lawful}
 use Rattle.laws_of_events.specs.Fitting.{FitsEvent}
-
-fails_not : (b : Bool) → not b ≡ false → b ≡ true
-fails_not true e = refl
-fails_not false e = cc
 
 -- What is known of an accepted event.
 
@@ -40,7 +36,7 @@ received_known C s b stamp h = fails_not (contains_key C.storages s) (first_fail
 
 reported_known : (C : Cluster) (s : ℕ) (es : List Entry) → first_of (cluster_checks C (FullReport s es)) ≡ None → contains_key C.storages s ≡ true
 unfolding cluster_checks knows_storage
-reported_known C s es h = fails_not (contains_key C.storages s) (both_fail UnknownStorage TooMany (not (knows_storage C s)) (nat_lt MAX_ENTRIES (length es)) h).0
+reported_known C s es h = fails_not (contains_key C.storages s) (both_fail UnknownStorage TooMany (not (knows_storage C s)) (is_too_long es) h).0
 
 corrupt_known : (H : Holdings) (s b : ℕ) → first_of (block_checks H (Corrupt s b)) ≡ None → knows_block H b ≡ true
 unfolding block_checks
@@ -62,6 +58,8 @@ lawful_holdings M (Register n rack ss) L A = after_registration M.cluster M.hold
 lawful_holdings M (Dead n) L A = after_death M.cluster M.holdings n L.holdings
 lawful_holdings M (StorageFailed s) L A = after_failure M.cluster M.holdings s L.holdings
 lawful_holdings M (Heartbeat n rs) L A = after_heartbeat M.cluster M.holdings rs L.holdings
+lawful_holdings M (Drain n) L A = after_drain M.cluster M.holdings n L.holdings
+lawful_holdings M (Undrain n) L A = after_undrain M.cluster M.holdings n L.holdings
 lawful_holdings M (AddBlock b stamp repl) L A = let may = addable M.holdings b stamp repl A.blocks in added_lawful M.cluster M.holdings b stamp repl L.holdings may.0 may.1 may.2
 lawful_holdings M (DeleteBlock b) L A = deleted_lawful M.cluster M.holdings b L.holdings
 lawful_holdings M (SetReplication b repl) L A = replication_lawful M.cluster M.holdings b repl L.holdings (settable M.holdings b repl A.blocks)
@@ -69,7 +67,7 @@ lawful_holdings M (Restamp b stamp) L A = restamped_lawful M.cluster M.holdings 
 lawful_holdings M (Received s b stamp) L A = enter_lawful M.cluster M.holdings (replica_at b s) stamp L.holdings (received_known M.cluster s b stamp A.cluster)
 lawful_holdings M (Deleted s b) L A = after_removal M.cluster M.holdings (replica_at b s) L.holdings
 lawful_holdings M (Corrupt s b) L A = found_lawful M.cluster M.holdings (replica_at b s) L.holdings (corrupt_known M.holdings s b A.blocks)
-lawful_holdings M (FullReport s es) L A = report_lawful M.cluster M.holdings s es L.holdings (reported_known M.cluster s es A.cluster)
+lawful_holdings M (FullReport s es) L A = report_lawful M.cluster M.holdings s (expanded es) L.holdings (reported_known M.cluster s es A.cluster)
 
 -- an event commands no transfer
 pub pending_before : (C : Cluster) (H : Holdings) (e : Event) (q : ReplicaId) (r : ℕ) → get (change_holdings C H e).pending q ≡ Some r → get H.pending q ≡ Some r
@@ -79,9 +77,11 @@ pending_before C H (StorageFailed s) q r e = (get_kept H.pending (λ q _. not (q
 pending_before C H (DeleteBlock b) q r e = (get_kept H.pending (λ q _. not (q.block == b)) q r e).0
 pending_before C H (Restamp b stamp) q r e = (get_kept H.pending (λ q _. not (q.block == b)) q r e).0
 pending_before C H (Received s b stamp) q r e = enter_pending C H (replica_at b s) stamp q r e
-pending_before C H (FullReport s es) q r e = report_pending C H s es q r e
+pending_before C H (FullReport s es) q r e = report_pending C H s (expanded es) q r e
 pending_before C H (Register n rack ss) q r e = e
 pending_before C H (Heartbeat n rs) q r e = e
+pending_before C H (Drain n) q r e = drained_before C H n q r e
+pending_before C H (Undrain n) q r e = e
 pending_before C H (AddBlock b stamp repl) q r e = e
 pending_before C H (SetReplication b repl) q r e = e
 pending_before C H (Deleted s b) q r e = e
@@ -109,6 +109,8 @@ blocks_fit C H (Corrupt s b) h F = F
 blocks_fit C H (FullReport s es) h F = F
 blocks_fit C H (Register n rack ss) h F = F
 blocks_fit C H (Heartbeat n rs) h F = F
+blocks_fit C H (Drain n) h F = λ b i e. F b i (ap (λ m. get m b) (sym (drained_blocks C H n)) ∙ e)
+blocks_fit C H (Undrain n) h F = F
 
 kept_fit : (m : Map by_replica Marks) (p : ReplicaId → Marks → Bool) → Holds FitsReplica m → Holds FitsReplica (keep m p)
 kept_fit m p F q x e = F q x (get_kept m p q x e).0
@@ -126,10 +128,12 @@ replicas_fit C H (Received s b stamp) h F = holds_inserted FitsReplica (keep H.r
 replicas_fit C H (Deleted s b) h F = λ q m e. F q m (get_removed H.replicas (replica_at b s) q m e).1
 replicas_fit C H (Corrupt s b) h F = revised_fit H.replicas _ F
 replicas_fit C H (FullReport s es) h F =
-    holds_insert_all FitsReplica (keep H.replicas _) (map (put_by C H s es) es) (kept_fit H.replicas _ F)
-    (each_mapped (λ e. FitsReplica e.0 e.1) (put_by C H s es) es (each_all (λ x. x.id < 2 ^ 64) es h))
+    holds_insert_all FitsReplica (keep H.replicas _) (map (put_by C H s (expanded es)) (expanded es)) (kept_fit H.replicas _ F)
+    (each_mapped (λ e. FitsReplica e.0 e.1) (put_by C H s (expanded es)) (expanded es) (told_below es (2 ^ 64) (each_all (λ x. x.to < 2 ^ 64) es h)))
 replicas_fit C H (Register n rack ss) h F = F
 replicas_fit C H (Heartbeat n rs) h F = F
+replicas_fit C H (Drain n) h F = λ q m e. F q m (ap (λ k. get k q) (sym (drained_replicas C H n)) ∙ e)
+replicas_fit C H (Undrain n) h F = F
 replicas_fit C H (AddBlock b stamp repl) h F = F
 replicas_fit C H (SetReplication b repl) h F = F
 

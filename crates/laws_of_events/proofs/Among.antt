@@ -1,6 +1,6 @@
 -- Holdings of which each replica and each transfer was there before, on a storage that has stayed: what leaves alone.
 use Rattle.std.proofs.Common.{◌≡◌, ℕ, ◌≤◌, Bool, true, false, not, Some, List, is_some, IsTrue, refl, sym, ap, ◌∙◌, true≢false}
-use Rattle.std.specs.Prelude.{◌==◌}
+use Rattle.std.specs.Prelude.{◌==◌, if◌then◌else◌}
 use Rattle.std.specs.Ordering.{eq_by_cmp, nat_cmp}
 use Rattle.bm_base.specs.declared.replica.ReplicaId.{ReplicaId}
 use Rattle.bm_base.specs.declared.replica.Marks.{Marks}
@@ -8,8 +8,8 @@ use Rattle.bm_base.specs.declared.replica.BlockInfo.{BlockInfo}
 use Rattle.bm_base.specs.declared.event.Remaining.{Remaining}
 use Rattle.bm_base.specs.Map.{Map, by_number, get, keep, remove, contains_key}
 use Rattle.bm_base.specs.State.{Cluster, Holdings, by_replica}
-use Rattle.bm_base.specs.Replicas.{node_of, has_storage, is_good, is_stray}
-use Rattle.bm_base.specs.Events.{register, heartbeat, without_node, without_storage, without_storages, remove_replica}
+use Rattle.bm_base.specs.Replicas.{node_of, has_storage, drains, is_good, is_stray}
+use Rattle.bm_base.specs.Events.{register, heartbeat, without_node, without_storage, without_storages, remove_replica, drain, undrain, without_transfers_to_drained}
 use Rattle.bm_base.specs.Refusals.{knows_storage}
 use Rattle.bm_base.specs.declared.limits.TheConstants.{MAX_REPLICATION}
 use Rattle.bm_base.specs.Lawful.{IsLawfulHoldings}
@@ -136,3 +136,48 @@ after_removal C H p L =
       pending_known = L.pending_known;
       replicated = L.replicated;
     })
+
+-- A node that begins to drain.
+
+either_lawful : (C : Cluster) (H G : Holdings) (b : Bool) → IsLawfulHoldings C H → IsLawfulHoldings C G → IsLawfulHoldings C (if b then H else G)
+either_lawful C H G true L K = L
+either_lawful C H G false L K = K
+
+same_either : {X : Type 0} (f : Holdings → X) (H G : Holdings) (b : Bool) → f G ≡ f H → f (if b then H else G) ≡ f H
+same_either f H G true e = refl
+same_either f H G false e = e
+
+module _ (C : Cluster) (H : Holdings) (n : ℕ) where
+  abbrev fewer_sent : Holdings
+  fewer_sent = record H { pending = keep H.pending (λ q _. not (has_storage C n q.storage)) }
+
+  fewer_lawful : IsLawfulHoldings C H → IsLawfulHoldings C fewer_sent
+  fewer_lawful L =
+      let was : (p : ReplicaId) → is_some (get fewer_sent.pending p) ≡ true → is_some (get H.pending p) ≡ true = λ p e. (was_there H.pending (λ q _. not (has_storage C n q.storage)) p e).0 in
+      lawful_among C C H fewer_sent L (among_here C H fewer_sent (λ _ e. e) was)
+      (record { strays = L.strays; excess_is_good = L.excess_is_good; pending_known = λ p e. L.pending_known p (was p e); replicated = L.replicated })
+
+  pub after_drain : IsLawfulHoldings C H → IsLawfulHoldings (drain C n) (without_transfers_to_drained C H n)
+  unfolding drain without_transfers_to_drained node_of
+  after_drain L = same_holdings C (drain C n) (without_transfers_to_drained C H n) (λ _ _. refl) (either_lawful C H fewer_sent (drains C n) L (fewer_lawful L))
+
+  pub after_undrain : IsLawfulHoldings C H → IsLawfulHoldings (undrain C n) H
+  unfolding undrain node_of
+  after_undrain L = same_holdings C (undrain C n) H (λ _ _. refl) L
+
+  pub drained_blocks : (without_transfers_to_drained C H n).blocks ≡ H.blocks
+  unfolding without_transfers_to_drained
+  drained_blocks = same_either (λ G. G.blocks) H fewer_sent (drains C n) refl
+
+  pub drained_replicas : (without_transfers_to_drained C H n).replicas ≡ H.replicas
+  unfolding without_transfers_to_drained
+  drained_replicas = same_either (λ G. G.replicas) H fewer_sent (drains C n) refl
+
+  -- no transfer comes
+  pub drained_before : (p : ReplicaId) (r : ℕ) → get (without_transfers_to_drained C H n).pending p ≡ Some r → get H.pending p ≡ Some r
+  unfolding without_transfers_to_drained
+  drained_before p r e = by_case (drains C n) e
+    where
+      by_case : (b : Bool) → get (if b then H else fewer_sent).pending p ≡ Some r → get H.pending p ≡ Some r
+      by_case true e = e
+      by_case false e = (get_kept H.pending (λ q _. not (has_storage C n q.storage)) p r e).0

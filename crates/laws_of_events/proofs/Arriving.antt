@@ -13,26 +13,28 @@ use Rattle.bm_base.specs.declared.commands.Delete.{Delete}
 use Rattle.bm_base.specs.declared.config.Config.{Config}
 use Rattle.bm_base.specs.declared.event.Entry.{Entry}
 use Rattle.bm_base.specs.declared.event.Event.{Event}
-use Rattle.bm_base.specs.declared.event.Event.TheVariants.{Register, Dead, StorageFailed, Heartbeat, AddBlock, DeleteBlock, SetReplication, Restamp, Received, Deleted, Corrupt, FullReport}
+use Rattle.bm_base.specs.declared.event.Event.TheVariants.{Register, Dead, StorageFailed, Heartbeat, Drain, Undrain, AddBlock, DeleteBlock, SetReplication, Restamp, Received, Deleted, Corrupt, FullReport}
 use Rattle.bm_base.specs.declared.refusal.Refusal.{Refusal}
 use Rattle.bm_base.specs.declared.call.Call.{Call}
 use Rattle.bm_base.specs.declared.call.Call.TheVariants as call
 use Rattle.bm_base.specs.declared.call.Answer.{Answer}
 use Rattle.bm_base.specs.Map.{Map, get, keep, revise, revise_at, remove, contains_key, entries, keys, len}
 use Rattle.bm_base.specs.State.{RoundLimits, Cluster, Holdings, State, by_replica, replica_at, first_state, empty_holdings}
-use Rattle.bm_base.specs.Replicas.{node_of, has_storage, live, storages_where}
+use Rattle.bm_base.specs.Replicas.{node_of, has_storage, usable, storages_where}
+use Rattle.bm_base.specs.Entries.{expanded}
 use Rattle.bm_base.specs.Events.{change_holdings, without_storages, add_block, delete_block, set_replication, restamp, make_bad, remove_replica, without_pending, revise_block, enter, report, replaces, is_named}
 use Rattle.bm_base.specs.Excess.{without_expired, without_unordered_excess, marked, begun, started}
 use Rattle.bm_base.specs.Transfers.{WishedCopy, pending_targets, targets_of, holders_of, barred_for, is_barred, is_target, target_cmp, least_target_by, least_target, scheduled_to, least_source, transfer_for, transfers_from, transfers, wishes}
 use Rattle.bm_base.specs.Deletes.{deletes}
 use Rattle.bm_base.specs.Rounds.{finished, whole_round}
-use Rattle.bm_base.specs.Refusals.{refusal_of, round_refusal, storage_refusal, block_refusal}
+use Rattle.bm_base.specs.Refusals.{refusal_of, round_refusal, node_refusal, storage_refusal, block_refusal}
 use Rattle.bm_base.specs.Calls.{step_with, step, refused_or, after_event, state_after}
 use Rattle.bm_base.proofs.MapLaws.{get-empty}
 use Rattle.laws_of_events.proofs.Options.{there, is_there}
 use Rattle.laws_of_events.proofs.Lists.{Each, each_both, each_filtered, each_passing, each_appended, each_optional, least_is_one}
 use Rattle.laws_of_events.proofs.Maps.{get_kept, get_removed, known_revised, each_key, passes_entry}
 use Rattle.laws_of_events.proofs.Clusters.{some_node}
+use Rattle.laws_of_events.proofs.Among.{drained_replicas}
 use Rattle.laws_of_events.proofs.Chosen.{made_of, unless}
 use Rattle.laws_of_events.proofs.Rounding.{all_pending}
 use Rattle.laws_of_events.proofs.Accepting.{pending_before}
@@ -112,7 +114,7 @@ target_free C H chosen urgency holders b l t e =
 transfer_absent : (limits : RoundLimits) (C : Cluster) (H : Holdings) (chosen : List Transfer) (w : WishedCopy) (t : Transfer) → transfer_for limits C H chosen w ≡ Some t → IsAbsent H t
 unfolding transfer_for
 transfer_absent limits C H chosen w t e =
-    let of_it = made_of w.block (get H.blocks w.block) (least_source C chosen w.urgency (live C H w.block)) (λ i. least_target C chosen w.urgency (holders_of C H chosen w.block) (barred_for H chosen w.block) i.stamp.len) t
+    let of_it = made_of w.block (get H.blocks w.block) (least_source C chosen w.urgency (usable H w.block)) (λ i. least_target C chosen w.urgency (holders_of C H chosen w.block) (barred_for H chosen w.block) i.stamp.len) t
     (unless (nat_le (limits.work * len C.nodes) (length chosen)) _ t e) in
     subst (λ b. get H.replicas (replica_at b t.target) ≡ None) of_it.3 (target_free C H chosen w.urgency (holders_of C H chosen w.block) w.block of_it.0.stamp.len t.target of_it.2)
 
@@ -175,18 +177,18 @@ received_coming M s b stamp C p is =
         clash (get (enter M.cluster M.holdings (replica_at b s) stamp).pending p) sent.0
         (ap (get (enter M.cluster M.holdings (replica_at b s) stamp).pending) key ∙ sym (ap (λ G. get G.pending (replica_at b s)) (held_received M s b stamp)) ∙ (transfer_received M s b stamp).0) sent.1
 
-reported_coming : (M : State) (s : ℕ) (es : List Entry) → Coming M.holdings → Coming (report M.cluster M.holdings s es)
+reported_coming : (M : State) (s : ℕ) (es : List Entry) → Coming M.holdings → Coming (report M.cluster M.holdings s (expanded es))
 reported_coming M s es C p is =
-    let G = report M.cluster M.holdings s es in
+    let G = report M.cluster M.holdings s (expanded es) in
     let sent : (r : ℕ) × (get G.pending p ≡ Some r) = there (get G.pending p) is in
-    none_there (get G.replicas p) (λ m e. by_origin sent (report_origin M.cluster M.holdings s es p m e))
+    none_there (get G.replicas p) (λ m e. by_origin sent (report_origin M.cluster M.holdings s (expanded es) p m e))
   where
-    by_origin : {m : Marks} → (r : ℕ) × (get (report M.cluster M.holdings s es).pending p ≡ Some r) → IsKept M.holdings (stays_by M.cluster M.holdings s es) p m ⊎ IsPut M.holdings s (is_named es) p m → ⊥
-    by_origin sent (inl kept) = clash (get M.holdings.replicas p) _ (C p (is_there (get M.holdings.pending p) sent.0 (report_pending M.cluster M.holdings s es p sent.0 sent.1))) kept.0
+    by_origin : {m : Marks} → (r : ℕ) × (get (report M.cluster M.holdings s (expanded es)).pending p ≡ Some r) → IsKept M.holdings (stays_by M.cluster M.holdings s (expanded es)) p m ⊎ IsPut M.holdings s (is_named (expanded es)) p m → ⊥
+    by_origin sent (inl kept) = clash (get M.holdings.replicas p) _ (C p (is_there (get M.holdings.pending p) sent.0 (report_pending M.cluster M.holdings s (expanded es) p sent.0 sent.1))) kept.0
     by_origin sent (inr put) =
-        clash (get (report M.cluster M.holdings s es).pending p) sent.0
-        (ap (λ t. get (report M.cluster M.holdings s es).pending (replica_at p.block t)) put.0 ∙ sym (ap (λ G. get G.pending (replica_at p.block s)) (held_report M s es))
-        ∙ (transfers_reported M s es).0 p.block (sym (named_numbers es p.block) ∙ put.1)) sent.1
+        clash (get (report M.cluster M.holdings s (expanded es)).pending p) sent.0
+        (ap (λ t. get (report M.cluster M.holdings s (expanded es)).pending (replica_at p.block t)) put.0 ∙ sym (ap (λ G. get G.pending (replica_at p.block s)) (held_report M s es))
+        ∙ (transfers_reported M s es).0 p.block (sym (named_numbers (expanded es) p.block) ∙ put.1)) sent.1
 
 event_coming : (M : State) (e : Event) → Coming M.holdings → Coming (change_holdings M.cluster M.holdings e)
 unfolding change_holdings without_storages add_block delete_block set_replication restamp make_bad remove_replica without_pending revise_block revise_at
@@ -200,6 +202,9 @@ event_coming M (Corrupt s b) C = fewer M.holdings (change_holdings M.cluster M.h
 event_coming M (Deleted s b) C = fewer M.holdings (change_holdings M.cluster M.holdings (Deleted s b)) C (removed_before M.holdings.replicas (replica_at b s)) (λ _ is. is)
 event_coming M (Register n rack ss) C = C
 event_coming M (Heartbeat n rs) C = C
+event_coming M (Drain n) C =
+    fewer M.holdings (change_holdings M.cluster M.holdings (Drain n)) C (λ p is. ap (λ m. contains_key m p) (sym (drained_replicas M.cluster M.holdings n)) ∙ is) (sent_before M.cluster M.holdings (Drain n))
+event_coming M (Undrain n) C = C
 event_coming M (AddBlock b stamp repl) C = C
 event_coming M (SetReplication b repl) C = C
 
@@ -244,6 +249,7 @@ step_coming M call.Missing C = C
 step_coming M (call.BlocksOn s) C = by_refusal M (storage_refusal M.cluster s) _ C C
 step_coming M (call.Places b) C = by_refusal M (block_refusal M.holdings b) _ C C
 step_coming M (call.LevelOf b) C = by_refusal M (block_refusal M.holdings b) _ C C
+step_coming M (call.Retired n) C = by_refusal M (node_refusal M.cluster n) _ C C
 step_coming M call.Calls C = C
 step_coming M call.Rounds C = C
 

@@ -6,7 +6,7 @@ use Rattle.bm_base.specs.declared.replica.ReplicaId.{ReplicaId}
 use Rattle.bm_base.specs.declared.replica.Tag.{Tag}
 use Rattle.bm_base.specs.declared.replica.Tag.TheVariants.{Stale, Bad}
 use Rattle.bm_base.specs.declared.replica.Marks.{Marks}
-use Rattle.bm_base.specs.declared.event.Event.TheVariants.{Register, Dead, StorageFailed, Heartbeat, AddBlock, DeleteBlock, SetReplication, Restamp, Received, Deleted, Corrupt, FullReport}
+use Rattle.bm_base.specs.declared.event.Event.TheVariants.{Register, Dead, StorageFailed, Heartbeat, Drain, Undrain, AddBlock, DeleteBlock, SetReplication, Restamp, Received, Deleted, Corrupt, FullReport}
 use Rattle.bm_base.specs.Map.{Map, get, revise, revise_at, remove, contains_key}
 use Rattle.bm_base.specs.State.{Holdings, by_replica, replica_at, replica_cmp}
 use Rattle.bm_base.specs.Replicas.{is_good, has_storage}
@@ -14,6 +14,7 @@ use Rattle.bm_base.specs.Events.{add_block, delete_block, set_replication, resta
 use Rattle.bm_base.specs.Calls.{after_event}
 use Rattle.laws_of_events.proofs.Options.{there}
 use Rattle.laws_of_events.proofs.Maps.{get_kept, get_removed, get_revised, get_taken}
+use Rattle.laws_of_events.proofs.Among.{drained_replicas}
 use Rattle.laws_of_events.proofs.ReportLaws.{report_leaves_bad, received_leaves_bad}
 use Rattle.laws_of_events.specs.Changes as law
 use Rattle.laws_of_events.specs.Reports.{IsBadIn}
@@ -67,5 +68,7 @@ bad_stays M (Corrupt s b) L p bad is known =
     revised_bad M.holdings (λ q m. if eq_by_cmp replica_cmp q (replica_at b s) then as_bad m else m) p (λ k e. if_bad (eq_by_cmp replica_cmp p (replica_at b s)) (as_bad k) k refl e) bad is
 bad_stays M (Register n rack ss) L p bad is known = bad
 bad_stays M (Heartbeat n rs) L p bad is known = bad
+bad_stays M (Drain n) L p bad is known = (bad.0, ap (λ m. get m p) (drained_replicas M.cluster M.holdings n) ∙ bad.1, bad.2)
+bad_stays M (Undrain n) L p bad is known = bad
 bad_stays M (AddBlock b stamp repl) L p bad is known = bad
 bad_stays M (SetReplication b repl) L p bad is known = bad

@@ -15,6 +15,7 @@ use Rattle.bm_base.specs.Map.{Map, by_number, get, keep, revise, revise_at}
 use Rattle.bm_base.specs.Lists.{has}
 use Rattle.bm_base.specs.State.{Cluster, Holdings, State, by_replica, replica_at, replica_cmp}
 use Rattle.bm_base.specs.Replicas.{is_good}
+use Rattle.bm_base.specs.Entries.{Told, expanded}
 use Rattle.bm_base.specs.Events.{add_block, delete_block, set_replication, restamp, make_bad, remove_replica, without_pending, revise_block, enter, is_named, leaves_by_report, report, change_holdings, as_stray, as_bad, as_restamped}
 use Rattle.bm_base.specs.Shards.{shard_of, cut}
 use Rattle.bm_base.specs.Calls.{after_event}
@@ -133,19 +134,19 @@ replica_found_bad M s b =
 
 -- Transfers on their way.
 
-reported_pending : (M : State) (s : ℕ) (es : List Entry) (p : ReplicaId) (t : Bool) → ((p.storage == s) && is_named es p.block) ≡ t
+reported_pending : (M : State) (s : ℕ) (es : List Entry) (p : ReplicaId) (t : Bool) → ((p.storage == s) && is_named (expanded es) p.block) ≡ t
     → get (held_after M (FullReport s es)).pending p ≡ option_and_then (λ x. cond (not t) (Some x) None) (get M.holdings.pending p)
 unfolding after_event change_holdings report
-reported_pending M s es p t e = get-keep M.holdings.pending (λ q _. not ((q.storage == s) && is_named es q.block)) p ∙ ap (λ c. option_and_then (λ x. cond (not c) (Some x) None) (get M.holdings.pending p)) e
+reported_pending M s es p t e = get-keep M.holdings.pending (λ q _. not ((q.storage == s) && is_named (expanded es) q.block)) p ∙ ap (λ c. option_and_then (λ x. cond (not c) (Some x) None) (get M.holdings.pending p)) e
 
-named_here : (s : ℕ) (es : List Entry) (b : ℕ) (t : Bool) → has (numbers_of es) b ≡ t → ((s == s) && is_named es b) ≡ t
-named_here s es b t h = ap (λ c. c && is_named es b) (eq-eqb s s refl) ∙ named_numbers es b ∙ h
+named_here : (s : ℕ) (es : List Entry) (b : ℕ) (t : Bool) → has (numbers_of es) b ≡ t → ((s == s) && is_named (expanded es) b) ≡ t
+named_here s es b t h = ap (λ c. c && is_named (expanded es) b) (eq-eqb s s refl) ∙ named_numbers (expanded es) b ∙ h
 
 pub transfers_reported : law.report_ends_transfers
 transfers_reported M s es = (
   (λ b h. reported_pending M s es (replica_at b s) true (named_here s es b true h) ∙ none_stays false (get M.holdings.pending (replica_at b s)) refl),
   (λ b h. reported_pending M s es (replica_at b s) false (named_here s es b false h) ∙ all_stays true (get M.holdings.pending (replica_at b s)) refl),
-  (λ p other. reported_pending M s es p false (and_left (p.storage == s) (is_named es p.block) (ne_eqb p.storage s other)) ∙ all_stays true (get M.holdings.pending p) refl),
+  (λ p other. reported_pending M s es p false (and_left (p.storage == s) (is_named (expanded es) p.block) (ne_eqb p.storage s other)) ∙ all_stays true (get M.holdings.pending p) refl),
 )
 
 pub transfer_received : law.received_ends_transfer
@@ -154,15 +155,15 @@ transfer_received M s b stamp = (get_taken M.holdings.pending (replica_at b s), 
 
 -- Unnamed blocks.
 
-unnamed_stays : (C : Cluster) (H : Holdings) (s : ℕ) (es : List Entry) (p : ReplicaId) → p.storage ≢ s → is_named es p.block ≡ false → stays_by C H s es p ≡ true
+unnamed_stays : (C : Cluster) (H : Holdings) (s : ℕ) (ts : List Told) (p : ReplicaId) → p.storage ≢ s → is_named ts p.block ≡ false → stays_by C H s ts p ≡ true
 unfolding leaves_by_report
-unnamed_stays C H s es p other h = rw (ne_eqb p.storage s other, h) refl
+unnamed_stays C H s ts p other h = rw (ne_eqb p.storage s other, h) refl
 
-reported_other : (M : State) (s : ℕ) (es : List Entry) (p : ReplicaId) → p.storage ≢ s → get (held_after M (FullReport s es)).replicas p ≡ get (keep M.holdings.replicas (λ q _. stays_by M.cluster M.holdings s es q)) p
+reported_other : (M : State) (s : ℕ) (es : List Entry) (p : ReplicaId) → p.storage ≢ s → get (held_after M (FullReport s es)).replicas p ≡ get (keep M.holdings.replicas (λ q _. stays_by M.cluster M.holdings s (expanded es) q)) p
 unfolding after_event change_holdings
-reported_other M s es p other = reported_elsewhere M.cluster M.holdings s es p other
+reported_other M s es p other = reported_elsewhere M.cluster M.holdings s (expanded es) p other
 
 pub unnamed_left : law.report_leaves_unnamed_blocks
 unnamed_left M s es p other h =
-    reported_other M s es p other ∙ get-keep M.holdings.replicas (λ q _. stays_by M.cluster M.holdings s es q) p
-    ∙ all_stays (stays_by M.cluster M.holdings s es p) (get M.holdings.replicas p) (unnamed_stays M.cluster M.holdings s es p other (named_numbers es p.block ∙ h))
+    reported_other M s es p other ∙ get-keep M.holdings.replicas (λ q _. stays_by M.cluster M.holdings s (expanded es) q) p
+    ∙ all_stays (stays_by M.cluster M.holdings s (expanded es) p) (get M.holdings.replicas p) (unnamed_stays M.cluster M.holdings s (expanded es) p other (named_numbers (expanded es) p.block ∙ h))

@@ -16,7 +16,7 @@ use Rattle.bm_base.specs.Excess.{without_expired, without_unordered_excess, exce
 use Rattle.bm_base.specs.Transfers.{transfers}
 use Rattle.bm_base.specs.Deletes.{deletes}
 use Rattle.bm_base.specs.Rounds.{is_commanded, finished, whole_round}
-use Rattle.bm_base.specs.Refusals.{refusal_of, round_refusal, storage_refusal, block_refusal}
+use Rattle.bm_base.specs.Refusals.{refusal_of, round_refusal, node_refusal, storage_refusal, block_refusal}
 use Rattle.bm_base.specs.Calls.{step_with, step, refused_or, after_event, counted}
 use Rattle.bm_base.proofs.MapLaws.{get-revise}
 use Rattle.laws_of_events.proofs.Rounding.{cleared_tag, marked_tag, ordered_tag}
@@ -37,6 +37,7 @@ query_leaves M call.Missing h = refl
 query_leaves M (call.BlocksOn s) h = either M (storage_refusal M.cluster s) _
 query_leaves M (call.Places b) h = either M (block_refusal M.holdings b) _
 query_leaves M (call.LevelOf b) h = either M (block_refusal M.holdings b) _
+query_leaves M (call.Retired n) h = either M (node_refusal M.cluster n) _
 query_leaves M call.Calls h = refl
 query_leaves M call.Rounds h = refl
 

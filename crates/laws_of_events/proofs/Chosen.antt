@@ -12,7 +12,7 @@ use Rattle.bm_base.specs.declared.commands.Transfer.{Transfer}
 use Rattle.bm_base.specs.Map.{get, contains_key, entries, keys, len}
 use Rattle.bm_base.specs.State.{RoundLimits, Cluster, Holdings, replica_at}
 use Rattle.bm_base.specs.Lists.{has, least}
-use Rattle.bm_base.specs.Replicas.{is_usable, is_live_on, live, storages_where}
+use Rattle.bm_base.specs.Replicas.{is_usable, is_live_on, is_draining, live, usable, storages_where}
 use Rattle.bm_base.specs.Excess.{excess_cmp, excess_among, excess_of, excess_in}
 use Rattle.bm_base.specs.Transfers.{WishedCopy, least_source, least_target_by, least_target, scheduled_to, target_cmp, is_target, holders_of, barred_for, transfer_for, transfers_from, transfers, wishes}
 use Rattle.laws_of_events.proofs.Options.{is_there, revised, chained}
@@ -50,12 +50,12 @@ unfolding excess_of
 excess_of_block P C lives None h = tt
 excess_of_block P C lives (Some i) h = each_in_excess P C (length lives - i.repl) lives h
 
--- what is put in excess is live
-pub in_excess_live : (C : Cluster) (H : Holdings) (q : ReplicaId) (m : Marks) → get H.replicas q ≡ Some m → has (excess_in C H q.block) q.storage ≡ true → is_usable m ≡ true
+-- what is put in excess is usable
+pub in_excess_usable : (C : Cluster) (H : Holdings) (q : ReplicaId) (m : Marks) → get H.replicas q ≡ Some m → has (excess_in C H q.block) q.storage ≡ true → is_usable m ≡ true
 unfolding excess_in
-in_excess_live C H q m e h =
+in_excess_usable C H q m e h =
     let one = has_one (HasOne (is_live_on C) H q.block) (excess_in C H q.block) q.storage (excess_of_block (HasOne (is_live_on C) H q.block) C (live C H q.block) (get H.blocks q.block) (each_storage (is_live_on C) H q.block)) h in
-    ap is_usable (same_Some m one.0 (sym e ∙ one.1)) ∙ one.2
+    ap is_usable (same_Some m one.0 (sym e ∙ one.1)) ∙ (and_parts (is_usable one.0) (not (is_draining C q.storage)) one.2).0
 
 -- A transfer that may be put among those on their way.
 abbrev pub IsPlaced : Cluster → Holdings → Transfer → Type 0
@@ -86,7 +86,7 @@ made_of b found source target t e =
 pub transfer_placed : (limits : RoundLimits) (C : Cluster) (H : Holdings) (chosen : List Transfer) (w : WishedCopy) (t : Transfer) → transfer_for limits C H chosen w ≡ Some t → IsPlaced C H t
 unfolding transfer_for
 transfer_placed limits C H chosen w t e =
-    let of_it = made_of w.block (get H.blocks w.block) (least_source C chosen w.urgency (live C H w.block)) (λ i. least_target C chosen w.urgency (holders_of C H chosen w.block) (barred_for H chosen w.block) i.stamp.len) t
+    let of_it = made_of w.block (get H.blocks w.block) (least_source C chosen w.urgency (usable H w.block)) (λ i. least_target C chosen w.urgency (holders_of C H chosen w.block) (barred_for H chosen w.block) i.stamp.len) t
     (unless (nat_le (limits.work * len C.nodes) (length chosen)) _ t e) in (
       target_known C chosen w.urgency (holders_of C H chosen w.block) (barred_for H chosen w.block) of_it.0.stamp.len t.target of_it.2,
       sym (ap (contains_key H.blocks) of_it.3) ∙ is_there (get H.blocks w.block) of_it.0 of_it.1,

@@ -1,5 +1,5 @@
 -- A received replica and a full report leave lawful holdings lawful.
-use Rattle.std.proofs.Common.{◌≡◌, ℕ, Bool, true, false, not, ◌&&◌, Option, Some, None, List, [], ◌∷◌, map, is_some, IsTrue, refl, sym, ap, ◌∙◌, ◌⊎◌, inl, inr, eq-eqb, eqb-true}
+use Rattle.std.proofs.Common.{◌≡◌, ℕ, zero, suc, ◌+◌, ◌<◌, ◌≤◌, arith, Bool, true, false, not, ◌&&◌, Option, Some, None, List, [], ◌∷◌, map, is_some, IsTrue, refl, sym, ap, ◌∙◌, ◌⊎◌, inl, inr, eq-eqb, eqb-true}
 use Rattle.std.specs.Prelude.{◌==◌, if◌then◌else◌}
 use Rattle.std.specs.Option.{option_map_or}
 use Rattle.std.specs.List.{list_any}
@@ -13,10 +13,11 @@ use Rattle.bm_base.specs.declared.event.Entry.{Entry}
 use Rattle.bm_base.specs.Map.{get, insert_all, keep, contains_key}
 use Rattle.bm_base.specs.State.{Cluster, Holdings, replica_at}
 use Rattle.bm_base.specs.Replicas.{is_good, is_stray, are_sisters}
+use Rattle.bm_base.specs.Entries.{Told, count_up, run_length, told_by, expanded}
 use Rattle.bm_base.specs.Events.{was_bad, was_excess, same_stamp, entered_tag, entered, replaces, enter, is_named, leaves_by_report, report}
 use Rattle.bm_base.specs.Lawful.{IsLawfulHoldings}
 use Rattle.laws_of_events.proofs.Options.{there, is_there, not_passed}
-use Rattle.laws_of_events.proofs.Lists.{Each, each_mapped, each_then}
+use Rattle.laws_of_events.proofs.Lists.{Each, each_mapped, each_then, each_flat}
 use Rattle.laws_of_events.proofs.Maps.{Holds, get_kept, get_removed, holds_insert_all}
 use Rattle.laws_of_events.proofs.Clusters.{sisters_turned, no_sister_itself}
 
@@ -116,6 +117,18 @@ module _ (C : Cluster) (H : Holdings) (p : ReplicaId) (stamp : Stamp) where
 
 -- A full report.
 
+counted_below : (n k m : ℕ) → (0 < k → n + k ≤ m) → Each (λ b. b < m) (count_up n k)
+counted_below n zero m h = tt
+counted_below n (suc k) m h = let g : n + suc k ≤ m = h (omega arith) in (omega (arith, g), counted_below (suc n) k m (λ _. omega (arith, g)))
+
+-- an entry names no number beyond its last
+pub told_below : (es : List Entry) (m : ℕ) → Each (λ (e : Entry). e.to < m) es → Each (λ (t : Told). t.id < m) (expanded es)
+unfolding expanded told_by
+told_below es m each =
+    each_flat (λ (t : Told). t.id < m) told_by es
+    (each_then (λ (e : Entry). e.to < m) (λ e. Each (λ (t : Told). t.id < m) (told_by e)) es each (λ e h.
+    each_mapped (λ (t : Told). t.id < m) (λ b. record { id = b; stamp = e.stamp }) (count_up e.from (run_length e)) (counted_below e.from (run_length e) m (λ some. omega (arith, h, some)))))
+
 abbrev leaves_by : Bool → Bool → Bool → Bool
 leaves_by here named sisters = if here then not named else named && sisters
 
@@ -124,43 +137,43 @@ named_stays true named sisters own e h = own refl
 named_stays false true sisters own e h = not_passed sisters e
 named_stays false false sisters own e h = cc
 
--- each entry's number is named
-each_named : (es : List Entry) → Each (λ x. is_named es x.id ≡ true) es
+-- each number that is told of is named
+each_named : (ts : List Told) → Each (λ (x : Told). is_named ts x.id ≡ true) ts
 unfolding is_named
 each_named [] = tt
-each_named (x ∷ es) = (
-  or_left (x.id == x.id) (list_any (λ e. e.id == x.id) es) (eq-eqb x.id x.id refl),
-  each_then (λ y. list_any (λ e. e.id == y.id) es ≡ true) (λ y. list_any (λ e. e.id == y.id) (x ∷ es) ≡ true) es (each_named es) (λ y h. or_right (x.id == y.id) (list_any (λ e. e.id == y.id) es) h),
+each_named (x ∷ ts) = (
+  or_left (x.id == x.id) (list_any (λ e. e.id == x.id) ts) (eq-eqb x.id x.id refl),
+  each_then (λ y. list_any (λ e. e.id == y.id) ts ≡ true) (λ y. list_any (λ e. e.id == y.id) (x ∷ ts) ≡ true) ts (each_named ts) (λ y h. or_right (x.id == y.id) (list_any (λ e. e.id == y.id) ts) h),
 )
 
-module _ (C : Cluster) (H : Holdings) (s : ℕ) (es : List Entry) where
-  abbrev pub put_by : Entry → ReplicaId × Marks
+module _ (C : Cluster) (H : Holdings) (s : ℕ) (ts : List Told) where
+  abbrev pub put_by : Told → ReplicaId × Marks
   put_by e = (replica_at e.id s, entered H (replica_at e.id s) e.stamp)
 
   abbrev pub stays_by : ReplicaId → Bool
-  stays_by q = not (leaves_by_report C s es q)
+  stays_by q = not (leaves_by_report C s ts q)
 
-  pub report_origin : Holds (λ q m. IsKept H stays_by q m ⊎ IsPut H s (is_named es) q m) (report C H s es).replicas
+  pub report_origin : Holds (λ q m. IsKept H stays_by q m ⊎ IsPut H s (is_named ts) q m) (report C H s ts).replicas
   unfolding report
   report_origin =
-      origin C H s (is_named es) stays_by (map put_by es)
-      (each_mapped (λ e. IsPut H s (is_named es) e.0 e.1) put_by es
-      (each_then (λ x. is_named es x.id ≡ true) (λ x. IsPut H s (is_named es) (put_by x).0 (put_by x).1) es (each_named es) (λ x h. (refl, h, x.stamp, refl))))
+      origin C H s (is_named ts) stays_by (map put_by ts)
+      (each_mapped (λ e. IsPut H s (is_named ts) e.0 e.1) put_by ts
+      (each_then (λ x. is_named ts x.id ≡ true) (λ x. IsPut H s (is_named ts) (put_by x).0 (put_by x).1) ts (each_named ts) (λ x h. (refl, h, x.stamp, refl))))
 
-  pub report_pending : (q : ReplicaId) (r : ℕ) → get (report C H s es).pending q ≡ Some r → get H.pending q ≡ Some r
+  pub report_pending : (q : ReplicaId) (r : ℕ) → get (report C H s ts).pending q ≡ Some r → get H.pending q ≡ Some r
   unfolding report
-  report_pending q r e = (get_kept H.pending (λ q _. not ((q.storage == s) && is_named es q.block)) q r e).0
+  report_pending q r e = (get_kept H.pending (λ q _. not ((q.storage == s) && is_named ts q.block)) q r e).0
 
-  report_apart : (q : ReplicaId) → stays_by q ≡ true → is_named es q.block ≡ true → are_sisters C s q.storage ≡ false
+  report_apart : (q : ReplicaId) → stays_by q ≡ true → is_named ts q.block ≡ true → are_sisters C s q.storage ≡ false
   unfolding leaves_by_report
   report_apart q e h =
-      named_stays (q.storage == s) (is_named es q.block) (are_sisters C s q.storage) (λ here. ap (are_sisters C s) (eqb-true q.storage s here) ∙ no_sister_itself C s) e h
+      named_stays (q.storage == s) (is_named ts q.block) (are_sisters C s q.storage) (λ here. ap (are_sisters C s) (eqb-true q.storage s here) ∙ no_sister_itself C s) e h
 
-  report_blocks : (report C H s es).blocks ≡ H.blocks
+  report_blocks : (report C H s ts).blocks ≡ H.blocks
   unfolding report
   report_blocks = refl
 
-  pub report_lawful : IsLawfulHoldings C H → contains_key C.storages s ≡ true → IsLawfulHoldings C (report C H s es)
+  pub report_lawful : IsLawfulHoldings C H → contains_key C.storages s ≡ true → IsLawfulHoldings C (report C H s ts)
   report_lawful L known =
-      entering_lawful C H s (is_named es) stays_by (report C H s es) L known report_apart report_origin
-      (λ q e. let r = there (get (report C H s es).pending q) e in is_there (get H.pending q) r.0 (report_pending q r.0 r.1)) report_blocks
+      entering_lawful C H s (is_named ts) stays_by (report C H s ts) L known report_apart report_origin
+      (λ q e. let r = there (get (report C H s ts).pending q) e in is_there (get H.pending q) r.0 (report_pending q r.0 r.1)) report_blocks

@@ -8,6 +8,7 @@ use Rattle.bm_base.specs.declared.storage.StorageInfo.{StorageInfo}
 use Rattle.bm_base.specs.Map.{Order, get, len, empty, entries}
 use Rattle.bm_base.specs.State.{first_state, empty_cluster, empty_holdings, by_replica}
 use Rattle.bm_base.specs.Map.{by_number}
+use Rattle.bm_base.specs.Replicas.{drains}
 use Rattle.bm_base.specs.Lawful.{IsLawful}
 use Rattle.bm_base.proofs.MapLaws.{get-empty}
 use Rattle.laws_of_events.specs.Fitting.{HasFittingStart}
@@ -24,10 +25,11 @@ module _ (K X : Type 0) (o : Order K) where
   len_empty = refl
 
 pub first_lawful : (c : Config) → HasFittingStart c → IsLawful (first_state c)
-unfolding empty_cluster empty_holdings
+unfolding empty_cluster empty_holdings drains
 first_lawful c h = record {
   cluster = record {
     alive = λ s i e. absurd (nothing_there ℕ StorageInfo by_number s i e);
+    draining_alive = λ n e. absurd (nothing_known ℕ (Unit {0}) by_number n e);
     few_nodes = omega (arith, len_empty ℕ ℕ by_number);
     few_storages = omega (arith, len_empty ℕ StorageInfo by_number);
   };

@@ -6,7 +6,7 @@ use Rattle.bm_base.specs.declared.call.Call.{Call}
 use Rattle.bm_base.specs.declared.call.Call.TheVariants as call
 use Rattle.bm_base.specs.declared.call.Answer.{Answer}
 use Rattle.bm_base.specs.State.{State, first_state}
-use Rattle.bm_base.specs.Refusals.{refusal_of, round_refusal, storage_refusal, block_refusal, last_number}
+use Rattle.bm_base.specs.Refusals.{refusal_of, round_refusal, node_refusal, storage_refusal, block_refusal, last_number}
 use Rattle.bm_base.specs.Excess.{begun, started}
 use Rattle.bm_base.specs.Rounds.{whole_round}
 use Rattle.bm_base.specs.Calls.{step_with, step, refused_or, counted, state_after}
@@ -43,6 +43,7 @@ step_lawful M call.Missing L h = L
 step_lawful M (call.BlocksOn s) L h = by_refusal M (storage_refusal M.cluster s) _ L (λ _. L)
 step_lawful M (call.Places b) L h = by_refusal M (block_refusal M.holdings b) _ L (λ _. L)
 step_lawful M (call.LevelOf b) L h = by_refusal M (block_refusal M.holdings b) _ L (λ _. L)
+step_lawful M (call.Retired n) L h = by_refusal M (node_refusal M.cluster n) _ L (λ _. L)
 step_lawful M call.Calls L h = L
 step_lawful M call.Rounds L h = L
 
@@ -61,6 +62,7 @@ refusal_leaves M call.Missing r = refl
 refusal_leaves M (call.BlocksOn s) r = left_by_refusal M (storage_refusal M.cluster s) _ _ (λ no. refl) r
 refusal_leaves M (call.Places b) r = left_by_refusal M (block_refusal M.holdings b) _ _ (λ no. refl) r
 refusal_leaves M (call.LevelOf b) r = left_by_refusal M (block_refusal M.holdings b) _ _ (λ no. refl) r
+refusal_leaves M (call.Retired n) r = left_by_refusal M (node_refusal M.cluster n) _ _ (λ no. refl) r
 refusal_leaves M call.Calls r = refl
 refusal_leaves M call.Rounds r = refl
 

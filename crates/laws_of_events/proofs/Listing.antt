@@ -13,7 +13,7 @@ use Rattle.bm_base.specs.declared.level.Level.TheVariants.{Highest, VeryUnderRep
 use Rattle.bm_base.specs.Map.{get, entries, keys}
 use Rattle.bm_base.specs.Lists.{has}
 use Rattle.bm_base.specs.State.{Cluster, Holdings, replica_at}
-use Rattle.bm_base.specs.Replicas.{is_good, is_corrupt, is_usable, is_live_on, live, storages_where, racks, is_multi_rack}
+use Rattle.bm_base.specs.Replicas.{is_good, is_corrupt, is_usable, is_live_on, is_drained_on, is_draining, live, drained, storages_where, racks, is_multi_rack}
 use Rattle.bm_base.specs.Levels.{level_of, level, is_at}
 use Rattle.bm_base.specs.Queries.{all_replicas, replicas_where, missing_blocks, blocks_on}
 use Rattle.bm_base.specs.Lawful.{IsLawfulHoldings}
@@ -135,33 +135,34 @@ places_listed H b s = (
 
 -- Missing blocks.
 
--- the level of a block of which at least one replica is wanted is that of a missing one just where none is live
-no_live_level : (n repl racks : ℕ) (multi : Bool) → is_at NoUsableReplica (level_of n repl racks multi) ≡ true → n ≡ 0
+-- the level of a block of which at least one replica is wanted is that of a missing one just where none is usable
+no_usable_level : (n d repl racks : ℕ) (multi : Bool) → is_at NoUsableReplica (level_of n d repl racks multi) ≡ true → (n ≡ 0) × (d ≡ 0)
 unfolding level_of
-no_live_level n repl racks multi h = by_enough (nat_le repl n) (nat_lt 1 repl && (racks == 1) && multi) h
+no_usable_level n d repl racks multi h = by_enough (nat_le repl n) (nat_lt 1 repl && (racks == 1) && multi) h
   where
-    by_number : (zero_live one_live few : Bool) → (n == 0) ≡ zero_live
-        → is_at NoUsableReplica (Some (if zero_live then NoUsableReplica else if one_live then Highest else if few then VeryUnderReplicated else UnderReplicated)) ≡ true → n ≡ 0
-    by_number true one_live few e h = eqb-true n 0 e
-    by_number false true few e h = cc
-    by_number false false true e h = cc
-    by_number false false false e h = cc
+    by_number : (zero_live one_live few none_drained : Bool) → (n == 0) ≡ zero_live → (d == 0) ≡ none_drained
+        → is_at NoUsableReplica (Some (if zero_live then (if none_drained then NoUsableReplica else Highest) else if one_live then Highest else if few then VeryUnderReplicated else UnderReplicated)) ≡ true → (n ≡ 0) × (d ≡ 0)
+    by_number true one_live few true e f h = (eqb-true n 0 e, eqb-true d 0 f)
+    by_number true one_live few false e f h = cc
+    by_number false true few none_drained e f h = cc
+    by_number false false true none_drained e f h = cc
+    by_number false false false none_drained e f h = cc
 
     by_enough : (enough bad : Bool) → is_at NoUsableReplica (if enough then (if bad then Some BadlyDistributed else None)
-        else Some (if n == 0 then NoUsableReplica else if n == 1 then Highest else if nat_lt (n * 3) repl then VeryUnderReplicated else UnderReplicated)) ≡ true → n ≡ 0
+        else Some (if n == 0 then (if d == 0 then NoUsableReplica else Highest) else if n == 1 then Highest else if nat_lt (n * 3) repl then VeryUnderReplicated else UnderReplicated)) ≡ true → (n ≡ 0) × (d ≡ 0)
     by_enough true true h = cc
     by_enough true false h = cc
-    by_enough false bad h = by_number (n == 0) (n == 1) (nat_lt (n * 3) repl) refl h
+    by_enough false bad h = by_number (n == 0) (n == 1) (nat_lt (n * 3) repl) (d == 0) refl refl h
 
-level_no_live : (repl racks : ℕ) (multi : Bool) → 1 ≤ repl → is_at NoUsableReplica (level_of 0 repl racks multi) ≡ true
+level_none_usable : (repl racks : ℕ) (multi : Bool) → 1 ≤ repl → is_at NoUsableReplica (level_of 0 0 repl racks multi) ≡ true
 unfolding level_of
-level_no_live repl racks multi h = rw (lt-leb repl 0 h) refl
+level_none_usable repl racks multi h = rw (lt-leb repl 0 h) refl
 
-live_marks : (m : Marks) → is_usable m ≡ true → (m.tag ≡ Good) × (m.excess ≡ false)
-live_marks m h = let parts = and_parts (is_good m.tag) (not m.excess) h in (found_good m.tag parts.0, not-true m.excess parts.1)
+usable_marks : (m : Marks) → is_usable m ≡ true → (m.tag ≡ Good) × (m.excess ≡ false)
+usable_marks m h = let parts = and_parts (is_good m.tag) (not m.excess) h in (found_good m.tag parts.0, not-true m.excess parts.1)
 
-marks_live : (m : Marks) → m.tag ≡ Good → m.excess ≡ false → is_usable m ≡ true
-marks_live m e h = and_from (is_good m.tag) (not m.excess) (ap is_good e) (ap not h)
+marks_usable : (m : Marks) → m.tag ≡ Good → m.excess ≡ false → is_usable m ≡ true
+marks_usable m e h = and_from (is_good m.tag) (not m.excess) (ap is_good e) (ap not h)
 
 has_none : (xs : List ℕ) (s : ℕ) → length xs ≡ 0 → has xs s ≡ true → ⊥
 has_none [] s e h = cc
@@ -171,35 +172,49 @@ none_listed : (xs : List ℕ) → ((s : ℕ) → has xs s ≡ true → ⊥) → 
 none_listed [] never = refl
 none_listed (x ∷ xs) never = absurd (never x (ap (λ b. b || has xs x) (eq-eqb x x refl)))
 
+-- a usable replica is live or drained
+live_or_drained : (C : Cluster) (s : ℕ) (m : Marks) → is_usable m ≡ true → (is_live_on C s m ≡ true) ⊎ (is_drained_on C s m ≡ true)
+live_or_drained C s m h = by_node (is_draining C s) refl
+  where
+    by_node : (t : Bool) → is_draining C s ≡ t → (is_live_on C s m ≡ true) ⊎ (is_drained_on C s m ≡ true)
+    by_node true e = inr (and_from (is_usable m) (is_draining C s) h e)
+    by_node false e = inl (and_from (is_usable m) (not (is_draining C s)) h (ap not e))
+
 module _ (C : Cluster) (H : Holdings) (b : ℕ) where
-  abbrev no_level : ℕ → Bool
-  no_level c = is_at NoUsableReplica (level C H c)
+  abbrev missing_level : ℕ → Bool
+  missing_level c = is_at NoUsableReplica (level C H c)
 
-  level_is : (i : BlockInfo) → get H.blocks b ≡ Some i → level C H b ≡ level_of (length (live C H b)) i.repl (length (racks C (live C H b))) (is_multi_rack C)
+  level_is : (i : BlockInfo) → get H.blocks b ≡ Some i → level C H b ≡ level_of (length (live C H b)) (length (drained C H b)) i.repl (length (racks C (live C H b))) (is_multi_rack C)
   unfolding level
-  level_is i e = ap (option_and_then (λ i. level_of (length (live C H b)) i.repl (length (racks C (live C H b))) (is_multi_rack C))) e
+  level_is i e = ap (option_and_then (λ i. level_of (length (live C H b)) (length (drained C H b)) i.repl (length (racks C (live C H b))) (is_multi_rack C))) e
 
-  shown_missing : has (missing_blocks C H) b ≡ list_any (λ e. no_level e.0 && (e.0 == b)) (entries H.blocks)
+  shown_missing : has (missing_blocks C H) b ≡ list_any (λ e. missing_level e.0 && (e.0 == b)) (entries H.blocks)
   unfolding missing_blocks keys
-  shown_missing = any_of_filtered (λ y. y == b) no_level (map (λ e. e.0) (entries H.blocks)) ∙ any_of_mapped (λ y. no_level y && (y == b)) (λ e. e.0) (entries H.blocks)
+  shown_missing = any_of_filtered (λ y. y == b) missing_level (map (λ e. e.0) (entries H.blocks)) ∙ any_of_mapped (λ y. missing_level y && (y == b)) (λ e. e.0) (entries H.blocks)
 
   missing_is : has (missing_blocks C H) b ≡ true → law.IsMissing H b
   missing_is h =
-      let e = entry_passes H.blocks (λ e. no_level e.0 && (e.0 == b)) (sym shown_missing ∙ h) in
-      let parts = and_parts (no_level e.0) (e.0 == b) e.3 in
+      let e = entry_passes H.blocks (λ e. missing_level e.0 && (e.0 == b)) (sym shown_missing ∙ h) in
+      let parts = and_parts (missing_level e.0) (e.0 == b) e.3 in
       let key : e.0 ≡ b = eqb-true e.0 b parts.1 in
       let info : get H.blocks b ≡ Some e.1 = ap (get H.blocks) (sym key) ∙ e.2 in
-      let none : length (live C H b) ≡ 0 =
-      no_live_level (length (live C H b)) e.1.repl (length (racks C (live C H b))) (is_multi_rack C) (ap (is_at NoUsableReplica) (sym (level_is e.1 info)) ∙ ap no_level (sym key) ∙ parts.0) in
-      (e.1, info, λ s held. has_none (live C H b) s none (where_stored (is_live_on C) H b s held.0 held.1 (marks_live held.0 held.2.0 held.2.1)))
+      let none = no_usable_level (length (live C H b)) (length (drained C H b)) e.1.repl (length (racks C (live C H b))) (is_multi_rack C) (ap (is_at NoUsableReplica) (sym (level_is e.1 info)) ∙ ap missing_level (sym key) ∙ parts.0) in
+      (e.1, info, λ s held. no_replica s held.0 held.1 none.0 none.1 (live_or_drained C s held.0 (marks_usable held.0 held.2.0 held.2.1)))
+    where
+      no_replica : (s : ℕ) (m : Marks) → get H.replicas (replica_at b s) ≡ Some m → length (live C H b) ≡ 0 → length (drained C H b) ≡ 0 → (is_live_on C s m ≡ true) ⊎ (is_drained_on C s m ≡ true) → ⊥
+      no_replica s m e none_live none_drained (inl h) = has_none (live C H b) s none_live (where_stored (is_live_on C) H b s m e h)
+      no_replica s m e none_live none_drained (inr h) = has_none (drained C H b) s none_drained (where_stored (is_drained_on C) H b s m e h)
 
   is_missing : IsLawfulHoldings C H → law.IsMissing H b → has (missing_blocks C H) b ≡ true
   is_missing L missing =
-      let none : length (live C H b) ≡ 0 = none_listed (live C H b) (λ s h. let m = stored_where (is_live_on C) H b s h in missing.2 s (m.0, m.1, live_marks m.0 m.2)) in
-      let at : no_level b ≡ true =
-      ap (is_at NoUsableReplica) (level_is missing.0 missing.1) ∙ ap (λ n. is_at NoUsableReplica (level_of n missing.0.repl (length (racks C (live C H b))) (is_multi_rack C))) none
-      ∙ level_no_live missing.0.repl (length (racks C (live C H b))) (is_multi_rack C) (L.replicated b missing.0 missing.1).0 in
-      shown_missing ∙ passes_entry H.blocks (λ e. no_level e.0 && (e.0 == b)) b missing.0 missing.1 (and_from (no_level b) (b == b) at (eq-eqb b b refl))
+      let none_live : length (live C H b) ≡ 0 =
+      none_listed (live C H b) (λ s h. let m = stored_where (is_live_on C) H b s h in missing.2 s (m.0, m.1, usable_marks m.0 (and_parts (is_usable m.0) (not (is_draining C s)) m.2).0)) in
+      let none_drained : length (drained C H b) ≡ 0 =
+      none_listed (drained C H b) (λ s h. let m = stored_where (is_drained_on C) H b s h in missing.2 s (m.0, m.1, usable_marks m.0 (and_parts (is_usable m.0) (is_draining C s) m.2).0)) in
+      let at : missing_level b ≡ true =
+      ap (is_at NoUsableReplica) (level_is missing.0 missing.1) ∙ (λ k. is_at NoUsableReplica (level_of (none_live k) (none_drained k) missing.0.repl (length (racks C (live C H b))) (is_multi_rack C)))
+      ∙ level_none_usable missing.0.repl (length (racks C (live C H b))) (is_multi_rack C) (L.replicated b missing.0 missing.1).0 in
+      shown_missing ∙ passes_entry H.blocks (λ e. missing_level e.0 && (e.0 == b)) b missing.0 missing.1 (and_from (missing_level b) (b == b) at (eq-eqb b b refl))
 
-pub missing_listed : law.missing_have_no_live_replica
+pub missing_listed : law.missing_have_no_usable_replica
 missing_listed C H L b = (missing_is C H b, is_missing C H b L)

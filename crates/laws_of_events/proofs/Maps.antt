@@ -13,7 +13,7 @@ use Rattle.bm_base.specs.Map.{Map, Order, entries, get, insert, insert_all, keep
 use Rattle.bm_base.proofs.MapLaws.{same_map, find_below, get-insert, get-keep, get-revise, get-remove, entries-revise}
 use Rattle.bm_base.proofs.Differences.{len-insert, len-keep-le}
 use Rattle.laws_of_events.proofs.Lists.{Each, each_then, each_mapped}
-use Rattle.laws_of_events.proofs.Options.{is_there, kept, keeps, revised, removed}
+use Rattle.laws_of_events.proofs.Options.{there, is_there, kept, keeps, revised, removed}
 
 equal : (r : Ordering) → is_eq r ≡ true → r ≡ Equal
 equal Less p = cc
@@ -131,6 +131,9 @@ module _ {K X : Type 0} {o : Order K} where
 
   pub known_removed : (m : Map o X) (k q : K) → eq_by_cmp o.cmp q k ≡ false → contains_key m q ≡ true → contains_key (remove m k) q ≡ true
   known_removed m k q e h = ap is_some (get-remove m k q ∙ ap (λ b. cond b None (get m q)) e) ∙ h
+
+  pub known_before : (m : Map o X) (k q : K) → contains_key (remove m k) q ≡ true → (eq_by_cmp o.cmp q k ≡ false) × (contains_key m q ≡ true)
+  known_before m k q e = let x = there (get (remove m k) q) e in let r = get_removed m k q x.0 x.1 in (r.0, is_there (get m q) x.0 r.1)
 
   pub len_revised : (m : Map o X) (f : K → X → X) → len (revise m f) ≡ len m
   unfolding len

@@ -7,13 +7,13 @@ use Rattle.bm_base.specs.declared.replica.ReplicaId.{ReplicaId}
 use Rattle.bm_base.specs.declared.replica.Marks.{Marks}
 use Rattle.bm_base.specs.declared.replica.Stamp.{Stamp}
 use Rattle.bm_base.specs.declared.replica.BlockInfo.{BlockInfo}
-use Rattle.bm_base.specs.declared.event.Entry.{Entry}
 use Rattle.bm_base.specs.declared.event.Event.{Event}
-use Rattle.bm_base.specs.declared.event.Event.TheVariants.{Register, Dead, StorageFailed, Heartbeat, AddBlock, DeleteBlock, SetReplication, Restamp, Received, Deleted, Corrupt, FullReport}
+use Rattle.bm_base.specs.declared.event.Event.TheVariants.{Register, Dead, StorageFailed, Heartbeat, Drain, Undrain, AddBlock, DeleteBlock, SetReplication, Restamp, Received, Deleted, Corrupt, FullReport}
 use Rattle.bm_base.specs.Map.{Map, by_number, get, insert, insert_all, keep, revise, revise_at}
 use Rattle.bm_base.specs.State.{Cluster, Holdings, by_replica, replica_at, replica_cmp}
-use Rattle.bm_base.specs.Replicas.{has_storage, are_sisters}
-use Rattle.bm_base.specs.Events.{was_bad, was_excess, entered_tag, entered, replaces, enter, is_named, leaves_by_report, report, without_pending, revise_block, add_block, delete_block, set_replication, restamp, make_bad, remove_replica, without_storages, change_holdings, as_stray, as_restamped, as_bad}
+use Rattle.bm_base.specs.Replicas.{has_storage, drains, are_sisters}
+use Rattle.bm_base.specs.Entries.{Told, expanded}
+use Rattle.bm_base.specs.Events.{was_bad, was_excess, entered_tag, entered, replaces, enter, is_named, leaves_by_report, report, without_pending, revise_block, add_block, delete_block, set_replication, restamp, make_bad, remove_replica, without_storages, without_transfers_to_drained, change_holdings, as_stray, as_restamped, as_bad}
 use Rattle.bm_base.specs.Shards.{shard_of, cut}
 use Rattle.bm_base.proofs.Keeping.{keep-insert, keep-keep, keep-remove}
 use Rattle.bm_base.proofs.MapLaws.{same_map}
@@ -178,47 +178,59 @@ module _ (index shards : ℕ) where
       (part_inserted_other own_replica stay p (entered H p stamp) h ∙ part_kept_others own_replica H.replicas (λ q. not (replaces C p q)) (λ q t. not_replaced C p q h t))
       (part_removed_other own_replica H.pending p h)
 
+  cut_either : (t : Bool) (H G Q : Holdings) → cut G index shards ≡ Q → cut (if t then H else G) index shards ≡ (if t then cut H index shards else Q)
+  cut_either true H G Q e = refl
+  cut_either false H G Q e = e
+
+  transfers_leave : (C : Cluster) (H : Holdings) (n : ℕ) → cut (without_transfers_to_drained C H n) index shards ≡ without_transfers_to_drained C (cut H index shards) n
+  unfolding cut without_transfers_to_drained
+  transfers_leave C H n =
+      let G : Holdings = record H { pending = keep H.pending (λ q _. not (has_storage C n q.storage)) } in
+      let P : Holdings = cut H index shards in
+      let Q : Holdings = record P { pending = keep P.pending (λ q _. not (has_storage C n q.storage)) } in
+      cut_either (drains C n) H G Q (cut_to G Q refl refl (keep-keep H.pending (λ q _. own_replica q) (λ q _. not (has_storage C n q.storage))))
+
   -- Full reports.
 
-  named_head : (x : Entry) (es : List Entry) (b : ℕ) (t : Bool) → own x.id ≡ t → own b ≡ true → is_named (cond t (x ∷ es) es) b ≡ ((x.id == b) || is_named es b)
+  named_head : (x : Told) (ts : List Told) (b : ℕ) (t : Bool) → own x.id ≡ t → own b ≡ true → is_named (cond t (x ∷ ts) ts) b ≡ ((x.id == b) || is_named ts b)
   unfolding is_named
-  named_head x es b true e h = refl
-  named_head x es b false e h = ap (λ c. c || is_named es b) (sym (turned (x.id == b) refl))
+  named_head x ts b true e h = refl
+  named_head x ts b false e h = ap (λ c. c || is_named ts b) (sym (turned (x.id == b) refl))
     where
       turned : (t : Bool) → (x.id == b) ≡ t → t ≡ false
       turned true t = absurd (true≢false (sym h ∙ ap own (sym (eqb-true x.id b t)) ∙ e))
       turned false t = refl
 
-  named_own : (es : List Entry) (b : ℕ) → own b ≡ true → is_named (law.entries_of index shards es) b ≡ is_named es b
+  named_own : (ts : List Told) (b : ℕ) → own b ≡ true → is_named (law.told_of index shards ts) b ≡ is_named ts b
   unfolding is_named
   named_own [] b h = refl
-  named_own (x ∷ es) b h = named_head x (law.entries_of index shards es) b (own x.id) refl h ∙ ap (λ c. (x.id == b) || c) (named_own es b h)
+  named_own (x ∷ ts) b h = named_head x (law.told_of index shards ts) b (own x.id) refl h ∙ ap (λ c. (x.id == b) || c) (named_own ts b h)
 
   module _ (C : Cluster) (H : Holdings) (s : ℕ) where
-    abbrev put_in : Holdings → Entry → ReplicaId × Marks
+    abbrev put_in : Holdings → Told → ReplicaId × Marks
     put_in G e = (replica_at e.id s, entered G (replica_at e.id s) e.stamp)
 
-    put_head : (x : Entry) (es : List Entry) (t : Bool) → own x.id ≡ t → cond t (put_in H x ∷ map (put_in (cut H index shards)) es) (map (put_in (cut H index shards)) es) ≡ map (put_in (cut H index shards)) (cond t (x ∷ es) es)
-    put_head x es true h = ap (λ m. (replica_at x.id s, m) ∷ map (put_in (cut H index shards)) es) (sym (entered_own H (replica_at x.id s) x.stamp h))
-    put_head x es false h = refl
+    put_head : (x : Told) (ts : List Told) (t : Bool) → own x.id ≡ t → cond t (put_in H x ∷ map (put_in (cut H index shards)) ts) (map (put_in (cut H index shards)) ts) ≡ map (put_in (cut H index shards)) (cond t (x ∷ ts) ts)
+    put_head x ts true h = ap (λ m. (replica_at x.id s, m) ∷ map (put_in (cut H index shards)) ts) (sym (entered_own H (replica_at x.id s) x.stamp h))
+    put_head x ts false h = refl
 
-    puts_own : (es : List Entry) → filter (λ e. own_replica e.0) (map (put_in H) es) ≡ map (put_in (cut H index shards)) (law.entries_of index shards es)
+    puts_own : (ts : List Told) → filter (λ e. own_replica e.0) (map (put_in H) ts) ≡ map (put_in (cut H index shards)) (law.told_of index shards ts)
     puts_own [] = refl
-    puts_own (x ∷ es) = ap (λ rest. cond (own x.id) (put_in H x ∷ rest) rest) (puts_own es) ∙ put_head x (law.entries_of index shards es) (own x.id) refl
+    puts_own (x ∷ ts) = ap (λ rest. cond (own x.id) (put_in H x ∷ rest) rest) (puts_own ts) ∙ put_head x (law.told_of index shards ts) (own x.id) refl
 
-    leaves_alike : (es : List Entry) (q : ReplicaId) → own q.block ≡ true → not (leaves_by_report C s es q) ≡ not (leaves_by_report C s (law.entries_of index shards es) q)
+    leaves_alike : (ts : List Told) (q : ReplicaId) → own q.block ≡ true → not (leaves_by_report C s ts q) ≡ not (leaves_by_report C s (law.told_of index shards ts) q)
     unfolding leaves_by_report
-    leaves_alike es q h = ap (λ n. not (if q.storage == s then not n else n && are_sisters C s q.storage)) (sym (named_own es q.block h))
+    leaves_alike ts q h = ap (λ n. not (if q.storage == s then not n else n && are_sisters C s q.storage)) (sym (named_own ts q.block h))
 
-    reported_cut : (es : List Entry) → cut (report C H s es) index shards ≡ report C (cut H index shards) s (law.entries_of index shards es)
+    reported_cut : (ts : List Told) → cut (report C H s ts) index shards ≡ report C (cut H index shards) s (law.told_of index shards ts)
     unfolding cut report
-    reported_cut es =
-        let own_es : List Entry = law.entries_of index shards es in
-        cut_to (report C H s es) (report C (cut H index shards) s own_es) refl
-        (part_inserted_all own_replica (keep H.replicas (λ q _. not (leaves_by_report C s es q))) (map (put_in H) es)
-        ∙ (λ i. insert_all (part_kept own_replica H.replicas (λ q. not (leaves_by_report C s es q)) (λ q. not (leaves_by_report C s own_es q)) (λ q t. leaves_alike es q t) i) (puts_own es i)))
-        (part_kept own_replica H.pending (λ q. not ((q.storage == s) && is_named es q.block)) (λ q. not ((q.storage == s) && is_named own_es q.block))
-        (λ q t. ap (λ n. not ((q.storage == s) && n)) (sym (named_own es q.block t))))
+    reported_cut ts =
+        let own_ts : List Told = law.told_of index shards ts in
+        cut_to (report C H s ts) (report C (cut H index shards) s own_ts) refl
+        (part_inserted_all own_replica (keep H.replicas (λ q _. not (leaves_by_report C s ts q))) (map (put_in H) ts)
+        ∙ (λ i. insert_all (part_kept own_replica H.replicas (λ q. not (leaves_by_report C s ts q)) (λ q. not (leaves_by_report C s own_ts q)) (λ q t. leaves_alike ts q t) i) (puts_own ts i)))
+        (part_kept own_replica H.pending (λ q. not ((q.storage == s) && is_named ts q.block)) (λ q. not ((q.storage == s) && is_named own_ts q.block))
+        (λ q t. ap (λ n. not ((q.storage == s) && n)) (sym (named_own ts q.block t))))
 
   -- All events.
 
@@ -237,9 +249,11 @@ module _ (index shards : ℕ) where
   part_changed C H (Received s b stamp) = by_own _ _ _ (own b) (entered_cut C H (replica_at b s) stamp) (entered_other C H (replica_at b s) stamp)
   part_changed C H (Deleted s b) = by_own _ _ _ (own b) (λ _. removed_own H (replica_at b s)) (removed_other H (replica_at b s))
   part_changed C H (Corrupt s b) = by_own _ _ _ (own b) (λ _. found_own H (replica_at b s)) (found_other H (replica_at b s))
-  part_changed C H (FullReport s es) = reported_cut C H s es
+  part_changed C H (FullReport s es) = reported_cut C H s (expanded es)
   part_changed C H (Register n rack ss) = refl
   part_changed C H (Heartbeat n rs) = refl
+  part_changed C H (Drain n) = transfers_leave C H n
+  part_changed C H (Undrain n) = refl
 
 pub parts_changed : law.parts_change_by_themselves
 parts_changed C H e index shards = part_changed index shards C H e
@@ -251,6 +265,8 @@ not_concerned C P (Register n rack ss) b index shards is other = cc
 not_concerned C P (Dead n) b index shards is other = cc
 not_concerned C P (StorageFailed s) b index shards is other = cc
 not_concerned C P (Heartbeat n rs) b index shards is other = cc
+not_concerned C P (Drain n) b index shards is other = cc
+not_concerned C P (Undrain n) b index shards is other = cc
 not_concerned C P (AddBlock c stamp repl) b index shards is other = if_same (shard_of c shards == index) _ P (ap (λ x. shard_of x shards == index) (same_Some c b is) ∙ other)
 not_concerned C P (DeleteBlock c) b index shards is other = if_same (shard_of c shards == index) _ P (ap (λ x. shard_of x shards == index) (same_Some c b is) ∙ other)
 not_concerned C P (SetReplication c repl) b index shards is other = if_same (shard_of c shards == index) _ P (ap (λ x. shard_of x shards == index) (same_Some c b is) ∙ other)

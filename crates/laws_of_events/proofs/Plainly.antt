@@ -9,7 +9,7 @@ use Rattle.bm_base.specs.declared.storage.StorageInfo.{StorageInfo}
 use Rattle.bm_base.specs.Map.{get, contains_key}
 use Rattle.bm_base.specs.State.{Cluster, State, first_state}
 use Rattle.bm_base.specs.Calls.{state_after}
-use Rattle.bm_base.specs.Replicas.{is_good, is_stray, node_of, has_storage, are_sisters}
+use Rattle.bm_base.specs.Replicas.{is_good, is_stray, drains, node_of, has_storage, are_sisters}
 use Rattle.bm_base.specs.Lawful.{IsLawful, IsLawfulCluster}
 use Rattle.laws_of_events.proofs.Options.{there, not_there}
 use Rattle.laws_of_events.proofs.Clusters.{node_is, is_on}
@@ -56,10 +56,12 @@ redone a true e h = refl
 redone a false e h = absurd (true≢false (sym e ∙ h))
 
 pub plainly : (M : State) → IsLawful M → ((p : ReplicaId) → is_some (get M.holdings.pending p) ≡ true → get M.holdings.replicas p ≡ None) → law.SoundState M
+unfolding drains
 plainly M L coming =
     let H = L.holdings in
     record {
       replicas_alive = λ p is. alive_node M.cluster L.cluster p.storage (H.stored p is);
+      draining_alive = L.cluster.draining_alive;
       transfers_alive = λ p is. alive_node M.cluster L.cluster p.storage (H.pending_stored p is);
       one_on_a_node = λ p q i j e f block at_p at_q node.
           let storage : q.storage ≡ p.storage = no_sister_same M.cluster p.storage q.storage i j at_p at_q node (H.once p q e f block) in

@@ -1,10 +1,13 @@
 -- The laws of reports.
-use Rattle.std.proofs.Common.{◌≡◌, ◌≢◌, ℕ, Bool, true, false, cond, not, ◌&&◌, Option, Some, None, is_some, List, [], ◌∷◌, ◌++◌, filter, length, count_by, refl, sym, ap, subst, ◌∙◌, ◌⊎◌, inl, inr, eqb-true, eq-eqb, ne_eqb}
-use Rattle.std.specs.Prelude.{◌==◌, if◌then◌else◌}
+use Rattle.std.proofs.Common.{◌≡◌, ◌≢◌, ℕ, ◌+◌, ◌-◌, ◌≤◌, Bool, true, false, cond, not, ◌&&◌, ◌||◌, Option, Some, None, is_some, List, [], ◌∷◌, ◌++◌, map, filter, length, count_by, refl, sym, ap, subst, ◌∙◌, ◌⊎◌, inl, inr, eqb-true, eq-eqb, ne_eqb, arith}
+use Rattle.std.specs.Prelude.{◌==◌, nat_le, nat_lt, if◌then◌else◌}
 use Rattle.std.specs.Option.{option_map_or}
 use Rattle.std.specs.Ordering.{eq_by_cmp}
 use Rattle.std.proofs.lemmas.Bool.{eqb-false, and_right}
 use Rattle.std.proofs.lemmas.List.Sums.{length-filter}
+use Rattle.std.proofs.lemmas.List.{map-append, append_assoc}
+use Rattle.std.proofs.lemmas.List.Folds.{list_any-append}
+use Rattle.std.proofs.lemmas.Bool.Decides.{nat_tests}
 use Rattle.bm_base.specs.declared.replica.ReplicaId.{ReplicaId}
 use Rattle.bm_base.specs.declared.replica.Tag.{Tag}
 use Rattle.bm_base.specs.declared.replica.Tag.TheVariants.{Good, Stale, Bad}
@@ -17,11 +20,13 @@ use Rattle.bm_base.specs.Map.{Map, get, keep, contains_key, entries}
 use Rattle.bm_base.specs.Lists.{has}
 use Rattle.bm_base.specs.State.{Cluster, Holdings, State, by_replica, replica_at, replica_cmp}
 use Rattle.bm_base.specs.Replicas.{is_good, is_bad, is_stray, are_sisters}
+use Rattle.bm_base.specs.Entries.{Told, count_up, expanded}
 use Rattle.bm_base.specs.Events.{was_bad, was_excess, same_stamp, entered_tag, entered, replaces, enter, is_named, leaves_by_report, report, change_cluster, change_holdings}
 use Rattle.bm_base.specs.Calls.{new_replicas, done, done_by, after_event}
 use Rattle.bm_base.specs.Lawful.{IsLawfulHoldings}
 use Rattle.bm_base.proofs.MapLaws.{same_map, get-keep, get-insert}
 use Rattle.bm_base.proofs.Ties.{replica_tie}
+use Rattle.bm_base.proofs.Entries.{expanded-++, told_by-around, ids_told, has-count_up}
 use Rattle.laws_of_events.proofs.Options.{there, staying, none_stays, all_stays, stays_twice}
 use Rattle.laws_of_events.proofs.Lists.{Each, each_then}
 use Rattle.laws_of_events.proofs.Maps.{each_entry, get_here}
@@ -31,7 +36,7 @@ use Rattle.laws_of_events.proofs.Telling.{tag_where, told_marks}
 use Rattle.laws_of_events.proofs.Reporting.{last_stamp, named_since, named_numbers, last_is, put_or, reported_here, reported_elsewhere}
 use Rattle.laws_of_events.specs.Reports as law
 
-pub held_report : (M : State) (s : ℕ) (es : List Entry) → law.held_after M (FullReport s es) ≡ report M.cluster M.holdings s es
+pub held_report : (M : State) (s : ℕ) (es : List Entry) → law.held_after M (FullReport s es) ≡ report M.cluster M.holdings s (expanded es)
 unfolding after_event change_holdings
 held_report M s es = refl
 
@@ -41,35 +46,55 @@ held_received M s b stamp = refl
 
 -- Which replicas are there.
 
-module _ (C : Cluster) (H : Holdings) (s : ℕ) (es : List Entry) where
+module _ (C : Cluster) (H : Holdings) (s : ℕ) (ts : List Told) where
   -- on the storage only named ones stay
-  leaves_here : (b : ℕ) → is_named es b ≡ false → stays_by C H s es (replica_at b s) ≡ false
+  leaves_here : (b : ℕ) → is_named ts b ≡ false → stays_by C H s ts (replica_at b s) ≡ false
   unfolding leaves_by_report
   leaves_here b e = rw (eq-eqb s s refl, e) refl
 
-  unnamed_leaves : (b : ℕ) → last_stamp es b ≡ None → get (keep H.replicas (λ q _. stays_by C H s es q)) (replica_at b s) ≡ None
+  unnamed_leaves : (b : ℕ) → last_stamp ts b ≡ None → get (keep H.replicas (λ q _. stays_by C H s ts q)) (replica_at b s) ≡ None
   unnamed_leaves b e =
-      get-keep H.replicas (λ q _. stays_by C H s es q) (replica_at b s)
-      ∙ none_stays (stays_by C H s es (replica_at b s)) (get H.replicas (replica_at b s)) (leaves_here b (sym (named_since es b) ∙ ap is_some e))
+      get-keep H.replicas (λ q _. stays_by C H s ts q) (replica_at b s)
+      ∙ none_stays (stays_by C H s ts (replica_at b s)) (get H.replicas (replica_at b s)) (leaves_here b (sym (named_since ts b) ∙ ap is_some e))
 
-  there_by : (b : ℕ) (o : Option Stamp) → last_stamp es b ≡ o → is_some (put_or C H s b o (get (keep H.replicas (λ q _. stays_by C H s es q)) (replica_at b s))) ≡ is_some o
+  there_by : (b : ℕ) (o : Option Stamp) → last_stamp ts b ≡ o → is_some (put_or C H s b o (get (keep H.replicas (λ q _. stays_by C H s ts q)) (replica_at b s))) ≡ is_some o
   there_by b None e = ap is_some (unnamed_leaves b e)
   there_by b (Some t) e = refl
 
-  has_named : (b : ℕ) → contains_key (report C H s es).replicas (replica_at b s) ≡ is_named es b
-  has_named b = ap is_some (reported_here C H s es b) ∙ there_by b (last_stamp es b) refl ∙ named_since es b
+  has_named : (b : ℕ) → contains_key (report C H s ts).replicas (replica_at b s) ≡ is_named ts b
+  has_named b = ap is_some (reported_here C H s ts b) ∙ there_by b (last_stamp ts b) refl ∙ named_since ts b
 
 pub tells_all : (M : State) (s : ℕ) (es : List Entry) (b : ℕ) → contains_key (law.held_after M (FullReport s es)).replicas (replica_at b s) ≡ has (law.numbers_of es) b
-tells_all M s es b = ap (λ G. contains_key G.replicas (replica_at b s)) (held_report M s es) ∙ has_named M.cluster M.holdings s es b ∙ named_numbers es b
+tells_all M s es b = ap (λ G. contains_key G.replicas (replica_at b s)) (held_report M s es) ∙ has_named M.cluster M.holdings s (expanded es) b ∙ named_numbers (expanded es) b
 
-pub last_decides : (M : State) (s : ℕ) (front : List Entry) (e : Entry) (behind : List Entry) → has (law.numbers_of behind) e.id ≡ false
-    → (m : Marks) × (get (law.held_after M (FullReport s (front ++ (e ∷ behind)))).replicas (replica_at e.id s) ≡ Some m) × law.HasToldMarks M.holdings (replica_at e.id s) e.stamp m
-last_decides M s front e behind h =
-    let es = front ++ (e ∷ behind) in
-    let z = get (keep M.holdings.replicas (λ q _. stays_by M.cluster M.holdings s es q)) (replica_at e.id s) in (
-      entered M.holdings (replica_at e.id s) e.stamp,
-      ap (λ G. get G.replicas (replica_at e.id s)) (held_report M s es) ∙ reported_here M.cluster M.holdings s es e.id ∙ ap (λ o. put_or M.cluster M.holdings s e.id o z) (last_is front e behind h),
-      told_marks M.holdings (replica_at e.id s) e.stamp,
+not_past : (b n : ℕ) → (nat_le (b + 1) b && nat_lt b n) ≡ false
+not_past b n = grind (arith, nat_tests)
+
+-- what is told last of a number of a run
+around : (front : List Entry) (e : Entry) (behind : List Entry) (b : ℕ) → e.from ≤ b → b ≤ e.to → has (law.numbers_of behind) b ≡ false → last_stamp (expanded (front ++ (e ∷ behind))) b ≡ Some e.stamp
+unfolding expanded
+around front e behind b low high h =
+    let tell : ℕ → Told = λ c. record { id = c; stamp = e.stamp } in
+    let before : List Told = map tell (count_up e.from (b - e.from)) in
+    let after : List Told = map tell (count_up (b + 1) (e.to - b)) in
+    let list : expanded (front ++ (e ∷ behind)) ≡ (expanded front ++ before) ++ (tell b ∷ (after ++ expanded behind)) =
+    expanded-++ front (e ∷ behind) ∙ ap (λ xs. expanded front ++ (xs ++ expanded behind)) (told_by-around e b low high)
+    ∙ ap (λ xs. expanded front ++ xs) (append_assoc before (tell b ∷ after) (expanded behind)) ∙ sym (append_assoc (expanded front) before (tell b ∷ (after ++ expanded behind))) in
+    let none : has (map (λ (t : Told). t.id) (after ++ expanded behind)) b ≡ false =
+    ap (λ xs. has xs b) (map-append (λ (t : Told). t.id) after (expanded behind)) ∙ list_any-append (λ c. c == b) (map (λ (t : Told). t.id) after) (law.numbers_of behind)
+    ∙ (λ i. past i || h i) in
+    ap (λ ts. last_stamp ts b) list ∙ last_is (expanded front ++ before) (tell b) (after ++ expanded behind) none
+  where
+    past : has (map (λ (t : Told). t.id) (map {B = Told} (λ c. record { id = c; stamp = e.stamp }) (count_up (b + 1) (e.to - b)))) b ≡ false
+    past = ap (λ xs. has xs b) (ids_told e.stamp (count_up (b + 1) (e.to - b))) ∙ has-count_up (b + 1) (e.to - b) b ∙ not_past b (b + 1 + (e.to - b))
+
+pub last_decides : law.last_entry_decides
+last_decides M s front e behind b low high h =
+    let ts = expanded (front ++ (e ∷ behind)) in
+    let z = get (keep M.holdings.replicas (λ q _. stays_by M.cluster M.holdings s ts q)) (replica_at b s) in (
+      entered M.holdings (replica_at b s) e.stamp,
+      ap (λ G. get G.replicas (replica_at b s)) (held_report M s (front ++ (e ∷ behind))) ∙ reported_here M.cluster M.holdings s ts b ∙ ap (λ o. put_or M.cluster M.holdings s b o z) (around front e behind b low high h),
+      told_marks M.holdings (replica_at b s) e.stamp,
     )
 
 -- The same report again.
@@ -117,46 +142,46 @@ keep_twice m p =
     same_map _ _ (λ q.
     get-keep (keep m (λ q _. p q)) (λ q _. p q) q ∙ ap (staying (p q)) (get-keep m (λ q _. p q) q) ∙ stays_twice (p q) (get m q) ∙ sym (get-keep m (λ q _. p q) q))
 
-module _ (C : Cluster) (H : Holdings) (s : ℕ) (es : List Entry) where
+module _ (C : Cluster) (H : Holdings) (s : ℕ) (ts : List Told) where
   abbrev told : Holdings
-  told = report C H s es
+  told = report C H s ts
 
   told_blocks : told.blocks ≡ H.blocks
   unfolding report
   told_blocks = refl
 
-  again_here : (b : ℕ) (o : Option Stamp) → last_stamp es b ≡ o → get (report C told s es).replicas (replica_at b s) ≡ get told.replicas (replica_at b s)
+  again_here : (b : ℕ) (o : Option Stamp) → last_stamp ts b ≡ o → get (report C told s ts).replicas (replica_at b s) ≡ get told.replicas (replica_at b s)
   again_here b None e =
-      let gone : get told.replicas (replica_at b s) ≡ None = reported_here C H s es b ∙ ap (λ o. put_or C H s b o (get (keep H.replicas (λ q _. stays_by C H s es q)) (replica_at b s))) e ∙ unnamed_leaves C H s es b e in
-      reported_here C told s es b ∙ ap (λ o. put_or C told s b o (get (keep told.replicas (λ q _. stays_by C told s es q)) (replica_at b s))) e ∙ unnamed_leaves C told s es b e ∙ sym gone
+      let gone : get told.replicas (replica_at b s) ≡ None = reported_here C H s ts b ∙ ap (λ o. put_or C H s b o (get (keep H.replicas (λ q _. stays_by C H s ts q)) (replica_at b s))) e ∙ unnamed_leaves C H s ts b e in
+      reported_here C told s ts b ∙ ap (λ o. put_or C told s b o (get (keep told.replicas (λ q _. stays_by C told s ts q)) (replica_at b s))) e ∙ unnamed_leaves C told s ts b e ∙ sym gone
   again_here b (Some t) e =
-      let now : get told.replicas (replica_at b s) ≡ Some (entered H (replica_at b s) t) = reported_here C H s es b ∙ ap (λ o. put_or C H s b o (get (keep H.replicas (λ q _. stays_by C H s es q)) (replica_at b s))) e in
-      reported_here C told s es b ∙ ap (λ o. put_or C told s b o (get (keep told.replicas (λ q _. stays_by C told s es q)) (replica_at b s))) e
+      let now : get told.replicas (replica_at b s) ≡ Some (entered H (replica_at b s) t) = reported_here C H s ts b ∙ ap (λ o. put_or C H s b o (get (keep H.replicas (λ q _. stays_by C H s ts q)) (replica_at b s))) e in
+      reported_here C told s ts b ∙ ap (λ o. put_or C told s b o (get (keep told.replicas (λ q _. stays_by C told s ts q)) (replica_at b s))) e
       ∙ ap Some (entered_again H told (replica_at b s) t told_blocks now) ∙ sym now
 
-  again_elsewhere : (q : ReplicaId) → q.storage ≢ s → get (report C told s es).replicas q ≡ get told.replicas q
+  again_elsewhere : (q : ReplicaId) → q.storage ≢ s → get (report C told s ts).replicas q ≡ get told.replicas q
   again_elsewhere q other =
-      let once : get told.replicas q ≡ staying (stays_by C H s es q) (get H.replicas q) = reported_elsewhere C H s es q other ∙ get-keep H.replicas (λ q _. stays_by C H s es q) q in
-      reported_elsewhere C told s es q other ∙ get-keep told.replicas (λ q _. stays_by C told s es q) q ∙ ap (staying (stays_by C H s es q)) once ∙ stays_twice (stays_by C H s es q) (get H.replicas q) ∙ sym once
+      let once : get told.replicas q ≡ staying (stays_by C H s ts q) (get H.replicas q) = reported_elsewhere C H s ts q other ∙ get-keep H.replicas (λ q _. stays_by C H s ts q) q in
+      reported_elsewhere C told s ts q other ∙ get-keep told.replicas (λ q _. stays_by C told s ts q) q ∙ ap (staying (stays_by C H s ts q)) once ∙ stays_twice (stays_by C H s ts q) (get H.replicas q) ∙ sym once
 
-  again_at : (q : ReplicaId) → get (report C told s es).replicas q ≡ get told.replicas q
+  again_at : (q : ReplicaId) → get (report C told s ts).replicas q ≡ get told.replicas q
   again_at q =
-      elim (q.storage == s) as (λ t. (q.storage == s) ≡ t → get (report C told s es).replicas q ≡ get told.replicas q) [
-        | true ↦ λ t. subst (λ c. get (report C told s es).replicas (replica_at q.block c) ≡ get told.replicas (replica_at q.block c)) (sym (eqb-true q.storage s t)) (again_here q.block (last_stamp es q.block) refl)
+      elim (q.storage == s) as (λ t. (q.storage == s) ≡ t → get (report C told s ts).replicas q ≡ get told.replicas q) [
+        | true ↦ λ t. subst (λ c. get (report C told s ts).replicas (replica_at q.block c) ≡ get told.replicas (replica_at q.block c)) (sym (eqb-true q.storage s t)) (again_here q.block (last_stamp ts q.block) refl)
         | false ↦ λ t. again_elsewhere q (eqb-false q.storage s t)
       ] refl
 
-  again_pending : (report C told s es).pending ≡ told.pending
+  again_pending : (report C told s ts).pending ≡ told.pending
   unfolding report
-  again_pending = keep_twice H.pending (λ q. not ((q.storage == s) && is_named es q.block))
+  again_pending = keep_twice H.pending (λ q. not ((q.storage == s) && is_named ts q.block))
 
-  again_blocks : (report C told s es).blocks ≡ told.blocks
+  again_blocks : (report C told s ts).blocks ≡ told.blocks
   unfolding report
   again_blocks = refl
 
-  pub report_again : report C told s es ≡ told
+  pub report_again : report C told s ts ≡ told
   report_again =
-      let replicas : (report C told s es).replicas ≡ told.replicas = same_map _ _ again_at in
+      let replicas : (report C told s ts).replicas ≡ told.replicas = same_map _ _ again_at in
       λ i. record { blocks = again_blocks i; replicas = replicas i; pending = again_pending i }
 
 none_left : {X : Type 0} (p : X → Bool) (xs : List X) → Each (λ x. p x ≡ false) xs → length (filter p xs) ≡ 0
@@ -175,31 +200,31 @@ none_done : (G : Holdings) → done G G ≡ record { added = 0; removed = 0 }
 unfolding done
 none_done G = λ i. record { added = none_new G.replicas i; removed = none_new G.replicas i }
 
-same_answer : (M : State) (s : ℕ) (es : List Entry) → done_by (after_event M (FullReport s es)) (FullReport s es) ≡ done (report M.cluster M.holdings s es) (report M.cluster (report M.cluster M.holdings s es) s es)
+same_answer : (M : State) (s : ℕ) (es : List Entry) → done_by (after_event M (FullReport s es)) (FullReport s es) ≡ done (report M.cluster M.holdings s (expanded es)) (report M.cluster (report M.cluster M.holdings s (expanded es)) s (expanded es))
 unfolding done_by after_event change_holdings change_cluster
 same_answer M s es = refl
 
-held_again : (M : State) (s : ℕ) (es : List Entry) → law.held_after (after_event M (FullReport s es)) (FullReport s es) ≡ report M.cluster (report M.cluster M.holdings s es) s es
+held_again : (M : State) (s : ℕ) (es : List Entry) → law.held_after (after_event M (FullReport s es)) (FullReport s es) ≡ report M.cluster (report M.cluster M.holdings s (expanded es)) s (expanded es)
 unfolding after_event change_holdings change_cluster
 held_again M s es = refl
 
 pub second_changes_nothing : law.second_report_changes_nothing
 second_changes_nothing M s es =
-    let again = report_again M.cluster M.holdings s es in
-    (held_again M s es ∙ again ∙ sym (held_report M s es), same_answer M s es ∙ ap (done (report M.cluster M.holdings s es)) again ∙ none_done (report M.cluster M.holdings s es))
+    let again = report_again M.cluster M.holdings s (expanded es) in
+    (held_again M s es ∙ again ∙ sym (held_report M s es), same_answer M s es ∙ ap (done (report M.cluster M.holdings s (expanded es))) again ∙ none_done (report M.cluster M.holdings s (expanded es)))
 
 -- Other nodes.
 
-stays_where : (C : Cluster) (H : Holdings) (s : ℕ) (es : List Entry) (p : ReplicaId) → p.storage ≢ s → are_sisters C s p.storage ≡ false → stays_by C H s es p ≡ true
+stays_where : (C : Cluster) (H : Holdings) (s : ℕ) (ts : List Told) (p : ReplicaId) → p.storage ≢ s → are_sisters C s p.storage ≡ false → stays_by C H s ts p ≡ true
 unfolding leaves_by_report
-stays_where C H s es p other h = rw (ne_eqb p.storage s other, h) (ap not (and_right (is_named es p.block) false refl))
+stays_where C H s ts p other h = rw (ne_eqb p.storage s other, h) (ap not (and_right (is_named ts p.block) false refl))
 
 pub report_leaves_others : law.report_leaves_other_nodes
 report_leaves_others M s es p apart =
     let C = M.cluster in
     let H = M.holdings in
-    ap (λ G. get G.replicas p) (held_report M s es) ∙ reported_elsewhere C H s es p apart.0 ∙ get-keep H.replicas (λ q _. stays_by C H s es q) p
-    ∙ all_stays (stays_by C H s es p) (get H.replicas p) (stays_where C H s es p apart.0 (no_sisters C s p.storage apart.1))
+    ap (λ G. get G.replicas p) (held_report M s es) ∙ reported_elsewhere C H s (expanded es) p apart.0 ∙ get-keep H.replicas (λ q _. stays_by C H s (expanded es) q) p
+    ∙ all_stays (stays_by C H s (expanded es) p) (get H.replicas p) (stays_where C H s (expanded es) p apart.0 (no_sisters C s p.storage apart.1))
 
 not_replaced : (C : Cluster) (p q : ReplicaId) → are_sisters C p.storage q.storage ≡ false → not (replaces C p q) ≡ true
 unfolding replaces
@@ -244,9 +269,9 @@ bad_told C H s named stays L p m bad (inr put) = let i = known_since_bad C H L p
 
 pub report_leaves_bad : law.report_leaves_bad_bad
 report_leaves_bad s es M L p bad is =
-    let G = report M.cluster M.holdings s es in
+    let G = report M.cluster M.holdings s (expanded es) in
     let m = there (get G.replicas p) (sym (ap (λ G. is_some (get G.replicas p)) (held_report M s es)) ∙ is) in
-    (m.0, ap (λ G. get G.replicas p) (held_report M s es) ∙ m.1, bad_told M.cluster M.holdings s (is_named es) (stays_by M.cluster M.holdings s es) L.holdings p m.0 bad (report_origin M.cluster M.holdings s es p m.0 m.1))
+    (m.0, ap (λ G. get G.replicas p) (held_report M s es) ∙ m.1, bad_told M.cluster M.holdings s (is_named (expanded es)) (stays_by M.cluster M.holdings s (expanded es)) L.holdings p m.0 bad (report_origin M.cluster M.holdings s (expanded es) p m.0 m.1))
 
 pub received_leaves_bad : law.received_leaves_bad_bad
 received_leaves_bad s b stamp M L p bad is =

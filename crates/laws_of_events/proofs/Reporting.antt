@@ -7,10 +7,10 @@ use Rattle.std.proofs.lemmas.Bool.{and_right}
 use Rattle.bm_base.specs.declared.replica.ReplicaId.{ReplicaId}
 use Rattle.bm_base.specs.declared.replica.Marks.{Marks}
 use Rattle.bm_base.specs.declared.replica.Stamp.{Stamp}
-use Rattle.bm_base.specs.declared.event.Entry.{Entry}
 use Rattle.bm_base.specs.Map.{Map, get, insert, insert_all, keep}
 use Rattle.bm_base.specs.Lists.{has}
 use Rattle.bm_base.specs.State.{Cluster, Holdings, by_replica, replica_at, replica_cmp}
+use Rattle.bm_base.specs.Entries.{Told}
 use Rattle.bm_base.specs.Events.{entered, is_named, report}
 use Rattle.bm_base.proofs.MapLaws.{get-insert}
 use Rattle.bm_base.proofs.Ties.{replica_tie}
@@ -18,16 +18,19 @@ use Rattle.laws_of_events.proofs.Clusters.{eqb_turned}
 use Rattle.laws_of_events.proofs.Lists.{each_mapped, each_of}
 use Rattle.laws_of_events.proofs.Maps.{get_insert_all_elsewhere}
 use Rattle.laws_of_events.proofs.Entering.{stays_by}
-use Rattle.laws_of_events.specs.Reports.{numbers_of}
 
 abbrev either : {X : Type 0} → Option X → Option X → Option X
 either None y = y
 either (Some x) y = Some x
 
--- the stamp of a number's last entry
-abbrev pub last_stamp : List Entry → ℕ → Option Stamp
+-- the numbers that are told of
+abbrev ids : List Told → List ℕ
+ids ts = map (λ t. t.id) ts
+
+-- the stamp that is told last of a number
+abbrev pub last_stamp : List Told → ℕ → Option Stamp
 last_stamp [] b = None
-last_stamp (e ∷ es) b = either (last_stamp es b) (if e.id == b then Some e.stamp else None)
+last_stamp (e ∷ ts) b = either (last_stamp ts b) (if e.id == b then Some e.stamp else None)
 
 named_head : (o : Option Stamp) (b : Bool) (stamp : Stamp) → is_some (either o (if b then Some stamp else None)) ≡ (b || is_some o)
 named_head None true stamp = refl
@@ -35,18 +38,18 @@ named_head None false stamp = refl
 named_head (Some t) true stamp = refl
 named_head (Some t) false stamp = refl
 
-pub named_since : (es : List Entry) (b : ℕ) → is_some (last_stamp es b) ≡ is_named es b
+pub named_since : (ts : List Told) (b : ℕ) → is_some (last_stamp ts b) ≡ is_named ts b
 unfolding is_named
 named_since [] b = refl
-named_since (e ∷ es) b = named_head (last_stamp es b) (e.id == b) e.stamp ∙ ap (λ x. (e.id == b) || x) (named_since es b)
+named_since (e ∷ ts) b = named_head (last_stamp ts b) (e.id == b) e.stamp ∙ ap (λ x. (e.id == b) || x) (named_since ts b)
 
-pub named_numbers : (es : List Entry) (b : ℕ) → is_named es b ≡ has (numbers_of es) b
+pub named_numbers : (ts : List Told) (b : ℕ) → is_named ts b ≡ has (ids ts) b
 unfolding is_named
 named_numbers [] b = refl
-named_numbers (e ∷ es) b = ap (λ x. (e.id == b) || x) (named_numbers es b)
+named_numbers (e ∷ ts) b = ap (λ x. (e.id == b) || x) (named_numbers ts b)
 
-none_named : (es : List Entry) (b : ℕ) → is_some (last_stamp es b) ≡ false → last_stamp es b ≡ None
-none_named es b e = none (last_stamp es b) e
+none_named : (ts : List Told) (b : ℕ) → is_some (last_stamp ts b) ≡ false → last_stamp ts b ≡ None
+none_named ts b e = none (last_stamp ts b) e
   where
     none : (o : Option Stamp) → is_some o ≡ false → o ≡ None
     none None e = refl
@@ -57,13 +60,13 @@ either_here None true stamp e h = refl
 either_here None false stamp e h = cc
 either_here (Some x) b stamp e h = cc
 
--- the entry behind which its number is not named is the last one
-pub last_is : (front : List Entry) (e : Entry) (behind : List Entry) → has (numbers_of behind) e.id ≡ false → last_stamp (front ++ (e ∷ behind)) e.id ≡ Some e.stamp
+-- what is told of a number behind which it is not named is told last
+pub last_is : (front : List Told) (e : Told) (behind : List Told) → has (ids behind) e.id ≡ false → last_stamp (front ++ (e ∷ behind)) e.id ≡ Some e.stamp
 last_is [] e behind h = either_here (last_stamp behind e.id) (e.id == e.id) e.stamp (none_named behind e.id (named_since behind e.id ∙ named_numbers behind e.id ∙ h)) (eq-eqb e.id e.id refl)
 last_is (x ∷ front) e behind h = ap (λ o. either o (if x.id == e.id then Some x.stamp else None)) (last_is front e behind h)
 
 module _ (C : Cluster) (H : Holdings) (s : ℕ) where
-  abbrev put : Entry → ReplicaId × Marks
+  abbrev put : Told → ReplicaId × Marks
   put e = (replica_at e.id s, entered H (replica_at e.id s) e.stamp)
 
   -- what is put for a number, and else what is there
@@ -77,34 +80,34 @@ module _ (C : Cluster) (H : Holdings) (s : ℕ) where
       with_true true = refl
       with_true false = refl
 
-  step_put : (b : ℕ) (o : Option Stamp) (x : Entry) (z : Option Marks) (t : Bool) → (b == x.id) ≡ t → (x.id == b) ≡ t
+  step_put : (b : ℕ) (o : Option Stamp) (x : Told) (z : Option Marks) (t : Bool) → (b == x.id) ≡ t → (x.id == b) ≡ t
       → put_or b o (cond t (Some (entered H (replica_at x.id s) x.stamp)) z) ≡ put_or b (either o (if t then Some x.stamp else None)) z
   step_put b (Some y) x z t e f = refl
   step_put b None x z true e f = ap (λ c. Some (entered H (replica_at c s) x.stamp)) (eqb-true x.id b f)
   step_put b None x z false e f = refl
 
-  puts_here : (m : Map by_replica Marks) (es : List Entry) (b : ℕ) → get (insert_all m (map put es)) (replica_at b s) ≡ put_or b (last_stamp es b) (get m (replica_at b s))
+  puts_here : (m : Map by_replica Marks) (ts : List Told) (b : ℕ) → get (insert_all m (map put ts)) (replica_at b s) ≡ put_or b (last_stamp ts b) (get m (replica_at b s))
   puts_here m [] b = refl
-  puts_here m (x ∷ es) b =
-      puts_here (insert m (put x).0 (put x).1) es b
-      ∙ ap (put_or b (last_stamp es b)) (get-insert m (put x).0 (put x).1 (replica_at b s) ∙ ap (λ c. cond c (Some (put x).1) (get m (replica_at b s))) (tied b x.id))
-      ∙ step_put b (last_stamp es b) x (get m (replica_at b s)) (b == x.id) refl (eqb_turned x.id b)
-      ∙ ap (λ t. put_or b (either (last_stamp es b) (if t then Some x.stamp else None)) (get m (replica_at b s))) (eqb_turned b x.id)
+  puts_here m (x ∷ ts) b =
+      puts_here (insert m (put x).0 (put x).1) ts b
+      ∙ ap (put_or b (last_stamp ts b)) (get-insert m (put x).0 (put x).1 (replica_at b s) ∙ ap (λ c. cond c (Some (put x).1) (get m (replica_at b s))) (tied b x.id))
+      ∙ step_put b (last_stamp ts b) x (get m (replica_at b s)) (b == x.id) refl (eqb_turned x.id b)
+      ∙ ap (λ t. put_or b (either (last_stamp ts b) (if t then Some x.stamp else None)) (get m (replica_at b s))) (eqb_turned b x.id)
 
   elsewhere_key : (p : ReplicaId) (c : ℕ) → p.storage ≢ s → eq_by_cmp replica_cmp p (replica_at c s) ≡ false
   elsewhere_key p c other = replica_tie p (replica_at c s) ∙ rw (ne_eqb p.storage s other) (and_right (p.block == c) false refl)
 
-  puts_elsewhere : (m : Map by_replica Marks) (es : List Entry) (p : ReplicaId) → p.storage ≢ s → get (insert_all m (map put es)) p ≡ get m p
-  puts_elsewhere m es p other =
-      get_insert_all_elsewhere m (map put es) p
-      (each_mapped (λ e. eq_by_cmp replica_cmp p e.0 ≡ false) put es (each_of (λ x. eq_by_cmp replica_cmp p (replica_at x.id s) ≡ false) es (λ x. elsewhere_key p x.id other)))
+  puts_elsewhere : (m : Map by_replica Marks) (ts : List Told) (p : ReplicaId) → p.storage ≢ s → get (insert_all m (map put ts)) p ≡ get m p
+  puts_elsewhere m ts p other =
+      get_insert_all_elsewhere m (map put ts) p
+      (each_mapped (λ e. eq_by_cmp replica_cmp p e.0 ≡ false) put ts (each_of (λ x. eq_by_cmp replica_cmp p (replica_at x.id s) ≡ false) ts (λ x. elsewhere_key p x.id other)))
 
   -- on the storage
-  pub reported_here : (es : List Entry) (b : ℕ) → get (report C H s es).replicas (replica_at b s) ≡ put_or b (last_stamp es b) (get (keep H.replicas (λ q _. stays_by C H s es q)) (replica_at b s))
+  pub reported_here : (ts : List Told) (b : ℕ) → get (report C H s ts).replicas (replica_at b s) ≡ put_or b (last_stamp ts b) (get (keep H.replicas (λ q _. stays_by C H s ts q)) (replica_at b s))
   unfolding report
-  reported_here es b = puts_here (keep H.replicas (λ q _. stays_by C H s es q)) es b
+  reported_here ts b = puts_here (keep H.replicas (λ q _. stays_by C H s ts q)) ts b
 
   -- elsewhere
-  pub reported_elsewhere : (es : List Entry) (p : ReplicaId) → p.storage ≢ s → get (report C H s es).replicas p ≡ get (keep H.replicas (λ q _. stays_by C H s es q)) p
+  pub reported_elsewhere : (ts : List Told) (p : ReplicaId) → p.storage ≢ s → get (report C H s ts).replicas p ≡ get (keep H.replicas (λ q _. stays_by C H s ts q)) p
   unfolding report
-  reported_elsewhere es p other = puts_elsewhere (keep H.replicas (λ q _. stays_by C H s es q)) es p other
+  reported_elsewhere ts p other = puts_elsewhere (keep H.replicas (λ q _. stays_by C H s ts q)) ts p other

@@ -21,7 +21,7 @@ use Rattle.laws_of_events.proofs.Options.{there, is_there}
 use Rattle.laws_of_events.proofs.Lists.{Each, each_mapped, each_then}
 use Rattle.laws_of_events.proofs.Maps.{Holds, get_kept, get_revised, known_revised, holds_insert_all}
 use Rattle.laws_of_events.proofs.Among.{lawful_among, among_here}
-use Rattle.laws_of_events.proofs.Chosen.{IsPlaced, in_excess_live, each_placed}
+use Rattle.laws_of_events.proofs.Chosen.{IsPlaced, in_excess_usable, each_placed}
 
 -- Marks that keep their tags, and are in excess only where the replica is good.
 module _ (C : Cluster) (H G : Holdings) (f : ReplicaId → Marks → Marks) (L : IsLawfulHoldings C H) (tags : (q : ReplicaId) (m : Marks) → (f q m).tag ≡ m.tag)
@@ -77,7 +77,7 @@ marked_lawful C H L =
     remarked C H (marked C H) (λ q m. if has (excess_in C H q.block) q.storage then record m { excess = true } else m) L
     (λ q m. marked_tag (has (excess_in C H q.block) q.storage) m)
     (λ q m e. marked_excess (is_good m.tag ≡ true) (has (excess_in C H q.block) q.storage) m
-    (λ h. (and_parts (is_good m.tag) (not m.excess) (in_excess_live C H q m e h)).0) (L.excess_is_good q m e))
+    (λ h. (and_parts (is_good m.tag) (not m.excess) (in_excess_usable C H q m e h)).0) (L.excess_is_good q m e))
     refl refl refl
 
 -- The end of a round.

@@ -25,6 +25,7 @@ wants_none (answer.ReplicaIds ids) e = refl
 wants_none (answer.Blocks bs) e = refl
 wants_none (answer.Storages ss) e = refl
 wants_none (answer.LevelIs l) e = refl
+wants_none (answer.IsRetired b) e = refl
 wants_none (answer.Number n) e = refl
 
 pub other_is_the_steps : law.other_answer_is_the_steps

@@ -40,12 +40,12 @@ blocks_on_are_held = (H : Holdings) (s b : ℕ) → IsTrue (has (blocks_on H s) 
 abbrev pub places_are_good : Type 0
 places_are_good = (H : Holdings) (b s : ℕ) → IsTrue (has (places H b) s) ↔ IsHeld H (replica_at b s) (λ m. m.tag ≡ Good)
 
--- a known block of which no replica is good and not in excess
+-- a known block of which no replica is good and not in excess, on whatever node
 abbrev pub IsMissing : Holdings → ℕ → Type 0
 IsMissing H b = (i : BlockInfo) × (get H.blocks b ≡ Some i) × ((s : ℕ) → IsHeld H (replica_at b s) (λ m. (m.tag ≡ Good) × (m.excess ≡ false)) → ⊥)
 
-abbrev pub missing_have_no_live_replica : Type 0
-missing_have_no_live_replica = (C : Cluster) (H : Holdings) → IsLawfulHoldings C H → (b : ℕ) → IsTrue (has (missing_blocks C H) b) ↔ IsMissing H b
+abbrev pub missing_have_no_usable_replica : Type 0
+missing_have_no_usable_replica = (C : Cluster) (H : Holdings) → IsLawfulHoldings C H → (b : ℕ) → IsTrue (has (missing_blocks C H) b) ↔ IsMissing H b
 
 -- a replica before another: by block, then by storage
 abbrev pub IsBefore : ReplicaId → ReplicaId → Type 0

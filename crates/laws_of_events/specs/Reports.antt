@@ -1,5 +1,5 @@
 -- What a full report and a received replica leave.
-use Rattle.std.specs.Prelude.{◌≡◌, ◌≢◌, ℕ, false, IsTrue, IsSome, List, ◌∷◌, ◌++◌, map, Some, None}
+use Rattle.std.specs.Prelude.{◌≡◌, ◌≢◌, ℕ, ◌≤◌, false, IsTrue, IsSome, List, ◌∷◌, ◌++◌, map, Some, None}
 use Rattle.bm_base.specs.declared.replica.ReplicaId.{ReplicaId}
 use Rattle.bm_base.specs.declared.replica.Tag.TheVariants.{Good, Stale, Bad, Stray}
 use Rattle.bm_base.specs.declared.replica.Marks.{Marks}
@@ -12,6 +12,7 @@ use Rattle.bm_base.specs.declared.event.Event.TheVariants.{Received, FullReport}
 use Rattle.bm_base.specs.Map.{get, contains_key}
 use Rattle.bm_base.specs.Lists.{has, distinct}
 use Rattle.bm_base.specs.Queries.{blocks_on}
+use Rattle.bm_base.specs.Entries.{Told, expanded}
 use Rattle.bm_base.specs.State.{Cluster, Holdings, State, replica_at}
 use Rattle.bm_base.specs.Calls.{done_by, after_event}
 use Rattle.bm_base.specs.Lawful.{IsLawful}
@@ -20,9 +21,9 @@ use Rattle.bm_base.specs.Lawful.{IsLawful}
 abbrev pub held_after : State → Event → Holdings
 held_after M e = (after_event M e).holdings
 
--- the block numbers of a report's entries
+-- the block numbers that a report's entries name
 abbrev pub numbers_of : List Entry → List ℕ
-numbers_of es = map (λ e. e.id) es
+numbers_of es = map (λ (t : Told). t.id) (expanded es)
 
 abbrev pub IsBadIn : Holdings → ReplicaId → Type 0
 IsBadIn H p = (m : Marks) × (get H.replicas p ≡ Some m) × (m.tag ≡ Bad)
@@ -49,11 +50,11 @@ report_tells_all = (M : State) (s : ℕ) (es : List Entry) (b : ℕ) → contain
 abbrev pub report_is_what_is_asked : Type 0
 report_is_what_is_asked = (M : State) (s : ℕ) (es : List Entry) → blocks_on (held_after M (FullReport s es)) s ≡ distinct (numbers_of es)
 
--- the last entry of a number decides its marks, by its stamp
+-- the last entry that names a number decides its marks, by its stamp
 abbrev pub last_entry_decides : Type 0
 last_entry_decides =
-    (M : State) (s : ℕ) (front : List Entry) (e : Entry) (behind : List Entry) → has (numbers_of behind) e.id ≡ false
-    → (m : Marks) × (get (held_after M (FullReport s (front ++ (e ∷ behind)))).replicas (replica_at e.id s) ≡ Some m) × HasToldMarks M.holdings (replica_at e.id s) e.stamp m
+    (M : State) (s : ℕ) (front : List Entry) (e : Entry) (behind : List Entry) (b : ℕ) → e.from ≤ b → b ≤ e.to → has (numbers_of behind) b ≡ false
+    → (m : Marks) × (get (held_after M (FullReport s (front ++ (e ∷ behind)))).replicas (replica_at b s) ≡ Some m) × HasToldMarks M.holdings (replica_at b s) e.stamp m
 
 -- the same report again changes nothing that is held, and answers that no replica came or went
 abbrev pub second_report_changes_nothing : Type 0

@@ -28,9 +28,10 @@ pub fn places_are_good()
     ensures { law.places_are_good }
 {}
 
-/// In a lawful state the missing blocks are the known blocks of which no replica is good and not in excess.
-pub fn missing_have_no_live_replica()
-    ensures { law.missing_have_no_live_replica }
+/// In a lawful state the missing blocks are the known blocks of which no replica is good and not in excess, be it on a node that
+/// drains or not.
+pub fn missing_have_no_usable_replica()
+    ensures { law.missing_have_no_usable_replica }
 {}
 
 /// Each list rises, so that nothing stands in it twice: replicas by block and then by storage, blocks and storages by number.

@@ -13,7 +13,7 @@ pub fn report_is_what_is_asked()
     ensures { law.report_is_what_is_asked }
 {}
 
-/// Of several entries of a number the last one decides: by its stamp the replica is good or stale; bad if it was bad, and
+/// Of several entries that name a number the last one decides: by its stamp the replica is good or stale; bad if it was bad, and
 /// stray where the block is not known. It is in excess just where it was and is good, and it is not ordered to be deleted.
 pub fn last_entry_decides()
     ensures { law.last_entry_decides }

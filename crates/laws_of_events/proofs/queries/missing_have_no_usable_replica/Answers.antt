@@ -1,5 +1,5 @@
 use Rattle.laws_of_events.proofs.Listing.{missing_listed}
-use Rattle.laws_of_events.proofs.queries.missing_have_no_live_replica.Goals as goal
+use Rattle.laws_of_events.proofs.queries.missing_have_no_usable_replica.Goals as goal
 
 pub returns : goal.returns
 returns c = missing_listed
