@@ -29,3 +29,4 @@ pub mod Plainly
 pub mod Listing
 pub mod Rising
 pub mod Wanting
+pub mod RunLaws

@@ -33,8 +33,9 @@ use Rattle.laws_of_events.proofs.Maps.{each_entry, get_here}
 use Rattle.laws_of_events.proofs.Clusters.{no_sisters}
 use Rattle.laws_of_events.proofs.Entering.{IsKept, IsPut, enter_origin, report_origin, stays_by}
 use Rattle.laws_of_events.proofs.Telling.{tag_where, told_marks}
-use Rattle.laws_of_events.proofs.Reporting.{last_stamp, named_since, named_numbers, last_is, put_or, reported_here, reported_elsewhere}
+use Rattle.laws_of_events.proofs.Reporting.{named_since, named_numbers, last_is, put_or, reported_here, reported_elsewhere}
 use Rattle.laws_of_events.specs.Reports as law
+use Rattle.laws_of_events.specs.Runs.{last_stamp}
 
 pub held_report : (M : State) (s : ℕ) (es : List Entry) → law.held_after M (FullReport s es) ≡ report M.cluster M.holdings s (expanded es)
 unfolding after_event change_holdings

@@ -1,7 +1,7 @@
 -- What is held after a full report, replica by replica.
 use Rattle.std.proofs.Common.{◌≡◌, ◌≢◌, ℕ, Bool, true, false, cond, ◌&&◌, ◌||◌, Option, Some, None, is_some, List, [], ◌∷◌, ◌++◌, map, refl, ap, ◌∙◌, eqb-true, eq-eqb, ne_eqb}
 use Rattle.std.specs.Prelude.{◌==◌, if◌then◌else◌}
-use Rattle.std.specs.Option.{option_map_or}
+use Rattle.std.specs.Option.{option_or, option_map_or}
 use Rattle.std.specs.Ordering.{eq_by_cmp}
 use Rattle.std.proofs.lemmas.Bool.{and_right}
 use Rattle.bm_base.specs.declared.replica.ReplicaId.{ReplicaId}
@@ -18,21 +18,13 @@ use Rattle.laws_of_events.proofs.Clusters.{eqb_turned}
 use Rattle.laws_of_events.proofs.Lists.{each_mapped, each_of}
 use Rattle.laws_of_events.proofs.Maps.{get_insert_all_elsewhere}
 use Rattle.laws_of_events.proofs.Entering.{stays_by}
-
-abbrev either : {X : Type 0} → Option X → Option X → Option X
-either None y = y
-either (Some x) y = Some x
+use Rattle.laws_of_events.specs.Runs.{last_stamp}
 
 -- the numbers that are told of
 abbrev ids : List Told → List ℕ
 ids ts = map (λ t. t.id) ts
 
--- the stamp that is told last of a number
-abbrev pub last_stamp : List Told → ℕ → Option Stamp
-last_stamp [] b = None
-last_stamp (e ∷ ts) b = either (last_stamp ts b) (if e.id == b then Some e.stamp else None)
-
-named_head : (o : Option Stamp) (b : Bool) (stamp : Stamp) → is_some (either o (if b then Some stamp else None)) ≡ (b || is_some o)
+named_head : (o : Option Stamp) (b : Bool) (stamp : Stamp) → is_some (option_or o (if b then Some stamp else None)) ≡ (b || is_some o)
 named_head None true stamp = refl
 named_head None false stamp = refl
 named_head (Some t) true stamp = refl
@@ -55,7 +47,7 @@ none_named ts b e = none (last_stamp ts b) e
     none None e = refl
     none (Some x) e = cc
 
-either_here : (o : Option Stamp) (b : Bool) (stamp : Stamp) → o ≡ None → b ≡ true → either o (if b then Some stamp else None) ≡ Some stamp
+either_here : (o : Option Stamp) (b : Bool) (stamp : Stamp) → o ≡ None → b ≡ true → option_or o (if b then Some stamp else None) ≡ Some stamp
 either_here None true stamp e h = refl
 either_here None false stamp e h = cc
 either_here (Some x) b stamp e h = cc
@@ -63,7 +55,7 @@ either_here (Some x) b stamp e h = cc
 -- what is told of a number behind which it is not named is told last
 pub last_is : (front : List Told) (e : Told) (behind : List Told) → has (ids behind) e.id ≡ false → last_stamp (front ++ (e ∷ behind)) e.id ≡ Some e.stamp
 last_is [] e behind h = either_here (last_stamp behind e.id) (e.id == e.id) e.stamp (none_named behind e.id (named_since behind e.id ∙ named_numbers behind e.id ∙ h)) (eq-eqb e.id e.id refl)
-last_is (x ∷ front) e behind h = ap (λ o. either o (if x.id == e.id then Some x.stamp else None)) (last_is front e behind h)
+last_is (x ∷ front) e behind h = ap (λ o. option_or o (if x.id == e.id then Some x.stamp else None)) (last_is front e behind h)
 
 module _ (C : Cluster) (H : Holdings) (s : ℕ) where
   abbrev put : Told → ReplicaId × Marks
@@ -81,7 +73,7 @@ module _ (C : Cluster) (H : Holdings) (s : ℕ) where
       with_true false = refl
 
   step_put : (b : ℕ) (o : Option Stamp) (x : Told) (z : Option Marks) (t : Bool) → (b == x.id) ≡ t → (x.id == b) ≡ t
-      → put_or b o (cond t (Some (entered H (replica_at x.id s) x.stamp)) z) ≡ put_or b (either o (if t then Some x.stamp else None)) z
+      → put_or b o (cond t (Some (entered H (replica_at x.id s) x.stamp)) z) ≡ put_or b (option_or o (if t then Some x.stamp else None)) z
   step_put b (Some y) x z t e f = refl
   step_put b None x z true e f = ap (λ c. Some (entered H (replica_at c s) x.stamp)) (eqb-true x.id b f)
   step_put b None x z false e f = refl
@@ -92,7 +84,7 @@ module _ (C : Cluster) (H : Holdings) (s : ℕ) where
       puts_here (insert m (put x).0 (put x).1) ts b
       ∙ ap (put_or b (last_stamp ts b)) (get-insert m (put x).0 (put x).1 (replica_at b s) ∙ ap (λ c. cond c (Some (put x).1) (get m (replica_at b s))) (tied b x.id))
       ∙ step_put b (last_stamp ts b) x (get m (replica_at b s)) (b == x.id) refl (eqb_turned x.id b)
-      ∙ ap (λ t. put_or b (either (last_stamp ts b) (if t then Some x.stamp else None)) (get m (replica_at b s))) (eqb_turned b x.id)
+      ∙ ap (λ t. put_or b (option_or (last_stamp ts b) (if t then Some x.stamp else None)) (get m (replica_at b s))) (eqb_turned b x.id)
 
   elsewhere_key : (p : ReplicaId) (c : ℕ) → p.storage ≢ s → eq_by_cmp replica_cmp p (replica_at c s) ≡ false
   elsewhere_key p c other = replica_tie p (replica_at c s) ∙ rw (ne_eqb p.storage s other) (and_right (p.block == c) false refl)

@@ -7,3 +7,4 @@ pub mod Parts
 pub mod Changes
 pub mod Calls
 pub mod Queries
+pub mod Runs

@@ -3,6 +3,7 @@
 //! - `lawful`, `plain_words`: what holds of every state that calls lead to
 //! - `calls`: what each kind of call leaves of a state
 //! - `changes`, `reports`: what each event changes, and what it leaves
+//! - `runs`: full reports whose entries are runs of block numbers
 //! - `queries`: what queries list
 //! - `shards`: the parts into which blocks are cut by their numbers
 //!
@@ -16,4 +17,5 @@ pub mod lawful;
 pub mod plain_words;
 pub mod queries;
 pub mod reports;
+pub mod runs;
 pub mod shards;

@@ -1,0 +1,39 @@
+// Full reports whose entries are runs of block numbers.
+#![tactic(auto)]
+
+ghost use Rattle.laws_of_events.specs.Runs as law;
+
+/// A report names just the numbers from the first to the last of each of its runs.
+pub fn runs_name_their_numbers()
+    ensures { law.runs_name_their_numbers }
+{}
+
+/// A report names as many numbers, repeats counted, as the sum over its runs says by which it may be too long.
+pub fn numbers_are_counted()
+    ensures { law.numbers_are_counted }
+{}
+
+/// Two reports that tell the same stamp last of each number leave the same state and answer the same, whatever their runs.
+pub fn what_is_told_last_counts()
+    ensures { law.what_is_told_last_counts }
+{}
+
+/// So do two reports that tell the same numbers and stamps in the same order, in whatever runs.
+pub fn same_told_is_alike()
+    ensures { law.same_told_is_alike }
+{}
+
+/// A report in runs leaves what the same report leaves with an entry for each number, and answers the same.
+pub fn runs_are_alike_one_by_one()
+    ensures { law.runs_are_alike_one_by_one }
+{}
+
+/// A run may be cut in two anywhere.
+pub fn run_may_be_cut()
+    ensures { law.run_may_be_cut }
+{}
+
+/// A run that ends before it begins names nothing: without it the report leaves and answers the same.
+pub fn backward_run_names_none()
+    ensures { law.backward_run_names_none }
+{}
