@@ -143,12 +143,12 @@ either_lawful : (C : Cluster) (H G : Holdings) (b : Bool) → IsLawfulHoldings C
 either_lawful C H G true L K = L
 either_lawful C H G false L K = K
 
-same_either : {X : Type 0} (f : Holdings → X) (H G : Holdings) (b : Bool) → f G ≡ f H → f (if b then H else G) ≡ f H
+pub same_either : {X : Type 0} (f : Holdings → X) (H G : Holdings) (b : Bool) → f G ≡ f H → f (if b then H else G) ≡ f H
 same_either f H G true e = refl
 same_either f H G false e = e
 
 module _ (C : Cluster) (H : Holdings) (n : ℕ) where
-  abbrev fewer_sent : Holdings
+  abbrev pub fewer_sent : Holdings
   fewer_sent = record H { pending = keep H.pending (λ q _. not (has_storage C n q.storage)) }
 
   fewer_lawful : IsLawfulHoldings C H → IsLawfulHoldings C fewer_sent

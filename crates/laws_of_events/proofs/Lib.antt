@@ -30,3 +30,6 @@ pub mod Listing
 pub mod Rising
 pub mod Wanting
 pub mod RunLaws
+pub mod DrainLaws
+pub mod Retiring
+pub mod Spared

@@ -24,7 +24,7 @@ use Rattle.laws_of_events.specs.Queries as law
 
 -- Lists made of entries.
 
-any_of_mapped : {X Y : Type 0} (g : Y → Bool) (f : X → Y) (xs : List X) → list_any g (map f xs) ≡ list_any (λ x. g (f x)) xs
+pub any_of_mapped : {X Y : Type 0} (g : Y → Bool) (f : X → Y) (xs : List X) → list_any g (map f xs) ≡ list_any (λ x. g (f x)) xs
 any_of_mapped g f [] = refl
 any_of_mapped g f (x ∷ xs) = ap (λ b. g (f x) || b) (any_of_mapped g f xs)
 
@@ -37,7 +37,7 @@ any_of_filtered g p [] = refl
 any_of_filtered g p (x ∷ xs) = kept_any g (p x) x (filter p xs) ∙ ap (λ b. (p x && g x) || b) (any_of_filtered g p xs)
 
 -- some entry that is kept by p passes g, as f shows it
-any_shown : {X Y : Type 0} (g : Y → Bool) (f : X → Y) (p : X → Bool) (xs : List X) → list_any g (map f (filter p xs)) ≡ list_any (λ x. p x && g (f x)) xs
+pub any_shown : {X Y : Type 0} (g : Y → Bool) (f : X → Y) (p : X → Bool) (xs : List X) → list_any g (map f (filter p xs)) ≡ list_any (λ x. p x && g (f x)) xs
 any_shown g f p xs = any_of_mapped g f (filter p xs) ∙ any_of_filtered (λ x. g (f x)) p xs
 
 -- All replicas.
@@ -116,14 +116,14 @@ module _ (test : ℕ → Marks → Bool) (H : Holdings) (b s : ℕ) where
   unfolding storages_where
   shown = any_shown (λ y. y == s) (λ e. e.0.storage) (λ e. (e.0.block == b) && test e.0.storage e.1) (entries H.replicas)
 
-  stored_where : has (storages_where test H b) s ≡ true → (m : Marks) × (get H.replicas (replica_at b s) ≡ Some m) × (test s m ≡ true)
+  pub stored_where : has (storages_where test H b) s ≡ true → (m : Marks) × (get H.replicas (replica_at b s) ≡ Some m) × (test s m ≡ true)
   stored_where h =
       let e = entry_passes H.replicas passing (sym shown ∙ h) in
       let parts = and_parts ((e.0.block == b) && test e.0.storage e.1) (e.0.storage == s) e.3 in
       let more = and_parts (e.0.block == b) (test e.0.storage e.1) parts.0 in
       (e.1, (λ i. get H.replicas (replica_at (sym (eqb-true e.0.block b more.0) i) (sym (eqb-true e.0.storage s parts.1) i))) ∙ e.2, ap (λ t. test t e.1) (sym (eqb-true e.0.storage s parts.1)) ∙ more.1)
 
-  where_stored : (m : Marks) → get H.replicas (replica_at b s) ≡ Some m → test s m ≡ true → has (storages_where test H b) s ≡ true
+  pub where_stored : (m : Marks) → get H.replicas (replica_at b s) ≡ Some m → test s m ≡ true → has (storages_where test H b) s ≡ true
   where_stored m e h =
       shown ∙ passes_entry H.replicas passing (replica_at b s) m e (and_from ((b == b) && test s m) (s == s) (and_from (b == b) (test s m) (eq-eqb b b refl) h) (eq-eqb s s refl))
 
@@ -158,13 +158,13 @@ level_none_usable : (repl racks : ℕ) (multi : Bool) → 1 ≤ repl → is_at N
 unfolding level_of
 level_none_usable repl racks multi h = rw (lt-leb repl 0 h) refl
 
-usable_marks : (m : Marks) → is_usable m ≡ true → (m.tag ≡ Good) × (m.excess ≡ false)
+pub usable_marks : (m : Marks) → is_usable m ≡ true → (m.tag ≡ Good) × (m.excess ≡ false)
 usable_marks m h = let parts = and_parts (is_good m.tag) (not m.excess) h in (found_good m.tag parts.0, not-true m.excess parts.1)
 
-marks_usable : (m : Marks) → m.tag ≡ Good → m.excess ≡ false → is_usable m ≡ true
+pub marks_usable : (m : Marks) → m.tag ≡ Good → m.excess ≡ false → is_usable m ≡ true
 marks_usable m e h = and_from (is_good m.tag) (not m.excess) (ap is_good e) (ap not h)
 
-has_none : (xs : List ℕ) (s : ℕ) → length xs ≡ 0 → has xs s ≡ true → ⊥
+pub has_none : (xs : List ℕ) (s : ℕ) → length xs ≡ 0 → has xs s ≡ true → ⊥
 has_none [] s e h = cc
 has_none (x ∷ xs) s e h = absurd (omega (arith, e))
 
@@ -192,7 +192,7 @@ module _ (C : Cluster) (H : Holdings) (b : ℕ) where
   unfolding missing_blocks keys
   shown_missing = any_of_filtered (λ y. y == b) missing_level (map (λ e. e.0) (entries H.blocks)) ∙ any_of_mapped (λ y. missing_level y && (y == b)) (λ e. e.0) (entries H.blocks)
 
-  missing_is : has (missing_blocks C H) b ≡ true → law.IsMissing H b
+  pub missing_is : has (missing_blocks C H) b ≡ true → law.IsMissing H b
   missing_is h =
       let e = entry_passes H.blocks (λ e. missing_level e.0 && (e.0 == b)) (sym shown_missing ∙ h) in
       let parts = and_parts (missing_level e.0) (e.0 == b) e.3 in
@@ -205,7 +205,7 @@ module _ (C : Cluster) (H : Holdings) (b : ℕ) where
       no_replica s m e none_live none_drained (inl h) = has_none (live C H b) s none_live (where_stored (is_live_on C) H b s m e h)
       no_replica s m e none_live none_drained (inr h) = has_none (drained C H b) s none_drained (where_stored (is_drained_on C) H b s m e h)
 
-  is_missing : IsLawfulHoldings C H → law.IsMissing H b → has (missing_blocks C H) b ≡ true
+  pub is_missing : IsLawfulHoldings C H → law.IsMissing H b → has (missing_blocks C H) b ≡ true
   is_missing L missing =
       let none_live : length (live C H b) ≡ 0 =
       none_listed (live C H b) (λ s h. let m = stored_where (is_live_on C) H b s h in missing.2 s (m.0, m.1, usable_marks m.0 (and_parts (is_usable m.0) (not (is_draining C s)) m.2).0)) in

@@ -25,18 +25,16 @@ use Rattle.laws_of_events.specs.Changes as law
 info_of : ℕ → StorageInfo
 info_of n = record { node = n; remaining = 0 }
 
-new_or : Bool → ℕ → Option StorageInfo → Option StorageInfo
+abbrev pub new_or : Bool → ℕ → Option StorageInfo → Option StorageInfo
 new_or b n z = if b then Some (record { node = n; remaining = 0 }) else z
 
 step_new : (a b : Bool) (n : ℕ) (z : Option StorageInfo) → new_or a n (cond b (Some (record { node = n; remaining = 0 })) z) ≡ new_or (b || a) n z
-unfolding new_or
 step_new true true n z = refl
 step_new true false n z = refl
 step_new false true n z = refl
 step_new false false n z = refl
 
-new_storages : (n : ℕ) (ss : List ℕ) (m : Map by_number StorageInfo) (s : ℕ) → get (insert_all m (map (λ s. (s, record { node = n; remaining = 0 })) ss)) s ≡ new_or (has ss s) n (get m s)
-unfolding new_or
+pub new_storages : (n : ℕ) (ss : List ℕ) (m : Map by_number StorageInfo) (s : ℕ) → get (insert_all m (map (λ s. (s, record { node = n; remaining = 0 })) ss)) s ≡ new_or (has ss s) n (get m s)
 new_storages n [] m s = refl
 new_storages n (t ∷ ss) m s =
     new_storages n ss (insert m t (record { node = n; remaining = 0 })) s
@@ -44,7 +42,7 @@ new_storages n (t ∷ ss) m s =
     ∙ step_new (has ss s) (t == s) n (get m s)
 
 pub node_came : law.registered_node_is_there
-unfolding after_event change_cluster change_holdings register new_or
+unfolding after_event change_cluster change_holdings register
 node_came M n rack ss = record {
   node = get_here M.cluster.nodes n rack;
   other_nodes = λ m other. get_other M.cluster.nodes n rack m other;
@@ -58,25 +56,25 @@ node_came M n rack ss = record {
 abbrev kept_where : {X : Type 0} → (ℕ → Bool) → Map by_replica X → Map by_replica X
 kept_where gone m = keep m (λ q _. not (gone q.storage))
 
-gone_there : {X : Type 0} (gone : ℕ → Bool) (m : Map by_replica X) (p : ReplicaId) → gone p.storage ≡ true → get (kept_where gone m) p ≡ None
+pub gone_there : {X : Type 0} (gone : ℕ → Bool) (m : Map by_replica X) (p : ReplicaId) → gone p.storage ≡ true → get (kept_where gone m) p ≡ None
 gone_there gone m p e = get-keep m (λ q _. not (gone q.storage)) p ∙ none_stays (not (gone p.storage)) (get m p) (ap not e)
 
-still_there : {X : Type 0} (gone : ℕ → Bool) (m : Map by_replica X) (p : ReplicaId) → gone p.storage ≡ false → get (kept_where gone m) p ≡ get m p
+pub still_there : {X : Type 0} (gone : ℕ → Bool) (m : Map by_replica X) (p : ReplicaId) → gone p.storage ≡ false → get (kept_where gone m) p ≡ get m p
 still_there gone m p e = get-keep m (λ q _. not (gone q.storage)) p ∙ all_stays (not (gone p.storage)) (get m p) (ap not e)
 
 -- whether a storage is one of the node
-on_it : (C : Cluster) (n s : ℕ) → law.IsOn C n s → has_storage C n s ≡ true
+pub on_it : (C : Cluster) (n s : ℕ) → law.IsOn C n s → has_storage C n s ≡ true
 on_it C n s h = is_on C n s h.0 h.1 ∙ eq-eqb h.0.node n h.2
 
-node_at : (z : Option ℕ) (n : ℕ) → option_map_or (λ m. m == n) z false ≡ true → z ≡ Some n
+pub node_at : (z : Option ℕ) (n : ℕ) → option_map_or (λ m. m == n) z false ≡ true → z ≡ Some n
 node_at None n e = cc
 node_at (Some m) n e = ap Some (eqb-true m n e)
 
-is_on_it : (C : Cluster) (n s : ℕ) → has_storage C n s ≡ true → law.IsOn C n s
+pub is_on_it : (C : Cluster) (n s : ℕ) → has_storage C n s ≡ true → law.IsOn C n s
 unfolding has_storage node_of
 is_on_it C n s e = revised (λ (i : StorageInfo). i.node) (get C.storages s) n (node_at (node_of C s) n e)
 
-not_on_it : (C : Cluster) (n s : ℕ) → (law.IsOn C n s → ⊥) → has_storage C n s ≡ false
+pub not_on_it : (C : Cluster) (n s : ℕ) → (law.IsOn C n s → ⊥) → has_storage C n s ≡ false
 not_on_it C n s never = false_from_ne_true (has_storage C n s) (λ e. never (is_on_it C n s e))
 
 pub node_left : law.dead_node_leaves

@@ -197,7 +197,7 @@ unfolding new_replicas
 none_new m =
     none_counted (λ e. not (contains_key m e.0)) (entries m) (each_then (λ e. get m e.0 ≡ Some e.1) (λ e. not (contains_key m e.0) ≡ false) (entries m) (each_entry m) (λ e is. ap (λ o. not (is_some o)) is))
 
-none_done : (G : Holdings) → done G G ≡ record { added = 0; removed = 0 }
+pub none_done : (G : Holdings) → done G G ≡ record { added = 0; removed = 0 }
 unfolding done
 none_done G = λ i. record { added = none_new G.replicas i; removed = none_new G.replicas i }
 

@@ -4,6 +4,7 @@
 //! - `calls`: what each kind of call leaves of a state
 //! - `changes`, `reports`: what each event changes, and what it leaves
 //! - `runs`: full reports whose entries are runs of block numbers
+//! - `draining`: nodes that are to be taken away
 //! - `queries`: what queries list
 //! - `shards`: the parts into which blocks are cut by their numbers
 //!
@@ -13,6 +14,7 @@
 
 pub mod calls;
 pub mod changes;
+pub mod draining;
 pub mod lawful;
 pub mod plain_words;
 pub mod queries;
