@@ -9,12 +9,13 @@ use Rattle.bm_base.specs.declared.storage.StorageInfo.{StorageInfo}
 use Rattle.bm_base.specs.Map.{get, contains_key}
 use Rattle.bm_base.specs.State.{Cluster, State, first_state}
 use Rattle.bm_base.specs.Calls.{state_after}
-use Rattle.bm_base.specs.Replicas.{is_good, is_stray, drains, node_of, has_storage, are_sisters}
+use Rattle.bm_base.specs.Replicas.{is_good, is_stray, drains, is_draining, node_of, has_storage, are_sisters}
 use Rattle.bm_base.specs.Lawful.{IsLawful, IsLawfulCluster}
 use Rattle.laws_of_events.proofs.Options.{there, not_there}
 use Rattle.laws_of_events.proofs.Clusters.{node_is, is_on}
 use Rattle.laws_of_events.proofs.Leading.{lawful_from_first}
 use Rattle.laws_of_events.proofs.Arriving.{still_to_come}
+use Rattle.laws_of_events.proofs.Spared.{node_off, none_sent_there}
 use Rattle.laws_of_events.specs.PlainWords as law
 
 alive_node : (C : Cluster) → IsLawfulCluster C → (s : ℕ) → contains_key C.storages s ≡ true → law.IsOnAliveNode C s
@@ -55,13 +56,15 @@ redone : (a b : Bool) → a ≡ not b → a ≡ false → b ≡ true
 redone a true e h = refl
 redone a false e h = absurd (true≢false (sym e ∙ h))
 
-pub plainly : (M : State) → IsLawful M → ((p : ReplicaId) → is_some (get M.holdings.pending p) ≡ true → get M.holdings.replicas p ≡ None) → law.SoundState M
+pub plainly : (M : State) → IsLawful M → ((p : ReplicaId) → is_some (get M.holdings.pending p) ≡ true → get M.holdings.replicas p ≡ None)
+    → ((p : ReplicaId) → is_some (get M.holdings.pending p) ≡ true → is_draining M.cluster p.storage ≡ false) → law.SoundState M
 unfolding drains
-plainly M L coming =
+plainly M L coming spares =
     let H = L.holdings in
     record {
       replicas_alive = λ p is. alive_node M.cluster L.cluster p.storage (H.stored p is);
       draining_alive = L.cluster.draining_alive;
+      draining_spared = λ p i is e. not_there (get M.cluster.draining i.node) (node_off M.cluster p.storage i.node (spares p is) (node_is M.cluster p.storage i e));
       transfers_alive = λ p is. alive_node M.cluster L.cluster p.storage (H.pending_stored p is);
       one_on_a_node = λ p q i j e f block at_p at_q node.
           let storage : q.storage ≡ p.storage = no_sister_same M.cluster p.storage q.storage i j at_p at_q node (H.once p q e f block) in
@@ -77,4 +80,4 @@ plainly M L coming =
     }
 
 pub sound_from_first : law.calls_lead_to_sound
-sound_from_first c ks start fit = plainly (state_after (first_state c) ks) (lawful_from_first c ks start fit) (still_to_come c ks)
+sound_from_first c ks start fit = plainly (state_after (first_state c) ks) (lawful_from_first c ks start fit) (still_to_come c ks) (none_sent_there c ks)

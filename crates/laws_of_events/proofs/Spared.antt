@@ -52,7 +52,7 @@ off_where : (C : Cluster) (s : ℕ) → ((n : ℕ) → node_of C s ≡ Some n �
 unfolding is_draining
 off_where C s h = off_by C s (node_of C s) refl h
 
-node_off : (C : Cluster) (s n : ℕ) → is_draining C s ≡ false → node_of C s ≡ Some n → drains C n ≡ false
+pub node_off : (C : Cluster) (s n : ℕ) → is_draining C s ≡ false → node_of C s ≡ Some n → drains C n ≡ false
 unfolding is_draining
 node_off C s n h e = sym (ap (λ z. option_map_or (drains C) z false) e) ∙ h
 

@@ -20,8 +20,9 @@ IsOnAliveNode C s = (i : StorageInfo) × (rack : ℕ) × (get C.storages s ≡ S
 pub record IsSound (C : Cluster) (H : Holdings) : Type 0 where
   pub replicas_alive : (p : ReplicaId) → IsSome (get H.replicas p) → IsOnAliveNode C p.storage
   pub transfers_alive : (p : ReplicaId) → IsSome (get H.pending p) → IsOnAliveNode C p.storage
-  -- a node that drains is there
+  -- a node that drains is there, and no transfer is on its way to it
   pub draining_alive : (n : ℕ) → IsSome (get C.draining n) → IsSome (get C.nodes n)
+  pub draining_spared : (p : ReplicaId) (i : StorageInfo) → IsSome (get H.pending p) → get C.storages p.storage ≡ Some i → get C.draining i.node ≡ None
   -- two replicas of a block on one node are the same
   pub one_on_a_node : (p q : ReplicaId) (i j : StorageInfo) → IsSome (get H.replicas p) → IsSome (get H.replicas q) → p.block ≡ q.block → get C.storages p.storage ≡ Some i → get C.storages q.storage ≡ Some j → i.node ≡ j.node → p ≡ q
   pub stray_unknown : (p : ReplicaId) (m : Marks) → get H.replicas p ≡ Some m → m.tag ≡ Stray → get H.blocks p.block ≡ None
