@@ -7,7 +7,7 @@ pub mod Ties
 pub mod Keeping
 pub mod Differences
 pub mod Distinct
-pub mod Naming
 pub mod SlotLists
 pub mod Room
 pub mod Entries
+pub mod Naming

@@ -20,7 +20,7 @@ use Rattle.bm_base.specs.declared.call.Call.TheVariants as call
 use Rattle.bm_base.specs.declared.call.Answer.{Answer}
 use Rattle.bm_base.specs.Map.{Map, get, keep, revise, revise_at, remove, contains_key, entries, keys, len}
 use Rattle.bm_base.specs.State.{RoundLimits, Cluster, Holdings, State, by_replica, replica_at, first_state, empty_holdings}
-use Rattle.bm_base.specs.Replicas.{node_of, has_storage, usable, storages_where}
+use Rattle.bm_base.specs.Replicas.{node_of, has_storage, sources_of, storages_where}
 use Rattle.bm_base.specs.Entries.{expanded}
 use Rattle.bm_base.specs.Events.{change_holdings, without_storages, add_block, delete_block, set_replication, restamp, make_bad, remove_replica, without_pending, revise_block, enter, report, replaces, is_named}
 use Rattle.bm_base.specs.Excess.{without_expired, without_unordered_excess, marked, begun, started}
@@ -114,7 +114,7 @@ target_free C H chosen urgency holders b l t e =
 transfer_absent : (limits : RoundLimits) (C : Cluster) (H : Holdings) (chosen : List Transfer) (w : WishedCopy) (t : Transfer) → transfer_for limits C H chosen w ≡ Some t → IsAbsent H t
 unfolding transfer_for
 transfer_absent limits C H chosen w t e =
-    let of_it = made_of w.block (get H.blocks w.block) (least_source C chosen w.urgency (usable H w.block)) (λ i. least_target C chosen w.urgency (holders_of C H chosen w.block) (barred_for H chosen w.block) i.stamp.len) t
+    let of_it = made_of w.block (get H.blocks w.block) (least_source C chosen w.urgency (sources_of C H w.block)) (λ i. least_target C chosen w.urgency (holders_of C H chosen w.block) (barred_for H chosen w.block) i.stamp.len) t
     (unless (nat_le (limits.work * len C.nodes) (length chosen)) _ t e) in
     subst (λ b. get H.replicas (replica_at b t.target) ≡ None) of_it.3 (target_free C H chosen w.urgency (holders_of C H chosen w.block) w.block of_it.0.stamp.len t.target of_it.2)
 

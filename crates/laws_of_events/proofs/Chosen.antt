@@ -12,7 +12,7 @@ use Rattle.bm_base.specs.declared.commands.Transfer.{Transfer}
 use Rattle.bm_base.specs.Map.{get, contains_key, entries, keys, len}
 use Rattle.bm_base.specs.State.{RoundLimits, Cluster, Holdings, replica_at}
 use Rattle.bm_base.specs.Lists.{has, least}
-use Rattle.bm_base.specs.Replicas.{is_usable, is_live_on, is_draining, live, usable, storages_where}
+use Rattle.bm_base.specs.Replicas.{is_usable, is_live_on, is_draining, live, sources_of, storages_where}
 use Rattle.bm_base.specs.Excess.{excess_cmp, excess_among, excess_of, excess_in}
 use Rattle.bm_base.specs.Transfers.{WishedCopy, least_source, least_target_by, least_target, scheduled_to, target_cmp, is_target, holders_of, barred_for, transfer_for, transfers_from, transfers, wishes}
 use Rattle.laws_of_events.proofs.Options.{is_there, revised, chained}
@@ -86,7 +86,7 @@ made_of b found source target t e =
 pub transfer_placed : (limits : RoundLimits) (C : Cluster) (H : Holdings) (chosen : List Transfer) (w : WishedCopy) (t : Transfer) → transfer_for limits C H chosen w ≡ Some t → IsPlaced C H t
 unfolding transfer_for
 transfer_placed limits C H chosen w t e =
-    let of_it = made_of w.block (get H.blocks w.block) (least_source C chosen w.urgency (usable H w.block)) (λ i. least_target C chosen w.urgency (holders_of C H chosen w.block) (barred_for H chosen w.block) i.stamp.len) t
+    let of_it = made_of w.block (get H.blocks w.block) (least_source C chosen w.urgency (sources_of C H w.block)) (λ i. least_target C chosen w.urgency (holders_of C H chosen w.block) (barred_for H chosen w.block) i.stamp.len) t
     (unless (nat_le (limits.work * len C.nodes) (length chosen)) _ t e) in (
       target_known C chosen w.urgency (holders_of C H chosen w.block) (barred_for H chosen w.block) of_it.0.stamp.len t.target of_it.2,
       sym (ap (contains_key H.blocks) of_it.3) ∙ is_there (get H.blocks w.block) of_it.0 of_it.1,

@@ -20,7 +20,7 @@ use Rattle.bm_base.specs.declared.call.Answer.{Answer}
 use Rattle.bm_base.specs.Map.{Set, by_number, get, keep, remove, contains_key, keys, len}
 use Rattle.bm_base.specs.State.{RoundLimits, Cluster, Holdings, State, by_replica, first_state, empty_holdings}
 use Rattle.bm_base.specs.Lists.{has}
-use Rattle.bm_base.specs.Replicas.{node_of, has_storage, drains, is_draining, usable}
+use Rattle.bm_base.specs.Replicas.{node_of, has_storage, drains, is_draining, sources_of}
 use Rattle.bm_base.specs.Events.{register, heartbeat, without_node, without_storage, drain, undrain, without_transfers_to_drained, change_cluster, change_holdings}
 use Rattle.bm_base.specs.Excess.{without_expired, without_unordered_excess, marked, begun, started}
 use Rattle.bm_base.specs.Transfers.{WishedCopy, holders_of, barred_for, is_target, target_cmp, least_target_by, least_target, scheduled_to, least_source, transfer_for, transfers_from, transfers, wishes}
@@ -152,7 +152,7 @@ IsSpared C t = is_draining C t.target ≡ false
 transfer_spared : (limits : RoundLimits) (C : Cluster) (H : Holdings) (chosen : List Transfer) (w : WishedCopy) (t : Transfer) → transfer_for limits C H chosen w ≡ Some t → IsSpared C t
 unfolding transfer_for
 transfer_spared limits C H chosen w t e =
-    let of_it = made_of w.block (get H.blocks w.block) (least_source C chosen w.urgency (usable H w.block)) (λ i. least_target C chosen w.urgency (holders_of C H chosen w.block) (barred_for H chosen w.block) i.stamp.len) t
+    let of_it = made_of w.block (get H.blocks w.block) (least_source C chosen w.urgency (sources_of C H w.block)) (λ i. least_target C chosen w.urgency (holders_of C H chosen w.block) (barred_for H chosen w.block) i.stamp.len) t
     (unless (nat_le (limits.work * len C.nodes) (length chosen)) _ t e) in
     target_off C chosen w.urgency (holders_of C H chosen w.block) (barred_for H chosen w.block) of_it.0.stamp.len t.target of_it.2
 
