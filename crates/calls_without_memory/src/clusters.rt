@@ -19,12 +19,17 @@ pub fn go_over<R: Eprint>(rt: &R, alloc: Global) -> Result<Tally, Refusal> {
         begun(rt, "registration");
         tally.note(take(&mut topology, &last).is_ok());
         ended(rt, "registration");
+        let drains = Event::Drain {
+            node: NodeId(size - 1),
+        };
+        make_room(&mut topology, &drains)?;
         begun(rt, "control");
         tally.control(make_room(&mut topology, &next).is_err());
         ended(rt, "control");
         begun(rt, "cluster");
         tally.note(take(&mut topology, &last) == Err(Refusal::NodeKnown));
         look_up_all(&topology, size, &mut tally);
+        drain_and_stay(&mut topology, &drains, size - 1, &mut tally);
         tally.note(take(&mut topology, &beats).is_ok());
         tally.note(topology.remaining(StorageId(size - 1)) == Some(1000));
         lose_all(&mut topology, size, &mut tally);
@@ -95,6 +100,19 @@ fn look_up(topology: &Topology, number: u32, tally: &mut Tally) {
     tally.note(topology.remaining(storage) == Some(0));
     tally.note(topology.storage_at(number) == Some(storage));
     tally.note(topology.node_at(number) == Some(NodeId(number)));
+    tally.note(topology.node_drains(NodeId(number)) == Some(topology.is_draining(storage)));
+}
+
+/// A node drains, in room that was made, and then drains no more.
+fn drain_and_stay(topology: &mut Topology, drains: &Event, number: u32, tally: &mut Tally) {
+    let stays = Event::Undrain {
+        node: NodeId(number),
+    };
+    tally.note(take(topology, drains).is_ok());
+    tally.note(topology.node_drains(NodeId(number)) == Some(true));
+    tally.note(topology.is_draining(StorageId(number)));
+    tally.note(take(topology, &stays).is_ok());
+    tally.note(topology.node_drains(NodeId(number)) == Some(false));
 }
 
 /// Each storage fails, and its node dies.

@@ -22,10 +22,11 @@ pub fn go_over<R: Eprint>(rt: &R, alloc: Global) -> Result<Tally, Refusal> {
         let before = manager.calls();
         begun(rt, "manager");
         tally.note(manager.apply(&beats).is_ok());
+        tally.note(manager.apply(&stays()).is_ok());
         for number in 0..size {
             tell(&mut manager, number, &mut tally);
         }
-        tally.note(manager.calls().saturating_sub(before) == 1 + 5 * u64::from(size));
+        tally.note(manager.calls().saturating_sub(before) == 2 + 5 * u64::from(size));
         tally.note(manager.rounds() == 0);
         ended(rt, "manager");
     }
@@ -42,7 +43,11 @@ fn fill(manager: &mut Manager, alloc: Global, size: u32) -> Result<(), Refusal> 
     Ok(())
 }
 
-/// The five events of a block that take no memory, and its level between them.
+fn stays() -> Event {
+    Event::Undrain { node: NodeId(1) }
+}
+
+/// The five events of a block that take no memory, and between them its level and whether its node is retired.
 fn tell(manager: &mut Manager, number: u32, tally: &mut Tally) {
     let id = block(number);
     let storage = StorageId(number);
@@ -54,6 +59,7 @@ fn tell(manager: &mut Manager, number: u32, tally: &mut Tally) {
     let stamp = stamp(2);
     tally.note(manager.apply(&Event::Restamp { id, stamp }).is_ok());
     tally.note(manager.level(id) == Ok(Some(Level::NoUsableReplica)));
+    tally.note(manager.retired(NodeId(1)) == Ok(false));
     tally.note(manager.apply(&Event::Corrupt { storage, id }).is_ok());
     let gone = Done {
         added: 0,
