@@ -11,3 +11,10 @@ pub mod SlotLists
 pub mod Room
 pub mod Entries
 pub mod Naming
+-- What a round chooses of one part.
+pub mod Each
+pub mod RisingParts
+pub mod WholeChoices
+pub mod OneWish
+pub mod OwnEntries
+pub mod OnePart
