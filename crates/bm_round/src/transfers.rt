@@ -1,0 +1,99 @@
+// Which blocks are copied, from where and to where.
+ghost use Rattle.std.specs.Prelude.{◌≡◌, ◌≤◌, ◌<◌, ◌+◌, [], map, false, replicate, length, IfOk, IfErr, OnOk};
+ghost use Rattle.std.specs.Option.{IfSome};
+ghost use Rattle.bm_base.specs.declared.refusal.Refusal.TheVariants.{Memory};
+ghost use Rattle.bm_base.specs.Map.{get};
+ghost use Rattle.bm_base.specs.State.{limits_of};
+ghost use Rattle.bm_base.specs.Lists.{has_repeats};
+ghost use Rattle.bm_base.specs.Transfers.{targets_of};
+ghost use Rattle.bm_base.specs.Choices as choices;
+ghost use Rattle.bm_place.specs.Sources as sources;
+ghost use Rattle.bm_place.specs.Tables as tables;
+ghost use Rattle.bm_round.specs.Counted.{IsCounted};
+
+use crate::choice::Choice;
+use bm_base::{Config, Refusal, Transfer, Wish};
+use bm_place::{least_source, least_target};
+use bm_topo::Topology;
+use std::alloc::Global;
+
+/// The transfers for wishes, wish by wish, each as often as copies are wished for. Ends as soon as the round has as many as it
+/// may.
+pub(crate) fn choose_transfers(
+    alloc: Global,
+    wishes: &[&Wish],
+    topology: &Topology,
+    config: &Config,
+) -> Result<Vec<Transfer>, Refusal>
+    requires apart { has_repeats (map (λ w. w.block) (map (λ w. w.now) wishes.now)) ≡ false }
+    ensures transfers { IfOk result (λ v. v.items ≡ choices.transfers_over (limits_of config.now) topology.now.cluster [] (choices.one_by_one (map (λ w. w.now) wishes.now))) }
+    ensures refused { IfErr result (λ e. e ≡ Memory) }
+{
+    let mut choice = Choice::new(alloc, topology)?;
+    for wish in wishes {
+        if choice.is_full(config, topology) {
+            break;
+        }
+        choose_copies(wish, topology, config, &mut choice)?;
+    }
+    let Choice { transfers, .. } = choice;
+    Ok(transfers)
+}
+
+/// The transfers for the copies of one wish, for whose block nothing was chosen yet. Where one copy finds no source or no
+/// target, no later one does.
+fn choose_copies(
+    wish: &Wish,
+    topology: &Topology,
+    config: &Config,
+    choice: &mut Choice,
+) -> Result<(), Refusal>
+    requires counted { IsCounted topology.now.cluster choice.old }
+    requires fresh { targets_of choice.old.transfers.items wish.now.block ≡ [] }
+    ensures transfers { OnOk result (choice.new.transfers.items ≡ choices.transfers_over (limits_of config.now) topology.now.cluster choice.old.transfers.items (replicate wish.now.count wish.now)) }
+    ensures counted { OnOk result (IsCounted topology.now.cluster choice.new) }
+    ensures refused { IfErr result (λ e. e ≡ Memory) }
+{
+    choice.turn_to(wish)?;
+    for _copy in 0..wish.count {
+        let Some(transfer) = next_copy(wish, topology, config, choice) else {
+            return Ok(());
+        };
+        choice.add(transfer)?;
+    }
+    Ok(())
+}
+
+/// The transfer for one more copy of a wish. A target is looked for only where there is a source.
+#[tactic(auto, unfolding(bm_base::specs::Choices::transfer_by))]
+fn next_copy(wish: &Wish, topology: &Topology, config: &Config, choice: &Choice) -> Option<Transfer>
+    requires counted { IsCounted topology.now.cluster choice.now }
+    requires sources { choice.now.sources.items ≡ choices.sources_by wish.now }
+    requires held { choice.now.held.items ≡ choices.holders_by choice.now.transfers.items wish.now }
+    requires barred { choice.now.barred.items ≡ choices.barred_by choice.now.transfers.items wish.now }
+    ensures transfer { result ≡ choices.transfer_by (limits_of config.now) topology.now.cluster choice.now.transfers.items wish.now }
+    ensures block { IfSome result (λ t. t.block ≡ wish.now.block) }
+    ensures countable { IfSome result (λ t. IfSome (get choice.now.streams.nodes t.source) (λ n. tables.count_at choice.now.streams.counts n < sources.max_transfers)) }
+    ensures fits { IfSome result (λ t. IfSome (get choice.now.scheduled t.target) (λ r. t.stamp.len + r.scheduled ≤ r.remaining)) }
+{
+    if choice.is_full(config, topology) {
+        return None;
+    }
+    let sources = choice.sources.as_slice();
+    let Some(source) = least_source(sources, wish.level, topology, &choice.streams) else {
+        return None;
+    };
+    let held = choice.held.as_slice();
+    let barred = choice.barred.as_slice();
+    let len = wish.stamp.len;
+    let Some(target) = least_target(held, barred, len, wish.level, topology, &choice.scheduled)
+    else {
+        return None;
+    };
+    Some(Transfer {
+        block: wish.block,
+        stamp: wish.stamp,
+        source,
+        target,
+    })
+}
