@@ -1,5 +1,5 @@
 -- One part that holds all wishes and deletes of holdings: of it is chosen what is chosen of the holdings.
-use Rattle.std.proofs.Common.{◌≡◌, ℕ, List, [], ◌∷◌, ◌++◌, map, false, refl, ap, ◌∙◌, append-nil, T}
+use Rattle.std.proofs.Common.{◌≡◌, ℕ, List, [], ◌∷◌, map, false, refl, ap, ◌∙◌, append-nil, T}
 use Rattle.std.specs.FinMap.{is_sorted}
 use Rattle.bm_base.specs.declared.round.Wish.{Wish}
 use Rattle.bm_base.specs.declared.round.RoundPart.{RoundPart}
