@@ -4,3 +4,7 @@ pub mod Keyed
 pub mod Placed
 pub mod Taken
 pub mod Firsts
+pub mod Bounds
+pub mod Copied
+pub mod Told
+pub mod Tested
