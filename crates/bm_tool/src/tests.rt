@@ -7,6 +7,7 @@ mod lines;
 mod noting;
 mod reports;
 mod rounds;
+mod rows;
 mod runs;
 mod streams;
 mod support;

@@ -1,8 +1,115 @@
 // The calls of the tool: accepted, and refused with each later check failing too.
+use crate::tests::rows::{ALL_SPENT, LAST_CALL, NOTHING, Row, USUAL, go};
 use crate::tests::support::{FIRST_PATH, FIRST_PATH_ANSWERS, run_over, run_with, usual};
 use crate::{Fault, Summary};
 use bm_base::Config;
 use std::test::Fail;
+
+const ROWS: [Row; 4] = [
+    Row {
+        name: "add_and_received_are_refused_in_the_order_of_their_checks",
+        config: USUAL,
+        before: NOTHING,
+        script: "{\"op\":\"register\",\"node\":1,\"rack\":1,\"storages\":[11,12]}
+{\"op\":\"add\",\"id\":7,\"gen\":1,\"len\":10,\"repl\":3}
+{\"op\":\"add\",\"id\":7,\"gen\":1,\"len\":10,\"repl\":0}
+{\"op\":\"received\",\"storage\":11,\"id\":8,\"gen\":1,\"len\":10}
+{\"op\":\"add\",\"id\":8,\"gen\":1,\"len\":10,\"repl\":17}
+{\"op\":\"add\",\"id\":9,\"gen\":1,\"len\":10,\"repl\":17}
+{\"op\":\"add\",\"id\":9,\"gen\":1,\"len\":10,\"repl\":0}
+{\"op\":\"add\",\"id\":9,\"gen\":1,\"len\":10,\"repl\":16}
+{\"op\":\"add\",\"id\":10,\"gen\":1,\"len\":10,\"repl\":1}
+{\"op\":\"received\",\"storage\":99,\"id\":7,\"gen\":1,\"len\":10}
+{\"op\":\"list_places\",\"id\":8}
+{\"op\":\"list_places\",\"id\":7}
+",
+        answers: "ok 0 0
+ok 0 0
+refused 6 BlockKnown
+ok 1 0
+refused 7 StillStored
+refused 8 BadReplication
+refused 8 BadReplication
+ok 0 0
+ok 0 0
+refused 3 UnknownStorage
+refused 5 UnknownBlock
+places 7
+",
+    },
+    Row {
+        name: "a_replica_is_good_by_its_stamp_and_moves_between_sister_storages",
+        config: USUAL,
+        before: NOTHING,
+        script: "{\"op\":\"register\",\"node\":1,\"rack\":1,\"storages\":[11,12]}
+{\"op\":\"register\",\"node\":2,\"rack\":1,\"storages\":[21]}
+{\"op\":\"add\",\"id\":7,\"gen\":1,\"len\":10,\"repl\":3}
+{\"op\":\"received\",\"storage\":21,\"id\":7,\"gen\":1,\"len\":10}
+{\"op\":\"received\",\"storage\":11,\"id\":7,\"gen\":1,\"len\":10}
+{\"op\":\"list_places\",\"id\":7}
+{\"op\":\"received\",\"storage\":12,\"id\":7,\"gen\":1,\"len\":10}
+{\"op\":\"list_places\",\"id\":7}
+{\"op\":\"received\",\"storage\":12,\"id\":7,\"gen\":2,\"len\":10}
+{\"op\":\"list_places\",\"id\":7}
+{\"op\":\"received\",\"storage\":12,\"id\":7,\"gen\":1,\"len\":11}
+{\"op\":\"list_places\",\"id\":7}
+{\"op\":\"received\",\"storage\":12,\"id\":7,\"gen\":1,\"len\":10}
+{\"op\":\"list_places\",\"id\":7}
+",
+        answers: "ok 0 0
+ok 0 0
+ok 0 0
+ok 1 0
+ok 1 0
+places 7; 11; 21
+ok 1 1
+places 7; 12; 21
+ok 0 0
+places 7; 21
+ok 0 0
+places 7; 21
+ok 0 0
+places 7; 12; 21
+",
+    },
+    Row {
+        name: "calls_run_out",
+        config: LAST_CALL,
+        before: NOTHING,
+        script: "{\"op\":\"add\",\"id\":7,\"gen\":1,\"len\":10,\"repl\":3}
+{\"op\":\"add\",\"id\":8,\"gen\":1,\"len\":10,\"repl\":3}
+{\"op\":\"register\",\"node\":1,\"rack\":1,\"storages\":[]}
+{\"op\":\"add\",\"id\":7,\"gen\":1,\"len\":10,\"repl\":3}
+{\"op\":\"received\",\"storage\":1,\"id\":7,\"gen\":1,\"len\":10}
+{\"op\":\"list_places\",\"id\":7}
+{\"op\":\"list_places\",\"id\":8}
+",
+        answers: "ok 0 0
+refused 13 CallsSpent
+refused 13 CallsSpent
+refused 6 BlockKnown
+refused 3 UnknownStorage
+places 7
+refused 5 UnknownBlock
+",
+    },
+    Row {
+        name: "no_call_is_left",
+        config: ALL_SPENT,
+        before: NOTHING,
+        script: FIRST_PATH,
+        answers: "refused 13 CallsSpent
+refused 13 CallsSpent
+refused 3 UnknownStorage
+refused 5 UnknownBlock
+",
+    },
+];
+
+#[test]
+fn scripts_from_nothing(rt: HostRuntime) -> Result<(), Fail> {
+    go(&rt, rt.alloc(), ROWS.as_slice())
+}
 
 #[test]
 fn empty_input(rt: HostRuntime) {
@@ -94,82 +201,6 @@ fn nodes_are_counted(rt: HostRuntime) -> Result<(), Fail> {
     assert!(rt; result.is_ok());
     assert_eq!(rt; text.as_slice(), answers.as_slice());
     Ok(())
-}
-
-#[test]
-fn add_and_received_are_refused_in_the_order_of_their_checks(rt: HostRuntime) {
-    let input = "{\"op\":\"register\",\"node\":1,\"rack\":1,\"storages\":[11,12]}
-{\"op\":\"add\",\"id\":7,\"gen\":1,\"len\":10,\"repl\":3}
-{\"op\":\"add\",\"id\":7,\"gen\":1,\"len\":10,\"repl\":0}
-{\"op\":\"received\",\"storage\":11,\"id\":8,\"gen\":1,\"len\":10}
-{\"op\":\"add\",\"id\":8,\"gen\":1,\"len\":10,\"repl\":17}
-{\"op\":\"add\",\"id\":9,\"gen\":1,\"len\":10,\"repl\":17}
-{\"op\":\"add\",\"id\":9,\"gen\":1,\"len\":10,\"repl\":0}
-{\"op\":\"add\",\"id\":9,\"gen\":1,\"len\":10,\"repl\":16}
-{\"op\":\"add\",\"id\":10,\"gen\":1,\"len\":10,\"repl\":1}
-{\"op\":\"received\",\"storage\":99,\"id\":7,\"gen\":1,\"len\":10}
-{\"op\":\"list_places\",\"id\":8}
-{\"op\":\"list_places\",\"id\":7}
-";
-    let answers =
-        "ok 0 0\nok 0 0\nrefused 6 BlockKnown\nok 1 0\nrefused 7 StillStored\nrefused 8 BadReplication\nrefused 8 BadReplication\nok 0 0\nok 0 0\nrefused 3 UnknownStorage\nrefused 5 UnknownBlock\nplaces 7\n";
-    let (result, text) = run_over(&rt, rt.alloc(), input.as_bytes());
-    assert!(rt; result.is_ok());
-    assert_eq!(rt; text.as_slice(), answers.as_bytes());
-}
-
-#[test]
-fn a_replica_is_good_by_its_stamp_and_moves_between_sister_storages(rt: HostRuntime) {
-    let input = "{\"op\":\"register\",\"node\":1,\"rack\":1,\"storages\":[11,12]}
-{\"op\":\"register\",\"node\":2,\"rack\":1,\"storages\":[21]}
-{\"op\":\"add\",\"id\":7,\"gen\":1,\"len\":10,\"repl\":3}
-{\"op\":\"received\",\"storage\":21,\"id\":7,\"gen\":1,\"len\":10}
-{\"op\":\"received\",\"storage\":11,\"id\":7,\"gen\":1,\"len\":10}
-{\"op\":\"list_places\",\"id\":7}
-{\"op\":\"received\",\"storage\":12,\"id\":7,\"gen\":1,\"len\":10}
-{\"op\":\"list_places\",\"id\":7}
-{\"op\":\"received\",\"storage\":12,\"id\":7,\"gen\":2,\"len\":10}
-{\"op\":\"list_places\",\"id\":7}
-{\"op\":\"received\",\"storage\":12,\"id\":7,\"gen\":1,\"len\":11}
-{\"op\":\"list_places\",\"id\":7}
-{\"op\":\"received\",\"storage\":12,\"id\":7,\"gen\":1,\"len\":10}
-{\"op\":\"list_places\",\"id\":7}
-";
-    let answers =
-        "ok 0 0\nok 0 0\nok 0 0\nok 1 0\nok 1 0\nplaces 7; 11; 21\nok 1 1\nplaces 7; 12; 21\nok 0 0\nplaces 7; 21\nok 0 0\nplaces 7; 21\nok 0 0\nplaces 7; 12; 21\n";
-    let (result, text) = run_over(&rt, rt.alloc(), input.as_bytes());
-    assert!(rt; result.is_ok());
-    assert_eq!(rt; text.as_slice(), answers.as_bytes());
-}
-
-#[test]
-fn calls_run_out(rt: HostRuntime) {
-    let config = Config {
-        first_call: 18_446_744_073_709_551_614,
-        ..usual()
-    };
-    let input = "{\"op\":\"add\",\"id\":7,\"gen\":1,\"len\":10,\"repl\":3}
-{\"op\":\"add\",\"id\":8,\"gen\":1,\"len\":10,\"repl\":3}
-{\"op\":\"register\",\"node\":1,\"rack\":1,\"storages\":[]}
-{\"op\":\"add\",\"id\":7,\"gen\":1,\"len\":10,\"repl\":3}
-{\"op\":\"received\",\"storage\":1,\"id\":7,\"gen\":1,\"len\":10}
-{\"op\":\"list_places\",\"id\":7}
-{\"op\":\"list_places\",\"id\":8}
-";
-    let answers =
-        "ok 0 0\nrefused 13 CallsSpent\nrefused 13 CallsSpent\nrefused 6 BlockKnown\nrefused 3 UnknownStorage\nplaces 7\nrefused 5 UnknownBlock\n";
-    let (result, text) = run_with(&rt, rt.alloc(), &config, input.as_bytes());
-    assert!(rt; result.is_ok());
-    assert_eq!(rt; text.as_slice(), answers.as_bytes());
-    let spent = Config {
-        first_call: u64::MAX,
-        ..usual()
-    };
-    let (result, text) = run_with(&rt, rt.alloc(), &spent, FIRST_PATH.as_bytes());
-    assert!(rt; result.is_ok());
-    let answers =
-        "refused 13 CallsSpent\nrefused 13 CallsSpent\nrefused 3 UnknownStorage\nrefused 5 UnknownBlock\n";
-    assert_eq!(rt; text.as_slice(), answers.as_bytes());
 }
 
 #[test]

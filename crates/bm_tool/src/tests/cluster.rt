@@ -1,30 +1,30 @@
 // Scripts of calls on four DataNodes, two on each of two racks, and their answers, worked out by hand.
-use crate::tests::support::{answers_on_cluster, cluster_then, run_over, run_with, usual};
-use bm_base::Config;
+use crate::tests::rows::{CLUSTER, LAST_ROUND, NOTHING, Row, USUAL, go};
 use std::test::Fail;
 
-/// A known block without replicas is missing, and a round does nothing for it yet.
-#[test]
-fn block_without_replicas_is_missing(rt: HostRuntime) -> Result<(), Fail> {
-    let script = "{\"op\":\"add\",\"id\":7,\"gen\":1,\"len\":10,\"repl\":3}
+const ROWS: [Row; 15] = [
+    // A known block without replicas is missing, and a round does nothing for it yet.
+    Row {
+        name: "block_without_replicas_is_missing",
+        config: USUAL,
+        before: CLUSTER,
+        script: "{\"op\":\"add\",\"id\":7,\"gen\":1,\"len\":10,\"repl\":3}
 {\"op\":\"list_missing\"}
 {\"op\":\"level\",\"id\":7}
 {\"op\":\"round\"}
-";
-    let want = "ok 0 0
+",
+        answers: "ok 0 0
 missing; 7
 level 7; 4
 round 1
-";
-    let answers = answers_on_cluster(&rt, rt.alloc(), script)?;
-    assert_eq!(rt; answers.as_slice(), want.as_bytes());
-    Ok(())
-}
-
-/// Another number of wanted replicas changes the level, and nothing else.
-#[test]
-fn levels_follow_changed_replication(rt: HostRuntime) -> Result<(), Fail> {
-    let script = "{\"op\":\"add\",\"id\":7,\"gen\":1,\"len\":10,\"repl\":6}
+",
+    },
+    // Another number of wanted replicas changes the level, and nothing else.
+    Row {
+        name: "levels_follow_changed_replication",
+        config: USUAL,
+        before: CLUSTER,
+        script: "{\"op\":\"add\",\"id\":7,\"gen\":1,\"len\":10,\"repl\":6}
 {\"op\":\"received\",\"storage\":11,\"id\":7,\"gen\":1,\"len\":10}
 {\"op\":\"received\",\"storage\":31,\"id\":7,\"gen\":1,\"len\":10}
 {\"op\":\"level\",\"id\":7}
@@ -35,8 +35,8 @@ fn levels_follow_changed_replication(rt: HostRuntime) -> Result<(), Fail> {
 {\"op\":\"set_replication\",\"id\":7,\"repl\":17}
 {\"op\":\"set_replication\",\"id\":7,\"repl\":0}
 {\"op\":\"set_replication\",\"id\":6,\"repl\":0}
-";
-    let want = "ok 0 0
+",
+        answers: "ok 0 0
 ok 1 0
 ok 1 0
 level 7; 2
@@ -47,16 +47,14 @@ level 7; none
 refused 8 BadReplication
 refused 8 BadReplication
 refused 5 UnknownBlock
-";
-    let answers = answers_on_cluster(&rt, rt.alloc(), script)?;
-    assert_eq!(rt; answers.as_slice(), want.as_bytes());
-    Ok(())
-}
-
-/// The last entry of a block counts, and a round orders the stray replica to be deleted once.
-#[test]
-fn wrong_stamp_in_report(rt: HostRuntime) -> Result<(), Fail> {
-    let script = "{\"op\":\"add\",\"id\":7,\"gen\":1,\"len\":10,\"repl\":3}
+",
+    },
+    // The last entry of a block counts, and a round orders the stray replica to be deleted once.
+    Row {
+        name: "wrong_stamp_in_report",
+        config: USUAL,
+        before: CLUSTER,
+        script: "{\"op\":\"add\",\"id\":7,\"gen\":1,\"len\":10,\"repl\":3}
 {\"op\":\"add\",\"id\":9,\"gen\":1,\"len\":10,\"repl\":3}
 {\"op\":\"received\",\"storage\":11,\"id\":7,\"gen\":1,\"len\":10}
 {\"op\":\"received\",\"storage\":11,\"id\":9,\"gen\":1,\"len\":10}
@@ -65,8 +63,8 @@ fn wrong_stamp_in_report(rt: HostRuntime) -> Result<(), Fail> {
 {\"op\":\"list_corrupt\"}
 {\"op\":\"round\"}
 {\"op\":\"round\"}
-";
-    let want = "ok 0 0
+",
+        answers: "ok 0 0
 ok 0 0
 ok 1 0
 ok 1 0
@@ -75,16 +73,14 @@ replicas; 7 11 stale; 8 11 stray
 corrupt; 7 11
 round 1; delete 1 11 8
 round 2
-";
-    let answers = answers_on_cluster(&rt, rt.alloc(), script)?;
-    assert_eq!(rt; answers.as_slice(), want.as_bytes());
-    Ok(())
-}
-
-/// What a report does not name leaves.
-#[test]
-fn empty_report_clears_storage(rt: HostRuntime) -> Result<(), Fail> {
-    let script = "{\"op\":\"add\",\"id\":7,\"gen\":1,\"len\":10,\"repl\":3}
+",
+    },
+    // What a report does not name leaves.
+    Row {
+        name: "empty_report_clears_storage",
+        config: USUAL,
+        before: CLUSTER,
+        script: "{\"op\":\"add\",\"id\":7,\"gen\":1,\"len\":10,\"repl\":3}
 {\"op\":\"add\",\"id\":9,\"gen\":1,\"len\":10,\"repl\":3}
 {\"op\":\"received\",\"storage\":11,\"id\":7,\"gen\":1,\"len\":10}
 {\"op\":\"received\",\"storage\":11,\"id\":9,\"gen\":1,\"len\":10}
@@ -98,8 +94,8 @@ fn empty_report_clears_storage(rt: HostRuntime) -> Result<(), Fail> {
 {\"op\":\"list_replicas\"}
 {\"op\":\"list_storage\",\"storage\":11}
 {\"op\":\"list_storage\",\"storage\":99}
-";
-    let want = "ok 0 0
+",
+        answers: "ok 0 0
 ok 0 0
 ok 1 0
 ok 1 0
@@ -113,16 +109,14 @@ ok 0 2
 replicas; 7 21 good
 storage 11
 refused 3 UnknownStorage
-";
-    let answers = answers_on_cluster(&rt, rt.alloc(), script)?;
-    assert_eq!(rt; answers.as_slice(), want.as_bytes());
-    Ok(())
-}
-
-/// A new version makes good replicas stale until they come again.
-#[test]
-fn restamp_makes_stale(rt: HostRuntime) -> Result<(), Fail> {
-    let script = "{\"op\":\"add\",\"id\":7,\"gen\":1,\"len\":10,\"repl\":3}
+",
+    },
+    // A new version makes good replicas stale until they come again.
+    Row {
+        name: "restamp_makes_stale",
+        config: USUAL,
+        before: CLUSTER,
+        script: "{\"op\":\"add\",\"id\":7,\"gen\":1,\"len\":10,\"repl\":3}
 {\"op\":\"received\",\"storage\":11,\"id\":7,\"gen\":1,\"len\":10}
 {\"op\":\"received\",\"storage\":31,\"id\":7,\"gen\":1,\"len\":10}
 {\"op\":\"restamp\",\"id\":7,\"gen\":2,\"len\":10}
@@ -131,8 +125,8 @@ fn restamp_makes_stale(rt: HostRuntime) -> Result<(), Fail> {
 {\"op\":\"received\",\"storage\":31,\"id\":7,\"gen\":2,\"len\":10}
 {\"op\":\"list_corrupt\"}
 {\"op\":\"restamp\",\"id\":7,\"gen\":2,\"len\":10}
-";
-    let want = "ok 0 0
+",
+        answers: "ok 0 0
 ok 1 0
 ok 1 0
 ok 0 0
@@ -141,16 +135,14 @@ level 7; 4
 ok 0 0
 corrupt; 7 11
 refused 9 OldGeneration
-";
-    let answers = answers_on_cluster(&rt, rt.alloc(), script)?;
-    assert_eq!(rt; answers.as_slice(), want.as_bytes());
-    Ok(())
-}
-
-/// The number of a deleted block may be used again once its replicas are gone.
-#[test]
-fn deleted_block_must_leave_storages(rt: HostRuntime) -> Result<(), Fail> {
-    let script = "{\"op\":\"add\",\"id\":7,\"gen\":1,\"len\":10,\"repl\":1}
+",
+    },
+    // The number of a deleted block may be used again once its replicas are gone.
+    Row {
+        name: "deleted_block_must_leave_storages",
+        config: USUAL,
+        before: CLUSTER,
+        script: "{\"op\":\"add\",\"id\":7,\"gen\":1,\"len\":10,\"repl\":1}
 {\"op\":\"received\",\"storage\":11,\"id\":7,\"gen\":1,\"len\":10}
 {\"op\":\"delete\",\"id\":7}
 {\"op\":\"add\",\"id\":7,\"gen\":1,\"len\":10,\"repl\":1}
@@ -158,8 +150,8 @@ fn deleted_block_must_leave_storages(rt: HostRuntime) -> Result<(), Fail> {
 {\"op\":\"deleted\",\"storage\":11,\"id\":7}
 {\"op\":\"add\",\"id\":7,\"gen\":1,\"len\":10,\"repl\":1}
 {\"op\":\"add\",\"id\":7,\"gen\":1,\"len\":10,\"repl\":0}
-";
-    let want = "ok 0 0
+",
+        answers: "ok 0 0
 ok 1 0
 ok 0 0
 refused 7 StillStored
@@ -167,40 +159,36 @@ round 1; delete 1 11 7
 ok 0 1
 ok 0 0
 refused 6 BlockKnown
-";
-    let answers = answers_on_cluster(&rt, rt.alloc(), script)?;
-    assert_eq!(rt; answers.as_slice(), want.as_bytes());
-    Ok(())
-}
-
-/// With one rack left, nothing is badly distributed.
-#[test]
-fn badly_distributed_block_loses_its_other_rack(rt: HostRuntime) -> Result<(), Fail> {
-    let script = "{\"op\":\"add\",\"id\":7,\"gen\":1,\"len\":10,\"repl\":2}
+",
+    },
+    // With one rack left, nothing is badly distributed.
+    Row {
+        name: "badly_distributed_block_loses_its_other_rack",
+        config: USUAL,
+        before: CLUSTER,
+        script: "{\"op\":\"add\",\"id\":7,\"gen\":1,\"len\":10,\"repl\":2}
 {\"op\":\"received\",\"storage\":11,\"id\":7,\"gen\":1,\"len\":10}
 {\"op\":\"received\",\"storage\":21,\"id\":7,\"gen\":1,\"len\":10}
 {\"op\":\"level\",\"id\":7}
 {\"op\":\"dead\",\"node\":3}
 {\"op\":\"dead\",\"node\":4}
 {\"op\":\"level\",\"id\":7}
-";
-    let want = "ok 0 0
+",
+        answers: "ok 0 0
 ok 1 0
 ok 1 0
 level 7; 3
 ok 0 0
 ok 0 0
 level 7; none
-";
-    let answers = answers_on_cluster(&rt, rt.alloc(), script)?;
-    assert_eq!(rt; answers.as_slice(), want.as_bytes());
-    Ok(())
-}
-
-/// A node has one replica of a block, and a bad one stays bad until it goes.
-#[test]
-fn block_moves_between_sister_storages(rt: HostRuntime) -> Result<(), Fail> {
-    let script = "{\"op\":\"register\",\"node\":1,\"rack\":1,\"storages\":[11,12]}
+",
+    },
+    // A node has one replica of a block, and a bad one stays bad until it goes.
+    Row {
+        name: "block_moves_between_sister_storages",
+        config: USUAL,
+        before: NOTHING,
+        script: "{\"op\":\"register\",\"node\":1,\"rack\":1,\"storages\":[11,12]}
 {\"op\":\"register\",\"node\":2,\"rack\":1,\"storages\":[21]}
 {\"op\":\"register\",\"node\":3,\"rack\":2,\"storages\":[31]}
 {\"op\":\"register\",\"node\":4,\"rack\":2,\"storages\":[41]}
@@ -218,8 +206,8 @@ fn block_moves_between_sister_storages(rt: HostRuntime) -> Result<(), Fail> {
 {\"op\":\"list_replicas\"}
 {\"op\":\"report\",\"storage\":11,\"blocks\":[[7,0,10],[7,1,10]]}
 {\"op\":\"list_replicas\"}
-";
-    let want = "ok 0 0
+",
+        answers: "ok 0 0
 ok 0 0
 ok 0 0
 ok 0 0
@@ -237,17 +225,14 @@ ok 0 0
 replicas; 7 12 bad
 ok 1 1
 replicas; 7 11 good
-";
-    let (result, answers) = run_over(&rt, rt.alloc(), script.as_bytes());
-    assert!(rt; result.is_ok());
-    assert_eq!(rt; answers.as_slice(), want.as_bytes());
-    Ok(())
-}
-
-/// Each refusal has its number and its name.
-#[test]
-fn refusals_are_named(rt: HostRuntime) -> Result<(), Fail> {
-    let script = "{\"op\":\"register\",\"node\":1,\"rack\":9,\"storages\":[99]}
+",
+    },
+    // Each refusal has its number and its name.
+    Row {
+        name: "refusals_are_named",
+        config: USUAL,
+        before: CLUSTER,
+        script: "{\"op\":\"register\",\"node\":1,\"rack\":9,\"storages\":[99]}
 {\"op\":\"register\",\"node\":5,\"rack\":1,\"storages\":[51,51]}
 {\"op\":\"register\",\"node\":5,\"rack\":1,\"storages\":[11]}
 {\"op\":\"heartbeat\",\"node\":1,\"remaining\":[[21,5]]}
@@ -256,8 +241,8 @@ fn refusals_are_named(rt: HostRuntime) -> Result<(), Fail> {
 {\"op\":\"corrupt\",\"storage\":11,\"id\":7}
 {\"op\":\"storage_failed\",\"storage\":11}
 {\"op\":\"storage_failed\",\"storage\":11}
-";
-    let want = "refused 2 NodeKnown
+",
+        answers: "refused 2 NodeKnown
 refused 4 StorageKnown
 refused 4 StorageKnown
 refused 11 NotItsStorage
@@ -266,16 +251,14 @@ refused 1 UnknownNode
 refused 5 UnknownBlock
 ok 0 0
 refused 3 UnknownStorage
-";
-    let answers = answers_on_cluster(&rt, rt.alloc(), script)?;
-    assert_eq!(rt; answers.as_slice(), want.as_bytes());
-    Ok(())
-}
-
-/// A dead node takes its storages and their replicas, and leaves those of others with their marks; it may come again with others.
-#[test]
-fn dead_node_takes_its_storages_and_replicas(rt: HostRuntime) -> Result<(), Fail> {
-    let script = "{\"op\":\"add\",\"id\":7,\"gen\":1,\"len\":10,\"repl\":3}
+",
+    },
+    // A dead node takes its storages and their replicas, and leaves those of others with their marks; it may come again with others.
+    Row {
+        name: "dead_node_takes_its_storages_and_replicas",
+        config: USUAL,
+        before: CLUSTER,
+        script: "{\"op\":\"add\",\"id\":7,\"gen\":1,\"len\":10,\"repl\":3}
 {\"op\":\"received\",\"storage\":11,\"id\":7,\"gen\":1,\"len\":10}
 {\"op\":\"received\",\"storage\":21,\"id\":7,\"gen\":1,\"len\":10}
 {\"op\":\"received\",\"storage\":11,\"id\":8,\"gen\":1,\"len\":10}
@@ -290,8 +273,8 @@ fn dead_node_takes_its_storages_and_replicas(rt: HostRuntime) -> Result<(), Fail
 {\"op\":\"register\",\"node\":5,\"rack\":1,\"storages\":[11]}
 {\"op\":\"received\",\"storage\":11,\"id\":7,\"gen\":1,\"len\":10}
 {\"op\":\"list_storage\",\"storage\":11}
-";
-    let want = "ok 0 0
+",
+        answers: "ok 0 0
 ok 1 0
 ok 1 0
 ok 1 0
@@ -306,16 +289,14 @@ storage 12
 ok 0 0
 ok 1 0
 storage 11; 7
-";
-    let answers = answers_on_cluster(&rt, rt.alloc(), script)?;
-    assert_eq!(rt; answers.as_slice(), want.as_bytes());
-    Ok(())
-}
-
-/// A failed storage takes its replicas alone: its node stays, and so do the replicas elsewhere.
-#[test]
-fn failed_storage_leaves_its_node(rt: HostRuntime) -> Result<(), Fail> {
-    let script = "{\"op\":\"add\",\"id\":7,\"gen\":1,\"len\":10,\"repl\":3}
+",
+    },
+    // A failed storage takes its replicas alone: its node stays, and so do the replicas elsewhere.
+    Row {
+        name: "failed_storage_leaves_its_node",
+        config: USUAL,
+        before: CLUSTER,
+        script: "{\"op\":\"add\",\"id\":7,\"gen\":1,\"len\":10,\"repl\":3}
 {\"op\":\"received\",\"storage\":11,\"id\":7,\"gen\":1,\"len\":10}
 {\"op\":\"received\",\"storage\":31,\"id\":7,\"gen\":1,\"len\":10}
 {\"op\":\"storage_failed\",\"storage\":11}
@@ -325,8 +306,8 @@ fn failed_storage_leaves_its_node(rt: HostRuntime) -> Result<(), Fail> {
 {\"op\":\"register\",\"node\":1,\"rack\":1,\"storages\":[11]}
 {\"op\":\"register\",\"node\":5,\"rack\":1,\"storages\":[11,51]}
 {\"op\":\"list_storage\",\"storage\":11}
-";
-    let want = "ok 0 0
+",
+        answers: "ok 0 0
 ok 1 0
 ok 1 0
 ok 0 1
@@ -336,16 +317,14 @@ refused 3 UnknownStorage
 refused 2 NodeKnown
 ok 0 0
 storage 11
-";
-    let answers = answers_on_cluster(&rt, rt.alloc(), script)?;
-    assert_eq!(rt; answers.as_slice(), want.as_bytes());
-    Ok(())
-}
-
-/// A replica that is told to be deleted goes once, whatever its marks; no other goes.
-#[test]
-fn deleted_replica_counts_once(rt: HostRuntime) -> Result<(), Fail> {
-    let script = "{\"op\":\"add\",\"id\":7,\"gen\":1,\"len\":10,\"repl\":3}
+",
+    },
+    // A replica that is told to be deleted goes once, whatever its marks; no other goes.
+    Row {
+        name: "deleted_replica_counts_once",
+        config: USUAL,
+        before: CLUSTER,
+        script: "{\"op\":\"add\",\"id\":7,\"gen\":1,\"len\":10,\"repl\":3}
 {\"op\":\"received\",\"storage\":11,\"id\":7,\"gen\":1,\"len\":10}
 {\"op\":\"received\",\"storage\":21,\"id\":7,\"gen\":1,\"len\":10}
 {\"op\":\"deleted\",\"storage\":11,\"id\":7}
@@ -356,8 +335,8 @@ fn deleted_replica_counts_once(rt: HostRuntime) -> Result<(), Fail> {
 {\"op\":\"corrupt\",\"storage\":11,\"id\":7}
 {\"op\":\"list_replicas\"}
 {\"op\":\"corrupt\",\"storage\":99,\"id\":8}
-";
-    let want = "ok 0 0
+",
+        answers: "ok 0 0
 ok 1 0
 ok 1 0
 ok 0 1
@@ -368,16 +347,14 @@ replicas; 7 21 good
 ok 0 0
 replicas; 7 21 good
 refused 3 UnknownStorage
-";
-    let answers = answers_on_cluster(&rt, rt.alloc(), script)?;
-    assert_eq!(rt; answers.as_slice(), want.as_bytes());
-    Ok(())
-}
-
-/// An unknown block comes before a bad number of replicas; an equal generation is old.
-#[test]
-fn changes_of_blocks_are_refused_in_the_order_of_their_checks(rt: HostRuntime) -> Result<(), Fail> {
-    let script = "{\"op\":\"set_replication\",\"id\":7,\"repl\":0}
+",
+    },
+    // An unknown block comes before a bad number of replicas; an equal generation is old.
+    Row {
+        name: "changes_of_blocks_are_refused_in_the_order_of_their_checks",
+        config: USUAL,
+        before: CLUSTER,
+        script: "{\"op\":\"set_replication\",\"id\":7,\"repl\":0}
 {\"op\":\"delete\",\"id\":7}
 {\"op\":\"restamp\",\"id\":7,\"gen\":2,\"len\":10}
 {\"op\":\"add\",\"id\":7,\"gen\":5,\"len\":10,\"repl\":3}
@@ -389,8 +366,8 @@ fn changes_of_blocks_are_refused_in_the_order_of_their_checks(rt: HostRuntime) -
 {\"op\":\"restamp\",\"id\":7,\"gen\":6,\"len\":10}
 {\"op\":\"received\",\"storage\":11,\"id\":7,\"gen\":6,\"len\":10}
 {\"op\":\"list_replicas\"}
-";
-    let want = "refused 5 UnknownBlock
+",
+        answers: "refused 5 UnknownBlock
 refused 5 UnknownBlock
 refused 5 UnknownBlock
 ok 0 0
@@ -402,16 +379,14 @@ refused 9 OldGeneration
 ok 0 0
 ok 1 0
 replicas; 7 11 good
-";
-    let answers = answers_on_cluster(&rt, rt.alloc(), script)?;
-    assert_eq!(rt; answers.as_slice(), want.as_bytes());
-    Ok(())
-}
-
-/// A line whose fields are missing or too great asks for no call, and neither does one of a name that is not built.
-#[test]
-fn lines_without_their_fields_are_bad(rt: HostRuntime) -> Result<(), Fail> {
-    let script = "{\"op\":\"heartbeat\",\"node\":1}
+",
+    },
+    // A line whose fields are missing or too great asks for no call, and neither does one of a name that is not built.
+    Row {
+        name: "lines_without_their_fields_are_bad",
+        config: USUAL,
+        before: CLUSTER,
+        script: "{\"op\":\"heartbeat\",\"node\":1}
 {\"op\":\"heartbeat\",\"node\":1,\"remaining\":[[11]]}
 {\"op\":\"heartbeat\",\"node\":1,\"remaining\":[[11,1,1]]}
 {\"op\":\"heartbeat\",\"node\":1,\"remaining\":[[4294967296,1]]}
@@ -425,8 +400,8 @@ fn lines_without_their_fields_are_bad(rt: HostRuntime) -> Result<(), Fail> {
 {\"op\":\"corrupt\",\"storage\":11}
 {\"op\":\"list_storage\"}
 {\"op\":\"list_excess\"}
-";
-    let want = "refused 20 BadLine
+",
+        answers: "refused 20 BadLine
 refused 20 BadLine
 refused 20 BadLine
 refused 20 BadLine
@@ -440,26 +415,23 @@ refused 20 BadLine
 refused 20 BadLine
 refused 20 BadLine
 refused 20 BadLine
-";
-    let answers = answers_on_cluster(&rt, rt.alloc(), script)?;
-    assert_eq!(rt; answers.as_slice(), want.as_bytes());
-    Ok(())
-}
+",
+    },
+    // The last round number and the last number of accepted calls end what may come.
+    Row {
+        name: "rounds_run_out_on_a_cluster",
+        config: LAST_ROUND,
+        before: CLUSTER,
+        script: "{\"op\":\"round\"}
+{\"op\":\"round\"}
+",
+        answers: "round 18446744073709551615
+refused 12 RoundsSpent
+",
+    },
+];
 
-/// The last round number and the last number of accepted calls end what may come.
 #[test]
-fn rounds_run_out_on_a_cluster(rt: HostRuntime) -> Result<(), Fail> {
-    let config = Config {
-        first_round: 18_446_744_073_709_551_614,
-        ..usual()
-    };
-    let input = cluster_then(rt.alloc(), "{\"op\":\"round\"}\n{\"op\":\"round\"}\n")?;
-    let (result, text) = run_with(&rt, rt.alloc(), &config, input.as_slice());
-    assert!(rt; result.is_ok());
-    let answers = text.as_slice().get(56..).unwrap_or(&[]);
-    assert_eq!(rt;
-        answers,
-        b"round 18446744073709551615\nrefused 12 RoundsSpent\n".as_slice()
-    );
-    Ok(())
+fn scripts_on_a_cluster(rt: HostRuntime) -> Result<(), Fail> {
+    go(&rt, rt.alloc(), ROWS.as_slice())
 }

@@ -1,10 +1,14 @@
 // Nodes that drain, as far as no round has to copy.
-use crate::tests::support::{Row, is_answered};
+use crate::tests::rows::{CLUSTER, Row, USUAL, go};
 use std::test::Fail;
 
-/// Its only replica is drained: the block is needed most urgently, and not missing; the node is retired once another is live.
-const DRAINING_BLOCK: Row = Row {
-    script: "{\"op\":\"add\",\"id\":7,\"gen\":1,\"len\":10,\"repl\":1}
+const ROWS: [Row; 2] = [
+    // Its only replica is drained: the block is needed most urgently, and not missing; the node is retired once another is live.
+    Row {
+        name: "draining_block",
+        config: USUAL,
+        before: CLUSTER,
+        script: "{\"op\":\"add\",\"id\":7,\"gen\":1,\"len\":10,\"repl\":1}
 {\"op\":\"received\",\"storage\":11,\"id\":7,\"gen\":1,\"len\":10}
 {\"op\":\"retired\",\"node\":1}
 {\"op\":\"drain\",\"node\":1}
@@ -25,7 +29,7 @@ const DRAINING_BLOCK: Row = Row {
 {\"op\":\"undrain\",\"node\":9}
 {\"op\":\"retired\",\"node\":9}
 ",
-    answers: "ok 0 0
+        answers: "ok 0 0
 ok 1 0
 retired 1; no
 ok 0 0
@@ -46,16 +50,13 @@ refused 1 UnknownNode
 refused 1 UnknownNode
 refused 1 UnknownNode
 ",
-};
-
-#[test]
-fn draining_block_is_retired_once_another_is_live(rt: HostRuntime) -> Result<(), Fail> {
-    is_answered(&rt, rt.alloc(), &DRAINING_BLOCK)
-}
-
-/// A retired node can die: no block is missing that was not. One that holds replicas back can't.
-const RETIRED_NODE_DIES: Row = Row {
-    script: "{\"op\":\"add\",\"id\":7,\"gen\":1,\"len\":10,\"repl\":1}
+    },
+    // A retired node can die: no block is missing that was not. One that holds replicas back can't.
+    Row {
+        name: "retired_node_dies",
+        config: USUAL,
+        before: CLUSTER,
+        script: "{\"op\":\"add\",\"id\":7,\"gen\":1,\"len\":10,\"repl\":1}
 {\"op\":\"add\",\"id\":8,\"gen\":1,\"len\":10,\"repl\":2}
 {\"op\":\"received\",\"storage\":11,\"id\":7,\"gen\":1,\"len\":10}
 {\"op\":\"received\",\"storage\":11,\"id\":8,\"gen\":1,\"len\":10}
@@ -76,7 +77,7 @@ const RETIRED_NODE_DIES: Row = Row {
 {\"op\":\"dead\",\"node\":2}
 {\"op\":\"list_missing\"}
 ",
-    answers: "ok 0 0
+        answers: "ok 0 0
 ok 0 0
 ok 1 0
 ok 1 0
@@ -97,9 +98,10 @@ level 7; 0
 ok 0 2
 missing; 7; 8
 ",
-};
+    },
+];
 
 #[test]
-fn retired_node_can_die(rt: HostRuntime) -> Result<(), Fail> {
-    is_answered(&rt, rt.alloc(), &RETIRED_NODE_DIES)
+fn draining_nodes(rt: HostRuntime) -> Result<(), Fail> {
+    go(&rt, rt.alloc(), ROWS.as_slice())
 }

@@ -4,69 +4,76 @@ use crate::tests::support::{FIRST_PATH, FIRST_PATH_ANSWERS, run_over, run_with, 
 use crate::{Counted, Summary, run};
 use bm_base::Config;
 use std::alloc::{AllocError, Global};
+use std::process::Abort;
 use std::test::Fail;
 
 const BAD: &str = "refused 20 BadLine\n";
 
-#[test]
-fn fields_come_as_serde_json_holds_them(rt: HostRuntime) {
-    let alloc = rt.alloc();
-    for (line, want) in [
-        // Any order, further fields, space around, a carriage return, no line end.
-        (
-            "{\"repl\":3,\"len\":10,\"gen\":1,\"id\":7,\"op\":\"add\"}\n",
-            "ok 0 0\n",
-        ),
-        (
-            "{\"op\":\"add\",\"id\":7,\"gen\":1,\"len\":10,\"repl\":3,\"x\":[1,{\"y\":null}]}\n",
-            "ok 0 0\n",
-        ),
-        (
-            " \t{\"op\":\"add\",\"id\":7,\"gen\":1,\"len\":10,\"repl\":3} \n",
-            "ok 0 0\n",
-        ),
-        (
-            "{\"op\":\"add\",\"id\":7,\"gen\":1,\"len\":10,\"repl\":3}\r\n",
-            "ok 0 0\n",
-        ),
-        (
-            "{\"op\":\"add\",\"id\":7,\"gen\":1,\"len\":10,\"repl\":3}",
-            "ok 0 0\n",
-        ),
-        // Of a key that is written twice the last value is held.
-        (
-            "{\"op\":\"fly\",\"op\":\"list_places\",\"id\":\"x\",\"id\":7}\n",
-            "refused 5 UnknownBlock\n",
-        ),
-        ("{\"op\":\"list_places\",\"op\":\"fly\",\"id\":7}\n", BAD),
-        // A key may be written with an escape.
-        (
-            "{\"o\\u0070\":\"list_places\",\"id\":7}\n",
-            "refused 5 UnknownBlock\n",
-        ),
-        // Ops that are none, or not here.
-        ("{\"op\":\"fly\"}\n", BAD),
-        ("{\"op\":\"list_excess\"}\n", BAD),
-        (
-            "{\"op\":\"Register\",\"node\":1,\"rack\":1,\"storages\":[]}\n",
-            BAD,
-        ),
-        ("{\"op\":1,\"id\":7}\n", BAD),
-        ("{\"id\":7}\n", BAD),
-        // Values that are no object.
-        ("\n", BAD),
-        ("   \n", BAD),
-        ("7\n", BAD),
-        ("\"op\"\n", BAD),
-        ("[\"op\",\"list_places\",\"id\",7]\n", BAD),
-        ("{\n", BAD),
-        ("{\"op\":\"list_places\",\"id\":7}}\n", BAD),
-        ("{\"op\":\"list_places\",\"id\":7,}\n", BAD),
-    ] {
-        let (result, text) = run_over(&rt, alloc, line.as_bytes());
+/// Each line alone is answered so.
+fn each_is_answered<H: Abort>(rt: &H, alloc: Global, lines: &[(&str, &str)]) {
+    for (line, want) in lines {
+        let (result, text) = run_over(rt, alloc, line.as_bytes());
         assert!(rt; result.is_ok(), "at {line}");
         assert_eq!(rt; text.as_slice(), want.as_bytes(), "at {line}");
     }
+}
+
+const FIELDS: [(&str, &str); 21] = [
+    // Any order, further fields, space around, a carriage return, no line end.
+    (
+        "{\"repl\":3,\"len\":10,\"gen\":1,\"id\":7,\"op\":\"add\"}\n",
+        "ok 0 0\n",
+    ),
+    (
+        "{\"op\":\"add\",\"id\":7,\"gen\":1,\"len\":10,\"repl\":3,\"x\":[1,{\"y\":null}]}\n",
+        "ok 0 0\n",
+    ),
+    (
+        " \t{\"op\":\"add\",\"id\":7,\"gen\":1,\"len\":10,\"repl\":3} \n",
+        "ok 0 0\n",
+    ),
+    (
+        "{\"op\":\"add\",\"id\":7,\"gen\":1,\"len\":10,\"repl\":3}\r\n",
+        "ok 0 0\n",
+    ),
+    (
+        "{\"op\":\"add\",\"id\":7,\"gen\":1,\"len\":10,\"repl\":3}",
+        "ok 0 0\n",
+    ),
+    // Of a key that is written twice the last value is held.
+    (
+        "{\"op\":\"fly\",\"op\":\"list_places\",\"id\":\"x\",\"id\":7}\n",
+        "refused 5 UnknownBlock\n",
+    ),
+    ("{\"op\":\"list_places\",\"op\":\"fly\",\"id\":7}\n", BAD),
+    // A key may be written with an escape.
+    (
+        "{\"o\\u0070\":\"list_places\",\"id\":7}\n",
+        "refused 5 UnknownBlock\n",
+    ),
+    // Ops that are none, or not here.
+    ("{\"op\":\"fly\"}\n", BAD),
+    ("{\"op\":\"list_excess\"}\n", BAD),
+    (
+        "{\"op\":\"Register\",\"node\":1,\"rack\":1,\"storages\":[]}\n",
+        BAD,
+    ),
+    ("{\"op\":1,\"id\":7}\n", BAD),
+    ("{\"id\":7}\n", BAD),
+    // Values that are no object.
+    ("\n", BAD),
+    ("   \n", BAD),
+    ("7\n", BAD),
+    ("\"op\"\n", BAD),
+    ("[\"op\",\"list_places\",\"id\",7]\n", BAD),
+    ("{\n", BAD),
+    ("{\"op\":\"list_places\",\"id\":7}}\n", BAD),
+    ("{\"op\":\"list_places\",\"id\":7,}\n", BAD),
+];
+
+#[test]
+fn fields_come_as_serde_json_holds_them(rt: HostRuntime) {
+    each_is_answered(&rt, rt.alloc(), FIELDS.as_slice());
 }
 
 #[test]
@@ -93,71 +100,69 @@ fn numbers_are_whole_and_fit(rt: HostRuntime) -> Result<(), Fail> {
     Ok(())
 }
 
+const SMALL_NUMBERS: [(&str, &str); 15] = [
+    (
+        "{\"op\":\"register\",\"node\":4294967295,\"rack\":4294967295,\"storages\":[4294967295]}",
+        "ok 0 0\n",
+    ),
+    (
+        "{\"op\":\"register\",\"node\":4294967296,\"rack\":1,\"storages\":[1]}",
+        BAD,
+    ),
+    (
+        "{\"op\":\"register\",\"node\":1,\"rack\":4294967296,\"storages\":[1]}",
+        BAD,
+    ),
+    (
+        "{\"op\":\"register\",\"node\":1,\"rack\":1,\"storages\":[1,4294967296]}",
+        BAD,
+    ),
+    (
+        "{\"op\":\"register\",\"node\":1,\"rack\":1,\"storages\":[1,-1]}",
+        BAD,
+    ),
+    (
+        "{\"op\":\"register\",\"node\":1,\"rack\":1,\"storages\":1}",
+        BAD,
+    ),
+    ("{\"op\":\"register\",\"node\":1,\"rack\":1}", BAD),
+    (
+        "{\"op\":\"received\",\"storage\":4294967295,\"id\":7,\"gen\":1,\"len\":10}",
+        "refused 3 UnknownStorage\n",
+    ),
+    (
+        "{\"op\":\"received\",\"storage\":4294967296,\"id\":7,\"gen\":1,\"len\":10}",
+        BAD,
+    ),
+    (
+        "{\"op\":\"received\",\"storage\":11,\"id\":7,\"gen\":1}",
+        BAD,
+    ),
+    (
+        "{\"op\":\"add\",\"id\":7,\"gen\":1,\"len\":10,\"repl\":4294967295}",
+        "refused 8 BadReplication\n",
+    ),
+    (
+        "{\"op\":\"add\",\"id\":7,\"gen\":1,\"len\":10,\"repl\":4294967296}",
+        BAD,
+    ),
+    (
+        "{\"op\":\"add\",\"id\":7,\"gen\":18446744073709551616,\"len\":10,\"repl\":3}",
+        BAD,
+    ),
+    (
+        "{\"op\":\"add\",\"id\":7,\"gen\":1,\"len\":18446744073709551616,\"repl\":3}",
+        BAD,
+    ),
+    (
+        "{\"op\":\"add\",\"id\":18446744073709551615,\"gen\":18446744073709551615,\"len\":18446744073709551615,\"repl\":16}",
+        "ok 0 0\n",
+    ),
+];
+
 #[test]
 fn small_numbers_are_below_two_to_the_32(rt: HostRuntime) {
-    let alloc = rt.alloc();
-    for (line, want) in [
-        (
-            "{\"op\":\"register\",\"node\":4294967295,\"rack\":4294967295,\"storages\":[4294967295]}",
-            "ok 0 0\n",
-        ),
-        (
-            "{\"op\":\"register\",\"node\":4294967296,\"rack\":1,\"storages\":[1]}",
-            BAD,
-        ),
-        (
-            "{\"op\":\"register\",\"node\":1,\"rack\":4294967296,\"storages\":[1]}",
-            BAD,
-        ),
-        (
-            "{\"op\":\"register\",\"node\":1,\"rack\":1,\"storages\":[1,4294967296]}",
-            BAD,
-        ),
-        (
-            "{\"op\":\"register\",\"node\":1,\"rack\":1,\"storages\":[1,-1]}",
-            BAD,
-        ),
-        (
-            "{\"op\":\"register\",\"node\":1,\"rack\":1,\"storages\":1}",
-            BAD,
-        ),
-        ("{\"op\":\"register\",\"node\":1,\"rack\":1}", BAD),
-        (
-            "{\"op\":\"received\",\"storage\":4294967295,\"id\":7,\"gen\":1,\"len\":10}",
-            "refused 3 UnknownStorage\n",
-        ),
-        (
-            "{\"op\":\"received\",\"storage\":4294967296,\"id\":7,\"gen\":1,\"len\":10}",
-            BAD,
-        ),
-        (
-            "{\"op\":\"received\",\"storage\":11,\"id\":7,\"gen\":1}",
-            BAD,
-        ),
-        (
-            "{\"op\":\"add\",\"id\":7,\"gen\":1,\"len\":10,\"repl\":4294967295}",
-            "refused 8 BadReplication\n",
-        ),
-        (
-            "{\"op\":\"add\",\"id\":7,\"gen\":1,\"len\":10,\"repl\":4294967296}",
-            BAD,
-        ),
-        (
-            "{\"op\":\"add\",\"id\":7,\"gen\":18446744073709551616,\"len\":10,\"repl\":3}",
-            BAD,
-        ),
-        (
-            "{\"op\":\"add\",\"id\":7,\"gen\":1,\"len\":18446744073709551616,\"repl\":3}",
-            BAD,
-        ),
-        (
-            "{\"op\":\"add\",\"id\":18446744073709551615,\"gen\":18446744073709551615,\"len\":18446744073709551615,\"repl\":16}",
-            "ok 0 0\n",
-        ),
-    ] {
-        let (_, text) = run_over(&rt, alloc, line.as_bytes());
-        assert_eq!(rt; text.as_slice(), want.as_bytes(), "at {line}");
-    }
+    each_is_answered(&rt, rt.alloc(), SMALL_NUMBERS.as_slice());
 }
 
 #[test]
