@@ -2,11 +2,11 @@
 //! what was published.
 ghost use Rattle.std.specs.Prelude.{◌≡◌, IfOk};
 ghost use Rattle.std.specs.Arc.{arc_value};
-ghost use Rattle.bm_view.specs.History.{last_of};
 
 use crate::{Located, Locator, Publisher, Table, open_view};
 use bm_base::{BlockId, Places, Refusal, StorageId};
 use std::alloc::{AllocError, Global};
+use std::process::Abort;
 use std::sync::{Arc, Wait};
 use std::test::Fail;
 
@@ -28,60 +28,125 @@ fn found(calls: u64, storages: &[StorageId]) -> Option<Located> {
     })
 }
 
-// What a publisher and two locators answer, of which the first learns each receipt.
-fn answers<R: Wait>(
+/// What is done with a publisher and two locators, or asked of them, and what the answer must be.
+#[derive(Clone, Copy)]
+enum Step<'a> {
+    /// Publishes a version with so many calls, in which block 7 has these storages. The receipt says so many calls, and the
+    /// first locator learns it.
+    Publish(u64, &'a [u32]),
+    /// The publisher has published a version with so many calls.
+    Calls(u64),
+    /// The first locator has a block, in a version with so many calls, on these storages.
+    First(u64, u64, &'a [u32]),
+    /// The same of the second, which learns nothing.
+    Second(u64, u64, &'a [u32]),
+}
+
+static READERS_SEE_PUBLISHED_VERSIONS: [Step<'static>; 11] = [
+    Step::Calls(0),
+    Step::First(7, 0, &[]),
+    Step::Second(7, 0, &[]),
+    Step::Publish(10, &[11]),
+    Step::First(7, 10, &[11]),
+    Step::First(8, 10, &[]),
+    Step::First(7, 10, &[11]),
+    Step::Publish(11, &[11, 31]),
+    Step::First(7, 11, &[11, 31]),
+    Step::Second(7, 11, &[11, 31]),
+    Step::Calls(11),
+];
+
+fn named(rt: &impl Abort, alloc: Global, numbers: &[u32]) -> Vec<StorageId> {
+    let mut storages = Vec::new(alloc);
+    for number in numbers {
+        storages.push(StorageId(*number)).expect(rt, "memory");
+    }
+    storages
+}
+
+fn publish_and_learn<R: Abort + Wait>(
+    rt: &R,
+    alloc: Global,
+    publisher: &mut Publisher,
+    locator: &mut Locator,
+    calls: u64,
+    numbers: &[u32],
+)
+    requires { locator.old.home ≡ publisher.old.home }
+    ensures { locator.new.home ≡ publisher.new.home }
+{
+    assert!(rt; publisher.calls() <= calls);
+    let storages = named(rt, alloc, numbers);
+    let table = version(alloc, calls, storages.as_slice()).expect(rt, "memory");
+    let receipt = publisher.publish(rt, table).expect(rt, "memory");
+    assert_eq!(rt; receipt.calls(), calls);
+    locator.learn(receipt);
+}
+
+fn check_place(
+    rt: &impl Abort,
+    alloc: Global,
+    locator: &mut Locator,
+    block: u64,
+    calls: u64,
+    numbers: &[u32],
+)
+    ensures { locator.new.home ≡ locator.old.home }
+{
+    let storages = named(rt, alloc, numbers);
+    assert_eq!(rt;
+        locator.locate(BlockId(block)),
+        found(calls, storages.as_slice())
+    );
+}
+
+fn go<R: Abort + Wait>(
+    rt: &R,
+    alloc: Global,
+    publisher: &mut Publisher,
+    first: &mut Locator,
+    second: &mut Locator,
+    step: Step<'_>,
+)
+    requires { first.old.home ≡ publisher.old.home }
+    ensures { first.new.home ≡ publisher.new.home }
+{
+    match step {
+        Step::Publish(calls, storages) => {
+            publish_and_learn(rt, alloc, publisher, first, calls, storages)
+        }
+        Step::Calls(calls) => assert_eq!(rt; publisher.calls(), calls),
+        Step::First(block, calls, storages) => check_place(
+            rt, alloc, first, block, calls, storages,
+        ),
+        Step::Second(block, calls, storages) => check_place(
+            rt, alloc, second, block, calls, storages,
+        ),
+    }
+}
+
+fn go_all<R: Abort + Wait>(
     rt: &R,
     alloc: Global,
     publisher: &mut Publisher,
     mut first: Locator,
     mut second: Locator,
-) -> Result<([u64; 4], [Option<Located>; 7]), Refusal>
-    requires calls { (last_of publisher.old.list).calls ≡ 0 }
-    requires home { first.home ≡ publisher.old.home }
+)
+    requires { first.home ≡ publisher.old.home }
 {
-    let early = version(alloc, 10, &[StorageId(11)])?;
-    let late = version(alloc, 11, &[StorageId(11), StorageId(31)])?;
-    let calls_0 = publisher.calls();
-    let opening = [first.locate(BlockId(7)), second.locate(BlockId(7))];
-    let receipt = publisher.publish(rt, early)?;
-    let calls_1 = receipt.calls();
-    first.learn(receipt);
-    let published = [
-        first.locate(BlockId(7)),
-        first.locate(BlockId(8)),
-        first.locate(BlockId(7)),
-    ];
-    let receipt = publisher.publish(rt, late)?;
-    let calls_2 = receipt.calls();
-    first.learn(receipt);
-    let again = [first.locate(BlockId(7)), second.locate(BlockId(7))];
-    let calls = [calls_0, calls_1, calls_2, publisher.calls()];
-    let [a, b] = opening;
-    let [c, d, e] = published;
-    let [f, g] = again;
-    Ok((calls, [a, b, c, d, e, f, g]))
+    for step in &READERS_SEE_PUBLISHED_VERSIONS {
+        go(rt, alloc, publisher, &mut first, &mut second, *step);
+    }
 }
 
 #[test]
 fn readers_see_published_versions(rt: HostRuntime) -> Result<(), Fail> {
     let (mut publisher, mut locators) = open_view(&rt, rt.alloc(), 2)?;
-    let seen = match (locators.pop(), locators.pop()) {
-        (Some(first), Some(second)) => answers(&rt, rt.alloc(), &mut publisher, first, second),
-        _ => Err(Refusal::BadConfig),
-    };
+    match (locators.pop(), locators.pop()) {
+        (Some(first), Some(second)) => go_all(&rt, rt.alloc(), &mut publisher, first, second),
+        _ => assert!(rt; false),
+    }
     publisher.end(&rt);
-    let (calls, located) = seen?;
-    let expected = [
-        found(0, &[]),
-        found(0, &[]),
-        found(10, &[StorageId(11)]),
-        found(10, &[]),
-        found(10, &[StorageId(11)]),
-        found(11, &[StorageId(11), StorageId(31)]),
-        found(11, &[StorageId(11), StorageId(31)]),
-    ];
-    assert_eq!(rt; calls, [0, 10, 11, 11]);
-    assert_eq!(rt; located, expected);
     Ok(())
 }
 
