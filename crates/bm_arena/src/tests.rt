@@ -1,16 +1,9 @@
-// The lists of two storages and the delimiter, and each call once with ample memory.
+// The lists of two storages and the delimiter, and each call once with ample memory: each test is a list of steps with what each
+// must answer, and one function goes over them.
 use crate::Arena;
 use bm_base::{BlockId, BlockInfo, Gen, Marks, Stamp, StorageId, Tag};
+use std::alloc::Global;
 use std::process::Abort;
-use std::test::Fail;
-
-const FIRST: StorageId = StorageId(11);
-
-const SECOND: StorageId = StorageId(12);
-
-const THIRD: StorageId = StorageId(13);
-
-const FOURTH: StorageId = StorageId(14);
 
 const GOOD: Marks = Marks {
     tag: Tag::Good,
@@ -32,221 +25,344 @@ const INFO: BlockInfo = BlockInfo {
     repl: 3,
 };
 
-// The numbers of the first three blocks of a storage's list, and how many it has.
-fn numbers(rt: &impl Abort, arena: &Arena, storage: StorageId) -> ([u64; 3], usize) {
-    let mut numbers = [0; 3];
-    let mut count = 0;
-    for slot in arena.walk(storage) {
-        assert!(rt; count < 3);
-        assert!(rt; arena.has_entry(slot));
-        numbers[count] = arena.id_of(slot).0;
-        count += 1;
+/// What is done with an arena. Blocks and storages are named by their numbers.
+#[derive(Clone, Copy)]
+enum Deed {
+    /// Heads for the storages from a number on, so many.
+    Reserve(u32, u32),
+    /// A good replica on a storage, with room made for it.
+    Link(u64, u32),
+    Unlink(u64, u32),
+    MoveFront(u64, u32),
+    PutDelimiter(u32),
+    TakeDelimiter(u32),
+    SetInfo(u64),
+    SetBad(u64, u32),
+    DropEntry(u64),
+    DropHead(u32),
+}
+
+/// The same, many times.
+#[derive(Clone, Copy)]
+enum Many {
+    /// The blocks 0 to a number, without it, each with a replica on storage 11.
+    Add(u64),
+    /// A replica of a block on each of the storages 0 to a number, without it.
+    Link(u64, u32),
+    /// The delimiter at the head of each of the lists 0 to a number, without it.
+    PutDelimiter(u32),
+}
+
+/// What is asked of an arena, and answered by a slot.
+#[derive(Clone, Copy)]
+enum Place {
+    /// The slot of a block, which may have it by now.
+    Added(u64),
+    Find(u64),
+    SlotAt(usize),
+    BehindDelimiter(u32),
+    Behind(u32, u64),
+    Before(u32, u64),
+}
+
+/// What is asked of an arena, and answered by a number.
+#[derive(Clone, Copy)]
+enum Count {
+    Blocks,
+    Steps,
+    SlotBound,
+    /// How many slots a walk along the list of a storage meets.
+    Walked(u32),
+}
+
+/// What is done with an arena, or asked of it.
+#[derive(Clone, Copy)]
+enum Step {
+    /// An entry for a block. Where it is 7, 8 or 9, the steps behind know its slot by that number.
+    Add(u64),
+    Do(Deed),
+    DoMany(Many),
+    Where(Place),
+    HowMany(Count),
+    Walk(u32),
+    TripletAt(u64, usize),
+    IsDelimiter(u64),
+    HasHead(u32),
+    Info(u64),
+    Marks(u64, u32),
+}
+
+/// What a step answers.
+#[derive(Clone, Copy, Debug, PartialEq, Eq)]
+enum Answer {
+    Fine,
+    /// A condition of the call does not hold.
+    NotAllowed,
+    Yes,
+    No,
+    Nothing,
+    Number(u64),
+    /// The slot that block 7, 8 or 9 got.
+    SlotOf(u64),
+    OtherSlot,
+    /// The numbers of the blocks that a walk meets, and how many these are.
+    Blocks([u64; 3], usize),
+    /// A good replica on a storage.
+    Replica(u32),
+    Good,
+    Bad,
+    Known,
+    Other,
+}
+
+/// The slots that the blocks 7, 8 and 9 got when they were added.
+#[derive(Clone, Copy)]
+struct Slots {
+    seven: usize,
+    eight: usize,
+    nine: usize,
+}
+
+fn slot_of(slots: &Slots, block: u64) -> usize {
+    match block {
+        7 => slots.seven,
+        8 => slots.eight,
+        _ => slots.nine,
     }
-    (numbers, count)
+}
+
+fn remember(slots: &mut Slots, block: u64, slot: usize) {
+    match block {
+        7 => slots.seven = slot,
+        8 => slots.eight = slot,
+        9 => slots.nine = slot,
+        _ => {}
+    }
+}
+
+fn named(slots: &Slots, slot: Option<usize>) -> Answer {
+    match slot {
+        None => Answer::Nothing,
+        Some(slot) if slot == slots.seven => Answer::SlotOf(7),
+        Some(slot) if slot == slots.eight => Answer::SlotOf(8),
+        Some(slot) if slot == slots.nine => Answer::SlotOf(9),
+        Some(_) => Answer::OtherSlot,
+    }
+}
+
+fn yes(is_so: bool) -> Answer {
+    if is_so { Answer::Yes } else { Answer::No }
+}
+
+fn reserve(rt: &impl Abort, alloc: Global, arena: &mut Arena, first: u32, count: u32) -> Answer {
+    let mut storages = Vec::new(alloc);
+    for place in 0..count {
+        storages
+            .push(StorageId(first.saturating_add(place)))
+            .expect(rt, "memory");
+    }
+    match arena.reserve_heads(storages.as_slice()) {
+        Ok(()) => Answer::Fine,
+        Err(_) => Answer::Other,
+    }
 }
 
 fn add(rt: &impl Abort, arena: &mut Arena, id: u64) -> usize {
     arena.add_entry(BlockId(id)).expect(rt, "memory")
 }
 
-fn reserve(rt: &impl Abort, arena: &mut Arena, storages: &[StorageId]) {
-    arena.reserve_heads(storages).expect(rt, "memory");
+fn link(arena: &mut Arena, slot: usize, storage: StorageId) -> Answer {
+    if !arena.has_entry(slot) {
+        return Answer::NotAllowed;
+    }
+    if arena.reserve_triplet(slot).is_err() {
+        return Answer::Other;
+    }
+    link_with_room(arena, slot, storage)
 }
 
-fn reserve_triplet(rt: &impl Abort, arena: &mut Arena, slot: usize) {
-    assert!(rt; arena.has_entry(slot));
-    arena.reserve_triplet(slot).expect(rt, "memory");
-}
-
-fn link(rt: &impl Abort, arena: &mut Arena, slot: usize, storage: StorageId) {
-    reserve_triplet(rt, arena, slot);
-    assert!(rt; arena.has_head(storage));
-    assert!(rt; arena.has_room(slot));
-    assert!(rt; arena.marks(slot, storage).is_none());
+fn link_with_room(arena: &mut Arena, slot: usize, storage: StorageId) -> Answer {
+    if !arena.has_head(storage) {
+        return Answer::NotAllowed;
+    }
+    if !arena.has_room(slot) {
+        return Answer::NotAllowed;
+    }
+    if arena.marks(slot, storage).is_some() {
+        return Answer::NotAllowed;
+    }
     arena.link_front(slot, storage, GOOD);
+    Answer::Fine
 }
 
-fn unlink(rt: &impl Abort, arena: &mut Arena, slot: usize, storage: StorageId) {
-    assert!(rt; arena.marks(slot, storage).is_some());
+fn unlink(arena: &mut Arena, slot: usize, storage: StorageId) -> Answer {
+    if arena.marks(slot, storage).is_none() {
+        return Answer::NotAllowed;
+    }
     arena.unlink(slot, storage);
+    Answer::Fine
 }
 
-fn move_front(rt: &impl Abort, arena: &mut Arena, slot: usize) {
-    assert!(rt; arena.marks(slot, FIRST).is_some());
-    arena.move_front(slot, FIRST);
+fn move_front(arena: &mut Arena, slot: usize, storage: StorageId) -> Answer {
+    if arena.marks(slot, storage).is_none() {
+        return Answer::NotAllowed;
+    }
+    arena.move_front(slot, storage);
+    Answer::Fine
 }
 
-fn put_delimiter(rt: &impl Abort, arena: &mut Arena, storage: StorageId) {
-    assert!(rt; arena.has_head(storage));
-    assert!(rt; !arena.has_delimiter(storage));
+fn put_delimiter(arena: &mut Arena, storage: StorageId) -> Answer {
+    if !arena.has_head(storage) {
+        return Answer::NotAllowed;
+    }
+    if arena.has_delimiter(storage) {
+        return Answer::NotAllowed;
+    }
     arena.put_delimiter(storage);
+    Answer::Fine
 }
 
-fn take_delimiter(rt: &impl Abort, arena: &mut Arena) {
-    assert!(rt; arena.has_delimiter(FIRST));
-    arena.take_delimiter(FIRST);
+fn take_delimiter(arena: &mut Arena, storage: StorageId) -> Answer {
+    if !arena.has_delimiter(storage) {
+        return Answer::NotAllowed;
+    }
+    arena.take_delimiter(storage);
+    Answer::Fine
 }
 
-fn behind_the_delimiter(rt: &impl Abort, arena: &Arena) -> Option<usize> {
-    assert!(rt; arena.has_delimiter(FIRST));
-    arena.next_after(FIRST, None)
-}
-
-fn behind(rt: &impl Abort, arena: &Arena, slot: usize) -> Option<usize> {
-    assert!(rt; arena.marks(slot, FIRST).is_some());
-    arena.next_after(FIRST, Some(slot))
-}
-
-fn before(rt: &impl Abort, arena: &Arena, slot: usize) -> Option<usize> {
-    assert!(rt; arena.marks(slot, FIRST).is_some());
-    arena.previous_before(FIRST, slot)
-}
-
-// Storage 11 with the blocks 9, 8 and 7, and a storage 12 with none.
-fn three_blocks(rt: &impl Abort, arena: &mut Arena) -> [usize; 3] {
-    reserve(rt, arena, &[FIRST, SECOND]);
-    let seven = add(rt, arena, 7);
-    let eight = add(rt, arena, 8);
-    let nine = add(rt, arena, 9);
-    link(rt, arena, seven, FIRST);
-    link(rt, arena, eight, FIRST);
-    link(rt, arena, nine, FIRST);
-    [seven, eight, nine]
-}
-
-fn check_walk(rt: &impl Abort, arena: &Arena, storage: StorageId, blocks: [u64; 3], count: usize) {
-    assert_eq!(rt; numbers(rt, arena, storage), (blocks, count));
-}
-
-fn check_delimiter(rt: &impl Abort, arena: &mut Arena, slots: [usize; 3]) {
-    let [seven, eight, nine] = slots;
-    put_delimiter(rt, arena, FIRST);
-    move_front(rt, arena, eight);
-    assert_eq!(rt; behind_the_delimiter(rt, arena), Some(nine));
-    assert_eq!(rt; behind(rt, arena, nine), Some(seven));
-    assert_eq!(rt; behind(rt, arena, seven), None);
-    assert_eq!(rt; before(rt, arena, seven), Some(nine));
-    assert_eq!(rt; before(rt, arena, eight), None);
-    take_delimiter(rt, arena);
-}
-
-#[test]
-fn walks_and_the_delimiter(rt: HostRuntime) -> Result<(), Fail> {
-    let mut arena = Arena::new(rt.alloc())?;
-    let slots = three_blocks(&rt, &mut arena);
-    check_walk(&rt, &arena, FIRST, [9, 8, 7], 3);
-    check_delimiter(&rt, &mut arena, slots);
-    check_walk(&rt, &arena, FIRST, [8, 9, 7], 3);
-    assert_eq!(rt; arena.steps(), 6);
-    check_walk(&rt, &arena, SECOND, [0, 0, 0], 0);
-    Ok(())
-}
-
-fn check_counts(rt: &impl Abort, arena: &Arena, seven: usize) {
-    assert_eq!(rt; arena.count(), 3);
-    assert_eq!(rt; arena.triplet_at(seven, 0), Some((FIRST, GOOD)));
-    assert_eq!(rt; arena.triplet_at(seven, 1), None);
-}
-
-#[test]
-fn counts_and_places(rt: HostRuntime) -> Result<(), Fail> {
-    let mut arena = Arena::new(rt.alloc())?;
-    let [seven, _, _] = three_blocks(&rt, &mut arena);
-    assert_eq!(rt; add(&rt, &mut arena, 7), seven);
-    check_counts(&rt, &arena, seven);
-    Ok(())
-}
-
-fn check_slots(rt: &impl Abort, arena: &Arena, seven: usize, eight: usize) {
-    assert_eq!(rt; arena.find(BlockId(7)), Some(seven));
-    assert_eq!(rt; arena.find(BlockId(6)), None);
-    assert_eq!(rt; arena.slot_at(1), Some(eight));
-    assert_eq!(rt; arena.slot_at(3), None);
-    assert_eq!(rt; arena.slot_bound(), 4);
-    assert!(rt; !arena.is_delimiter(seven));
-}
-
-fn check_info(rt: &impl Abort, arena: &mut Arena, seven: usize) {
-    assert_eq!(rt; arena.info(seven), None);
-    arena.set_info(seven, Some(INFO));
-    assert_eq!(rt; arena.info(seven), Some(INFO));
-}
-
-fn check_marks(rt: &impl Abort, arena: &mut Arena, seven: usize) {
-    arena.set_marks(seven, FIRST, BAD);
-    assert_eq!(rt; arena.marks(seven, FIRST), Some(BAD));
-    assert_eq!(rt; arena.marks(seven, SECOND), None);
-}
-
-#[test]
-fn look_ups_answer_what_stands(rt: HostRuntime) -> Result<(), Fail> {
-    let mut arena = Arena::new(rt.alloc())?;
-    let [seven, eight, _] = three_blocks(&rt, &mut arena);
-    check_slots(&rt, &arena, seven, eight);
-    check_info(&rt, &mut arena, seven);
-    check_marks(&rt, &mut arena, seven);
-    Ok(())
-}
-
-// Three more replicas of a block, so that its triplets leave their inline places.
-fn three_more_replicas(rt: &impl Abort, arena: &mut Arena, slot: usize) {
-    reserve(rt, arena, &[SECOND, THIRD, FOURTH]);
-    link(rt, arena, slot, SECOND);
-    link(rt, arena, slot, THIRD);
-    link(rt, arena, slot, FOURTH);
-}
-
-#[test]
-fn last_replica_fills_the_freed_place(rt: HostRuntime) -> Result<(), Fail> {
-    let mut arena = Arena::new(rt.alloc())?;
-    let [_, eight, _] = three_blocks(&rt, &mut arena);
-    three_more_replicas(&rt, &mut arena, eight);
-    unlink(&rt, &mut arena, eight, FIRST);
-    assert_eq!(rt; arena.triplet_at(eight, 0), Some((FOURTH, GOOD)));
-    assert_eq!(rt; arena.triplet_at(eight, 2), Some((THIRD, GOOD)));
-    check_walk(&rt, &arena, FIRST, [9, 7, 0], 2);
-    check_walk(&rt, &arena, FOURTH, [8, 0, 0], 1);
-    Ok(())
-}
-
-fn drop_entry(rt: &impl Abort, arena: &mut Arena, slot: usize) {
-    assert!(rt; arena.is_bare(slot));
-    assert!(rt; !arena.is_delimiter(slot));
+fn drop_entry(arena: &mut Arena, slot: usize) -> Answer {
+    if !arena.is_bare(slot) {
+        return Answer::NotAllowed;
+    }
+    if arena.is_delimiter(slot) {
+        return Answer::NotAllowed;
+    }
     arena.drop_entry(slot);
+    Answer::Fine
 }
 
-fn drop_head(rt: &impl Abort, arena: &mut Arena, storage: StorageId) {
-    assert!(rt; arena.is_list_empty(storage));
+fn drop_head(arena: &mut Arena, storage: StorageId) -> Answer {
+    if !arena.is_list_empty(storage) {
+        return Answer::NotAllowed;
+    }
     arena.drop_head(storage);
-    assert!(rt; !arena.has_head(storage));
+    Answer::Fine
 }
 
-fn check_dropped(rt: &impl Abort, arena: &Arena, last: usize) {
-    assert_eq!(rt; arena.find(BlockId(7)), None);
-    assert_eq!(rt; arena.count(), 2);
-    assert_eq!(rt; arena.slot_at(0), Some(last));
+fn set_info(arena: &mut Arena, slot: usize) -> Answer {
+    arena.set_info(slot, Some(INFO));
+    Answer::Fine
 }
 
-#[test]
-fn entries_and_heads_are_dropped(rt: HostRuntime) -> Result<(), Fail> {
-    let mut arena = Arena::new(rt.alloc())?;
-    let [seven, _, nine] = three_blocks(&rt, &mut arena);
-    unlink(&rt, &mut arena, seven, FIRST);
-    drop_entry(&rt, &mut arena, seven);
-    check_dropped(&rt, &arena, nine);
-    assert_eq!(rt; add(&rt, &mut arena, 5), seven);
-    assert_eq!(rt; arena.slot_bound(), 4);
-    drop_head(&rt, &mut arena, SECOND);
-    arena.lawful();
-    Ok(())
+fn set_bad(arena: &mut Arena, slot: usize, storage: StorageId) -> Answer {
+    arena.set_marks(slot, storage, BAD);
+    Answer::Fine
 }
 
-// The blocks 0 to `count` - 1, each with a replica on the first storage.
-fn add_many(rt: &impl Abort, arena: &mut Arena, count: u64) {
-    reserve(rt, arena, &[FIRST]);
+fn done(rt: &impl Abort, alloc: Global, arena: &mut Arena, slots: &Slots, deed: Deed) -> Answer {
+    match deed {
+        Deed::Reserve(first, count) => reserve(rt, alloc, arena, first, count),
+        Deed::Link(block, storage) => link(arena, slot_of(slots, block), StorageId(storage)),
+        Deed::Unlink(block, storage) => unlink(arena, slot_of(slots, block), StorageId(storage)),
+        Deed::MoveFront(block, storage) => {
+            move_front(arena, slot_of(slots, block), StorageId(storage))
+        }
+        Deed::PutDelimiter(storage) => put_delimiter(arena, StorageId(storage)),
+        Deed::TakeDelimiter(storage) => take_delimiter(arena, StorageId(storage)),
+        Deed::SetInfo(block) => set_info(arena, slot_of(slots, block)),
+        Deed::SetBad(block, storage) => set_bad(arena, slot_of(slots, block), StorageId(storage)),
+        Deed::DropEntry(block) => drop_entry(arena, slot_of(slots, block)),
+        Deed::DropHead(storage) => drop_head(arena, StorageId(storage)),
+    }
+}
+
+/// `Fine` where each is added and linked.
+fn add_many(rt: &impl Abort, alloc: Global, arena: &mut Arena, count: u64) -> Answer {
+    if reserve(rt, alloc, arena, 11, 1) != Answer::Fine {
+        return Answer::Other;
+    }
     for id in 0..count {
         let slot = add(rt, arena, id);
-        link(rt, arena, slot, FIRST);
+        if link(arena, slot, StorageId(11)) != Answer::Fine {
+            return Answer::Other;
+        }
+    }
+    Answer::Fine
+}
+
+/// `Fine` where each is linked.
+fn link_many(rt: &impl Abort, alloc: Global, arena: &mut Arena, slot: usize, count: u32) -> Answer {
+    for storage in 0..count {
+        if reserve(rt, alloc, arena, storage, 1) != Answer::Fine {
+            return Answer::Other;
+        }
+        if link(arena, slot, StorageId(storage)) != Answer::Fine {
+            return Answer::Other;
+        }
+    }
+    Answer::Fine
+}
+
+/// `Fine` where each is put.
+fn put_delimiters(rt: &impl Abort, alloc: Global, arena: &mut Arena, count: u32) -> Answer {
+    for storage in 0..count {
+        if reserve(rt, alloc, arena, storage, 1) != Answer::Fine {
+            return Answer::Other;
+        }
+        if put_delimiter(arena, StorageId(storage)) != Answer::Fine {
+            return Answer::Other;
+        }
+    }
+    Answer::Fine
+}
+
+fn done_often(
+    rt: &impl Abort,
+    alloc: Global,
+    arena: &mut Arena,
+    slots: &Slots,
+    many: Many,
+) -> Answer {
+    match many {
+        Many::Add(count) => add_many(rt, alloc, arena, count),
+        Many::Link(block, count) => link_many(rt, alloc, arena, slot_of(slots, block), count),
+        Many::PutDelimiter(count) => put_delimiters(rt, alloc, arena, count),
+    }
+}
+
+fn behind_the_delimiter(arena: &Arena, storage: StorageId) -> Option<usize> {
+    if arena.has_delimiter(storage) {
+        arena.next_after(storage, None)
+    } else {
+        Some(usize::MAX)
+    }
+}
+
+fn behind(arena: &Arena, storage: StorageId, slot: usize) -> Option<usize> {
+    if arena.marks(slot, storage).is_some() {
+        arena.next_after(storage, Some(slot))
+    } else {
+        Some(usize::MAX)
+    }
+}
+
+fn before(arena: &Arena, storage: StorageId, slot: usize) -> Option<usize> {
+    if arena.marks(slot, storage).is_some() {
+        arena.previous_before(storage, slot)
+    } else {
+        Some(usize::MAX)
+    }
+}
+
+/// No slot is `usize::MAX`: that is for a question that is not allowed.
+fn slot_asked(rt: &impl Abort, arena: &mut Arena, slots: &Slots, place: Place) -> Option<usize> {
+    match place {
+        Place::Added(block) => Some(add(rt, arena, block)),
+        Place::Find(block) => arena.find(BlockId(block)),
+        Place::SlotAt(place) => arena.slot_at(place),
+        Place::BehindDelimiter(storage) => behind_the_delimiter(arena, StorageId(storage)),
+        Place::Behind(storage, block) => behind(arena, StorageId(storage), slot_of(slots, block)),
+        Place::Before(storage, block) => before(arena, StorageId(storage), slot_of(slots, block)),
     }
 }
 
@@ -258,47 +374,294 @@ fn length_of(arena: &Arena, storage: StorageId) -> u64 {
     length
 }
 
-#[test]
-fn a_thousand_blocks_are_taken(rt: HostRuntime) -> Result<(), Fail> {
-    let mut arena = Arena::new(rt.alloc())?;
-    add_many(&rt, &mut arena, 1000);
-    assert_eq!(rt; arena.count(), 1000);
-    assert_eq!(rt; length_of(&arena, FIRST), 1000);
-    assert_eq!(rt; arena.steps(), 1000);
-    assert_eq!(rt; arena.slot_bound(), 1001);
-    Ok(())
-}
-
-// A replica of a block on each of the storages 0 to `count` - 1.
-fn link_many(rt: &impl Abort, arena: &mut Arena, slot: usize, count: u32) {
-    for storage in 0..count {
-        reserve(rt, arena, &[StorageId(storage)]);
-        link(rt, arena, slot, StorageId(storage));
+fn counted(arena: &Arena, count: Count) -> u64 {
+    match count {
+        Count::Blocks => arena.count() as u64,
+        Count::Steps => arena.steps(),
+        Count::SlotBound => arena.slot_bound() as u64,
+        Count::Walked(storage) => length_of(arena, StorageId(storage)),
     }
 }
 
-#[test]
-fn seventeen_replicas_of_a_block_are_taken(rt: HostRuntime) -> Result<(), Fail> {
-    let mut arena = Arena::new(rt.alloc())?;
-    let slot = add(&rt, &mut arena, 7);
-    link_many(&rt, &mut arena, slot, 17);
-    assert_eq!(rt; arena.triplet_at(slot, 16), Some((StorageId(16), GOOD)));
-    assert_eq!(rt; arena.triplet_at(slot, 17), None);
-    Ok(())
+/// The numbers of the first three blocks of a storage's list, and how many it has.
+fn walked(arena: &Arena, storage: StorageId) -> Answer {
+    let mut numbers = [0; 3];
+    let mut count = 0;
+    for slot in arena.walk(storage) {
+        if count >= 3 {
+            return Answer::Other;
+        }
+        if !arena.has_entry(slot) {
+            return Answer::NotAllowed;
+        }
+        numbers[count] = arena.id_of(slot).0;
+        count += 1;
+    }
+    Answer::Blocks(numbers, count)
 }
 
-// The delimiter at the head of each of the lists 0 to `count` - 1.
-fn put_delimiters(rt: &impl Abort, arena: &mut Arena, count: u32) {
-    for storage in 0..count {
-        reserve(rt, arena, &[StorageId(storage)]);
-        put_delimiter(rt, arena, StorageId(storage));
+fn replica(replica: Option<(StorageId, Marks)>) -> Answer {
+    match replica {
+        None => Answer::Nothing,
+        Some((storage, marks)) => {
+            if marks == GOOD {
+                Answer::Replica(storage.0)
+            } else {
+                Answer::Other
+            }
+        }
     }
 }
 
+fn info(info: Option<BlockInfo>) -> Answer {
+    match info {
+        None => Answer::Nothing,
+        Some(info) if info == INFO => Answer::Known,
+        Some(_) => Answer::Other,
+    }
+}
+
+fn marked(marks: Option<Marks>) -> Answer {
+    match marks {
+        None => Answer::Nothing,
+        Some(marks) if marks == GOOD => Answer::Good,
+        Some(marks) if marks == BAD => Answer::Bad,
+        Some(_) => Answer::Other,
+    }
+}
+
+fn answer_of(
+    rt: &impl Abort,
+    alloc: Global,
+    arena: &mut Arena,
+    slots: &mut Slots,
+    step: Step,
+) -> Answer {
+    match step {
+        Step::Add(block) => {
+            remember(slots, block, add(rt, arena, block));
+            Answer::Fine
+        }
+        Step::Do(deed) => done(rt, alloc, arena, slots, deed),
+        Step::DoMany(many) => done_often(rt, alloc, arena, slots, many),
+        Step::Where(place) => named(slots, slot_asked(rt, arena, slots, place)),
+        Step::HowMany(count) => Answer::Number(counted(arena, count)),
+        _ => looked_up(arena, slots, step),
+    }
+}
+
+fn looked_up(arena: &Arena, slots: &Slots, step: Step) -> Answer {
+    match step {
+        Step::Walk(storage) => walked(arena, StorageId(storage)),
+        Step::TripletAt(block, place) => replica(arena.triplet_at(slot_of(slots, block), place)),
+        Step::IsDelimiter(block) => yes(arena.is_delimiter(slot_of(slots, block))),
+        Step::HasHead(storage) => yes(arena.has_head(StorageId(storage))),
+        Step::Info(block) => info(arena.info(slot_of(slots, block))),
+        Step::Marks(block, storage) => {
+            marked(arena.marks(slot_of(slots, block), StorageId(storage)))
+        }
+        _ => Answer::Other,
+    }
+}
+
+/// Goes the steps one after another; each answers as it must.
+fn go(
+    rt: &impl Abort,
+    alloc: Global,
+    arena: &mut Arena,
+    slots: &mut Slots,
+    steps: &[(Step, Answer)],
+) {
+    for (place, (step, must)) in steps.iter().enumerate() {
+        let is = answer_of(rt, alloc, arena, slots, *step);
+        assert_eq!(rt; is, *must, "step {place}");
+    }
+}
+
+/// The steps on an arena that was led so far.
+fn go_from(rt: &impl Abort, alloc: Global, so_far: &[(Step, Answer)], steps: &[(Step, Answer)]) {
+    let mut arena = Arena::new(alloc).expect(rt, "memory");
+    let mut slots = Slots {
+        seven: usize::MAX,
+        eight: usize::MAX,
+        nine: usize::MAX,
+    };
+    go(rt, alloc, &mut arena, &mut slots, so_far);
+    go(rt, alloc, &mut arena, &mut slots, steps);
+    arena.lawful();
+}
+
+const NOTHING: [(Step, Answer); 0] = [];
+
+/// Storage 11 with the blocks 9, 8 and 7, and a storage 12 with none.
+const THREE_BLOCKS: [(Step, Answer); 7] = [
+    (Step::Do(Deed::Reserve(11, 2)), Answer::Fine),
+    (Step::Add(7), Answer::Fine),
+    (Step::Add(8), Answer::Fine),
+    (Step::Add(9), Answer::Fine),
+    (Step::Do(Deed::Link(7, 11)), Answer::Fine),
+    (Step::Do(Deed::Link(8, 11)), Answer::Fine),
+    (Step::Do(Deed::Link(9, 11)), Answer::Fine),
+];
+
+const WALKS_AND_THE_DELIMITER: [(Step, Answer); 12] = [
+    (Step::Walk(11), Answer::Blocks([9, 8, 7], 3)),
+    (Step::Do(Deed::PutDelimiter(11)), Answer::Fine),
+    (Step::Do(Deed::MoveFront(8, 11)), Answer::Fine),
+    (Step::Where(Place::BehindDelimiter(11)), Answer::SlotOf(9)),
+    (Step::Where(Place::Behind(11, 9)), Answer::SlotOf(7)),
+    (Step::Where(Place::Behind(11, 7)), Answer::Nothing),
+    (Step::Where(Place::Before(11, 7)), Answer::SlotOf(9)),
+    (Step::Where(Place::Before(11, 8)), Answer::Nothing),
+    (Step::Do(Deed::TakeDelimiter(11)), Answer::Fine),
+    (Step::Walk(11), Answer::Blocks([8, 9, 7], 3)),
+    (Step::HowMany(Count::Steps), Answer::Number(6)),
+    (Step::Walk(12), Answer::Blocks([0, 0, 0], 0)),
+];
+
 #[test]
-fn delimiter_stands_in_1024_lists(rt: HostRuntime) -> Result<(), Fail> {
-    let mut arena = Arena::new(rt.alloc())?;
-    put_delimiters(&rt, &mut arena, 1024);
-    assert_eq!(rt; arena.steps(), 1024);
-    Ok(())
+fn walks_and_the_delimiter(rt: HostRuntime) {
+    go_from(
+        &rt,
+        rt.alloc(),
+        THREE_BLOCKS.as_slice(),
+        WALKS_AND_THE_DELIMITER.as_slice(),
+    );
+}
+
+const COUNTS_AND_PLACES: [(Step, Answer); 4] = [
+    (Step::Where(Place::Added(7)), Answer::SlotOf(7)),
+    (Step::HowMany(Count::Blocks), Answer::Number(3)),
+    (Step::TripletAt(7, 0), Answer::Replica(11)),
+    (Step::TripletAt(7, 1), Answer::Nothing),
+];
+
+#[test]
+fn counts_and_places(rt: HostRuntime) {
+    go_from(
+        &rt,
+        rt.alloc(),
+        THREE_BLOCKS.as_slice(),
+        COUNTS_AND_PLACES.as_slice(),
+    );
+}
+
+const LOOK_UPS_ANSWER_WHAT_STANDS: [(Step, Answer); 12] = [
+    (Step::Where(Place::Find(7)), Answer::SlotOf(7)),
+    (Step::Where(Place::Find(6)), Answer::Nothing),
+    (Step::Where(Place::SlotAt(1)), Answer::SlotOf(8)),
+    (Step::Where(Place::SlotAt(3)), Answer::Nothing),
+    (Step::HowMany(Count::SlotBound), Answer::Number(4)),
+    (Step::IsDelimiter(7), Answer::No),
+    (Step::Info(7), Answer::Nothing),
+    (Step::Do(Deed::SetInfo(7)), Answer::Fine),
+    (Step::Info(7), Answer::Known),
+    (Step::Do(Deed::SetBad(7, 11)), Answer::Fine),
+    (Step::Marks(7, 11), Answer::Bad),
+    (Step::Marks(7, 12), Answer::Nothing),
+];
+
+#[test]
+fn look_ups_answer_what_stands(rt: HostRuntime) {
+    go_from(
+        &rt,
+        rt.alloc(),
+        THREE_BLOCKS.as_slice(),
+        LOOK_UPS_ANSWER_WHAT_STANDS.as_slice(),
+    );
+}
+
+const LAST_REPLICA_FILLS_THE_FREED_PLACE: [(Step, Answer); 9] = [
+    // Three more replicas of a block, so that its triplets leave their inline places.
+    (Step::Do(Deed::Reserve(12, 3)), Answer::Fine),
+    (Step::Do(Deed::Link(8, 12)), Answer::Fine),
+    (Step::Do(Deed::Link(8, 13)), Answer::Fine),
+    (Step::Do(Deed::Link(8, 14)), Answer::Fine),
+    (Step::Do(Deed::Unlink(8, 11)), Answer::Fine),
+    (Step::TripletAt(8, 0), Answer::Replica(14)),
+    (Step::TripletAt(8, 2), Answer::Replica(13)),
+    (Step::Walk(11), Answer::Blocks([9, 7, 0], 2)),
+    (Step::Walk(14), Answer::Blocks([8, 0, 0], 1)),
+];
+
+#[test]
+fn last_replica_fills_the_freed_place(rt: HostRuntime) {
+    go_from(
+        &rt,
+        rt.alloc(),
+        THREE_BLOCKS.as_slice(),
+        LAST_REPLICA_FILLS_THE_FREED_PLACE.as_slice(),
+    );
+}
+
+const ENTRIES_AND_HEADS_ARE_DROPPED: [(Step, Answer); 9] = [
+    (Step::Do(Deed::Unlink(7, 11)), Answer::Fine),
+    (Step::Do(Deed::DropEntry(7)), Answer::Fine),
+    (Step::Where(Place::Find(7)), Answer::Nothing),
+    (Step::HowMany(Count::Blocks), Answer::Number(2)),
+    (Step::Where(Place::SlotAt(0)), Answer::SlotOf(9)),
+    (Step::Where(Place::Added(5)), Answer::SlotOf(7)),
+    (Step::HowMany(Count::SlotBound), Answer::Number(4)),
+    (Step::Do(Deed::DropHead(12)), Answer::Fine),
+    (Step::HasHead(12), Answer::No),
+];
+
+#[test]
+fn entries_and_heads_are_dropped(rt: HostRuntime) {
+    go_from(
+        &rt,
+        rt.alloc(),
+        THREE_BLOCKS.as_slice(),
+        ENTRIES_AND_HEADS_ARE_DROPPED.as_slice(),
+    );
+}
+
+const A_THOUSAND_BLOCKS_ARE_TAKEN: [(Step, Answer); 5] = [
+    (Step::DoMany(Many::Add(1000)), Answer::Fine),
+    (Step::HowMany(Count::Blocks), Answer::Number(1000)),
+    (Step::HowMany(Count::Walked(11)), Answer::Number(1000)),
+    (Step::HowMany(Count::Steps), Answer::Number(1000)),
+    (Step::HowMany(Count::SlotBound), Answer::Number(1001)),
+];
+
+#[test]
+fn a_thousand_blocks_are_taken(rt: HostRuntime) {
+    go_from(
+        &rt,
+        rt.alloc(),
+        NOTHING.as_slice(),
+        A_THOUSAND_BLOCKS_ARE_TAKEN.as_slice(),
+    );
+}
+
+const SEVENTEEN_REPLICAS_OF_A_BLOCK_ARE_TAKEN: [(Step, Answer); 4] = [
+    (Step::Add(7), Answer::Fine),
+    (Step::DoMany(Many::Link(7, 17)), Answer::Fine),
+    (Step::TripletAt(7, 16), Answer::Replica(16)),
+    (Step::TripletAt(7, 17), Answer::Nothing),
+];
+
+#[test]
+fn seventeen_replicas_of_a_block_are_taken(rt: HostRuntime) {
+    go_from(
+        &rt,
+        rt.alloc(),
+        NOTHING.as_slice(),
+        SEVENTEEN_REPLICAS_OF_A_BLOCK_ARE_TAKEN.as_slice(),
+    );
+}
+
+const DELIMITER_STANDS_IN_1024_LISTS: [(Step, Answer); 2] = [
+    (Step::DoMany(Many::PutDelimiter(1024)), Answer::Fine),
+    (Step::HowMany(Count::Steps), Answer::Number(1024)),
+];
+
+#[test]
+fn delimiter_stands_in_1024_lists(rt: HostRuntime) {
+    go_from(
+        &rt,
+        rt.alloc(),
+        NOTHING.as_slice(),
+        DELIMITER_STANDS_IN_1024_LISTS.as_slice(),
+    );
 }
