@@ -3,12 +3,11 @@
 ghost use Rattle.std.specs.Prelude.{◌≡◌, IfOk};
 ghost use Rattle.std.specs.Arc.{arc_value};
 
-use crate::{Located, Locator, Publisher, Table, open_view};
+use crate::{Located, Locator, Publisher, Receipt, Table, open_view};
 use bm_base::{BlockId, Places, Refusal, StorageId};
 use std::alloc::{AllocError, Global};
 use std::process::Abort;
 use std::sync::{Arc, Wait};
-use std::test::Fail;
 
 mod two_threads;
 
@@ -26,6 +25,14 @@ fn found(calls: u64, storages: &[StorageId]) -> Option<Located> {
         calls,
         places: Places::first_of(storages),
     })
+}
+
+fn named(rt: &impl Abort, alloc: Global, numbers: &[u32]) -> Vec<StorageId> {
+    let mut storages = Vec::new(alloc);
+    for number in numbers {
+        storages.push(StorageId(*number)).expect(rt, "memory");
+    }
+    storages
 }
 
 /// What is done with a publisher and two locators, or asked of them, and what the answer must be.
@@ -56,12 +63,20 @@ static READERS_SEE_PUBLISHED_VERSIONS: [Step<'static>; 11] = [
     Step::Calls(11),
 ];
 
-fn named(rt: &impl Abort, alloc: Global, numbers: &[u32]) -> Vec<StorageId> {
-    let mut storages = Vec::new(alloc);
-    for number in numbers {
-        storages.push(StorageId(*number)).expect(rt, "memory");
-    }
-    storages
+fn publish<R: Abort + Wait>(
+    rt: &R,
+    alloc: Global,
+    publisher: &mut Publisher,
+    calls: u64,
+    numbers: &[u32],
+) -> Receipt
+    ensures receipt { result.home ≡ publisher.new.home }
+    ensures home { publisher.new.home ≡ publisher.old.home }
+{
+    let storages = named(rt, alloc, numbers);
+    let table = version(alloc, calls, storages.as_slice()).expect(rt, "memory");
+    assert!(rt; publisher.calls() <= calls);
+    publisher.publish(rt, table).expect(rt, "memory")
 }
 
 fn publish_and_learn<R: Abort + Wait>(
@@ -71,35 +86,31 @@ fn publish_and_learn<R: Abort + Wait>(
     locator: &mut Locator,
     calls: u64,
     numbers: &[u32],
-)
+) -> bool
     requires { locator.old.home ≡ publisher.old.home }
     ensures { locator.new.home ≡ publisher.new.home }
 {
-    assert!(rt; publisher.calls() <= calls);
-    let storages = named(rt, alloc, numbers);
-    let table = version(alloc, calls, storages.as_slice()).expect(rt, "memory");
-    let receipt = publisher.publish(rt, table).expect(rt, "memory");
-    assert_eq!(rt; receipt.calls(), calls);
+    let receipt = publish(rt, alloc, publisher, calls, numbers);
+    let told = receipt.calls();
     locator.learn(receipt);
+    told == calls
 }
 
-fn check_place(
+fn has_found(
     rt: &impl Abort,
     alloc: Global,
     locator: &mut Locator,
     block: u64,
     calls: u64,
     numbers: &[u32],
-)
+) -> bool
     ensures { locator.new.home ≡ locator.old.home }
 {
     let storages = named(rt, alloc, numbers);
-    assert_eq!(rt;
-        locator.locate(BlockId(block)),
-        found(calls, storages.as_slice())
-    );
+    locator.locate(BlockId(block)) == found(calls, storages.as_slice())
 }
 
+/// Whether a step answers as it must.
 fn go<R: Abort + Wait>(
     rt: &R,
     alloc: Global,
@@ -107,7 +118,7 @@ fn go<R: Abort + Wait>(
     first: &mut Locator,
     second: &mut Locator,
     step: Step<'_>,
-)
+) -> bool
     requires { first.old.home ≡ publisher.old.home }
     ensures { first.new.home ≡ publisher.new.home }
 {
@@ -115,13 +126,11 @@ fn go<R: Abort + Wait>(
         Step::Publish(calls, storages) => {
             publish_and_learn(rt, alloc, publisher, first, calls, storages)
         }
-        Step::Calls(calls) => assert_eq!(rt; publisher.calls(), calls),
-        Step::First(block, calls, storages) => check_place(
-            rt, alloc, first, block, calls, storages,
-        ),
-        Step::Second(block, calls, storages) => check_place(
-            rt, alloc, second, block, calls, storages,
-        ),
+        Step::Calls(calls) => publisher.calls() == calls,
+        Step::First(block, calls, storages) => has_found(rt, alloc, first, block, calls, storages),
+        Step::Second(block, calls, storages) => {
+            has_found(rt, alloc, second, block, calls, storages)
+        }
     }
 }
 
@@ -134,69 +143,100 @@ fn go_all<R: Abort + Wait>(
 )
     requires { first.home ≡ publisher.old.home }
 {
-    for step in &READERS_SEE_PUBLISHED_VERSIONS {
-        go(rt, alloc, publisher, &mut first, &mut second, *step);
+    for (place, step) in READERS_SEE_PUBLISHED_VERSIONS.iter().enumerate() {
+        assert!(rt;
+            go(rt, alloc, publisher, &mut first, &mut second, *step),
+            "step {place}"
+        );
     }
 }
 
 #[test]
-fn readers_see_published_versions(rt: HostRuntime) -> Result<(), Fail> {
-    let (mut publisher, mut locators) = open_view(&rt, rt.alloc(), 2)?;
+fn readers_see_published_versions(rt: HostRuntime) {
+    let (mut publisher, mut locators) = open_view(&rt, rt.alloc(), 2).expect(&rt, "memory");
     match (locators.pop(), locators.pop()) {
         (Some(first), Some(second)) => go_all(&rt, rt.alloc(), &mut publisher, first, second),
         _ => assert!(rt; false),
     }
     publisher.end(&rt);
-    Ok(())
 }
 
-#[test]
-fn no_answer_once_the_publisher_has_ended(rt: HostRuntime) -> Result<(), Fail> {
-    let (publisher, mut locators) = open_view(&rt, rt.alloc(), 1)?;
-    publisher.end(&rt);
+/// A view with so many locators, which learn nothing. Each of them sees the version that is published, and none once the
+/// publisher has ended.
+#[derive(Clone, Copy)]
+struct View<'a> {
+    readers: usize,
+    /// The calls of a version that is published, and the storages of block 7 in it.
+    published: Option<(u64, &'a [u32])>,
+    /// What is seen then.
+    calls: u64,
+    storages: &'a [u32],
+}
+
+static VIEWS: [View<'static>; 4] = [
+    View {
+        readers: 1,
+        published: None,
+        calls: 0,
+        storages: &[],
+    },
+    // Sixteen readers are the most.
+    View {
+        readers: 16,
+        published: None,
+        calls: 0,
+        storages: &[],
+    },
+    View {
+        readers: 0,
+        published: Some((3, &[])),
+        calls: 3,
+        storages: &[],
+    },
+    // A version may have as many calls as the one before.
+    View {
+        readers: 1,
+        published: Some((0, &[11])),
+        calls: 0,
+        storages: &[11],
+    },
+];
+
+fn check_all(rt: &impl Abort, locators: &mut Vec<Locator>, must: Option<Located>) {
     for locator in locators.iter_mut() {
-        assert_eq!(rt; locator.locate(BlockId(7)), None);
+        assert_eq!(rt; locator.locate(BlockId(7)), must);
     }
-    Ok(())
+}
+
+fn check_view<R: Abort + Wait>(rt: &R, alloc: Global, view: &View<'_>) {
+    let (mut publisher, mut locators) = open_view(rt, alloc, view.readers).expect(rt, "memory");
+    if let Some((calls, storages)) = view.published {
+        let _receipt = publish(rt, alloc, &mut publisher, calls, storages);
+    }
+    assert_eq!(rt;
+        (locators.len(), publisher.calls()),
+        (view.readers, view.calls)
+    );
+    let storages = named(rt, alloc, view.storages);
+    check_all(rt, &mut locators, found(view.calls, storages.as_slice()));
+    publisher.end(rt);
+    check_all(rt, &mut locators, None);
 }
 
 #[test]
-fn sixteen_readers_are_the_most(rt: HostRuntime) -> Result<(), Fail> {
-    let (publisher, locators) = open_view(&rt, rt.alloc(), 16)?;
-    publisher.end(&rt);
-    assert_eq!(rt; locators.len(), 16);
+fn locators_answer_until_the_publisher_has_ended(rt: HostRuntime) {
+    for view in &VIEWS {
+        check_view(&rt, rt.alloc(), view);
+    }
+}
+
+#[test]
+fn seventeen_readers_are_too_many(rt: HostRuntime) {
     match open_view(&rt, rt.alloc(), 17) {
         Ok((publisher, _locators)) => {
             publisher.end(&rt);
             assert!(rt; false);
         }
-        Err(refusal) => assert_eq!(rt; refusal, Refusal::BadConfig),
+        Err(refusal) => assert!(rt; refusal == Refusal::BadConfig),
     }
-    Ok(())
-}
-
-#[test]
-fn no_readers_give_no_locators(rt: HostRuntime) -> Result<(), Fail> {
-    let table = version(rt.alloc(), 3, &[])?;
-    let (mut publisher, locators) = open_view(&rt, rt.alloc(), 0)?;
-    let published = publisher.publish(&rt, table);
-    let calls = publisher.calls();
-    publisher.end(&rt);
-    assert!(rt; published.is_ok());
-    assert_eq!(rt; (locators.len(), calls), (0, 3));
-    Ok(())
-}
-
-#[test]
-fn a_version_may_have_as_many_calls_as_the_one_before(rt: HostRuntime) -> Result<(), Fail> {
-    let table = version(rt.alloc(), 0, &[StorageId(11)])?;
-    let (mut publisher, mut locators) = open_view(&rt, rt.alloc(), 1)?;
-    let published = publisher.publish(&rt, table).is_ok();
-    let seen = match locators.pop() {
-        Some(mut locator) => locator.locate(BlockId(7)),
-        None => None,
-    };
-    publisher.end(&rt);
-    assert_eq!(rt; (published, seen), (true, found(0, &[StorageId(11)])));
-    Ok(())
 }
