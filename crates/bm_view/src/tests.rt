@@ -1,23 +1,24 @@
 //! What no clause says: that a locator answers at all while the publisher stands, and that one which learnt nothing sees
 //! what was published.
-ghost use Rattle.std.specs.Prelude.{◌≡◌, IfOk};
+ghost use Rattle.std.specs.Prelude.{◌≡◌};
 ghost use Rattle.std.specs.Arc.{arc_value};
 
 use crate::{Located, Locator, Publisher, Receipt, Table, open_view};
 use bm_base::{BlockId, Places, Refusal, StorageId};
-use std::alloc::{AllocError, Global};
+use std::alloc::Global;
 use std::process::Abort;
 use std::sync::{Arc, Wait};
 
 mod two_threads;
 
 // A version with one row, of block 7.
-fn version(alloc: Global, calls: u64, storages: &[StorageId]) -> Result<Arc<Table>, AllocError>
-    ensures { IfOk result (λ table. (arc_value table).calls ≡ calls) }
+fn version(rt: &impl Abort, alloc: Global, calls: u64, storages: &[StorageId]) -> Arc<Table>
+    ensures { (arc_value result).calls ≡ calls }
 {
     let mut rows = Vec::new(alloc);
-    rows.push((BlockId(7), Places::first_of(storages)))?;
-    Ok(Arc::new(alloc, Table::new(calls, rows))?)
+    rows.push((BlockId(7), Places::first_of(storages)))
+        .expect(rt, "memory");
+    Arc::new(alloc, Table::new(calls, rows)).expect(rt, "memory")
 }
 
 fn found(calls: u64, storages: &[StorageId]) -> Option<Located> {
@@ -74,7 +75,7 @@ fn publish<R: Abort + Wait>(
     ensures home { publisher.new.home ≡ publisher.old.home }
 {
     let storages = named(rt, alloc, numbers);
-    let table = version(alloc, calls, storages.as_slice()).expect(rt, "memory");
+    let table = version(rt, alloc, calls, storages.as_slice());
     assert!(rt; publisher.calls() <= calls);
     publisher.publish(rt, table).expect(rt, "memory")
 }

@@ -1,15 +1,15 @@
 //! A publisher in one thread, and a locator in another.
-ghost use Rattle.std.specs.Prelude.{◌≡◌, ◌≤◌, IfOk, IfSome};
+ghost use Rattle.std.specs.Prelude.{◌≡◌, ◌≤◌, IfSome};
 ghost use Rattle.bm_view.specs.History.{last_of};
 
 use super::{found, version};
 use crate::{Located, Locator, Publisher, Receipt, open_view};
-use bm_base::{BlockId, Refusal, StorageId};
+use bm_base::{BlockId, StorageId};
 use crossbeam_channel::{Receiver, Sender, unbounded};
 use std::alloc::Global;
 use std::marker::{Brand, PhantomData};
+use std::process::Abort;
 use std::sync::Wait;
-use std::test::Fail;
 use std::thread::{Threads, join};
 
 const ROUNDS: u32 = 500;
@@ -68,21 +68,21 @@ fn make_notice<J: Home>(receipt: Receipt) -> Notice<J>
     }
 }
 
-fn publish_two<J: Home, R: Wait>(
+fn publish_two<J: Home, R: Abort + Wait>(
     rt: &R,
     alloc: Global,
     publisher: &mut Publisher,
     to: Sender<Notice<J>>,
-) -> Result<(), Refusal>
+)
     requires calls { (last_of publisher.old.list).calls ≡ 0 }
     requires home { publisher.old.home ≡ J.home }
 {
-    let receipt = publisher.publish(rt, version(alloc, 10, &[StorageId(11)])?)?;
+    let early = version(rt, alloc, 10, &[StorageId(11)]);
+    let receipt = publisher.publish(rt, early).expect(rt, "memory");
     let _ = to.send(rt, make_notice::<J>(receipt));
-    let late = version(alloc, 11, &[StorageId(11), StorageId(31)])?;
-    let receipt = publisher.publish(rt, late)?;
+    let late = version(rt, alloc, 11, &[StorageId(11), StorageId(31)]);
+    let receipt = publisher.publish(rt, late).expect(rt, "memory");
     let _ = to.send(rt, make_notice::<J>(receipt));
-    Ok(())
 }
 
 // Reads, and reads once more for each receipt that comes. No answer is older than the receipt: that is proved. It counts
@@ -109,35 +109,34 @@ fn read_what_is_told<J: Home, R: Wait>(
     wrong
 }
 
-fn tell_beside<J: Home + Send + Sync, R: Threads + Wait + Sync>(
+fn tell_beside<J: Home + Send + Sync, R: Abort + Threads + Wait + Sync>(
     rt: &R,
     alloc: Global,
     publisher: &mut Publisher,
     locator: Locator,
-) -> Result<u32, Refusal>
+) -> u32
     requires calls { (last_of publisher.old.list).calls ≡ 0 }
     requires home { (publisher.old.home ≡ J.home) × (locator.home ≡ J.home) }
 {
-    let (to, from) = unbounded(alloc)?;
-    let (published, wrong) = join(
+    let (to, from) = unbounded(alloc).expect(rt, "memory");
+    let (_, wrong) = join(
         rt,
-        || -> Result<(), Refusal>
+        ||
             requires { ((last_of publisher.now.list).calls ≡ 0) × (publisher.now.home ≡ J.home) }
         { publish_two::<J, R>(rt, alloc, publisher, to) },
         move || -> u32
             requires { locator.home ≡ J.home }
         { read_what_is_told::<J, R>(rt, locator, from) },
     );
-    published?;
-    Ok(wrong)
+    wrong
 }
 
-fn told_beside<R: Threads + Wait + Sync>(
+fn told_beside<R: Abort + Threads + Wait + Sync>(
     rt: &R,
     alloc: Global,
     publisher: &mut Publisher,
     locator: Locator,
-) -> Result<u32, Refusal>
+) -> u32
     requires calls { (last_of publisher.old.list).calls ≡ 0 }
     requires home { locator.home ≡ publisher.old.home }
 {
@@ -145,44 +144,38 @@ fn told_beside<R: Threads + Wait + Sync>(
 }
 
 // How many answers are wrong, and what a locator that learnt nothing answers in the end.
-fn one_round<R: Threads + Wait + Sync>(
-    rt: &R,
-    alloc: Global,
-) -> Result<(u32, Option<Located>), Refusal> {
-    let (mut publisher, mut locators) = open_view(rt, alloc, 2)?;
+fn one_round<R: Abort + Threads + Wait + Sync>(rt: &R, alloc: Global) -> (u32, Option<Located>) {
+    let (mut publisher, mut locators) = open_view(rt, alloc, 2).expect(rt, "memory");
     let wrong = match locators.pop() {
         Some(locator) => told_beside(rt, alloc, &mut publisher, locator),
-        None => Err(Refusal::BadConfig),
+        None => 1,
     };
     let seen = match locators.pop() {
         Some(mut locator) => locator.locate(BlockId(7)),
         None => None,
     };
     publisher.end(rt);
-    Ok((wrong?, seen))
+    (wrong, seen)
 }
 
 #[test]
-fn readers_see_published_versions_in_two_threads(rt: HostRuntime) -> Result<(), Fail> {
+fn readers_see_published_versions_in_two_threads(rt: HostRuntime) {
     for _ in 0..ROUNDS {
-        assert_eq!(rt; one_round(&rt, rt.alloc())?, (0, at(11)));
+        assert_eq!(rt; one_round(&rt, rt.alloc()), (0, at(11)));
     }
-    Ok(())
 }
 
 // Publishes versions with 1 call to `VERSIONS`, and gives the receipt of the last.
-fn publish_all<R: Wait>(
-    rt: &R,
-    alloc: Global,
-    publisher: &mut Publisher,
-) -> Result<Receipt, Refusal>
+fn publish_all<R: Abort + Wait>(rt: &R, alloc: Global, publisher: &mut Publisher) -> Receipt
     requires { (last_of publisher.old.list).calls ≡ 0 }
-    ensures { IfOk result (λ receipt. receipt.home ≡ publisher.old.home) }
+    ensures { result.home ≡ publisher.old.home }
 {
     for calls in 1..VERSIONS {
-        publisher.publish(rt, version(alloc, calls, &[StorageId(11)])?)?;
+        let table = version(rt, alloc, calls, &[StorageId(11)]);
+        publisher.publish(rt, table).expect(rt, "memory");
     }
-    publisher.publish(rt, version(alloc, VERSIONS, &[StorageId(11)])?)
+    let last = version(rt, alloc, VERSIONS, &[StorageId(11)]);
+    publisher.publish(rt, last).expect(rt, "memory")
 }
 
 // Counts the answers that went back, or were none.
@@ -212,36 +205,35 @@ fn read_after(mut locator: Locator, receipt: Receipt) -> Option<Located>
 }
 
 // Publishes in one thread and reads in another. Then the reader learns the last receipt.
-fn beside<R: Threads + Wait + Sync>(
+fn beside<R: Abort + Threads + Wait + Sync>(
     rt: &R,
     alloc: Global,
     publisher: &mut Publisher,
     locator: Locator,
-) -> Result<(u32, Option<Located>), Refusal>
+) -> (u32, Option<Located>)
     requires calls { (last_of publisher.old.list).calls ≡ 0 }
     requires home { locator.home ≡ publisher.old.home }
 {
     let (receipt, (locator, wrong)) = join(
         rt,
-        || -> Result<Receipt, Refusal>
+        || -> Receipt
             requires { (last_of publisher.now.list).calls ≡ 0 }
-            ensures { IfOk result (λ receipt. receipt.home ≡ publisher.entry.now.home) }
+            ensures { result.home ≡ publisher.entry.now.home }
         { publish_all(rt, alloc, publisher) },
         move || -> (Locator, u32)
             ensures { result.0.home ≡ locator.home }
         { read_all(locator) },
     );
-    Ok((wrong, read_after(locator, receipt?)))
+    (wrong, read_after(locator, receipt))
 }
 
 #[test]
-fn reads_beside_a_publisher_never_go_back(rt: HostRuntime) -> Result<(), Fail> {
-    let (mut publisher, mut locators) = open_view(&rt, rt.alloc(), 1)?;
+fn reads_beside_a_publisher_never_go_back(rt: HostRuntime) {
+    let (mut publisher, mut locators) = open_view(&rt, rt.alloc(), 1).expect(&rt, "memory");
     let seen = match locators.pop() {
         Some(locator) => beside(&rt, rt.alloc(), &mut publisher, locator),
-        None => Err(Refusal::BadConfig),
+        None => (1, None),
     };
     publisher.end(&rt);
-    assert_eq!(rt; seen?, (0, found(VERSIONS, &[StorageId(11)])));
-    Ok(())
+    assert_eq!(rt; seen, (0, found(VERSIONS, &[StorageId(11)])));
 }
