@@ -162,16 +162,17 @@ fn readers_see_published_versions(rt: HostRuntime) {
     publisher.end(&rt);
 }
 
-/// A view with so many locators, which learn nothing. Each of them sees the version that is published, and none once the
-/// publisher has ended.
+/// A view with so many locators, which learn nothing. Each of them answers from the version that is published, and not at all
+/// once the publisher has ended.
 #[derive(Clone, Copy)]
 struct View<'a> {
     readers: usize,
     /// The calls of a version that is published, and the storages of block 7 in it.
     published: Option<(u64, &'a [u32])>,
-    /// What is seen then.
+    /// The calls of the publisher then.
     calls: u64,
-    storages: &'a [u32],
+    /// The storages of block 7 that each locator sees then. `None` where none is asked before the publisher has ended.
+    seen: Option<&'a [u32]>,
 }
 
 static VIEWS: [View<'static>; 4] = [
@@ -179,27 +180,27 @@ static VIEWS: [View<'static>; 4] = [
         readers: 1,
         published: None,
         calls: 0,
-        storages: &[],
+        seen: None,
     },
     // Sixteen readers are the most.
     View {
         readers: 16,
         published: None,
         calls: 0,
-        storages: &[],
+        seen: Some(&[]),
     },
     View {
         readers: 0,
         published: Some((3, &[])),
         calls: 3,
-        storages: &[],
+        seen: Some(&[]),
     },
     // A version may have as many calls as the one before.
     View {
         readers: 1,
         published: Some((0, &[11])),
         calls: 0,
-        storages: &[11],
+        seen: Some(&[11]),
     },
 ];
 
@@ -207,6 +208,17 @@ fn check_all(rt: &impl Abort, locators: &mut Vec<Locator>, must: Option<Located>
     for locator in locators.iter_mut() {
         assert_eq!(rt; locator.locate(BlockId(7)), must);
     }
+}
+
+fn check_seen(
+    rt: &impl Abort,
+    alloc: Global,
+    locators: &mut Vec<Locator>,
+    calls: u64,
+    numbers: &[u32],
+) {
+    let storages = named(rt, alloc, numbers);
+    check_all(rt, locators, found(calls, storages.as_slice()));
 }
 
 fn check_view<R: Abort + Wait>(rt: &R, alloc: Global, view: &View<'_>) {
@@ -218,8 +230,9 @@ fn check_view<R: Abort + Wait>(rt: &R, alloc: Global, view: &View<'_>) {
         (locators.len(), publisher.calls()),
         (view.readers, view.calls)
     );
-    let storages = named(rt, alloc, view.storages);
-    check_all(rt, &mut locators, found(view.calls, storages.as_slice()));
+    if let Some(storages) = view.seen {
+        check_seen(rt, alloc, &mut locators, view.calls, storages);
+    }
     publisher.end(rt);
     check_all(rt, &mut locators, None);
 }
