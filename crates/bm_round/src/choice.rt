@@ -21,8 +21,8 @@ pub(crate) struct Choice {
     pub streams: Streams,
     pub scheduled: Scheduled,
     /// Of the present wish: the storages from which a copy may be made; those that hold the block or will; and those on whose
-    /// nodes no copy of it may be put. All three are filled anew for each wish, so that they take memory for the first ones
-    /// alone.
+    /// nodes no copy of it may be put. All three are emptied and filled anew for each wish, so that they take memory only where
+    /// one is longer than all before.
     pub sources: Vec<StorageId>,
     pub held: Vec<StorageId>,
     pub barred: Vec<StorageId>,
