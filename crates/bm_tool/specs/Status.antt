@@ -1,7 +1,9 @@
--- What standard error says of a fault, without its line end.
+-- What standard error says of a fault, without its line end, and the exit status.
 use Rattle.std.specs.Prelude.{ℕ, List, codes}
 use Rattle.bm_tool.specs.declared.fault.Fault.{Fault}
 use Rattle.bm_tool.specs.declared.fault.Fault.TheVariants.{Config, Read, Write, Memory, TooMuch}
+use Rattle.bm_tool.specs.declared.status.End.{End}
+use Rattle.bm_tool.specs.declared.status.End.TheVariants.{Answered, Helped, Faulted, Misused}
 
 abbrev pub fault_text : Fault → List ℕ
 fault_text Config = codes "bm_tool: config fault"
@@ -9,3 +11,9 @@ fault_text Read = codes "bm_tool: read fault"
 fault_text Write = codes "bm_tool: write fault"
 fault_text Memory = codes "bm_tool: memory fault"
 fault_text TooMuch = codes "bm_tool: too much input"
+
+abbrev pub status_of : End → ℕ
+status_of Answered = 0
+status_of Helped = 0
+status_of (Faulted fault) = 1
+status_of Misused = 2

@@ -10,6 +10,7 @@ mod from_fields;
 mod limits;
 mod line;
 mod op;
+mod options;
 mod print;
 mod reply;
 mod session;
@@ -17,23 +18,71 @@ mod status;
 mod whole_run;
 
 use bm_base::Config;
+use clap::Error;
+use clap::error::ErrorKind;
 use ends::Counted;
 use fault::{Fault, Summary};
-use status::fault_text;
-use std::io;
+use options::config_of;
+use status::{End, fault_text, status_of};
+use std::env::Env;
 use std::io::{BufWriter, Write};
 use std::process::ExitCode;
+use std::{env, io};
 use whole_run::run;
 
-/// Ends with status 0, or, after a fault, with its text on standard error and status 1.
+/// Reads the options, and makes the run that they ask for.
 fn main(rt: HostRuntime) -> ExitCode {
-    match answer_all(&rt, &Config::standard()) {
-        Ok(_) => ExitCode::SUCCESS,
-        Err(fault) => {
-            let _ = rt.eprintln(fault_text(fault));
-            ExitCode::FAILURE
+    ExitCode::from(status_of(ended(&rt)))
+}
+
+fn ended<R: Env + Input + Print + Eprint + AllocGlobal>(rt: &R) -> End {
+    match words_of(rt) {
+        Ok(words) => asked(rt, words.as_slice()),
+        Err(error) if error.kind() == io::ErrorKind::OutOfMemory => faulted(rt, Fault::Memory),
+        Err(_) => {
+            let _ = rt.eprintln("error: an argument is not UTF-8");
+            End::Misused
         }
     }
+}
+
+/// The words of the command line. Each is pushed, so that no refused growth is passed over.
+fn words_of<R: Env + AllocGlobal>(rt: &R) -> io::Result<Vec<String>> {
+    let mut words = Vec::new(rt.alloc());
+    for word in env::args(rt)? {
+        if words.push(word).is_err() {
+            return Err(io::Error::from(io::ErrorKind::OutOfMemory));
+        }
+    }
+    Ok(words)
+}
+
+fn asked<R: Input + Print + Eprint + AllocGlobal>(rt: &R, words: &[String]) -> End {
+    match config_of(rt.alloc(), words) {
+        Ok(config) => match answer_all(rt, &config) {
+            Ok(_) => End::Answered,
+            Err(fault) => faulted(rt, fault),
+        },
+        Err(error) => told(rt, &error),
+    }
+}
+
+/// Says why there is no run.
+fn told<R: Print + Eprint>(rt: &R, error: &Error) -> End {
+    if matches!(error.kind(), ErrorKind::OutOfMemory) {
+        return faulted(rt, Fault::Memory);
+    }
+    let _ = error.print(rt);
+    if error.use_stderr() {
+        End::Misused
+    } else {
+        End::Helped
+    }
+}
+
+fn faulted<R: Eprint>(rt: &R, fault: Fault) -> End {
+    let _ = rt.eprintln(fault_text(fault));
+    End::Faulted(fault)
 }
 
 /// The whole run, from standard input to standard output.

@@ -1,7 +1,32 @@
+// How the program ends: what standard error says of a fault, and the exit status.
 ghost use Rattle.std.specs.Prelude.{◌≡◌};
-ghost use Rattle.bm_tool.specs.Status.{fault_text};
+ghost use Rattle.bm_tool.specs.Status.{fault_text, status_of};
 
 use crate::fault::Fault;
+
+/// How the program ended.
+#[derive(Clone, Copy, Debug, PartialEq, Eq)]
+pub enum End {
+    /// The whole input was answered.
+    Answered,
+    /// Help was asked for.
+    Helped,
+    /// A fault ended the run, or memory was refused before it.
+    Faulted(Fault),
+    /// The command line was refused.
+    Misused,
+}
+
+/// The exit status.
+pub fn status_of(end: End) -> u8
+    ensures { result ≡ status_of end }
+{
+    match end {
+        End::Answered | End::Helped => 0,
+        End::Faulted(_) => 1,
+        End::Misused => 2,
+    }
+}
 
 /// What standard error says of a fault.
 pub fn fault_text(fault: Fault) -> &'static str
