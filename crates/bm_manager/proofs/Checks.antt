@@ -1,13 +1,12 @@
 -- Checks one after another.
-use Rattle.std.proofs.Common.{◌≡◌, ℕ, ◌<◌, Bool, true, false, not, IsTrue, List, [], ◌∷◌, Option, Some, None, Ok, Err, refl, sym, ap, ◌∙◌, arith, cond}
+use Rattle.std.proofs.Common.{◌≡◌, ◌<◌, Option, Some, None, Ok, Err, refl, ap, ◌∙◌, arith, cond}
 use Rattle.std.specs.Prelude.{nat_le}
 use Rattle.std.proofs.lemmas.Bool.Decides.{nat_tests}
 use Rattle.bm_base.specs.declared.event.Event.{Event}
-use Rattle.bm_base.specs.declared.event.Event.TheVariants.{Drain}
 use Rattle.bm_base.specs.declared.refusal.Refusal.{Refusal}
-use Rattle.bm_base.specs.declared.refusal.Refusal.TheVariants.{UnknownNode, CallsSpent}
-use Rattle.bm_base.specs.State.{Cluster, State}
-use Rattle.bm_base.specs.Refusals.{◌when◌, ◌before◌, knows_node, refusal_of, first_of, cluster_checks, block_checks, calls_spent, last_number}
+use Rattle.bm_base.specs.declared.refusal.Refusal.TheVariants.{CallsSpent}
+use Rattle.bm_base.specs.State.{State}
+use Rattle.bm_base.specs.Refusals.{◌before◌, refusal_of, first_of, cluster_checks, block_checks, calls_spent, last_number}
 use Rattle.bm_base.specs.Answering.{checked}
 
 checked-before_err : (x y : Option Refusal) (r : Refusal) → checked x ≡ Err r → checked (x before y) ≡ Err r
@@ -42,12 +41,3 @@ calls_spent-last M e = ap (λ n. cond (nat_le last_number n) (Some CallsSpent) N
 pub calls_spent-below : (M : State) → M.calls < last_number → calls_spent M ≡ None
 unfolding calls_spent
 calls_spent-below M lt = grind (arith, nat_tests, lt)
-
-known_by : (b : Bool) → first_of ((UnknownNode when not b) ∷ []) ≡ None → IsTrue b
-known_by true h = refl
-known_by false h = cc
-
--- a node drains only where it is alive
-pub drain_of_known : (C : Cluster) (n : ℕ) (e : Event) → e ≡ Drain n → first_of (cluster_checks C e) ≡ None → IsTrue (knows_node C n)
-unfolding cluster_checks
-drain_of_known C n e is h = known_by (knows_node C n) (sym (ap (λ x. first_of (cluster_checks C x)) is) ∙ h)

@@ -2,13 +2,13 @@
 ghost use Rattle.std.specs.Prelude.{◌≡◌, true, false, None, IfOk, IfErr, OnOk};
 ghost use Rattle.bm_base.specs.Queries as queries;
 ghost use Rattle.bm_base.specs.Levels as levels;
-ghost use Rattle.bm_base.specs.Refusals.{node_refusal, storage_refusal, block_refusal};
+ghost use Rattle.bm_base.specs.Refusals.{node_refusal, storage_refusal, block_refusal, knows_storage};
 ghost use Rattle.bm_base.specs.Answering.{Refuses};
 ghost use Rattle.bm_base.specs.declared.refusal.Refusal.TheVariants.{Memory};
 
 use crate::manager::Manager;
-use crate::standing::knows_storage;
 use bm_base::{BlockId, Items, Level, NodeId, Refusal, Replica, ReplicaId, StorageId};
+use bm_topo::Topology;
 
 impl Manager {
     /// How many calls were accepted, from `first_call` on. Takes no memory.
@@ -109,4 +109,11 @@ impl Manager {
         }
         Ok(self.holdings.level(&self.topology, id))
     }
+}
+
+#[tactic(auto, unfolding(bm_base::specs::Refusals::knows_storage, bm_base::specs::Replicas::node_of))]
+fn knows_storage(topology: &Topology, storage: StorageId) -> bool
+    ensures { result ≡ knows_storage topology.now.cluster storage }
+{
+    topology.node_of(storage).is_some()
 }

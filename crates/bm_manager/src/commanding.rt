@@ -6,9 +6,8 @@ ghost use Rattle.bm_base.specs.Calls.{counted};
 ghost use Rattle.bm_base.specs.Answering.{checked, Refuses};
 
 use crate::manager::Manager;
-use crate::rounds::commands_of;
-use crate::standing::node_ids;
 use bm_base::{Commands, Refusal};
+use bm_shard::{commands_of, node_ids};
 use std::alloc::AllocError;
 
 impl Manager {

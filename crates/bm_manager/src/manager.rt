@@ -7,8 +7,8 @@ ghost use Rattle.bm_base.specs.Calls.{done_by, after_event};
 ghost use Rattle.bm_base.specs.Answering.{checked, Refuses, takes_memory};
 ghost use Rattle.bm_manager.specs.Growth.{needs_memory};
 
-use crate::holdings::Holdings;
 use bm_base::{Config, Done, Event, Refusal};
+use bm_shard::Holdings;
 use bm_topo::Topology;
 use std::alloc::Global;
 use std::marker::Model;

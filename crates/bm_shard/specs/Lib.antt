@@ -1,0 +1,4 @@
+pub mod Changed
+pub mod Growth
+pub mod Reported
+pub mod Told

@@ -1,0 +1,17 @@
+//! What a block manager holds of blocks and replicas: the blocks, their replicas and the transfers on their way, what events change
+//! in them, what can be asked of them, and what a round finds in them.
+//!
+//! One plain sorted list so far: blocks and replicas stand in sorted vectors, and a full report works on a copy.
+#![tactic(auto)]
+
+mod changes;
+mod holdings;
+mod queries;
+mod reports;
+mod rounds;
+mod standing;
+mod tally;
+
+pub use holdings::Holdings;
+pub use rounds::commands_of;
+pub use standing::node_ids;
