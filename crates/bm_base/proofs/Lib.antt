@@ -1,3 +1,4 @@
+pub mod Blocks
 pub mod MapLaws
 pub mod SortedLaws
 pub mod Replacing

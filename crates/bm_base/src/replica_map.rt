@@ -1,14 +1,16 @@
 // A map from replicas over a sorted vector.
-ghost use Rattle.std.specs.Prelude.{◌≡◌, ◌<◌, IfOk, OnOk, OnErr, T, Some, slice_get, slice_set};
+ghost use Rattle.std.specs.Prelude.{◌≡◌, ◌<◌, ◌==◌, IfOk, OnOk, OnErr, T, Some, filter, slice_get, slice_set};
 ghost use Rattle.bm_base.specs.declared.replica.ReplicaId.{ReplicaId};
 ghost use Rattle.std.specs.FinMap.{is_sorted};
+ghost use Rattle.bm_base.specs.Place.{leading};
 ghost use Rattle.bm_base.specs.State.{replica_cmp};
 ghost use Rattle.bm_base.specs.Map as map;
 ghost use Rattle.std.specs.List.Retain.{IsFiltered};
 ghost use Rattle.std.specs.Fn.{CalledAt};
 
+use crate::ids::{BlockId, StorageId};
 use crate::replica::ReplicaId;
-use crate::sorted::{find, put, replace};
+use crate::sorted::{find, place, put, replace};
 use std::alloc::{AllocError, Global};
 use std::marker::Model;
 
@@ -109,6 +111,20 @@ impl<V: Copy> ReplicaMap<V> {
         &self.entries
     }
 
+    /// The entries of one block, by rising storage: a binary search and a look at each of them.
+    pub fn of_block(&self, block: BlockId) -> &[(ReplicaId, V)]
+        ensures { result.now ≡ filter (λ e. e.0.block == block) (map.entries self.now) }
+    {
+        let first = ReplicaId {
+            block,
+            storage: StorageId(0),
+        };
+        let from = place(&self.entries, &first);
+        let rest = &self.entries[from..];
+        let count = count_of_block(rest, block);
+        &rest[..count]
+    }
+
     /// Keeps the entries that pass.
     pub fn retain<F: FnMut(&(ReplicaId, V)) -> bool>(&mut self, f: F)
         requires { F.IsAlwaysCallable f }
@@ -131,4 +147,18 @@ impl<V: Copy> ReplicaMap<V> {
     {
         self.retain(|e| e.0 != key);
     }
+}
+
+/// How many entries stand before the first of another block.
+fn count_of_block<V: Copy>(entries: &[(ReplicaId, V)], block: BlockId) -> usize
+    ensures { result ≡ leading (λ e. e.0.block == block) entries.now }
+{
+    let mut count = 0;
+    for (replica, _) in entries {
+        if replica.block != block {
+            return count;
+        }
+        count += 1;
+    }
+    count
 }

@@ -7,7 +7,7 @@ use std::alloc::AllocError;
 use std::cmp::Ordering;
 
 /// How many entries stand before the key's place.
-fn place<K: Ord + Copy, V: Copy>(entries: &[(K, V)], key: &K) -> usize
+pub(crate) fn place<K: Ord + Copy, V: Copy>(entries: &[(K, V)], key: &K) -> usize
     requires { T (list.is_sorted K.cmp entries.now) }
     ensures { result ≡ place K.cmp key.now entries.now }
 {
