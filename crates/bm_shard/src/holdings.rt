@@ -1,6 +1,8 @@
 // The blocks, their replicas and the transfers on their way.
 ghost use Rattle.std.specs.Prelude.{◌≡◌, not, IfOk, OnOk, OnErr, if◌then◌else◌};
+ghost use Rattle.std.specs.List.{list_any};
 ghost use Rattle.bm_base.specs.Map as map;
+ghost use Rattle.bm_base.specs.Replicas as replicas;
 ghost use Rattle.bm_base.specs.State as state;
 ghost use Rattle.bm_base.specs.Events as events;
 ghost use Rattle.bm_base.specs.Refusals.{first_of, block_checks, knows_block, is_still_stored, is_bad_replication, is_old};
@@ -55,12 +57,10 @@ impl Holdings {
         self.blocks.get(id.0).is_some()
     }
 
-    #[tactic(auto, unfolding(bm_base::specs::Refusals::is_still_stored))]
     fn is_still_stored(&self, id: BlockId) -> bool
         ensures { result ≡ is_still_stored self.now id }
     {
-        self.replicas.entries().iter().any(|(replica, marks)| replica.block == id
-            && matches!(marks.tag, Tag::Stray))
+        has_stray(self.replicas.of_block(id))
     }
 
     #[tactic(auto, unfolding(bm_base::specs::Events::was_bad))]
@@ -216,6 +216,12 @@ impl Holdings {
             removed: (with_it - after) as u128,
         })
     }
+}
+
+fn has_stray(run: &[(ReplicaId, Marks)]) -> bool
+    ensures { result ≡ list_any (λ e. replicas.is_stray e.1.tag) run.now }
+{
+    run.iter().any(|(_, marks)| matches!(marks.tag, Tag::Stray))
 }
 
 fn check_replication(repl: u32) -> Result<(), Refusal>

@@ -1,11 +1,12 @@
 // What can be asked of the blocks and replicas.
-ghost use Rattle.std.specs.Prelude.{◌≡◌, ◌==◌, ◌&&◌, length, filter_map, None, if◌then◌else◌, IfOk};
+ghost use Rattle.std.specs.Prelude.{◌≡◌, length, filter_map, None, if◌then◌else◌, IfOk};
 ghost use Rattle.std.specs.List.{list_any};
 ghost use Rattle.bm_base.specs.Map as map;
 ghost use Rattle.bm_base.specs.Replicas as replicas;
 ghost use Rattle.bm_base.specs.Queries as queries;
 ghost use Rattle.bm_base.specs.Spread.{spread};
 ghost use Rattle.bm_base.specs.Levels as levels;
+ghost use Rattle.bm_shard.specs.Meant.{meant, storages_in};
 
 use crate::holdings::Holdings;
 use crate::standing::has_storage;
@@ -15,15 +16,23 @@ use bm_base::{
 use bm_topo::Topology;
 use std::alloc::{AllocError, Global};
 
+/// Which replicas of a block are meant.
+#[derive(Clone, Copy)]
+pub enum Which {
+    Live,
+    Drained,
+    /// Whatever their tags.
+    All,
+}
+
 impl Holdings {
     /// The storages of the block's good replicas, rising.
-    #[tactic(auto, unfolding(bm_base::specs::Replicas::storages_where))]
     pub fn places(&self, alloc: Global, id: BlockId) -> Result<Items<StorageId>, AllocError>
         ensures { IfOk result (λ v. v ≡ queries.places self.now id) }
     {
         let mut storages = Vec::new(alloc);
-        for (replica, marks) in self.replicas.entries() {
-            if replica.block == id && matches!(marks.tag, Tag::Good) {
+        for (replica, marks) in self.replicas.of_block(id) {
+            if matches!(marks.tag, Tag::Good) {
                 storages.push(replica.storage)?;
             }
         }
@@ -120,8 +129,8 @@ impl Holdings {
     {
         match self.blocks.get(id.0) {
             Some(info) => {
-                let live = self.live_count(topology, id);
-                let drained = self.drained_count(topology, id);
+                let live = self.count_of(topology, Which::Live, id);
+                let drained = self.count_of(topology, Which::Drained, id);
                 let racks = self.live_rack_spread(topology, id);
                 level_of(live, drained, info.repl, racks, topology.multi_rack())
             }
@@ -129,32 +138,36 @@ impl Holdings {
         }
     }
 
-    /// How many replicas of the block are live.
-    #[tactic(auto, unfolding(bm_base::specs::Replicas::storages_where))]
-    pub fn live_count(&self, topology: &Topology, id: BlockId) -> usize
-        ensures { result ≡ length (replicas.live topology.now.cluster self.now id) }
+    /// How many of these replicas the block has.
+    pub fn count_of(&self, topology: &Topology, which: Which, id: BlockId) -> usize
+        ensures { result ≡ length (replicas.storages_where (meant topology.now.cluster which) self.now id) }
     {
         let mut count = 0;
-        for (replica, marks) in self.replicas.entries() {
-            if replica.block == id && is_live_on(topology, replica.storage, marks) {
+        for (replica, marks) in self.replicas.of_block(id) {
+            if is_meant(topology, which, replica.storage, marks) {
                 count += 1;
             }
         }
         count
     }
 
-    /// How many replicas of the block are drained.
-    #[tactic(auto, unfolding(bm_base::specs::Replicas::storages_where))]
-    fn drained_count(&self, topology: &Topology, id: BlockId) -> usize
-        ensures { result ≡ length (replicas.drained topology.now.cluster self.now id) }
+    /// On which storages the block has them, rising.
+    pub fn storages_of(
+        &self,
+        alloc: Global,
+        topology: &Topology,
+        which: Which,
+        id: BlockId,
+    ) -> Result<Vec<StorageId>, AllocError>
+        ensures { IfOk result (λ v. v.items ≡ replicas.storages_where (meant topology.now.cluster which) self.now id) }
     {
-        let mut count = 0;
-        for (replica, marks) in self.replicas.entries() {
-            if replica.block == id && is_drained_on(topology, replica.storage, marks) {
-                count += 1;
+        let mut storages = Vec::new(alloc);
+        for (replica, marks) in self.replicas.of_block(id) {
+            if is_meant(topology, which, replica.storage, marks) {
+                storages.push(replica.storage)?;
             }
         }
-        count
+        Ok(storages)
     }
 
     /// Whether as many replicas of the block are live as are wanted; not of an unknown block.
@@ -163,23 +176,16 @@ impl Holdings {
         ensures { result ≡ replicas.has_enough_live topology.now.cluster self.now id }
     {
         match self.blocks.get(id.0) {
-            Some(info) => self.live_count(topology, id) >= info.repl as usize,
+            Some(info) => self.count_of(topology, Which::Live, id) >= info.repl as usize,
             None => false,
         }
     }
 
     /// Whether a replica of the block is drained on a storage of the node.
-    #[tactic(auto, unfolding(bm_base::specs::Replicas::storages_where))]
     fn is_drained_at(&self, topology: &Topology, node: NodeId, id: BlockId) -> bool
         ensures { result ≡ list_any (replicas.has_storage topology.now.cluster node) (replicas.drained topology.now.cluster self.now id) }
     {
-        for (replica, marks) in self.replicas.entries() {
-            let is_its = replica.block == id && is_drained_on(topology, replica.storage, marks);
-            if is_its && has_storage(topology, node, replica.storage) {
-                return true;
-            }
-        }
-        false
+        is_drained_among(topology, node, self.replicas.of_block(id))
     }
 
     /// Whether the block holds the node back.
@@ -205,36 +211,66 @@ impl Holdings {
     }
 
     /// On how many racks the block's live replicas stand, 2 for more.
-    #[tactic(auto, unfolding(bm_base::specs::Replicas::storages_where))]
     fn live_rack_spread(&self, topology: &Topology, id: BlockId) -> usize
         ensures { result ≡ spread (filter_map (replicas.rack_of topology.now.cluster) (replicas.live topology.now.cluster self.now id)) }
     {
-        let mut first = None;
-        for (replica, marks) in self.replicas.entries() {
-            let Some(rack) = live_rack(topology, id, replica, marks) else {
-                continue;
-            };
-            match first {
-                None => first = Some(rack),
-                Some(seen) => {
-                    if rack != seen {
-                        return 2;
-                    }
-                }
-            }
-        }
-        usize::from(first.is_some())
+        live_spread(topology, self.replicas.of_block(id))
     }
 }
 
-/// The rack of a replica that is a live one of the block.
-fn live_rack(topology: &Topology, id: BlockId, replica: &ReplicaId, marks: &Marks) -> Option<Rack>
-    ensures { result ≡ (if (replica.now.block == id) && replicas.is_live_on topology.now.cluster replica.now.storage marks.now then replicas.rack_of topology.now.cluster replica.now.storage else None) }
+/// Whether one of these replicas is drained on a storage of the node.
+fn is_drained_among(topology: &Topology, node: NodeId, run: &[(ReplicaId, Marks)]) -> bool
+    ensures { result ≡ list_any (replicas.has_storage topology.now.cluster node) (storages_in (replicas.is_drained_on topology.now.cluster) run.now) }
 {
-    if replica.block == id && is_live_on(topology, replica.storage, marks) {
-        topology.rack_of(replica.storage)
+    for (replica, marks) in run {
+        let is_drained = is_drained_on(topology, replica.storage, marks);
+        if is_drained && has_storage(topology, node, replica.storage) {
+            return true;
+        }
+    }
+    false
+}
+
+/// On how many racks the live ones of these replicas stand, 2 for more.
+fn live_spread(topology: &Topology, run: &[(ReplicaId, Marks)]) -> usize
+    ensures { result ≡ spread (filter_map (replicas.rack_of topology.now.cluster) (storages_in (replicas.is_live_on topology.now.cluster) run.now)) }
+{
+    let mut first = None;
+    for (replica, marks) in run {
+        let Some(rack) = live_rack(topology, replica.storage, marks) else {
+            continue;
+        };
+        match first {
+            None => first = Some(rack),
+            Some(seen) => {
+                if rack != seen {
+                    return 2;
+                }
+            }
+        }
+    }
+    usize::from(first.is_some())
+}
+
+/// The rack of a replica that is live.
+fn live_rack(topology: &Topology, storage: StorageId, marks: &Marks) -> Option<Rack>
+    ensures { result ≡ (if replicas.is_live_on topology.now.cluster storage marks.now then replicas.rack_of topology.now.cluster storage else None) }
+{
+    if is_live_on(topology, storage, marks) {
+        topology.rack_of(storage)
     } else {
         None
+    }
+}
+
+/// Whether a replica is one of these.
+fn is_meant(topology: &Topology, which: Which, storage: StorageId, marks: &Marks) -> bool
+    ensures { result ≡ meant topology.now.cluster which storage marks.now }
+{
+    match which {
+        Which::Live => is_live_on(topology, storage, marks),
+        Which::Drained => is_drained_on(topology, storage, marks),
+        Which::All => true,
     }
 }
 

@@ -14,6 +14,6 @@ returns-in-Some c =
     let ss = live C H c.args.id in
     let found : Some c.in-Some.info ≡ get H.blocks c.args.id = c.in-Some.ensures ∙ (λ i. get (c.self.view_is i).blocks (c.id.view_is i)) in
     c.level_of.ensures
-    ∙ (λ i. level_of (c.live_count-live.ensures i) (c.drained_count-drained.ensures i) c.in-Some.info.repl (c.live_rack_spread-racks.ensures i) (c.multi_rack.ensures i))
+    ∙ (λ i. level_of (c.count_of-live.ensures i) (c.count_of-drained.ensures i) c.in-Some.info.repl (c.live_rack_spread-racks.ensures i) (c.multi_rack.ensures i))
     ∙ level_of-spread (length ss) (length (drained C H c.args.id)) c.in-Some.info.repl (filter_map (rack_of C) ss) (is_multi_rack C)
     ∙ rw (← found) refl
