@@ -1,5 +1,8 @@
 pub mod Changed
 pub mod Growth
+pub mod Marking
 pub mod Meant
+pub mod Piles
 pub mod Reported
 pub mod Told
+pub mod Wishing

@@ -5,13 +5,19 @@
 #![tactic(auto)]
 
 mod changes;
+mod deleting;
+mod finishing;
 mod holdings;
+mod parting;
 mod queries;
 mod reports;
 mod rounds;
 mod standing;
+mod starting;
 mod tally;
+mod wishing;
 
 pub use holdings::Holdings;
+pub use parting::RoundStart;
 pub use rounds::commands_of;
 pub use standing::node_ids;

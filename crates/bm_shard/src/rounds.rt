@@ -10,30 +10,16 @@ ghost use Rattle.bm_base.specs.Rounds as rounds;
 ghost use Rattle.bm_shard.specs.Told.{told_to};
 
 use crate::holdings::Holdings;
-use crate::queries::is_corrupt;
 use crate::standing::{has_storage, storage_ids};
+use crate::starting::drop_expired;
 use bm_base::{
     BlockId, Commands, Config, Delete, Items, Marks, NodeCommands, NodeId, ReplicaId, ReplicaMap,
-    StorageId, Tag,
+    StorageId,
 };
 use bm_topo::Topology;
 use std::alloc::{AllocError, Global};
 
 impl Holdings {
-    /// Whether a replica is to be deleted and was not ordered to be.
-    #[tactic(auto, unfolding(bm_base::specs::Deletes::is_deletable))]
-    fn is_deletable(&self, topology: &Topology, replica: &ReplicaId, marks: &Marks) -> bool
-        ensures { result ≡ deletes_of_round.is_deletable topology.now.cluster self.now replica.now marks.now }
-    {
-        if marks.ordered {
-            return false;
-        }
-        if matches!(marks.tag, Tag::Stray) || marks.excess {
-            return true;
-        }
-        is_corrupt(marks.tag) && self.has_enough_live(topology, replica.block)
-    }
-
     /// Adds the deletable replicas on a storage, by block.
     #[tactic(auto, unfolding(bm_base::specs::Deletes::deletable_on))]
     fn add_deletable(
@@ -123,13 +109,6 @@ impl Holdings {
         self.replicas = replicas;
         drop_expired(&mut self.pending, config.pend, round);
     }
-}
-
-/// Takes out the transfers that were commanded `pend` rounds before or earlier.
-fn drop_expired(pending: &mut ReplicaMap<u64>, pend: u32, round: u64)
-    ensures { pending.new ≡ map.keep pending.old (λ _ t. not (nat_le pend (round - t))) }
-{
-    pending.retain(|(_, commanded)| u64::from(pend) > round.saturating_sub(*commanded));
 }
 
 fn ordered_if(is_commanded: bool, marks: &Marks) -> Marks

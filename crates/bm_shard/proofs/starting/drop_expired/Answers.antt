@@ -3,7 +3,7 @@ use Rattle.std.specs.Prelude.{nat_le}
 use Rattle.std.proofs.lemmas.Fn.{filter_same}
 use Rattle.bm_base.proofs.MapLaws.{keep-filter}
 use Rattle.bm_base.specs.State.{by_replica}
-use Rattle.bm_shard.proofs.rounds.drop_expired.Goals as goal
+use Rattle.bm_shard.proofs.starting.drop_expired.Goals as goal
 
 pub returns : goal.returns
 returns c =
