@@ -1,21 +1,34 @@
--- A round as far as it is built, from the holdings as they stand: a transfer that is given up changes no delete.
-use Rattle.std.proofs.Common.{◌≡◌, ◌+◌, [], true, if◌then◌else◌, refl}
-use Rattle.bm_base.specs.Map.{revise}
-use Rattle.bm_base.specs.State.{State}
-use Rattle.bm_base.specs.Replicas.{storages_where, has_enough_live}
-use Rattle.bm_base.specs.Excess.{without_expired, begun}
-use Rattle.bm_base.specs.Deletes.{is_deletable, deletable_on, deletes_of, deletes}
-use Rattle.bm_base.specs.Rounds.{commands_of, finished, is_commanded, narrow_round}
+-- A whole round, of what is found as it begins.
+use Rattle.std.proofs.Common.{◌≡◌, ◌+◌, List, refl, ◌∙◌}
+use Rattle.bm_base.specs.declared.commands.Transfer.{Transfer}
+use Rattle.bm_base.specs.declared.commands.Delete.{Delete}
+use Rattle.bm_base.specs.State.{Holdings, State}
+use Rattle.bm_base.specs.Excess.{begun, started}
+use Rattle.bm_base.specs.Transfers.{transfers}
+use Rattle.bm_base.specs.Deletes.{deletes}
+use Rattle.bm_base.specs.Rounds.{commands_of, finished, whole_round}
+use Rattle.bm_base.specs.RoundParts.{started_holdings}
+use Rattle.bm_base.specs.Calls.{counted}
 
-pub narrow_commands : (M : State) → (narrow_round M).0 ≡ commands_of M.cluster (M.round + 1) [] (deletes M.limits M.cluster M.holdings)
-unfolding narrow_round begun without_expired deletes deletes_of deletable_on is_deletable has_enough_live storages_where
-narrow_commands M = refl
+-- the holdings as the next round of a state chooses
+abbrev pub next_holdings : State → Holdings
+next_holdings M = started_holdings M.cluster M.limits.pend (M.round + 1) M.holdings
 
-pub narrow_state : (M : State) → (narrow_round M).1 ≡ record M {
-  round = M.round + 1;
-  holdings = record (without_expired M.limits.pend (M.round + 1) M.holdings) {
-    replicas = revise M.holdings.replicas (λ q m. if is_commanded (deletes M.limits M.cluster M.holdings) q then record m { ordered = true } else m);
-  };
-}
-unfolding narrow_round begun finished without_expired deletes deletes_of deletable_on is_deletable has_enough_live storages_where
-narrow_state M = refl
+module _ (M : State) (ts : List Transfer) (ds : List Delete) (all_ts : ts ≡ transfers M.limits M.cluster (next_holdings M)) (all_ds : ds ≡ deletes M.limits M.cluster (next_holdings M)) where
+  its_commands : commands_of M.cluster (M.round + 1) (transfers M.limits M.cluster (next_holdings M)) (deletes M.limits M.cluster (next_holdings M)) ≡ (whole_round M).0
+  unfolding whole_round started begun started_holdings
+  its_commands = refl
+
+  pub whole_commands : commands_of M.cluster (M.round + 1) ts ds ≡ (whole_round M).0
+  whole_commands = (λ i. commands_of M.cluster (M.round + 1) (all_ts i) (all_ds i)) ∙ its_commands
+
+  its_state : record M {
+    round = M.round + 1;
+    holdings = finished (M.round + 1) (next_holdings M) (transfers M.limits M.cluster (next_holdings M)) (deletes M.limits M.cluster (next_holdings M));
+    calls = M.calls + 1;
+  } ≡ counted (whole_round M).1
+  unfolding whole_round started begun started_holdings
+  its_state = refl
+
+  pub whole_state : (G : Holdings) → G ≡ finished (M.round + 1) (next_holdings M) ts ds → record M { round = M.round + 1; holdings = G; calls = M.calls + 1 } ≡ counted (whole_round M).1
+  whole_state G is = (λ i. record M { round = M.round + 1; holdings = (is ∙ (λ j. finished (M.round + 1) (next_holdings M) (all_ts j) (all_ds j))) i; calls = M.calls + 1 }) ∙ its_state

@@ -1,7 +1,7 @@
 // Calls as values: one call, and lists of calls.
 ghost use Rattle.std.specs.Prelude.{◌≡◌, IfOk, OnErr};
 ghost use Rattle.bm_base.specs.Answering.{MayAnswer, MayAnswerAll, state_left, state_left_by};
-ghost use Rattle.bm_manager.specs.Built.{built_step};
+ghost use Rattle.bm_base.specs.Calls.{step};
 
 use crate::manager::Manager;
 use bm_base::{Answer, Call, Items};
@@ -11,8 +11,8 @@ impl Manager {
     /// Makes one call. Its answer is the definition's, or, where the definition refuses nothing and the call is one that
     /// takes memory, `Memory`; a call refused for want of memory leaves the state as it was.
     pub fn answer(&mut self, call: &Call) -> Answer
-        ensures answer { MayAnswer built_step self.old call.now result }
-        ensures state { self.new ≡ state_left built_step self.old call.now result }
+        ensures answer { MayAnswer step self.old call.now result }
+        ensures state { self.new ≡ state_left step self.old call.now result }
     {
         match call {
             Call::Apply(event) => match self.apply(event) {
@@ -63,8 +63,8 @@ impl Manager {
     /// Makes the calls one after another, and gives the answer of each: a run of the definition, in which a call that was
     /// refused for want of memory is passed over. An `Err` comes before the first call, where there is no room for the answers.
     pub fn answer_all(&mut self, calls: &[Call]) -> Result<Items<Answer>, AllocError>
-        ensures answers { IfOk result (λ answers. MayAnswerAll built_step self.old calls.now answers) }
-        ensures state { IfOk result (λ answers. self.new ≡ state_left_by built_step self.old calls.now answers) }
+        ensures answers { IfOk result (λ answers. MayAnswerAll step self.old calls.now answers) }
+        ensures state { IfOk result (λ answers. self.new ≡ state_left_by step self.old calls.now answers) }
         ensures unchanged { OnErr result (self.new ≡ self.old) }
     {
         let mut answers = Vec::with_capacity(self.alloc, calls.len())?;

@@ -9,5 +9,4 @@ pub mod Remarked
 pub mod Reporting
 pub mod Surplus
 pub mod Taken
-pub mod Telling
 pub mod Wanting

@@ -4,5 +4,4 @@ pub mod Marking
 pub mod Meant
 pub mod Piles
 pub mod Reported
-pub mod Told
 pub mod Wishing

@@ -75,12 +75,7 @@ impl Holdings {
 
     /// Whether a replica is to be deleted and was not ordered to be.
     #[tactic(auto, unfolding(bm_base::specs::Deletes::is_deletable))]
-    pub(crate) fn is_deletable(
-        &self,
-        topology: &Topology,
-        replica: &ReplicaId,
-        marks: &Marks,
-    ) -> bool
+    fn is_deletable(&self, topology: &Topology, replica: &ReplicaId, marks: &Marks) -> bool
         ensures { result ≡ deletes.is_deletable topology.now.cluster self.now replica.now marks.now }
     {
         if marks.ordered {

@@ -104,7 +104,7 @@ impl Holdings {
 
     /// The marks of a replica that is reported.
     #[tactic(auto, unfolding(bm_base::specs::Events::entered))]
-    pub fn entered(&self, replica: &ReplicaId, stamp: &Stamp) -> Marks
+    pub(crate) fn entered(&self, replica: &ReplicaId, stamp: &Stamp) -> Marks
         ensures { result ≡ events.entered self.now replica.now stamp.now }
     {
         let was_excess = self.was_excess(replica);
@@ -183,7 +183,7 @@ impl Holdings {
 
     /// Adds a block. An `Err` changes nothing.
     #[tactic(auto, unfolding(bm_base::specs::Events::add_block, bm_base::specs::Calls::done), using(crate::proofs::Counts::same_replicas))]
-    pub fn add_block(&mut self, id: BlockId, stamp: Stamp, repl: u32) -> Result<Done, AllocError>
+    pub(crate) fn add_block(&mut self, id: BlockId, stamp: Stamp, repl: u32) -> Result<Done, AllocError>
         ensures ok { IfOk result (λ d. d ≡ done self.old (events.add_block self.old id stamp repl)) }
         ensures state { OnOk result (self.new ≡ events.add_block self.old id stamp repl) }
         ensures err { OnErr result (self.new ≡ self.old) }
@@ -194,7 +194,7 @@ impl Holdings {
 
     /// Enters a replica that is reported. An `Err` changes nothing.
     #[tactic(auto, unfolding(bm_base::specs::Events::enter, bm_base::specs::Calls::done))]
-    pub fn receive(
+    pub(crate) fn receive(
         &mut self,
         topology: &Topology,
         replica: &ReplicaId,

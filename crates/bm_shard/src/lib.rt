@@ -11,7 +11,6 @@ mod holdings;
 mod parting;
 mod queries;
 mod reports;
-mod rounds;
 mod standing;
 mod starting;
 mod tally;
@@ -19,5 +18,3 @@ mod wishing;
 
 pub use holdings::Holdings;
 pub use parting::RoundStart;
-pub use rounds::commands_of;
-pub use standing::node_ids;

@@ -18,7 +18,7 @@ use std::alloc::{AllocError, Global};
 
 /// Which replicas of a block are meant.
 #[derive(Clone, Copy)]
-pub enum Which {
+pub(crate) enum Which {
     Live,
     Drained,
     /// Whatever their tags.
@@ -139,7 +139,7 @@ impl Holdings {
     }
 
     /// How many of these replicas the block has.
-    pub fn count_of(&self, topology: &Topology, which: Which, id: BlockId) -> usize
+    pub(crate) fn count_of(&self, topology: &Topology, which: Which, id: BlockId) -> usize
         ensures { result ≡ length (replicas.storages_where (meant topology.now.cluster which) self.now id) }
     {
         let mut count = 0;
@@ -152,7 +152,7 @@ impl Holdings {
     }
 
     /// On which storages the block has them, rising.
-    pub fn storages_of(
+    pub(crate) fn storages_of(
         &self,
         alloc: Global,
         topology: &Topology,
@@ -172,7 +172,7 @@ impl Holdings {
 
     /// Whether as many replicas of the block are live as are wanted; not of an unknown block.
     #[tactic(auto, unfolding(bm_base::specs::Replicas::has_enough_live))]
-    pub fn has_enough_live(&self, topology: &Topology, id: BlockId) -> bool
+    pub(crate) fn has_enough_live(&self, topology: &Topology, id: BlockId) -> bool
         ensures { result ≡ replicas.has_enough_live topology.now.cluster self.now id }
     {
         match self.blocks.get(id.0) {
@@ -275,7 +275,7 @@ fn is_meant(topology: &Topology, which: Which, storage: StorageId, marks: &Marks
 }
 
 /// Stale or bad.
-pub fn is_corrupt(tag: Tag) -> bool
+pub(crate) fn is_corrupt(tag: Tag) -> bool
     ensures { result ≡ replicas.is_corrupt tag }
 {
     matches!(tag, Tag::Stale | Tag::Bad)
@@ -298,7 +298,7 @@ fn is_drained_on(topology: &Topology, storage: StorageId, marks: &Marks) -> bool
 }
 
 /// Good, and not in excess.
-pub fn is_usable(marks: &Marks) -> bool
+fn is_usable(marks: &Marks) -> bool
     ensures { result ≡ replicas.is_usable marks.now }
 {
     matches!(marks.tag, Tag::Good) && !marks.excess

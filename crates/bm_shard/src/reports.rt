@@ -16,7 +16,7 @@ use std::alloc::AllocError;
 impl Holdings {
     /// Makes the replicas on a storage those of a full report: works on a copy and moves it in. An `Err` changes nothing.
     #[tactic(auto, unfolding(bm_base::specs::Events::report, bm_base::specs::Calls::done))]
-    pub fn report(
+    pub(crate) fn report(
         &mut self,
         topology: &Topology,
         storage: StorageId,

@@ -32,20 +32,6 @@ pub fn are_sisters(topology: &Topology, a: StorageId, b: StorageId) -> bool
     }
 }
 
-/// The alive nodes, rising.
-pub fn node_ids(alloc: Global, topology: &Topology) -> Result<Vec<NodeId>, AllocError>
-    ensures { IfOk result (λ v. v.items ≡ map.keys topology.now.cluster.nodes) }
-{
-    let mut ids = Vec::new(alloc);
-    for place in 0..topology.alive_nodes() {
-        let Some(node) = topology.node_at(place) else {
-            return Ok(ids);
-        };
-        ids.push(node)?;
-    }
-    Ok(ids)
-}
-
 /// The storages, rising.
 pub fn storage_ids(alloc: Global, topology: &Topology) -> Result<Vec<StorageId>, AllocError>
     ensures { IfOk result (λ v. v.items ≡ map.keys topology.now.cluster.storages) }

@@ -163,7 +163,7 @@ impl Holdings {
 }
 
 /// Takes out the transfers that were commanded `pend` rounds before or earlier.
-pub(crate) fn drop_expired(pending: &mut ReplicaMap<u64>, pend: u32, round: u64)
+fn drop_expired(pending: &mut ReplicaMap<u64>, pend: u32, round: u64)
     ensures { pending.new ≡ map.keep pending.old (λ _ t. not (nat_le pend (round - t))) }
 {
     pending.retain(|(_, commanded)| u64::from(pend) > round.saturating_sub(*commanded));
