@@ -76,6 +76,7 @@ call_for op.Round d = Some call.Round
 call_for op.ListReplicas d = Some call.Replicas
 call_for op.ListCorrupt d = Some call.Corrupt
 call_for op.ListMissing d = Some call.Missing
+call_for op.ListExcess d = Some call.Excess
 call_for op.ListStorage d = option_map call.BlocksOn (small_field (codes "storage") d)
 call_for op.ListPlaces d = option_map call.Places (number_field (codes "id") d)
 call_for op.Level d = option_map call.LevelOf (number_field (codes "id") d)

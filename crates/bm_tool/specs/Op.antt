@@ -2,7 +2,7 @@
 use Rattle.std.specs.Prelude.{ℕ, List, if◌then◌else◌, Option, Some, None, codes}
 use Rattle.std.specs.Str.{bytes_eq}
 use Rattle.bm_tool.specs.declared.op.Op.{Op}
-use Rattle.bm_tool.specs.declared.op.Op.TheVariants.{Register, Heartbeat, Dead, StorageFailed, Drain, Undrain, Add, Delete, SetReplication, Restamp, Received, Deleted, Corrupt, Report, Round, ListReplicas, ListCorrupt, ListMissing, ListStorage, ListPlaces, Level, Retired}
+use Rattle.bm_tool.specs.declared.op.Op.TheVariants.{Register, Heartbeat, Dead, StorageFailed, Drain, Undrain, Add, Delete, SetReplication, Restamp, Received, Deleted, Corrupt, Report, Round, ListReplicas, ListCorrupt, ListMissing, ListExcess, ListStorage, ListPlaces, Level, Retired}
 
 -- the event of this name
 abbrev pub event_of : List ℕ → Option Op
@@ -30,11 +30,12 @@ question_of name =
     else (if bytes_eq name (codes "list_replicas") then Some ListReplicas
     else (if bytes_eq name (codes "list_corrupt") then Some ListCorrupt
     else (if bytes_eq name (codes "list_missing") then Some ListMissing
+    else (if bytes_eq name (codes "list_excess") then Some ListExcess
     else (if bytes_eq name (codes "list_storage") then Some ListStorage
     else (if bytes_eq name (codes "list_places") then Some ListPlaces
     else (if bytes_eq name (codes "level") then Some Level
     else (if bytes_eq name (codes "retired") then Some Retired
-    else None)))))))
+    else None))))))))
 
 abbrev pub first_found : Option Op → Option Op → Option Op
 first_found (Some op) other = Some op

@@ -74,6 +74,7 @@ fn call_for(alloc: Global, op: Op, value: &Value) -> Result<Option<Call>, AllocE
         Op::ListReplicas => Ok(Some(Call::Replicas)),
         Op::ListCorrupt => Ok(Some(Call::Corrupt)),
         Op::ListMissing => Ok(Some(Call::Missing)),
+        Op::ListExcess => Ok(Some(Call::Excess)),
         Op::ListStorage => Ok(from::blocks_on_from(storage)),
         Op::ListPlaces => Ok(from::places_from(id)),
         Op::Level => Ok(from::level_from(id)),

@@ -12,3 +12,4 @@ mod runs;
 mod streams;
 mod support;
 mod vectors;
+mod whole_rounds;

@@ -399,7 +399,7 @@ replicas; 7 11 good
 {\"op\":\"deleted\",\"id\":7}
 {\"op\":\"corrupt\",\"storage\":11}
 {\"op\":\"list_storage\"}
-{\"op\":\"list_excess\"}
+{\"op\":\"list_pending\"}
 ",
         answers: "refused 20 BadLine
 refused 20 BadLine

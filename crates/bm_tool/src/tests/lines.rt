@@ -53,7 +53,7 @@ const FIELDS: [(&str, &str); 21] = [
     ),
     // Ops that are none, or not here.
     ("{\"op\":\"fly\"}\n", BAD),
-    ("{\"op\":\"list_excess\"}\n", BAD),
+    ("{\"op\":\"list_pending\"}\n", BAD),
     (
         "{\"op\":\"Register\",\"node\":1,\"rack\":1,\"storages\":[]}\n",
         BAD,

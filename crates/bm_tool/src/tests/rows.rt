@@ -53,6 +53,18 @@ pub const TWO_DELETES: Config = Config {
     ..USUAL
 };
 
+/// With one delete a node and round.
+pub const ONE_DELETE: Config = Config {
+    invalidate: 1,
+    ..USUAL
+};
+
+/// With one copy a round for each alive node.
+pub const ONE_COPY_A_NODE: Config = Config { work: 1, ..USUAL };
+
+/// With two rounds to wait for a copy.
+pub const TWO_ROUNDS: Config = Config { pend: 2, ..USUAL };
+
 pub const NOTHING: &str = "";
 
 /// Four DataNodes with a storage each, two on each of two racks.
