@@ -4,7 +4,7 @@ use Rattle.std.specs.Prelude.{ℕ, ◌+◌, Bool, true, List, [], ◌∷◌, ◌
 use Rattle.bm_base.specs.declared.config.Config.{Config}
 use Rattle.bm_base.specs.declared.call.Call.{Call}
 use Rattle.bm_base.specs.State.{State, first_state}
-use Rattle.bm_manager.specs.Built.{built_step}
+use Rattle.bm_base.specs.Calls.{step}
 use Rattle.bm_base.specs.Answering.{is_refused}
 use Rattle.bm_tool.specs.declared.limits.TheConstants.{MAX_LINE}
 use Rattle.bm_tool.specs.declared.reply.Asked.{Asked}
@@ -26,14 +26,14 @@ asked line = if nat_lt MAX_LINE (length line) then Long else asked_by (call_of l
 abbrev pub asked_text : State → Asked → List ℕ
 asked_text M Long = codes "refused 21 LongLine"
 asked_text M Bad = codes "refused 20 BadLine"
-asked_text M (Asks k) = answer_text k (built_step M k).0
+asked_text M (Asks k) = answer_text k (step M k).0
 
 abbrev pub asked_next : State → Asked → State
-asked_next M (Asks k) = (built_step M k).1
+asked_next M (Asks k) = (step M k).1
 asked_next M _ = M
 
 abbrev pub asked_refused : State → Asked → Bool
-asked_refused M (Asks k) = is_refused (built_step M k).0
+asked_refused M (Asks k) = is_refused (step M k).0
 asked_refused M _ = true
 
 unfoldable pub line_text : State → List ℕ → List ℕ
