@@ -29,7 +29,7 @@ one_by_one ws = flat_map (λ w. replicate w.count w) ws
 abbrev pub sources_by : Wish → List ℕ
 sources_by w = w.live ++ w.drained
 
--- the storages that hold the block of a wish or will, where these transfers were chosen
+-- the storages that hold a live replica of a wish's block or will, where these transfers were chosen
 abbrev pub holders_by : List Transfer → Wish → List ℕ
 holders_by chosen w = w.live ++ w.pending ++ targets_of chosen w.block
 

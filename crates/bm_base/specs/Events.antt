@@ -124,8 +124,8 @@ without_storages H gone = record H {
 }
 
 -- A node begins to drain: the transfers to its storages leave. Nothing changes where it drains already.
-unfoldable pub without_transfers_to_drained : Cluster → Holdings → ℕ → Holdings
-without_transfers_to_drained C H n = if drains C n then H else record H { pending = keep H.pending (λ q _. not (has_storage C n q.storage)) }
+unfoldable pub begun_to_drain : Cluster → Holdings → ℕ → Holdings
+begun_to_drain C H n = if drains C n then H else record H { pending = keep H.pending (λ q _. not (has_storage C n q.storage)) }
 
 -- The cluster.
 
@@ -171,7 +171,7 @@ change_cluster C _ = C
 unfoldable pub change_holdings : Cluster → Holdings → Event → Holdings
 change_holdings C H (Dead n) = without_storages H (has_storage C n)
 change_holdings C H (StorageFailed s) = without_storages H (λ t. t == s)
-change_holdings C H (Drain n) = without_transfers_to_drained C H n
+change_holdings C H (Drain n) = begun_to_drain C H n
 change_holdings C H (AddBlock b stamp repl) = add_block H b stamp repl
 change_holdings C H (DeleteBlock b) = delete_block H b
 change_holdings C H (SetReplication b repl) = set_replication H b repl

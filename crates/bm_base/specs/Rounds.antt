@@ -50,7 +50,3 @@ round_with N ts =
 -- the next round of a state: what it commands, and the state after it
 unfoldable pub whole_round : State → Commands × State
 whole_round M = let N = started M in round_with N (transfers N.limits N.cluster N.holdings)
-
--- The same as far as it is built: nothing is marked, nothing is copied. Deletes and the end are those of the whole round.
-unfoldable pub narrow_round : State → Commands × State
-narrow_round M = round_with (begun M) []

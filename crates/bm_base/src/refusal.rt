@@ -37,7 +37,7 @@ pub enum Refusal {
     #[error("the generation is not greater than the block's")]
     OldGeneration,
     /// 10
-    #[error("a limit on nodes, storages or report entries would be passed")]
+    #[error("a limit on nodes, storages or a report would be passed")]
     TooMany,
     /// 11
     #[error("a storage stands on another node")]

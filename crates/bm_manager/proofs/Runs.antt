@@ -11,7 +11,7 @@ use Rattle.bm_base.specs.declared.call.Answer.TheVariants as answer
 use Rattle.bm_base.specs.State.{State}
 use Rattle.bm_base.specs.Levels.{level}
 use Rattle.bm_base.specs.Queries.{all_replicas, corrupt_replicas, excess_replicas, missing_blocks, blocks_on, places, is_retired}
-use Rattle.bm_base.specs.Calls.{step, step_with, refused_or, done_by, after_event, counted}
+use Rattle.bm_base.specs.Calls.{step, refused_or, done_by, after_event, counted}
 use Rattle.bm_base.specs.Refusals.{refusal_of, round_refusal, node_refusal, storage_refusal, block_refusal}
 use Rattle.bm_base.specs.Rounds.{whole_round}
 use Rattle.bm_base.specs.Answering.{Refuses, MayAnswer, state_left, may_want_memory, is_refused, wants_memory}
@@ -54,49 +54,49 @@ pub memory_answer : (M : State) (k : Call) (x : Answer × State) → step M k �
 memory_answer M k x s may fine e = inr ((λ i. may i && not (is_refused (s i).0)) ∙ ap not fine, ap answer.Refused e)
 
 pub step_apply : (M : State) (e : Event) → step M (call.Apply e) ≡ refused_or M (refusal_of M e) (answer.Done (done_by M e), after_event M e)
-unfolding step_with
+unfolding step
 step_apply M e = refl
 
 pub step_round : (M : State) → step M call.Round ≡ refused_or M (round_refusal M) (answer.Commanded (whole_round M).0, counted (whole_round M).1)
-unfolding step_with
+unfolding step
 step_round M = refl
 
 pub step_replicas : (M : State) → step M call.Replicas ≡ refused_or M None (answer.Replicas (all_replicas M.holdings), M)
-unfolding step_with
+unfolding step
 step_replicas M = refl
 
 pub step_corrupt : (M : State) → step M call.Corrupt ≡ refused_or M None (answer.ReplicaIds (corrupt_replicas M.holdings), M)
-unfolding step_with
+unfolding step
 step_corrupt M = refl
 
 pub step_excess : (M : State) → step M call.Excess ≡ refused_or M None (answer.ReplicaIds (excess_replicas M.holdings), M)
-unfolding step_with
+unfolding step
 step_excess M = refl
 
 pub step_blocks_on : (M : State) (s : ℕ) → step M (call.BlocksOn s) ≡ refused_or M (storage_refusal M.cluster s) (answer.Blocks (blocks_on M.holdings s), M)
-unfolding step_with
+unfolding step
 step_blocks_on M s = refl
 
 pub step_missing : (M : State) → step M call.Missing ≡ refused_or M None (answer.Blocks (missing_blocks M.cluster M.holdings), M)
-unfolding step_with
+unfolding step
 step_missing M = refl
 
 pub step_places : (M : State) (b : ℕ) → step M (call.Places b) ≡ refused_or M (block_refusal M.holdings b) (answer.Storages (places M.holdings b), M)
-unfolding step_with
+unfolding step
 step_places M b = refl
 
 pub step_level : (M : State) (b : ℕ) → step M (call.LevelOf b) ≡ refused_or M (block_refusal M.holdings b) (answer.LevelIs (level M.cluster M.holdings b), M)
-unfolding step_with
+unfolding step
 step_level M b = refl
 
 pub step_retired : (M : State) (n : ℕ) → step M (call.Retired n) ≡ refused_or M (node_refusal M.cluster n) (answer.IsRetired (is_retired M.cluster M.holdings n), M)
-unfolding step_with
+unfolding step
 step_retired M n = refl
 
 pub step_calls : (M : State) → step M call.Calls ≡ (answer.Number M.calls, M)
-unfolding step_with
+unfolding step
 step_calls M = refl
 
 pub step_rounds : (M : State) → step M call.Rounds ≡ (answer.Number M.round, M)
-unfolding step_with
+unfolding step
 step_rounds M = refl

@@ -25,7 +25,7 @@ pub struct Source {
 }
 
 /// The source of a copy of a block at this level, among the storages of its usable replicas: one whose node drains, since it is to
-/// be emptied and serves no live replica; then one whose node is the source of the fewest transfers, then of the lesser node,
+/// be emptied; then one whose node is the source of the fewest transfers, then of the lesser node,
 /// then the lesser storage. `None` only where no node of these may send one more: at the highest level a node may be the source
 /// of 4 transfers in a round, at others of 2, and one that drains of 4 at each.
 ///

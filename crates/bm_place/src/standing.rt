@@ -6,7 +6,7 @@ use crate::few::Few;
 use bm_base::{Rack, StorageId};
 use bm_topo::Topology;
 
-/// The racks and the storages that hold a block, as far as two of each.
+/// The racks and the storages that hold a live replica of a block or will, as far as two of each.
 #[derive(Clone, Copy)]
 pub struct Standing {
     pub racks: Few,

@@ -16,8 +16,8 @@ use crate::standing::Standing;
 use bm_base::{Level, StorageId};
 use bm_topo::Topology;
 
-/// The storage to which a block of `len` bytes is copied at this level. `held` are the storages that hold the block or will,
-/// `barred` those on whose nodes no copy may be put; an unknown one has no rack, and bars nothing.
+/// The storage to which a block of `len` bytes is copied at this level. `held` are the storages that hold a live replica of
+/// the block or will, `barred` those on whose nodes no copy may be put; an unknown one has no rack, and bars nothing.
 ///
 /// A storage may be taken where `len` fits beside the bytes that are sent to it already, and its node does not drain and is not
 /// barred. Where `held` stands on one rack, another rack goes first, and for a badly distributed block no other may be taken;

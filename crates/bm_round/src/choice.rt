@@ -20,7 +20,7 @@ pub(crate) struct Choice {
     pub transfers: Vec<Transfer>,
     pub streams: Streams,
     pub scheduled: Scheduled,
-    /// Of the present wish: the storages from which a copy may be made; those that hold the block or will; and those on whose
+    /// Of the present wish: the storages from which a copy may be made; those that hold a live replica of the block or will; and those on whose
     /// nodes no copy of it may be put. All three are emptied and filled anew for each wish, so that they take memory only where
     /// one is longer than all before.
     pub sources: Vec<StorageId>,

@@ -8,7 +8,7 @@ use Rattle.bm_base.specs.declared.event.Done.{Done}
 use Rattle.bm_base.specs.Map.{keep, len, remove}
 use Rattle.bm_base.specs.State.{Cluster, Holdings}
 use Rattle.bm_base.specs.Replicas.{drains, has_storage}
-use Rattle.bm_base.specs.Events.{without_storages, delete_block, set_replication, restamp, remove_replica, make_bad, without_pending, revise_block, as_stray, as_restamped, without_transfers_to_drained}
+use Rattle.bm_base.specs.Events.{without_storages, delete_block, set_replication, restamp, remove_replica, make_bad, without_pending, revise_block, as_stray, as_restamped, begun_to_drain}
 use Rattle.bm_base.specs.Map.{revise_at}
 use Rattle.bm_base.specs.Calls.{done, new_replicas}
 use Rattle.bm_shard.specs.declared.changes.BlockChange.{BlockChange}
@@ -38,8 +38,8 @@ pub done-set_replication : (H : Holdings) (b repl : ℕ) → counted 0 0 ≡ don
 unfolding done set_replication
 done-set_replication H b repl = λ i. counted (sym (same_replicas H.replicas) i) (sym (same_replicas H.replicas) i)
 
-pub done-begun_to_drain : (C : Cluster) (H : Holdings) (n : ℕ) → counted 0 0 ≡ done H (without_transfers_to_drained C H n)
-unfolding done without_transfers_to_drained
+pub done-begun_to_drain : (C : Cluster) (H : Holdings) (n : ℕ) → counted 0 0 ≡ done H (begun_to_drain C H n)
+unfolding done begun_to_drain
 done-begun_to_drain C H n =
     let same : counted 0 0 ≡ counted (new_replicas H.replicas H.replicas) (new_replicas H.replicas H.replicas) = λ i. counted (sym (same_replicas H.replicas) i) (sym (same_replicas H.replicas) i) in
     elim (drains C n) as (λ b. counted 0 0 ≡ done H (if b then H else record H { pending = keep H.pending (λ q _. not (has_storage C n q.storage)) })) [ true ↦ same | false ↦ same ]

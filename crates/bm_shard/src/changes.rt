@@ -107,11 +107,11 @@ impl Holdings {
     }
 
     /// The transfers to the storages of a node leave, but where the node drains already.
-    #[tactic(auto, unfolding(bm_base::specs::Events::without_transfers_to_drained))]
+    #[tactic(auto, unfolding(bm_base::specs::Events::begun_to_drain))]
     fn begin_to_drain(&mut self, topology: &Topology, node: NodeId) -> Done
         requires { IsTrue (knows_node topology.now.cluster node) }
-        ensures done { result ≡ calls.done self.old (events.without_transfers_to_drained topology.now.cluster self.old node) }
-        ensures state { self.new ≡ events.without_transfers_to_drained topology.now.cluster self.old node }
+        ensures done { result ≡ calls.done self.old (events.begun_to_drain topology.now.cluster self.old node) }
+        ensures state { self.new ≡ events.begun_to_drain topology.now.cluster self.old node }
     {
         if topology.node_drains(node) != Some(true) {
             drop_on_node(&mut self.pending, topology, node);

@@ -183,7 +183,12 @@ impl Holdings {
 
     /// Adds a block. An `Err` changes nothing.
     #[tactic(auto, unfolding(bm_base::specs::Events::add_block, bm_base::specs::Calls::done), using(crate::proofs::Counts::same_replicas))]
-    pub(crate) fn add_block(&mut self, id: BlockId, stamp: Stamp, repl: u32) -> Result<Done, AllocError>
+    pub(crate) fn add_block(
+        &mut self,
+        id: BlockId,
+        stamp: Stamp,
+        repl: u32,
+    ) -> Result<Done, AllocError>
         ensures ok { IfOk result (λ d. d ≡ done self.old (events.add_block self.old id stamp repl)) }
         ensures state { OnOk result (self.new ≡ events.add_block self.old id stamp repl) }
         ensures err { OnErr result (self.new ≡ self.old) }

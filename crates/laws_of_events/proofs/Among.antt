@@ -9,7 +9,7 @@ use Rattle.bm_base.specs.declared.event.Remaining.{Remaining}
 use Rattle.bm_base.specs.Map.{Map, by_number, get, keep, remove, contains_key}
 use Rattle.bm_base.specs.State.{Cluster, Holdings, by_replica}
 use Rattle.bm_base.specs.Replicas.{node_of, has_storage, drains, is_good, is_stray}
-use Rattle.bm_base.specs.Events.{register, heartbeat, without_node, without_storage, without_storages, remove_replica, drain, undrain, without_transfers_to_drained}
+use Rattle.bm_base.specs.Events.{register, heartbeat, without_node, without_storage, without_storages, remove_replica, drain, undrain, begun_to_drain}
 use Rattle.bm_base.specs.Refusals.{knows_storage}
 use Rattle.bm_base.specs.declared.limits.TheConstants.{MAX_REPLICATION}
 use Rattle.bm_base.specs.Lawful.{IsLawfulHoldings}
@@ -157,25 +157,25 @@ module _ (C : Cluster) (H : Holdings) (n : ℕ) where
       lawful_among C C H fewer_sent L (among_here C H fewer_sent (λ _ e. e) was)
       (record { strays = L.strays; excess_is_good = L.excess_is_good; pending_known = λ p e. L.pending_known p (was p e); replicated = L.replicated })
 
-  pub after_drain : IsLawfulHoldings C H → IsLawfulHoldings (drain C n) (without_transfers_to_drained C H n)
-  unfolding drain without_transfers_to_drained node_of
-  after_drain L = same_holdings C (drain C n) (without_transfers_to_drained C H n) (λ _ _. refl) (either_lawful C H fewer_sent (drains C n) L (fewer_lawful L))
+  pub after_drain : IsLawfulHoldings C H → IsLawfulHoldings (drain C n) (begun_to_drain C H n)
+  unfolding drain begun_to_drain node_of
+  after_drain L = same_holdings C (drain C n) (begun_to_drain C H n) (λ _ _. refl) (either_lawful C H fewer_sent (drains C n) L (fewer_lawful L))
 
   pub after_undrain : IsLawfulHoldings C H → IsLawfulHoldings (undrain C n) H
   unfolding undrain node_of
   after_undrain L = same_holdings C (undrain C n) H (λ _ _. refl) L
 
-  pub drained_blocks : (without_transfers_to_drained C H n).blocks ≡ H.blocks
-  unfolding without_transfers_to_drained
+  pub drained_blocks : (begun_to_drain C H n).blocks ≡ H.blocks
+  unfolding begun_to_drain
   drained_blocks = same_either (λ G. G.blocks) H fewer_sent (drains C n) refl
 
-  pub drained_replicas : (without_transfers_to_drained C H n).replicas ≡ H.replicas
-  unfolding without_transfers_to_drained
+  pub drained_replicas : (begun_to_drain C H n).replicas ≡ H.replicas
+  unfolding begun_to_drain
   drained_replicas = same_either (λ G. G.replicas) H fewer_sent (drains C n) refl
 
   -- no transfer comes
-  pub drained_before : (p : ReplicaId) (r : ℕ) → get (without_transfers_to_drained C H n).pending p ≡ Some r → get H.pending p ≡ Some r
-  unfolding without_transfers_to_drained
+  pub drained_before : (p : ReplicaId) (r : ℕ) → get (begun_to_drain C H n).pending p ≡ Some r → get H.pending p ≡ Some r
+  unfolding begun_to_drain
   drained_before p r e = by_case (drains C n) e
     where
       by_case : (b : Bool) → get (if b then H else fewer_sent).pending p ≡ Some r → get H.pending p ≡ Some r

@@ -28,7 +28,7 @@ use Rattle.bm_base.specs.Transfers.{WishedCopy, pending_targets, targets_of, hol
 use Rattle.bm_base.specs.Deletes.{deletes}
 use Rattle.bm_base.specs.Rounds.{finished, whole_round}
 use Rattle.bm_base.specs.Refusals.{refusal_of, round_refusal, node_refusal, storage_refusal, block_refusal}
-use Rattle.bm_base.specs.Calls.{step_with, step, refused_or, after_event, state_after}
+use Rattle.bm_base.specs.Calls.{step, refused_or, after_event, state_after}
 use Rattle.bm_base.proofs.MapLaws.{get-empty}
 use Rattle.laws_of_events.proofs.Options.{there, is_there}
 use Rattle.laws_of_events.proofs.Lists.{Each, each_both, each_filtered, each_passing, each_appended, each_optional, least_is_one}
@@ -239,7 +239,7 @@ by_refusal M None next C D = D
 by_refusal M (Some r) next C D = C
 
 step_coming : (M : State) (k : Call) → Coming M.holdings → Coming (step M k).1.holdings
-unfolding step_with after_event
+unfolding step after_event
 step_coming M (call.Apply e) C = by_refusal M (refusal_of M e) _ C (event_coming M e C)
 step_coming M call.Round C = by_refusal M (round_refusal M) _ C (round_coming M C)
 step_coming M call.Replicas C = C

@@ -17,7 +17,7 @@ use Rattle.bm_base.specs.Transfers.{transfers}
 use Rattle.bm_base.specs.Deletes.{deletes}
 use Rattle.bm_base.specs.Rounds.{is_commanded, finished, whole_round}
 use Rattle.bm_base.specs.Refusals.{refusal_of, round_refusal, node_refusal, storage_refusal, block_refusal}
-use Rattle.bm_base.specs.Calls.{step_with, step, refused_or, after_event, counted}
+use Rattle.bm_base.specs.Calls.{step, refused_or, after_event, counted}
 use Rattle.bm_base.proofs.MapLaws.{get-revise}
 use Rattle.laws_of_events.proofs.Rounding.{cleared_tag, marked_tag, ordered_tag}
 use Rattle.laws_of_events.specs.Calls as law
@@ -27,7 +27,7 @@ either M None a = refl
 either M (Some r) a = refl
 
 pub query_leaves : law.query_leaves_state
-unfolding step_with
+unfolding step
 query_leaves M (call.Apply e) h = cc
 query_leaves M call.Round h = cc
 query_leaves M call.Replicas h = refl
@@ -46,7 +46,7 @@ not_refused : (M : State) (o : Option Refusal) (next : Answer × State) → o �
 not_refused M o next e = ap (λ r. (refused_or M r next).1) e
 
 event_step : (M : State) (e : Event) → refusal_of M e ≡ None → (step M (call.Apply e)).1 ≡ after_event M e
-unfolding step_with
+unfolding step
 event_step M e none = not_refused M (refusal_of M e) _ none
 
 pub event_counted : law.event_is_counted
@@ -77,7 +77,7 @@ unfolding finished
 finished_tags r H ts ds p = tagged H.replicas (λ q m. if is_commanded ds q then record m { ordered = true } else m) (λ q m. ordered_tag (is_commanded ds q) m) p
 
 round_step : (M : State) → round_refusal M ≡ None → (step M call.Round).1 ≡ counted (whole_round M).1
-unfolding step_with
+unfolding step
 round_step M none = not_refused M (round_refusal M) _ none
 
 pub next_round : (M : State) → law.IsNextRound M (counted (whole_round M).1)

@@ -6,7 +6,7 @@ use Rattle.bm_base.specs.declared.event.Event.TheVariants.{Register, Dead, Stora
 use Rattle.bm_base.specs.Map.{Set, by_number, get, insert, remove, contains_key}
 use Rattle.bm_base.specs.State.{Holdings}
 use Rattle.bm_base.specs.Replicas.{has_storage, drains}
-use Rattle.bm_base.specs.Events.{register, heartbeat, without_node, without_storage, drain, undrain, without_transfers_to_drained, change_cluster, change_holdings}
+use Rattle.bm_base.specs.Events.{register, heartbeat, without_node, without_storage, drain, undrain, begun_to_drain, change_cluster, change_holdings}
 use Rattle.bm_base.specs.Calls.{new_replicas, done, done_by, after_event, counted}
 use Rattle.bm_base.proofs.MapLaws.{same_map, get-insert, get-remove}
 use Rattle.laws_of_events.proofs.Options.{not_there}
@@ -65,14 +65,14 @@ unfolding done
 none_came H G e = (λ i. record { added = new_replicas H.replicas (e i); removed = new_replicas (e i) H.replicas }) ∙ none_done H
 
 pub drain_takes : law.drain_takes_transfers
-unfolding after_event done_by change_cluster change_holdings drain without_transfers_to_drained
+unfolding after_event done_by change_cluster change_holdings drain begun_to_drain
 drain_takes M n =
     let C = M.cluster in
     let H = M.holdings in (
       record { nodes = refl; storages = refl; blocks = drained_blocks C H n; replicas = drained_replicas C H n; round = refl },
       (λ p idle on. ap (λ b. get (if b then H else fewer_sent C H n).pending p) idle ∙ gone_there (has_storage C n) H.pending p (on_it C n p.storage on)),
       (λ p off. same_either (λ G. get G.pending p) H (fewer_sent C H n) (drains C n) (still_there (has_storage C n) H.pending p (not_on_it C n p.storage off))),
-      none_came H (without_transfers_to_drained C H n) (drained_replicas C H n),
+      none_came H (begun_to_drain C H n) (drained_replicas C H n),
     )
 
 pub undrain_takes : law.undrain_takes_nothing
@@ -101,7 +101,7 @@ not_taken_out d n none = same_map (remove d n) d (λ q. get-remove d n q ∙ by_
     by_tie q false e = refl
 
 pub drained_again : law.second_drain_changes_nothing
-unfolding after_event change_cluster change_holdings drain without_transfers_to_drained drains
+unfolding after_event change_cluster change_holdings drain begun_to_drain drains
 drained_again M n there =
     let d : insert M.cluster.draining n tt ≡ M.cluster.draining = put_again M.cluster.draining n there in
     let H : (if drains M.cluster n then M.holdings else fewer_sent M.cluster M.holdings n) ≡ M.holdings = ap (λ b. if b then M.holdings else fewer_sent M.cluster M.holdings n) there in

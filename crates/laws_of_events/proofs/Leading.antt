@@ -9,7 +9,7 @@ use Rattle.bm_base.specs.State.{State, first_state}
 use Rattle.bm_base.specs.Refusals.{refusal_of, round_refusal, node_refusal, storage_refusal, block_refusal, last_number}
 use Rattle.bm_base.specs.Excess.{begun, started}
 use Rattle.bm_base.specs.Rounds.{whole_round}
-use Rattle.bm_base.specs.Calls.{step_with, step, refused_or, counted, state_after}
+use Rattle.bm_base.specs.Calls.{step, refused_or, counted, state_after}
 use Rattle.bm_base.specs.Answering.{is_refused, wants_memory, state_left, MayAnswerAll, state_left_by}
 use Rattle.bm_base.specs.Lawful.{IsLawful}
 use Rattle.laws_of_events.specs.Fitting.{HasFittingStart, FitsCall, FitCalls}
@@ -33,7 +33,7 @@ by_refusal M None next L h = h refl
 by_refusal M (Some r) next L h = L
 
 pub step_lawful : (M : State) (k : Call) → IsLawful M → FitsCall k → IsLawful (step M k).1
-unfolding step_with
+unfolding step
 step_lawful M (call.Apply e) L h = by_refusal M (refusal_of M e) _ L (event_lawful M e L h)
 step_lawful M call.Round L h = by_refusal M (round_refusal M) _ L (round_lawful M L)
 step_lawful M call.Replicas L h = L
@@ -52,7 +52,7 @@ left_by_refusal M None a N fine e = fine e
 left_by_refusal M (Some r) a N fine e = refl
 
 pub refusal_leaves : (M : State) (k : Call) → is_refused (step M k).0 ≡ true → (step M k).1 ≡ M
-unfolding step_with
+unfolding step
 refusal_leaves M (call.Apply e) r = left_by_refusal M (refusal_of M e) _ _ (λ no. cc) r
 refusal_leaves M call.Round r = left_by_refusal M (round_refusal M) _ _ (λ no. cc) r
 refusal_leaves M call.Replicas r = refl

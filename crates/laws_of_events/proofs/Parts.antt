@@ -13,7 +13,7 @@ use Rattle.bm_base.specs.Map.{Map, by_number, get, insert, insert_all, keep, rev
 use Rattle.bm_base.specs.State.{Cluster, Holdings, by_replica, replica_at, replica_cmp}
 use Rattle.bm_base.specs.Replicas.{has_storage, drains, are_sisters}
 use Rattle.bm_base.specs.Entries.{Told, expanded}
-use Rattle.bm_base.specs.Events.{was_bad, was_excess, entered_tag, entered, replaces, enter, is_named, leaves_by_report, report, without_pending, revise_block, add_block, delete_block, set_replication, restamp, make_bad, remove_replica, without_storages, without_transfers_to_drained, change_holdings, as_stray, as_restamped, as_bad}
+use Rattle.bm_base.specs.Events.{was_bad, was_excess, entered_tag, entered, replaces, enter, is_named, leaves_by_report, report, without_pending, revise_block, add_block, delete_block, set_replication, restamp, make_bad, remove_replica, without_storages, begun_to_drain, change_holdings, as_stray, as_restamped, as_bad}
 use Rattle.bm_base.specs.Shards.{shard_of, cut}
 use Rattle.bm_base.proofs.Keeping.{keep-insert, keep-keep, keep-remove}
 use Rattle.bm_base.proofs.MapLaws.{same_map}
@@ -182,8 +182,8 @@ module _ (index shards : ℕ) where
   cut_either true H G Q e = refl
   cut_either false H G Q e = e
 
-  transfers_leave : (C : Cluster) (H : Holdings) (n : ℕ) → cut (without_transfers_to_drained C H n) index shards ≡ without_transfers_to_drained C (cut H index shards) n
-  unfolding cut without_transfers_to_drained
+  transfers_leave : (C : Cluster) (H : Holdings) (n : ℕ) → cut (begun_to_drain C H n) index shards ≡ begun_to_drain C (cut H index shards) n
+  unfolding cut begun_to_drain
   transfers_leave C H n =
       let G : Holdings = record H { pending = keep H.pending (λ q _. not (has_storage C n q.storage)) } in
       let P : Holdings = cut H index shards in

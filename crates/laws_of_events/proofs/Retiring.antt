@@ -18,7 +18,7 @@ use Rattle.bm_base.specs.Replicas.{is_usable, is_live_on, is_drained_on, node_of
 use Rattle.bm_base.specs.Queries.{missing_blocks, is_held_back_by, is_retired}
 use Rattle.bm_base.specs.Events.{without_node, without_storages, change_cluster, change_holdings}
 use Rattle.bm_base.specs.Refusals.{node_refusal}
-use Rattle.bm_base.specs.Calls.{step_with, step, refused_or, after_event}
+use Rattle.bm_base.specs.Calls.{step, refused_or, after_event}
 use Rattle.bm_base.specs.Lawful.{IsLawfulHoldings}
 use Rattle.bm_base.proofs.MapLaws.{entries-keep}
 use Rattle.bm_base.proofs.Keeping.{get-keep_there}
@@ -222,7 +222,7 @@ yes_by M None b e = ap yes e
 yes_by M (Some r) b e = cc
 
 said_yes : (M : State) (n : ℕ) → (step M (call.Retired n)).0 ≡ answer.IsRetired true → is_retired M.cluster M.holdings n ≡ true
-unfolding step_with
+unfolding step
 said_yes M n e = yes_by M (node_refusal M.cluster n) (is_retired M.cluster M.holdings n) e
 
 pub may_die : law.retired_node_may_die

@@ -21,13 +21,13 @@ use Rattle.bm_base.specs.Map.{Set, by_number, get, keep, remove, contains_key, k
 use Rattle.bm_base.specs.State.{RoundLimits, Cluster, Holdings, State, by_replica, first_state, empty_holdings}
 use Rattle.bm_base.specs.Lists.{has}
 use Rattle.bm_base.specs.Replicas.{node_of, has_storage, drains, is_draining, sources_of}
-use Rattle.bm_base.specs.Events.{register, heartbeat, without_node, without_storage, drain, undrain, without_transfers_to_drained, change_cluster, change_holdings}
+use Rattle.bm_base.specs.Events.{register, heartbeat, without_node, without_storage, drain, undrain, begun_to_drain, change_cluster, change_holdings}
 use Rattle.bm_base.specs.Excess.{without_expired, without_unordered_excess, marked, begun, started}
 use Rattle.bm_base.specs.Transfers.{WishedCopy, holders_of, barred_for, is_target, target_cmp, least_target_by, least_target, scheduled_to, least_source, transfer_for, transfers_from, transfers, wishes}
 use Rattle.bm_base.specs.Deletes.{deletes}
 use Rattle.bm_base.specs.Rounds.{finished, whole_round}
 use Rattle.bm_base.specs.Refusals.{refusal_of, round_refusal, node_refusal, storage_refusal, block_refusal}
-use Rattle.bm_base.specs.Calls.{step_with, step, refused_or, after_event, state_after}
+use Rattle.bm_base.specs.Calls.{step, refused_or, after_event, state_after}
 use Rattle.bm_base.proofs.MapLaws.{get-empty}
 use Rattle.laws_of_events.proofs.Options.{there, is_there, not_passed, revised}
 use Rattle.laws_of_events.proofs.Lists.{Each, each_passing, each_appended, each_optional, least_is_one}
@@ -113,8 +113,8 @@ at_node : (C : Cluster) (s m : ℕ) → node_of C s ≡ Some m → has_storage C
 unfolding has_storage
 at_node C s m e = ap (λ z. option_map_or (λ k. k == m) z false) e ∙ eq-eqb m m refl
 
-drain_spares : (C : Cluster) (H : Holdings) (n : ℕ) → Spares C H → Spares (drain C n) (without_transfers_to_drained C H n)
-unfolding without_transfers_to_drained
+drain_spares : (C : Cluster) (H : Holdings) (n : ℕ) → Spares C H → Spares (drain C n) (begun_to_drain C H n)
+unfolding begun_to_drain
 drain_spares C H n S p is = by_state (drains C n) refl is
   where
     by_state : (b : Bool) → drains C n ≡ b → is_some (get (if b then H else fewer_sent C H n).pending p) ≡ true → is_draining (drain C n) p.storage ≡ false
@@ -192,7 +192,7 @@ by_refusal M None next S T = T
 by_refusal M (Some r) next S T = S
 
 step_spares : (M : State) (k : Call) → SparesIn M → SparesIn (step M k).1
-unfolding step_with after_event
+unfolding step after_event
 step_spares M (call.Apply e) S = by_refusal M (refusal_of M e) _ S (event_spares M.cluster M.holdings e S)
 step_spares M call.Round S = by_refusal M (round_refusal M) _ S (round_spares M S)
 step_spares M call.Replicas S = S

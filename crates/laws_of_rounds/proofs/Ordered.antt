@@ -19,7 +19,7 @@ use Rattle.bm_base.specs.declared.replica.Stamp.{Stamp}
 use Rattle.bm_base.specs.Map.{Map, get, insert, insert_all, keep, revise, revise_at, remove}
 use Rattle.bm_base.specs.State.{Cluster, Holdings, State, by_replica, replica_cmp, replica_at, first_state, empty_holdings}
 use Rattle.bm_base.specs.Replicas.{is_good, is_stray, is_corrupt, is_usable, is_draining, drains, has_storage, has_enough_live}
-use Rattle.bm_base.specs.Events.{entered, enter, report, without_pending, revise_block, as_stray, as_bad, as_restamped, add_block, delete_block, set_replication, restamp, make_bad, remove_replica, without_storages, without_transfers_to_drained, change_holdings}
+use Rattle.bm_base.specs.Events.{entered, enter, report, without_pending, revise_block, as_stray, as_bad, as_restamped, add_block, delete_block, set_replication, restamp, make_bad, remove_replica, without_storages, begun_to_drain, change_holdings}
 use Rattle.bm_base.specs.Excess.{begun, started}
 use Rattle.bm_base.specs.Lists.{has}
 use Rattle.bm_base.specs.Deletes.{is_deletable}
@@ -27,7 +27,7 @@ use Rattle.bm_base.specs.Lawful.{IsLawful}
 use Rattle.bm_base.specs.declared.replica.BlockInfo.{BlockInfo}
 use Rattle.bm_base.specs.Rounds.{is_commanded}
 use Rattle.bm_base.specs.Refusals.{refusal_of, round_refusal, node_refusal, storage_refusal, block_refusal}
-use Rattle.bm_base.specs.Calls.{after_event, refused_or, step_with, step, state_after}
+use Rattle.bm_base.specs.Calls.{after_event, refused_or, step, state_after}
 use Rattle.bm_base.proofs.MapLaws.{get-empty, get-insert, get-keep, get-revise, get-remove}
 use Rattle.laws_of_rounds.specs.Words.{after_round}
 use Rattle.laws_of_rounds.proofs.Listed.{each_any, and_never, some_same}
@@ -109,8 +109,8 @@ done_told H s (t ∷ ts) r h =
     done_told H s ts (insert r (replica_at t.id s) (entered H (replica_at t.id s) t.stamp)) (done_inserted r (replica_at t.id s) (entered H (replica_at t.id s) t.stamp) (done_entered H (replica_at t.id s) t.stamp) h)
 
 -- a change of the transfers on their way leaves the marks
-done_drained : (C : Cluster) (H : Holdings) (n : ℕ) → AreDone H.replicas → AreDone (without_transfers_to_drained C H n).replicas
-unfolding without_transfers_to_drained
+done_drained : (C : Cluster) (H : Holdings) (n : ℕ) → AreDone H.replicas → AreDone (begun_to_drain C H n).replicas
+unfolding begun_to_drain
 done_drained C H n h =
     elim (drains C n) as (λ t. AreDone (if t then H else record H { pending = keep H.pending (λ q _. not (has_storage C n q.storage)) }).replicas) [
       | true ↦ h
@@ -188,7 +188,7 @@ done_or M None next h new = new
 done_or M (Some r) next h new = h
 
 done_step : (M : State) (k : Call) → IsDoneState M → IsDoneState (step M k).1
-unfolding step_with after_event
+unfolding step after_event
 done_step M (call.Apply e) h = done_or M (refusal_of M e) _ h (done_event M.cluster M.holdings e h)
 done_step M call.Round h = done_or M (round_refusal M) _ h (done_round M h)
 done_step M call.Replicas h = h

@@ -81,7 +81,8 @@ SourceSendsFewest =
     × (least_source three_racks [] Highest (12 ∷ 31 ∷ []) ≡ Some 31)
     × (least_source three_racks [] Highest (11 ∷ 52 ∷ []) ≡ Some 11)
 
--- A node is the source of four transfers at most, and of two where the block's level is another than the highest.
+-- A node that does not drain is the source of four transfers at most, and of two where the block's level is another than the
+-- highest.
 abbrev pub SourceLimits : Type 0
 SourceLimits =
     (least_source three_racks (sent 7 11 31 10 ∷ sent 8 11 31 10 ∷ []) UnderReplicated (11 ∷ []) ≡ None)

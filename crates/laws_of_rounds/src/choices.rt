@@ -28,7 +28,7 @@ pub fn source_sends_fewest()
     ensures { row.SourceSendsFewest }
 {}
 
-/// A node is the source of two transfers, or of four at the highest level.
+/// A node that does not drain is the source of two transfers, or of four at the highest level.
 pub fn source_limits()
     ensures { row.SourceLimits }
 {}

@@ -15,7 +15,7 @@ use Rattle.bm_base.specs.Map.{len}
 use Rattle.bm_base.specs.State.{State, first_state}
 use Rattle.bm_base.specs.Lists.{has, has_repeats}
 use Rattle.bm_base.specs.Refusals.{last_number, knows_node, knows_storage, refusal_of, cluster_checks, block_checks, calls_spent}
-use Rattle.bm_base.specs.Calls.{answers, done_by, after_event, refused_or, step_with, state_after}
+use Rattle.bm_base.specs.Calls.{answers, done_by, after_event, refused_or, step, state_after}
 use Rattle.bm_base.specs.Runs.{run_of}
 use Rattle.worked_examples.specs.Script.{usual, registrations, heartbeats, ok}
 use Rattle.worked_examples.specs.Limits.{numbers_down, as_many_as_may_be, past_the_limit, storages_at_the_limit}
@@ -41,7 +41,7 @@ register_accepted M n rack ss a b c d e f = rw (a, b, c, d, e, f) refl
 -- what an accepted event answers, before the answers to the calls behind it
 accepted_first : (M : State) (e : Event) (ks : List Call) → refusal_of M e ≡ None
     → answers M (call.Apply e ∷ ks) ≡ answer.Done (done_by M e) ∷ answers (after_event M e) ks
-unfolding step_with
+unfolding step
 accepted_first M e ks h =
     let next = λ (r : Option Refusal). refused_or M r (answer.Done (done_by M e), after_event M e) in
     ap (λ r. (next r).0 ∷ answers (next r).1 ks) h

@@ -3,7 +3,6 @@ pub mod Script
 pub mod Levels
 pub mod Copies
 pub mod Deletes
-pub mod NarrowRounds
 pub mod Reports
 pub mod Refusals
 pub mod Limits

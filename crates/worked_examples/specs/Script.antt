@@ -18,7 +18,7 @@ use Rattle.bm_base.specs.declared.call.Answer.{Answer}
 use Rattle.bm_base.specs.declared.call.Answer.TheVariants as answer
 use Rattle.bm_base.specs.State.{replica_at}
 use Rattle.bm_base.specs.Configuration.{standard}
-use Rattle.bm_base.specs.Runs.{run_of, narrow_run_of}
+use Rattle.bm_base.specs.Runs.{run_of}
 
 -- a call beside its answer
 infix 68 ◌gives◌
@@ -28,10 +28,6 @@ k gives a = (k, a)
 -- the calls of a script answer as it says, from the first state of a configuration on
 abbrev pub Holds : Config → List (Call × Answer) → Type 0
 Holds config script = run_of config (map (λ l. l.0) script) ≡ map (λ l. l.1) script
-
--- the same as far as rounds are built: nothing is marked as being in excess, and nothing is copied
-abbrev pub HoldsNarrowly : Config → List (Call × Answer) → Type 0
-HoldsNarrowly config script = narrow_run_of config (map (λ l. l.0) script) ≡ map (λ l. l.1) script
 
 -- Parts of calls and of answers. Every block is 10 bytes long, and its generation is 1 where none is said.
 

@@ -14,7 +14,7 @@ pub fn copies_arrive()
     ensures { example.copies_arrive }
 {}
 
-/// A node sends two copies in a round at most, or four of blocks with one live replica; and a round commands `work` copies
+/// A node that does not drain sends two copies in a round at most, or four of blocks with one live replica; and a round commands `work` copies
 /// at most for each alive node, all nodes together.
 pub fn stream_and_work_limits()
     ensures two_streams { example.two_streams_from_each_node }

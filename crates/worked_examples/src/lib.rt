@@ -9,6 +9,5 @@ pub mod deletes;
 pub mod draining;
 pub mod levels;
 pub mod limits;
-pub mod narrow_rounds;
 pub mod refusals;
 pub mod reports;

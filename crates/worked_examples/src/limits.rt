@@ -1,4 +1,4 @@
-// How many nodes, storages and report entries there may be.
+// How many nodes, storages, and entries and numbers of a report there may be.
 #![tactic(auto, unfolding(bm_base::specs::Runs::run_of))]
 
 ghost use Rattle.worked_examples.specs.Limits as example;

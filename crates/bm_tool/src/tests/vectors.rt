@@ -66,7 +66,7 @@ fn refusals_say_why(rt: HostRuntime) -> Result<(), Fail> {
         (
             Refusal::TooMany,
             10,
-            "a limit on nodes, storages or report entries would be passed",
+            "a limit on nodes, storages or a report would be passed",
         ),
         (
             Refusal::NotItsStorage,

@@ -1,5 +1,5 @@
 use Rattle.std.proofs.Common.{ap, ◌∙◌}
-use Rattle.bm_base.specs.Events.{without_transfers_to_drained}
+use Rattle.bm_base.specs.Events.{begun_to_drain}
 use Rattle.bm_base.specs.Calls.{done}
 use Rattle.bm_shard.specs.contracts.holdings.Holdings.{the_view}
 use Rattle.bm_shard.proofs.Changing.{done-begun_to_drain}
@@ -8,4 +8,4 @@ use Rattle.bm_shard.proofs.holdings.Holdings.begin_to_drain.Goals as goal
 pub returns-clause-done : goal.returns-clause-done
 returns-clause-done c =
     c.none.ensures ∙ done-begun_to_drain c.args.topology.now.cluster (the_view c.self.inside) c.args.node
-    ∙ ap (λ H. done H (without_transfers_to_drained c.args.topology.now.cluster H c.args.node)) c.self.view_is
+    ∙ ap (λ H. done H (begun_to_drain c.args.topology.now.cluster H c.args.node)) c.self.view_is
