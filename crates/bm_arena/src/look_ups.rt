@@ -1,6 +1,6 @@
 // What can be asked of an arena. No question changes anything, and none takes memory.
 ghost use Rattle.std.specs.Prelude.{◌≡◌, ◌<◌, ℕ, IsTrue, ◌↔◌, is_some, length, slice_get, IsSome, IsSomeAnd, Some, []};
-ghost use Rattle.std.specs.Option.{option_map, option_and_then};
+ghost use Rattle.std.specs.Option.{option_map, option_map_or, option_and_then};
 ghost use Rattle.bm_arena.specs.Triplets.{Block};
 ghost use Rattle.bm_arena.specs.Contents.{block_at, slot_of, HasHead, HasRoom, marks_at, list_of};
 
@@ -66,6 +66,16 @@ impl Arena {
         ensures { result ≡ option_and_then (λ b. slice_get b.replicas i) (block_at self.now slot) }
     {
         links::replica_at(&self.slots, slot, i)
+    }
+
+    /// How many replicas the block in `slot` has: 0 where the slot is not held.
+    pub fn triplet_count(&self, slot: Slot) -> usize
+        ensures { result ≡ option_map_or (λ b. length b.replicas) (block_at self.now slot) 0 }
+    {
+        match self.slots.get(slot) {
+            Some(entry) => entry.triplets.len(),
+            None => 0,
+        }
     }
 
     /// A number above every slot that is held: one above the greatest that was held at any time.

@@ -1,0 +1,55 @@
+-- What stands behind the delimiter, as slots are linked and moved before it.
+use Rattle.std.proofs.Common.{◌≡◌, ◌≢◌, ℕ, List, [], ◌∷◌, cond, eqb, true, false, refl, inl, inr, sym, ap, ◌∙◌}
+use Rattle.std.proofs.lemmas.Bool.{cases_Bool, eqb-true, ne_eqb, eq-eqb}
+use Rattle.bm_base.specs.SlotLists.{Among, Distinct, without}
+use Rattle.bm_arena.specs.Contents.{Contents, list_of}
+use Rattle.bm_report.specs.Midway.{after, behind}
+
+pub without-absent : (x : ℕ) (xs : List ℕ) → (Among x xs → ⊥) → without x xs ≡ xs
+without-absent x [] gone = refl
+without-absent x (y ∷ ys) gone =
+    elim (cases_Bool (eqb y x)) [
+      | inl here ↦ absurd (gone (inl (sym (eqb-true y x here))))
+      | inr other ↦ rw other (ap (λ l. y ∷ l) (without-absent x ys (λ m. gone (inr m))))
+    ]
+
+pub Among-after : (d x : ℕ) (xs : List ℕ) → Among x (after d xs) → Among x xs
+Among-after d x [] m = m
+Among-after d x (y ∷ ys) m =
+    elim (cases_Bool (eqb y d)) [ inl here ↦ inr (rw here at m) | inr other ↦ inr (Among-after d x ys (rw other at m)) ]
+
+pub after-front : (d x : ℕ) (xs : List ℕ) → x ≢ d → after d (x ∷ xs) ≡ after d xs
+after-front d x xs apart = rw (ne_eqb x d apart) refl
+
+pub after-without : (d x : ℕ) (xs : List ℕ) → x ≢ d → Distinct xs → after d (without x xs) ≡ without x (after d xs)
+after-without d x [] apart distinct = refl
+after-without d x (y ∷ ys) apart distinct =
+    elim (cases_Bool (eqb y d)) [
+      | inl mark ↦
+          let other : eqb y x ≡ false = ne_eqb y x (λ same. apart (sym same ∙ eqb-true y d mark)) in
+          rw (other, mark) refl
+      | inr behind_it ↦
+          elim (cases_Bool (eqb y x)) [
+            | inl here ↦
+                let gone : Among x (after d ys) → ⊥ = λ m. distinct.0 (rw (eqb-true y x here) (Among-after d x ys m)) in
+                rw (here, behind_it) (sym (without-absent x (after d ys) gone))
+            | inr other ↦ rw (other, behind_it) (after-without d x ys apart distinct.1)
+          ]
+    ]
+
+module _ (old new : Contents) (s slot : ℕ) (delimiter : new.delimiter ≡ old.delimiter) (apart : slot ≢ old.delimiter) where
+  -- linked in front
+  pub behind-linked : (Among slot (list_of old s) → ⊥) → list_of new s ≡ slot ∷ list_of old s → behind new s ≡ without slot (behind old s)
+  behind-linked absent list =
+      (λ i. after (delimiter i) (list i)) ∙ after-front old.delimiter slot (list_of old s) apart
+      ∙ sym (without-absent slot (behind old s) (λ m. absent (Among-after old.delimiter slot (list_of old s) m)))
+
+  -- moved to the front
+  pub behind-moved : Distinct (list_of old s) → list_of new s ≡ slot ∷ without slot (list_of old s) → behind new s ≡ without slot (behind old s)
+  behind-moved distinct list =
+      (λ i. after (delimiter i) (list i)) ∙ after-front old.delimiter slot (without slot (list_of old s)) apart
+      ∙ after-without old.delimiter slot (list_of old s) apart distinct
+
+  -- as before
+  pub behind-kept : list_of new s ≡ list_of old s → behind new s ≡ behind old s
+  behind-kept list = λ i. after (delimiter i) (list i)

@@ -1,0 +1,186 @@
+-- One named block entered, and many one after another.
+use Rattle.std.proofs.Common.{◌≡◌, ◌≢◌, ℕ, zero, suc, ◌+◌, ◌≤◌, Bool, true, false, cond, not, ◌||◌, List, [], ◌∷◌, ◌++◌, length, Option, Some, None, is_some, IsSome, refl, subst, sym, ap, ◌∙◌, arith, add-one, length-append}
+use Rattle.std.specs.Option.{option_and_then}
+use Rattle.std.specs.Map.{lookup}
+use Rattle.std.specs.Prelude.{nat_eq}
+use Rattle.std.proofs.lemmas.Bool.{false≢true}
+use Rattle.bm_base.specs.declared.replica.Marks.{Marks}
+use Rattle.bm_base.specs.declared.replica.BlockInfo.{BlockInfo}
+use Rattle.bm_base.specs.Map.{Map, by_number, get, insert, len, contains_key}
+use Rattle.bm_base.specs.State.{Cluster, replica_at}
+use Rattle.bm_base.specs.SlotLists.{without}
+use Rattle.bm_arena.specs.Contents.{Contents, slot_of, marks_at, HasRoom, count_up}
+use Rattle.bm_report.specs.declared.types.Named.{Named}
+use Rattle.bm_report.specs.declared.types.Tally.{Tally}
+use Rattle.bm_report.specs.Holding.{replicas_of, blocks_of, info_at}
+use Rattle.bm_report.specs.Midway.{entered_one, entered_all, fresh_one, fresh, midway_marks, is_settled, behind, without_all, count_ups, AreHere, HaveRoom, IsFramed, IsEntered, IsCounted, IsOncePerNode, IsExcessGood, moved_tally, linked_tally}
+use Rattle.bm_report.proofs.Held.{get-blocks_of}
+use Rattle.bm_report.proofs.Frames.{framed-none, framed-chain}
+use Rattle.bm_report.proofs.Maps.{Held, get-here, entered_at, put-known, some_is, len-put_known}
+use Rattle.bm_report.proofs.Once.{settled-entered_at}
+
+pub entered_one_is : (C : Cluster) (B : Map by_number BlockInfo) (s : ℕ) (n : Named) (K : Held) → entered_one C B s n K ≡ entered_at C K (replica_at n.id s) (midway_marks (get B n.id) (get K (replica_at n.id s)) n.stamp)
+unfolding entered_one
+entered_one_is C B s n K = refl
+
+-- what a block's marks are to be, by its slot
+module _ (C : Cluster) (a : Contents) (s : ℕ) (n : Named) (here : slot_of a n.id ≡ Some n.slot) (was : Option Marks) (was_is : was ≡ marks_at a n.slot s) (marks : Marks)
+    (marks_is : marks ≡ midway_marks (info_at a n.slot) was n.stamp) where
+  got : get (replicas_of a) (replica_at n.id s) ≡ was
+  got = get-here a n.id n.slot s here ∙ sym was_is
+
+  known_info : get (blocks_of a) n.id ≡ info_at a n.slot
+  known_info = get-blocks_of a n.id ∙ ap (λ o. option_and_then (λ k. info_at a k) o) here
+
+  pub entered_one_as : entered_at C (replicas_of a) (replica_at n.id s) marks ≡ entered_one C (blocks_of a) s n (replicas_of a)
+  entered_one_as =
+      let k = sym known_info in
+      let g = sym got in
+      ap (entered_at C (replicas_of a) (replica_at n.id s)) (marks_is ∙ (λ i. midway_marks (k i) (g i) n.stamp))
+      ∙ sym (entered_one_is C (blocks_of a) s n (replicas_of a))
+
+  pub got_now : get (replicas_of a) (replica_at n.id s) ≡ was
+  got_now = got
+
+fresh_known : (b : Bool) → b ≡ true → cond b 0 1 + 0 ≡ 0
+fresh_known true e = refl
+fresh_known false e = cc
+
+fresh_new : (b : Bool) → b ≡ false → cond b 0 1 + 0 ≡ 1
+fresh_new true e = cc
+fresh_new false e = refl
+
+settled_if : (b t : Bool) → (b || not t) ≡ false → (b ≡ false) × (t ≡ true)
+settled_if true t e = absurd (false≢true (sym e))
+settled_if false true e = (refl, refl)
+settled_if false false e = absurd (false≢true (sym e))
+
+-- one block entered
+module _ (C : Cluster) (a c : Contents) (s : ℕ) (n : Named) (here : slot_of a n.id ≡ Some n.slot) (was : Option Marks) (was_is : was ≡ marks_at a n.slot s) (marks : Marks)
+    (marks_is : marks ≡ midway_marks (info_at a n.slot) was n.stamp) (behind_is : behind c s ≡ without n.slot (behind a s)) (frame : IsFramed s a c) where
+  module _ (replicas : replicas_of c ≡ entered_at C (replicas_of a) (replica_at n.id s) marks) where
+    pub entered_new : IsEntered C s (n ∷ []) a c
+    entered_new = record { replicas = replicas ∙ entered_one_as C a s n here was was_is marks marks_is; behind = behind_is; frame = frame }
+
+    settles : (b t : Bool) → t ≡ is_settled marks → (b || not t) ≡ false → (b ≡ false) × (IsExcessGood (replicas_of a) → IsExcessGood (replicas_of c))
+    settles b t is e =
+        let both = settled_if b t e in
+        let P : Held → Type 0 = λ K. IsExcessGood K in
+        (both.0, λ good. subst P (sym replicas) (settled-entered_at C (replicas_of a) (replica_at n.id s) marks (sym is ∙ both.1) good))
+
+    pub counted_new : (t u : Tally) (has_left settled : Bool) → was ≡ None → settled ≡ is_settled marks → u ≡ linked_tally t has_left settled
+        → c.steps ≡ count_ups (cond has_left 2 1) a.steps → cond has_left 1 0 + len (replicas_of c) ≡ len (replicas_of a) + 1 → IsCounted C s (n ∷ []) a c t u
+    counted_new t u has_left settled none settled_is u_is steps lengths =
+        let P : Tally → Type 0 = λ x. IsCounted C s (n ∷ []) a c t x in
+        subst P (sym u_is)
+        (record {
+          rises = λ k start. steps ∙ ap (count_ups (cond has_left 2 1)) start ∙ more has_left t.steps k;
+          steps = sums has_left;
+          added = ap (λ x. t.added + x) (sym (fresh_new (contains_key (replicas_of a) (replica_at n.id s)) absent));
+          removed = omega (arith, lengths);
+          few_added = omega arith;
+          few_removed = few has_left;
+          settled = settles t.is_unsettled settled settled_is;
+        })
+      where
+        absent : contains_key (replicas_of a) (replica_at n.id s) ≡ false
+        absent = ap is_some (got_now C a s n here was was_is marks marks_is ∙ none)
+
+        more : (b : Bool) (x k : ℕ) → count_ups (cond b 2 1) (count_ups x k) ≡ count_ups (x + cond b 2 1) k
+        more true x k = ap (λ y. count_ups y k) (sym (two x))
+          where
+            two : (x : ℕ) → x + 2 ≡ suc (suc x)
+            two x = omega arith
+        more false x k = rw (add-one x) refl
+
+        sums : (b : Bool) → t.steps + cond b 2 1 + t.removed ≡ t.steps + (t.removed + cond b 1 0) + 1
+        sums true = omega arith
+        sums false = omega arith
+
+        few : (b : Bool) → t.removed + cond b 1 0 ≤ t.removed + 1
+        few true = omega arith
+        few false = omega arith
+
+  module _ (old : Marks) (was_old : was ≡ Some old) (once : IsOncePerNode C (replicas_of a)) (replicas : replicas_of c ≡ insert (replicas_of a) (replica_at n.id s) marks) where
+    there : IsSome (get (replicas_of a) (replica_at n.id s))
+    there = some_is (get (replicas_of a) (replica_at n.id s)) old (got_now C a s n here was was_is marks marks_is ∙ was_old)
+
+    replicas_too : replicas_of c ≡ entered_at C (replicas_of a) (replica_at n.id s) marks
+    replicas_too = replicas ∙ put-known C (replicas_of a) n.id s marks once there
+
+    pub entered_known : IsEntered C s (n ∷ []) a c
+    entered_known = entered_new replicas_too
+
+    pub counted_known : (t u : Tally) (settled : Bool) → settled ≡ is_settled marks → u ≡ moved_tally t settled → c.steps ≡ count_up a.steps → IsCounted C s (n ∷ []) a c t u
+    counted_known t u settled settled_is u_is steps =
+        let P : Tally → Type 0 = λ x. IsCounted C s (n ∷ []) a c t x in
+        let lengths : len (replicas_of c) ≡ len (replicas_of a) = ap len replicas ∙ len-put_known (replicas_of a) (replica_at n.id s) marks there in
+        subst P (sym u_is)
+        (record {
+          rises = λ k start. steps ∙ ap count_up start ∙ ap (λ y. count_ups y k) (sym (add-one t.steps));
+          steps = omega arith;
+          added = omega (arith, fresh_known (contains_key (replicas_of a) (replica_at n.id s)) there);
+          removed = omega (arith, lengths);
+          few_added = omega arith;
+          few_removed = omega arith;
+          settled = settles replicas_too t.is_unsettled settled settled_is;
+        })
+
+-- none entered
+pub entered-none : (C : Cluster) (s : ℕ) (a : Contents) → IsEntered C s [] a a
+entered-none C s a = record { replicas = refl; behind = refl; frame = framed-none s a }
+
+pub counted-none : (C : Cluster) (s : ℕ) (a : Contents) (t : Tally) → IsCounted C s [] a a t t
+counted-none C s a t = record {
+  rises = λ k start. start;
+  steps = omega arith;
+  added = omega arith;
+  removed = refl;
+  few_added = omega arith;
+  few_removed = omega arith;
+  settled = λ e. (e, λ good. good);
+}
+
+-- some and then others
+entered_all-append : (C : Cluster) (B : Map by_number BlockInfo) (s : ℕ) (xs ys : List Named) (K : Held) → entered_all C B s (xs ++ ys) K ≡ entered_all C B s ys (entered_all C B s xs K)
+entered_all-append C B s [] ys K = refl
+entered_all-append C B s (x ∷ xs) ys K = entered_all-append C B s xs ys (entered_one C B s x K)
+
+fresh-append : (C : Cluster) (B : Map by_number BlockInfo) (s : ℕ) (xs ys : List Named) (K : Held) → fresh C B s (xs ++ ys) K ≡ fresh C B s xs K + fresh C B s ys (entered_all C B s xs K)
+fresh-append C B s [] ys K = omega arith
+fresh-append C B s (x ∷ xs) ys K = let rest = fresh-append C B s xs ys (entered_one C B s x K) in omega (arith, rest)
+
+without_all-append : (xs ys : List Named) (l : List ℕ) → without_all (xs ++ ys) l ≡ without_all ys (without_all xs l)
+without_all-append [] ys l = refl
+without_all-append (x ∷ xs) ys l = without_all-append xs ys (without x.slot l)
+
+module _ (C : Cluster) (s : ℕ) (xs ys : List Named) (a b c : Contents) (f : IsEntered C s xs a b) where
+  pub entered-append : IsEntered C s ys b c → IsEntered C s (xs ++ ys) a c
+  entered-append g = record {
+    replicas = g.replicas ∙ (λ i. entered_all C (f.frame.blocks i) s ys (f.replicas i)) ∙ sym (entered_all-append C (blocks_of a) s xs ys (replicas_of a));
+    behind = g.behind ∙ ap (without_all ys) f.behind ∙ sym (without_all-append xs ys (behind a s));
+    frame = framed-chain s a b c f.frame g.frame;
+  }
+
+  pub counted-append : (t u v : Tally) → IsCounted C s xs a b t u → IsCounted C s ys b c u v → IsCounted C s (xs ++ ys) a c t v
+  counted-append t u v p q =
+      let all = length-append xs ys in
+      let both : fresh C (blocks_of b) s ys (replicas_of b) ≡ fresh C (blocks_of a) s ys (entered_all C (blocks_of a) s xs (replicas_of a)) = λ i. fresh C (f.frame.blocks i) s ys (f.replicas i) in
+      record {
+        rises = λ k start. q.rises k (p.rises k start);
+        steps = omega (arith, p.steps, q.steps, all);
+        added = omega (arith, p.added, q.added, both, fresh-append C (blocks_of a) s xs ys (replicas_of a));
+        removed = omega (arith, p.removed, q.removed);
+        few_added = omega (arith, p.few_added, q.few_added, all);
+        few_removed = omega (arith, p.few_removed, q.few_removed, all);
+        settled = λ e. let y = q.settled e in let x = p.settled y.0 in (x.0, λ good. y.1 (x.1 good));
+      }
+
+-- what the rest of the blocks wants stays
+pub here-framed : (s : ℕ) (a b : Contents) (ns : List Named) → IsFramed s a b → AreHere a ns → AreHere b ns
+here-framed s a b [] f h = tt
+here-framed s a b (n ∷ ns) f h = (ap (λ l. lookup (nat_eq n.id) l) f.ids ∙ h.0, here-framed s a b ns f h.1)
+
+pub room-framed : (s : ℕ) (a b : Contents) (ns : List Named) → IsFramed s a b → HaveRoom a s ns → HaveRoom b s ns
+room-framed s a b [] f h = tt
+room-framed s a b (n ∷ ns) f h = (λ none. f.room n.slot none (h.0 (f.absent n.slot none)), room-framed s a b ns f h.1)

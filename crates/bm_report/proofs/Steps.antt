@@ -1,0 +1,134 @@
+-- One named block entered: where it is on the storage, and where it is not.
+use Rattle.std.proofs.Common.{◌≡◌, ◌≢◌, ℕ, ◌+◌, List, [], ◌∷◌, cond, true, false, Option, Some, None, IsSome, refl, subst, sym, ap, ◌∙◌, arith}
+use Rattle.std.specs.Prelude.{nat_eq}
+use Rattle.std.specs.Option.{option_and_then}
+use Rattle.std.specs.Map.{lookup}
+use Rattle.std.proofs.lemmas.Bool.{false≢true}
+use Rattle.bm_base.specs.declared.replica.Marks.{Marks}
+use Rattle.bm_base.specs.declared.replica.ReplicaId.{ReplicaId}
+use Rattle.bm_base.specs.Map.{get, insert, remove, len}
+use Rattle.bm_base.specs.State.{Cluster, replica_at}
+use Rattle.bm_base.specs.Replicas.{are_sisters}
+use Rattle.bm_base.specs.Events.{replaces}
+use Rattle.bm_arena.specs.Triplets.{Block}
+use Rattle.bm_base.specs.SlotLists.{Among, Distinct, without}
+use Rattle.bm_arena.specs.Contents.{Contents, block_at, slot_of, marks_at, list_of, find_marks, HasHead, IsLawful, KeepsOthers}
+use Rattle.bm_report.specs.Holding.{replicas_of, blocks_of}
+use Rattle.bm_report.specs.Midway.{behind, IsFramed, IsOncePerNode}
+use Rattle.bm_report.proofs.Held.{replicas-put, replicas-out}
+use Rattle.bm_report.proofs.Behind.{behind-linked, behind-moved, behind-kept}
+use Rattle.bm_report.proofs.Frames.{framed, framed-chain, is_there, some_there, set_at, set-elsewhere, set-known, set-marks, set-others}
+use Rattle.bm_report.proofs.Sisters.{sisters_apart}
+use Rattle.bm_report.proofs.Maps.{get-here, insert-same, some_is, is_replaced, entered_at, put-alone, put-known, put-moved, len-put_new, len-out}
+
+-- it is there: moved to the head, and then its marks set
+module _ (a c : Contents) (s b slot : ℕ) (was : Marks) (lawful : IsLawful a) (here : slot_of a b ≡ Some slot) (at : marks_at a slot s ≡ Some was)
+    (others : KeepsOthers a c slot s) (same : c.blocks ≡ a.blocks) (list : list_of c s ≡ slot ∷ without slot (list_of a s)) where
+  known-apart : slot ≢ a.delimiter
+  known-apart = (lawful.found b slot here).0
+
+  known-still : marks_at c slot s ≡ Some was
+  known-still = ap (λ (x : Contents). marks_at x slot s) (λ i. record c { blocks = same i }) ∙ at
+
+  pub known-frame : IsFramed s a c
+  known-frame = framed a c s slot known-apart others.ids others.delimiter others.blocks others.known others.heads (is_there (marks_at c slot s) was known-still)
+
+  pub known-behind : behind c s ≡ without slot (behind a s)
+  known-behind = behind-moved a c s slot others.delimiter known-apart (lawful.distinct s) list
+
+  pub known-replicas : replicas_of c ≡ replicas_of a
+  known-replicas =
+      replicas-put a c lawful slot s b here others.ids others.blocks others.marks was known-still
+      ∙ insert-same (replicas_of a) (replica_at b s) was (get-here a b slot s here ∙ at)
+
+  module _ (m : Marks) (lawful_c : IsLawful c) where
+    here_c : slot_of c b ≡ Some slot
+    here_c = ap (λ l. lookup (nat_eq b) l) others.ids ∙ here
+
+    put : marks_at (set_at c slot s m) slot s ≡ Some m
+    put = set-marks c slot s m (some_is (marks_at c slot s) was known-still)
+
+    pub set-replicas : replicas_of (set_at c slot s m) ≡ insert (replicas_of a) (replica_at b s) m
+    set-replicas =
+        replicas-put c (set_at c slot s m) lawful_c slot s b here_c refl (set-elsewhere c slot s m) (set-others c slot s m) m put
+        ∙ ap (λ K. insert K (replica_at b s) m) known-replicas
+
+    pub set-frame : IsFramed s a (set_at c slot s m)
+    set-frame =
+        framed-chain s a c (set_at c slot s m) known-frame
+        (framed c (set_at c slot s m) s slot (λ e. known-apart (e ∙ others.delimiter)) refl refl (set-elsewhere c slot s m) (set-known c slot s m) (λ t h. h)
+        (is_there (marks_at (set_at c slot s m) slot s) m put))
+
+    pub set-elsewhere_too : (other : ℕ) → other ≢ slot → block_at (set_at c slot s m) other ≡ block_at a other
+    set-elsewhere_too other differs = set-elsewhere c slot s m other differs ∙ others.blocks other differs
+
+-- it is not there: linked, and then taken from a sister storage
+module _ (C : Cluster) (a c : Contents) (s b slot : ℕ) (m : Marks) (lawful : IsLawful a) (here : slot_of a b ≡ Some slot) (absent : marks_at a slot s ≡ None)
+    (others : KeepsOthers a c slot s) (put : marks_at c slot s ≡ Some m) (list : list_of c s ≡ slot ∷ list_of a s) (once : IsOncePerNode C (replicas_of a)) where
+  linked-apart : slot ≢ a.delimiter
+  linked-apart = (lawful.found b slot here).0
+
+  pub linked-frame : IsFramed s a c
+  linked-frame = framed a c s slot linked-apart others.ids others.delimiter others.blocks others.known others.heads (is_there (marks_at c slot s) m put)
+
+  not_among : Among slot (list_of a s) → ⊥
+  not_among among = some_there (marks_at a slot s) ((lawful.exact slot s).0 among) absent
+
+  pub linked-behind : behind c s ≡ without slot (behind a s)
+  linked-behind = behind-linked a c s slot others.delimiter linked-apart not_among list
+
+  linked-map : replicas_of c ≡ insert (replicas_of a) (replica_at b s) m
+  linked-map = replicas-put a c lawful slot s b here others.ids others.blocks others.marks m put
+
+  linked-length : len (replicas_of c) ≡ len (replicas_of a) + 1
+  linked-length = ap len linked-map ∙ len-put_new (replicas_of a) (replica_at b s) m (get-here a b slot s here ∙ absent)
+
+  before_link : (t : ℕ) → are_sisters C s t ≡ true → get (replicas_of a) (replica_at b t) ≡ marks_at c slot t
+  before_link t sisters = get-here a b slot t here ∙ sym (others.marks t (sisters_apart C s t sisters))
+
+  pub alone-replicas : ((t : ℕ) → are_sisters C s t ≡ true → marks_at c slot t ≡ None) → replicas_of c ≡ entered_at C (replicas_of a) (replica_at b s) m
+  alone-replicas none =
+      linked-map
+      ∙ put-alone C (replicas_of a) (replica_at b s) m (λ q r.
+      let is = is_replaced C (replica_at b s) q r in
+      ap (λ (k : ℕ). get (replicas_of a) (replica_at k q.storage)) is.0 ∙ before_link q.storage is.1 ∙ none q.storage is.1)
+
+  pub alone-length : 0 + len (replicas_of c) ≡ len (replicas_of a) + 1
+  alone-length = let e = linked-length in omega arith
+
+  module _ (d : Contents) (t : ℕ) (lawful_c : IsLawful c) (there : IsSome (marks_at c slot t)) (sisters : are_sisters C s t ≡ true)
+      (others_d : KeepsOthers c d slot t) (gone : marks_at d slot t ≡ None) where
+    apart_t : t ≢ s
+    apart_t = sisters_apart C s t sisters
+
+    here_linked : slot_of c b ≡ Some slot
+    here_linked = ap (λ l. lookup (nat_eq b) l) others.ids ∙ here
+
+    there_a : IsSome (get (replicas_of a) (replica_at b t))
+    there_a = let P : Option Marks → Type 0 = λ o. IsSome o in subst P (sym (before_link t sisters)) there
+
+    moved-map : replicas_of d ≡ remove (replicas_of c) (replica_at b t)
+    moved-map = replicas-out c d lawful_c slot t b here_linked others_d.ids others_d.blocks others_d.marks gone
+
+    pub moved-replicas : replicas_of d ≡ entered_at C (replicas_of a) (replica_at b s) m
+    moved-replicas = moved-map ∙ ap (λ K. remove K (replica_at b t)) linked-map ∙ put-moved C (replicas_of a) b s t m once there_a sisters
+
+    pub moved-length : 1 + len (replicas_of d) ≡ len (replicas_of a) + 1
+    moved-length =
+        let P : Option Marks → Type 0 = λ o. IsSome o in
+        let out = ap len moved-map in
+        let fewer = len-out (replicas_of c) (replica_at b t) (subst P (sym (get-here c b slot t here_linked)) there) in
+        let e = linked-length in
+        omega (arith, out, fewer, e)
+
+    put_d : marks_at d slot s ≡ Some m
+    put_d = others_d.marks s (λ e. apart_t (sym e)) ∙ put
+
+    pub moved-frame : IsFramed s a d
+    moved-frame =
+        framed-chain s a c d linked-frame
+        (framed c d s slot (λ e. linked-apart (e ∙ others.delimiter)) others_d.ids others_d.delimiter others_d.blocks others_d.known others_d.heads
+        (is_there (marks_at d slot s) m put_d))
+
+    pub moved-behind : behind d s ≡ without slot (behind a s)
+    moved-behind = behind-kept c d s slot others_d.delimiter (λ e. linked-apart (e ∙ others.delimiter)) (others_d.lists s (λ e. apart_t (sym e))) ∙ linked-behind

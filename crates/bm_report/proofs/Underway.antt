@@ -1,0 +1,126 @@
+-- Blocks entered so far, and the rest.
+use Rattle.std.proofs.Common.{◌≡◌, ◌≢◌, ℕ, zero, suc, ◌+◌, ◌<◌, ◌≤◌, List, [], ◌∷◌, ◌++◌, length, drop, Option, Some, None, refl, subst, inl, inr, sym, ap, ◌∙◌, arith, length-append, eqb, add-one}
+use Rattle.std.specs.Prelude.{slice_get}
+use Rattle.std.proofs.lemmas.Bool.{cases_Bool, eqb-true, eqb-false}
+use Rattle.std.proofs.lemmas.Option.{none-some}
+use Rattle.std.proofs.lemmas.List.{take-append-drop}
+use Rattle.std.proofs.Common.{take}
+use Rattle.bm_base.specs.State.{Cluster}
+use Rattle.bm_base.specs.SlotLists.{Among}
+use Rattle.bm_arena.specs.Contents.{Contents, block_at, HasHead}
+use Rattle.bm_arena.proofs.Replicas.{Among-left, Among-last}
+use Rattle.bm_report.specs.declared.types.Named.{Named}
+use Rattle.bm_report.specs.declared.types.Tally.{Tally}
+use Rattle.bm_report.specs.Holding.{replicas_of, blocks_of}
+use Rattle.bm_report.specs.Midway.{AreHere, HaveRoom, IsOncePerNode, IsEntered, IsCounted, IsListed, IsSmall, IsUnderway}
+use Rattle.bm_report.proofs.Chaining.{entered-none, counted-none, entered-append, counted-append, here-framed, room-framed}
+use Rattle.bm_report.proofs.Once.{once-entered_all}
+
+-- listing
+
+pub listed-none : (a : Contents) (xs : List ℕ) → IsListed a a xs xs
+listed-none a xs = record { same = λ slot out. refl; more = λ slot m. m }
+
+pub listed-chain : (a b c : Contents) (xs ys zs : List ℕ) → IsListed a b xs ys → IsListed b c ys zs → IsListed a c xs zs
+listed-chain a b c xs ys zs f g = record {
+  same = λ slot out. g.same slot out ∙ f.same slot (λ m. out (g.more slot m));
+  more = λ slot m. g.more slot (f.more slot m);
+}
+
+-- one block changed, and its slot pushed
+pub listed-push : (a b : Contents) (slot : ℕ) (xs ys : List ℕ) → ((other : ℕ) → other ≢ slot → block_at b other ≡ block_at a other) → ys ≡ xs ++ slot ∷ [] → IsListed a b xs ys
+listed-push a b slot xs ys others is =
+    let P : List ℕ → Type 0 = λ l. IsListed a b xs l in
+    subst P (sym is)
+    (record {
+      same = λ x out.
+          elim (cases_Bool (eqb x slot)) [
+            | inl here ↦ absurd (out (let Q : ℕ → Type 0 = λ k. Among k (xs ++ slot ∷ []) in subst Q (sym (eqb-true x slot here)) (Among-last slot xs)))
+            | inr other ↦ others x (eqb-false x slot other)
+          ];
+      more = λ x m. Among-left x xs (slot ∷ []) m;
+    })
+
+-- no block changed
+pub listed-same : (a b : Contents) (xs : List ℕ) → b.blocks ≡ a.blocks → IsListed a b xs xs
+listed-same a b xs same = record { same = λ slot out. ap (λ (x : Contents). block_at x slot) (λ i. record b { blocks = same i }); more = λ slot m. m }
+
+-- counting
+
+pub small-next : (C : Cluster) (s k : ℕ) (xs : List Named) (a b : Contents) (t u : Tally) → IsCounted C s xs a b t u → IsSmall t (length xs + k) → IsSmall u k
+small-next C s k xs a b t u f h = record {
+  added = omega (arith, f.few_added, h.added);
+  removed = omega (arith, f.few_removed, h.removed);
+  steps = omega (arith, f.few_removed, f.steps, h.steps);
+}
+
+-- from here on
+
+pub underway-first : (C : Cluster) (s : ℕ) (all : List Named) (a : Contents) (t : Tally) (xs : List ℕ) → AreHere a all → HaveRoom a s all → IsOncePerNode C (replicas_of a) → HasHead a s → IsSmall t (length all)
+    → IsUnderway C s all all a a t t xs xs
+underway-first C s all a t xs here room once head small = record {
+  here = here;
+  room = room;
+  once = once;
+  head = head;
+  small = small;
+  entered = λ last f. f;
+  counted = λ last v f. f;
+  listed = listed-none a xs;
+}
+
+here-rest : (a : Contents) (xs ys : List Named) → AreHere a (xs ++ ys) → AreHere a ys
+here-rest a [] ys h = h
+here-rest a (x ∷ xs) ys h = here-rest a xs ys h.1
+
+room-rest : (a : Contents) (s : ℕ) (xs ys : List Named) → HaveRoom a s (xs ++ ys) → HaveRoom a s ys
+room-rest a s [] ys h = h
+room-rest a s (x ∷ xs) ys h = room-rest a s xs ys h.1
+
+pub here-part : (a : Contents) (xs ys : List Named) → AreHere a (xs ++ ys) → AreHere a xs
+here-part a [] ys h = tt
+here-part a (x ∷ xs) ys h = (h.0, here-part a xs ys h.1)
+
+pub room-part : (a : Contents) (s : ℕ) (xs ys : List Named) → HaveRoom a s (xs ++ ys) → HaveRoom a s xs
+room-part a s [] ys h = tt
+room-part a s (x ∷ xs) ys h = (h.0, room-part a s xs ys h.1)
+
+pub underway-split : (C : Cluster) (s k : ℕ) (all rest xs ys : List Named) (first now : Contents) (t u : Tally) (ls ms : List ℕ) → xs ≡ take k rest → ys ≡ drop k rest
+    → IsUnderway C s all rest first now t u ls ms → IsUnderway C s all (xs ++ ys) first now t u ls ms
+underway-split C s k all rest xs ys first now t u ls ms front back f =
+    let P : List Named → Type 0 = λ r. IsUnderway C s all r first now t u ls ms in
+    let whole : xs ++ ys ≡ rest = (λ i. front i ++ back i) ∙ take-append-drop k rest in
+    subst P (sym whole) f
+
+pub underway-next : (C : Cluster) (s : ℕ) (all xs rest : List Named) (first now next : Contents) (t u v : Tally) (ls ms ns : List ℕ)
+    → IsUnderway C s all (xs ++ rest) first now t u ls ms → IsEntered C s xs now next → IsCounted C s xs now next u v → IsListed now next ms ns → IsUnderway C s all rest first next t v ls ns
+underway-next C s all xs rest first now next t u v ls ms ns f e k l =
+    let P : ℕ → Type 0 = λ n. IsSmall u n in
+    let Q : _ → Type 0 = λ K. IsOncePerNode C K in
+    record {
+      here = here-framed s now next rest e.frame (here-rest now xs rest f.here);
+      room = room-framed s now next rest e.frame (room-rest now s xs rest f.room);
+      once = subst Q (sym e.replicas) (once-entered_all C (blocks_of now) s xs (replicas_of now) f.once);
+      head = e.frame.heads s f.head;
+      small = small-next C s (length rest) xs now next u v k (subst P (length-append xs rest) f.small);
+      entered = λ last g. f.entered last (entered-append C s xs rest now next last e g);
+      counted = λ last w g. f.counted last w (counted-append C s xs rest now next last e u v w k g);
+      listed = listed-chain first now next ls ms ns f.listed l;
+    }
+
+pub underway-last : (C : Cluster) (s : ℕ) (all rest : List Named) (first now : Contents) (t u : Tally) (ls ms : List ℕ) → rest ≡ [] → IsUnderway C s all rest first now t u ls ms
+    → IsEntered C s all first now × IsCounted C s all first now t u
+underway-last C s all [] first now t u ls ms none f = (f.entered now (entered-none C s now), f.counted now u (counted-none C s now u))
+underway-last C s all (n ∷ rest) first now t u ls ms none f = cc
+
+-- the next of a list
+pub drop_next : {X : Type 0} (xs : List X) (i : ℕ) (x : X) → slice_get xs i ≡ Some x → drop i xs ≡ x ∷ drop (suc i) xs
+drop_next [] i x e = absurd (none-some x e)
+drop_next (y ∷ ys) zero x e = let same : y ≡ x = cc in ap (λ z. z ∷ ys) same
+drop_next (y ∷ ys) (suc i) x e = drop_next ys i x e
+
+pub drop_all : {X : Type 0} (xs : List X) (i : ℕ) → length xs ≤ i → drop i xs ≡ []
+drop_all [] zero h = refl
+drop_all [] (suc i) h = refl
+drop_all (x ∷ xs) zero h = absurd (omega arith)
+drop_all (x ∷ xs) (suc i) h = drop_all xs i (omega arith)

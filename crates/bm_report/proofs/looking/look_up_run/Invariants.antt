@@ -1,0 +1,19 @@
+use Rattle.std.proofs.Common.{◌≡◌, ◌+◌, ◌-◌, ◌++◌, ◌≤◌, ◌<◌, ◌^◌, map}
+use Rattle.bm_base.specs.Entries.{told_by}
+use Rattle.bm_base.specs.Shards.{shard_of}
+use Rattle.bm_report.specs.Midway.{AreHere, HaveRoom, told_of}
+use Rattle.bm_report.specs.Expanded.{IsPrepared, of_part, told_from}
+use Rattle.bm_report.proofs.looking.look_up_run.Given as goal
+
+abbrev pub invariant-loop-next : goal.invariant-loop-next
+invariant-loop-next l =
+    record {
+      kept : IsPrepared l.initial.arena l.arena;
+      here : AreHere l.arena l.named.items;
+      room : HaveRoom l.arena l.storage l.named.items;
+      own : shard_of l.next l.part.shards ≡ l.part.index;
+      named : map told_of l.named.items ++ of_part l.part (told_from l.entry l.next) ≡ map told_of l.initial.named.items ++ of_part l.part (told_by l.entry);
+    }
+
+abbrev pub decreases-loop-next : goal.decreases-loop-next
+decreases-loop-next l = l.last + 1 - l.next

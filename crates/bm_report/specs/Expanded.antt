@@ -1,0 +1,33 @@
+-- What a shard is told by the entries of a report, and what a look-up of its numbers leaves as it was.
+use Rattle.std.specs.Prelude.{◌≡◌, ◌≢◌, ℕ, ◌+◌, ◌-◌, ◌==◌, List, map, filter, IsSome, Some}
+use Rattle.bm_base.specs.declared.ids.Part.{Part}
+use Rattle.bm_base.specs.declared.event.Entry.{Entry}
+use Rattle.bm_base.specs.Entries.{Told, count_up, expanded}
+use Rattle.bm_base.specs.Shards.{shard_of}
+use Rattle.bm_arena.specs.Contents.{Contents, block_at, slot_of, marks_at, list_of, HasHead, HasRoom}
+use Rattle.bm_report.specs.Holding.{replicas_of, blocks_of}
+
+-- what is told of a shard's numbers
+abbrev pub of_part : Part → List Told → List Told
+of_part part ts = filter (λ t. shard_of t.id part.shards == part.index) ts
+
+-- what the entries of a report tell of a shard's numbers, in their order, repeats included
+abbrev pub told_to : Part → List Entry → List Told
+told_to part es = of_part part (expanded es)
+
+-- what an entry tells of its numbers from b on
+abbrev pub told_from : Entry → ℕ → List Told
+told_from e b = map (λ n. record { id = n; stamp = e.stamp }) (count_up b (e.to + 1 - b))
+
+-- numbers may have got slots, and slots room: all that is held stays
+pub record IsPrepared (old new : Contents) : Type 0 where
+  pub replicas : replicas_of new ≡ replicas_of old
+  pub blocks : blocks_of new ≡ blocks_of old
+  pub lists : (t : ℕ) → list_of new t ≡ list_of old t
+  pub heads : (t : ℕ) → HasHead old t → HasHead new t
+  pub delimiter : new.delimiter ≡ old.delimiter
+  pub steps : new.steps ≡ old.steps
+  pub slots : (b slot : ℕ) → slot_of old b ≡ Some slot → slot_of new b ≡ Some slot
+  pub held : (slot : ℕ) → IsSome (block_at old slot) → IsSome (block_at new slot)
+  pub marks : (slot t : ℕ) → IsSome (block_at old slot) → marks_at new slot t ≡ marks_at old slot t
+  pub room : (slot : ℕ) → slot ≢ old.delimiter → HasRoom old slot → HasRoom new slot

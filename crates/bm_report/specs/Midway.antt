@@ -1,0 +1,233 @@
+-- A full report while it runs: which marks a replica has, which maps and lists there are, what is counted.
+use Rattle.std.specs.Prelude.{◌≡◌, ◌≢◌, ℕ, zero, suc, ◌+◌, ◌≤◌, ◌<◌, ◌^◌, ◌*◌, Bool, true, false, not, ◌&&◌, ◌||◌, ◌==◌, if◌then◌else◌, List, [], ◌∷◌, length, map, Option, Some, None, IsSome, IsTrue}
+use Rattle.std.specs.Option.{option_map_or, option_or}
+use Rattle.bm_base.specs.declared.replica.ReplicaId.{ReplicaId}
+use Rattle.bm_base.specs.declared.replica.Tag.{Tag}
+use Rattle.bm_base.specs.declared.replica.Tag.TheVariants.{Good, Stale, Bad, Stray}
+use Rattle.bm_base.specs.declared.replica.Marks.{Marks}
+use Rattle.bm_base.specs.declared.replica.Stamp.{Stamp}
+use Rattle.bm_base.specs.declared.replica.BlockInfo.{BlockInfo}
+use Rattle.bm_base.specs.Entries.{Told}
+use Rattle.bm_base.specs.Map.{Map, by_number, get, insert, keep, remove, contains_key, len}
+use Rattle.bm_base.specs.State.{Cluster, by_replica, replica_at}
+use Rattle.bm_base.specs.Replicas.{is_good, is_bad, are_sisters}
+use Rattle.bm_base.specs.Events.{same_stamp, replaces, enter}
+use Rattle.bm_arena.specs.Triplets.{Block}
+use Rattle.bm_base.specs.SlotLists.{Among, without}
+use Rattle.bm_arena.specs.Contents.{Contents, block_at, slot_of, marks_at, list_of, HasHead, HasRoom, count_up, known_of}
+use Rattle.bm_report.specs.declared.types.Named.{Named}
+use Rattle.bm_report.specs.declared.types.Tally.{Tally}
+use Rattle.bm_report.specs.declared.types.Applied.{Applied}
+use Rattle.bm_base.specs.Calls.{new_replicas}
+use Rattle.bm_report.specs.Holding.{replicas_of, blocks_of, holdings_of}
+
+-- The marks of a reported replica while the report runs. The mark "in excess" says that it was so before the report, also
+-- where it is not good now; so a block that is named again finds what was before the report.
+abbrev pub reported_tag : Option BlockInfo → Bool → Stamp → Tag
+reported_tag info was_bad stamp = option_map_or (λ (i : BlockInfo). if was_bad then Bad else if same_stamp stamp i.stamp then Good else Stale) info Stray
+
+abbrev pub midway_marks : Option BlockInfo → Option Marks → Stamp → Marks
+midway_marks info was stamp = record {
+  tag = reported_tag info (option_map_or (λ (m : Marks). is_bad m.tag) was false) stamp;
+  excess = option_map_or (λ (m : Marks). m.excess) was false;
+  ordered = false;
+}
+
+-- the marks after the report: only a good replica is in excess
+abbrev pub settled : Marks → Marks
+settled m = record m { excess = is_good m.tag && m.excess }
+
+abbrev pub is_settled : Marks → Bool
+is_settled m = not (m.excess && not (is_good m.tag))
+
+-- what one named block makes of the replicas
+unfoldable pub entered_one : Cluster → Map by_number BlockInfo → ℕ → Named → Map by_replica Marks → Map by_replica Marks
+entered_one C B s n K =
+    insert (keep K (λ q _. not (replaces C (replica_at n.id s) q))) (replica_at n.id s)
+    (midway_marks (get B n.id) (get K (replica_at n.id s)) n.stamp)
+
+abbrev pub entered_all : Cluster → Map by_number BlockInfo → ℕ → List Named → Map by_replica Marks → Map by_replica Marks
+entered_all C B s [] K = K
+entered_all C B s (n ∷ ns) K = entered_all C B s ns (entered_one C B s n K)
+
+-- how many of the named blocks have no replica on s when they are entered
+abbrev pub fresh_one : ℕ → Named → Map by_replica Marks → ℕ
+fresh_one s n K = if contains_key K (replica_at n.id s) then 0 else 1
+
+abbrev pub fresh : Cluster → Map by_number BlockInfo → ℕ → List Named → Map by_replica Marks → ℕ
+fresh C B s [] K = 0
+fresh C B s (n ∷ ns) K = fresh_one s n K + fresh C B s ns (entered_one C B s n K)
+
+-- a node has at most one replica of a block
+abbrev pub IsOncePerNode : Cluster → Map by_replica Marks → Type 0
+IsOncePerNode C K = (p q : ReplicaId) → IsSome (get K p) → IsSome (get K q) → p.block ≡ q.block → are_sisters C p.storage q.storage ≡ false
+
+-- only good replicas are in excess
+abbrev pub IsExcessGood : Map by_replica Marks → Type 0
+IsExcessGood K = (p : ReplicaId) (m : Marks) → get K p ≡ Some m → is_settled m ≡ true
+
+-- the slots that stand behind the delimiter
+abbrev pub after : ℕ → List ℕ → List ℕ
+after d [] = []
+after d (x ∷ xs) = if x == d then xs else after d xs
+
+abbrev pub behind : Contents → ℕ → List ℕ
+behind a s = after a.delimiter (list_of a s)
+
+abbrev pub without_all : List Named → List ℕ → List ℕ
+without_all [] xs = xs
+without_all (n ∷ ns) xs = without_all ns (without n.slot xs)
+
+-- the number of the block in a slot
+abbrev pub number_at : Contents → ℕ → ℕ
+number_at a slot = option_map_or (λ (b : Block). b.id) (block_at a slot) 0
+
+-- the replicas of these blocks on s are out
+abbrev pub out_all : ℕ → List ℕ → Map by_replica Marks → Map by_replica Marks
+out_all s [] K = K
+out_all s (b ∷ bs) K = out_all s bs (remove K (replica_at b s))
+
+-- the marks of the named blocks on s are settled
+abbrev pub settled_one : ℕ → ℕ → Map by_replica Marks → Map by_replica Marks
+settled_one s b K = option_map_or (λ m. insert K (replica_at b s) (settled m)) (get K (replica_at b s)) K
+
+abbrev pub settled_all : ℕ → List Named → Map by_replica Marks → Map by_replica Marks
+settled_all s [] K = K
+settled_all s (n ∷ ns) K = settled_all s ns (settled_one s n.id K)
+
+-- the stamp that counts of a named block: that of its last entry
+abbrev pub last_stamp : List Named → ℕ → Option Stamp
+last_stamp [] b = None
+last_stamp (n ∷ ns) b = option_or (last_stamp ns b) (if n.id == b then Some n.stamp else None)
+
+abbrev pub told_of : Named → Told
+told_of n = record { id = n.id; stamp = n.stamp }
+
+-- so many steps more
+abbrev pub count_ups : ℕ → ℕ → ℕ
+count_ups zero n = n
+count_ups (suc k) n = count_up (count_ups k n)
+
+-- each named block stands in its slot
+abbrev pub AreHere : Contents → List Named → Type 0
+AreHere a [] = Unit {0}
+AreHere a (n ∷ ns) = (slot_of a n.id ≡ Some n.slot) × AreHere a ns
+
+-- a block that is not on s has room for it
+abbrev pub HaveRoom : Contents → ℕ → List Named → Type 0
+HaveRoom a s [] = Unit {0}
+HaveRoom a s (n ∷ ns) = (marks_at a n.slot s ≡ None → HasRoom a n.slot) × HaveRoom a s ns
+
+-- what entering blocks on s keeps
+pub record IsFramed (s : ℕ) (old new : Contents) : Type 0 where
+  pub ids : new.ids ≡ old.ids
+  pub delimiter : new.delimiter ≡ old.delimiter
+  pub marker : block_at new old.delimiter ≡ block_at old old.delimiter
+  pub blocks : blocks_of new ≡ blocks_of old
+  pub heads : (t : ℕ) → HasHead old t → HasHead new t
+  pub absent : (slot : ℕ) → marks_at new slot s ≡ None → marks_at old slot s ≡ None
+  pub room : (slot : ℕ) → marks_at new slot s ≡ None → HasRoom old slot → HasRoom new slot
+
+-- what entering named blocks on s makes of an arena
+pub record IsEntered (C : Cluster) (s : ℕ) (ns : List Named) (old new : Contents) : Type 0 where
+  pub replicas : replicas_of new ≡ entered_all C (blocks_of old) s ns (replicas_of old)
+  pub behind : behind new s ≡ without_all ns (behind old s)
+  pub frame : IsFramed s old new
+
+-- what is counted meanwhile
+pub record IsCounted (C : Cluster) (s : ℕ) (ns : List Named) (old new : Contents) (before after : Tally) : Type 0 where
+  pub rises : (n : ℕ) → old.steps ≡ count_ups before.steps n → new.steps ≡ count_ups after.steps n
+  pub steps : after.steps + before.removed ≡ before.steps + after.removed + length ns
+  pub added : after.added ≡ before.added + fresh C (blocks_of old) s ns (replicas_of old)
+  pub removed : after.removed + before.added + len (replicas_of new) ≡ before.removed + after.added + len (replicas_of old)
+  pub few_added : after.added ≤ before.added + length ns
+  pub few_removed : after.removed ≤ before.removed + length ns
+  pub settled : after.is_unsettled ≡ false → (before.is_unsettled ≡ false) × (IsExcessGood (replicas_of old) → IsExcessGood (replicas_of new))
+
+-- what a tally is after a block was moved, or linked and perhaps taken from a sister storage
+abbrev pub moved_tally : Tally → Bool → Tally
+moved_tally t is_settled = record t { steps = t.steps + 1; is_unsettled = t.is_unsettled || not is_settled }
+
+abbrev pub linked_tally : Tally → Bool → Bool → Tally
+linked_tally t has_left is_settled = record {
+  added = t.added + 1;
+  removed = t.removed + (if has_left then 1 else 0);
+  steps = t.steps + (if has_left then 2 else 1);
+  is_unsettled = t.is_unsettled || not is_settled;
+}
+
+abbrev pub swept_tally : Tally → Tally
+swept_tally t = record t { removed = t.removed + 1; steps = t.steps + 1 }
+
+-- a tally whose counts have room for so many blocks more
+pub record IsSmall (t : Tally) (n : ℕ) : Type 0 where
+  pub added : t.added + 2 * n < 2 ^ 128
+  pub removed : t.removed + 2 * n < 2 ^ 128
+  pub steps : t.steps + 2 * n < 2 ^ 128
+
+-- blocks that are not listed are as before
+pub record IsListed (old new : Contents) (before after : List ℕ) : Type 0 where
+  pub same : (slot : ℕ) → (Among slot after → ⊥) → block_at new slot ≡ block_at old slot
+  pub more : (slot : ℕ) → Among slot before → Among slot after
+
+-- Some of the named blocks are entered, and the rest is to be: what stands now, and what comes of it in the end.
+pub record IsUnderway (C : Cluster) (s : ℕ) (all rest : List Named) (first now : Contents) (t u : Tally) (listed_first listed_now : List ℕ) : Type 0 where
+  pub here : AreHere now rest
+  pub room : HaveRoom now s rest
+  pub once : IsOncePerNode C (replicas_of now)
+  pub head : HasHead now s
+  pub small : IsSmall u (length rest)
+  pub entered : (last : Contents) → IsEntered C s rest now last → IsEntered C s all first last
+  pub counted : (last : Contents) (v : Tally) → IsCounted C s rest now last u v → IsCounted C s all first last t v
+  pub listed : IsListed first now listed_first listed_now
+
+-- the slots xs, which stand behind the delimiter first, were taken out of the list of s
+pub record IsSwept (s : ℕ) (xs : List ℕ) (old new : Contents) (t u : Tally) : Type 0 where
+  pub replicas : replicas_of new ≡ out_all s (map (number_at old) xs) (replicas_of old)
+  pub ids : new.ids ≡ old.ids
+  pub delimiter : new.delimiter ≡ old.delimiter
+  pub marker : block_at new old.delimiter ≡ block_at old old.delimiter
+  pub blocks : blocks_of new ≡ blocks_of old
+  pub known : (slot : ℕ) → known_of (block_at new slot) ≡ known_of (block_at old slot)
+  pub heads : (t : ℕ) → HasHead old t → HasHead new t
+  pub rises : (n : ℕ) → old.steps ≡ count_ups t.steps n → new.steps ≡ count_ups u.steps n
+  pub added : u.added ≡ t.added
+  pub is_unsettled : u.is_unsettled ≡ t.is_unsettled
+  pub removed : u.removed ≡ t.removed + length xs
+  pub steps : u.steps ≡ t.steps + length xs
+  pub lengths : len (replicas_of new) + length xs ≡ len (replicas_of old)
+
+-- some of the slots behind the delimiter are out, and the rest is to be
+pub record IsSweeping (s : ℕ) (first now : Contents) (t u : Tally) (listed_first listed_now : List ℕ) : Type 0 where
+  pub put : IsSome (marks_at now now.delimiter s)
+  pub swept : (last : Contents) (v : Tally) → IsSwept s (behind now s) now last u v → IsSwept s (behind first s) first last t v
+  pub listed : IsListed first now listed_first listed_now
+  pub removed : u.removed + length (behind now s) < 2 ^ 127
+  pub steps : u.steps + length (behind now s) < 2 ^ 127
+
+-- the marks of blocks on s were settled
+pub record IsSettling (s : ℕ) (ns : List Named) (old new : Contents) : Type 0 where
+  pub replicas : replicas_of new ≡ settled_all s ns (replicas_of old)
+  pub ids : new.ids ≡ old.ids
+  pub delimiter : new.delimiter ≡ old.delimiter
+  pub marker : block_at new old.delimiter ≡ block_at old old.delimiter
+  pub blocks : blocks_of new ≡ blocks_of old
+  pub lists : new.lists ≡ old.lists
+  pub steps : new.steps ≡ old.steps
+  -- a block whose replicas are others has a replica whose marks were not settled
+  pub others : (slot : ℕ) (m : Marks) → marks_at old slot s ≡ Some m → is_settled m ≡ true → block_at new slot ≡ block_at old slot
+  pub absent : (slot : ℕ) → marks_at old slot s ≡ None → block_at new slot ≡ block_at old slot
+
+-- what a received replica of a named block makes of an arena
+pub record IsReceived (C : Cluster) (s : ℕ) (n : Named) (old new : Contents) (r : Applied) : Type 0 where
+  pub replicas : replicas_of new ≡ (enter C (holdings_of old) (replica_at n.id s) n.stamp).replicas
+  pub blocks : blocks_of new ≡ blocks_of old
+  pub ids : new.ids ≡ old.ids
+  pub delimiter : new.delimiter ≡ old.delimiter
+  pub marker : block_at new old.delimiter ≡ block_at old old.delimiter
+  pub heads : (t : ℕ) → HasHead old t → HasHead new t
+  pub others : (slot : ℕ) → slot ≢ n.slot → block_at new slot ≡ block_at old slot
+  pub added : r.added ≡ new_replicas (replicas_of old) (replicas_of new)
+  pub removed : r.removed ≡ new_replicas (replicas_of new) (replicas_of old)
+  pub steps : r.steps ≡ r.added + r.removed
+  pub rises : new.steps ≡ count_ups r.steps old.steps

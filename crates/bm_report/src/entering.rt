@@ -1,0 +1,108 @@
+// Entering one block that a report names.
+ghost use Rattle.std.specs.Prelude.{◌≡◌, ◌≢◌, ◌+◌, ◌∷◌, [], ℕ, if◌then◌else◌, not, true, false, None, Some};
+ghost use Rattle.bm_base.specs.Map.{insert, keep, len};
+ghost use Rattle.bm_base.specs.State.{replica_at};
+ghost use Rattle.bm_base.specs.Events.{replaces};
+ghost use Rattle.bm_base.specs.SlotLists.{without};
+ghost use Rattle.bm_arena.specs.Contents.{block_at, slot_of, marks_at, count_up, HasHead, HasRoom};
+ghost use Rattle.bm_report.specs.Holding.{replicas_of};
+ghost use Rattle.bm_report.specs.Midway.{behind, IsFramed, IsOncePerNode, count_ups, IsEntered, IsCounted, IsSmall};
+
+use crate::marking::{are_same, is_settled, midway_marks, sister_of};
+use crate::types::{Named, Tally};
+use bm_arena::Arena;
+use bm_base::{Marks, StorageId};
+use bm_topo::Topology;
+
+/// Enters a block that a report names, of which the marks on the storage are known: whether its replicas are others then.
+pub(crate) fn enter(
+    arena: &mut Arena,
+    topology: &Topology,
+    storage: StorageId,
+    named: &Named,
+    was: Option<Marks>,
+    tally: &mut Tally,
+) -> bool
+    requires here { slot_of arena.old named.now.id ≡ Some named.now.slot }
+    requires was { was ≡ marks_at arena.old named.now.slot storage }
+    requires head { HasHead arena.old storage }
+    requires room { marks_at arena.old named.now.slot storage ≡ None → HasRoom arena.old named.now.slot }
+    requires once { IsOncePerNode topology.now.cluster (replicas_of arena.old) }
+    requires small { IsSmall tally.old 1 }
+    ensures entered { IsEntered topology.now.cluster storage (named.now ∷ []) arena.old arena.new }
+    ensures counted { IsCounted topology.now.cluster storage (named.now ∷ []) arena.old arena.new tally.old tally.new }
+    ensures same { result ≡ false → arena.new.blocks ≡ arena.old.blocks }
+    ensures others { (slot : ℕ) → slot ≢ named.now.slot → block_at arena.new slot ≡ block_at arena.old slot }
+{
+    let marks = midway_marks(arena.info(named.slot), was, &named.stamp);
+    let is_settled = is_settled(marks);
+    match was {
+        Some(was) => {
+            tally.count_move(is_settled);
+            move_known(arena, named, storage, was, marks)
+        }
+        None => {
+            let has_left = link_new(arena, topology, named, storage, marks);
+            tally.count_link(has_left, is_settled);
+            true
+        }
+    }
+}
+
+/// Moves a block that is on the storage to the head of its list and sets its marks: whether they were others.
+pub(crate) fn move_known(
+    arena: &mut Arena,
+    named: &Named,
+    storage: StorageId,
+    was: Marks,
+    marks: Marks,
+) -> bool
+    requires here { slot_of arena.old named.now.id ≡ Some named.now.slot }
+    requires was { marks_at arena.old named.now.slot storage ≡ Some was }
+    ensures replicas { replicas_of arena.new ≡ insert (replicas_of arena.old) (replica_at named.now.id storage) marks }
+    ensures behind { behind arena.new storage ≡ without named.now.slot (behind arena.old storage) }
+    ensures frame { IsFramed storage arena.old arena.new }
+    ensures same { result ≡ false → arena.new.blocks ≡ arena.old.blocks }
+    ensures others { (slot : ℕ) → slot ≢ named.now.slot → block_at arena.new slot ≡ block_at arena.old slot }
+    ensures steps { arena.new.steps ≡ count_up arena.old.steps }
+{
+    arena.lawful();
+    arena.move_front(named.slot, storage);
+    if are_same(marks, was) {
+        return false;
+    }
+    arena.set_marks(named.slot, storage, marks);
+    true
+}
+
+/// Links a block that is not on the storage at the head of its list, and unlinks it from another storage of the node: whether it
+/// was on one.
+pub(crate) fn link_new(
+    arena: &mut Arena,
+    topology: &Topology,
+    named: &Named,
+    storage: StorageId,
+    marks: Marks,
+) -> bool
+    requires here { slot_of arena.old named.now.id ≡ Some named.now.slot }
+    requires absent { marks_at arena.old named.now.slot storage ≡ None }
+    requires head { HasHead arena.old storage }
+    requires room { HasRoom arena.old named.now.slot }
+    requires once { IsOncePerNode topology.now.cluster (replicas_of arena.old) }
+    ensures replicas { replicas_of arena.new ≡ insert (keep (replicas_of arena.old) (λ q _. not (replaces topology.now.cluster (replica_at named.now.id storage) q))) (replica_at named.now.id storage) marks }
+    ensures behind { behind arena.new storage ≡ without named.now.slot (behind arena.old storage) }
+    ensures frame { IsFramed storage arena.old arena.new }
+    ensures others { (slot : ℕ) → slot ≢ named.now.slot → block_at arena.new slot ≡ block_at arena.old slot }
+    ensures removed { (if result then 1 else 0) + len (replicas_of arena.new) ≡ len (replicas_of arena.old) + 1 }
+    ensures steps { arena.new.steps ≡ count_ups (if result then 2 else 1) arena.old.steps }
+{
+    arena.lawful();
+    arena.link_front(named.slot, storage, marks);
+    match sister_of(arena, topology, named.slot, storage) {
+        Some(sister) => {
+            arena.unlink(named.slot, sister);
+            true
+        }
+        None => false,
+    }
+}

@@ -1,0 +1,143 @@
+// The slots of the blocks that a report names, and the room that it needs.
+ghost use Rattle.std.specs.Prelude.{◌≡◌, ◌≢◌, ◌<◌, ◌≤◌, ◌+◌, ◌-◌, ◌^◌, ◌==◌, ◌++◌, ◌∷◌, [], map, ℕ, slice_get, IsSome, IfOk, IfErr, OnOk, None, Some};
+ghost use Rattle.bm_base.specs.declared.refusal.Refusal.TheVariants.{Memory};
+ghost use Rattle.bm_arena.specs.Contents.{block_at, slot_of, marks_at, HasHead, HasRoom};
+ghost use Rattle.bm_base.specs.Entries.{told_by};
+ghost use Rattle.bm_base.specs.Shards.{shard_of};
+ghost use Rattle.bm_report.specs.Midway.{AreHere, HaveRoom, told_of};
+ghost use Rattle.bm_report.specs.Expanded.{IsPrepared, of_part, told_to};
+
+use crate::types::Named;
+use bm_arena::{Arena, Slot};
+use bm_base::{BlockId, Entry, Part, Refusal, Stamp, StorageId, shard_of};
+
+/// The slot of a number, which has an entry from now on.
+fn slot_for(arena: &mut Arena, id: BlockId) -> Result<Slot, Refusal>
+    ensures kept { IsPrepared arena.old arena.new }
+    ensures here { IfOk result (λ slot. slot_of arena.new id ≡ Some slot) }
+    ensures refused { IfErr result (λ e. e ≡ Memory) }
+{
+    arena.lawful();
+    arena.add_entry(id)
+}
+
+/// Makes room for a replica on the storage, where the block has none there.
+fn make_room(arena: &mut Arena, slot: Slot, storage: StorageId) -> Result<(), Refusal>
+    requires held { IsSome (block_at arena.old slot) }
+    requires apart { slot ≢ arena.old.delimiter }
+    ensures kept { IsPrepared arena.old arena.new }
+    ensures room { OnOk result (marks_at arena.new slot storage ≡ None → HasRoom arena.new slot) }
+    ensures refused { IfErr result (λ e. e ≡ Memory) }
+{
+    if arena.marks(slot, storage).is_some() {
+        return Ok(());
+    }
+    arena.reserve_triplet(slot)
+}
+
+/// Looks up one number. After an `Err` its entry, if there is a new one, is named too, so that `abort` finds it.
+fn look_up_one(
+    arena: &mut Arena,
+    storage: StorageId,
+    id: BlockId,
+    stamp: Stamp,
+    named: &mut Vec<Named>,
+) -> Result<(), Refusal>
+    requires here { AreHere arena.old named.old.items }
+    requires room { HaveRoom arena.old storage named.old.items }
+    ensures kept { IsPrepared arena.old arena.new }
+    ensures here { OnOk result (AreHere arena.new named.new.items) }
+    ensures room { OnOk result (HaveRoom arena.new storage named.new.items) }
+    ensures named { OnOk result (map told_of named.new.items ≡ map told_of named.old.items ++ record { id = id; stamp = stamp } ∷ []) }
+    ensures refused { IfErr result (λ e. e ≡ Memory) }
+{
+    arena.lawful();
+    named.reserve(1)?;
+    let slot = slot_for(arena, id)?;
+    named.push_reserved(Named { id, slot, stamp });
+    arena.lawful();
+    make_room(arena, slot, storage)?;
+    Ok(())
+}
+
+/// The first number of the part from a number on.
+fn first_of_part(from: BlockId, part: Part) -> u128
+    requires shards { 0 < part.shards }
+    requires index { part.index < part.shards }
+    ensures of_part { shard_of result part.shards ≡ part.index }
+    ensures from { from ≤ result }
+    ensures near { result < from + part.shards }
+{
+    let shards = u64::from(part.shards);
+    let here = u64::from(shard_of(from, part.shards));
+    let index = u64::from(part.index);
+    let gap = if here <= index {
+        index - here
+    } else {
+        index + shards - here
+    };
+    u128::from(from.0) + u128::from(gap)
+}
+
+/// Looks up the numbers of an entry that are of the part: from one to the next, so that numbers of other shards cost nothing.
+fn look_up_run(
+    arena: &mut Arena,
+    storage: StorageId,
+    entry: &Entry,
+    part: Part,
+    named: &mut Vec<Named>,
+) -> Result<(), Refusal>
+    requires shards { 0 < part.shards }
+    requires index { part.index < part.shards }
+    requires here { AreHere arena.old named.old.items }
+    requires room { HaveRoom arena.old storage named.old.items }
+    ensures kept { IsPrepared arena.old arena.new }
+    ensures here { OnOk result (AreHere arena.new named.new.items) }
+    ensures room { OnOk result (HaveRoom arena.new storage named.new.items) }
+    ensures named { OnOk result (map told_of named.new.items ≡ map told_of named.old.items ++ of_part part (told_by entry.now)) }
+    ensures refused { IfErr result (λ e. e ≡ Memory) }
+{
+    let last = u128::from(entry.to.0);
+    let mut next = first_of_part(entry.from, part);
+    while next <= last {
+        look_up_one(arena, storage, BlockId(next as u64), entry.stamp, named)?;
+        next += u128::from(part.shards);
+    }
+    Ok(())
+}
+
+/// Finds the slots of all numbers of the part that a report of a storage names, in order, each time a number is named; gives an
+/// entry to a number that has none, and makes the room that `apply` needs beside `changed`. Each number is hashed once. Nothing
+/// that is held changes. `Memory`.
+pub fn look_up(
+    arena: &mut Arena,
+    storage: StorageId,
+    entries: &[Entry],
+    part: Part,
+    named: &mut Vec<Named>,
+) -> Result<(), Refusal>
+    requires shards { 0 < part.shards }
+    requires index { part.index < part.shards }
+    ensures kept { IsPrepared arena.old arena.new }
+    ensures head { OnOk result (HasHead arena.new storage) }
+    ensures here { OnOk result (AreHere arena.new named.new.items) }
+    ensures room { OnOk result (HaveRoom arena.new storage named.new.items) }
+    ensures named { OnOk result (map told_of named.new.items ≡ told_to part entries.now) }
+    ensures refused { IfErr result (λ e. e ≡ Memory) }
+{
+    reserve_head(arena, storage)?;
+    named.clear();
+    for entry in entries {
+        look_up_run(arena, storage, entry, part, named)?;
+    }
+    Ok(())
+}
+
+fn reserve_head(arena: &mut Arena, storage: StorageId) -> Result<(), Refusal>
+    ensures kept { IsPrepared arena.old arena.new }
+    ensures head { OnOk result (HasHead arena.new storage) }
+    ensures refused { IfErr result (λ e. e ≡ Memory) }
+{
+    arena.lawful();
+    arena.reserve_heads(&[storage])
+}

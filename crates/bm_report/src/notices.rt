@@ -1,0 +1,80 @@
+// Notices of single replicas: one was received, one was deleted.
+ghost use Rattle.std.specs.Prelude.{◌≡◌, ◌+◌, if◌then◌else◌, None, Some};
+ghost use Rattle.bm_base.specs.Map.{remove};
+ghost use Rattle.bm_base.specs.State.{replica_at};
+ghost use Rattle.bm_base.specs.Calls as calls;
+ghost use Rattle.bm_arena.specs.Contents.{slot_of, marks_at, HasHead, HasRoom};
+ghost use Rattle.bm_report.specs.Holding.{replicas_of, blocks_of};
+ghost use Rattle.bm_report.specs.Midway.{count_ups, IsOncePerNode, IsReceived};
+
+use crate::entering::link_new;
+use crate::marking::midway_marks;
+use crate::sweeping::settled;
+use crate::types::{Applied, Named};
+use bm_arena::Arena;
+use bm_base::{BlockId, StorageId};
+use bm_topo::Topology;
+
+const NOTHING: Applied = Applied {
+    added: 0,
+    removed: 0,
+    steps: 0,
+};
+
+/// A replica that was received is there, and leaves the other storages of the node. Takes no memory.
+pub fn receive(arena: &mut Arena, topology: &Topology, storage: StorageId, named: &Named) -> Applied
+    requires here { slot_of arena.old named.now.id ≡ Some named.now.slot }
+    requires head { HasHead arena.old storage }
+    requires room { marks_at arena.old named.now.slot storage ≡ None → HasRoom arena.old named.now.slot }
+    requires once { IsOncePerNode topology.now.cluster (replicas_of arena.old) }
+    ensures { IsReceived topology.now.cluster storage named.now arena.old arena.new result }
+{
+    let was = arena.marks(named.slot, storage);
+    let marks = settled(midway_marks(arena.info(named.slot), was, &named.stamp));
+    match was {
+        Some(_) => {
+            arena.lawful();
+            arena.set_marks(named.slot, storage, marks);
+            NOTHING
+        }
+        None => applied_link(link_new(arena, topology, named, storage, marks)),
+    }
+}
+
+/// What linking a block did, which may have left another storage of the node.
+fn applied_link(has_left: bool) -> Applied
+    ensures added { result.added ≡ 1 }
+    ensures removed { result.removed ≡ (if has_left then 1 else 0) }
+    ensures steps { result.steps ≡ (if has_left then 2 else 1) }
+{
+    Applied {
+        added: 1,
+        removed: if has_left { 1 } else { 0 },
+        steps: if has_left { 2 } else { 1 },
+    }
+}
+
+/// A replica that was deleted leaves, if it is there. Takes no memory.
+pub fn delete(arena: &mut Arena, storage: StorageId, id: BlockId) -> Applied
+    ensures replicas { replicas_of arena.new ≡ remove (replicas_of arena.old) (replica_at id storage) }
+    ensures blocks { blocks_of arena.new ≡ blocks_of arena.old }
+    ensures numbers { arena.new.ids ≡ arena.old.ids }
+    ensures added { result.added ≡ calls.new_replicas (replicas_of arena.old) (replicas_of arena.new) }
+    ensures removed { result.removed ≡ calls.new_replicas (replicas_of arena.new) (replicas_of arena.old) }
+    ensures steps { result.steps ≡ result.added + result.removed }
+    ensures counted { arena.new.steps ≡ count_ups result.steps arena.old.steps }
+{
+    arena.lawful();
+    let Some(slot) = arena.find(id) else {
+        return NOTHING;
+    };
+    if arena.marks(slot, storage).is_none() {
+        return NOTHING;
+    }
+    arena.unlink(slot, storage);
+    Applied {
+        added: 0,
+        removed: 1,
+        steps: 1,
+    }
+}
