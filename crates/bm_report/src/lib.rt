@@ -2,6 +2,7 @@
 #![tactic(auto)]
 
 mod aborting;
+mod applying;
 mod chunks;
 mod entering;
 mod looking;
@@ -13,7 +14,6 @@ mod tally;
 mod types;
 
 pub use aborting::abort;
-pub use looking::look_up;
-pub use notices::{delete, receive};
-pub use report::apply;
-pub use types::{Applied, Named};
+pub use notices::{apply_deleted, apply_received};
+pub use report::Report;
+pub use types::Applied;

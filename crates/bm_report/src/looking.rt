@@ -109,7 +109,7 @@ fn look_up_run(
 /// Finds the slots of all numbers of the part that a report of a storage names, in order, each time a number is named; gives an
 /// entry to a number that has none, and makes the room that `apply` needs beside `changed`. Each number is hashed once. Nothing
 /// that is held changes. `Memory`.
-pub fn look_up(
+pub(crate) fn look_up(
     arena: &mut Arena,
     storage: StorageId,
     entries: &[Entry],

@@ -1,18 +1,20 @@
 // Notices of single replicas: one was received, one was deleted.
-ghost use Rattle.std.specs.Prelude.{◌≡◌, ◌+◌, if◌then◌else◌, None, Some};
+ghost use Rattle.std.specs.Prelude.{◌≡◌, ◌≢◌, ◌+◌, ℕ, if◌then◌else◌, None, Some};
 ghost use Rattle.bm_base.specs.Map.{remove};
 ghost use Rattle.bm_base.specs.State.{replica_at};
+ghost use Rattle.bm_base.specs.Events as events;
 ghost use Rattle.bm_base.specs.Calls as calls;
-ghost use Rattle.bm_arena.specs.Contents.{slot_of, marks_at, HasHead, HasRoom};
-ghost use Rattle.bm_report.specs.Holding.{replicas_of, blocks_of};
+ghost use Rattle.bm_arena.specs.Contents.{block_at, slot_of, marks_at, HasHead, HasRoom};
+ghost use Rattle.bm_report.specs.Holding.{replicas_of, blocks_of, holdings_of};
 ghost use Rattle.bm_report.specs.Midway.{count_ups, IsOncePerNode, IsReceived};
+ghost use Rattle.bm_report.specs.Ready.{HasPlace};
 
 use crate::entering::link_new;
 use crate::marking::midway_marks;
 use crate::sweeping::settled;
 use crate::types::{Applied, Named};
 use bm_arena::Arena;
-use bm_base::{BlockId, StorageId};
+use bm_base::{BlockId, Stamp, StorageId};
 use bm_topo::Topology;
 
 const NOTHING: Applied = Applied {
@@ -21,8 +23,13 @@ const NOTHING: Applied = Applied {
     steps: 0,
 };
 
-/// A replica that was received is there, and leaves the other storages of the node. Takes no memory.
-pub fn receive(arena: &mut Arena, topology: &Topology, storage: StorageId, named: &Named) -> Applied
+/// A replica that was received is there, and leaves the other storages of the node.
+pub(crate) fn receive(
+    arena: &mut Arena,
+    topology: &Topology,
+    storage: StorageId,
+    named: &Named,
+) -> Applied
     requires here { slot_of arena.old named.now.id ≡ Some named.now.slot }
     requires head { HasHead arena.old storage }
     requires room { marks_at arena.old named.now.slot storage ≡ None → HasRoom arena.old named.now.slot }
@@ -54,11 +61,45 @@ fn applied_link(has_left: bool) -> Applied
     }
 }
 
-/// A replica that was deleted leaves, if it is there. Takes no memory.
-pub fn delete(arena: &mut Arena, storage: StorageId, id: BlockId) -> Applied
+/// A replica of the block `id` was received on a storage, for which the number was made ready: it is there, and leaves the other
+/// storages of the node. Only that block changes. The number is looked up anew. Takes no memory.
+pub fn apply_received(
+    arena: &mut Arena,
+    topology: &Topology,
+    storage: StorageId,
+    id: BlockId,
+    stamp: Stamp,
+) -> Applied
+    requires head { HasHead arena.old storage }
+    requires place { HasPlace arena.old storage id }
+    requires once { IsOncePerNode topology.now.cluster (replicas_of arena.old) }
+    ensures replicas { replicas_of arena.new ≡ (events.enter topology.now.cluster (holdings_of arena.old) (replica_at id storage) stamp).replicas }
+    ensures blocks { blocks_of arena.new ≡ blocks_of arena.old }
+    ensures numbers { (b : ℕ) → slot_of arena.new b ≡ slot_of arena.old b }
+    ensures delimiter { arena.new.delimiter ≡ arena.old.delimiter }
+    ensures heads { (t : ℕ) → HasHead arena.old t → HasHead arena.new t }
+    ensures free { (t : ℕ) → marks_at arena.new arena.new.delimiter t ≡ marks_at arena.old arena.old.delimiter t }
+    ensures others { (slot : ℕ) → slot_of arena.old id ≢ Some slot → block_at arena.new slot ≡ block_at arena.old slot }
+    ensures added { result.added ≡ calls.new_replicas (replicas_of arena.old) (replicas_of arena.new) }
+    ensures removed { result.removed ≡ calls.new_replicas (replicas_of arena.new) (replicas_of arena.old) }
+    ensures steps { result.steps ≡ result.added + result.removed }
+    ensures counted { arena.new.steps ≡ count_ups result.steps arena.old.steps }
+{
+    match arena.find(id) {
+        Some(slot) => receive(arena, topology, storage, &Named { id, slot, stamp }),
+        None => unreachable!(),
+    }
+}
+
+/// A replica of the block `id` on a storage was deleted: it leaves, if it is there. Only that block changes. Takes no memory.
+pub fn apply_deleted(arena: &mut Arena, storage: StorageId, id: BlockId) -> Applied
     ensures replicas { replicas_of arena.new ≡ remove (replicas_of arena.old) (replica_at id storage) }
     ensures blocks { blocks_of arena.new ≡ blocks_of arena.old }
-    ensures numbers { arena.new.ids ≡ arena.old.ids }
+    ensures numbers { (b : ℕ) → slot_of arena.new b ≡ slot_of arena.old b }
+    ensures delimiter { arena.new.delimiter ≡ arena.old.delimiter }
+    ensures heads { (t : ℕ) → HasHead arena.old t → HasHead arena.new t }
+    ensures free { (t : ℕ) → marks_at arena.new arena.new.delimiter t ≡ marks_at arena.old arena.old.delimiter t }
+    ensures others { (slot : ℕ) → slot_of arena.old id ≢ Some slot → block_at arena.new slot ≡ block_at arena.old slot }
     ensures added { result.added ≡ calls.new_replicas (replicas_of arena.old) (replicas_of arena.new) }
     ensures removed { result.removed ≡ calls.new_replicas (replicas_of arena.new) (replicas_of arena.old) }
     ensures steps { result.steps ≡ result.added + result.removed }

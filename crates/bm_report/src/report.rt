@@ -1,63 +1,177 @@
-// A full report, by the delimiter.
-ghost use Rattle.std.specs.Prelude.{◌≡◌, ◌≢◌, ◌≤◌, ◌<◌, ◌+◌, ℕ, length, map, vec_len, vec_capacity, None};
+// A full report, and a notice of a received replica, from the look-up of its numbers to its end.
+ghost use Rattle.std.specs.Prelude.{◌≡◌, ◌≢◌, ◌<◌, ◌+◌, ◌∷◌, ◌&&◌, [], ℕ, if◌then◌else◌, length, None, Some, OnOk, IfErr};
+ghost use Rattle.bm_base.specs.declared.refusal.Refusal.TheVariants.{Memory};
+ghost use Rattle.bm_base.specs.State.{replica_at};
 ghost use Rattle.bm_base.specs.Events as events;
 ghost use Rattle.bm_base.specs.Calls as calls;
 ghost use Rattle.bm_base.specs.SlotLists.{Among};
-ghost use Rattle.bm_arena.specs.Contents.{block_at, marks_at, list_of, HasHead};
+ghost use Rattle.bm_arena.specs.Contents.{block_at, slot_of, marks_at, HasHead};
 ghost use Rattle.bm_report.specs.Holding.{replicas_of, blocks_of, holdings_of};
-ghost use Rattle.bm_report.specs.Midway.{AreHere, HaveRoom, IsOncePerNode, IsExcessGood, told_of, count_ups};
+ghost use Rattle.bm_report.specs.Midway.{IsOncePerNode, count_ups};
+ghost use Rattle.bm_report.specs.Expanded.{IsPrepared, told_to};
+ghost use Rattle.bm_report.specs.Aborted.{is_bare_number};
+ghost use Rattle.bm_report.specs.Ready.{told, IsReady, HasGoodExcess};
 
-use crate::chunks::enter_all;
-use crate::sweeping::{settle, sweep};
-use crate::types::{Applied, Named, Tally};
+use crate::aborting::abort_named;
+use crate::applying::apply;
+use crate::looking::look_up;
+use crate::notices::receive;
+use crate::types::{Applied, Named};
 use bm_arena::{Arena, Slot};
-use bm_base::StorageId;
+use bm_base::{BlockId, Entry, Part, Refusal, Stamp, StorageId};
 use bm_topo::Topology;
+use std::alloc::Global;
+use std::marker::Model;
 
-/// Makes the replicas on a storage those of a full report.
-pub fn apply(
-    arena: &mut Arena,
-    topology: &Topology,
-    storage: StorageId,
-    named: &[Named],
-    changed: &mut Vec<Slot>,
-) -> Applied
-    requires here { AreHere arena.old named.now }
-    requires room { HaveRoom arena.old storage named.now }
-    requires head { HasHead arena.old storage }
-    requires once { IsOncePerNode topology.now.cluster (replicas_of arena.old) }
-    requires good { IsExcessGood (replicas_of arena.old) }
-    requires free { marks_at arena.old arena.old.delimiter storage ≡ None }
-    requires space { vec_len changed.old + length named.now + length (list_of arena.old storage) ≤ vec_capacity changed.old }
-    ensures replicas { replicas_of arena.new ≡ (events.report topology.now.cluster (holdings_of arena.old) storage (map told_of named.now)).replicas }
-    ensures blocks { blocks_of arena.new ≡ blocks_of arena.old }
-    ensures numbers { arena.new.ids ≡ arena.old.ids }
-    ensures delimiter { arena.new.delimiter ≡ arena.old.delimiter }
-    ensures heads { (t : ℕ) → HasHead arena.old t → HasHead arena.new t }
-    ensures free { (t : ℕ) → marks_at arena.new arena.new.delimiter t ≡ marks_at arena.old arena.old.delimiter t }
-    ensures changed { (slot : ℕ) → slot ≢ arena.old.delimiter → (Among slot changed.new.items → ⊥) → block_at arena.new slot ≡ block_at arena.old slot }
-    ensures added { result.added ≡ calls.new_replicas (replicas_of arena.old) (replicas_of arena.new) }
-    ensures removed { result.removed ≡ calls.new_replicas (replicas_of arena.new) (replicas_of arena.old) }
-    ensures steps { result.steps ≡ length named.now + result.removed + 2 }
-    ensures counted { arena.new.steps ≡ count_ups result.steps arena.old.steps }
-{
-    let mut tally = Tally {
-        added: 0,
-        removed: 0,
-        steps: 1,
-        is_unsettled: false,
-    };
-    arena.lawful();
-    arena.put_delimiter(storage);
-    enter_all(arena, topology, storage, named, &mut tally, changed);
-    arena.lawful();
-    sweep(arena, storage, &mut tally, changed);
-    arena.lawful();
-    arena.take_delimiter(storage);
-    settle(arena, storage, named, tally.is_unsettled);
-    Applied {
-        added: tally.added,
-        removed: tally.removed,
-        steps: tally.steps + 1,
+/// What a shard keeps of a report between `ready` and its end: the slots of the numbers that it names, so that each number is
+/// hashed once, and a list of the slots that change, with its room. A contract sees both as lists. Only `ready` takes memory; a
+/// shard keeps one `Report` for all its reports, so that its room is taken once.
+#[derive(Drop)]
+pub struct Report {
+    named: Vec<Named>,
+    changed: Vec<Slot>,
+}
+
+impl Model for Report {
+    ghost use Rattle.bm_report.specs.Aborted.{is_bare_number};
+    ghost use Rattle.bm_report.specs.Ready.{Looked};
+
+    ghost Value = { Looked };
+
+    ghost use Rattle.std.specs.Prelude.{vec_capacity};
+
+    ghost view = { λ r. record {
+      named = r.named.items;
+      changed = r.changed.items;
+      room = vec_capacity r.changed;
+    } };
+}
+
+impl Report {
+    /// A report that names no number. Takes no memory.
+    pub fn new(alloc: Global) -> Report
+        ensures told { told result ≡ [] }
+        ensures changed { result.changed ≡ [] }
+    {
+        Report {
+            named: Vec::new(alloc),
+            changed: Vec::new(alloc),
+        }
+    }
+
+    /// Finds the slot of each number of the part that the entries name, in order, repeats included; gives an entry to a number
+    /// that has none; and makes all room that the end of the report needs. The numbers of other shards are stepped over, not
+    /// visited. Nothing that is held changes, and what was looked up before is forgotten. `Memory`: then `abort` drops the
+    /// entries that are new.
+    pub fn ready(
+        &mut self,
+        arena: &mut Arena,
+        storage: StorageId,
+        entries: &[Entry],
+        part: Part,
+    ) -> Result<(), Refusal>
+        requires part { part.index < part.shards }
+        ensures told { OnOk result (told self.new ≡ told_to part entries.now) }
+        ensures ready { OnOk result (IsReady self.new arena.new storage) }
+        ensures changed { OnOk result (self.new.changed ≡ []) }
+        ensures kept { IsPrepared arena.old arena.new }
+        ensures refused { IfErr result (λ e. e ≡ Memory) }
+    {
+        look_up(arena, storage, entries, part, &mut self.named)?;
+        arena.lawful();
+        self.changed.clear();
+        let Some(room) = self.named.len().checked_add(arena.slot_bound()) else {
+            return Err(Refusal::Memory);
+        };
+        self.changed.reserve(room)?;
+        Ok(())
+    }
+
+    /// Makes the replicas on a storage those of the report that was made ready, and lists the slots whose replicas or marks
+    /// changed. Takes no memory.
+    ///
+    /// The list steps: one for each number that is named, one for each replica that leaves, and two for the delimiter.
+    pub fn apply_full(
+        &mut self,
+        arena: &mut Arena,
+        topology: &Topology,
+        storage: StorageId,
+    ) -> Applied
+        requires ready { IsReady self.old arena.old storage }
+        requires once { IsOncePerNode topology.now.cluster (replicas_of arena.old) }
+        requires good { HasGoodExcess (replicas_of arena.old) }
+        requires free { marks_at arena.old arena.old.delimiter storage ≡ None }
+        ensures replicas { replicas_of arena.new ≡ (events.report topology.now.cluster (holdings_of arena.old) storage (told self.old)).replicas }
+        ensures blocks { blocks_of arena.new ≡ blocks_of arena.old }
+        ensures numbers { (b : ℕ) → slot_of arena.new b ≡ slot_of arena.old b }
+        ensures delimiter { arena.new.delimiter ≡ arena.old.delimiter }
+        ensures heads { (t : ℕ) → HasHead arena.old t → HasHead arena.new t }
+        ensures free { (t : ℕ) → marks_at arena.new arena.new.delimiter t ≡ marks_at arena.old arena.old.delimiter t }
+        ensures changed { (slot : ℕ) → slot ≢ arena.old.delimiter → (Among slot self.new.changed → ⊥) → block_at arena.new slot ≡ block_at arena.old slot }
+        ensures told { told self.new ≡ told self.old }
+        ensures added { result.added ≡ calls.new_replicas (replicas_of arena.old) (replicas_of arena.new) }
+        ensures removed { result.removed ≡ calls.new_replicas (replicas_of arena.new) (replicas_of arena.old) }
+        ensures steps { result.steps ≡ length (told self.old) + result.removed + 2 }
+        ensures counted { arena.new.steps ≡ count_ups result.steps arena.old.steps }
+    {
+        apply(
+            arena,
+            topology,
+            storage,
+            self.named.as_slice(),
+            &mut self.changed,
+        )
+    }
+
+    /// A replica of the block `id` was received on a storage, for which the report was made ready by its one entry: it is there,
+    /// and leaves the other storages of the node. Only that block changes. Takes no memory.
+    pub fn apply_received(
+        &self,
+        arena: &mut Arena,
+        topology: &Topology,
+        storage: StorageId,
+        id: BlockId,
+        stamp: Stamp,
+    ) -> Applied
+        requires told { told self.now ≡ record { id = id; stamp = stamp } ∷ [] }
+        requires ready { IsReady self.now arena.old storage }
+        requires once { IsOncePerNode topology.now.cluster (replicas_of arena.old) }
+        ensures replicas { replicas_of arena.new ≡ (events.enter topology.now.cluster (holdings_of arena.old) (replica_at id storage) stamp).replicas }
+        ensures blocks { blocks_of arena.new ≡ blocks_of arena.old }
+        ensures numbers { (b : ℕ) → slot_of arena.new b ≡ slot_of arena.old b }
+        ensures delimiter { arena.new.delimiter ≡ arena.old.delimiter }
+        ensures heads { (t : ℕ) → HasHead arena.old t → HasHead arena.new t }
+        ensures free { (t : ℕ) → marks_at arena.new arena.new.delimiter t ≡ marks_at arena.old arena.old.delimiter t }
+        ensures others { (slot : ℕ) → slot_of arena.old id ≢ Some slot → block_at arena.new slot ≡ block_at arena.old slot }
+        ensures added { result.added ≡ calls.new_replicas (replicas_of arena.old) (replicas_of arena.new) }
+        ensures removed { result.removed ≡ calls.new_replicas (replicas_of arena.new) (replicas_of arena.old) }
+        ensures steps { result.steps ≡ result.added + result.removed }
+        ensures counted { arena.new.steps ≡ count_ups result.steps arena.old.steps }
+    {
+        receive(arena, topology, storage, &self.named[0])
+    }
+
+    /// Gives up what was looked up: drops the entries of the numbers that it names which have neither a block nor a replica, and
+    /// forgets them. Nothing that is held changes. Takes no memory.
+    pub fn abort(&mut self, arena: &mut Arena)
+        ensures told { told self.new ≡ [] }
+        ensures replicas { replicas_of arena.new ≡ replicas_of arena.old }
+        ensures blocks { blocks_of arena.new ≡ blocks_of arena.old }
+        ensures lists { arena.new.lists ≡ arena.old.lists }
+        ensures delimiter { arena.new.delimiter ≡ arena.old.delimiter }
+        ensures steps { arena.new.steps ≡ arena.old.steps }
+        ensures numbers { (b : ℕ) → slot_of arena.new b ≡ (if events.is_named (told self.old) b && is_bare_number arena.old b then None else slot_of arena.old b) }
+        ensures entries { (b slot : ℕ) → slot_of arena.new b ≡ Some slot → block_at arena.new slot ≡ block_at arena.old slot }
+    {
+        abort_named(arena, self.named.as_slice());
+        self.named.clear();
+        self.changed.clear();
+    }
+
+    /// The slots whose replicas or marks changed by `apply_full`, in any order; one may stand twice.
+    pub fn changed(&self) -> &[Slot]
+        ensures { result.now ≡ self.now.changed }
+    {
+        self.changed.as_slice()
     }
 }

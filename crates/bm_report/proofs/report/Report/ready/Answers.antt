@@ -1,0 +1,15 @@
+use Rattle.std.proofs.Common.{◌≡◌, ◌≤◌, ◌+◌, [], length, refl, sym, ap, ◌∙◌, arith, vec_len, vec_capacity}
+use Rattle.bm_arena.specs.Contents.{list_of}
+use Rattle.bm_report.proofs.Places.{list_within}
+use Rattle.bm_report.proofs.report.Report.ready.Goals as goal
+
+pub returns-clause-ready : goal.returns-clause-ready
+returns-clause-ready c = record {
+  here = c.in_ok-look_up.ensures.here;
+  room = c.in_ok-look_up.ensures.room;
+  head = c.in_ok-look_up.ensures.head;
+  space =
+      let none : length c.reserve.new.self.items ≡ 0 = ap length (c.reserve.ensures.items ∙ c.clear.ensures.items) in
+      let within = list_within c.look_up.new.arena c.args.storage c.lawful.ensures in
+      omega (arith, none, within, c.look_up.new.named.ok.0, c.len.ensures, c.slot_bound.ensures.bound, c.in-Some.ensures.1, c.in_ok-reserve.ensures.ok, c.reserve.new.self.ok.0);
+}

@@ -1,0 +1,63 @@
+// A full report is applied by the delimiter.
+ghost use Rattle.std.specs.Prelude.{◌≡◌, ◌≢◌, ◌≤◌, ◌<◌, ◌+◌, ℕ, length, map, vec_len, vec_capacity, None};
+ghost use Rattle.bm_base.specs.Events as events;
+ghost use Rattle.bm_base.specs.Calls as calls;
+ghost use Rattle.bm_base.specs.SlotLists.{Among};
+ghost use Rattle.bm_arena.specs.Contents.{block_at, marks_at, list_of, HasHead};
+ghost use Rattle.bm_report.specs.Holding.{replicas_of, blocks_of, holdings_of};
+ghost use Rattle.bm_report.specs.Midway.{AreHere, HaveRoom, IsOncePerNode, IsExcessGood, told_of, count_ups};
+
+use crate::chunks::enter_all;
+use crate::sweeping::{settle, sweep};
+use crate::types::{Applied, Named, Tally};
+use bm_arena::{Arena, Slot};
+use bm_base::StorageId;
+use bm_topo::Topology;
+
+/// Makes the replicas on a storage those of a full report.
+pub(crate) fn apply(
+    arena: &mut Arena,
+    topology: &Topology,
+    storage: StorageId,
+    named: &[Named],
+    changed: &mut Vec<Slot>,
+) -> Applied
+    requires here { AreHere arena.old named.now }
+    requires room { HaveRoom arena.old storage named.now }
+    requires head { HasHead arena.old storage }
+    requires once { IsOncePerNode topology.now.cluster (replicas_of arena.old) }
+    requires good { IsExcessGood (replicas_of arena.old) }
+    requires free { marks_at arena.old arena.old.delimiter storage ≡ None }
+    requires space { vec_len changed.old + length named.now + length (list_of arena.old storage) ≤ vec_capacity changed.old }
+    ensures replicas { replicas_of arena.new ≡ (events.report topology.now.cluster (holdings_of arena.old) storage (map told_of named.now)).replicas }
+    ensures blocks { blocks_of arena.new ≡ blocks_of arena.old }
+    ensures numbers { arena.new.ids ≡ arena.old.ids }
+    ensures delimiter { arena.new.delimiter ≡ arena.old.delimiter }
+    ensures heads { (t : ℕ) → HasHead arena.old t → HasHead arena.new t }
+    ensures free { (t : ℕ) → marks_at arena.new arena.new.delimiter t ≡ marks_at arena.old arena.old.delimiter t }
+    ensures changed { (slot : ℕ) → slot ≢ arena.old.delimiter → (Among slot changed.new.items → ⊥) → block_at arena.new slot ≡ block_at arena.old slot }
+    ensures added { result.added ≡ calls.new_replicas (replicas_of arena.old) (replicas_of arena.new) }
+    ensures removed { result.removed ≡ calls.new_replicas (replicas_of arena.new) (replicas_of arena.old) }
+    ensures steps { result.steps ≡ length named.now + result.removed + 2 }
+    ensures counted { arena.new.steps ≡ count_ups result.steps arena.old.steps }
+{
+    let mut tally = Tally {
+        added: 0,
+        removed: 0,
+        steps: 1,
+        is_unsettled: false,
+    };
+    arena.lawful();
+    arena.put_delimiter(storage);
+    enter_all(arena, topology, storage, named, &mut tally, changed);
+    arena.lawful();
+    sweep(arena, storage, &mut tally, changed);
+    arena.lawful();
+    arena.take_delimiter(storage);
+    settle(arena, storage, named, tally.is_unsettled);
+    Applied {
+        added: tally.added,
+        removed: tally.removed,
+        steps: tally.steps + 1,
+    }
+}
