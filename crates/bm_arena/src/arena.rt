@@ -93,6 +93,11 @@ impl Arena {
         })
     }
 
+    /// The allocator that it was made with.
+    pub fn allocator(&self) -> Global {
+        self.alloc
+    }
+
     /// Does nothing when it runs: an arena is lawful at all times, and this says so to the function that calls it.
     pub fn lawful(&self)
         ensures { IsLawful self.now }

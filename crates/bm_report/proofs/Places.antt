@@ -1,11 +1,16 @@
 -- Where the numbers of a report stand, and how long a storage's list can be.
-use Rattle.std.proofs.Common.{◌≡◌, ℕ, ◌<◌, ◌≤◌, List, [], ◌∷◌, length, Option, Some, None, IsSome, refl, sym, ap, ◌∙◌}
+use Rattle.std.proofs.Common.{◌≡◌, ℕ, ◌<◌, ◌≤◌, Bool, true, false, ◌||◌, List, [], ◌∷◌, length, map, Option, Some, None, IsSome, refl, subst, sym, ap, ◌∙◌, eqb-true}
+use Rattle.std.specs.Prelude.{◌==◌, IsTrue, IsSomeAnd}
 use Rattle.std.specs.Option.{option_and_then}
 use Rattle.std.proofs.lemmas.Bool.{false≢true}
 use Rattle.bm_base.specs.declared.replica.Marks.{Marks}
 use Rattle.bm_base.proofs.SlotLists.{length-distinct_below}
 use Rattle.bm_arena.specs.Triplets.{Block}
-use Rattle.bm_arena.specs.Contents.{Contents, block_at, marks_at, find_marks, list_of, IsLawful}
+use Rattle.bm_arena.specs.Contents.{Contents, block_at, marks_at, slot_of, find_marks, list_of, HasRoom, IsLawful}
+use Rattle.bm_base.specs.Events.{is_named}
+use Rattle.bm_report.specs.declared.types.Named.{Named}
+use Rattle.bm_report.specs.Midway.{AreHere, HaveRoom, told_of}
+use Rattle.bm_report.specs.Ready.{HasPlace}
 
 held_below : (a : Contents) (s x : ℕ) → IsLawful a → IsSome (marks_at a x s) → x < a.bound
 held_below a s x lawful some = by (block_at a x) refl some
@@ -17,3 +22,15 @@ held_below a s x lawful some = by (block_at a x) refl some
 -- a storage's list has no more slots than were ever held
 pub list_within : (a : Contents) (s : ℕ) → IsLawful a → length (list_of a s) ≤ a.bound
 list_within a s lawful = length-distinct_below a.bound (list_of a s) (lawful.distinct s) (λ x among. held_below a s x lawful ((lawful.exact x s).0 among))
+
+-- what was looked up has its places
+pub places_of : (a : Contents) (s : ℕ) (ns : List Named) → AreHere a ns → HaveRoom a s ns → (b : ℕ) → IsTrue (is_named (map told_of ns) b) → HasPlace a s b
+unfolding is_named
+places_of a s [] here room b told = absurd (false≢true told)
+places_of a s (n ∷ ns) here room b told = by (n.id == b) refl told (places_of a s ns here.1 room.1 b)
+  where
+    by : (t : Bool) → (n.id == b) ≡ t → IsTrue (t || is_named (map told_of ns) b) → (IsTrue (is_named (map told_of ns) b) → HasPlace a s b) → HasPlace a s b
+    by true same told later =
+        let P : Option ℕ → Type 0 = λ o. IsSomeAnd o (λ slot. marks_at a slot s ≡ None → HasRoom a slot) in
+        subst P (sym here.0 ∙ ap (slot_of a) (eqb-true n.id b same)) room.0
+    by false differs told later = later told

@@ -4,6 +4,7 @@
 mod aborting;
 mod applying;
 mod chunks;
+mod direct;
 mod entering;
 mod looking;
 mod marking;
@@ -14,6 +15,7 @@ mod tally;
 mod types;
 
 pub use aborting::abort;
+pub use direct::ready;
 pub use notices::{apply_deleted, apply_received};
 pub use report::Report;
 pub use types::Applied;
