@@ -121,3 +121,10 @@ told_on p es i e xs ys all at so_far is =
 pub told_end : (p : Part) (es : List Entry) (i : ℕ) (xs all : List Told) → length es ≤ i → xs ++ of_part p (expanded (drop i es)) ≡ all → xs ≡ all
 unfolding expanded
 told_end p es i xs all past so_far = sym (nothing xs) ∙ sym (ap (λ l. xs ++ of_part p (expanded l)) (drop_all es i past)) ∙ so_far
+
+-- one number is told by its one entry, to its own part
+pub told_one : (p : Part) (b : ℕ) (t : Stamp) → shard_of b p.shards ≡ p.index → told_to p (record { from = b; to = b; stamp = t } ∷ []) ≡ record { id = b; stamp = t } ∷ []
+unfolding expanded told_by
+told_one p b t own =
+    let one : b + 1 - b ≡ 1 = omega arith in
+    ap (λ n. of_part p (told_of_all t (count_up b n) ++ [])) one ∙ ap (λ c. cond c (record { id = b; stamp = t } ∷ []) []) (eq-eqb _ _ own)

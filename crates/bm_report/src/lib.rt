@@ -12,6 +12,8 @@ mod notices;
 mod report;
 mod sweeping;
 mod tally;
+#[cfg(test)]
+mod tests;
 mod types;
 
 pub use aborting::abort;

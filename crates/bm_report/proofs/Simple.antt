@@ -1,0 +1,112 @@
+-- Where each block has one replica at most, a node has no two of a block.
+use Rattle.std.proofs.Common.{◌≡◌, ℕ, ◌≤◌, ◌<◌, ◌+◌, Bool, true, false, cond, List, [], ◌∷◌, length, Option, Some, None, is_some, IsSome, refl, subst, sym, ap, ◌∙◌, arith, eqb-true}
+use Rattle.std.specs.Prelude.{◌==◌, ◌&&◌, not, slice_get, IsTrue}
+use Rattle.std.specs.Option.{option_and_then, option_map_or}
+use Rattle.std.proofs.lemmas.Option.{none-some}
+use Rattle.std.proofs.lemmas.Bool.{false≢true}
+use Rattle.bm_base.specs.declared.replica.ReplicaId.{ReplicaId}
+use Rattle.bm_base.specs.declared.replica.Marks.{Marks}
+use Rattle.bm_base.specs.Map.{get}
+use Rattle.bm_base.specs.State.{Cluster}
+use Rattle.bm_base.specs.Replicas.{are_sisters, is_good}
+use Rattle.bm_arena.specs.Triplets.{Block}
+use Rattle.bm_arena.specs.Contents.{Contents, block_at, slot_of, marks_at, find_marks, IsLawful}
+use Rattle.bm_report.specs.Holding.{replicas_of}
+use Rattle.bm_report.specs.Midway.{IsOncePerNode, is_settled}
+use Rattle.bm_report.specs.Ready.{HasGoodExcess}
+use Rattle.bm_report.specs.Tested.{IsSingle}
+use Rattle.bm_report.proofs.Held.{get-replicas_of}
+use Rattle.bm_report.proofs.Sisters.{no_sister_itself}
+
+only_one : (rs : List (ℕ × Marks)) (s : ℕ) (r : ℕ × Marks) → length (r ∷ rs) ≤ 1 → IsSome (find_marks (r ∷ rs) s) → r.0 ≡ s
+only_one [] s r few some = by (r.0 == s) refl some
+  where
+    by : (t : Bool) → (r.0 == s) ≡ t → IsSome (cond {A = Option Marks} t (Some r.1) None) → r.0 ≡ s
+    by true same some = eqb-true r.0 s same
+    by false differs some = absurd (false≢true some)
+only_one (x ∷ rs) s r few some = absurd (omega (arith, few))
+
+same_storage : (rs : List (ℕ × Marks)) (s t : ℕ) → length rs ≤ 1 → IsSome (find_marks rs s) → IsSome (find_marks rs t) → s ≡ t
+same_storage [] s t few some other = absurd (false≢true some)
+same_storage (r ∷ rs) s t few some other = sym (only_one rs s r few some) ∙ only_one rs t r few other
+
+module _ (a : Contents) (single : (slot : ℕ) → IsSingle a slot) where
+  in_block : (x s t : ℕ) (o : Option Block) → block_at a x ≡ o → IsSome (option_and_then (λ (b : Block). find_marks b.replicas s) o) → IsSome (option_and_then (λ (b : Block). find_marks b.replicas t) o) → s ≡ t
+  in_block x s t None e some other = absurd (false≢true some)
+  in_block x s t (Some b) e some other = same_storage b.replicas s t ((single x).few b e) some other
+
+  in_slot : (s t : ℕ) (o : Option ℕ) → IsSome (option_and_then (λ slot. marks_at a slot s) o) → IsSome (option_and_then (λ slot. marks_at a slot t) o) → s ≡ t
+  in_slot s t None some other = absurd (false≢true some)
+  in_slot s t (Some x) some other = in_block x s t (block_at a x) refl some other
+
+  pub simple_once : (C : Cluster) → IsOncePerNode C (replicas_of a)
+  simple_once C p q some other same =
+      let P : Option Marks → Type 0 = λ o. IsSome o in
+      let first = subst P (get-replicas_of a p) some in
+      let second = subst P (get-replicas_of a q ∙ ap (λ b. option_and_then (λ slot. marks_at a slot q.storage) (slot_of a b)) (sym same)) other in
+      ap (are_sisters C p.storage) (sym (in_slot p.storage q.storage (slot_of a p.block) first second)) ∙ no_sister_itself C p.storage
+
+  good_in : (s : ℕ) (m : Marks) (o : Option ℕ) → option_and_then (λ slot. marks_at a slot s) o ≡ Some m → IsTrue m.excess → IsTrue (is_good m.tag)
+  good_in s m None e excess = cc
+  good_in s m (Some x) e excess = (single x).good s m e excess
+
+  pub simple_good : HasGoodExcess (replicas_of a)
+  simple_good p m e excess = good_in p.storage m (slot_of a p.block) (sym (get-replicas_of a p) ∙ e) excess
+
+-- a slot with at most one replica, whose marks were tried
+module _ (a : Contents) (slot : ℕ) (few : option_map_or (λ (b : Block). length b.replicas) (block_at a slot) 0 ≤ 1) where
+  few_in : (b : Block) → block_at a slot ≡ Some b → length b.replicas ≤ 1
+  few_in b e = let is = ap (λ o. option_map_or (λ (x : Block). length x.replicas) o 0) e in omega (arith, few, is)
+
+  excess_good : (m : Marks) → is_settled m ≡ true → IsTrue m.excess → IsTrue (is_good m.tag)
+  excess_good m settled excess = by m.excess (is_good m.tag) settled excess
+    where
+      by : (e g : Bool) → not (e && not g) ≡ true → IsTrue e → IsTrue g
+      by true true s e = refl
+      by true false s e = absurd (false≢true s)
+      by false true s e = refl
+      by false false s e = absurd (false≢true e)
+
+  first_found : (rs : List (ℕ × Marks)) (s : ℕ) (m : Marks) → length rs ≤ 1 → find_marks rs s ≡ Some m → (r : ℕ × Marks) × (slice_get rs 0 ≡ Some r) × (r.1 ≡ m)
+  first_found [] s m few e = cc
+  first_found (r ∷ []) s m few e = (r, refl, by (r.0 == s) e)
+    where
+      by : (t : Bool) → cond {A = Option Marks} t (Some r.1) None ≡ Some m → r.1 ≡ m
+      by true e = cc
+      by false e = cc
+  first_found (r ∷ x ∷ rs) s m few e = absurd (omega (arith, few))
+
+  found_in : (o : Option Block) → ((b : Block) → o ≡ Some b → length b.replicas ≤ 1) → (s : ℕ) (m : Marks) → option_and_then (λ (b : Block). find_marks b.replicas s) o ≡ Some m
+      → (r : ℕ × Marks) × (option_and_then (λ (b : Block). slice_get b.replicas 0) o ≡ Some r) × (r.1 ≡ m)
+  found_in None few s m e = cc
+  found_in (Some b) few s m e = first_found b.replicas s m (few b refl) e
+
+  pub single-some : (r : ℕ × Marks) → option_and_then (λ (b : Block). slice_get b.replicas 0) (block_at a slot) ≡ Some r → is_settled r.1 ≡ true → IsSingle a slot
+  single-some r first settled = record {
+    few = few_in;
+    good = λ s m e.
+        let f = found_in (block_at a slot) few_in s m e in
+        let same : r.1 ≡ m = one r f.0 (sym first ∙ f.1) ∙ f.2 in
+        excess_good m (ap is_settled (sym same) ∙ settled);
+  }
+    where
+      one : (x y : ℕ × Marks) → Some x ≡ Some y → x.1 ≡ y.1
+      one x y e = cc
+
+  pub single-none : option_and_then (λ (b : Block). slice_get b.replicas 0) (block_at a slot) ≡ None → IsSingle a slot
+  single-none none = record {
+    few = few_in;
+    good = λ s m e. let f = found_in (block_at a slot) few_in s m e in absurd (none-some f.0 (sym none ∙ f.1));
+  }
+
+-- a slot that is not held
+pub single-vacant : (a : Contents) (slot : ℕ) → block_at a slot ≡ None → IsSingle a slot
+single-vacant a slot vacant =
+    single-none a slot (let is = ap (λ o. option_map_or (λ (x : Block). length x.replicas) o 0) vacant in omega (arith, is)) (ap (option_and_then (λ (b : Block). slice_get b.replicas 0)) vacant)
+
+pub single-beyond : (a : Contents) (slot : ℕ) → IsLawful a → a.bound ≤ slot → IsSingle a slot
+single-beyond a slot lawful past = by (block_at a slot) refl
+  where
+    by : (o : Option Block) → block_at a slot ≡ o → IsSingle a slot
+    by None e = single-vacant a slot e
+    by (Some b) e = absurd (let h = lawful.bounded slot b e in omega (arith, h, past))
