@@ -56,9 +56,9 @@ small-next C s k xs a b t u f h = record {
 
 -- from here on
 
-pub underway-first : (C : Cluster) (s : ℕ) (all : List Named) (a : Contents) (t : Tally) (xs : List ℕ) → AreHere a all → HaveRoom a s all → IsOncePerNode C (replicas_of a) → HasHead a s → IsSmall t (length all)
-    → IsUnderway C s all all a a t t xs xs
-underway-first C s all a t xs here room once head small = record {
+pub underway-first : (C : Cluster) (s : ℕ) (all : List Named) (a : Contents) (t : Tally) → AreHere a all → HaveRoom a s all → IsOncePerNode C (replicas_of a) → HasHead a s → IsSmall t (length all)
+    → IsUnderway C s all all a a t t
+underway-first C s all a t here room once head small = record {
   here = here;
   room = room;
   once = once;
@@ -66,7 +66,6 @@ underway-first C s all a t xs here room once head small = record {
   small = small;
   entered = λ last f. f;
   counted = λ last v f. f;
-  listed = listed-none a xs;
 }
 
 here-rest : (a : Contents) (xs ys : List Named) → AreHere a (xs ++ ys) → AreHere a ys
@@ -85,16 +84,16 @@ pub room-part : (a : Contents) (s : ℕ) (xs ys : List Named) → HaveRoom a s (
 room-part a s [] ys h = tt
 room-part a s (x ∷ xs) ys h = (h.0, room-part a s xs ys h.1)
 
-pub underway-split : (C : Cluster) (s k : ℕ) (all rest xs ys : List Named) (first now : Contents) (t u : Tally) (ls ms : List ℕ) → xs ≡ take k rest → ys ≡ drop k rest
-    → IsUnderway C s all rest first now t u ls ms → IsUnderway C s all (xs ++ ys) first now t u ls ms
-underway-split C s k all rest xs ys first now t u ls ms front back f =
-    let P : List Named → Type 0 = λ r. IsUnderway C s all r first now t u ls ms in
+pub underway-split : (C : Cluster) (s k : ℕ) (all rest xs ys : List Named) (first now : Contents) (t u : Tally) → xs ≡ take k rest → ys ≡ drop k rest
+    → IsUnderway C s all rest first now t u → IsUnderway C s all (xs ++ ys) first now t u
+underway-split C s k all rest xs ys first now t u front back f =
+    let P : List Named → Type 0 = λ r. IsUnderway C s all r first now t u in
     let whole : xs ++ ys ≡ rest = (λ i. front i ++ back i) ∙ take-append-drop k rest in
     subst P (sym whole) f
 
-pub underway-next : (C : Cluster) (s : ℕ) (all xs rest : List Named) (first now next : Contents) (t u v : Tally) (ls ms ns : List ℕ)
-    → IsUnderway C s all (xs ++ rest) first now t u ls ms → IsEntered C s xs now next → IsCounted C s xs now next u v → IsListed now next ms ns → IsUnderway C s all rest first next t v ls ns
-underway-next C s all xs rest first now next t u v ls ms ns f e k l =
+pub underway-next : (C : Cluster) (s : ℕ) (all xs rest : List Named) (first now next : Contents) (t u v : Tally)
+    → IsUnderway C s all (xs ++ rest) first now t u → IsEntered C s xs now next → IsCounted C s xs now next u v → IsUnderway C s all rest first next t v
+underway-next C s all xs rest first now next t u v f e k =
     let P : ℕ → Type 0 = λ n. IsSmall u n in
     let Q : _ → Type 0 = λ K. IsOncePerNode C K in
     record {
@@ -105,13 +104,12 @@ underway-next C s all xs rest first now next t u v ls ms ns f e k l =
       small = small-next C s (length rest) xs now next u v k (subst P (length-append xs rest) f.small);
       entered = λ last g. f.entered last (entered-append C s xs rest now next last e g);
       counted = λ last w g. f.counted last w (counted-append C s xs rest now next last e u v w k g);
-      listed = listed-chain first now next ls ms ns f.listed l;
     }
 
-pub underway-last : (C : Cluster) (s : ℕ) (all rest : List Named) (first now : Contents) (t u : Tally) (ls ms : List ℕ) → rest ≡ [] → IsUnderway C s all rest first now t u ls ms
+pub underway-last : (C : Cluster) (s : ℕ) (all rest : List Named) (first now : Contents) (t u : Tally) → rest ≡ [] → IsUnderway C s all rest first now t u
     → IsEntered C s all first now × IsCounted C s all first now t u
-underway-last C s all [] first now t u ls ms none f = (f.entered now (entered-none C s now), f.counted now u (counted-none C s now u))
-underway-last C s all (n ∷ rest) first now t u ls ms none f = cc
+underway-last C s all [] first now t u none f = (f.entered now (entered-none C s now), f.counted now u (counted-none C s now u))
+underway-last C s all (n ∷ rest) first now t u none f = cc
 
 -- the next of a list
 pub drop_next : {X : Type 0} (xs : List X) (i : ℕ) (x : X) → slice_get xs i ≡ Some x → drop i xs ≡ x ∷ drop (suc i) xs

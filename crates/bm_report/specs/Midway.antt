@@ -171,7 +171,7 @@ pub record IsListed (old new : Contents) (before after : List ℕ) : Type 0 wher
   pub more : (slot : ℕ) → Among slot before → Among slot after
 
 -- Some of the named blocks are entered, and the rest is to be: what stands now, and what comes of it in the end.
-pub record IsUnderway (C : Cluster) (s : ℕ) (all rest : List Named) (first now : Contents) (t u : Tally) (listed_first listed_now : List ℕ) : Type 0 where
+pub record IsUnderway (C : Cluster) (s : ℕ) (all rest : List Named) (first now : Contents) (t u : Tally) : Type 0 where
   pub here : AreHere now rest
   pub room : HaveRoom now s rest
   pub once : IsOncePerNode C (replicas_of now)
@@ -179,7 +179,6 @@ pub record IsUnderway (C : Cluster) (s : ℕ) (all rest : List Named) (first now
   pub small : IsSmall u (length rest)
   pub entered : (last : Contents) → IsEntered C s rest now last → IsEntered C s all first last
   pub counted : (last : Contents) (v : Tally) → IsCounted C s rest now last u v → IsCounted C s all first last t v
-  pub listed : IsListed first now listed_first listed_now
 
 -- the slots xs, which stand behind the delimiter first, were taken out of the list of s
 pub record IsSwept (s : ℕ) (xs : List ℕ) (old new : Contents) (t u : Tally) : Type 0 where
