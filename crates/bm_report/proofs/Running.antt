@@ -128,3 +128,13 @@ unfolding expanded told_by
 told_one p b t own =
     let one : b + 1 - b ≡ 1 = omega arith in
     ap (λ n. of_part p (told_of_all t (count_up b n) ++ [])) one ∙ ap (λ c. cond c (record { id = b; stamp = t } ∷ []) []) (eq-eqb _ _ own)
+
+-- what is left of entries, one after another
+pub told_rest : (p : Part) (es : List Entry) (i : ℕ) (e : Entry) → slice_get es i ≡ Some e → of_part p (expanded (drop i es)) ≡ of_part p (told_by e) ++ of_part p (expanded (drop (i + 1) es))
+unfolding expanded
+told_rest p es i e at =
+    ap (λ l. of_part p (expanded l)) (drop_next es i e at ∙ ap (λ n. e ∷ drop n es) (sym (add-one i))) ∙ filter-append _ (told_by e) (expanded (drop (i + 1) es))
+
+pub told_out : (p : Part) (es : List Entry) (i : ℕ) → length es ≤ i → of_part p (expanded (drop i es)) ≡ []
+unfolding expanded
+told_out p es i past = ap (λ l. of_part p (expanded l)) (drop_all es i past)

@@ -68,7 +68,7 @@ underway-first C s all a t here room once head small = record {
   counted = λ last v f. f;
 }
 
-here-rest : (a : Contents) (xs ys : List Named) → AreHere a (xs ++ ys) → AreHere a ys
+pub here-rest : (a : Contents) (xs ys : List Named) → AreHere a (xs ++ ys) → AreHere a ys
 here-rest a [] ys h = h
 here-rest a (x ∷ xs) ys h = here-rest a xs ys h.1
 

@@ -1,15 +1,18 @@
 -- What a report keeps from its look-up to its end, and what has to stand before it is applied.
 use Rattle.std.specs.Prelude.{◌≡◌, ℕ, ◌+◌, ◌≤◌, List, map, length, IsTrue, IsSome, IsSomeAnd, Option, Some, None}
+use Rattle.std.specs.Option.{unwrap_or}
 use Rattle.bm_base.specs.declared.replica.ReplicaId.{ReplicaId}
 use Rattle.bm_base.specs.declared.replica.Marks.{Marks}
 use Rattle.bm_base.specs.Map.{Map, get}
-use Rattle.bm_base.specs.State.{by_replica}
+use Rattle.bm_base.specs.State.{Cluster, by_replica}
 use Rattle.bm_base.specs.Replicas.{is_good}
 use Rattle.bm_base.specs.Entries.{Told}
 use Rattle.bm_base.specs.Events.{is_named}
 use Rattle.bm_arena.specs.Contents.{Contents, slot_of, marks_at, list_of, HasHead, HasRoom}
 use Rattle.bm_report.specs.declared.types.Named.{Named}
-use Rattle.bm_report.specs.Midway.{AreHere, HaveRoom, told_of}
+use Rattle.bm_report.specs.Midway.{AreHere, HaveRoom, IsOncePerNode, IsSmall, told_of}
+use Rattle.bm_report.specs.declared.types.Tally.{Tally}
+use Rattle.bm_report.specs.Holding.{replicas_of}
 
 -- what a report keeps
 pub record Looked : Type 0 where
@@ -44,3 +47,18 @@ pub record HasPlaces (a : Contents) (s : ℕ) (ts : List Told) : Type 0 where
 -- only good replicas are in excess
 abbrev pub HasGoodExcess : Map by_replica Marks → Type 0
 HasGoodExcess K = (p : ReplicaId) (m : Marks) → get K p ≡ Some m → IsTrue m.excess → IsTrue (is_good m.tag)
+
+-- a number that is told, with the slot that it has in this arena
+abbrev pub named_in : Contents → Told → Named
+named_in a t = record { id = t.id; slot = unwrap_or (slot_of a t.id) 0; stamp = t.stamp }
+
+abbrev pub named_of : Contents → List Told → List Named
+named_of a ts = map (named_in a) ts
+
+-- numbers can be entered one after another: each has its place, and the counts have room for them
+pub record CanBeEntered (C : Cluster) (s : ℕ) (ts : List Told) (a : Contents) (t : Tally) : Type 0 where
+  pub here : AreHere a (named_of a ts)
+  pub room : HaveRoom a s (named_of a ts)
+  pub head : HasHead a s
+  pub once : IsOncePerNode C (replicas_of a)
+  pub small : IsSmall t (length ts)

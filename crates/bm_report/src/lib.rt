@@ -3,6 +3,7 @@
 
 mod aborting;
 mod applying;
+mod by_number;
 mod chunks;
 mod direct;
 mod entering;

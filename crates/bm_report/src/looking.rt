@@ -61,7 +61,7 @@ fn look_up_one(
 }
 
 /// The first number of the part from a number on.
-fn first_of_part(from: BlockId, part: Part) -> u128
+pub(crate) fn first_of_part(from: BlockId, part: Part) -> u128
     requires shards { 0 < part.shards }
     requires index { part.index < part.shards }
     ensures of_part { shard_of result part.shards ≡ part.index }

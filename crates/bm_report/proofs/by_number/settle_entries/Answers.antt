@@ -1,0 +1,27 @@
+use Rattle.std.proofs.Common.{ℕ, ◌≡◌, ◌≤◌, ◌<◌, ◌+◌, List, [], ◌∷◌, ◌++◌, length, drop, refl, subst, sym, ap, ◌∙◌, arith}
+use Rattle.std.proofs.lemmas.Option.{slice_get_read}
+use Rattle.bm_base.specs.Entries.{Told, told_by, expanded}
+use Rattle.bm_report.specs.Expanded.{of_part, told_to}
+use Rattle.bm_report.specs.Ready.{named_of}
+use Rattle.bm_report.specs.Midway.{IsSettling}
+use Rattle.bm_report.proofs.Running.{told_rest, told_out}
+use Rattle.bm_report.proofs.ByNumber.{IsUnsettled, unsettled-first, unsettled-here, unsettled-next, unsettled-last}
+use Rattle.bm_report.proofs.by_number.settle_entries.Goals as goal
+
+pub loop-entry-init : goal.loop-entry-init
+loop-entry-init c = unsettled-first c.args.storage (told_to c.args.part c.args.entries.now) c.args.arena.now c.requires.here
+
+pub settle_run-requires-clause-here : goal.settle_run-requires-clause-here
+settle_run-requires-clause-here c =
+    let P : List Told → Type 0 = λ l. IsUnsettled c.args.storage (told_to c.args.part c.args.entries.now) c.args.arena.now l c.loop-entry.arena in
+    unsettled-here c.args.storage (told_to c.args.part c.args.entries.now) c.args.arena.now (of_part c.args.part (told_by c.entry-item.result)) (of_part c.args.part (expanded (drop (c.loop-entry.entry-index + 1) c.args.entries.now))) c.loop-entry.arena (subst P (told_rest c.args.part c.args.entries.now c.loop-entry.entry-index c.entry-item.result (slice_get_read c.args.entries.now (length c.args.entries.now) c.loop-entry.entry-index c.entry-item.result refl c.loop-entry-test.true c.entry-item.is)) c.loop-entry.invariant)
+
+pub loop-entry-preserved : goal.loop-entry-preserved
+loop-entry-preserved c =
+    let P : List Told → Type 0 = λ l. IsUnsettled c.args.storage (told_to c.args.part c.args.entries.now) c.args.arena.now l c.loop-entry.arena in
+    unsettled-next c.args.storage (told_to c.args.part c.args.entries.now) c.args.arena.now (of_part c.args.part (told_by c.entry-item.result)) (of_part c.args.part (expanded (drop (c.loop-entry.entry-index + 1) c.args.entries.now))) c.loop-entry.arena c.settle_run.new.arena (subst P (told_rest c.args.part c.args.entries.now c.loop-entry.entry-index c.entry-item.result (slice_get_read c.args.entries.now (length c.args.entries.now) c.loop-entry.entry-index c.entry-item.result refl c.loop-entry-test.true c.entry-item.is)) c.loop-entry.invariant) c.settle_run.ensures
+
+pub returns : goal.returns
+returns c =
+    let P : List Told → Type 0 = λ l. IsUnsettled c.args.storage (told_to c.args.part c.args.entries.now) c.args.arena.now l c.loop-entry.arena in
+    unsettled-last c.args.storage (told_to c.args.part c.args.entries.now) c.args.arena.now c.loop-entry.arena (subst P (told_out c.args.part c.args.entries.now c.loop-entry.entry-index c.loop-entry-test.false) c.loop-entry.invariant)

@@ -1,0 +1,159 @@
+// Numbers of a report entered and settled one after another, each looked up anew: no slots are kept.
+ghost use Rattle.std.specs.Prelude.{◌≡◌, ◌<◌, ◌+◌, ◌^◌, ◌∷◌, [], length, false, IsSome};
+ghost use Rattle.bm_base.specs.Entries.{told_by};
+ghost use Rattle.bm_arena.specs.Contents.{marks_at};
+ghost use Rattle.bm_report.specs.Holding.{replicas_of};
+ghost use Rattle.bm_report.specs.Midway.{behind, AreHere, IsCounted, IsEntered, IsExcessGood, IsSettling, IsSwept};
+ghost use Rattle.bm_report.specs.Expanded.{of_part, told_to};
+ghost use Rattle.bm_report.specs.Ready.{named_of, CanBeEntered};
+
+use crate::entering::enter;
+use crate::looking::first_of_part;
+use crate::sweeping::settle_one;
+use crate::types::{Named, Tally};
+use bm_arena::Arena;
+use bm_base::{BlockId, Entry, Part, Stamp, StorageId};
+use bm_topo::Topology;
+
+/// Enters the block of a number.
+fn enter_number(
+    arena: &mut Arena,
+    topology: &Topology,
+    storage: StorageId,
+    id: BlockId,
+    stamp: Stamp,
+    tally: &mut Tally,
+)
+    requires { CanBeEntered topology.now.cluster storage (record { id = id; stamp = stamp } ∷ []) arena.old tally.old }
+    ensures entered { IsEntered topology.now.cluster storage (named_of arena.old (record { id = id; stamp = stamp } ∷ [])) arena.old arena.new }
+    ensures counted { IsCounted topology.now.cluster storage (named_of arena.old (record { id = id; stamp = stamp } ∷ [])) arena.old arena.new tally.old tally.new }
+{
+    match arena.find(id) {
+        Some(slot) => {
+            let was = arena.marks(slot, storage);
+            enter(
+                arena,
+                topology,
+                storage,
+                &Named { id, slot, stamp },
+                was,
+                tally,
+            );
+        }
+        None => unreachable!(),
+    }
+}
+
+/// Enters the blocks of an entry's numbers of the part.
+fn enter_run(
+    arena: &mut Arena,
+    topology: &Topology,
+    storage: StorageId,
+    entry: &Entry,
+    part: Part,
+    tally: &mut Tally,
+)
+    requires part { part.index < part.shards }
+    requires set { CanBeEntered topology.now.cluster storage (of_part part (told_by entry.now)) arena.old tally.old }
+    ensures entered { IsEntered topology.now.cluster storage (named_of arena.old (of_part part (told_by entry.now))) arena.old arena.new }
+    ensures counted { IsCounted topology.now.cluster storage (named_of arena.old (of_part part (told_by entry.now))) arena.old arena.new tally.old tally.new }
+{
+    let last = u128::from(entry.to.0);
+    let mut next = first_of_part(entry.from, part);
+    while next <= last {
+        enter_number(
+            arena,
+            topology,
+            storage,
+            BlockId(next as u64),
+            entry.stamp,
+            tally,
+        );
+        next += u128::from(part.shards);
+    }
+}
+
+/// Enters the blocks of all numbers of the part that the entries name.
+pub(crate) fn enter_entries(
+    arena: &mut Arena,
+    topology: &Topology,
+    storage: StorageId,
+    entries: &[Entry],
+    part: Part,
+    tally: &mut Tally,
+)
+    requires part { part.index < part.shards }
+    requires set { CanBeEntered topology.now.cluster storage (told_to part entries.now) arena.old tally.old }
+    ensures entered { IsEntered topology.now.cluster storage (named_of arena.old (told_to part entries.now)) arena.old arena.new }
+    ensures counted { IsCounted topology.now.cluster storage (named_of arena.old (told_to part entries.now)) arena.old arena.new tally.old tally.new }
+{
+    for entry in entries {
+        enter_run(arena, topology, storage, entry, part, tally);
+    }
+}
+
+/// Settles the marks on the storage of the block of a number.
+fn settle_number(arena: &mut Arena, storage: StorageId, id: BlockId, stamp: Stamp)
+    requires { AreHere arena.old (named_of arena.old (record { id = id; stamp = stamp } ∷ [])) }
+    ensures { IsSettling storage (named_of arena.old (record { id = id; stamp = stamp } ∷ [])) arena.old arena.new }
+{
+    match arena.find(id) {
+        Some(slot) => settle_one(arena, storage, &Named { id, slot, stamp }),
+        None => unreachable!(),
+    }
+}
+
+fn settle_run(arena: &mut Arena, storage: StorageId, entry: &Entry, part: Part)
+    requires part { part.index < part.shards }
+    requires here { AreHere arena.old (named_of arena.old (of_part part (told_by entry.now))) }
+    ensures { IsSettling storage (named_of arena.old (of_part part (told_by entry.now))) arena.old arena.new }
+{
+    let last = u128::from(entry.to.0);
+    let mut next = first_of_part(entry.from, part);
+    while next <= last {
+        settle_number(arena, storage, BlockId(next as u64), entry.stamp);
+        next += u128::from(part.shards);
+    }
+}
+
+fn settle_entries(arena: &mut Arena, storage: StorageId, entries: &[Entry], part: Part)
+    requires part { part.index < part.shards }
+    requires here { AreHere arena.old (named_of arena.old (told_to part entries.now)) }
+    ensures { IsSettling storage (named_of arena.old (told_to part entries.now)) arena.old arena.new }
+{
+    for entry in entries {
+        settle_run(arena, storage, entry, part);
+    }
+}
+
+/// Settles the marks of all blocks that the entries name, where some are not: only a good replica stays in excess.
+pub(crate) fn settle_named(
+    arena: &mut Arena,
+    storage: StorageId,
+    entries: &[Entry],
+    part: Part,
+    is_unsettled: bool,
+)
+    requires part { part.index < part.shards }
+    requires here { AreHere arena.old (named_of arena.old (told_to part entries.now)) }
+    requires settled { is_unsettled ≡ false → IsExcessGood (replicas_of arena.old) }
+    ensures { IsSettling storage (named_of arena.old (told_to part entries.now)) arena.old arena.new }
+{
+    if is_unsettled {
+        settle_entries(arena, storage, entries, part);
+    }
+}
+
+/// Unlinks the blocks that stand behind the delimiter.
+pub(crate) fn sweep_behind(arena: &mut Arena, storage: StorageId, tally: &mut Tally)
+    requires put { IsSome (marks_at arena.old arena.old.delimiter storage) }
+    requires removed { tally.old.removed + length (behind arena.old storage) < 2 ^ 127 }
+    requires steps { tally.old.steps + length (behind arena.old storage) < 2 ^ 127 }
+    ensures { IsSwept storage (behind arena.old storage) arena.old arena.new tally.old tally.new }
+{
+    while let Some(slot) = arena.next_after(storage, None) {
+        arena.lawful();
+        arena.unlink(slot, storage);
+        tally.count_sweep();
+    }
+}
