@@ -1,16 +1,25 @@
 -- Numbers entered and settled one after another, each with the slot that it has.
 use Rattle.std.proofs.Common.{◌≡◌, ℕ, ◌+◌, ◌≤◌, ◌<◌, List, [], ◌∷◌, ◌++◌, length, map, drop, Option, Some, None, refl, subst, sym, ap, ◌∙◌, arith, length-append}
-use Rattle.std.specs.Prelude.{nat_eq, slice_get}
+use Rattle.std.proofs.Common.{zero, suc, Bool, true, false, ◌||◌, cond, eqb}
+use Rattle.std.specs.Prelude.{nat_eq, filter, ◌==◌, IsTrue, IsSomeAnd, slice_get}
+use Rattle.std.proofs.lemmas.Bool.{eq-eqb}
 use Rattle.std.specs.Option.{unwrap_or}
 use Rattle.std.specs.Map.{lookup}
 use Rattle.std.proofs.lemmas.List.{map-append, length-map}
-use Rattle.bm_base.specs.Entries.{Told}
+use Rattle.std.specs.List.{fold}
+use Rattle.std.proofs.lemmas.List.Concat.{length-flat_map}
+use Rattle.bm_base.specs.declared.event.Entry.{Entry}
+use Rattle.bm_base.specs.declared.ids.Part.{Part}
+use Rattle.bm_base.specs.Entries.{Told, count_up, run_length, told_by, expanded, numbers_in}
+use Rattle.bm_base.specs.Shards.{shard_of}
+use Rattle.bm_base.specs.Events.{is_named}
 use Rattle.bm_base.specs.State.{Cluster}
-use Rattle.bm_arena.specs.Contents.{Contents, slot_of, HasHead}
+use Rattle.bm_arena.specs.Contents.{Contents, slot_of, marks_at, HasHead, HasRoom}
 use Rattle.bm_report.specs.declared.types.Named.{Named}
 use Rattle.bm_report.specs.declared.types.Tally.{Tally}
-use Rattle.bm_report.specs.Midway.{AreHere, HaveRoom, IsEntered, IsCounted, IsSmall, IsUnderway, IsSettling}
-use Rattle.bm_report.specs.Ready.{named_in, named_of, CanBeEntered}
+use Rattle.bm_report.specs.Midway.{AreHere, HaveRoom, IsEntered, IsCounted, IsSmall, IsUnderway, IsSettling, told_of}
+use Rattle.bm_report.specs.Ready.{named_in, named_of, HasPlace, CanBeEntered}
+use Rattle.bm_report.specs.Expanded.{told_to}
 use Rattle.bm_report.proofs.Underway.{underway-first, underway-next, underway-last, here-part, here-rest, room-part}
 use Rattle.bm_report.proofs.Settled.{settling-join, settling-same, here-ids}
 
@@ -22,6 +31,78 @@ named-ids a b ts e = ap (named_by_ids ts) e
 
 split : (a : Contents) (xs ys : List Told) → named_of a (xs ++ ys) ≡ named_of a xs ++ named_of a ys
 split a xs ys = map-append (named_in a) xs ys
+
+-- numbers that have their places are looked up
+is_at : (P : ℕ → Type 0) (o : Option ℕ) → IsSomeAnd o P → o ≡ Some (unwrap_or o 0)
+is_at P None h = absurd h
+is_at P (Some x) h = refl
+
+room_at : (P : ℕ → Type 0) (o : Option ℕ) → IsSomeAnd o P → P (unwrap_or o 0)
+room_at P None h = absurd h
+room_at P (Some x) h = h
+
+first_named : (t : Told) (ts : List Told) → IsTrue (is_named (t ∷ ts) t.id)
+unfolding is_named
+first_named t ts = ap (λ b. b || is_named ts t.id) (eq-eqb t.id t.id refl)
+
+then_named : (t : Told) (ts : List Told) (b : ℕ) → IsTrue (is_named ts b) → IsTrue (is_named (t ∷ ts) b)
+unfolding is_named
+then_named t ts b h = by (eqb t.id b) (is_named ts b) h
+  where
+    by : (x y : Bool) → IsTrue y → IsTrue (x || y)
+    by true y h = refl
+    by false y h = h
+
+pub here_of : (a : Contents) (s : ℕ) (ts : List Told) → ((b : ℕ) → IsTrue (is_named ts b) → HasPlace a s b) → AreHere a (named_of a ts)
+here_of a s [] places = tt
+here_of a s (t ∷ ts) places = (is_at (λ slot. marks_at a slot s ≡ None → HasRoom a slot) (slot_of a t.id) (places t.id (first_named t ts)), here_of a s ts (λ b h. places b (then_named t ts b h)))
+
+pub room_of : (a : Contents) (s : ℕ) (ts : List Told) → ((b : ℕ) → IsTrue (is_named ts b) → HasPlace a s b) → HaveRoom a s (named_of a ts)
+room_of a s [] places = tt
+room_of a s (t ∷ ts) places =
+    (room_at (λ slot. marks_at a slot s ≡ None → HasRoom a slot) (slot_of a t.id) (places t.id (first_named t ts)), room_of a s ts (λ b h. places b (then_named t ts b h)))
+
+pub told_back : (a : Contents) (ts : List Told) → map told_of (named_of a ts) ≡ ts
+told_back a [] = refl
+told_back a (t ∷ ts) = ap (λ l. t ∷ l) (told_back a ts)
+
+-- with the slots of another arena that has the same numbers
+pub entered_as : (C : Cluster) (s : ℕ) (ts : List Told) (a b c : Contents) → b.ids ≡ a.ids → IsEntered C s (named_of b ts) b c → IsEntered C s (named_of a ts) b c
+entered_as C s ts a b c e f = let P : List Named → Type 0 = λ l. IsEntered C s l b c in subst P (named-ids a b ts e) f
+
+pub counted_as : (C : Cluster) (s : ℕ) (ts : List Told) (a b c : Contents) (t u : Tally) → b.ids ≡ a.ids → IsCounted C s (named_of b ts) b c t u → IsCounted C s (named_of a ts) b c t u
+counted_as C s ts a b c t u e f = let P : List Named → Type 0 = λ l. IsCounted C s l b c t u in subst P (named-ids a b ts e) f
+
+pub settling_as : (s : ℕ) (ts : List Told) (a b c : Contents) → b.ids ≡ a.ids → IsSettling s (named_of b ts) b c → IsSettling s (named_of a ts) b c
+settling_as s ts a b c e f = let P : List Named → Type 0 = λ l. IsSettling s l b c in subst P (named-ids a b ts e) f
+
+-- so many numbers are told to a part as all entries name, at most
+length-count_up : (n k : ℕ) → length (count_up n k) ≡ k
+length-count_up n zero = refl
+length-count_up n (suc k) = ap suc (length-count_up (suc n) k)
+
+length-filter_le : {X : Type 0} (p : X → Bool) (xs : List X) → length (filter p xs) ≤ length xs
+length-filter_le p [] = omega arith
+length-filter_le p (x ∷ xs) = by (p x) (filter p xs) (length-filter_le p xs)
+  where
+    by : (b : Bool) (ys : List _) → length ys ≤ length xs → length (cond b (x ∷ ys) ys) ≤ length (x ∷ xs)
+    by true ys h = omega (arith, h)
+    by false ys h = omega (arith, h)
+
+length-told_by : (e : Entry) → length (told_by e) ≡ run_length e
+unfolding told_by
+length-told_by e = length-map (count_up e.from (run_length e)) _ ∙ length-count_up e.from (run_length e)
+
+lengths_summed : (n : ℕ) (es : List Entry) → fold (λ a (e : Entry). a + length (told_by e)) n es ≡ fold (λ a (e : Entry). a + run_length e) n es
+lengths_summed n [] = refl
+lengths_summed n (e ∷ es) = ap (λ k. fold (λ a (x : Entry). a + length (told_by x)) (n + k) es) (length-told_by e) ∙ lengths_summed (n + run_length e) es
+
+length-expanded : (es : List Entry) → length (expanded es) ≡ numbers_in es
+unfolding expanded numbers_in
+length-expanded es = length-flat_map told_by es ∙ lengths_summed 0 es
+
+pub few_told : (p : Part) (es : List Entry) (n : ℕ) → numbers_in es ≤ n → length (told_to p es) ≤ n
+few_told p es n few = let h = length-filter_le (λ (t : Told). shard_of t.id p.shards == p.index) (expanded es) in let e = length-expanded es in omega (arith, few, h, e)
 
 -- of the numbers `all` those that are left are still to be entered
 module _ (C : Cluster) (s : ℕ) (all : List Told) (first : Contents) (t : Tally) where

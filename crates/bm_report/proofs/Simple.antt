@@ -6,13 +6,13 @@ use Rattle.std.proofs.lemmas.Option.{none-some}
 use Rattle.std.proofs.lemmas.Bool.{false≢true}
 use Rattle.bm_base.specs.declared.replica.ReplicaId.{ReplicaId}
 use Rattle.bm_base.specs.declared.replica.Marks.{Marks}
-use Rattle.bm_base.specs.Map.{get}
-use Rattle.bm_base.specs.State.{Cluster}
+use Rattle.bm_base.specs.Map.{Map, get}
+use Rattle.bm_base.specs.State.{Cluster, by_replica}
 use Rattle.bm_base.specs.Replicas.{are_sisters, is_good}
 use Rattle.bm_arena.specs.Triplets.{Block}
 use Rattle.bm_arena.specs.Contents.{Contents, block_at, slot_of, marks_at, find_marks, IsLawful}
 use Rattle.bm_report.specs.Holding.{replicas_of}
-use Rattle.bm_report.specs.Midway.{IsOncePerNode, is_settled}
+use Rattle.bm_report.specs.Midway.{IsOncePerNode, IsExcessGood, is_settled}
 use Rattle.bm_report.specs.Ready.{HasGoodExcess}
 use Rattle.bm_report.specs.Tested.{IsSingle}
 use Rattle.bm_report.proofs.Held.{get-replicas_of}
@@ -110,3 +110,12 @@ single-beyond a slot lawful past = by (block_at a slot) refl
     by : (o : Option Block) → block_at a slot ≡ o → IsSingle a slot
     by None e = single-vacant a slot e
     by (Some b) e = absurd (let h = lawful.bounded slot b e in omega (arith, h, past))
+
+-- only good replicas are in excess, by the test of code
+pub good_excess : (K : Map by_replica Marks) → HasGoodExcess K → IsExcessGood K
+good_excess K good p m e = by m.excess (is_good m.tag) (good p m e)
+  where
+    by : (x g : Bool) → (IsTrue x → IsTrue g) → not (x && not g) ≡ true
+    by true true h = refl
+    by true false h = absurd (false≢true (h refl))
+    by false g h = refl

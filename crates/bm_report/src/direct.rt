@@ -1,13 +1,22 @@
 // The calls that keep nothing between the look-up of a report and its end.
-ghost use Rattle.std.specs.Prelude.{◌≡◌, ◌<◌, OnOk, IfErr};
+ghost use Rattle.std.specs.Prelude.{◌≡◌, ◌<◌, ◌≤◌, ◌+◌, ℕ, length, None, OnOk, IfErr};
 ghost use Rattle.bm_base.specs.declared.refusal.Refusal.TheVariants.{Memory};
+ghost use Rattle.bm_base.specs.declared.limits.TheConstants.{MAX_NUMBERS};
+ghost use Rattle.bm_base.specs.Entries.{numbers_in};
+ghost use Rattle.bm_base.specs.Events as events;
+ghost use Rattle.bm_base.specs.Calls as calls;
+ghost use Rattle.bm_arena.specs.Contents.{slot_of, marks_at, HasHead};
+ghost use Rattle.bm_report.specs.Holding.{replicas_of, blocks_of, holdings_of};
+ghost use Rattle.bm_report.specs.Midway.{IsOncePerNode, count_ups};
 ghost use Rattle.bm_report.specs.Expanded.{IsPrepared, told_to};
-ghost use Rattle.bm_report.specs.Ready.{HasPlaces};
+ghost use Rattle.bm_report.specs.Ready.{HasPlaces, HasGoodExcess};
 
+use crate::by_number::{enter_entries, settle_named, sweep_behind};
 use crate::looking::look_up;
-use crate::types::Named;
+use crate::types::{Applied, Named, Tally};
 use bm_arena::Arena;
 use bm_base::{Entry, Part, Refusal, StorageId};
+use bm_topo::Topology;
 
 /// Gives an entry to each number of the part that the entries name and that has none, and makes all room that `apply_full`, or
 /// `apply_received` of one of the numbers, needs. Nothing that is held changes. `Memory`: then `abort` drops the entries that are
@@ -26,4 +35,55 @@ pub fn ready(
     let mut named: Vec<Named> = Vec::new(arena.allocator());
     look_up(arena, storage, entries, part, &mut named)?;
     Ok(())
+}
+
+/// Makes the replicas on a storage those of a full report, for which its numbers of the part were made ready. Each number is looked
+/// up anew, one after another, and no slots are listed: a shard takes `Report`, which is faster. Takes no memory.
+///
+/// The list steps: one for each number of the part that is named, one for each replica that leaves, and two for the delimiter.
+pub fn apply_full(
+    arena: &mut Arena,
+    topology: &Topology,
+    storage: StorageId,
+    entries: &[Entry],
+    part: Part,
+) -> Applied
+    requires part { part.index < part.shards }
+    requires few { numbers_in entries.now ≤ MAX_NUMBERS }
+    requires ready { HasPlaces arena.old storage (told_to part entries.now) }
+    requires once { IsOncePerNode topology.now.cluster (replicas_of arena.old) }
+    requires good { HasGoodExcess (replicas_of arena.old) }
+    requires free { marks_at arena.old arena.old.delimiter storage ≡ None }
+    ensures replicas { replicas_of arena.new ≡ (events.report topology.now.cluster (holdings_of arena.old) storage (told_to part entries.now)).replicas }
+    ensures blocks { blocks_of arena.new ≡ blocks_of arena.old }
+    ensures numbers { (b : ℕ) → slot_of arena.new b ≡ slot_of arena.old b }
+    ensures delimiter { arena.new.delimiter ≡ arena.old.delimiter }
+    ensures heads { (t : ℕ) → HasHead arena.old t → HasHead arena.new t }
+    ensures free { (t : ℕ) → marks_at arena.new arena.new.delimiter t ≡ marks_at arena.old arena.old.delimiter t }
+    ensures added { result.added ≡ calls.new_replicas (replicas_of arena.old) (replicas_of arena.new) }
+    ensures removed { result.removed ≡ calls.new_replicas (replicas_of arena.new) (replicas_of arena.old) }
+    ensures steps { result.steps ≡ length (told_to part entries.now) + result.removed + 2 }
+    ensures counted { arena.new.steps ≡ count_ups result.steps arena.old.steps }
+{
+    let mut tally = Tally {
+        added: 0,
+        removed: 0,
+        steps: 1,
+        is_unsettled: false,
+    };
+    arena.lawful();
+    // No list is longer, so the counts have room.
+    let _bound = arena.slot_bound();
+    arena.put_delimiter(storage);
+    enter_entries(arena, topology, storage, entries, part, &mut tally);
+    arena.lawful();
+    sweep_behind(arena, storage, &mut tally);
+    arena.lawful();
+    arena.take_delimiter(storage);
+    settle_named(arena, storage, entries, part, tally.is_unsettled);
+    Applied {
+        added: tally.added,
+        removed: tally.removed,
+        steps: tally.steps + 1,
+    }
 }

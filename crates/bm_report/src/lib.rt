@@ -18,7 +18,7 @@ mod tests;
 mod types;
 
 pub use aborting::abort;
-pub use direct::ready;
+pub use direct::{apply_full, ready};
 pub use notices::{apply_deleted, apply_received};
 pub use report::Report;
 pub use types::Applied;
