@@ -41,7 +41,7 @@ room_at : (P : ℕ → Type 0) (o : Option ℕ) → IsSomeAnd o P → P (unwrap_
 room_at P None h = absurd h
 room_at P (Some x) h = h
 
-first_named : (t : Told) (ts : List Told) → IsTrue (is_named (t ∷ ts) t.id)
+pub first_named : (t : Told) (ts : List Told) → IsTrue (is_named (t ∷ ts) t.id)
 unfolding is_named
 first_named t ts = ap (λ b. b || is_named ts t.id) (eq-eqb t.id t.id refl)
 

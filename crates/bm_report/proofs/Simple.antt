@@ -1,5 +1,13 @@
 -- Where each block has one replica at most, a node has no two of a block.
 use Rattle.std.proofs.Common.{◌≡◌, ℕ, ◌≤◌, ◌<◌, ◌+◌, Bool, true, false, cond, List, [], ◌∷◌, length, Option, Some, None, is_some, IsSome, refl, subst, sym, ap, ◌∙◌, arith, eqb-true}
+use Rattle.std.proofs.Common.{◌*◌, drop, add-one, Result, Ok, Err}
+use Rattle.std.specs.Prelude.{OnOk}
+use Rattle.std.specs.Result.{is_ok}
+use Rattle.bm_base.specs.declared.refusal.Refusal.{Refusal}
+use Rattle.std.specs.List.{fold}
+use Rattle.bm_base.specs.declared.event.Entry.{Entry}
+use Rattle.bm_base.specs.Entries.{run_length, numbers_in}
+use Rattle.bm_report.proofs.Underway.{drop_next, drop_all}
 use Rattle.std.specs.Prelude.{◌==◌, ◌&&◌, not, slice_get, IsTrue}
 use Rattle.std.specs.Option.{option_and_then, option_map_or}
 use Rattle.std.proofs.lemmas.Option.{none-some}
@@ -14,7 +22,7 @@ use Rattle.bm_arena.specs.Contents.{Contents, block_at, slot_of, marks_at, find_
 use Rattle.bm_report.specs.Holding.{replicas_of}
 use Rattle.bm_report.specs.Midway.{IsOncePerNode, IsExcessGood, is_settled}
 use Rattle.bm_report.specs.Ready.{HasGoodExcess}
-use Rattle.bm_report.specs.Tested.{IsSingle}
+use Rattle.bm_report.specs.Tested.{IsSingle, AreLow}
 use Rattle.bm_report.proofs.Held.{get-replicas_of}
 use Rattle.bm_report.proofs.Sisters.{no_sister_itself}
 
@@ -119,3 +127,25 @@ good_excess K good p m e = by m.excess (is_good m.tag) (good p m e)
     by true true h = refl
     by true false h = absurd (false≢true (h refl))
     by false g h = refl
+
+-- entries that end below 1000 name few numbers
+few_low : (n : ℕ) (es : List Entry) → AreLow es → fold (λ a (e : Entry). a + run_length e) n es ≤ n + 1000 * length es
+few_low n [] low = omega arith
+few_low n (e ∷ es) low = let h = few_low (n + run_length e) es low.1 in let k = low.0 in omega (arith, h, k)
+
+pub numbers_low : (es : List Entry) → AreLow es → length es ≤ 100 → numbers_in es ≤ 1048576
+unfolding numbers_in
+numbers_low es low few = let h = few_low 0 es low in omega (arith, h, few)
+
+pub low_next : (es : List Entry) (i : ℕ) (e : Entry) → slice_get es i ≡ Some e → e.to < 1000 → (AreLow (drop i es) → AreLow es) → AreLow (drop (i + 1) es) → AreLow es
+low_next es i e at low so_far rest =
+    let P : List Entry → Type 0 = AreLow in
+    so_far (subst P (sym (drop_next es i e at ∙ ap (λ n. e ∷ drop n es) (sym (add-one i)))) (low, rest))
+
+pub low_all : (es : List Entry) (i : ℕ) → length es ≤ i → (AreLow (drop i es) → AreLow es) → AreLow es
+low_all es i past so_far = let P : List Entry → Type 0 = AreLow in so_far (subst P (sym (drop_all es i past)) tt)
+
+-- what holds of a result that is good
+pub ok_then : (r : Result (Unit {0}) Refusal) (P : Type 0) → is_ok r ≡ true → OnOk r P → P
+ok_then (Ok x) P ok h = h
+ok_then (Err e) P ok h = absurd (false≢true ok)

@@ -1,14 +1,12 @@
 // What reports and notices make of small arenas, worked out by hand: each test is a list of steps with what each must answer, and
 // one function goes over them.
-ghost use Rattle.std.specs.Prelude.{◌≡◌, ◌<◌, ℕ, true};
-ghost use Rattle.bm_base.specs.State.{Cluster};
-ghost use Rattle.bm_report.specs.Holding.{replicas_of};
-ghost use Rattle.bm_report.specs.Midway.{IsOncePerNode};
-ghost use Rattle.bm_report.specs.Ready.{HasGoodExcess};
+ghost use Rattle.std.specs.Prelude.{◌≡◌, ◌<◌, ◌≤◌, ℕ, true};
+ghost use Rattle.bm_base.specs.declared.limits.TheConstants.{MAX_NUMBERS};
+ghost use Rattle.bm_base.specs.Entries.{numbers_in};
 ghost use Rattle.bm_report.specs.Tested.{IsSingle};
 
 use crate::marking::is_settled;
-use crate::{Applied, Report, apply_deleted};
+use crate::{Applied, Report, abort, apply_deleted, apply_full, apply_received, ready};
 use bm_arena::{Arena, Slot};
 use bm_base::{
     BlockId, BlockInfo, Entry, Event, Gen, Items, Marks, NodeId, Part, Rack, Stamp, StorageId, Tag,
@@ -38,12 +36,18 @@ enum Step {
     Linked(u64, u32, bool),
     /// A storage makes a full report.
     Reports(u32, [Line; 3]),
+    /// The same, with no slots kept.
+    ReportsByNumber(u32, [Line; 3]),
     /// A full report is made ready.
     Readies(u32, [Line; 3]),
     /// It is given up.
     GivesUp,
+    /// All that was made ready is given up.
+    GivesUpAll,
     /// A storage has received a replica, of a generation.
     Receives(u32, u64, u64),
+    /// The same, with no slot kept.
+    ReceivesByNumber(u32, u64, u64),
     /// A storage has deleted a replica.
     Deletes(u32, u64),
     /// The blocks of a storage's list.
@@ -174,6 +178,41 @@ fn reported(rt: &impl Abort, world: &mut World, storage: StorageId, entries: &[E
     )
 }
 
+fn reported_by_number(
+    rt: &impl Abort,
+    world: &mut World,
+    storage: StorageId,
+    entries: &[Entry],
+) -> Answer {
+    let is_ready = ready(&mut world.arena, storage, entries, WHOLE);
+    assert!(rt; is_ready.is_ok());
+    assert!(rt; is_simple(&world.arena));
+    assert!(rt; !world.arena.has_delimiter(storage));
+    assert!(rt; names_few(entries));
+    did(apply_full(&mut world.arena, &world.topology, storage, entries, WHOLE))
+}
+
+fn names_low(entry: &Entry) -> bool
+    ensures { result ≡ true → entry.now.to < 1000 }
+{
+    entry.to.0 < 1000
+}
+
+/// Whether no entry names a number above 1000, and there are few.
+fn names_few(entries: &[Entry]) -> bool
+    ensures { result ≡ true → numbers_in entries.now ≤ MAX_NUMBERS }
+{
+    if entries.len() > 100 {
+        return false;
+    }
+    for entry in entries {
+        if !names_low(entry) {
+            return false;
+        }
+    }
+    true
+}
+
 fn readied(world: &mut World, storage: StorageId, entries: &[Entry]) -> Answer {
     match world
         .report
@@ -209,6 +248,26 @@ fn received(
     )
 }
 
+fn received_by_number(
+    rt: &impl Abort,
+    world: &mut World,
+    storage: StorageId,
+    id: u64,
+    generation: u64,
+) -> Answer {
+    let entries = [Entry::one(BlockId(id), stamp(generation))];
+    let is_ready = ready(&mut world.arena, storage, entries.as_slice(), WHOLE);
+    assert!(rt; is_ready.is_ok());
+    assert!(rt; is_simple(&world.arena));
+    did(apply_received(
+        &mut world.arena,
+        &world.topology,
+        storage,
+        BlockId(id),
+        stamp(generation),
+    ))
+}
+
 fn walked(rt: &impl Abort, arena: &Arena, storage: StorageId) -> Answer {
     let mut blocks = [0; 4];
     let mut count = 0;
@@ -231,6 +290,11 @@ fn marks_of(arena: &Arena, id: u64, storage: StorageId) -> Answer {
     }
 }
 
+fn all_given_up(world: &mut World) -> Answer {
+    abort(&mut world.arena);
+    Answer::Fine
+}
+
 fn given_up(world: &mut World) -> Answer {
     world.report.abort(&mut world.arena);
     Answer::Fine
@@ -246,11 +310,19 @@ fn told(rt: &impl Abort, world: &mut World, step: Step) -> Answer {
             let entries = [entry(lines[0]), entry(lines[1]), entry(lines[2])];
             reported(rt, world, StorageId(storage), entries.as_slice())
         }
+        Step::ReportsByNumber(storage, lines) => {
+            let entries = [entry(lines[0]), entry(lines[1]), entry(lines[2])];
+            reported_by_number(rt, world, StorageId(storage), entries.as_slice())
+        }
         Step::Readies(storage, lines) => {
             let entries = [entry(lines[0]), entry(lines[1]), entry(lines[2])];
             readied(world, StorageId(storage), entries.as_slice())
         }
         Step::GivesUp => given_up(world),
+        Step::GivesUpAll => all_given_up(world),
+        Step::ReceivesByNumber(storage, id, generation) => {
+            received_by_number(rt, world, StorageId(storage), id, generation)
+        }
         Step::Receives(storage, id, generation) => {
             received(rt, world, StorageId(storage), id, generation)
         }
@@ -447,4 +519,36 @@ const NOTICES: [(Step, Answer); 7] = [
 #[test]
 fn notices_of_one_replica(rt: HostRuntime) {
     go(&rt, rt.alloc(), NOTICES.as_slice());
+}
+
+const BY_NUMBER: [(Step, Answer); 15] = [
+    (Step::Known(7), Answer::Fine),
+    (Step::Known(9), Answer::Fine),
+    (Step::Linked(7, 11, true), Answer::Fine),
+    (Step::Linked(9, 12, false), Answer::Fine),
+    (
+        Step::ReportsByNumber(11, [Line(7, 7, 0), Line(7, 9, 1), NO_LINE]),
+        Answer::Did(2, 1, 7),
+    ),
+    (Step::Walk(11), Answer::Blocks([9, 8, 7, 0], 3)),
+    (Step::Walk(12), Answer::Blocks([0, 0, 0, 0], 0)),
+    (Step::MarksOf(7, 11), Answer::Tagged(Tag::Good, true)),
+    (
+        Step::ReportsByNumber(11, [Line(7, 7, 1), Line(7, 7, 0), NO_LINE]),
+        Answer::Did(0, 2, 6),
+    ),
+    (Step::MarksOf(7, 11), Answer::Tagged(Tag::Stale, false)),
+    (Step::ReceivesByNumber(12, 7, 1), Answer::Did(1, 1, 2)),
+    (
+        Step::Readies(11, [Line(1, 5, 1), NO_LINE, NO_LINE]),
+        Answer::Fine,
+    ),
+    (Step::GivesUpAll, Answer::Fine),
+    (Step::Entries, Answer::Number(2)),
+    (Step::Walk(12), Answer::Blocks([7, 0, 0, 0], 1)),
+];
+
+#[test]
+fn reports_with_no_slots_kept(rt: HostRuntime) {
+    go(&rt, rt.alloc(), BY_NUMBER.as_slice());
 }

@@ -10,13 +10,9 @@ use Rattle.bm_base.specs.declared.ids.Part.{Part}
 use Rattle.bm_base.specs.declared.event.Entry.{Entry}
 use Rattle.bm_report.specs.Ready.{told}
 use Rattle.bm_report.specs.Expanded.{told_to}
-use Rattle.bm_report.proofs.Simple.{simple_once}
+use Rattle.bm_report.proofs.Simple.{ok_then, simple_once}
 use Rattle.bm_report.proofs.Running.{told_one}
 use Rattle.bm_report.proofs.tests.received.Goals as goal
-
-ok_then : (r : Result (Unit {0}) Refusal) (P : Type 0) → is_ok r ≡ true → OnOk r P → P
-ok_then (Ok x) P ok h = h
-ok_then (Err e) P ok h = absurd (false≢true ok)
 
 pub apply_received-requires-clause-told : goal.apply_received-requires-clause-told
 apply_received-requires-clause-told g c =
