@@ -32,7 +32,7 @@ module _ (C : Cluster) (a : Contents) (s : ℕ) (n : Named) (here : slot_of a n.
   abbrev pub marks_then : Marks
   marks_then = settled (midway_marks (info_at a n.slot) (marks_at a n.slot s) n.stamp)
 
-  marks_are : marks_then ≡ entered (holdings_of a) (replica_at n.id s) n.stamp
+  pub marks_are : marks_then ≡ entered (holdings_of a) (replica_at n.id s) n.stamp
   unfolding holdings_of
   marks_are =
       let i = sym (get-blocks_of a n.id ∙ ap (λ o. option_and_then (λ k. info_at a k) o) here) in

@@ -19,7 +19,7 @@ use Rattle.bm_report.specs.declared.types.Named.{Named}
 use Rattle.bm_report.specs.declared.types.Tally.{Tally}
 use Rattle.bm_report.specs.declared.types.Applied.{Applied}
 use Rattle.bm_base.specs.Calls.{new_replicas}
-use Rattle.bm_report.specs.Holding.{replicas_of, blocks_of, holdings_of}
+use Rattle.bm_report.specs.Holding.{replicas_of, blocks_of, holdings_of, info_at}
 
 -- The marks of a reported replica while the report runs. The mark "in excess" says that it was so before the report, also
 -- where it is not good now; so a block that is named again finds what was before the report.
@@ -117,6 +117,14 @@ AreHere a (n ∷ ns) = (slot_of a n.id ≡ Some n.slot) × AreHere a ns
 abbrev pub HaveRoom : Contents → ℕ → List Named → Type 0
 HaveRoom a s [] = Unit {0}
 HaveRoom a s (n ∷ ns) = (marks_at a n.slot s ≡ None → HasRoom a n.slot) × HaveRoom a s ns
+
+-- a named block is on s with just the marks that entering it gives, so that entering it changes no block
+abbrev pub Stands : Contents → ℕ → Named → Type 0
+Stands a s n = marks_at a n.slot s ≡ Some (midway_marks (info_at a n.slot) (marks_at a n.slot s) n.stamp)
+
+abbrev pub AllStand : Contents → ℕ → List Named → Type 0
+AllStand a s [] = Unit {0}
+AllStand a s (n ∷ ns) = Stands a s n × AllStand a s ns
 
 -- what entering blocks on s keeps
 pub record IsFramed (s : ℕ) (old new : Contents) : Type 0 where

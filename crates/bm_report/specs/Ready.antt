@@ -1,13 +1,13 @@
 -- What a report keeps from its look-up to its end, and what has to stand before it is applied.
-use Rattle.std.specs.Prelude.{◌≡◌, ℕ, ◌+◌, ◌≤◌, List, map, length, IsTrue, IsSome, IsSomeAnd, Option, Some, None}
+use Rattle.std.specs.Prelude.{◌≡◌, ℕ, ◌+◌, ◌≤◌, List, [], ◌∷◌, map, length, IsTrue, IsSome, IsSomeAnd, Option, Some, None}
 use Rattle.std.specs.Option.{unwrap_or}
 use Rattle.bm_base.specs.declared.replica.ReplicaId.{ReplicaId}
 use Rattle.bm_base.specs.declared.replica.Marks.{Marks}
 use Rattle.bm_base.specs.Map.{Map, get}
-use Rattle.bm_base.specs.State.{Cluster, by_replica}
+use Rattle.bm_base.specs.State.{Cluster, Holdings, by_replica, replica_at}
 use Rattle.bm_base.specs.Replicas.{is_good}
 use Rattle.bm_base.specs.Entries.{Told}
-use Rattle.bm_base.specs.Events.{is_named}
+use Rattle.bm_base.specs.Events.{is_named, entered}
 use Rattle.bm_arena.specs.Contents.{Contents, slot_of, marks_at, list_of, HasHead, HasRoom}
 use Rattle.bm_report.specs.declared.types.Named.{Named}
 use Rattle.bm_report.specs.Midway.{AreHere, HaveRoom, IsOncePerNode, IsSmall, told_of}
@@ -43,6 +43,11 @@ HasPlace a s b = IsSomeAnd (slot_of a b) (λ slot. marks_at a slot s ≡ None �
 pub record HasPlaces (a : Contents) (s : ℕ) (ts : List Told) : Type 0 where
   pub places : (b : ℕ) → IsTrue (is_named ts b) → HasPlace a s b
   pub head : HasHead a s
+
+-- each replica on s that is told is there with just the marks with which it is entered
+abbrev pub StandAlready : Holdings → ℕ → List Told → Type 0
+StandAlready H s [] = Unit {0}
+StandAlready H s (t ∷ ts) = (get H.replicas (replica_at t.id s) ≡ Some (entered H (replica_at t.id s) t.stamp)) × StandAlready H s ts
 
 -- only good replicas are in excess
 abbrev pub HasGoodExcess : Map by_replica Marks → Type 0

@@ -5,7 +5,7 @@ ghost use Rattle.bm_base.specs.Calls as calls;
 ghost use Rattle.bm_base.specs.SlotLists.{Among};
 ghost use Rattle.bm_arena.specs.Contents.{block_at, marks_at, list_of, HasHead};
 ghost use Rattle.bm_report.specs.Holding.{replicas_of, blocks_of, holdings_of};
-ghost use Rattle.bm_report.specs.Midway.{AreHere, HaveRoom, IsOncePerNode, IsExcessGood, told_of, count_ups};
+ghost use Rattle.bm_report.specs.Midway.{AreHere, HaveRoom, IsOncePerNode, IsExcessGood, told_of, count_ups, AllStand};
 
 use crate::chunks::enter_all;
 use crate::sweeping::{settle, sweep};
@@ -36,6 +36,7 @@ pub(crate) fn apply(
     ensures heads { (t : ℕ) → HasHead arena.old t → HasHead arena.new t }
     ensures free { (t : ℕ) → marks_at arena.new arena.new.delimiter t ≡ marks_at arena.old arena.old.delimiter t }
     ensures changed { (slot : ℕ) → slot ≢ arena.old.delimiter → (Among slot changed.new.items → ⊥) → block_at arena.new slot ≡ block_at arena.old slot }
+    ensures quiet { AllStand arena.old storage named.now → result.removed ≡ 0 → changed.new.items ≡ changed.old.items }
     ensures added { result.added ≡ calls.new_replicas (replicas_of arena.old) (replicas_of arena.new) }
     ensures removed { result.removed ≡ calls.new_replicas (replicas_of arena.new) (replicas_of arena.old) }
     ensures steps { result.steps ≡ length named.now + result.removed + 2 }

@@ -6,7 +6,7 @@ ghost use Rattle.bm_base.specs.Events.{replaces};
 ghost use Rattle.bm_base.specs.SlotLists.{without};
 ghost use Rattle.bm_arena.specs.Contents.{block_at, slot_of, marks_at, count_up, HasHead, HasRoom};
 ghost use Rattle.bm_report.specs.Holding.{replicas_of};
-ghost use Rattle.bm_report.specs.Midway.{behind, IsFramed, IsOncePerNode, count_ups, IsEntered, IsCounted, IsSmall};
+ghost use Rattle.bm_report.specs.Midway.{behind, IsFramed, IsOncePerNode, count_ups, IsEntered, IsCounted, IsSmall, Stands};
 
 use crate::marking::{are_same, is_settled, midway_marks, sister_of};
 use crate::types::{Named, Tally};
@@ -32,6 +32,7 @@ pub(crate) fn enter(
     ensures entered { IsEntered topology.now.cluster storage (named.now ∷ []) arena.old arena.new }
     ensures counted { IsCounted topology.now.cluster storage (named.now ∷ []) arena.old arena.new tally.old tally.new }
     ensures same { result ≡ false → arena.new.blocks ≡ arena.old.blocks }
+    ensures quiet { Stands arena.old storage named.now → result ≡ false }
     ensures others { (slot : ℕ) → slot ≢ named.now.slot → block_at arena.new slot ≡ block_at arena.old slot }
 {
     let marks = midway_marks(arena.info(named.slot), was, &named.stamp);
@@ -63,6 +64,7 @@ pub(crate) fn move_known(
     ensures behind { behind arena.new storage ≡ without named.now.slot (behind arena.old storage) }
     ensures frame { IsFramed storage arena.old arena.new }
     ensures same { result ≡ false → arena.new.blocks ≡ arena.old.blocks }
+    ensures quiet { marks ≡ was → result ≡ false }
     ensures others { (slot : ℕ) → slot ≢ named.now.slot → block_at arena.new slot ≡ block_at arena.old slot }
     ensures steps { arena.new.steps ≡ count_up arena.old.steps }
 {

@@ -10,7 +10,7 @@ ghost use Rattle.bm_report.specs.Holding.{replicas_of, blocks_of, holdings_of};
 ghost use Rattle.bm_report.specs.Midway.{IsOncePerNode, count_ups};
 ghost use Rattle.bm_report.specs.Expanded.{IsPrepared, told_to};
 ghost use Rattle.bm_report.specs.Aborted.{is_bare_number};
-ghost use Rattle.bm_report.specs.Ready.{told, IsReady, HasGoodExcess};
+ghost use Rattle.bm_report.specs.Ready.{told, IsReady, HasGoodExcess, StandAlready};
 
 use crate::aborting::abort_named;
 use crate::applying::apply;
@@ -88,7 +88,7 @@ impl Report {
     }
 
     /// Makes the replicas on a storage those of the report that was made ready, and lists the slots whose replicas or marks
-    /// changed. Takes no memory.
+    /// changed: none where all that is named stands already and nothing leaves. Takes no memory.
     ///
     /// The list steps: one for each number that is named, one for each replica that leaves, and two for the delimiter.
     pub fn apply_full(
@@ -108,6 +108,7 @@ impl Report {
         ensures heads { (t : ℕ) → HasHead arena.old t → HasHead arena.new t }
         ensures free { (t : ℕ) → marks_at arena.new arena.new.delimiter t ≡ marks_at arena.old arena.old.delimiter t }
         ensures changed { (slot : ℕ) → slot ≢ arena.old.delimiter → (Among slot self.new.changed → ⊥) → block_at arena.new slot ≡ block_at arena.old slot }
+        ensures unchanged { StandAlready (holdings_of arena.old) storage (told self.old) → result.removed ≡ 0 → self.new.changed ≡ self.old.changed }
         ensures told { told self.new ≡ told self.old }
         ensures added { result.added ≡ calls.new_replicas (replicas_of arena.old) (replicas_of arena.new) }
         ensures removed { result.removed ≡ calls.new_replicas (replicas_of arena.new) (replicas_of arena.old) }
