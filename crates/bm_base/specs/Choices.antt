@@ -1,7 +1,7 @@
 -- What a round chooses of its parts: the wishes of all parts one after another, and the first deletes of each node. The parts
 -- say all that is asked of a block, so nothing here looks at the blocks again.
 -- Source: as in Transfers and Deletes, of which these are the same choices over data.
-use Rattle.std.specs.Prelude.{ℕ, ◌*◌, if◌then◌else◌, nat_le, List, [], ◌∷◌, ◌++◌, map, filter, flat_map, length, replicate, take, Option, None, option_and_then, option_map, option_to_list}
+use Rattle.std.specs.Prelude.{ℕ, ◌*◌, if◌then◌else◌, nat_le, List, [], ◌∷◌, ◌++◌, filter, flat_map, length, replicate, take, Option, None, option_and_then, option_map, option_to_list}
 use Rattle.bm_base.specs.declared.commands.Transfer.{Transfer}
 use Rattle.bm_base.specs.declared.commands.Delete.{Delete}
 use Rattle.bm_base.specs.declared.round.Wish.{Wish}

@@ -1,5 +1,5 @@
 -- What a round finds in holdings, whole or of one shard.
-use Rattle.std.specs.Prelude.{ℕ, ◌-◌, Bool, true, if◌then◌else◌, ◌==◌, nat_lt, nat_le, List, [], ◌∷◌, map, filter, filter_map, flat_map, Option, Some, None, option_and_then}
+use Rattle.std.specs.Prelude.{ℕ, ◌-◌, true, if◌then◌else◌, ◌==◌, nat_lt, nat_le, List, [], ◌∷◌, map, filter, filter_map, flat_map, Option, Some, None, option_and_then}
 use Rattle.bm_base.specs.declared.replica.ReplicaId.{ReplicaId}
 use Rattle.bm_base.specs.declared.replica.BlockInfo.{BlockInfo}
 use Rattle.bm_base.specs.declared.level.Level.{Level}
