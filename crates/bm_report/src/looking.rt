@@ -1,10 +1,11 @@
 // The slots of the blocks that a report names, and the room that it needs.
-ghost use Rattle.std.specs.Prelude.{◌≡◌, ◌≢◌, ◌<◌, ◌≤◌, ◌+◌, ◌-◌, ◌^◌, ◌==◌, ◌++◌, ◌∷◌, [], map, ℕ, slice_get, IsSome, IfOk, IfErr, OnOk, None, Some};
+ghost use Rattle.std.specs.Prelude.{◌≡◌, ◌≢◌, ◌<◌, ◌≤◌, ◌+◌, ◌-◌, ◌^◌, ◌==◌, ◌++◌, ◌∷◌, [], map, ℕ, slice_get, IsSome, IfOk, IfErr, OnOk, OnErr, None, Some};
 ghost use Rattle.bm_base.specs.declared.refusal.Refusal.TheVariants.{Memory};
 ghost use Rattle.bm_arena.specs.Contents.{block_at, slot_of, marks_at, HasHead, HasRoom};
 ghost use Rattle.bm_base.specs.Entries.{told_by};
 ghost use Rattle.bm_base.specs.Shards.{shard_of};
 ghost use Rattle.bm_report.specs.Midway.{AreHere, HaveRoom, told_of};
+ghost use Rattle.bm_report.specs.Aborted.{NamesNew};
 ghost use Rattle.bm_report.specs.Expanded.{IsPrepared, of_part, told_to};
 
 use crate::types::Named;
@@ -15,6 +16,8 @@ use bm_base::{BlockId, Entry, Part, Refusal, Stamp, StorageId, shard_of};
 fn slot_for(arena: &mut Arena, id: BlockId) -> Result<Slot, Refusal>
     ensures kept { IsPrepared arena.old arena.new }
     ensures here { IfOk result (λ slot. slot_of arena.new id ≡ Some slot) }
+    ensures others { (b : ℕ) → b ≢ id → slot_of arena.new b ≡ slot_of arena.old b }
+    ensures unchanged { OnErr result (arena.new ≡ arena.old) }
     ensures refused { IfErr result (λ e. e ≡ Memory) }
 {
     arena.lawful();
@@ -27,6 +30,7 @@ fn make_room(arena: &mut Arena, slot: Slot, storage: StorageId) -> Result<(), Re
     requires apart { slot ≢ arena.old.delimiter }
     ensures kept { IsPrepared arena.old arena.new }
     ensures room { OnOk result (marks_at arena.new slot storage ≡ None → HasRoom arena.new slot) }
+    ensures numbers { (b : ℕ) → slot_of arena.new b ≡ slot_of arena.old b }
     ensures refused { IfErr result (λ e. e ≡ Memory) }
 {
     if arena.marks(slot, storage).is_some() {
@@ -49,6 +53,7 @@ fn look_up_one(
     ensures here { OnOk result (AreHere arena.new named.new.items) }
     ensures room { OnOk result (HaveRoom arena.new storage named.new.items) }
     ensures named { OnOk result (map told_of named.new.items ≡ map told_of named.old.items ++ record { id = id; stamp = stamp } ∷ []) }
+    ensures fresh { NamesNew arena.old arena.new named.old.items named.new.items }
     ensures refused { IfErr result (λ e. e ≡ Memory) }
 {
     arena.lawful();
@@ -95,6 +100,7 @@ fn look_up_run(
     ensures here { OnOk result (AreHere arena.new named.new.items) }
     ensures room { OnOk result (HaveRoom arena.new storage named.new.items) }
     ensures named { OnOk result (map told_of named.new.items ≡ map told_of named.old.items ++ of_part part (told_by entry.now)) }
+    ensures fresh { NamesNew arena.old arena.new named.old.items named.new.items }
     ensures refused { IfErr result (λ e. e ≡ Memory) }
 {
     let last = u128::from(entry.to.0);
@@ -123,6 +129,7 @@ pub(crate) fn look_up(
     ensures here { OnOk result (AreHere arena.new named.new.items) }
     ensures room { OnOk result (HaveRoom arena.new storage named.new.items) }
     ensures named { OnOk result (map told_of named.new.items ≡ told_to part entries.now) }
+    ensures fresh { NamesNew arena.old arena.new [] named.new.items }
     ensures refused { IfErr result (λ e. e ≡ Memory) }
 {
     reserve_head(arena, storage)?;
@@ -136,6 +143,7 @@ pub(crate) fn look_up(
 fn reserve_head(arena: &mut Arena, storage: StorageId) -> Result<(), Refusal>
     ensures kept { IsPrepared arena.old arena.new }
     ensures head { OnOk result (HasHead arena.new storage) }
+    ensures numbers { (b : ℕ) → slot_of arena.new b ≡ slot_of arena.old b }
     ensures refused { IfErr result (λ e. e ≡ Memory) }
 {
     arena.lawful();

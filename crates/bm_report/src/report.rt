@@ -1,5 +1,5 @@
 // A full report, and a notice of a received replica, from the look-up of its numbers to its end.
-ghost use Rattle.std.specs.Prelude.{◌≡◌, ◌≢◌, ◌<◌, ◌+◌, ◌∷◌, ◌&&◌, [], ℕ, if◌then◌else◌, length, None, Some, OnOk, IfErr};
+ghost use Rattle.std.specs.Prelude.{◌≡◌, ◌≢◌, ◌<◌, ◌+◌, ◌∷◌, ◌&&◌, [], ℕ, if◌then◌else◌, length, None, Some, IsSome, IsTrue, OnOk, IfErr};
 ghost use Rattle.bm_base.specs.declared.refusal.Refusal.TheVariants.{Memory};
 ghost use Rattle.bm_base.specs.State.{replica_at};
 ghost use Rattle.bm_base.specs.Events as events;
@@ -75,6 +75,7 @@ impl Report {
         ensures ready { OnOk result (IsReady self.new arena.new storage) }
         ensures changed { OnOk result (self.new.changed ≡ []) }
         ensures kept { IsPrepared arena.old arena.new }
+        ensures fresh { (b : ℕ) → slot_of arena.old b ≡ None → IsSome (slot_of arena.new b) → IsTrue (events.is_named (told self.new) b) }
         ensures refused { IfErr result (λ e. e ≡ Memory) }
     {
         look_up(arena, storage, entries, part, &mut self.named)?;

@@ -3,6 +3,8 @@ use Rattle.std.proofs.Math.Nat.{add-mod_right}
 use Rattle.bm_base.specs.declared.event.Entry.{Entry}
 use Rattle.bm_report.specs.Expanded.{of_part, told_from}
 use Rattle.bm_report.specs.Midway.{told_of}
+use Rattle.std.proofs.Common.{refl}
+use Rattle.bm_report.proofs.Aborts.{naming-none, naming-chain}
 use Rattle.bm_report.proofs.Prepared.{prepared-none, prepared-chain}
 use Rattle.bm_report.proofs.Running.{told_first, run_step, run_end}
 use Rattle.bm_report.proofs.looking.look_up_run.Goals as goal
@@ -10,6 +12,7 @@ use Rattle.bm_report.proofs.looking.look_up_run.Goals as goal
 pub loop-next-init : goal.loop-next-init
 loop-next-init c =
     let from : c.entry.inside.0.0 ≡ c.args.entry.now.from = ap (λ (e : Entry). e.from) c.entry.view_is in record {
+      fresh = naming-none c.args.arena.now c.args.arena.now c.args.named.now.items c.args.named.now.items (λ b. refl) refl;
       kept = prepared-none c.args.arena.now;
       here = c.requires.here;
       room = c.requires.room;
@@ -21,6 +24,7 @@ pub loop-next-preserved : goal.loop-next-preserved
 loop-next-preserved c =
     let to : c.from-last.result ≡ c.args.entry.now.to = c.from-last.ensures ∙ ap (λ (e : Entry). e.to) c.entry.view_is in
     let within : c.loop-next.next ≤ c.args.entry.now.to = omega (arith, c.loop-next-test.true, to) in record {
+      fresh = naming-chain c.args.arena.now c.loop-next.arena c.look_up_one.new.arena c.args.named.now.items c.loop-next.named.items c.look_up_one.new.named.items c.loop-next.invariant.fresh c.look_up_one.ensures.fresh;
       kept = prepared-chain c.args.arena.now c.loop-next.arena c.look_up_one.new.arena c.loop-next.invariant.kept c.look_up_one.ensures.kept;
       here = c.in_ok-look_up_one.ensures.here;
       room = c.in_ok-look_up_one.ensures.room;

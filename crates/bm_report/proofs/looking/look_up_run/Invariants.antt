@@ -2,12 +2,14 @@ use Rattle.std.proofs.Common.{◌≡◌, ◌+◌, ◌-◌, ◌++◌, ◌≤◌, 
 use Rattle.bm_base.specs.Entries.{told_by}
 use Rattle.bm_base.specs.Shards.{shard_of}
 use Rattle.bm_report.specs.Midway.{AreHere, HaveRoom, told_of}
+use Rattle.bm_report.specs.Aborted.{NamesNew}
 use Rattle.bm_report.specs.Expanded.{IsPrepared, of_part, told_from}
 use Rattle.bm_report.proofs.looking.look_up_run.Given as goal
 
 abbrev pub invariant-loop-next : goal.invariant-loop-next
 invariant-loop-next l =
     record {
+      fresh : NamesNew l.initial.arena l.arena l.initial.named.items l.named.items;
       kept : IsPrepared l.initial.arena l.arena;
       here : AreHere l.arena l.named.items;
       room : HaveRoom l.arena l.storage l.named.items;

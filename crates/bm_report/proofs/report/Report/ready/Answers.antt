@@ -1,5 +1,6 @@
 use Rattle.std.proofs.Common.{◌≡◌, ◌≤◌, ◌+◌, [], length, refl, sym, ap, ◌∙◌, arith, vec_len, vec_capacity}
 use Rattle.bm_arena.specs.Contents.{list_of}
+use Rattle.bm_report.proofs.Aborts.{names_told}
 use Rattle.bm_report.proofs.Places.{list_within}
 use Rattle.bm_report.proofs.report.Report.ready.Goals as goal
 
@@ -13,3 +14,15 @@ returns-clause-ready c = record {
       let within = list_within c.look_up.new.arena c.args.storage c.lawful.ensures in
       omega (arith, none, within, c.look_up.new.named.ok.0, c.len.ensures, c.slot_bound.ensures.bound, c.in-Some.ensures.1, c.in_ok-reserve.ensures.ok, c.reserve.new.self.ok.0);
 }
+
+pub returns-in_err-look_up-clause-fresh : goal.returns-in_err-look_up-clause-fresh
+returns-in_err-look_up-clause-fresh c b none some = sym (names_told c.look_up.new.named.items b) ∙ c.look_up.ensures.fresh.fresh b none some
+
+pub returns-in_default-clause-fresh : goal.returns-in_default-clause-fresh
+returns-in_default-clause-fresh c b none some = sym (names_told c.look_up.new.named.items b) ∙ c.look_up.ensures.fresh.fresh b none some
+
+pub returns-in_err-reserve-clause-fresh : goal.returns-in_err-reserve-clause-fresh
+returns-in_err-reserve-clause-fresh c b none some = sym (names_told c.look_up.new.named.items b) ∙ c.look_up.ensures.fresh.fresh b none some
+
+pub returns-clause-fresh : goal.returns-clause-fresh
+returns-clause-fresh c b none some = sym (names_told c.look_up.new.named.items b) ∙ c.look_up.ensures.fresh.fresh b none some
