@@ -1,6 +1,6 @@
 -- What stands behind the delimiter, as slots are linked and moved before it.
-use Rattle.std.proofs.Common.{◌≡◌, ◌≢◌, ℕ, List, [], ◌∷◌, cond, eqb, true, false, refl, inl, inr, sym, ap, ◌∙◌}
-use Rattle.std.proofs.lemmas.Bool.{cases_Bool, eqb-true, ne_eqb, eq-eqb}
+use Rattle.std.proofs.Common.{◌≡◌, ◌≢◌, ℕ, List, [], ◌∷◌, eqb, false, refl, inl, inr, sym, ap, ◌∙◌}
+use Rattle.std.proofs.lemmas.Bool.{cases_Bool, eqb-true, ne_eqb}
 use Rattle.bm_base.specs.SlotLists.{Among, Distinct, without}
 use Rattle.bm_arena.specs.Contents.{Contents, list_of}
 use Rattle.bm_report.specs.Midway.{after, behind}

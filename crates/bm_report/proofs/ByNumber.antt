@@ -1,7 +1,7 @@
 -- Numbers entered and settled one after another, each with the slot that it has.
-use Rattle.std.proofs.Common.{◌≡◌, ℕ, ◌+◌, ◌≤◌, ◌<◌, List, [], ◌∷◌, ◌++◌, length, map, drop, Option, Some, None, refl, subst, sym, ap, ◌∙◌, arith, length-append}
+use Rattle.std.proofs.Common.{◌≡◌, ℕ, ◌+◌, ◌≤◌, List, [], ◌∷◌, ◌++◌, length, map, Option, Some, None, refl, subst, sym, ap, ◌∙◌, arith, length-append}
 use Rattle.std.proofs.Common.{zero, suc, Bool, true, false, ◌||◌, cond, eqb}
-use Rattle.std.specs.Prelude.{nat_eq, filter, ◌==◌, IsTrue, IsSomeAnd, slice_get}
+use Rattle.std.specs.Prelude.{nat_eq, filter, ◌==◌, IsTrue, IsSomeAnd}
 use Rattle.std.proofs.lemmas.Bool.{eq-eqb}
 use Rattle.std.specs.Option.{unwrap_or}
 use Rattle.std.specs.Map.{lookup}
@@ -14,7 +14,7 @@ use Rattle.bm_base.specs.Entries.{Told, count_up, run_length, told_by, expanded,
 use Rattle.bm_base.specs.Shards.{shard_of}
 use Rattle.bm_base.specs.Events.{is_named}
 use Rattle.bm_base.specs.State.{Cluster}
-use Rattle.bm_arena.specs.Contents.{Contents, slot_of, marks_at, HasHead, HasRoom}
+use Rattle.bm_arena.specs.Contents.{Contents, slot_of, marks_at, HasRoom}
 use Rattle.bm_report.specs.declared.types.Named.{Named}
 use Rattle.bm_report.specs.declared.types.Tally.{Tally}
 use Rattle.bm_report.specs.Midway.{AreHere, HaveRoom, IsEntered, IsCounted, IsSmall, IsUnderway, IsSettling, told_of}

@@ -1,5 +1,5 @@
 -- One named block entered, and many one after another.
-use Rattle.std.proofs.Common.{◌≡◌, ◌≢◌, ℕ, zero, suc, ◌+◌, ◌≤◌, Bool, true, false, cond, not, ◌||◌, List, [], ◌∷◌, ◌++◌, length, Option, Some, None, is_some, IsSome, refl, subst, sym, ap, ◌∙◌, arith, add-one, length-append}
+use Rattle.std.proofs.Common.{◌≡◌, ℕ, suc, ◌+◌, ◌≤◌, Bool, true, false, cond, not, ◌||◌, List, [], ◌∷◌, ◌++◌, Option, Some, None, is_some, IsSome, refl, subst, sym, ap, ◌∙◌, arith, add-one, length-append}
 use Rattle.std.specs.Option.{option_and_then}
 use Rattle.std.specs.Map.{lookup}
 use Rattle.std.specs.Prelude.{nat_eq}
@@ -9,11 +9,11 @@ use Rattle.bm_base.specs.declared.replica.BlockInfo.{BlockInfo}
 use Rattle.bm_base.specs.Map.{Map, by_number, get, insert, len, contains_key}
 use Rattle.bm_base.specs.State.{Cluster, replica_at}
 use Rattle.bm_base.specs.SlotLists.{without}
-use Rattle.bm_arena.specs.Contents.{Contents, slot_of, marks_at, HasRoom, count_up}
+use Rattle.bm_arena.specs.Contents.{Contents, slot_of, marks_at, count_up}
 use Rattle.bm_report.specs.declared.types.Named.{Named}
 use Rattle.bm_report.specs.declared.types.Tally.{Tally}
 use Rattle.bm_report.specs.Holding.{replicas_of, blocks_of, info_at}
-use Rattle.bm_report.specs.Midway.{entered_one, entered_all, fresh_one, fresh, midway_marks, is_settled, behind, without_all, count_ups, AreHere, HaveRoom, IsFramed, IsEntered, IsCounted, IsOncePerNode, IsExcessGood, moved_tally, linked_tally}
+use Rattle.bm_report.specs.Midway.{entered_one, entered_all, fresh, midway_marks, is_settled, behind, without_all, count_ups, AreHere, HaveRoom, IsFramed, IsEntered, IsCounted, IsOncePerNode, IsExcessGood, moved_tally, linked_tally}
 use Rattle.bm_report.proofs.Held.{get-blocks_of}
 use Rattle.bm_report.proofs.Frames.{framed-none, framed-chain}
 use Rattle.bm_report.proofs.Maps.{Held, get-here, entered_at, put-known, some_is, len-put_known}

@@ -1,9 +1,9 @@
 -- How many replicas came and went by a report.
-use Rattle.std.proofs.Common.{◌≡◌, ◌≢◌, ℕ, ◌+◌, Bool, true, false, cond, not, ◌&&◌, ◌||◌, List, [], ◌∷◌, length, map, filter, Option, Some, None, is_some, IsSome, refl, subst, inl, inr, sym, ap, ◌∙◌, arith, eqb, eqb-true}
+use Rattle.std.proofs.Common.{◌≡◌, ◌≢◌, ℕ, ◌+◌, Bool, true, false, cond, not, ◌&&◌, ◌||◌, List, [], ◌∷◌, length, filter, Option, Some, None, is_some, refl, sym, ap, ◌∙◌, arith}
 use Rattle.std.specs.Prelude.{◌==◌}
 use Rattle.std.specs.List.{list_any}
 use Rattle.std.specs.Option.{option_map, option_map_or, option_and_then}
-use Rattle.std.proofs.lemmas.Bool.{cases_Bool, false≢true, and_parts}
+use Rattle.std.proofs.lemmas.Bool.{false≢true, and_parts}
 use Rattle.std.proofs.lemmas.List.{length-map}
 use Rattle.std.proofs.lemmas.List.Sums.{length-filter}
 use Rattle.bm_base.specs.declared.replica.ReplicaId.{ReplicaId}
@@ -13,13 +13,12 @@ use Rattle.bm_base.specs.declared.replica.Stamp.{Stamp}
 use Rattle.bm_base.specs.declared.replica.BlockInfo.{BlockInfo}
 use Rattle.bm_base.specs.Map.{Map, by_number, get, insert, keep, revise, len, entries, contains_key}
 use Rattle.bm_base.specs.State.{Cluster, by_replica, replica_at}
-use Rattle.bm_base.specs.Replicas.{are_sisters}
 use Rattle.bm_base.specs.Events.{replaces}
 use Rattle.bm_base.specs.Calls.{new_replicas}
 use Rattle.bm_base.proofs.MapLaws.{same_map, get-insert, get-keep, get-revise, entries-keep, entries-revise}
 use Rattle.bm_base.proofs.Differences.{none_new}
 use Rattle.bm_report.specs.declared.types.Named.{Named}
-use Rattle.bm_report.specs.Midway.{entered_one, entered_all, fresh, fresh_one, out_all, settled, settled_all, last_stamp, midway_marks}
+use Rattle.bm_report.specs.Midway.{entered_one, entered_all, fresh, out_all, settled, settled_all, last_stamp, midway_marks}
 use Rattle.bm_report.proofs.Sisters.{sisters_apart}
 use Rattle.bm_report.proofs.Maps.{Held, tie, tied, entered_at, is_replaced, len-put_new}
 use Rattle.bm_report.proofs.Once.{get-entered_at}

@@ -1,9 +1,6 @@
 -- A replica that was received, and one that was deleted.
-use Rattle.std.proofs.Common.{◌≡◌, ◌≢◌, ℕ, ◌+◌, Bool, true, false, cond, not, ◌&&◌, ◌||◌, Option, Some, None, is_some, IsSome, refl, subst, sym, ap, ◌∙◌, arith, add-one}
+use Rattle.std.proofs.Common.{◌≡◌, ◌≢◌, ℕ, ◌+◌, Bool, true, false, cond, not, ◌&&◌, ◌||◌, Option, Some, None, is_some, IsSome, refl, subst, sym, ap, ◌∙◌, arith}
 use Rattle.std.specs.Option.{option_and_then}
-use Rattle.std.specs.Prelude.{nat_eq}
-use Rattle.std.specs.Map.{lookup}
-use Rattle.std.proofs.lemmas.Bool.{false≢true}
 use Rattle.bm_base.specs.declared.replica.ReplicaId.{ReplicaId}
 use Rattle.bm_base.specs.declared.replica.Marks.{Marks}
 use Rattle.bm_base.specs.Map.{get, insert, remove, len}
@@ -12,14 +9,14 @@ use Rattle.bm_base.specs.Events.{replaces, enter, entered}
 use Rattle.bm_base.specs.Calls.{new_replicas}
 use Rattle.bm_base.proofs.MapLaws.{same_map, get-insert, get-remove}
 use Rattle.bm_base.proofs.Differences.{none_new}
-use Rattle.bm_arena.specs.Contents.{Contents, block_at, slot_of, marks_at, count_up, IsLawful, KeepsOthers}
+use Rattle.bm_arena.specs.Contents.{Contents, block_at, slot_of, marks_at, IsLawful, KeepsOthers}
 use Rattle.bm_report.specs.declared.types.Named.{Named}
 use Rattle.bm_report.specs.declared.types.Applied.{Applied}
-use Rattle.bm_report.specs.Holding.{replicas_of, blocks_of, holdings_of, info_at, replica_in}
+use Rattle.bm_report.specs.Holding.{replicas_of, blocks_of, holdings_of, info_at}
 use Rattle.bm_report.specs.Midway.{midway_marks, settled, count_ups, IsFramed, IsOncePerNode, IsReceived}
-use Rattle.bm_report.proofs.Held.{get-replicas_of, get-blocks_of, replicas-put, replicas-out, blocks-kept}
+use Rattle.bm_report.proofs.Held.{get-blocks_of, replicas-put, replicas-out, blocks-kept}
 use Rattle.bm_report.proofs.Frames.{set_at, set-elsewhere, set-known, set-marks, set-others}
-use Rattle.bm_report.proofs.Maps.{Held, tie, tied, get-here, some_is, entered_at, put-known, len-put_known, len-out}
+use Rattle.bm_report.proofs.Maps.{Held, tie, tied, get-here, some_is, entered_at, put-known, len-out}
 use Rattle.bm_report.proofs.Reported.{entered_settled}
 use Rattle.bm_report.proofs.Counting.{has, new-same, new-more, came_and_went, len-same, has-entered}
 

@@ -1,26 +1,26 @@
 -- What was entered, swept and settled is the report of the definition.
-use Rattle.std.proofs.Common.{◌≡◌, ◌≢◌, ℕ, Bool, true, false, cond, not, ◌&&◌, ◌||◌, List, [], ◌∷◌, map, Option, Some, None, is_some, IsSome, refl, subst, inl, inr, sym, ap, ◌∙◌, eq-eqb, eqb-true, eqb}
+use Rattle.std.proofs.Common.{◌≡◌, ℕ, Bool, true, false, cond, not, ◌&&◌, ◌||◌, List, [], ◌∷◌, map, Option, Some, None, is_some, IsSome, refl, inl, inr, sym, ap, ◌∙◌, eqb-true, eqb}
 use Rattle.std.specs.Prelude.{◌==◌}
 use Rattle.std.specs.List.{list_any}
 use Rattle.std.specs.Option.{option_map, option_map_or, option_or, option_and_then}
-use Rattle.std.proofs.lemmas.Bool.{cases_Bool, false≢true}
+use Rattle.std.proofs.lemmas.Bool.{cases_Bool}
 use Rattle.bm_base.specs.declared.replica.ReplicaId.{ReplicaId}
-use Rattle.bm_base.specs.declared.replica.Tag.TheVariants.{Good, Stale, Bad, Stray}
+use Rattle.bm_base.specs.declared.replica.Tag.TheVariants.{Good, Stale, Bad}
 use Rattle.bm_base.specs.declared.replica.Marks.{Marks}
 use Rattle.bm_base.specs.declared.replica.Stamp.{Stamp}
 use Rattle.bm_base.specs.declared.replica.BlockInfo.{BlockInfo}
 use Rattle.bm_base.specs.Entries.{Told}
 use Rattle.bm_base.specs.Map.{Map, by_number, get, insert, insert_all, keep, remove}
-use Rattle.bm_base.specs.State.{Cluster, Holdings, by_replica, replica_at}
+use Rattle.bm_base.specs.State.{Cluster, Holdings, replica_at}
 use Rattle.bm_base.specs.Replicas.{is_good, is_bad, are_sisters}
 use Rattle.bm_base.specs.Events.{same_stamp, was_bad, was_excess, entered_tag, entered, replaces, is_named, leaves_by_report, report}
 use Rattle.bm_base.proofs.MapLaws.{same_map, get-insert, get-keep, get-remove}
 use Rattle.bm_base.proofs.Ties.{replica_tie}
 use Rattle.bm_report.specs.declared.types.Named.{Named}
-use Rattle.bm_report.specs.Midway.{reported_tag, midway_marks, settled, entered_one, entered_all, out_all, settled_one, settled_all, last_stamp, told_of}
-use Rattle.bm_report.proofs.Words.{eqb_turned, not_and}
+use Rattle.bm_report.specs.Midway.{midway_marks, settled, entered_one, entered_all, out_all, settled_one, settled_all, last_stamp, told_of}
+use Rattle.bm_report.proofs.Words.{eqb_turned}
 use Rattle.bm_report.proofs.Sisters.{no_sister_itself}
-use Rattle.bm_report.proofs.Maps.{Held, tie, tied, entered_at}
+use Rattle.bm_report.proofs.Maps.{Held, tie, tied}
 use Rattle.bm_report.proofs.Once.{get-entered_at}
 use Rattle.bm_report.proofs.Chaining.{entered_one_is}
 

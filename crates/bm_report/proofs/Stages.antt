@@ -1,11 +1,10 @@
 -- The stages of a report: the delimiter put, blocks entered, what was not reported swept out, the delimiter taken, marks settled.
-use Rattle.std.proofs.Common.{◌≡◌, ◌≢◌, ℕ, zero, suc, ◌+◌, ◌<◌, ◌≤◌, Bool, true, false, cond, List, [], ◌∷◌, length, map, Option, Some, None, is_some, IsSome, refl, subst, inl, inr, sym, ap, ◌∙◌, arith, eqb, eq-eqb, eqb-true, ne_eqb, add-one}
+use Rattle.std.proofs.Common.{◌≡◌, ◌≢◌, ℕ, ◌+◌, ◌<◌, ◌≤◌, Bool, true, false, cond, List, [], ◌∷◌, length, map, Option, Some, None, is_some, IsSome, refl, subst, inl, inr, sym, ap, ◌∙◌, arith, eqb, eq-eqb, eqb-true, ne_eqb, add-one}
 use Rattle.std.specs.Prelude.{◌==◌, nat_eq, IsSomeAnd}
 use Rattle.std.specs.List.{list_any}
-use Rattle.std.specs.Option.{option_map_or, option_and_then, option_or}
+use Rattle.std.specs.Option.{option_and_then, option_or}
 use Rattle.std.specs.Map.{lookup}
 use Rattle.std.proofs.lemmas.Bool.{cases_Bool, cases_eq, eqb-false, false≢true}
-use Rattle.std.proofs.lemmas.Option.{none-some}
 use Rattle.bm_base.specs.declared.replica.ReplicaId.{ReplicaId}
 use Rattle.bm_base.specs.declared.replica.Marks.{Marks}
 use Rattle.bm_base.specs.declared.replica.Stamp.{Stamp}
@@ -16,14 +15,14 @@ use Rattle.bm_base.specs.Events.{report}
 use Rattle.bm_base.proofs.MapLaws.{same_map, get-remove}
 use Rattle.bm_arena.specs.Triplets.{Block}
 use Rattle.bm_base.specs.SlotLists.{Among, Distinct, without}
-use Rattle.bm_arena.specs.Contents.{Contents, block_at, slot_of, marks_at, list_of, find_marks, HasHead, HasRoom, IsLawful, KeepsOthers, count_up}
+use Rattle.bm_arena.specs.Contents.{Contents, block_at, slot_of, marks_at, list_of, find_marks, HasHead, IsLawful, KeepsOthers, count_up}
 use Rattle.bm_base.proofs.SlotLists.{Among-without, Among-without_other, without-gone, Distinct-without}
 use Rattle.bm_report.specs.declared.types.Named.{Named}
 use Rattle.bm_report.specs.declared.types.Tally.{Tally}
-use Rattle.bm_report.specs.Holding.{replicas_of, blocks_of, holdings_of, replica_in}
-use Rattle.bm_report.specs.Midway.{after, behind, without_all, number_at, entered_all, fresh, out_all, settled_all, is_settled, last_stamp, told_of, count_ups, AreHere, HaveRoom, IsOncePerNode, IsExcessGood, IsEntered, IsCounted, IsSwept, IsSettling, IsListed}
+use Rattle.bm_report.specs.Holding.{replicas_of, blocks_of, holdings_of}
+use Rattle.bm_report.specs.Midway.{after, behind, without_all, number_at, entered_all, fresh, out_all, settled_all, last_stamp, told_of, count_ups, AreHere, HaveRoom, IsOncePerNode, IsExcessGood, IsEntered, IsCounted, IsSwept, IsSettling, IsListed}
 use Rattle.bm_report.proofs.Held.{get-replicas_of, blocks-kept, one_number}
-use Rattle.bm_report.proofs.Behind.{without-absent, Among-after}
+use Rattle.bm_report.proofs.Behind.{Among-after}
 use Rattle.bm_report.proofs.Frames.{some_there}
 use Rattle.bm_report.proofs.Maps.{Held, tie, get-here, some_is}
 use Rattle.bm_report.proofs.Swept.{number-leads}

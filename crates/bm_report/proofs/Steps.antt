@@ -1,25 +1,20 @@
 -- One named block entered: where it is on the storage, and where it is not.
-use Rattle.std.proofs.Common.{◌≡◌, ◌≢◌, ℕ, ◌+◌, List, [], ◌∷◌, cond, true, false, Option, Some, None, IsSome, refl, subst, sym, ap, ◌∙◌, arith}
+use Rattle.std.proofs.Common.{◌≡◌, ◌≢◌, ℕ, ◌+◌, ◌∷◌, true, Option, Some, None, IsSome, refl, subst, sym, ap, ◌∙◌, arith}
 use Rattle.std.specs.Prelude.{nat_eq}
-use Rattle.std.specs.Option.{option_and_then}
 use Rattle.std.specs.Map.{lookup}
-use Rattle.std.proofs.lemmas.Bool.{false≢true}
 use Rattle.bm_base.specs.declared.replica.Marks.{Marks}
-use Rattle.bm_base.specs.declared.replica.ReplicaId.{ReplicaId}
 use Rattle.bm_base.specs.Map.{get, insert, remove, len}
 use Rattle.bm_base.specs.State.{Cluster, replica_at}
 use Rattle.bm_base.specs.Replicas.{are_sisters}
-use Rattle.bm_base.specs.Events.{replaces}
-use Rattle.bm_arena.specs.Triplets.{Block}
-use Rattle.bm_base.specs.SlotLists.{Among, Distinct, without}
-use Rattle.bm_arena.specs.Contents.{Contents, block_at, slot_of, marks_at, list_of, find_marks, HasHead, IsLawful, KeepsOthers}
-use Rattle.bm_report.specs.Holding.{replicas_of, blocks_of}
+use Rattle.bm_base.specs.SlotLists.{Among, without}
+use Rattle.bm_arena.specs.Contents.{Contents, block_at, slot_of, marks_at, list_of, IsLawful, KeepsOthers}
+use Rattle.bm_report.specs.Holding.{replicas_of}
 use Rattle.bm_report.specs.Midway.{behind, IsFramed, IsOncePerNode}
 use Rattle.bm_report.proofs.Held.{replicas-put, replicas-out}
 use Rattle.bm_report.proofs.Behind.{behind-linked, behind-moved, behind-kept}
 use Rattle.bm_report.proofs.Frames.{framed, framed-chain, is_there, some_there, set_at, set-elsewhere, set-known, set-marks, set-others}
 use Rattle.bm_report.proofs.Sisters.{sisters_apart}
-use Rattle.bm_report.proofs.Maps.{get-here, insert-same, some_is, is_replaced, entered_at, put-alone, put-known, put-moved, len-put_new, len-out}
+use Rattle.bm_report.proofs.Maps.{get-here, insert-same, some_is, is_replaced, entered_at, put-alone, put-moved, len-put_new, len-out}
 
 -- it is there: moved to the head, and then its marks set
 module _ (a c : Contents) (s b slot : ℕ) (was : Marks) (lawful : IsLawful a) (here : slot_of a b ≡ Some slot) (at : marks_at a slot s ≡ Some was)

@@ -1,10 +1,7 @@
 -- What stands behind the delimiter is taken out, one slot after another.
-use Rattle.std.proofs.Common.{◌≡◌, ◌≢◌, ℕ, zero, suc, ◌+◌, ◌<◌, ◌≤◌, ◌^◌, List, [], ◌∷◌, ◌++◌, length, map, cond, true, false, Option, Some, None, IsSome, refl, subst, inl, inr, sym, ap, ◌∙◌, arith, eqb, add-one, eq-eqb, ne_eqb}
+use Rattle.std.proofs.Common.{◌≡◌, ◌≢◌, ℕ, ◌+◌, ◌<◌, ◌^◌, List, [], ◌∷◌, ◌++◌, length, map, Option, Some, None, IsSome, refl, subst, inl, inr, sym, ap, ◌∙◌, arith, eqb, add-one, eq-eqb}
 use Rattle.std.specs.Option.{option_map_or, option_and_then}
-use Rattle.std.specs.Map.{lookup}
-use Rattle.std.specs.Prelude.{nat_eq}
-use Rattle.std.proofs.lemmas.Bool.{cases_Bool, cases_eq, eqb-true, eqb-false, false≢true}
-use Rattle.std.proofs.lemmas.Option.{none-some}
+use Rattle.std.proofs.lemmas.Bool.{cases_Bool, cases_eq, eqb-true}
 use Rattle.bm_base.specs.declared.replica.Marks.{Marks}
 use Rattle.bm_base.specs.declared.replica.BlockInfo.{BlockInfo}
 use Rattle.bm_base.specs.Map.{get, remove, len}
@@ -12,14 +9,14 @@ use Rattle.bm_base.specs.State.{replica_at}
 use Rattle.bm_arena.specs.Triplets.{Block}
 use Rattle.bm_base.specs.SlotLists.{Among, Distinct, without}
 use Rattle.bm_base.specs.SlotLists.{first_of, slot_after}
-use Rattle.bm_arena.specs.Contents.{Contents, block_at, slot_of, marks_at, list_of, find_marks, known_of, count_up, HasHead, IsLawful, KeepsOthers}
+use Rattle.bm_arena.specs.Contents.{Contents, block_at, slot_of, marks_at, list_of, find_marks, known_of, count_up, IsLawful, KeepsOthers}
 use Rattle.bm_report.specs.declared.types.Tally.{Tally}
-use Rattle.bm_report.specs.Holding.{replicas_of, blocks_of}
-use Rattle.bm_report.specs.Midway.{after, behind, number_at, out_all, count_ups, swept_tally, IsListed, IsSwept, IsSweeping}
+use Rattle.bm_report.specs.Holding.{replicas_of}
+use Rattle.bm_report.specs.Midway.{after, behind, number_at, out_all, count_ups, swept_tally, IsSwept, IsSweeping}
 use Rattle.bm_report.proofs.Held.{replicas-out, blocks-kept}
 use Rattle.bm_report.proofs.Behind.{after-without, Among-after}
 use Rattle.bm_report.proofs.Frames.{some_there}
-use Rattle.bm_report.proofs.Maps.{Held, get-here, len-out}
+use Rattle.bm_report.proofs.Maps.{get-here, len-out}
 use Rattle.bm_report.proofs.Underway.{listed-none, listed-chain, listed-push}
 
 -- the slot after the delimiter is the first one behind it

@@ -1,4 +1,4 @@
-use Rattle.std.proofs.Common.{◌≡◌, suc, ◌∷◌, [], List, drop, length, Some, refl, subst, sym, ap, ◌∙◌, add-one}
+use Rattle.std.proofs.Common.{◌≡◌, suc, ◌∷◌, [], List, drop, length, refl, subst, sym, add-one}
 use Rattle.std.proofs.lemmas.Option.{slice_get_read}
 use Rattle.bm_arena.specs.Contents.{Contents}
 use Rattle.bm_report.specs.declared.types.Named.{Named}

@@ -1,9 +1,7 @@
-use Rattle.std.proofs.Common.{ℕ, ◌≡◌, ◌≤◌, ◌<◌, ◌+◌, List, [], ◌∷◌, ◌++◌, length, drop, refl, subst, sym, ap, ◌∙◌, arith}
+use Rattle.std.proofs.Common.{◌+◌, List, length, drop, refl, subst}
 use Rattle.std.proofs.lemmas.Option.{slice_get_read}
 use Rattle.bm_base.specs.Entries.{Told, told_by, expanded}
 use Rattle.bm_report.specs.Expanded.{of_part, told_to}
-use Rattle.bm_report.specs.Ready.{named_of}
-use Rattle.bm_report.specs.Midway.{IsSettling}
 use Rattle.bm_report.proofs.Running.{told_rest, told_out}
 use Rattle.bm_report.proofs.ByNumber.{IsUnsettled, unsettled-first, unsettled-here, unsettled-next, unsettled-last}
 use Rattle.bm_report.proofs.by_number.settle_entries.Goals as goal

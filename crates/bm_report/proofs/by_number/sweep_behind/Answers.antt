@@ -1,5 +1,4 @@
-use Rattle.std.proofs.Common.{◌≡◌, ◌<◌, ◌++◌, ◌∷◌, [], length, refl, sym, ap, ◌∙◌, arith}
-use Rattle.bm_report.specs.Midway.{behind}
+use Rattle.std.proofs.Common.{◌++◌, ◌∷◌, [], length, refl, sym, ap, ◌∙◌, arith}
 use Rattle.bm_report.proofs.Swept.{next-there, whole-behind, sweeping-first, sweeping-next, sweeping-last}
 use Rattle.bm_report.proofs.by_number.sweep_behind.Goals as goal
 

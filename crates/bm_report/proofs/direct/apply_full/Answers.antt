@@ -1,9 +1,7 @@
-use Rattle.std.proofs.Common.{ℕ, ◌≡◌, ◌≤◌, ◌<◌, ◌+◌, ◌^◌, List, length, map, IsSome, false, refl, subst, sym, ap, ◌∙◌, arith}
+use Rattle.std.proofs.Common.{List, false, refl, subst, sym, ap, ◌∙◌, arith}
 use Rattle.std.proofs.lemmas.List.{length-map}
 use Rattle.bm_base.specs.declared.limits.TheConstants.{MAX_NUMBERS}
-use Rattle.bm_base.specs.Entries.{Told}
 use Rattle.bm_base.specs.Events.{report}
-use Rattle.bm_arena.specs.Contents.{list_of, HasHead}
 use Rattle.bm_report.specs.declared.types.Named.{Named}
 use Rattle.bm_report.specs.declared.types.Tally.{Tally}
 use Rattle.bm_report.specs.Holding.{holdings_of}
@@ -14,7 +12,7 @@ use Rattle.bm_report.proofs.Maps.{Held}
 use Rattle.bm_report.proofs.Places.{list_within}
 use Rattle.bm_report.proofs.Simple.{good_excess}
 use Rattle.bm_report.proofs.ByNumber.{named-ids, here_of, room_of, told_back, entered_as, counted_as, settling_as, few_told}
-use Rattle.bm_report.proofs.Stages.{behind-fits, replicas1, here1, room1, once1, here4, good4, replicas5, blocks5, ids5, delimiter5, heads5, free5, rises5, marked2, marked3, added5, removed5}
+use Rattle.bm_report.proofs.Stages.{behind-fits, replicas1, here1, room1, once1, here4, good4, replicas5, blocks5, added5, removed5}
 use Rattle.bm_report.proofs.direct.apply_full.Goals as goal
 
 abbrev start : Tally

@@ -1,4 +1,4 @@
-use Rattle.std.proofs.Common.{◌≡◌, List, sym, subst}
+use Rattle.std.proofs.Common.{List, sym, subst}
 use Rattle.std.specs.Prelude.{IsTrue}
 use Rattle.bm_base.specs.Entries.{Told}
 use Rattle.bm_base.specs.Events.{is_named}

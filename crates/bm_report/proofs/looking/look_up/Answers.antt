@@ -1,8 +1,8 @@
-use Rattle.std.proofs.Common.{◌≡◌, ◌+◌, ◌≤◌, map, length, refl, arith}
+use Rattle.std.proofs.Common.{map, length, refl}
 use Rattle.std.proofs.lemmas.Option.{slice_get_read}
 use Rattle.bm_report.specs.Midway.{told_of}
 use Rattle.std.proofs.Common.{[]}
-use Rattle.bm_report.proofs.Aborts.{naming-none, naming-chain}
+use Rattle.bm_report.proofs.Aborts.{naming-chain}
 use Rattle.bm_report.proofs.Prepared.{prepared-chain}
 use Rattle.bm_report.proofs.Running.{told_on, told_end}
 use Rattle.bm_report.proofs.looking.look_up.Goals as goal

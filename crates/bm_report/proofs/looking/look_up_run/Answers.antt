@@ -1,4 +1,4 @@
-use Rattle.std.proofs.Common.{◌≡◌, ◌+◌, ◌*◌, ◌%◌, ◌<◌, ◌≤◌, ◌++◌, ◌∷◌, [], map, sym, ap, ◌∙◌, arith}
+use Rattle.std.proofs.Common.{◌≡◌, ◌+◌, ◌%◌, ◌≤◌, ◌++◌, ◌∷◌, [], map, sym, ap, ◌∙◌, arith}
 use Rattle.std.proofs.Math.Nat.{add-mod_right}
 use Rattle.bm_base.specs.declared.event.Entry.{Entry}
 use Rattle.bm_report.specs.Expanded.{of_part, told_from}
@@ -6,7 +6,7 @@ use Rattle.bm_report.specs.Midway.{told_of}
 use Rattle.std.proofs.Common.{refl}
 use Rattle.bm_report.proofs.Aborts.{naming-none, naming-chain}
 use Rattle.bm_report.proofs.Prepared.{prepared-none, prepared-chain}
-use Rattle.bm_report.proofs.Running.{told_first, run_step, run_end}
+use Rattle.bm_report.proofs.Running.{told_first, run_step}
 use Rattle.bm_report.proofs.looking.look_up_run.Goals as goal
 
 pub loop-next-init : goal.loop-next-init

@@ -1,4 +1,4 @@
-use Rattle.std.proofs.Common.{◌≡◌, ◌+◌, ◌-◌, ◌++◌, ◌≤◌, ◌<◌, ◌^◌, map}
+use Rattle.std.proofs.Common.{◌≡◌, ◌+◌, ◌-◌, ◌++◌, map}
 use Rattle.bm_base.specs.Entries.{told_by}
 use Rattle.bm_base.specs.Shards.{shard_of}
 use Rattle.bm_report.specs.Midway.{AreHere, HaveRoom, told_of}

@@ -1,4 +1,4 @@
-use Rattle.std.proofs.Common.{◌≡◌, ◌≤◌, sym, ap, ◌∙◌, arith}
+use Rattle.std.proofs.Common.{sym, ◌∙◌, arith}
 use Rattle.bm_report.proofs.Simple.{single-some, single-none}
 use Rattle.bm_report.proofs.tests.is_single.Goals as goal
 

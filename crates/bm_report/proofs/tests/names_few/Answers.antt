@@ -1,4 +1,4 @@
-use Rattle.std.proofs.Common.{◌≡◌, ◌≤◌, length, refl, arith}
+use Rattle.std.proofs.Common.{length, refl}
 use Rattle.std.proofs.lemmas.Option.{slice_get_read}
 use Rattle.bm_report.proofs.Simple.{numbers_low, low_next, low_all}
 use Rattle.bm_report.proofs.tests.names_few.Goals as goal

@@ -1,9 +1,5 @@
 use Rattle.std.proofs.Common.{rules, ◌≡◌, sym, ap, ◌∙◌}
-use Rattle.std.proofs.Common.{◌∷◌, [], true, Result, Ok, Err}
-use Rattle.std.specs.Prelude.{OnOk}
-use Rattle.std.specs.Result.{is_ok}
-use Rattle.std.proofs.lemmas.Bool.{false≢true}
-use Rattle.bm_base.specs.declared.refusal.Refusal.{Refusal}
+use Rattle.std.proofs.Common.{◌∷◌, []}
 use Rattle.bm_base.specs.declared.replica.Stamp.{Stamp}
 use Rattle.std.proofs.Math.Nat.{mod-one}
 use Rattle.bm_base.specs.declared.ids.Part.{Part}

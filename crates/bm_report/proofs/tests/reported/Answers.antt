@@ -1,4 +1,4 @@
-use Rattle.std.proofs.Common.{rules, ◌≡◌, sym, ap, ◌∙◌}
+use Rattle.std.proofs.Common.{rules}
 use Rattle.bm_report.proofs.Simple.{simple_once, simple_good}
 use Rattle.bm_report.proofs.tests.reported.Goals as goal
 

@@ -1,4 +1,4 @@
-use Rattle.std.proofs.Common.{◌≡◌, ◌∙◌, ◌&&◌, cond, None, map, ap}
+use Rattle.std.proofs.Common.{◌∙◌, ◌&&◌, cond, None, map, ap}
 use Rattle.bm_base.specs.Events.{is_named}
 use Rattle.bm_arena.specs.Contents.{slot_of}
 use Rattle.bm_report.specs.Ready.{Looked}

@@ -1,5 +1,4 @@
-use Rattle.std.proofs.Common.{◌≡◌, ◌≤◌, ◌+◌, [], length, refl, sym, ap, ◌∙◌, arith, vec_len, vec_capacity}
-use Rattle.bm_arena.specs.Contents.{list_of}
+use Rattle.std.proofs.Common.{◌≡◌, length, sym, ap, ◌∙◌, arith}
 use Rattle.bm_report.proofs.Aborts.{names_told}
 use Rattle.bm_report.proofs.Places.{list_within}
 use Rattle.bm_report.proofs.report.Report.ready.Goals as goal
