@@ -2,7 +2,7 @@
 ghost use Rattle.std.specs.Prelude.{◌≡◌, ◌≢◌, ◌≤◌, ◌==◌, ℕ, if◌then◌else◌, IsSome, IsSomeAnd, None, Some, [], IfOk, IfErr, OnOk, OnErr, IsOk};
 ghost use Rattle.bm_base.specs.declared.refusal.Refusal.TheVariants.{Memory};
 ghost use Rattle.bm_arena.specs.Triplets.{Block, change_block};
-ghost use Rattle.bm_arena.specs.Contents.{dropped, room_at, with_room, with_marks, with_info, block_at, slot_of, IsAdded, HasRoom, IsLawful};
+ghost use Rattle.bm_arena.specs.Contents.{dropped, room_at, with_room, with_marks, with_info, block_at, marks_at, known_of, slot_of, IsAdded, HasRoom, IsLawful};
 
 use crate::arena::{Arena, Slot};
 use crate::types::Entry;
@@ -78,6 +78,10 @@ impl Arena {
     /// changes. Takes no memory.
     pub fn set_marks(&mut self, slot: Slot, storage: StorageId, marks: Marks)
         ensures after { self.new ≡ record self.old { blocks = change_block (with_marks storage marks) self.old.blocks slot } }
+        ensures marks { IsSome (marks_at self.old slot storage) → marks_at self.new slot storage ≡ Some marks }
+        ensures beside { (other : ℕ) → other ≢ storage → marks_at self.new slot other ≡ marks_at self.old slot other }
+        ensures others { (other : ℕ) → other ≢ slot → block_at self.new other ≡ block_at self.old other }
+        ensures known { known_of (block_at self.new slot) ≡ known_of (block_at self.old slot) }
         ensures lawful { IsLawful self.new }
     {
         links::set_marks(&mut self.slots, slot, storage.0, marks);

@@ -15,7 +15,7 @@ use Rattle.bm_report.specs.declared.types.Applied.{Applied}
 use Rattle.bm_report.specs.Holding.{replicas_of, blocks_of, holdings_of, info_at}
 use Rattle.bm_report.specs.Midway.{midway_marks, settled, count_ups, IsFramed, IsOncePerNode, IsReceived}
 use Rattle.bm_report.proofs.Held.{get-blocks_of, replicas-put, replicas-out, blocks-kept}
-use Rattle.bm_report.proofs.Frames.{set_at, set-elsewhere, set-known, set-marks, set-others}
+use Rattle.bm_arena.proofs.Marked.{set_at, set-elsewhere, set-known, set-marks, set-others}
 use Rattle.bm_report.proofs.Maps.{Held, tie, tied, get-here, some_is, entered_at, put-known, len-out}
 use Rattle.bm_report.proofs.Reported.{entered_settled}
 use Rattle.bm_report.proofs.Counting.{has, new-same, new-more, came_and_went, len-same, has-entered}

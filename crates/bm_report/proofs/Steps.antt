@@ -12,7 +12,8 @@ use Rattle.bm_report.specs.Holding.{replicas_of}
 use Rattle.bm_report.specs.Midway.{behind, IsFramed, IsOncePerNode}
 use Rattle.bm_report.proofs.Held.{replicas-put, replicas-out}
 use Rattle.bm_report.proofs.Behind.{behind-linked, behind-moved, behind-kept}
-use Rattle.bm_report.proofs.Frames.{framed, framed-chain, is_there, some_there, set_at, set-elsewhere, set-known, set-marks, set-others}
+use Rattle.bm_report.proofs.Frames.{framed, framed-chain, is_there, some_there}
+use Rattle.bm_arena.proofs.Marked.{set_at, set-elsewhere, set-known, set-marks, set-others}
 use Rattle.bm_report.proofs.Sisters.{sisters_apart}
 use Rattle.bm_report.proofs.Maps.{get-here, insert-same, some_is, is_replaced, entered_at, put-alone, put-moved, len-put_new, len-out}
 

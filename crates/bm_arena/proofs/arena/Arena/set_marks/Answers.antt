@@ -1,5 +1,7 @@
 use Rattle.bm_arena.proofs.Lawfulness.{IsLawful-arena}
-use Rattle.std.proofs.Common.{refl}
+use Rattle.std.proofs.Common.{◌≡◌, ◌≢◌, ℕ, Some, IsSome, refl, sym, subst}
+use Rattle.bm_arena.specs.Contents.{Contents, block_at, marks_at, known_of}
+use Rattle.bm_arena.proofs.Marked.{set-marks, set-others, set-elsewhere, set-known}
 use Rattle.bm_arena.proofs.Relinked.{set_marks-arena, set_marks-lists, set_marks-blocks}
 use Rattle.bm_arena.proofs.Bounds.{below-changed}
 use Rattle.bm_arena.proofs.arena.Arena.set_marks.Goals as goal
@@ -20,3 +22,23 @@ returns-clause-after c =
 
 pub returns-clause-lawful : goal.returns-clause-lawful
 returns-clause-lawful c = IsLawful-arena _ _ _ _ _ (invariant_of-self c) _
+
+pub returns-clause-marks : goal.returns-clause-marks
+returns-clause-marks c =
+    let P : Contents → Type 0 = λ x. IsSome (marks_at c.args.self.now c.args.slot c.args.storage) → marks_at x c.args.slot c.args.storage ≡ Some c.args.marks in
+    subst P (sym (returns-clause-after c)) (set-marks c.args.self.now c.args.slot c.args.storage c.args.marks)
+
+pub returns-clause-beside : goal.returns-clause-beside
+returns-clause-beside c =
+    let P : Contents → Type 0 = λ x. (other : ℕ) → other ≢ c.args.storage → marks_at x c.args.slot other ≡ marks_at c.args.self.now c.args.slot other in
+    subst P (sym (returns-clause-after c)) (set-others c.args.self.now c.args.slot c.args.storage c.args.marks)
+
+pub returns-clause-others : goal.returns-clause-others
+returns-clause-others c =
+    let P : Contents → Type 0 = λ x. (other : ℕ) → other ≢ c.args.slot → block_at x other ≡ block_at c.args.self.now other in
+    subst P (sym (returns-clause-after c)) (set-elsewhere c.args.self.now c.args.slot c.args.storage c.args.marks)
+
+pub returns-clause-known : goal.returns-clause-known
+returns-clause-known c =
+    let P : Contents → Type 0 = λ x. known_of (block_at x c.args.slot) ≡ known_of (block_at c.args.self.now c.args.slot) in
+    subst P (sym (returns-clause-after c)) (set-known c.args.self.now c.args.slot c.args.storage c.args.marks)
