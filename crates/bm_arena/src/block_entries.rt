@@ -59,6 +59,9 @@ impl Arena {
         ensures had_room { HasRoom self.old slot → self.new ≡ self.old }
         ensures rest { self.new ≡ record self.old { blocks = change_block (with_room (room_at self.new slot)) self.old.blocks slot } }
         ensures grows { room_at self.old slot ≤ room_at self.new slot }
+        ensures marks { (other storage : ℕ) → marks_at self.new other storage ≡ marks_at self.old other storage }
+        ensures others { (other : ℕ) → other ≢ slot → block_at self.new other ≡ block_at self.old other }
+        ensures known { known_of (block_at self.new slot) ≡ known_of (block_at self.old slot) }
         ensures refused { IfErr result (λ e. e ≡ Memory) }
         ensures unchanged { OnErr result (self.new ≡ self.old) }
         ensures lawful { IsLawful self.new }

@@ -1,4 +1,6 @@
-use Rattle.std.proofs.Common.{refl}
+use Rattle.std.proofs.Common.{◌≡◌, ◌≢◌, ℕ, refl, sym, subst}
+use Rattle.bm_arena.specs.Contents.{Contents, block_at, marks_at, known_of}
+use Rattle.bm_arena.proofs.Roomy.{room-marks, room-elsewhere, room-known}
 use Rattle.std.proofs.lemmas.Bool.{false≢true}
 use Rattle.bm_arena.proofs.Lawfulness.{IsLawful-arena}
 use Rattle.bm_arena.proofs.Reading.{reserve-arena, reserve-view, room-entry}
@@ -48,3 +50,18 @@ returns-clause-had_room c room =
     let has = rw (← c.self.view_is) at room in
     let same = c.reserve_triplets.ensures.had_room (room-entry c.self.inside.slots c.args.slot has) in
     rw (← c.self.view_is, same) refl
+
+pub returns-clause-marks : goal.returns-clause-marks
+returns-clause-marks c =
+    let P : Contents → Type 0 = λ x. (other storage : ℕ) → marks_at x other storage ≡ marks_at c.args.self.now other storage in
+    subst P (sym (returns-clause-rest c)) (room-marks c.args.self.now c.args.slot _)
+
+pub returns-clause-others : goal.returns-clause-others
+returns-clause-others c =
+    let P : Contents → Type 0 = λ x. (other : ℕ) → other ≢ c.args.slot → block_at x other ≡ block_at c.args.self.now other in
+    subst P (sym (returns-clause-rest c)) (room-elsewhere c.args.self.now c.args.slot _)
+
+pub returns-clause-known : goal.returns-clause-known
+returns-clause-known c =
+    let P : Contents → Type 0 = λ x. known_of (block_at x c.args.slot) ≡ known_of (block_at c.args.self.now c.args.slot) in
+    subst P (sym (returns-clause-rest c)) (room-known c.args.self.now c.args.slot _)
