@@ -1,5 +1,5 @@
 // The calls of the tool: accepted, and refused with each later check failing too.
-use crate::tests::rows::{ALL_SPENT, LAST_CALL, NOTHING, Row, USUAL, go};
+use crate::tests::rows::{ALL_SPENT, CLUSTER, LAST_CALL, NOTHING, Row, USUAL, go};
 use crate::tests::support::{FIRST_PATH, FIRST_PATH_ANSWERS, run_over, run_with, usual};
 use crate::{Fault, Summary};
 use bm_base::Config;
@@ -180,6 +180,26 @@ fn push_storages(input: &mut Vec<u8>, first: u32, count: u32) -> Result<(), Fail
         let text = format!(in *input.allocator(); ",{}", first.saturating_add(number))?;
         input.extend_from_slice(text.as_bytes())?;
     }
+    Ok(())
+}
+
+/// With the cluster's four storages 4,092 more make as many as may be.
+#[test]
+fn storages_at_the_limit(rt: HostRuntime) -> Result<(), Fail> {
+    let alloc = rt.alloc();
+    let mut input = Vec::new(alloc);
+    input.extend_from_slice(CLUSTER.as_bytes())?;
+    input.extend_from_slice(b"{\"op\":\"register\",\"node\":5,\"rack\":1,\"storages\":[1001")?;
+    push_storages(&mut input, 1002, 4091)?;
+    input.extend_from_slice(
+        b"]}\n{\"op\":\"register\",\"node\":6,\"rack\":1,\"storages\":[6000]}\n",
+    )?;
+    let (result, text) = run_over(&rt, alloc, input.as_slice());
+    assert!(rt; result.is_ok());
+    assert_eq!(rt;
+        text.as_slice().get(56..).unwrap_or(&[]),
+        b"ok 0 0\nrefused 10 TooMany\n".as_slice()
+    );
     Ok(())
 }
 
