@@ -12,8 +12,11 @@ pub mod SlotLists
 pub mod Room
 pub mod Entries
 pub mod Naming
--- What a round chooses of one part.
+-- What holds of values that were found in maps and lists.
+pub mod Options
 pub mod Each
+pub mod Maps
+-- What a round chooses of one part.
 pub mod RisingParts
 pub mod WholeChoices
 pub mod OneWish

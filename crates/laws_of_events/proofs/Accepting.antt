@@ -17,9 +17,9 @@ use Rattle.bm_base.specs.Entries.{expanded}
 use Rattle.bm_base.specs.Refusals.{first_of, is_too_long, cluster_checks, block_checks, knows_storage, knows_block, is_still_stored, is_bad_replication, refusal_of}
 use Rattle.bm_base.specs.Calls.{after_event}
 use Rattle.bm_base.specs.Lawful.{IsLawful, IsLawfulHoldings, HasFittingNumbers}
-use Rattle.laws_of_events.proofs.Options.{there, is_there, fails_not}
-use Rattle.laws_of_events.proofs.Lists.{each_all, each_mapped}
-use Rattle.laws_of_events.proofs.Maps.{Holds, get_kept, get_removed, known_revised, holds_inserted, holds_insert_all}
+use Rattle.bm_base.proofs.Options.{there, is_there, fails_not}
+use Rattle.bm_base.proofs.Each.{each_all, each_mapped}
+use Rattle.bm_base.proofs.Maps.{Holds, get_kept, get_removed, known_revised, holds_inserted, holds_insert_all}
 use Rattle.laws_of_events.proofs.Checks.{IsAccepted, accepted, all_fail, both_fail, first_fails}
 use Rattle.laws_of_events.proofs.ClusterEvents.{fit_cluster, lawful_cluster, registrable}
 use Rattle.laws_of_events.proofs.Among.{after_death, after_failure, after_registration, after_heartbeat, after_removal, after_drain, after_undrain, drained_blocks, drained_replicas, drained_before}

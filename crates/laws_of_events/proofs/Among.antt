@@ -16,9 +16,9 @@ use Rattle.bm_base.specs.Lawful.{IsLawfulHoldings}
 use Rattle.bm_base.proofs.MapLaws.{get-remove}
 use Rattle.bm_base.proofs.Keeping.{get-keep_there}
 use Rattle.bm_base.proofs.Ties.{number_tie}
-use Rattle.laws_of_events.proofs.Options.{there, is_there, not_passed, not_failed, not_taken}
-use Rattle.laws_of_events.proofs.Lists.{each_mapped, each_then, none_passes}
-use Rattle.laws_of_events.proofs.Maps.{same_key, get_kept, get_removed, get_insert_all_elsewhere}
+use Rattle.bm_base.proofs.Options.{there, is_there, not_passed, not_failed, not_taken}
+use Rattle.bm_base.proofs.Each.{each_mapped, each_then, none_passes}
+use Rattle.bm_base.proofs.Maps.{same_key, get_kept, get_removed, get_insert_all_elsewhere}
 use Rattle.laws_of_events.proofs.Clusters.{same_node, as_known, same_sisters}
 use Rattle.laws_of_events.proofs.ClusterEvents.{IsRegistrable, fresh, same_nodes}
 

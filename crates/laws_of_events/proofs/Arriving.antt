@@ -30,9 +30,9 @@ use Rattle.bm_base.specs.Rounds.{finished, whole_round}
 use Rattle.bm_base.specs.Refusals.{refusal_of, round_refusal, node_refusal, storage_refusal, block_refusal}
 use Rattle.bm_base.specs.Calls.{step, refused_or, after_event, state_after}
 use Rattle.bm_base.proofs.MapLaws.{get-empty}
-use Rattle.laws_of_events.proofs.Options.{there, is_there}
-use Rattle.laws_of_events.proofs.Lists.{Each, each_both, each_filtered, each_passing, each_appended, each_optional, least_is_one}
-use Rattle.laws_of_events.proofs.Maps.{get_kept, get_removed, known_revised, each_key, passes_entry}
+use Rattle.bm_base.proofs.Options.{there, is_there}
+use Rattle.bm_base.proofs.Each.{Each, each_both, each_filtered, each_passing, each_appended, each_optional, least_is_one}
+use Rattle.bm_base.proofs.Maps.{get_kept, get_removed, known_revised, each_key, passes_entry}
 use Rattle.laws_of_events.proofs.Clusters.{some_node}
 use Rattle.laws_of_events.proofs.Among.{drained_replicas}
 use Rattle.laws_of_events.proofs.Chosen.{made_of, unless}

@@ -12,8 +12,8 @@ use Rattle.bm_base.specs.State.{Holdings, by_replica, replica_at, replica_cmp}
 use Rattle.bm_base.specs.Replicas.{is_good, has_storage}
 use Rattle.bm_base.specs.Events.{add_block, delete_block, set_replication, restamp, make_bad, remove_replica, without_storages, without_pending, revise_block, change_holdings, as_stray, as_bad, as_restamped}
 use Rattle.bm_base.specs.Calls.{after_event}
-use Rattle.laws_of_events.proofs.Options.{there}
-use Rattle.laws_of_events.proofs.Maps.{get_kept, get_removed, get_revised, get_taken}
+use Rattle.bm_base.proofs.Options.{there}
+use Rattle.bm_base.proofs.Maps.{get_kept, get_removed, get_revised, get_taken}
 use Rattle.laws_of_events.proofs.Among.{drained_replicas}
 use Rattle.laws_of_events.proofs.ReportLaws.{report_leaves_bad, received_leaves_bad}
 use Rattle.laws_of_events.specs.Changes as law

@@ -18,8 +18,8 @@ use Rattle.bm_base.specs.declared.limits.TheConstants.{MAX_REPLICATION}
 use Rattle.bm_base.specs.Lawful.{IsLawfulHoldings}
 use Rattle.bm_base.proofs.MapLaws.{get-remove}
 use Rattle.bm_base.proofs.Ties.{number_tie}
-use Rattle.laws_of_events.proofs.Options.{there, is_there, not_passed}
-use Rattle.laws_of_events.proofs.Maps.{Holds, same_key, get_kept, get_removed, get_revised, get_elsewhere, known_inserted, known_revised, holds_inserted, passes_entry}
+use Rattle.bm_base.proofs.Options.{there, is_there, not_passed}
+use Rattle.bm_base.proofs.Maps.{Holds, same_key, get_kept, get_removed, get_revised, get_elsewhere, known_inserted, known_revised, holds_inserted, passes_entry}
 use Rattle.laws_of_events.proofs.Among.{lawful_among, among_here}
 
 fits_replication : (repl : ℕ) → is_bad_replication repl ≡ false → (1 ≤ repl) × (repl ≤ MAX_REPLICATION)

@@ -9,8 +9,8 @@ use Rattle.bm_base.specs.Replicas.{has_storage, drains}
 use Rattle.bm_base.specs.Events.{register, heartbeat, without_node, without_storage, drain, undrain, begun_to_drain, change_cluster, change_holdings}
 use Rattle.bm_base.specs.Calls.{new_replicas, done, done_by, after_event, counted}
 use Rattle.bm_base.proofs.MapLaws.{same_map, get-insert, get-remove}
-use Rattle.laws_of_events.proofs.Options.{not_there}
-use Rattle.laws_of_events.proofs.Maps.{same_key, get_here, get_other, get_taken, get_left}
+use Rattle.bm_base.proofs.Options.{not_there}
+use Rattle.bm_base.proofs.Maps.{same_key, get_here, get_other, get_taken, get_left}
 use Rattle.laws_of_events.proofs.Among.{fewer_sent, same_either, drained_blocks, drained_replicas}
 use Rattle.laws_of_events.proofs.NodeChanges.{gone_there, still_there, on_it, not_on_it}
 use Rattle.laws_of_events.proofs.ReportLaws.{none_done}

@@ -16,9 +16,9 @@ use Rattle.bm_base.specs.Replicas.{is_good, is_stray, are_sisters}
 use Rattle.bm_base.specs.Entries.{Told, count_up, run_length, told_by, expanded}
 use Rattle.bm_base.specs.Events.{was_bad, was_excess, same_stamp, entered_tag, entered, replaces, enter, is_named, leaves_by_report, report}
 use Rattle.bm_base.specs.Lawful.{IsLawfulHoldings}
-use Rattle.laws_of_events.proofs.Options.{there, is_there, not_passed}
-use Rattle.laws_of_events.proofs.Lists.{Each, each_mapped, each_then, each_flat}
-use Rattle.laws_of_events.proofs.Maps.{Holds, get_kept, get_removed, holds_insert_all}
+use Rattle.bm_base.proofs.Options.{there, is_there, not_passed}
+use Rattle.bm_base.proofs.Each.{Each, each_mapped, each_then, each_flat}
+use Rattle.bm_base.proofs.Maps.{Holds, get_kept, get_removed, holds_insert_all}
 use Rattle.laws_of_events.proofs.Clusters.{sisters_turned, no_sister_itself}
 
 not_stray : (bad same : Bool) → is_stray (if bad then Bad else if same then Good else Stale) ≡ false

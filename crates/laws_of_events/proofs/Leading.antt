@@ -13,7 +13,7 @@ use Rattle.bm_base.specs.Calls.{step, refused_or, counted, state_after}
 use Rattle.bm_base.specs.Answering.{is_refused, wants_memory, state_left, MayAnswerAll, state_left_by}
 use Rattle.bm_base.specs.Lawful.{IsLawful}
 use Rattle.laws_of_events.specs.Fitting.{HasFittingStart, FitsCall, FitCalls}
-use Rattle.laws_of_events.proofs.Lists.{Each, each_all}
+use Rattle.bm_base.proofs.Each.{Each, each_all}
 use Rattle.laws_of_events.proofs.Checks.{round_accepted}
 use Rattle.laws_of_events.proofs.First.{first_lawful}
 use Rattle.laws_of_events.proofs.Rounding.{whole_lawful, counted_lawful}

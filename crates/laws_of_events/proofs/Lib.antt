@@ -1,6 +1,3 @@
-pub mod Options
-pub mod Lists
-pub mod Maps
 pub mod Clusters
 pub mod Checks
 pub mod First

@@ -17,8 +17,8 @@ use Rattle.bm_base.specs.Replicas.{is_good, is_corrupt, is_usable, is_live_on, i
 use Rattle.bm_base.specs.Levels.{level_of, level, is_at}
 use Rattle.bm_base.specs.Queries.{all_replicas, replicas_where, missing_blocks, blocks_on}
 use Rattle.bm_base.specs.Lawful.{IsLawfulHoldings}
-use Rattle.laws_of_events.proofs.Options.{there, is_there}
-use Rattle.laws_of_events.proofs.Maps.{entry_passes, passes_entry}
+use Rattle.bm_base.proofs.Options.{there, is_there}
+use Rattle.bm_base.proofs.Maps.{entry_passes, passes_entry}
 use Rattle.laws_of_events.proofs.Telling.{found_good}
 use Rattle.laws_of_events.specs.Queries as law
 

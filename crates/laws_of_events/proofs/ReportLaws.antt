@@ -27,9 +27,9 @@ use Rattle.bm_base.specs.Lawful.{IsLawfulHoldings}
 use Rattle.bm_base.proofs.MapLaws.{same_map, get-keep, get-insert}
 use Rattle.bm_base.proofs.Ties.{replica_tie}
 use Rattle.bm_base.proofs.Entries.{expanded-++, told_by-around, ids_told, has-count_up}
-use Rattle.laws_of_events.proofs.Options.{there, staying, none_stays, all_stays, stays_twice}
-use Rattle.laws_of_events.proofs.Lists.{Each, each_then}
-use Rattle.laws_of_events.proofs.Maps.{each_entry, get_here}
+use Rattle.bm_base.proofs.Options.{there, staying, none_stays, all_stays, stays_twice}
+use Rattle.bm_base.proofs.Each.{Each, each_then}
+use Rattle.bm_base.proofs.Maps.{each_entry, get_here}
 use Rattle.laws_of_events.proofs.Clusters.{no_sisters}
 use Rattle.laws_of_events.proofs.Entering.{IsKept, IsPut, enter_origin, report_origin, stays_by}
 use Rattle.laws_of_events.proofs.Telling.{tag_where, told_marks}

@@ -22,9 +22,9 @@ use Rattle.bm_base.specs.Calls.{step, refused_or, after_event}
 use Rattle.bm_base.specs.Lawful.{IsLawfulHoldings}
 use Rattle.bm_base.proofs.MapLaws.{entries-keep}
 use Rattle.bm_base.proofs.Keeping.{get-keep_there}
-use Rattle.laws_of_events.proofs.Options.{not_failed, not_passed}
-use Rattle.laws_of_events.proofs.Lists.{Each, each_then}
-use Rattle.laws_of_events.proofs.Maps.{each_entry, get_left, entry_passes, passes_entry}
+use Rattle.bm_base.proofs.Options.{not_failed, not_passed}
+use Rattle.bm_base.proofs.Each.{Each, each_then}
+use Rattle.bm_base.proofs.Maps.{each_entry, get_left, entry_passes, passes_entry}
 use Rattle.laws_of_events.proofs.Clusters.{same_node}
 use Rattle.laws_of_events.proofs.NodeChanges.{on_it, is_on_it, node_at, still_there}
 use Rattle.laws_of_events.proofs.Listing.{any_of_mapped, any_shown, stored_where, usable_marks, marks_usable, missing_is, is_missing}

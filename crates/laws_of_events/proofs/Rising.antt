@@ -15,7 +15,7 @@ use Rattle.bm_base.specs.State.{Cluster, Holdings, by_replica, replica_cmp}
 use Rattle.bm_base.specs.Replicas.{is_good, is_corrupt, storages_where}
 use Rattle.bm_base.specs.Levels.{level, is_at}
 use Rattle.bm_base.specs.Queries.{all_replicas, replicas_where, missing_blocks, blocks_on}
-use Rattle.laws_of_events.proofs.Lists.{Each, each_mapped, each_then, each_filtered, each_passing, each_both}
+use Rattle.bm_base.proofs.Each.{Each, each_mapped, each_then, each_filtered, each_passing, each_both}
 use Rattle.laws_of_events.specs.Queries as law
 
 -- each item is before those behind it

@@ -17,9 +17,9 @@ use Rattle.bm_base.specs.Rounds.{is_commanded, finished, round_with, whole_round
 use Rattle.bm_base.specs.Refusals.{last_number}
 use Rattle.bm_base.specs.Calls.{counted}
 use Rattle.bm_base.specs.Lawful.{IsLawful, IsLawfulHoldings, HasFittingNumbers}
-use Rattle.laws_of_events.proofs.Options.{there, is_there}
-use Rattle.laws_of_events.proofs.Lists.{Each, each_mapped, each_then}
-use Rattle.laws_of_events.proofs.Maps.{Holds, get_kept, get_revised, known_revised, holds_insert_all}
+use Rattle.bm_base.proofs.Options.{there, is_there}
+use Rattle.bm_base.proofs.Each.{Each, each_mapped, each_then}
+use Rattle.bm_base.proofs.Maps.{Holds, get_kept, get_revised, known_revised, holds_insert_all}
 use Rattle.laws_of_events.proofs.Among.{lawful_among, among_here}
 use Rattle.laws_of_events.proofs.Chosen.{IsPlaced, in_excess_usable, each_placed}
 

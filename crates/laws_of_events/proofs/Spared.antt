@@ -29,9 +29,9 @@ use Rattle.bm_base.specs.Rounds.{finished, whole_round}
 use Rattle.bm_base.specs.Refusals.{refusal_of, round_refusal, node_refusal, storage_refusal, block_refusal}
 use Rattle.bm_base.specs.Calls.{step, refused_or, after_event, state_after}
 use Rattle.bm_base.proofs.MapLaws.{get-empty}
-use Rattle.laws_of_events.proofs.Options.{there, is_there, not_passed, revised}
-use Rattle.laws_of_events.proofs.Lists.{Each, each_passing, each_appended, each_optional, least_is_one}
-use Rattle.laws_of_events.proofs.Maps.{get_kept, get_removed, get_taken, get_other, known_before}
+use Rattle.bm_base.proofs.Options.{there, is_there, not_passed, revised}
+use Rattle.bm_base.proofs.Each.{Each, each_passing, each_appended, each_optional, least_is_one}
+use Rattle.bm_base.proofs.Maps.{get_kept, get_removed, get_taken, get_other, known_before}
 use Rattle.laws_of_events.proofs.Clusters.{node_is}
 use Rattle.laws_of_events.proofs.ClusterEvents.{same_nodes}
 use Rattle.laws_of_events.proofs.Among.{fewer_sent}

@@ -12,8 +12,8 @@ use Rattle.bm_base.specs.Conjunction.{first, second}
 use Rattle.bm_base.specs.Map.{Map, Order, entries, get, insert, insert_all, keep, revise, remove, len, keys, contains_key}
 use Rattle.bm_base.proofs.MapLaws.{same_map, find_below, get-insert, get-keep, get-revise, get-remove, entries-revise}
 use Rattle.bm_base.proofs.Differences.{len-insert, len-keep-le}
-use Rattle.laws_of_events.proofs.Lists.{Each, each_then, each_mapped}
-use Rattle.laws_of_events.proofs.Options.{there, is_there, kept, keeps, revised, removed}
+use Rattle.bm_base.proofs.Each.{Each, each_then, each_mapped}
+use Rattle.bm_base.proofs.Options.{there, is_there, kept, keeps, revised, removed}
 
 equal : (r : Ordering) → is_eq r ≡ true → r ≡ Equal
 equal Less p = cc
