@@ -1,6 +1,6 @@
 -- What the layers above compute with: lists, marks and blocks after each list operation.
 use Rattle.std.proofs.Common.{◌≡◌, ◌≢◌, ℕ, List, [], ◌∷◌, ◌++◌, cond, eqb, Option, Some, None, IsSome, refl, subst, inl, inr, sym, ap, ◌∙◌}
-use Rattle.std.specs.Option.{option_map, option_and_then, unwrap_or}
+use Rattle.std.specs.Option.{option_map, option_and_then, option_map_or, unwrap_or}
 use Rattle.std.specs.Map.{lookup, set_value}
 use Rattle.std.specs.Prelude.{slice_index_or, IsSomeAnd, length, ◌<◌, map}
 use Rattle.std.specs.Prelude.{nat_eq}
@@ -11,7 +11,7 @@ use Rattle.bm_base.specs.declared.replica.Marks.{Marks}
 use Rattle.bm_arena.specs.declared.types.Triplet.{Triplet}
 use Rattle.bm_arena.specs.Triplets.{Block, change_block, find_triplet, fill_first, is_of, seen_triplet}
 use Rattle.bm_base.specs.SlotLists.{Among, Distinct, without}
-use Rattle.bm_arena.specs.Contents.{Contents, block_at, list_of, HasHead, marks_at, find_marks, with_list, with_replica, without_replica, linked_front, unlinked, moved_front, HasRoom, IsLawful, KeepsOthers, known_of}
+use Rattle.bm_arena.specs.Contents.{Contents, block_at, list_of, HasHead, marks_at, find_marks, with_list, with_replica, without_replica, linked_front, unlinked, moved_front, HasRoom, IsLawful, KeepsOthers, known_of, room_at}
 use Rattle.bm_arena.proofs.Replicas.{keys, map-fill_first, find_marks-seen, found-fill_first_here, found-fill_first_other}
 use Rattle.bm_arena.proofs.Triplets.{get_or-set_here}
 use Rattle.bm_arena.proofs.Seeing.{marks_of}
@@ -121,6 +121,14 @@ known-changed : (h : Block → Block) → ((b : Block) → (h b).id ≡ b.id) �
 known-changed h same_id same_info None = refl
 known-changed h same_id same_info (Some b) = rw (same_id b, same_info b) refl
 
+-- how many replicas fit does not change with them
+room-same : (h : Block → Block) (a : Contents) (slot : ℕ) → ((b : Block) → (h b).room ≡ b.room) → room_at (record a { blocks = change_block h a.blocks slot }) slot ≡ room_at a slot
+room-same h a slot same = ap (λ o. option_map_or (λ (b : Block). b.room) o 0) (changed_block h a slot) ∙ by (block_at a slot)
+  where
+    by : (o : Option Block) → option_map_or (λ (b : Block). b.room) (option_map h o) 0 ≡ option_map_or (λ (b : Block). b.room) o 0
+    by None = refl
+    by (Some b) = same b
+
 pub others-linked_front : (a : Contents) (slot s : ℕ) (m : Marks) → KeepsOthers a (linked_front a slot s m) slot s
 others-linked_front a slot s m = record {
   lists = λ q differs. list_of-linked_other a slot s m q differs;
@@ -133,6 +141,7 @@ others-linked_front a slot s m = record {
   delimiter = refl;
   steps = refl;
   bound = refl;
+  room = room-same (with_replica s m) a slot (λ _. refl);
 }
   where
     stays : (q : ℕ) → q ≢ s → (o : Option Block) → option_and_then (λ (b : Block). find_marks b.replicas q) (option_map (with_replica s m) o) ≡ option_and_then (λ (b : Block). find_marks b.replicas q) o
@@ -170,6 +179,7 @@ module _ (a : Contents) (lawful : IsLawful a) (slot s : ℕ) where
     delimiter = refl;
     steps = refl;
     bound = refl;
+    room = room-same (without_replica s) a slot (λ _. refl);
   }
     where
       by : (q : ℕ) → q ≢ s → (o : Option Block) → block_at a slot ≡ o → option_and_then (λ (b : Block). find_marks (fill_first (λ (r : ℕ × Marks). eqb r.0 s) b.replicas) q) o ≡ option_and_then (λ (b : Block). find_marks b.replicas q) o
@@ -188,6 +198,7 @@ others-moved_front a slot s = record {
   delimiter = refl;
   steps = refl;
   bound = refl;
+  room = refl;
 }
 
 -- the marks of a replica that was linked, where the block has room

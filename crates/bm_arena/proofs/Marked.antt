@@ -2,11 +2,10 @@
 use Rattle.std.proofs.Common.{◌≡◌, ◌≢◌, ℕ, List, [], ◌∷◌, eqb, cond, false, Option, Some, None, IsSome, refl, inl, inr, sym, ap, ◌∙◌}
 use Rattle.std.specs.Option.{option_map, option_and_then}
 use Rattle.std.proofs.lemmas.Bool.{cases_Bool, eqb-true, ne_eqb, false≢true}
-use Rattle.std.proofs.lemmas.List.{get_or-set_other}
 use Rattle.bm_base.specs.declared.replica.Marks.{Marks}
 use Rattle.bm_arena.specs.Triplets.{Block, change_block}
 use Rattle.bm_arena.specs.Contents.{Contents, block_at, marks_at, find_marks, change_marks, with_marks, known_of}
-use Rattle.bm_arena.proofs.Triplets.{get_or-set_here}
+use Rattle.bm_arena.proofs.Changed.{changed-here, changed-elsewhere}
 
 -- the marks of one replica set
 module _ (a : Contents) (slot s : ℕ) (m : Marks) where
@@ -14,10 +13,10 @@ module _ (a : Contents) (slot s : ℕ) (m : Marks) where
   set_at = record a { blocks = change_block (with_marks s m) a.blocks slot }
 
   pub set-elsewhere : (other : ℕ) → other ≢ slot → block_at set_at other ≡ block_at a other
-  set-elsewhere other differs = get_or-set_other a.blocks slot other _ None differs
+  set-elsewhere = changed-elsewhere a slot (with_marks s m)
 
   set-here : block_at set_at slot ≡ option_map (with_marks s m) (block_at a slot)
-  set-here = get_or-set_here a.blocks slot (option_map (with_marks s m)) refl
+  set-here = changed-here a slot (with_marks s m)
 
   pub set-known : known_of (block_at set_at slot) ≡ known_of (block_at a slot)
   set-known = ap known_of set-here ∙ by (block_at a slot)

@@ -1,29 +1,23 @@
 -- What more room for a block's replicas keeps.
-use Rattle.std.proofs.Common.{◌≡◌, ◌≢◌, ℕ, Option, Some, None, refl, inl, inr, ap, ◌∙◌}
+use Rattle.std.proofs.Common.{◌≡◌, ◌≢◌, ℕ, Option, Some, None, refl, ap, ◌∙◌}
 use Rattle.std.specs.Option.{option_map, option_and_then}
-use Rattle.std.proofs.lemmas.Bool.{cases_eq}
-use Rattle.std.proofs.lemmas.List.{get_or-set_other}
 use Rattle.bm_arena.specs.Triplets.{Block, change_block}
 use Rattle.bm_arena.specs.Contents.{Contents, block_at, marks_at, find_marks, with_room, known_of}
-use Rattle.bm_arena.proofs.Triplets.{get_or-set_here}
+use Rattle.bm_arena.proofs.Changed.{changed-here, changed-elsewhere, changed-blind}
 
 module _ (a : Contents) (slot room : ℕ) where
   abbrev pub with_more_room : Contents
   with_more_room = record a { blocks = change_block (with_room room) a.blocks slot }
 
   pub room-here : block_at with_more_room slot ≡ option_map (with_room room) (block_at a slot)
-  room-here = get_or-set_here a.blocks slot (option_map (with_room room)) refl
+  room-here = changed-here a slot (with_room room)
 
   pub room-elsewhere : (other : ℕ) → other ≢ slot → block_at with_more_room other ≡ block_at a other
-  room-elsewhere other differs = get_or-set_other a.blocks slot other _ None differs
+  room-elsewhere = changed-elsewhere a slot (with_room room)
 
   -- what does not look at the room
   pub room-blind : {X : Type 0} (f : Block → Option X) → ((b : Block) → f (with_room room b) ≡ f b) → (x : ℕ) → option_and_then f (block_at with_more_room x) ≡ option_and_then f (block_at a x)
-  room-blind f same x =
-      elim (cases_eq x slot) [
-        | inl here ↦ rw here (ap (option_and_then f) room-here ∙ by (block_at a slot))
-        | inr other ↦ ap (option_and_then f) (room-elsewhere x other)
-      ]
+  room-blind f same x = changed-blind a slot (with_room room) (option_and_then f) by x
     where
       by : (o : Option Block) → option_and_then f (option_map (with_room room) o) ≡ option_and_then f o
       by None = refl

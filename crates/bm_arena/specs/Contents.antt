@@ -173,7 +173,7 @@ abbrev pub known_of : Option Block → Option (ℕ × Option BlockInfo)
 known_of o = option_map (λ (b : Block). (b.id, b.info)) o
 
 -- what a list operation keeps: all lists but the storage's, all blocks but the slot's, and of that block its number, what is
--- known of it and its replicas on other storages; one step more is counted
+-- known of it, its replicas on other storages and how many fit; one step more is counted
 pub record KeepsOthers (old new : Contents) (slot storage : ℕ) : Type 0 where
   pub lists : (other : ℕ) → other ≢ storage → list_of new other ≡ list_of old other
   pub heads : (other : ℕ) → HasHead old other → HasHead new other
@@ -183,4 +183,26 @@ pub record KeepsOthers (old new : Contents) (slot storage : ℕ) : Type 0 where
   pub ids : new.ids ≡ old.ids
   pub delimiter : new.delimiter ≡ old.delimiter
   pub steps : new.steps ≡ count_up old.steps
+  pub bound : new.bound ≡ old.bound
+  pub room : room_at new slot ≡ room_at old slot
+
+-- what a change of the block in a slot keeps that is none of a list: all lists, all other blocks, how many replicas fit, and all
+-- numbers with their slots
+pub record KeepsAllBut (slot : ℕ) (old new : Contents) : Type 0 where
+  pub lists : new.lists ≡ old.lists
+  pub blocks : (other : ℕ) → other ≢ slot → block_at new other ≡ block_at old other
+  pub room : (other : ℕ) → room_at new other ≡ room_at old other
+  pub ids : new.ids ≡ old.ids
+  pub delimiter : new.delimiter ≡ old.delimiter
+  pub steps : new.steps ≡ old.steps
+  pub bound : new.bound ≡ old.bound
+
+-- All entries stay, whatever replicas come, go or get other marks: each number keeps its slot, and each slot what is known of its
+-- block and how many replicas fit there; a storage with a head keeps one.
+pub record KeepsEntries (old new : Contents) : Type 0 where
+  pub ids : new.ids ≡ old.ids
+  pub known : (slot : ℕ) → known_of (block_at new slot) ≡ known_of (block_at old slot)
+  pub room : (slot : ℕ) → room_at new slot ≡ room_at old slot
+  pub heads : (storage : ℕ) → HasHead old storage → HasHead new storage
+  pub delimiter : new.delimiter ≡ old.delimiter
   pub bound : new.bound ≡ old.bound

@@ -1,7 +1,9 @@
 // The arena: its fields, what a contract sees of them, and its making.
 ghost use Rattle.std.specs.Prelude.{◌≡◌, ◌≢◌, ◌+◌, ℕ, None, Some, [], IfOk, IfErr};
 ghost use Rattle.bm_base.specs.declared.refusal.Refusal.TheVariants.{Memory};
+ghost use Rattle.bm_base.specs.Map.{empty};
 ghost use Rattle.bm_arena.specs.Contents.{block_at, empty_block, count_up, IsLawful};
+ghost use Rattle.bm_arena.specs.Holding.{replicas_of, blocks_of};
 
 use crate::types::Entry;
 use bm_base::{Refusal, SlotLink};
@@ -72,6 +74,8 @@ impl Arena {
         ensures blocks { IfOk result (λ a. (slot : ℕ) → slot ≢ a.delimiter → block_at a slot ≡ None) }
         ensures delimiter { IfOk result (λ a. block_at a a.delimiter ≡ Some (empty_block 0)) }
         ensures bound { IfOk result (λ a. a.bound ≡ a.delimiter + 1) }
+        ensures replicas { IfOk result (λ a. replicas_of a ≡ empty) }
+        ensures known { IfOk result (λ a. blocks_of a ≡ empty) }
         ensures lawful { IfOk result (λ a. IsLawful a) }
         ensures refused { IfErr result (λ e. e ≡ Memory) }
     {

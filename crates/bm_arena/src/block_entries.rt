@@ -2,7 +2,10 @@
 ghost use Rattle.std.specs.Prelude.{◌≡◌, ◌≢◌, ◌≤◌, ◌==◌, ℕ, if◌then◌else◌, IsSome, IsSomeAnd, None, Some, [], IfOk, IfErr, OnOk, OnErr, IsOk};
 ghost use Rattle.bm_base.specs.declared.refusal.Refusal.TheVariants.{Memory};
 ghost use Rattle.bm_arena.specs.Triplets.{Block, change_block};
-ghost use Rattle.bm_arena.specs.Contents.{dropped, room_at, with_room, with_marks, with_info, block_at, marks_at, known_of, slot_of, IsAdded, HasRoom, IsLawful};
+ghost use Rattle.bm_arena.specs.Contents.{dropped, room_at, with_room, with_marks, with_info, block_at, marks_at, known_of, slot_of, IsAdded, HasRoom, IsLawful, KeepsAllBut};
+ghost use Rattle.bm_arena.specs.Holding.{replicas_of, blocks_of, with_known};
+ghost use Rattle.bm_base.specs.Map.{insert};
+ghost use Rattle.bm_base.specs.State.{replica_at};
 
 use crate::arena::{Arena, Slot};
 use crate::types::Entry;
@@ -18,6 +21,8 @@ impl Arena {
         ensures there { IsSome (slot_of self.old id) → IsOk result }
         ensures known { IfOk result (λ slot. IsSome (slot_of self.old id) → (slot_of self.old id ≡ Some slot) × (self.new ≡ self.old)) }
         ensures added { IfOk result (λ slot. slot_of self.old id ≡ None → IsAdded self.old self.new id slot) }
+        ensures replicas { replicas_of self.new ≡ replicas_of self.old }
+        ensures blocks { blocks_of self.new ≡ blocks_of self.old }
         ensures refused { IfErr result (λ e. e ≡ Memory) }
         ensures unchanged { OnErr result (self.new ≡ self.old) }
         ensures lawful { IsLawful self.new }
@@ -62,6 +67,8 @@ impl Arena {
         ensures marks { (other storage : ℕ) → marks_at self.new other storage ≡ marks_at self.old other storage }
         ensures others { (other : ℕ) → other ≢ slot → block_at self.new other ≡ block_at self.old other }
         ensures known { known_of (block_at self.new slot) ≡ known_of (block_at self.old slot) }
+        ensures replicas { replicas_of self.new ≡ replicas_of self.old }
+        ensures blocks { blocks_of self.new ≡ blocks_of self.old }
         ensures refused { IfErr result (λ e. e ≡ Memory) }
         ensures unchanged { OnErr result (self.new ≡ self.old) }
         ensures lawful { IsLawful self.new }
@@ -72,6 +79,11 @@ impl Arena {
     /// Sets what is known of the block in `slot`: None where it is no known block. Nothing else changes. Takes no memory.
     pub fn set_info(&mut self, slot: Slot, info: Option<BlockInfo>)
         ensures after { self.new ≡ record self.old { blocks = change_block (with_info info) self.old.blocks slot } }
+        ensures entry { (b : Block) → block_at self.old slot ≡ Some b → block_at self.new slot ≡ Some (with_info info b) }
+        ensures marks { (other storage : ℕ) → marks_at self.new other storage ≡ marks_at self.old other storage }
+        ensures rest { KeepsAllBut slot self.old self.new }
+        ensures replicas { replicas_of self.new ≡ replicas_of self.old }
+        ensures blocks { (id : ℕ) → slot_of self.old id ≡ Some slot → blocks_of self.new ≡ with_known (blocks_of self.old) id info }
         ensures lawful { IsLawful self.new }
     {
         links::set_info(&mut self.slots, slot, info);
@@ -85,6 +97,10 @@ impl Arena {
         ensures beside { (other : ℕ) → other ≢ storage → marks_at self.new slot other ≡ marks_at self.old slot other }
         ensures others { (other : ℕ) → other ≢ slot → block_at self.new other ≡ block_at self.old other }
         ensures known { known_of (block_at self.new slot) ≡ known_of (block_at self.old slot) }
+        ensures rest { KeepsAllBut slot self.old self.new }
+        ensures replicas { (id : ℕ) → slot_of self.old id ≡ Some slot → IsSome (marks_at self.old slot storage) →
+            replicas_of self.new ≡ insert (replicas_of self.old) (replica_at id storage) marks }
+        ensures blocks { blocks_of self.new ≡ blocks_of self.old }
         ensures lawful { IsLawful self.new }
     {
         links::set_marks(&mut self.slots, slot, storage.0, marks);

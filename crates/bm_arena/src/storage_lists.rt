@@ -4,7 +4,10 @@ ghost use Rattle.std.specs.Option.{unwrap_or};
 ghost use Rattle.indexmap.specs.IndexMap.{swap_remove_entry};
 ghost use Rattle.bm_base.specs.declared.refusal.Refusal.TheVariants.{Memory};
 ghost use Rattle.bm_base.specs.SlotLists.{slot_after};
-ghost use Rattle.bm_arena.specs.Contents.{IsReserved, no_marks, list_of, slot_before, HasHead, HasRoom, marks_at, linked_front, unlinked, moved_front, KeepsOthers, IsLawful};
+ghost use Rattle.bm_arena.specs.Contents.{IsReserved, no_marks, list_of, slot_before, HasHead, HasRoom, marks_at, linked_front, unlinked, moved_front, KeepsOthers, IsLawful, slot_of};
+ghost use Rattle.bm_arena.specs.Holding.{replicas_of, blocks_of};
+ghost use Rattle.bm_base.specs.Map.{insert, remove};
+ghost use Rattle.bm_base.specs.State.{replica_at};
 ghost use Rattle.bm_base.specs.SlotLists.{without};
 
 use crate::arena::{Arena, Slot, count_up};
@@ -70,6 +73,8 @@ impl Arena {
         ensures list { list_of self.new storage ≡ slot ∷ list_of self.old storage }
         ensures marks { marks_at self.new slot storage ≡ Some marks }
         ensures others { KeepsOthers self.old self.new slot storage }
+        ensures replicas { (id : ℕ) → slot_of self.old id ≡ Some slot → replicas_of self.new ≡ insert (replicas_of self.old) (replica_at id storage) marks }
+        ensures known { blocks_of self.new ≡ blocks_of self.old }
         ensures lawful { IsLawful self.new }
     {
         if let Some(first) = self.heads.get_mut(&storage.0) {
@@ -93,6 +98,8 @@ impl Arena {
         ensures list { list_of self.new storage ≡ without slot (list_of self.old storage) }
         ensures marks { marks_at self.new slot storage ≡ None }
         ensures others { KeepsOthers self.old self.new slot storage }
+        ensures replicas { (id : ℕ) → slot_of self.old id ≡ Some slot → replicas_of self.new ≡ remove (replicas_of self.old) (replica_at id storage) }
+        ensures known { blocks_of self.new ≡ blocks_of self.old }
         ensures lawful { IsLawful self.new }
     {
         if let Some(triplet) = links::find(&self.slots, slot, storage.0) {
@@ -111,6 +118,8 @@ impl Arena {
         ensures list { list_of self.new storage ≡ slot ∷ without slot (list_of self.old storage) }
         ensures blocks { self.new.blocks ≡ self.old.blocks }
         ensures others { KeepsOthers self.old self.new slot storage }
+        ensures replicas { replicas_of self.new ≡ replicas_of self.old }
+        ensures known { blocks_of self.new ≡ blocks_of self.old }
         ensures lawful { IsLawful self.new }
     {
         if let Some(triplet) = links::find(&self.slots, slot, storage.0) {

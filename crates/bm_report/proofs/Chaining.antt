@@ -12,9 +12,9 @@ use Rattle.bm_base.specs.SlotLists.{without}
 use Rattle.bm_arena.specs.Contents.{Contents, slot_of, marks_at, count_up}
 use Rattle.bm_report.specs.declared.types.Named.{Named}
 use Rattle.bm_report.specs.declared.types.Tally.{Tally}
-use Rattle.bm_report.specs.Holding.{replicas_of, blocks_of, info_at}
+use Rattle.bm_arena.specs.Holding.{replicas_of, blocks_of, info_at}
 use Rattle.bm_report.specs.Midway.{entered_one, entered_all, fresh, midway_marks, is_settled, behind, without_all, count_ups, AreHere, HaveRoom, IsFramed, IsEntered, IsCounted, IsOncePerNode, IsExcessGood, moved_tally, linked_tally}
-use Rattle.bm_report.proofs.Held.{get-blocks_of}
+use Rattle.bm_arena.proofs.Held.{get-blocks_of}
 use Rattle.bm_report.proofs.Frames.{framed-none, framed-chain}
 use Rattle.bm_report.proofs.Maps.{Held, get-here, entered_at, put-known, some_is, len-put_known}
 use Rattle.bm_report.proofs.Once.{settled-entered_at}

@@ -3,7 +3,7 @@ use Rattle.std.proofs.Common.{false, ◌≡◌, ◌≢◌, ℕ, List, [], ◌∷
 use Rattle.std.specs.Option.{option_and_then, option_map_or}
 use Rattle.bm_base.specs.declared.replica.BlockInfo.{BlockInfo}
 use Rattle.bm_base.specs.State.{Cluster}
-use Rattle.bm_report.specs.Holding.{holdings_of, info_at}
+use Rattle.bm_arena.specs.Holding.{holdings_of, info_at}
 use Rattle.bm_report.specs.Ready.{StandAlready}
 use Rattle.bm_report.proofs.Maps.{get-here}
 use Rattle.bm_report.proofs.Received.{marks_are}

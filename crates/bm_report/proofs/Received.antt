@@ -9,13 +9,16 @@ use Rattle.bm_base.specs.Events.{replaces, enter, entered}
 use Rattle.bm_base.specs.Calls.{new_replicas}
 use Rattle.bm_base.proofs.MapLaws.{same_map, get-insert, get-remove}
 use Rattle.bm_base.proofs.Differences.{none_new}
-use Rattle.bm_arena.specs.Contents.{Contents, block_at, slot_of, marks_at, IsLawful, KeepsOthers}
+use Rattle.bm_arena.specs.Triplets.{Block}
+use Rattle.bm_arena.specs.Contents.{Contents, block_at, slot_of, marks_at, find_marks, IsLawful, KeepsOthers}
 use Rattle.bm_report.specs.declared.types.Named.{Named}
 use Rattle.bm_report.specs.declared.types.Applied.{Applied}
-use Rattle.bm_report.specs.Holding.{replicas_of, blocks_of, holdings_of, info_at}
-use Rattle.bm_report.specs.Midway.{midway_marks, settled, count_ups, IsFramed, IsOncePerNode, IsReceived}
-use Rattle.bm_report.proofs.Held.{get-blocks_of, replicas-put, replicas-out, blocks-kept}
+use Rattle.bm_arena.specs.Holding.{replicas_of, blocks_of, holdings_of, info_at}
+use Rattle.bm_report.specs.Midway.{midway_marks, settled, count_ups, IsFramed, IsOncePerNode}
+use Rattle.bm_report.specs.Received.{HasReceived}
+use Rattle.bm_arena.proofs.Held.{get-blocks_of, replicas-put, replicas-out, blocks-kept}
 use Rattle.bm_arena.proofs.Marked.{set_at, set-elsewhere, set-known, set-marks, set-others}
+use Rattle.bm_arena.proofs.Staying.{set-entries}
 use Rattle.bm_report.proofs.Maps.{Held, tie, tied, get-here, some_is, entered_at, put-known, len-out}
 use Rattle.bm_report.proofs.Reported.{entered_settled}
 use Rattle.bm_report.proofs.Counting.{has, new-same, new-more, came_and_went, len-same, has-entered}
@@ -71,38 +74,34 @@ module _ (C : Cluster) (a : Contents) (s : ℕ) (n : Named) (lawful : IsLawful a
       let none = none_came in
       omega (arith, both, length_is, none)
 
-  pub received-known : (r : Applied) → r.added ≡ 0 → r.removed ≡ 0 → r.steps ≡ 0 → IsReceived C s n a (set_at a n.slot s m) r
+  pub received-known : (r : Applied) → r.added ≡ 0 → r.removed ≡ 0 → r.steps ≡ 0 → HasReceived C s n.id n.stamp a (set_at a n.slot s m) r
   received-known r no_add no_remove no_steps = record {
     replicas = put_as ∙ entering_is C a s n here m m_is;
     blocks = blocks-kept a (set_at a n.slot s m) n.slot refl (set-elsewhere a n.slot s m) (set-known a n.slot s m);
-    ids = refl;
-    delimiter = refl;
-    marker = set-elsewhere a n.slot s m a.delimiter (λ e. (lawful.found n.id n.slot here).0 (sym e));
-    heads = λ t h. h;
-    others = set-elsewhere a n.slot s m;
+    others = λ x other. set-elsewhere a n.slot s m x (λ e. other (here ∙ ap (λ k. Some k) (sym e)));
+    free = λ t. ap (λ o. option_and_then (λ (b : Block). find_marks b.replicas t) o) (set-elsewhere a n.slot s m a.delimiter (λ e. (lawful.found n.id n.slot here).0 (sym e)));
     added = no_add ∙ sym none_came;
     removed = no_remove ∙ sym none_went;
     steps = omega arith;
-    rises = sym (ap (λ k. count_ups k a.steps) no_steps);
+    counted = sym (ap (λ k. count_ups k a.steps) no_steps);
+    entries = set-entries a n.slot s m;
   }
 
 -- it was not there: it is linked
 pub received-new : (C : Cluster) (a c : Contents) (s : ℕ) (n : Named) (here : slot_of a n.id ≡ Some n.slot) → marks_at a n.slot s ≡ None → (m : Marks) → m ≡ marks_then C a s n here
     → replicas_of c ≡ entered_at C (replicas_of a) (replica_at n.id s) m → IsFramed s a c → ((slot : ℕ) → slot ≢ n.slot → block_at c slot ≡ block_at a slot)
     → (has_left : Bool) → cond has_left 1 0 + len (replicas_of c) ≡ len (replicas_of a) + 1 → c.steps ≡ count_ups (cond has_left 2 1) a.steps
-    → (r : Applied) → r.added ≡ 1 → r.removed ≡ cond has_left 1 0 → r.steps ≡ cond has_left 2 1 → IsReceived C s n a c r
+    → (r : Applied) → r.added ≡ 1 → r.removed ≡ cond has_left 1 0 → r.steps ≡ cond has_left 2 1 → HasReceived C s n.id n.stamp a c r
 received-new C a c s n here absent m m_is replicas frame others has_left lengths rises r one left steps = record {
   replicas = replicas ∙ entering_is C a s n here m m_is;
   blocks = frame.blocks;
-  ids = frame.ids;
-  delimiter = frame.delimiter;
-  marker = frame.marker;
-  heads = frame.heads;
-  others = others;
+  others = λ x other. others x (λ e. other (here ∙ ap (λ k. Some k) (sym e)));
+  free = λ t. ap (λ o. option_and_then (λ (b : Block). find_marks b.replicas t) o) (ap (block_at c) frame.delimiter ∙ frame.marker);
   added = one ∙ sym came_one;
   removed = let both = came_and_went (replicas_of a) (replicas_of c) in let e = came_one in omega (arith, both, e, lengths, left);
   steps = sums has_left steps left;
-  rises = rises ∙ sym (ap (λ k. count_ups k a.steps) steps);
+  counted = rises ∙ sym (ap (λ k. count_ups k a.steps) steps);
+  entries = frame.entries;
 }
   where
     out : has (replicas_of a) (replica_at n.id s) ≡ false

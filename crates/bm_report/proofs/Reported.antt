@@ -18,7 +18,7 @@ use Rattle.bm_base.proofs.MapLaws.{same_map, get-insert, get-keep, get-remove}
 use Rattle.bm_base.proofs.Ties.{replica_tie}
 use Rattle.bm_report.specs.declared.types.Named.{Named}
 use Rattle.bm_report.specs.Midway.{midway_marks, settled, entered_one, entered_all, out_all, settled_one, settled_all, last_stamp, told_of}
-use Rattle.bm_report.proofs.Words.{eqb_turned}
+use Rattle.bm_arena.proofs.Words.{eqb_turned}
 use Rattle.bm_report.proofs.Sisters.{no_sister_itself}
 use Rattle.bm_report.proofs.Maps.{Held, tie, tied}
 use Rattle.bm_report.proofs.Once.{get-entered_at}
@@ -279,7 +279,7 @@ module _ (C : Cluster) (H : Holdings) (s : ℕ) where
   unfolding leaves_by_report
   leaves_other ns q other = rw other (ap (λ t. t && are_sisters C s q.storage) (named_last ns q.block))
 
-  report_own : (ns : List Named) (q : ReplicaId) → (q.storage == s) ≡ true → get (report C H s (map told_of ns)).replicas q ≡ option_map (entered H q) (last_stamp ns q.block)
+  pub report_own : (ns : List Named) (q : ReplicaId) → (q.storage == s) ≡ true → get (report C H s (map told_of ns)).replicas q ≡ option_map (entered H q) (last_stamp ns q.block)
   report_own ns q own =
       get-report ns q ∙ (λ i. option_or (last_own ns q own i) (cond (not (leaves_own ns q own i)) (get H.replicas q) None)) ∙ only (last_stamp ns q.block) (get H.replicas q)
     where
@@ -287,7 +287,7 @@ module _ (C : Cluster) (H : Holdings) (s : ℕ) where
       only None z = refl
       only (Some x) z = refl
 
-  report_other : (ns : List Named) (q : ReplicaId) → (q.storage == s) ≡ false → get (report C H s (map told_of ns)).replicas q ≡ cond (is_some (last_stamp ns q.block) && are_sisters C s q.storage) None (get H.replicas q)
+  pub report_other : (ns : List Named) (q : ReplicaId) → (q.storage == s) ≡ false → get (report C H s (map told_of ns)).replicas q ≡ cond (is_some (last_stamp ns q.block) && are_sisters C s q.storage) None (get H.replicas q)
   report_other ns q other =
       get-report ns q ∙ (λ i. option_or (last_other ns q other i) (cond (not (leaves_other ns q other i)) (get H.replicas q) None)) ∙ turn (is_some (last_stamp ns q.block) && are_sisters C s q.storage) (get H.replicas q)
     where

@@ -18,11 +18,11 @@ use Rattle.bm_base.specs.State.{Cluster, by_replica}
 use Rattle.bm_base.specs.Replicas.{are_sisters, is_good}
 use Rattle.bm_arena.specs.Triplets.{Block}
 use Rattle.bm_arena.specs.Contents.{Contents, block_at, slot_of, marks_at, find_marks, IsLawful}
-use Rattle.bm_report.specs.Holding.{replicas_of}
+use Rattle.bm_arena.specs.Holding.{replicas_of}
 use Rattle.bm_report.specs.Midway.{IsOncePerNode, IsExcessGood, is_settled}
 use Rattle.bm_report.specs.Ready.{HasGoodExcess}
 use Rattle.bm_report.specs.Tested.{IsSingle, AreLow}
-use Rattle.bm_report.proofs.Held.{get-replicas_of}
+use Rattle.bm_arena.proofs.Held.{get-replicas_of}
 use Rattle.bm_report.proofs.Sisters.{no_sister_itself}
 
 only_one : (rs : List (ℕ × Marks)) (s : ℕ) (r : ℕ × Marks) → length (r ∷ rs) ≤ 1 → IsSome (find_marks (r ∷ rs) s) → r.0 ≡ s

@@ -15,13 +15,14 @@ use Rattle.bm_base.specs.Events.{report}
 use Rattle.bm_base.proofs.MapLaws.{same_map, get-remove}
 use Rattle.bm_arena.specs.Triplets.{Block}
 use Rattle.bm_base.specs.SlotLists.{Among, Distinct, without}
-use Rattle.bm_arena.specs.Contents.{Contents, block_at, slot_of, marks_at, list_of, find_marks, HasHead, IsLawful, KeepsOthers, count_up}
+use Rattle.bm_arena.specs.Contents.{Contents, block_at, slot_of, marks_at, list_of, find_marks, HasHead, IsLawful, KeepsOthers, KeepsEntries, count_up}
 use Rattle.bm_base.proofs.SlotLists.{Among-without, Among-without_other, without-gone, Distinct-without}
 use Rattle.bm_report.specs.declared.types.Named.{Named}
 use Rattle.bm_report.specs.declared.types.Tally.{Tally}
-use Rattle.bm_report.specs.Holding.{replicas_of, blocks_of, holdings_of}
+use Rattle.bm_arena.specs.Holding.{replicas_of, blocks_of, holdings_of}
 use Rattle.bm_report.specs.Midway.{after, behind, without_all, number_at, entered_all, fresh, out_all, settled_all, last_stamp, told_of, count_ups, AreHere, HaveRoom, IsOncePerNode, IsExcessGood, IsEntered, IsCounted, IsSwept, IsSettling, IsListed}
-use Rattle.bm_report.proofs.Held.{get-replicas_of, blocks-kept, one_number}
+use Rattle.bm_arena.proofs.Held.{get-replicas_of, blocks-kept, one_number}
+use Rattle.bm_arena.proofs.Staying.{entries-chain, entries-others}
 use Rattle.bm_report.proofs.Behind.{Among-after}
 use Rattle.bm_report.proofs.Frames.{some_there}
 use Rattle.bm_report.proofs.Maps.{Held, tie, get-here, some_is}
@@ -251,6 +252,12 @@ module _ (C : Cluster) (s : ℕ) (ns : List Named) (a0 a1 : Contents) (lawful0 :
 
       pub ids5 : a5.ids ≡ a0.ids
       ids5 = settling.ids ∙ others4.ids ∙ swept.ids ∙ ids2
+
+      pub entries5 : KeepsEntries a0 a5
+      entries5 =
+          entries-chain a0 a1 a5 (entries-others a0 a1 a0.delimiter s others1)
+          (entries-chain a1 a2 a5 entered.frame.entries
+          (entries-chain a2 a3 a5 swept.entries (entries-chain a3 a4 a5 (entries-others a3 a4 a3.delimiter s others4) settling.entries)))
 
       pub delimiter5 : a5.delimiter ≡ a0.delimiter
       delimiter5 = settling.delimiter ∙ others4.delimiter ∙ delimiter3

@@ -8,12 +8,13 @@ use Rattle.bm_base.specs.State.{Cluster, replica_at}
 use Rattle.bm_base.specs.Replicas.{are_sisters}
 use Rattle.bm_base.specs.SlotLists.{Among, without}
 use Rattle.bm_arena.specs.Contents.{Contents, block_at, slot_of, marks_at, list_of, IsLawful, KeepsOthers}
-use Rattle.bm_report.specs.Holding.{replicas_of}
+use Rattle.bm_arena.specs.Holding.{replicas_of}
 use Rattle.bm_report.specs.Midway.{behind, IsFramed, IsOncePerNode}
-use Rattle.bm_report.proofs.Held.{replicas-put, replicas-out}
+use Rattle.bm_arena.proofs.Held.{replicas-put, replicas-out}
 use Rattle.bm_report.proofs.Behind.{behind-linked, behind-moved, behind-kept}
 use Rattle.bm_report.proofs.Frames.{framed, framed-chain, is_there, some_there}
 use Rattle.bm_arena.proofs.Marked.{set_at, set-elsewhere, set-known, set-marks, set-others}
+use Rattle.bm_arena.proofs.Staying.{entries-others, set-entries}
 use Rattle.bm_report.proofs.Sisters.{sisters_apart}
 use Rattle.bm_report.proofs.Maps.{get-here, insert-same, some_is, is_replaced, entered_at, put-alone, put-moved, len-put_new, len-out}
 
@@ -27,7 +28,7 @@ module _ (a c : Contents) (s b slot : ℕ) (was : Marks) (lawful : IsLawful a) (
   known-still = ap (λ (x : Contents). marks_at x slot s) (λ i. record c { blocks = same i }) ∙ at
 
   pub known-frame : IsFramed s a c
-  known-frame = framed a c s slot known-apart others.ids others.delimiter others.blocks others.known others.heads (is_there (marks_at c slot s) was known-still)
+  known-frame = framed a c s slot known-apart others.ids others.delimiter others.blocks others.known others.heads (is_there (marks_at c slot s) was known-still) (entries-others a c slot s others)
 
   pub known-behind : behind c s ≡ without slot (behind a s)
   known-behind = behind-moved a c s slot others.delimiter known-apart (lawful.distinct s) list
@@ -53,7 +54,7 @@ module _ (a c : Contents) (s b slot : ℕ) (was : Marks) (lawful : IsLawful a) (
     set-frame =
         framed-chain s a c (set_at c slot s m) known-frame
         (framed c (set_at c slot s m) s slot (λ e. known-apart (e ∙ others.delimiter)) refl refl (set-elsewhere c slot s m) (set-known c slot s m) (λ t h. h)
-        (is_there (marks_at (set_at c slot s m) slot s) m put))
+        (is_there (marks_at (set_at c slot s m) slot s) m put) (set-entries c slot s m))
 
     pub set-elsewhere_too : (other : ℕ) → other ≢ slot → block_at (set_at c slot s m) other ≡ block_at a other
     set-elsewhere_too other differs = set-elsewhere c slot s m other differs ∙ others.blocks other differs
@@ -65,7 +66,7 @@ module _ (C : Cluster) (a c : Contents) (s b slot : ℕ) (m : Marks) (lawful : I
   linked-apart = (lawful.found b slot here).0
 
   pub linked-frame : IsFramed s a c
-  linked-frame = framed a c s slot linked-apart others.ids others.delimiter others.blocks others.known others.heads (is_there (marks_at c slot s) m put)
+  linked-frame = framed a c s slot linked-apart others.ids others.delimiter others.blocks others.known others.heads (is_there (marks_at c slot s) m put) (entries-others a c slot s others)
 
   not_among : Among slot (list_of a s) → ⊥
   not_among among = some_there (marks_at a slot s) ((lawful.exact slot s).0 among) absent
@@ -124,7 +125,7 @@ module _ (C : Cluster) (a c : Contents) (s b slot : ℕ) (m : Marks) (lawful : I
     moved-frame =
         framed-chain s a c d linked-frame
         (framed c d s slot (λ e. linked-apart (e ∙ others.delimiter)) others_d.ids others_d.delimiter others_d.blocks others_d.known others_d.heads
-        (is_there (marks_at d slot s) m put_d))
+        (is_there (marks_at d slot s) m put_d) (entries-others c d slot t others_d))
 
     pub moved-behind : behind d s ≡ without slot (behind a s)
     moved-behind = behind-kept c d s slot others_d.delimiter (λ e. linked-apart (e ∙ others.delimiter)) (others_d.lists s (λ e. apart_t (sym e))) ∙ linked-behind

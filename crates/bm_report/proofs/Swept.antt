@@ -11,9 +11,10 @@ use Rattle.bm_base.specs.SlotLists.{Among, Distinct, without}
 use Rattle.bm_base.specs.SlotLists.{first_of, slot_after}
 use Rattle.bm_arena.specs.Contents.{Contents, block_at, slot_of, marks_at, list_of, find_marks, known_of, count_up, IsLawful, KeepsOthers}
 use Rattle.bm_report.specs.declared.types.Tally.{Tally}
-use Rattle.bm_report.specs.Holding.{replicas_of}
+use Rattle.bm_arena.specs.Holding.{replicas_of}
 use Rattle.bm_report.specs.Midway.{after, behind, number_at, out_all, count_ups, swept_tally, IsSwept, IsSweeping}
-use Rattle.bm_report.proofs.Held.{replicas-out, blocks-kept}
+use Rattle.bm_arena.proofs.Held.{replicas-out, blocks-kept}
+use Rattle.bm_arena.proofs.Staying.{entries-none, entries-chain, entries-others}
 use Rattle.bm_report.proofs.Behind.{after-without, Among-after}
 use Rattle.bm_report.proofs.Frames.{some_there}
 use Rattle.bm_report.proofs.Maps.{get-here, len-out}
@@ -82,6 +83,7 @@ swept-none s a t = record {
   removed = omega arith;
   steps = omega arith;
   lengths = omega arith;
+  entries = entries-none a;
 }
 
 pub swept-cons : (s x : ℕ) (xs : List ℕ) (a b c : Contents) (t u v : Tally) → IsSwept s (x ∷ []) a b t u → IsSwept s xs b c u v → IsSwept s (x ∷ xs) a c t v
@@ -101,6 +103,7 @@ swept-cons s x xs a b c t u v f g = record {
   removed = omega (arith, f.removed, g.removed);
   steps = omega (arith, f.steps, g.steps);
   lengths = omega (arith, f.lengths, g.lengths);
+  entries = entries-chain a b c f.entries g.entries;
 }
 
 -- the slot after the delimiter has a replica on s
@@ -168,6 +171,7 @@ module _ (s x : ℕ) (a b : Contents) (lawful : IsLawful a) (next : slot_after a
         removed = omega arith;
         steps = omega arith;
         lengths = omega (arith, fewer, here);
+        entries = entries-others a b x s others;
       })
 
   pub sweeping-next : (first : Contents) (t u v : Tally) (ls ms ns : List ℕ) → IsSweeping s first a t u ls ms → v ≡ swept_tally u → ns ≡ ms ++ x ∷ [] → IsSweeping s first b t v ls ns

@@ -5,7 +5,7 @@ use Rattle.bm_base.specs.declared.event.Entry.{Entry}
 use Rattle.bm_base.specs.Entries.{Told, count_up, expanded}
 use Rattle.bm_base.specs.Shards.{shard_of}
 use Rattle.bm_arena.specs.Contents.{Contents, block_at, slot_of, marks_at, list_of, HasHead, HasRoom}
-use Rattle.bm_report.specs.Holding.{replicas_of, blocks_of}
+use Rattle.bm_arena.specs.Holding.{replicas_of, blocks_of}
 
 -- what is told of a shard's numbers
 abbrev pub of_part : Part → List Told → List Told

@@ -11,15 +11,13 @@ use Rattle.bm_base.specs.Entries.{Told}
 use Rattle.bm_base.specs.Map.{Map, by_number, get, insert, keep, remove, contains_key, len}
 use Rattle.bm_base.specs.State.{Cluster, by_replica, replica_at}
 use Rattle.bm_base.specs.Replicas.{is_good, is_bad, are_sisters}
-use Rattle.bm_base.specs.Events.{same_stamp, replaces, enter}
+use Rattle.bm_base.specs.Events.{same_stamp, replaces}
 use Rattle.bm_arena.specs.Triplets.{Block}
 use Rattle.bm_base.specs.SlotLists.{Among, without}
-use Rattle.bm_arena.specs.Contents.{Contents, block_at, slot_of, marks_at, list_of, HasHead, HasRoom, count_up, known_of}
+use Rattle.bm_arena.specs.Contents.{Contents, block_at, slot_of, marks_at, list_of, HasHead, HasRoom, count_up, known_of, KeepsEntries}
 use Rattle.bm_report.specs.declared.types.Named.{Named}
 use Rattle.bm_report.specs.declared.types.Tally.{Tally}
-use Rattle.bm_report.specs.declared.types.Applied.{Applied}
-use Rattle.bm_base.specs.Calls.{new_replicas}
-use Rattle.bm_report.specs.Holding.{replicas_of, blocks_of, holdings_of, info_at}
+use Rattle.bm_arena.specs.Holding.{replicas_of, blocks_of, info_at}
 
 -- The marks of a reported replica while the report runs. The mark "in excess" says that it was so before the report, also
 -- where it is not good now; so a block that is named again finds what was before the report.
@@ -135,6 +133,7 @@ pub record IsFramed (s : ℕ) (old new : Contents) : Type 0 where
   pub heads : (t : ℕ) → HasHead old t → HasHead new t
   pub absent : (slot : ℕ) → marks_at new slot s ≡ None → marks_at old slot s ≡ None
   pub room : (slot : ℕ) → marks_at new slot s ≡ None → HasRoom old slot → HasRoom new slot
+  pub entries : KeepsEntries old new
 
 -- what entering named blocks on s makes of an arena
 pub record IsEntered (C : Cluster) (s : ℕ) (ns : List Named) (old new : Contents) : Type 0 where
@@ -203,6 +202,7 @@ pub record IsSwept (s : ℕ) (xs : List ℕ) (old new : Contents) (t u : Tally) 
   pub removed : u.removed ≡ t.removed + length xs
   pub steps : u.steps ≡ t.steps + length xs
   pub lengths : len (replicas_of new) + length xs ≡ len (replicas_of old)
+  pub entries : KeepsEntries old new
 
 -- some of the slots behind the delimiter are out, and the rest is to be
 pub record IsSweeping (s : ℕ) (first now : Contents) (t u : Tally) (listed_first listed_now : List ℕ) : Type 0 where
@@ -224,17 +224,4 @@ pub record IsSettling (s : ℕ) (ns : List Named) (old new : Contents) : Type 0 
   -- a block whose replicas are others has a replica whose marks were not settled
   pub others : (slot : ℕ) (m : Marks) → marks_at old slot s ≡ Some m → is_settled m ≡ true → block_at new slot ≡ block_at old slot
   pub absent : (slot : ℕ) → marks_at old slot s ≡ None → block_at new slot ≡ block_at old slot
-
--- what a received replica of a named block makes of an arena
-pub record IsReceived (C : Cluster) (s : ℕ) (n : Named) (old new : Contents) (r : Applied) : Type 0 where
-  pub replicas : replicas_of new ≡ (enter C (holdings_of old) (replica_at n.id s) n.stamp).replicas
-  pub blocks : blocks_of new ≡ blocks_of old
-  pub ids : new.ids ≡ old.ids
-  pub delimiter : new.delimiter ≡ old.delimiter
-  pub marker : block_at new old.delimiter ≡ block_at old old.delimiter
-  pub heads : (t : ℕ) → HasHead old t → HasHead new t
-  pub others : (slot : ℕ) → slot ≢ n.slot → block_at new slot ≡ block_at old slot
-  pub added : r.added ≡ new_replicas (replicas_of old) (replicas_of new)
-  pub removed : r.removed ≡ new_replicas (replicas_of new) (replicas_of old)
-  pub steps : r.steps ≡ r.added + r.removed
-  pub rises : new.steps ≡ count_ups r.steps old.steps
+  pub entries : KeepsEntries old new

@@ -3,8 +3,8 @@ ghost use Rattle.std.specs.Prelude.{◌≡◌, ◌≢◌, ◌≤◌, ◌<◌, �
 ghost use Rattle.bm_base.specs.Events as events;
 ghost use Rattle.bm_base.specs.Calls as calls;
 ghost use Rattle.bm_base.specs.SlotLists.{Among};
-ghost use Rattle.bm_arena.specs.Contents.{block_at, marks_at, list_of, HasHead};
-ghost use Rattle.bm_report.specs.Holding.{replicas_of, blocks_of, holdings_of};
+ghost use Rattle.bm_arena.specs.Contents.{block_at, marks_at, list_of, HasHead, KeepsEntries};
+ghost use Rattle.bm_arena.specs.Holding.{replicas_of, blocks_of, holdings_of};
 ghost use Rattle.bm_report.specs.Midway.{AreHere, HaveRoom, IsOncePerNode, IsExcessGood, told_of, count_ups, AllStand};
 
 use crate::chunks::enter_all;
@@ -31,9 +31,7 @@ pub(crate) fn apply(
     requires space { vec_len changed.old + length named.now + length (list_of arena.old storage) ≤ vec_capacity changed.old }
     ensures replicas { replicas_of arena.new ≡ (events.report topology.now.cluster (holdings_of arena.old) storage (map told_of named.now)).replicas }
     ensures blocks { blocks_of arena.new ≡ blocks_of arena.old }
-    ensures numbers { arena.new.ids ≡ arena.old.ids }
-    ensures delimiter { arena.new.delimiter ≡ arena.old.delimiter }
-    ensures heads { (t : ℕ) → HasHead arena.old t → HasHead arena.new t }
+    ensures entries { KeepsEntries arena.old arena.new }
     ensures free { (t : ℕ) → marks_at arena.new arena.new.delimiter t ≡ marks_at arena.old arena.old.delimiter t }
     ensures changed { (slot : ℕ) → slot ≢ arena.old.delimiter → (Among slot changed.new.items → ⊥) → block_at arena.new slot ≡ block_at arena.old slot }
     ensures quiet { AllStand arena.old storage named.now → result.removed ≡ 0 → changed.new.items ≡ changed.old.items }

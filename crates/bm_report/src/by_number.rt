@@ -2,7 +2,7 @@
 ghost use Rattle.std.specs.Prelude.{◌≡◌, ◌<◌, ◌+◌, ◌^◌, ◌∷◌, [], length, false, IsSome};
 ghost use Rattle.bm_base.specs.Entries.{told_by};
 ghost use Rattle.bm_arena.specs.Contents.{marks_at};
-ghost use Rattle.bm_report.specs.Holding.{replicas_of};
+ghost use Rattle.bm_arena.specs.Holding.{replicas_of};
 ghost use Rattle.bm_report.specs.Midway.{behind, AreHere, IsCounted, IsEntered, IsExcessGood, IsSettling, IsSwept};
 ghost use Rattle.bm_report.specs.Expanded.{of_part, told_to};
 ghost use Rattle.bm_report.specs.Ready.{named_of, CanBeEntered};

@@ -5,8 +5,8 @@ ghost use Rattle.bm_base.specs.declared.limits.TheConstants.{MAX_NUMBERS};
 ghost use Rattle.bm_base.specs.Entries.{numbers_in};
 ghost use Rattle.bm_base.specs.Events as events;
 ghost use Rattle.bm_base.specs.Calls as calls;
-ghost use Rattle.bm_arena.specs.Contents.{slot_of, marks_at, HasHead};
-ghost use Rattle.bm_report.specs.Holding.{replicas_of, blocks_of, holdings_of};
+ghost use Rattle.bm_arena.specs.Contents.{marks_at, KeepsEntries};
+ghost use Rattle.bm_arena.specs.Holding.{replicas_of, blocks_of, holdings_of};
 ghost use Rattle.bm_report.specs.Midway.{IsOncePerNode, count_ups};
 ghost use Rattle.bm_report.specs.Expanded.{IsPrepared, told_to};
 ghost use Rattle.bm_report.specs.Ready.{HasPlaces, HasGoodExcess};
@@ -56,9 +56,9 @@ pub fn apply_full(
     requires free { marks_at arena.old arena.old.delimiter storage ≡ None }
     ensures replicas { replicas_of arena.new ≡ (events.report topology.now.cluster (holdings_of arena.old) storage (told_to part entries.now)).replicas }
     ensures blocks { blocks_of arena.new ≡ blocks_of arena.old }
-    ensures numbers { (b : ℕ) → slot_of arena.new b ≡ slot_of arena.old b }
-    ensures delimiter { arena.new.delimiter ≡ arena.old.delimiter }
-    ensures heads { (t : ℕ) → HasHead arena.old t → HasHead arena.new t }
+    ensures entries { KeepsEntries arena.old arena.new }
+    ensures once { IsOncePerNode topology.now.cluster (replicas_of arena.new) }
+    ensures good { HasGoodExcess (replicas_of arena.new) }
     ensures free { (t : ℕ) → marks_at arena.new arena.new.delimiter t ≡ marks_at arena.old arena.old.delimiter t }
     ensures added { result.added ≡ calls.new_replicas (replicas_of arena.old) (replicas_of arena.new) }
     ensures removed { result.removed ≡ calls.new_replicas (replicas_of arena.new) (replicas_of arena.old) }

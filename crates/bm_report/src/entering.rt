@@ -5,7 +5,7 @@ ghost use Rattle.bm_base.specs.State.{replica_at};
 ghost use Rattle.bm_base.specs.Events.{replaces};
 ghost use Rattle.bm_base.specs.SlotLists.{without};
 ghost use Rattle.bm_arena.specs.Contents.{block_at, slot_of, marks_at, count_up, HasHead, HasRoom};
-ghost use Rattle.bm_report.specs.Holding.{replicas_of};
+ghost use Rattle.bm_arena.specs.Holding.{replicas_of};
 ghost use Rattle.bm_report.specs.Midway.{behind, IsFramed, IsOncePerNode, count_ups, IsEntered, IsCounted, IsSmall, Stands};
 
 use crate::marking::{are_same, is_settled, midway_marks, sister_of};

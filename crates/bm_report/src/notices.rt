@@ -2,12 +2,12 @@
 ghost use Rattle.std.specs.Prelude.{◌≡◌, ◌≢◌, ◌+◌, ℕ, if◌then◌else◌, None, Some};
 ghost use Rattle.bm_base.specs.Map.{remove};
 ghost use Rattle.bm_base.specs.State.{replica_at};
-ghost use Rattle.bm_base.specs.Events as events;
 ghost use Rattle.bm_base.specs.Calls as calls;
-ghost use Rattle.bm_arena.specs.Contents.{block_at, slot_of, marks_at, HasHead, HasRoom};
-ghost use Rattle.bm_report.specs.Holding.{replicas_of, blocks_of, holdings_of};
-ghost use Rattle.bm_report.specs.Midway.{count_ups, IsOncePerNode, IsReceived};
+ghost use Rattle.bm_arena.specs.Contents.{block_at, slot_of, marks_at, HasHead, HasRoom, KeepsEntries};
+ghost use Rattle.bm_arena.specs.Holding.{replicas_of, blocks_of};
+ghost use Rattle.bm_report.specs.Midway.{count_ups, IsOncePerNode};
 ghost use Rattle.bm_report.specs.Ready.{HasPlace};
+ghost use Rattle.bm_report.specs.Received.{HasReceived};
 
 use crate::entering::link_new;
 use crate::marking::midway_marks;
@@ -34,7 +34,7 @@ pub(crate) fn receive(
     requires head { HasHead arena.old storage }
     requires room { marks_at arena.old named.now.slot storage ≡ None → HasRoom arena.old named.now.slot }
     requires once { IsOncePerNode topology.now.cluster (replicas_of arena.old) }
-    ensures { IsReceived topology.now.cluster storage named.now arena.old arena.new result }
+    ensures { HasReceived topology.now.cluster storage named.now.id named.now.stamp arena.old arena.new result }
 {
     let was = arena.marks(named.slot, storage);
     let marks = settled(midway_marks(arena.info(named.slot), was, &named.stamp));
@@ -73,17 +73,7 @@ pub fn apply_received(
     requires head { HasHead arena.old storage }
     requires place { HasPlace arena.old storage id }
     requires once { IsOncePerNode topology.now.cluster (replicas_of arena.old) }
-    ensures replicas { replicas_of arena.new ≡ (events.enter topology.now.cluster (holdings_of arena.old) (replica_at id storage) stamp).replicas }
-    ensures blocks { blocks_of arena.new ≡ blocks_of arena.old }
-    ensures numbers { (b : ℕ) → slot_of arena.new b ≡ slot_of arena.old b }
-    ensures delimiter { arena.new.delimiter ≡ arena.old.delimiter }
-    ensures heads { (t : ℕ) → HasHead arena.old t → HasHead arena.new t }
-    ensures free { (t : ℕ) → marks_at arena.new arena.new.delimiter t ≡ marks_at arena.old arena.old.delimiter t }
-    ensures others { (slot : ℕ) → slot_of arena.old id ≢ Some slot → block_at arena.new slot ≡ block_at arena.old slot }
-    ensures added { result.added ≡ calls.new_replicas (replicas_of arena.old) (replicas_of arena.new) }
-    ensures removed { result.removed ≡ calls.new_replicas (replicas_of arena.new) (replicas_of arena.old) }
-    ensures steps { result.steps ≡ result.added + result.removed }
-    ensures counted { arena.new.steps ≡ count_ups result.steps arena.old.steps }
+    ensures { HasReceived topology.now.cluster storage id stamp arena.old arena.new result }
 {
     match arena.find(id) {
         Some(slot) => receive(arena, topology, storage, &Named { id, slot, stamp }),
@@ -95,9 +85,7 @@ pub fn apply_received(
 pub fn apply_deleted(arena: &mut Arena, storage: StorageId, id: BlockId) -> Applied
     ensures replicas { replicas_of arena.new ≡ remove (replicas_of arena.old) (replica_at id storage) }
     ensures blocks { blocks_of arena.new ≡ blocks_of arena.old }
-    ensures numbers { (b : ℕ) → slot_of arena.new b ≡ slot_of arena.old b }
-    ensures delimiter { arena.new.delimiter ≡ arena.old.delimiter }
-    ensures heads { (t : ℕ) → HasHead arena.old t → HasHead arena.new t }
+    ensures entries { KeepsEntries arena.old arena.new }
     ensures free { (t : ℕ) → marks_at arena.new arena.new.delimiter t ≡ marks_at arena.old arena.old.delimiter t }
     ensures others { (slot : ℕ) → slot_of arena.old id ≢ Some slot → block_at arena.new slot ≡ block_at arena.old slot }
     ensures added { result.added ≡ calls.new_replicas (replicas_of arena.old) (replicas_of arena.new) }

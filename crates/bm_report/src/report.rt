@@ -1,15 +1,15 @@
 // A full report, and a notice of a received replica, from the look-up of its numbers to its end.
 ghost use Rattle.std.specs.Prelude.{◌≡◌, ◌≢◌, ◌<◌, ◌+◌, ◌∷◌, ◌&&◌, [], ℕ, if◌then◌else◌, length, None, Some, IsSome, IsTrue, OnOk, IfErr};
 ghost use Rattle.bm_base.specs.declared.refusal.Refusal.TheVariants.{Memory};
-ghost use Rattle.bm_base.specs.State.{replica_at};
 ghost use Rattle.bm_base.specs.Events as events;
 ghost use Rattle.bm_base.specs.Calls as calls;
 ghost use Rattle.bm_base.specs.SlotLists.{Among};
-ghost use Rattle.bm_arena.specs.Contents.{block_at, slot_of, marks_at, HasHead};
-ghost use Rattle.bm_report.specs.Holding.{replicas_of, blocks_of, holdings_of};
+ghost use Rattle.bm_arena.specs.Contents.{block_at, slot_of, marks_at, KeepsEntries};
+ghost use Rattle.bm_arena.specs.Holding.{replicas_of, blocks_of, holdings_of};
 ghost use Rattle.bm_report.specs.Midway.{IsOncePerNode, count_ups};
 ghost use Rattle.bm_report.specs.Expanded.{IsPrepared, told_to};
 ghost use Rattle.bm_report.specs.Aborted.{is_bare_number};
+ghost use Rattle.bm_report.specs.Received.{HasReceived};
 ghost use Rattle.bm_report.specs.Ready.{told, IsReady, HasGoodExcess, StandAlready};
 
 use crate::aborting::abort_named;
@@ -104,9 +104,9 @@ impl Report {
         requires free { marks_at arena.old arena.old.delimiter storage ≡ None }
         ensures replicas { replicas_of arena.new ≡ (events.report topology.now.cluster (holdings_of arena.old) storage (told self.old)).replicas }
         ensures blocks { blocks_of arena.new ≡ blocks_of arena.old }
-        ensures numbers { (b : ℕ) → slot_of arena.new b ≡ slot_of arena.old b }
-        ensures delimiter { arena.new.delimiter ≡ arena.old.delimiter }
-        ensures heads { (t : ℕ) → HasHead arena.old t → HasHead arena.new t }
+        ensures entries { KeepsEntries arena.old arena.new }
+        ensures once { IsOncePerNode topology.now.cluster (replicas_of arena.new) }
+        ensures good { HasGoodExcess (replicas_of arena.new) }
         ensures free { (t : ℕ) → marks_at arena.new arena.new.delimiter t ≡ marks_at arena.old arena.old.delimiter t }
         ensures changed { (slot : ℕ) → slot ≢ arena.old.delimiter → (Among slot self.new.changed → ⊥) → block_at arena.new slot ≡ block_at arena.old slot }
         ensures unchanged { StandAlready (holdings_of arena.old) storage (told self.old) → result.removed ≡ 0 → self.new.changed ≡ self.old.changed }
@@ -138,17 +138,7 @@ impl Report {
         requires told { told self.now ≡ record { id = id; stamp = stamp } ∷ [] }
         requires ready { IsReady self.now arena.old storage }
         requires once { IsOncePerNode topology.now.cluster (replicas_of arena.old) }
-        ensures replicas { replicas_of arena.new ≡ (events.enter topology.now.cluster (holdings_of arena.old) (replica_at id storage) stamp).replicas }
-        ensures blocks { blocks_of arena.new ≡ blocks_of arena.old }
-        ensures numbers { (b : ℕ) → slot_of arena.new b ≡ slot_of arena.old b }
-        ensures delimiter { arena.new.delimiter ≡ arena.old.delimiter }
-        ensures heads { (t : ℕ) → HasHead arena.old t → HasHead arena.new t }
-        ensures free { (t : ℕ) → marks_at arena.new arena.new.delimiter t ≡ marks_at arena.old arena.old.delimiter t }
-        ensures others { (slot : ℕ) → slot_of arena.old id ≢ Some slot → block_at arena.new slot ≡ block_at arena.old slot }
-        ensures added { result.added ≡ calls.new_replicas (replicas_of arena.old) (replicas_of arena.new) }
-        ensures removed { result.removed ≡ calls.new_replicas (replicas_of arena.new) (replicas_of arena.old) }
-        ensures steps { result.steps ≡ result.added + result.removed }
-        ensures counted { arena.new.steps ≡ count_ups result.steps arena.old.steps }
+        ensures { HasReceived topology.now.cluster storage id stamp arena.old arena.new result }
     {
         receive(arena, topology, storage, &self.named[0])
     }

@@ -1,4 +1,4 @@
-use Rattle.bm_report.specs.Holding.{replicas_of}
+use Rattle.bm_arena.specs.Holding.{replicas_of}
 use Rattle.bm_report.specs.Expanded.{told_to}
 use Rattle.bm_report.specs.Ready.{named_of}
 use Rattle.bm_report.proofs.Settled.{settling-same, kept_all}

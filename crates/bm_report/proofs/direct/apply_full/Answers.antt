@@ -4,15 +4,16 @@ use Rattle.bm_base.specs.declared.limits.TheConstants.{MAX_NUMBERS}
 use Rattle.bm_base.specs.Events.{report}
 use Rattle.bm_report.specs.declared.types.Named.{Named}
 use Rattle.bm_report.specs.declared.types.Tally.{Tally}
-use Rattle.bm_report.specs.Holding.{holdings_of}
-use Rattle.bm_report.specs.Midway.{AreHere, HaveRoom, IsExcessGood}
+use Rattle.bm_arena.specs.Holding.{holdings_of}
+use Rattle.bm_report.specs.Midway.{AreHere, HaveRoom, IsExcessGood, IsOncePerNode}
 use Rattle.bm_report.specs.Expanded.{told_to}
-use Rattle.bm_report.specs.Ready.{named_in, named_of}
+use Rattle.bm_report.specs.Ready.{named_in, named_of, HasGoodExcess}
 use Rattle.bm_report.proofs.Maps.{Held}
 use Rattle.bm_report.proofs.Places.{list_within}
 use Rattle.bm_report.proofs.Simple.{good_excess}
+use Rattle.bm_report.proofs.Lasting.{once-told, good-told}
 use Rattle.bm_report.proofs.ByNumber.{named-ids, here_of, room_of, told_back, entered_as, counted_as, settling_as, few_told}
-use Rattle.bm_report.proofs.Stages.{behind-fits, replicas1, here1, room1, once1, here4, good4, replicas5, blocks5, added5, removed5}
+use Rattle.bm_report.proofs.Stages.{behind-fits, replicas1, here1, room1, once1, here4, good4, replicas5, blocks5, entries5, free5, added5, removed5}
 use Rattle.bm_report.proofs.direct.apply_full.Goals as goal
 
 abbrev start : Tally
@@ -83,8 +84,26 @@ returns-clause-replicas c =
 pub returns-clause-blocks : goal.returns-clause-blocks
 returns-clause-blocks c = blocks5 c.args.topology.now.cluster c.args.storage (named_of c.args.arena.now (told_to c.args.part c.args.entries.now)) c.args.arena.now c.put_delimiter.new.self c.lawful.ensures (here_of c.args.arena.now c.args.storage (told_to c.args.part c.args.entries.now) c.requires.ready.places) (room_of c.args.arena.now c.args.storage (told_to c.args.part c.args.entries.now) c.requires.ready.places) c.put_delimiter.ensures.list c.put_delimiter.ensures.others c.enter_entries.new.arena c.sweep_behind.new.arena c.take_delimiter.new.self c.lawful-2.ensures (entered_as c.args.topology.now.cluster c.args.storage (told_to c.args.part c.args.entries.now) c.args.arena.now c.put_delimiter.new.self c.enter_entries.new.arena c.put_delimiter.ensures.others.ids c.enter_entries.ensures.entered) start c.enter_entries.new.tally c.sweep_behind.new.tally c.sweep_behind.ensures c.take_delimiter.ensures.others c.lawful-3.ensures c.settle_named.new.arena (settling_as c.args.storage (told_to c.args.part c.args.entries.now) c.args.arena.now c.take_delimiter.new.self c.settle_named.new.arena (c.take_delimiter.ensures.others.ids ∙ c.sweep_behind.ensures.ids ∙ c.enter_entries.ensures.entered.frame.ids ∙ c.put_delimiter.ensures.others.ids) c.settle_named.ensures)
 
+pub returns-clause-entries : goal.returns-clause-entries
+returns-clause-entries c = entries5 c.args.topology.now.cluster c.args.storage (named_of c.args.arena.now (told_to c.args.part c.args.entries.now)) c.args.arena.now c.put_delimiter.new.self c.lawful.ensures (here_of c.args.arena.now c.args.storage (told_to c.args.part c.args.entries.now) c.requires.ready.places) (room_of c.args.arena.now c.args.storage (told_to c.args.part c.args.entries.now) c.requires.ready.places) c.put_delimiter.ensures.list c.put_delimiter.ensures.others c.enter_entries.new.arena c.sweep_behind.new.arena c.take_delimiter.new.self c.lawful-2.ensures (entered_as c.args.topology.now.cluster c.args.storage (told_to c.args.part c.args.entries.now) c.args.arena.now c.put_delimiter.new.self c.enter_entries.new.arena c.put_delimiter.ensures.others.ids c.enter_entries.ensures.entered) start c.enter_entries.new.tally c.sweep_behind.new.tally c.sweep_behind.ensures c.take_delimiter.ensures.others c.lawful-3.ensures c.settle_named.new.arena (settling_as c.args.storage (told_to c.args.part c.args.entries.now) c.args.arena.now c.take_delimiter.new.self c.settle_named.new.arena (c.take_delimiter.ensures.others.ids ∙ c.sweep_behind.ensures.ids ∙ c.enter_entries.ensures.entered.frame.ids ∙ c.put_delimiter.ensures.others.ids) c.settle_named.ensures)
+
+pub returns-clause-free : goal.returns-clause-free
+returns-clause-free c = free5 c.args.topology.now.cluster c.args.storage (named_of c.args.arena.now (told_to c.args.part c.args.entries.now)) c.args.arena.now c.put_delimiter.new.self c.lawful.ensures (here_of c.args.arena.now c.args.storage (told_to c.args.part c.args.entries.now) c.requires.ready.places) (room_of c.args.arena.now c.args.storage (told_to c.args.part c.args.entries.now) c.requires.ready.places) c.put_delimiter.ensures.list c.put_delimiter.ensures.others c.enter_entries.new.arena c.sweep_behind.new.arena c.take_delimiter.new.self c.lawful-2.ensures (entered_as c.args.topology.now.cluster c.args.storage (told_to c.args.part c.args.entries.now) c.args.arena.now c.put_delimiter.new.self c.enter_entries.new.arena c.put_delimiter.ensures.others.ids c.enter_entries.ensures.entered) start c.enter_entries.new.tally c.sweep_behind.new.tally c.sweep_behind.ensures c.take_delimiter.ensures.others c.lawful-3.ensures c.settle_named.new.arena (settling_as c.args.storage (told_to c.args.part c.args.entries.now) c.args.arena.now c.take_delimiter.new.self c.settle_named.new.arena (c.take_delimiter.ensures.others.ids ∙ c.sweep_behind.ensures.ids ∙ c.enter_entries.ensures.entered.frame.ids ∙ c.put_delimiter.ensures.others.ids) c.settle_named.ensures) c.requires.free c.take_delimiter.ensures.marks
+
 pub returns-clause-added : goal.returns-clause-added
 returns-clause-added c = added5 c.args.topology.now.cluster c.args.storage (named_of c.args.arena.now (told_to c.args.part c.args.entries.now)) c.args.arena.now c.put_delimiter.new.self c.lawful.ensures (here_of c.args.arena.now c.args.storage (told_to c.args.part c.args.entries.now) c.requires.ready.places) (room_of c.args.arena.now c.args.storage (told_to c.args.part c.args.entries.now) c.requires.ready.places) c.put_delimiter.ensures.list c.put_delimiter.ensures.others c.enter_entries.new.arena c.sweep_behind.new.arena c.take_delimiter.new.self c.lawful-2.ensures (entered_as c.args.topology.now.cluster c.args.storage (told_to c.args.part c.args.entries.now) c.args.arena.now c.put_delimiter.new.self c.enter_entries.new.arena c.put_delimiter.ensures.others.ids c.enter_entries.ensures.entered) start c.enter_entries.new.tally c.sweep_behind.new.tally c.sweep_behind.ensures c.take_delimiter.ensures.others c.lawful-3.ensures c.settle_named.new.arena (settling_as c.args.storage (told_to c.args.part c.args.entries.now) c.args.arena.now c.take_delimiter.new.self c.settle_named.new.arena (c.take_delimiter.ensures.others.ids ∙ c.sweep_behind.ensures.ids ∙ c.enter_entries.ensures.entered.frame.ids ∙ c.put_delimiter.ensures.others.ids) c.settle_named.ensures) (counted_as c.args.topology.now.cluster c.args.storage (told_to c.args.part c.args.entries.now) c.args.arena.now c.put_delimiter.new.self c.enter_entries.new.arena start c.enter_entries.new.tally c.put_delimiter.ensures.others.ids c.enter_entries.ensures.counted) refl refl
 
 pub returns-clause-removed : goal.returns-clause-removed
 returns-clause-removed c = removed5 c.args.topology.now.cluster c.args.storage (named_of c.args.arena.now (told_to c.args.part c.args.entries.now)) c.args.arena.now c.put_delimiter.new.self c.lawful.ensures (here_of c.args.arena.now c.args.storage (told_to c.args.part c.args.entries.now) c.requires.ready.places) (room_of c.args.arena.now c.args.storage (told_to c.args.part c.args.entries.now) c.requires.ready.places) c.put_delimiter.ensures.list c.put_delimiter.ensures.others c.enter_entries.new.arena c.sweep_behind.new.arena c.take_delimiter.new.self c.lawful-2.ensures (entered_as c.args.topology.now.cluster c.args.storage (told_to c.args.part c.args.entries.now) c.args.arena.now c.put_delimiter.new.self c.enter_entries.new.arena c.put_delimiter.ensures.others.ids c.enter_entries.ensures.entered) start c.enter_entries.new.tally c.sweep_behind.new.tally c.sweep_behind.ensures c.take_delimiter.ensures.others c.lawful-3.ensures c.settle_named.new.arena (settling_as c.args.storage (told_to c.args.part c.args.entries.now) c.args.arena.now c.take_delimiter.new.self c.settle_named.new.arena (c.take_delimiter.ensures.others.ids ∙ c.sweep_behind.ensures.ids ∙ c.enter_entries.ensures.entered.frame.ids ∙ c.put_delimiter.ensures.others.ids) c.settle_named.ensures) (counted_as c.args.topology.now.cluster c.args.storage (told_to c.args.part c.args.entries.now) c.args.arena.now c.put_delimiter.new.self c.enter_entries.new.arena start c.enter_entries.new.tally c.put_delimiter.ensures.others.ids c.enter_entries.ensures.counted) refl refl
+
+pub returns-clause-once : goal.returns-clause-once
+unfolding holdings_of
+returns-clause-once c =
+    let P : Held → Type 0 = λ K. IsOncePerNode c.args.topology.now.cluster K in
+    subst P (sym (returns-clause-replicas c)) (once-told c.args.topology.now.cluster (holdings_of c.args.arena.now) c.args.storage (told_to c.args.part c.args.entries.now) c.requires.once)
+
+pub returns-clause-good : goal.returns-clause-good
+unfolding holdings_of
+returns-clause-good c =
+    let P : Held → Type 0 = λ K. HasGoodExcess K in
+    subst P (sym (returns-clause-replicas c)) (good-told c.args.topology.now.cluster (holdings_of c.args.arena.now) c.args.storage (told_to c.args.part c.args.entries.now) c.requires.good)

@@ -1,9 +1,11 @@
-use Rattle.std.proofs.Common.{sym, ap, ◌∙◌, ◌+◌, max, refl}
+use Rattle.std.proofs.Common.{◌≡◌, None, sym, ap, ◌∙◌, ◌+◌, max, refl}
 use Rattle.std.specs.Prelude.{nat_eq}
 use Rattle.indexmap.proofs.CallerLemmas.{insert_entry-new}
 use Rattle.bm_arena.proofs.Lawfulness.{IsLawful-arena}
 use Rattle.bm_arena.proofs.Entries.{IsArena-capacity, add_entry-arena, add_entry-added}
 use Rattle.bm_arena.proofs.Bounds.{below-inserted, below-capacity}
+use Rattle.bm_arena.specs.Contents.{slot_of, IsLawful}
+use Rattle.bm_arena.proofs.Informed.{added-replicas, added-blocks}
 use Rattle.bm_arena.proofs.arena.Arena.add_entry.Goals as goal
 
 pub invariant_of-self : goal.invariant_of-self
@@ -46,3 +48,17 @@ pub returns-else-is_new-clause-lawful : goal.returns-else-is_new-clause-lawful
 returns-else-is_new-clause-lawful c =
     let known = c.in_ok-slot.ensures.known c.if-is_new.false in
     rw (known.1, known.2) (IsLawful-arena c.self.inside.slots _ _ _ _ c.self.invariant _)
+
+pub returns-then-is_new-clause-replicas : goal.returns-then-is_new-clause-replicas
+returns-then-is_new-clause-replicas c =
+    let absent = c.in_ok-slot.ensures.absent c.if-is_new.true in
+    let none : slot_of c.args.self.now c.args.id ≡ None = rw (← c.self.view_is, ← c.id.view_is) (sym absent) in
+    let lawful : IsLawful c.args.self.now = rw (← c.self.view_is) (IsLawful-arena c.self.inside.slots _ _ _ _ c.self.invariant _) in
+    added-replicas c.args.self.now _ c.args.id c.in_ok-slot.slot lawful none (returns-then-is_new-clause-added c none)
+
+pub returns-then-is_new-clause-blocks : goal.returns-then-is_new-clause-blocks
+returns-then-is_new-clause-blocks c =
+    let absent = c.in_ok-slot.ensures.absent c.if-is_new.true in
+    let none : slot_of c.args.self.now c.args.id ≡ None = rw (← c.self.view_is, ← c.id.view_is) (sym absent) in
+    let lawful : IsLawful c.args.self.now = rw (← c.self.view_is) (IsLawful-arena c.self.inside.slots _ _ _ _ c.self.invariant _) in
+    added-blocks c.args.self.now _ c.args.id c.in_ok-slot.slot lawful none (returns-then-is_new-clause-added c none)

@@ -4,6 +4,8 @@ use Rattle.bm_arena.proofs.Laws.{list_of-linked_front, marks_at-linked, others-l
 use Rattle.bm_arena.proofs.ListCalls.{link_front-sound, link_front-view, no_head}
 use Rattle.bm_arena.proofs.Lawfulness.{IsLawful-arena}
 use Rattle.bm_arena.proofs.Bounds.{below-linked}
+use Rattle.bm_arena.specs.Contents.{IsLawful}
+use Rattle.bm_arena.proofs.Held.{replicas-put, blocks-kept}
 use Rattle.bm_arena.proofs.arena.Arena.link_front.Goals as goal
 
 pub invariant_of-self : goal.invariant_of-self
@@ -46,3 +48,12 @@ pub returns-in-Some-clause-others : goal.returns-in-Some-clause-others
 returns-in-Some-clause-others c =
     let P : Contents → Type 0 = λ a. KeepsOthers c.args.self.now a c.args.slot c.args.storage in
     subst P (sym (returns-in-Some-clause-after c)) (others-linked_front c.args.self.now c.args.slot c.args.storage c.args.marks)
+
+pub returns-in-Some-clause-replicas : goal.returns-in-Some-clause-replicas
+returns-in-Some-clause-replicas c id here =
+    let lawful : IsLawful c.args.self.now = rw (← c.self.view_is) (IsLawful-arena c.self.inside.slots _ _ _ _ c.self.invariant _) in
+    let others = returns-in-Some-clause-others c in
+    replicas-put c.args.self.now _ lawful c.args.slot c.args.storage id here others.ids others.blocks others.marks c.args.marks (returns-in-Some-clause-marks c)
+
+pub returns-in-Some-clause-known : goal.returns-in-Some-clause-known
+returns-in-Some-clause-known c = let others = returns-in-Some-clause-others c in blocks-kept _ _ c.args.slot others.ids others.blocks others.known

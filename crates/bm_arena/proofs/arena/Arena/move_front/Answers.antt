@@ -4,6 +4,7 @@ use Rattle.bm_arena.proofs.Laws.{head-lawful, list_of-moved_front, others-moved_
 use Rattle.bm_arena.proofs.ListCalls.{move_front-sound, move_front-view, no_replica}
 use Rattle.bm_arena.proofs.Lawfulness.{IsLawful-arena}
 use Rattle.bm_arena.proofs.Bounds.{below-moved}
+use Rattle.bm_arena.proofs.Held.{replicas-moved, blocks-kept}
 use Rattle.bm_arena.proofs.arena.Arena.move_front.Goals as goal
 
 pub invariant_of-self : goal.invariant_of-self
@@ -42,3 +43,9 @@ returns-in-Some-get_mut-clause-others c =
 
 pub returns-in-Some-get_mut-clause-blocks : goal.returns-in-Some-get_mut-clause-blocks
 returns-in-Some-get_mut-clause-blocks c = ap (λ a. a.blocks) (returns-in-Some-get_mut-clause-after c)
+
+pub returns-in-Some-get_mut-clause-replicas : goal.returns-in-Some-get_mut-clause-replicas
+returns-in-Some-get_mut-clause-replicas c = replicas-moved _ _ (returns-in-Some-get_mut-clause-others c).ids (returns-in-Some-get_mut-clause-blocks c)
+
+pub returns-in-Some-get_mut-clause-known : goal.returns-in-Some-get_mut-clause-known
+returns-in-Some-get_mut-clause-known c = let others = returns-in-Some-get_mut-clause-others c in blocks-kept _ _ c.args.slot others.ids others.blocks others.known

@@ -2,6 +2,7 @@ use Rattle.bm_arena.proofs.Lawfulness.{IsLawful-arena}
 use Rattle.std.proofs.Common.{ap, ◌∙◌, arith}
 use Rattle.bm_arena.proofs.Entries.{IsArena-first, first_blocks}
 use Rattle.bm_arena.proofs.Bounds.{below-inserted, below-empty}
+use Rattle.bm_arena.proofs.Held.{nothing-held}
 use Rattle.bm_arena.proofs.arena.Arena.new.Goals as goal
 
 pub invariant_of-result : goal.invariant_of-result
@@ -20,3 +21,9 @@ returns-clause-blocks c =
 
 pub returns-clause-lawful : goal.returns-clause-lawful
 returns-clause-lawful c = IsLawful-arena _ _ _ _ _ (invariant_of-result c) _
+
+pub returns-clause-replicas : goal.returns-clause-replicas
+returns-clause-replicas c = (nothing-held _ c.new-2.ensures.empty).0
+
+pub returns-clause-known : goal.returns-clause-known
+returns-clause-known c = (nothing-held _ c.new-2.ensures.empty).1

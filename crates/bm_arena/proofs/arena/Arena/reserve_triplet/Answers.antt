@@ -1,10 +1,12 @@
-use Rattle.std.proofs.Common.{◌≡◌, ◌≢◌, ℕ, refl, sym, subst}
+use Rattle.std.proofs.Common.{◌≡◌, ◌≢◌, ℕ, refl, sym, subst, ap}
 use Rattle.bm_arena.specs.Contents.{Contents, block_at, marks_at, known_of}
 use Rattle.bm_arena.proofs.Roomy.{room-marks, room-elsewhere, room-known}
 use Rattle.std.proofs.lemmas.Bool.{false≢true}
 use Rattle.bm_arena.proofs.Lawfulness.{IsLawful-arena}
 use Rattle.bm_arena.proofs.Reading.{reserve-arena, reserve-view, room-entry}
 use Rattle.bm_arena.proofs.Bounds.{below-changed}
+use Rattle.bm_arena.specs.Holding.{replicas_of, blocks_of}
+use Rattle.bm_arena.proofs.Held.{replicas-kept, blocks-kept}
 use Rattle.bm_arena.proofs.arena.Arena.reserve_triplet.Goals as goal
 
 pub invariant_of-self : goal.invariant_of-self
@@ -65,3 +67,9 @@ pub returns-clause-known : goal.returns-clause-known
 returns-clause-known c =
     let P : Contents → Type 0 = λ x. known_of (block_at x c.args.slot) ≡ known_of (block_at c.args.self.now c.args.slot) in
     subst P (sym (returns-clause-rest c)) (room-known c.args.self.now c.args.slot _)
+
+pub returns-clause-replicas : goal.returns-clause-replicas
+returns-clause-replicas c = replicas-kept _ _ (ap (λ a. a.ids) (returns-clause-rest c)) (returns-clause-marks c)
+
+pub returns-clause-blocks : goal.returns-clause-blocks
+returns-clause-blocks c = blocks-kept _ _ c.args.slot (ap (λ a. a.ids) (returns-clause-rest c)) (returns-clause-others c) (returns-clause-known c)

@@ -1,7 +1,14 @@
 use Rattle.bm_arena.proofs.Lawfulness.{IsLawful-arena}
-use Rattle.std.proofs.Common.{refl}
+use Rattle.std.proofs.Common.{refl, sym, subst, ap, ◌∙◌}
+use Rattle.std.specs.Option.{option_map}
 use Rattle.bm_arena.proofs.Relinked.{set_info-arena, set_info-lists, set_info-blocks}
 use Rattle.bm_arena.proofs.Bounds.{below-changed}
+use Rattle.bm_base.specs.declared.replica.BlockInfo.{BlockInfo}
+use Rattle.bm_arena.specs.Triplets.{Block}
+use Rattle.bm_arena.specs.Contents.{Contents, block_at, slot_of, marks_at, with_info, IsLawful, KeepsAllBut}
+use Rattle.bm_arena.specs.Holding.{replicas_of, blocks_of, with_known}
+use Rattle.bm_arena.proofs.Changed.{changed-here, keeps-changed}
+use Rattle.bm_arena.proofs.Informed.{info-marks, info-replicas, info-blocks}
 use Rattle.bm_arena.proofs.arena.Arena.set_info.Goals as goal
 
 pub invariant_of-self : goal.invariant_of-self
@@ -20,3 +27,23 @@ returns-clause-after c =
 
 pub returns-clause-lawful : goal.returns-clause-lawful
 returns-clause-lawful c = IsLawful-arena _ _ _ _ _ (invariant_of-self c) _
+
+pub returns-clause-entry : goal.returns-clause-entry
+returns-clause-entry c b there =
+    ap (λ a. block_at a c.args.slot) (returns-clause-after c) ∙ changed-here c.args.self.now c.args.slot (with_info c.args.info) ∙ ap (option_map (with_info c.args.info)) there
+
+pub returns-clause-marks : goal.returns-clause-marks
+returns-clause-marks c other storage = ap (λ a. marks_at a other storage) (returns-clause-after c) ∙ info-marks c.args.self.now c.args.slot c.args.info other storage
+
+pub returns-clause-rest : goal.returns-clause-rest
+returns-clause-rest c =
+    let P : Contents → Type 0 = λ a. KeepsAllBut c.args.slot c.args.self.now a in
+    subst P (sym (returns-clause-after c)) (keeps-changed c.args.self.now c.args.slot (with_info c.args.info) (λ b. refl))
+
+pub returns-clause-replicas : goal.returns-clause-replicas
+returns-clause-replicas c = ap replicas_of (returns-clause-after c) ∙ info-replicas c.args.self.now c.args.slot c.args.info
+
+pub returns-clause-blocks : goal.returns-clause-blocks
+returns-clause-blocks c id here =
+    let lawful : IsLawful c.args.self.now = rw (← c.self.view_is) (IsLawful-arena c.self.inside.slots _ _ _ _ c.self.invariant _) in
+    ap blocks_of (returns-clause-after c) ∙ info-blocks c.args.self.now c.args.slot c.args.info lawful id here

@@ -4,6 +4,10 @@ use Rattle.bm_arena.specs.Contents.{Contents, block_at, marks_at, known_of}
 use Rattle.bm_arena.proofs.Marked.{set-marks, set-others, set-elsewhere, set-known}
 use Rattle.bm_arena.proofs.Relinked.{set_marks-arena, set_marks-lists, set_marks-blocks}
 use Rattle.bm_arena.proofs.Bounds.{below-changed}
+use Rattle.bm_arena.specs.Contents.{IsLawful, KeepsAllBut, with_marks}
+use Rattle.bm_arena.specs.Holding.{replicas_of, blocks_of}
+use Rattle.bm_arena.proofs.Changed.{keeps-changed}
+use Rattle.bm_arena.proofs.Held.{replicas-put, blocks-kept}
 use Rattle.bm_arena.proofs.arena.Arena.set_marks.Goals as goal
 
 pub invariant_of-self : goal.invariant_of-self
@@ -42,3 +46,16 @@ pub returns-clause-known : goal.returns-clause-known
 returns-clause-known c =
     let P : Contents → Type 0 = λ x. known_of (block_at x c.args.slot) ≡ known_of (block_at c.args.self.now c.args.slot) in
     subst P (sym (returns-clause-after c)) (set-known c.args.self.now c.args.slot c.args.storage c.args.marks)
+
+pub returns-clause-rest : goal.returns-clause-rest
+returns-clause-rest c =
+    let P : Contents → Type 0 = λ a. KeepsAllBut c.args.slot c.args.self.now a in
+    subst P (sym (returns-clause-after c)) (keeps-changed c.args.self.now c.args.slot (with_marks c.args.storage c.args.marks) (λ b. refl))
+
+pub returns-clause-replicas : goal.returns-clause-replicas
+returns-clause-replicas c id here some =
+    let lawful : IsLawful c.args.self.now = rw (← c.self.view_is) (IsLawful-arena c.self.inside.slots _ _ _ _ c.self.invariant _) in
+    replicas-put c.args.self.now _ lawful c.args.slot c.args.storage id here (returns-clause-rest c).ids (returns-clause-others c) (returns-clause-beside c) c.args.marks (returns-clause-marks c some)
+
+pub returns-clause-blocks : goal.returns-clause-blocks
+returns-clause-blocks c = blocks-kept c.args.self.now _ c.args.slot (returns-clause-rest c).ids (returns-clause-others c) (returns-clause-known c)

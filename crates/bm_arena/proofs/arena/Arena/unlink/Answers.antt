@@ -4,6 +4,7 @@ use Rattle.bm_arena.proofs.Laws.{head-lawful, list_of-unlinked, marks_at-unlinke
 use Rattle.bm_arena.proofs.ListCalls.{unlink-sound, unlink-view, no_replica}
 use Rattle.bm_arena.proofs.Lawfulness.{IsLawful-arena}
 use Rattle.bm_arena.proofs.Bounds.{below-unlinked}
+use Rattle.bm_arena.proofs.Held.{replicas-out, blocks-kept}
 use Rattle.bm_arena.proofs.arena.Arena.unlink.Goals as goal
 
 pub invariant_of-self : goal.invariant_of-self
@@ -45,3 +46,12 @@ returns-in-Some-get_mut-clause-others c =
     let lawful : IsLawful c.args.self.now = rw (← c.self.view_is) (IsLawful-arena c.self.inside.slots _ _ _ _ c.self.invariant _) in
     let P : Contents → Type 0 = λ a. KeepsOthers c.args.self.now a c.args.slot c.args.storage in
     subst P (sym (returns-in-Some-get_mut-clause-after c)) (others-unlinked c.args.self.now lawful c.args.slot c.args.storage)
+
+pub returns-in-Some-get_mut-clause-replicas : goal.returns-in-Some-get_mut-clause-replicas
+returns-in-Some-get_mut-clause-replicas c id here =
+    let lawful : IsLawful c.args.self.now = rw (← c.self.view_is) (IsLawful-arena c.self.inside.slots _ _ _ _ c.self.invariant _) in
+    let others = returns-in-Some-get_mut-clause-others c in
+    replicas-out c.args.self.now _ lawful c.args.slot c.args.storage id here others.ids others.blocks others.marks (returns-in-Some-get_mut-clause-marks c)
+
+pub returns-in-Some-get_mut-clause-known : goal.returns-in-Some-get_mut-clause-known
+returns-in-Some-get_mut-clause-known c = let others = returns-in-Some-get_mut-clause-others c in blocks-kept _ _ c.args.slot others.ids others.blocks others.known

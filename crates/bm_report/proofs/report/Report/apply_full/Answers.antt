@@ -1,7 +1,10 @@
 use Rattle.std.proofs.Common.{◌≡◌, List, subst, sym, ap, ◌∙◌}
 use Rattle.bm_report.specs.declared.types.Named.{Named}
-use Rattle.bm_report.specs.Midway.{AllStand}
-use Rattle.bm_report.specs.Ready.{Looked}
+use Rattle.bm_arena.specs.Holding.{holdings_of}
+use Rattle.bm_report.specs.Midway.{AllStand, IsOncePerNode}
+use Rattle.bm_report.specs.Ready.{Looked, HasGoodExcess}
+use Rattle.bm_report.proofs.Lasting.{once-told, good-told}
+use Rattle.bm_report.proofs.Maps.{Held}
 use Rattle.bm_report.proofs.Quiet.{stand_already}
 use Rattle.bm_report.proofs.report.Report.apply_full.Goals as goal
 
@@ -11,3 +14,15 @@ returns-clause-unchanged c already none =
     let P : List Named → Type 0 = λ l. AllStand c.args.arena.now c.args.storage l in
     c.apply.ensures.quiet (subst P (sym named_is) (stand_already c.args.topology.now.cluster c.args.arena.now c.args.storage c.args.self.now.named c.requires.ready.here already)) none
     ∙ ap (λ (r : Looked). r.changed) c.self.view_is
+
+pub returns-clause-once : goal.returns-clause-once
+unfolding holdings_of
+returns-clause-once c =
+    let P : Held → Type 0 = λ K. IsOncePerNode c.args.topology.now.cluster K in
+    subst P (sym c.apply.ensures.replicas) (once-told c.args.topology.now.cluster (holdings_of c.args.arena.now) c.args.storage _ c.requires.once)
+
+pub returns-clause-good : goal.returns-clause-good
+unfolding holdings_of
+returns-clause-good c =
+    let P : Held → Type 0 = λ K. HasGoodExcess K in
+    subst P (sym c.apply.ensures.replicas) (good-told c.args.topology.now.cluster (holdings_of c.args.arena.now) c.args.storage _ c.requires.good)
