@@ -22,3 +22,25 @@ pub mod WholeChoices
 pub mod OneWish
 pub mod OwnEntries
 pub mod OnePart
+-- Each event and each round leaves a lawful state lawful.
+pub mod Clusters
+pub mod Checks
+pub mod First
+pub mod ClusterEvents
+pub mod Among
+pub mod BlockEvents
+pub mod Entering
+pub mod ChosenCopies
+pub mod Rounding
+pub mod Accepting
+-- What a round's deletes leave of a block.
+pub mod Listed
+pub mod Stands
+pub mod Lively
+pub mod Surpluses
+pub mod Marked
+pub mod Commanded
+pub mod Kept
+pub mod AfterRound
+pub mod Tested
+pub mod LastGood

@@ -16,6 +16,7 @@ pub mod Spread
 pub mod Levels
 pub mod Queries
 pub mod Lawful
+pub mod Fitting
 pub mod Shards
 pub mod Versions
 -- What changes it: reports, events, and the steps of a round.
@@ -25,6 +26,8 @@ pub mod Excess
 pub mod Transfers
 pub mod Deletes
 pub mod Rounds
+pub mod NextRound
+pub mod Sparing
 -- The same choices over parts, as shards find them.
 pub mod Ordered
 pub mod RoundParts

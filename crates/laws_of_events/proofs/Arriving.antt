@@ -33,12 +33,12 @@ use Rattle.bm_base.proofs.MapLaws.{get-empty}
 use Rattle.bm_base.proofs.Options.{there, is_there}
 use Rattle.bm_base.proofs.Each.{Each, each_both, each_filtered, each_passing, each_appended, each_optional, least_is_one}
 use Rattle.bm_base.proofs.Maps.{get_kept, get_removed, known_revised, each_key, passes_entry}
-use Rattle.laws_of_events.proofs.Clusters.{some_node}
-use Rattle.laws_of_events.proofs.Among.{drained_replicas}
-use Rattle.laws_of_events.proofs.Chosen.{made_of, unless}
-use Rattle.laws_of_events.proofs.Rounding.{all_pending}
-use Rattle.laws_of_events.proofs.Accepting.{pending_before}
-use Rattle.laws_of_events.proofs.Entering.{IsKept, IsPut, enter_origin, enter_pending, report_origin, report_pending, stays_by}
+use Rattle.bm_base.proofs.Clusters.{some_node}
+use Rattle.bm_base.proofs.Among.{drained_replicas}
+use Rattle.bm_base.proofs.ChosenCopies.{made_of, unless}
+use Rattle.bm_base.proofs.Rounding.{all_pending}
+use Rattle.bm_base.proofs.Accepting.{pending_before}
+use Rattle.bm_base.proofs.Entering.{IsKept, IsPut, enter_origin, enter_pending, report_origin, report_pending, stays_by}
 use Rattle.laws_of_events.proofs.ReportLaws.{held_report, held_received}
 use Rattle.laws_of_events.proofs.BlockChanges.{transfers_reported, transfer_received}
 use Rattle.laws_of_events.proofs.Reporting.{named_numbers}

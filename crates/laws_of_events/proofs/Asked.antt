@@ -15,7 +15,7 @@ use Rattle.bm_base.specs.State.{Holdings, replica_at, replica_cmp}
 use Rattle.bm_base.specs.Queries.{blocks_on}
 use Rattle.bm_base.proofs.MapLaws.{get-insert, get-empty}
 use Rattle.bm_base.proofs.Ties.{number_tie, replica_tie}
-use Rattle.laws_of_events.proofs.Clusters.{eqb_turned}
+use Rattle.bm_base.proofs.Clusters.{eqb_turned}
 use Rattle.laws_of_events.proofs.Counting.{same_unit}
 use Rattle.laws_of_events.proofs.ReportLaws.{tells_all}
 use Rattle.laws_of_events.specs.Reports as law

@@ -14,7 +14,7 @@ use Rattle.bm_base.specs.Events.{add_block, delete_block, set_replication, resta
 use Rattle.bm_base.specs.Calls.{after_event}
 use Rattle.bm_base.proofs.Options.{there}
 use Rattle.bm_base.proofs.Maps.{get_kept, get_removed, get_revised, get_taken}
-use Rattle.laws_of_events.proofs.Among.{drained_replicas}
+use Rattle.bm_base.proofs.Among.{drained_replicas}
 use Rattle.laws_of_events.proofs.ReportLaws.{report_leaves_bad, received_leaves_bad}
 use Rattle.laws_of_events.specs.Changes as law
 use Rattle.laws_of_events.specs.Reports.{IsBadIn}

@@ -22,7 +22,7 @@ use Rattle.bm_base.specs.Calls.{after_event}
 use Rattle.bm_base.proofs.MapLaws.{get-keep, get-revise}
 use Rattle.bm_base.proofs.Options.{none_stays, all_stays}
 use Rattle.bm_base.proofs.Maps.{key_itself, not_tied, get_here, get_taken, get_left}
-use Rattle.laws_of_events.proofs.Entering.{stays_by}
+use Rattle.bm_base.proofs.Entering.{stays_by}
 use Rattle.laws_of_events.proofs.Reporting.{named_numbers, reported_elsewhere}
 use Rattle.laws_of_events.proofs.Parts.{cut_is_part, one_part_changed}
 use Rattle.laws_of_events.specs.Changes as law

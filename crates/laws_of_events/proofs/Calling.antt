@@ -19,7 +19,7 @@ use Rattle.bm_base.specs.Rounds.{is_commanded, finished, whole_round}
 use Rattle.bm_base.specs.Refusals.{refusal_of, round_refusal, node_refusal, storage_refusal, block_refusal}
 use Rattle.bm_base.specs.Calls.{step, refused_or, after_event, counted}
 use Rattle.bm_base.proofs.MapLaws.{get-revise}
-use Rattle.laws_of_events.proofs.Rounding.{cleared_tag, marked_tag, ordered_tag}
+use Rattle.bm_base.proofs.Rounding.{cleared_tag, marked_tag, ordered_tag}
 use Rattle.laws_of_events.specs.Calls as law
 
 either : (M : State) (o : Option Refusal) (a : Answer) → (refused_or M o (a, M)).1 ≡ M

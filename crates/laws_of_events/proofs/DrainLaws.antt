@@ -11,7 +11,7 @@ use Rattle.bm_base.specs.Calls.{new_replicas, done, done_by, after_event, counte
 use Rattle.bm_base.proofs.MapLaws.{same_map, get-insert, get-remove}
 use Rattle.bm_base.proofs.Options.{not_there}
 use Rattle.bm_base.proofs.Maps.{same_key, get_here, get_other, get_taken, get_left}
-use Rattle.laws_of_events.proofs.Among.{fewer_sent, same_either, drained_blocks, drained_replicas}
+use Rattle.bm_base.proofs.Among.{fewer_sent, same_either, drained_blocks, drained_replicas}
 use Rattle.laws_of_events.proofs.NodeChanges.{gone_there, still_there, on_it, not_on_it}
 use Rattle.laws_of_events.proofs.ReportLaws.{none_done}
 use Rattle.laws_of_events.specs.Draining as law

@@ -12,12 +12,12 @@ use Rattle.bm_base.specs.Rounds.{whole_round}
 use Rattle.bm_base.specs.Calls.{step, refused_or, counted, state_after}
 use Rattle.bm_base.specs.Answering.{is_refused, wants_memory, state_left, MayAnswerAll, state_left_by}
 use Rattle.bm_base.specs.Lawful.{IsLawful}
-use Rattle.laws_of_events.specs.Fitting.{HasFittingStart, FitsCall, FitCalls}
+use Rattle.bm_base.specs.Fitting.{HasFittingStart, FitsCall, FitCalls}
 use Rattle.bm_base.proofs.Each.{Each, each_all}
-use Rattle.laws_of_events.proofs.Checks.{round_accepted}
-use Rattle.laws_of_events.proofs.First.{first_lawful}
-use Rattle.laws_of_events.proofs.Rounding.{whole_lawful, counted_lawful}
-use Rattle.laws_of_events.proofs.Accepting.{event_lawful}
+use Rattle.bm_base.proofs.Checks.{round_accepted}
+use Rattle.bm_base.proofs.First.{first_lawful}
+use Rattle.bm_base.proofs.Rounding.{whole_lawful, counted_lawful}
+use Rattle.bm_base.proofs.Accepting.{event_lawful}
 
 -- a round counts no call itself
 calls_same : (M : State) → M.calls < last_number → (whole_round M).1.calls < last_number

@@ -1,13 +1,3 @@
-pub mod Clusters
-pub mod Checks
-pub mod First
-pub mod ClusterEvents
-pub mod Among
-pub mod BlockEvents
-pub mod Entering
-pub mod Chosen
-pub mod Rounding
-pub mod Accepting
 pub mod Leading
 pub mod Telling
 pub mod Reporting

@@ -12,7 +12,7 @@ use Rattle.bm_base.specs.Calls.{state_after}
 use Rattle.bm_base.specs.Replicas.{is_good, is_stray, drains, is_draining, node_of, has_storage, are_sisters}
 use Rattle.bm_base.specs.Lawful.{IsLawful, IsLawfulCluster}
 use Rattle.bm_base.proofs.Options.{there, not_there}
-use Rattle.laws_of_events.proofs.Clusters.{node_is, is_on}
+use Rattle.bm_base.proofs.Clusters.{node_is, is_on}
 use Rattle.laws_of_events.proofs.Leading.{lawful_from_first}
 use Rattle.laws_of_events.proofs.Arriving.{still_to_come}
 use Rattle.laws_of_events.proofs.Spared.{node_off, none_sent_there}

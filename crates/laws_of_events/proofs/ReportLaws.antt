@@ -30,8 +30,8 @@ use Rattle.bm_base.proofs.Entries.{expanded-++, told_by-around, ids_told, has-co
 use Rattle.bm_base.proofs.Options.{there, staying, none_stays, all_stays, stays_twice}
 use Rattle.bm_base.proofs.Each.{Each, each_then}
 use Rattle.bm_base.proofs.Maps.{each_entry, get_here}
-use Rattle.laws_of_events.proofs.Clusters.{no_sisters}
-use Rattle.laws_of_events.proofs.Entering.{IsKept, IsPut, enter_origin, report_origin, stays_by}
+use Rattle.bm_base.proofs.Clusters.{no_sisters}
+use Rattle.bm_base.proofs.Entering.{IsKept, IsPut, enter_origin, report_origin, stays_by}
 use Rattle.laws_of_events.proofs.Telling.{tag_where, told_marks}
 use Rattle.laws_of_events.proofs.Reporting.{named_since, named_numbers, last_is, put_or, reported_here, reported_elsewhere}
 use Rattle.laws_of_events.specs.Reports as law

@@ -14,10 +14,10 @@ use Rattle.bm_base.specs.Entries.{Told}
 use Rattle.bm_base.specs.Events.{entered, is_named, report}
 use Rattle.bm_base.proofs.MapLaws.{get-insert}
 use Rattle.bm_base.proofs.Ties.{replica_tie}
-use Rattle.laws_of_events.proofs.Clusters.{eqb_turned}
+use Rattle.bm_base.proofs.Clusters.{eqb_turned}
 use Rattle.bm_base.proofs.Each.{each_mapped, each_of}
 use Rattle.bm_base.proofs.Maps.{get_insert_all_elsewhere}
-use Rattle.laws_of_events.proofs.Entering.{stays_by}
+use Rattle.bm_base.proofs.Entering.{stays_by}
 use Rattle.laws_of_events.specs.Runs.{last_stamp}
 
 -- the numbers that are told of

@@ -25,7 +25,7 @@ use Rattle.bm_base.proofs.Keeping.{get-keep_there}
 use Rattle.bm_base.proofs.Options.{not_failed, not_passed}
 use Rattle.bm_base.proofs.Each.{Each, each_then}
 use Rattle.bm_base.proofs.Maps.{each_entry, get_left, entry_passes, passes_entry}
-use Rattle.laws_of_events.proofs.Clusters.{same_node}
+use Rattle.bm_base.proofs.Clusters.{same_node}
 use Rattle.laws_of_events.proofs.NodeChanges.{on_it, is_on_it, node_at, still_there}
 use Rattle.laws_of_events.proofs.Listing.{any_of_mapped, any_shown, stored_where, usable_marks, marks_usable, missing_is, is_missing}
 use Rattle.laws_of_events.specs.Draining as law

@@ -17,7 +17,7 @@ use Rattle.bm_base.specs.Events.{is_named, leaves_by_report, report, change_clus
 use Rattle.bm_base.specs.Calls.{done, done_by, after_event, counted}
 use Rattle.bm_base.proofs.MapLaws.{same_map}
 use Rattle.bm_base.proofs.Entries.{length-expanded, has-told_by, expanded-++, expanded-one_by_one, told_by-backwards, told_by-cut}
-use Rattle.laws_of_events.proofs.Entering.{stays_by}
+use Rattle.bm_base.proofs.Entering.{stays_by}
 use Rattle.laws_of_events.proofs.Reporting.{named_since, put_or, reported_here, reported_elsewhere}
 use Rattle.laws_of_events.specs.Reports.{numbers_of}
 use Rattle.laws_of_events.specs.Runs as law

@@ -32,12 +32,12 @@ use Rattle.bm_base.proofs.MapLaws.{get-empty}
 use Rattle.bm_base.proofs.Options.{there, is_there, not_passed, revised}
 use Rattle.bm_base.proofs.Each.{Each, each_passing, each_appended, each_optional, least_is_one}
 use Rattle.bm_base.proofs.Maps.{get_kept, get_removed, get_taken, get_other, known_before}
-use Rattle.laws_of_events.proofs.Clusters.{node_is}
-use Rattle.laws_of_events.proofs.ClusterEvents.{same_nodes}
-use Rattle.laws_of_events.proofs.Among.{fewer_sent}
-use Rattle.laws_of_events.proofs.Chosen.{made_of, unless}
-use Rattle.laws_of_events.proofs.Rounding.{all_pending}
-use Rattle.laws_of_events.proofs.Accepting.{pending_before}
+use Rattle.bm_base.proofs.Clusters.{node_is}
+use Rattle.bm_base.proofs.ClusterEvents.{same_nodes}
+use Rattle.bm_base.proofs.Among.{fewer_sent}
+use Rattle.bm_base.proofs.ChosenCopies.{made_of, unless}
+use Rattle.bm_base.proofs.Rounding.{all_pending}
+use Rattle.bm_base.proofs.Accepting.{pending_before}
 use Rattle.laws_of_events.proofs.NodeChanges.{new_or, new_storages}
 use Rattle.laws_of_events.specs.Draining as law
 

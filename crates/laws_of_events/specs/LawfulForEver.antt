@@ -12,7 +12,7 @@ use Rattle.bm_base.specs.Rounds.{whole_round}
 use Rattle.bm_base.specs.Calls.{step, after_event, counted, state_after}
 use Rattle.bm_base.specs.Answering.{is_refused, MayAnswerAll, state_left_by}
 use Rattle.bm_base.specs.Lawful.{IsLawful}
-use Rattle.laws_of_events.specs.Fitting.{HasFittingStart, FitsEvent, FitsCall, FitCalls}
+use Rattle.bm_base.specs.Fitting.{HasFittingStart, FitsEvent, FitsCall, FitCalls}
 
 -- of every configuration, allowed or not
 abbrev pub first_state_is_lawful : Type 0

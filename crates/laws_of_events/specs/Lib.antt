@@ -1,5 +1,4 @@
 -- The laws, each as a statement that a function's contract cites.
-pub mod Fitting
 pub mod LawfulForEver
 pub mod PlainWords
 pub mod Reports

@@ -11,7 +11,7 @@ use Rattle.bm_base.specs.declared.limits.TheConstants.{MAX_NODES, MAX_STORAGES, 
 use Rattle.bm_base.specs.Map.{get, len}
 use Rattle.bm_base.specs.State.{Cluster, Holdings, State, first_state}
 use Rattle.bm_base.specs.Calls.{state_after}
-use Rattle.laws_of_events.specs.Fitting.{HasFittingStart, FitCalls}
+use Rattle.bm_base.specs.Fitting.{HasFittingStart, FitCalls}
 
 -- the storage is there, on a node that is there
 abbrev pub IsOnAliveNode : Cluster → ℕ → Type 0

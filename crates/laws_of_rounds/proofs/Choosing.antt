@@ -14,8 +14,10 @@ use Rattle.bm_base.specs.Lists.{has, least}
 use Rattle.bm_base.specs.Replicas.{sources_of, is_draining}
 use Rattle.bm_base.specs.Levels.{level, level_number, is_at}
 use Rattle.bm_base.specs.Transfers.{WishedCopy, wished_count, wishes_for, wishes, streams_from, stream_limit, source_cmp, least_source_by, least_source, holders_of, barred_for, target_cmp, is_target, least_target_by, least_target, scheduled_to, transfer_for, transfers_from, transfers}
-use Rattle.laws_of_rounds.proofs.Listed.{Each, each_all, each_flat_map, has_filter, and_first, and_second, some_same}
-use Rattle.laws_of_rounds.proofs.Surpluses.{least_among}
+use Rattle.std.proofs.lemmas.Option.{same_Some}
+use Rattle.bm_base.proofs.Each.{Each, each_of, each_flat_map}
+use Rattle.bm_base.proofs.Listed.{has_filter, and_first, and_second}
+use Rattle.bm_base.proofs.Surpluses.{least_among}
 
 -- what holds of each element, given those before it
 abbrev pub EachAfter : {X : Type 0} → (List X → X → Type 0) → List X → List X → Type 0
@@ -94,7 +96,7 @@ module _ (C : Cluster) (H : Holdings) where
   unfolding wishes
   each_wish =
       each_flat_map (λ _. Unit {0}) (IsOfLevel C H) (λ urgency. flat_map (wishes_for C H urgency) (keys H.blocks))
-      (λ urgency _. each_flat_map (λ _. Unit {0}) (IsOfLevel C H) (wishes_for C H urgency) (λ b _. wished_for urgency b) (keys H.blocks) (each_all (λ _. Unit {0}) (λ _. tt) (keys H.blocks)))
+      (λ urgency _. each_flat_map (λ _. Unit {0}) (IsOfLevel C H) (wishes_for C H urgency) (λ b _. wished_for urgency b) (keys H.blocks) (each_of (λ _. Unit {0}) (keys H.blocks) (λ _. tt)))
       (Highest ∷ VeryUnderReplicated ∷ UnderReplicated ∷ BadlyDistributed ∷ []) (tt, (tt, (tt, (tt, tt))))
 
 -- Why a transfer was chosen, behind those of `front`.
@@ -124,7 +126,7 @@ module _ (limits : RoundLimits) (C : Cluster) (H : Holdings) where
           → (o : Option ℕ) → least_target C front w.urgency (holders_of C H front w.block) (barred_for H front w.block) i.stamp.len ≡ o
           → option_map (λ u. record { block = w.block; stamp = i.stamp; source = s; target = u }) o ≡ Some t → IsChosenAfter limits C H front t
       by_target i few known s from None to e = absurd (false≢true (ap is_some e))
-      by_target i few known s from (Some u) to e = chosen i few known s u from to (some_same (record { block = w.block; stamp = i.stamp; source = s; target = u }) t e)
+      by_target i few known s from (Some u) to e = chosen i few known s u from to (same_Some (record { block = w.block; stamp = i.stamp; source = s; target = u }) t e)
 
       by_source : (i : BlockInfo) → length front < limits.work * len C.nodes → get H.blocks w.block ≡ Some i
           → (o : Option ℕ) → least_source C front w.urgency (sources_of C H w.block) ≡ o

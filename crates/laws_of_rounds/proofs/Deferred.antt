@@ -19,15 +19,17 @@ use Rattle.bm_base.specs.Excess.{begun, started, marked, without_expired, withou
 use Rattle.bm_base.specs.Deletes.{is_deletable, deletable_on, deletes_of, deletes}
 use Rattle.bm_base.specs.Lawful.{IsLawful}
 use Rattle.bm_base.specs.Rounds.{whole_round, commands_of, node_commands, has_commands}
-use Rattle.laws_of_rounds.specs.Words.{IsAmong, IsDeleteCommanded, live_marked, transfers_chosen}
+use Rattle.bm_base.specs.NextRound.{IsAmong, IsDeleteCommanded, live_marked, transfers_chosen}
 use Rattle.laws_of_rounds.specs.Deletes.{IsToBeDeleted}
-use Rattle.laws_of_rounds.proofs.Listed.{some_same, same_again}
-use Rattle.laws_of_rounds.proofs.Stands.{same_key}
+use Rattle.std.proofs.lemmas.Option.{same_Some}
+use Rattle.bm_base.proofs.Listed.{same_again}
+use Rattle.bm_base.proofs.Maps.{same_key}
 use Rattle.laws_of_rounds.proofs.Grouped.{has_keys, deletes_on_node}
-use Rattle.laws_of_rounds.proofs.Commanded.{chosen_deletes_of}
-use Rattle.laws_of_rounds.proofs.Kept.{marks_before}
+use Rattle.bm_base.proofs.Commanded.{chosen_deletes_of}
+use Rattle.bm_base.proofs.Kept.{marks_before}
 use Rattle.laws_of_rounds.proofs.Sending.{storage_is}
-use Rattle.laws_of_rounds.proofs.Told.{no_cons, cons_head, cons_tail, among_cons, among_flat, among_map, among_filter, among_numbers, some_value, told_delete}
+use Rattle.laws_of_rounds.proofs.Told.{no_cons, cons_head, cons_tail, among_cons, among_flat, among_map, among_filter, among_numbers, told_delete}
+use Rattle.bm_base.proofs.Options.{there}
 
 -- Places in lists.
 
@@ -55,7 +57,7 @@ among_found o k v [] e = absurd (false≢true (ap is_some e))
 among_found o k v (d ∷ es) e = by_key (eq_by_cmp o.cmp k d.0) refl e (among_found o k v es)
   where
     by_key : (b : Bool) → eq_by_cmp o.cmp k d.0 ≡ b → cond b (Some d.1) (find o.cmp k es) ≡ Some v → (find o.cmp k es ≡ Some v → IsAmong es (k, v)) → IsAmong (d ∷ es) (k, v)
-    by_key true t f rest = ([], es, λ j. (sym (same_key o k d.0 t) j, some_same d.1 v f j) ∷ es)
+    by_key true t f rest = ([], es, λ j. (sym (same_key o k d.0 t) j, same_Some d.1 v f j) ∷ es)
     by_key false t f rest = among_cons d es (k, v) (rest f)
 
 among_replicas : (m : Map by_replica Marks) (q : ReplicaId) (v : Marks) → get m q ≡ Some v → IsAmong (entries m) (q, v)
@@ -139,8 +141,8 @@ pub only_limit : (M : State) (q : ReplicaId) (m : Marks) (n : ℕ) → IsLawful 
 unfolding whole_round started begun node_of
 only_limit M q m n lawful some found unordered why on =
     let before = marks_before M q m found in
-    let storage = some_value (get M.cluster.storages q.storage) (lawful.holdings.stored q (ap is_some before.1)) in
-    let node : storage.0.node ≡ n = some_same storage.0.node n (sym (ap (option_map (λ i. i.node)) storage.1) ∙ on) in
+    let storage = there (get M.cluster.storages q.storage) (lawful.holdings.stored q (ap is_some before.1)) in
+    let node : storage.0.node ≡ n = same_Some storage.0.node n (sym (ap (option_map (λ i. i.node)) storage.1) ∙ on) in
     let alive : has (keys M.cluster.nodes) n ≡ true =
     has_keys M.cluster.nodes n ∙ ap (λ z. is_some (get M.cluster.nodes z)) (sym node) ∙ lawful.cluster.alive q.storage storage.0 storage.1 in
     let here : has_storage M.cluster n q.storage ≡ true = storage_is M.cluster n q.storage on in

@@ -18,14 +18,15 @@ use Rattle.bm_base.specs.Replicas.{live, drained, sources_of, is_usable, is_drai
 use Rattle.bm_base.specs.Excess.{begun, started, marked, excess_in}
 use Rattle.bm_base.specs.Rounds.{finished, is_commanded, whole_round}
 use Rattle.bm_base.specs.Transfers.{stream_limit, streams_from, node_number, source_rank, source_cmp, least_source_by, least_source}
-use Rattle.laws_of_rounds.specs.Words.{IsTransferCommanded, transfers_chosen, unmarked, drained_unmarked, drained_marked, drained_after}
-use Rattle.laws_of_rounds.proofs.Listed.{has_filter, or_right, and_first, filter_append, length_append}
-use Rattle.laws_of_rounds.proofs.Stands.{revised_where, has_where}
-use Rattle.laws_of_rounds.proofs.Lively.{sources_are, drained_is}
+use Rattle.bm_base.specs.NextRound.{IsTransferCommanded, transfers_chosen, unmarked, drained_unmarked, drained_marked, drained_after}
+use Rattle.bm_base.proofs.Listed.{has_filter, or_right, and_first, filter_append, length_append}
+use Rattle.bm_base.proofs.Stands.{revised_where, has_where}
+use Rattle.laws_of_rounds.proofs.Usable.{sources_are}
+use Rattle.bm_base.proofs.Lively.{drained_is}
 use Rattle.laws_of_rounds.proofs.Racked.{least_below}
-use Rattle.laws_of_rounds.proofs.Commanded.{IsTested, deleted_is}
-use Rattle.laws_of_rounds.proofs.Marked.{marked_in, ordered_by, ordered_usable, unordered_dropped}
-use Rattle.laws_of_rounds.proofs.Kept.{surplus_of, marks_before, deleted_marks, live_is_kept, weaker_kind}
+use Rattle.bm_base.proofs.Commanded.{IsTested, deleted_is}
+use Rattle.bm_base.proofs.Marked.{marked_in, ordered_by, ordered_usable, unordered_dropped}
+use Rattle.bm_base.proofs.Kept.{surplus_of, marks_before, deleted_marks, live_is_kept, weaker_kind}
 use Rattle.laws_of_rounds.proofs.Reasons.{surplus_live, live_before_is}
 use Rattle.laws_of_rounds.proofs.Sending.{chosen_at, four_at_most, storage_is, streams_of_node, fresh_node}
 use Rattle.laws_of_rounds.proofs.Later.{commanded_chosen}

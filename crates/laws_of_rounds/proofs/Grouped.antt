@@ -20,13 +20,15 @@ use Rattle.bm_base.specs.Deletes.{is_deletable, deletable_on, deletes_of, delete
 use Rattle.bm_base.specs.Rounds.{whole_round, commands_of, node_commands, has_commands}
 use Rattle.bm_base.proofs.MapLaws.{find_below}
 use Rattle.bm_base.proofs.Ties.{number_tie}
-use Rattle.laws_of_rounds.proofs.Listed.{Each, each_all, each_take, each_map, each_filter_by, each_weaker, each_flat_map, any_map, any_agree, eq_turned, filter_append, length_take-le, same_again}
-use Rattle.laws_of_rounds.proofs.Stands.{any_at}
+use Rattle.bm_base.proofs.Clusters.{eqb_turned}
+use Rattle.bm_base.proofs.Each.{Each, each_of, each_take, each_mapped, each_filter_by, each_then, each_flat_map}
+use Rattle.bm_base.proofs.Listed.{any_map, any_agree, filter_append, length_take-le, same_again}
+use Rattle.bm_base.proofs.Stands.{any_at}
 
 -- Keys.
 
 key_at : {X : Type 0} (k : ℕ) (e : ℕ × X) → (e.0 == k) ≡ (eq_by_cmp nat_cmp k e.0 && true)
-key_at k e = eq_turned e.0 k ∙ sym (number_tie k e.0) ∙ (elim (eq_by_cmp nat_cmp k e.0) as (λ b. b ≡ (b && true)) [ true ↦ refl | false ↦ refl ])
+key_at k e = eqb_turned e.0 k ∙ sym (number_tie k e.0) ∙ (elim (eq_by_cmp nat_cmp k e.0) as (λ b. b ≡ (b && true)) [ true ↦ refl | false ↦ refl ])
 
 any_key : {X : Type 0} (k : ℕ) (es : List (ℕ × X)) → T (is_sorted nat_cmp es) → has (map (λ e. e.0) es) k ≡ option_map_or (λ _. true) (find nat_cmp k es) false
 any_key k es h = any_map (λ y. y == k) (λ e. e.0) es ∙ any_agree (λ e. e.0 == k) (λ e. eq_by_cmp nat_cmp k e.0 && true) (key_at k) es ∙ any_at by_number k (λ _. true) es h
@@ -88,7 +90,7 @@ module _ {X : Type 0} where
                     ap (λ xs. filter (on n) (f k) ++ xs) (grouped n ns rest ∙ ap (λ b. cond b (f n) []) (subst (λ z. has ns z ≡ false) is none))
                     ∙ append_nil (filter (on n) (f k)) ∙ ap (λ z. filter (on n) (f z)) is ∙ filter_all (on n) (f n) (each n)
                 | false ↦ λ e.
-                    ap (λ xs. xs ++ filter (on n) (flat_map f ns)) (filter_none (on n) (f k) (each_weaker (λ x. on k x ≡ true) (λ x. on n x ≡ false) (elsewhere n k e) (f k) (each k)))
+                    ap (λ xs. xs ++ filter (on n) (flat_map f ns)) (filter_none (on n) (f k) (each_then (λ x. on k x ≡ true) (λ x. on n x ≡ false) (f k) (each k) (elsewhere n k e)))
                     ∙ grouped n ns rest
               ]) refl
         ]) refl once
@@ -106,8 +108,8 @@ module _ (limits : RoundLimits) (C : Cluster) (H : Holdings) where
   on_node_where : (n s : ℕ) (b : Bool) → has_storage C n s ≡ b → Each (λ (d : Delete). has_storage C n d.storage ≡ true) (if b then deletable_on C H s else [])
   unfolding deletable_on
   on_node_where n s true e =
-      each_map (λ (d : Delete). has_storage C n d.storage ≡ true) (λ f. record { storage = s; block = f.0.block }) (filter (λ f. (f.0.storage == s) && is_deletable C H f.0 f.1) (entries H.replicas))
-      (each_all (λ _. has_storage C n s ≡ true) (λ _. e) (filter (λ f. (f.0.storage == s) && is_deletable C H f.0 f.1) (entries H.replicas)))
+      each_mapped (λ (d : Delete). has_storage C n d.storage ≡ true) (λ f. record { storage = s; block = f.0.block }) (filter (λ f. (f.0.storage == s) && is_deletable C H f.0 f.1) (entries H.replicas))
+      (each_of (λ _. has_storage C n s ≡ true) (filter (λ f. (f.0.storage == s) && is_deletable C H f.0 f.1) (entries H.replicas)) (λ _. e))
   on_node_where n s false e = tt
 
   pub each_on_node : (n : ℕ) → Each (λ (d : Delete). has_storage C n d.storage ≡ true) (deletes_of limits C H n)
@@ -115,7 +117,7 @@ module _ (limits : RoundLimits) (C : Cluster) (H : Holdings) where
   each_on_node n =
       each_take (λ (d : Delete). has_storage C n d.storage ≡ true) limits.invalidate (flat_map (λ s. if has_storage C n s then deletable_on C H s else []) (keys C.storages))
       (each_flat_map (λ _. Unit {0}) (λ (d : Delete). has_storage C n d.storage ≡ true) (λ s. if has_storage C n s then deletable_on C H s else []) (λ s _. on_node_where n s (has_storage C n s) refl) (keys C.storages)
-      (each_all (λ _. Unit {0}) (λ _. tt) (keys C.storages)))
+      (each_of (λ _. Unit {0}) (keys C.storages) (λ _. tt)))
 
   -- the chosen deletes on a node are those chosen for it
   pub deletes_on_node : (n : ℕ) → filter (λ (d : Delete). has_storage C n d.storage) (deletes limits C H) ≡ cond (has (keys C.nodes) n) (deletes_of limits C H n) []
@@ -142,7 +144,7 @@ all_of_each P (x ∷ xs) h = All-cons P x xs h.0 (all_of_each P xs h.1)
 pub each_node : (C : Cluster) (r : ℕ) (ts : List Transfer) (ds : List Delete) (P : NodeCommands → Type 0) → ((n : ℕ) → P (node_commands C ts ds n)) → Each P (commands_of C r ts ds).nodes
 unfolding commands_of
 each_node C r ts ds P h =
-    each_filter_by P has_commands P (λ k p _. p) (map (node_commands C ts ds) (keys C.nodes)) (each_map P (node_commands C ts ds) (keys C.nodes) (each_all (λ n. P (node_commands C ts ds n)) h (keys C.nodes)))
+    each_filter_by P has_commands P (λ k p _. p) (map (node_commands C ts ds) (keys C.nodes)) (each_mapped P (node_commands C ts ds) (keys C.nodes) (each_of (λ n. P (node_commands C ts ds n)) (keys C.nodes) h))
 
 few_commanded : (limits : RoundLimits) (C : Cluster) (H : Holdings) (ts : List Transfer) (n : ℕ) → length (node_commands C ts (deletes limits C H) n).deletes ≤ limits.invalidate
 unfolding node_commands

@@ -15,13 +15,15 @@ use Rattle.bm_base.specs.Excess.{begun, started, marked, without_expired, withou
 use Rattle.bm_base.specs.Rounds.{finished, is_commanded, whole_round}
 use Rattle.bm_base.proofs.MapLaws.{get-revise, get-keep, get-insert}
 use Rattle.bm_base.proofs.Ties.{replica_tie}
-use Rattle.laws_of_rounds.specs.Words.{IsTransferCommanded, IsAmong, deletes_commanded, transfers_commanded, transfers_chosen, after_round}
+use Rattle.bm_base.specs.NextRound.{IsTransferCommanded, IsAmong, deletes_commanded, transfers_commanded, transfers_chosen, after_round}
 use Rattle.laws_of_rounds.specs.Rounds.{after_rounds}
-use Rattle.laws_of_rounds.proofs.Listed.{Each, each_any, each_weaker, or_left, or_right, same_again}
-use Rattle.laws_of_rounds.proofs.Stands.{same_key}
-use Rattle.laws_of_rounds.proofs.Commanded.{IsTested, chosen_deletes_of, each_delete, each_transfer, at_same}
-use Rattle.laws_of_rounds.proofs.Kept.{marks_started, remarked, remarked_ordered, surplus_of, from_some}
-use Rattle.laws_of_rounds.proofs.Marked.{ordered_by}
+use Rattle.bm_base.proofs.Each.{Each, each_any, each_then}
+use Rattle.bm_base.proofs.Listed.{or_left, or_right, same_again}
+use Rattle.bm_base.proofs.Maps.{same_key}
+use Rattle.bm_base.proofs.Commanded.{IsTested, chosen_deletes_of, each_delete, each_transfer, at_same}
+use Rattle.bm_base.proofs.Kept.{marks_started, remarked, remarked_ordered, surplus_of}
+use Rattle.bm_base.proofs.Options.{revised}
+use Rattle.bm_base.proofs.Marked.{ordered_by}
 use Rattle.laws_of_rounds.proofs.Reasons.{not_ordered}
 use Rattle.laws_of_rounds.proofs.Sending.{fresh_node}
 
@@ -32,7 +34,7 @@ among_more x xs y h = (x ∷ h.0, h.1, ap (λ zs. x ∷ zs) h.2)
 
 pub each_among : {X : Type 0} (xs : List X) → Each (IsAmong xs) xs
 each_among [] = tt
-each_among (x ∷ xs) = (([], xs, refl), each_weaker (IsAmong xs) (IsAmong (x ∷ xs)) (among_more x xs) xs (each_among xs))
+each_among (x ∷ xs) = (([], xs, refl), each_then (IsAmong xs) (IsAmong (x ∷ xs)) xs (each_among xs) (among_more x xs))
 
 pub each_at : {X : Type 0} (P : X → Type 0) (front back : List X) (x : X) → Each P (front ++ x ∷ back) → P x
 each_at P [] back x h = h.0
@@ -70,14 +72,6 @@ delete_chosen M q h =
     (each_delete M (λ (d : Delete). is_commanded (chosen_deletes_of M) (replica_at d.block d.storage) ≡ true) (commanded_itself (chosen_deletes_of M))) h in
     subst (λ p. is_commanded (chosen_deletes_of M) p ≡ true) (at_same found.0 q found.2) found.1
 
-marks_finished : (r : ℕ) (H : Holdings) (ts : List Transfer) (ds : List Delete) (q : ReplicaId) → get (finished r H ts ds).replicas q ≡ option_map (ordered_by ds q) (get H.replicas q)
-unfolding finished
-marks_finished r H ts ds q = get-revise H.replicas (λ p m. ordered_by ds p m) q
-
-pub marks_after : (M : State) (q : ReplicaId) → get (after_round M).holdings.replicas q ≡ option_map (ordered_by (chosen_deletes_of M) q) (get (started M).holdings.replicas q)
-unfolding whole_round
-marks_after M q = marks_finished (started M).round (started M).holdings (transfers_chosen M) (chosen_deletes_of M) q
-
 -- a replica whose delete was commanded
 abbrev pub IsOrdered : State → ReplicaId → Type 0
 IsOrdered M q = (m : Marks) → get M.holdings.replicas q ≡ Some m → m.ordered ≡ true
@@ -92,13 +86,13 @@ ordered_still false m e = e
 
 pub ordered_by_round : (M : State) (q : ReplicaId) → IsTested M q → IsOrdered (after_round M) q
 ordered_by_round M q h m e =
-    let was = from_some (ordered_by (chosen_deletes_of M) q) (get (started M).holdings.replicas q) m (sym (marks_after M q) ∙ e) in
+    let was = revised (ordered_by (chosen_deletes_of M) q) (get (started M).holdings.replicas q) m (sym (marks_after M q) ∙ e) in
     ap (λ x. x.ordered) (sym was.2) ∙ ordered_now (is_commanded (chosen_deletes_of M) q) was.0 (delete_chosen M q h)
 
 pub ordered_stays : (M : State) (q : ReplicaId) → IsOrdered M q → IsOrdered (after_round M) q
 ordered_stays M q h m e =
-    let was = from_some (ordered_by (chosen_deletes_of M) q) (get (started M).holdings.replicas q) m (sym (marks_after M q) ∙ e) in
-    let first = from_some (remarked (surplus_of M q.block) q.storage) (get M.holdings.replicas q) was.0 (sym (marks_started M q) ∙ was.1) in
+    let was = revised (ordered_by (chosen_deletes_of M) q) (get (started M).holdings.replicas q) m (sym (marks_after M q) ∙ e) in
+    let first = revised (remarked (surplus_of M q.block) q.storage) (get M.holdings.replicas q) was.0 (sym (marks_started M q) ∙ was.1) in
     ap (λ x. x.ordered) (sym was.2)
     ∙ ordered_still (is_commanded (chosen_deletes_of M) q) was.0 (ap (λ x. x.ordered) (sym first.2) ∙ remarked_ordered (surplus_of M q.block) q.storage first.0 ∙ h first.0 first.1)
 

@@ -1,10 +1,4 @@
 pub mod Needs
-pub mod Listed
-pub mod Stands
-pub mod Surpluses
-pub mod Marked
-pub mod Commanded
-pub mod Kept
 pub mod Grouped
 pub mod Reasons
 pub mod Racked
@@ -16,9 +10,8 @@ pub mod Later
 pub mod Ordered
 pub mod Urgency
 pub mod Told
-pub mod Tested
+pub mod Untested
 pub mod Deferred
 pub mod OneRack
-pub mod LastGood
-pub mod Lively
+pub mod Usable
 pub mod Drained

@@ -14,13 +14,17 @@ use Rattle.bm_base.specs.Levels.{level, level_of}
 use Rattle.bm_base.specs.Lawful.{IsLawful}
 use Rattle.laws_of_rounds.specs.Levels.{AreOnOneRack, HasTwoRacks}
 use Rattle.laws_of_rounds.proofs.Needs.{level_known}
-use Rattle.laws_of_rounds.proofs.Listed.{each_any, any_map, or_left, same_again, some_same}
-use Rattle.laws_of_rounds.proofs.Stands.{has_where, found_numbers}
+use Rattle.std.proofs.lemmas.Option.{same_Some}
+use Rattle.bm_base.proofs.Each.{each_any}
+use Rattle.bm_base.proofs.Listed.{any_map, or_left, same_again}
+use Rattle.bm_base.proofs.Stands.{has_where}
+use Rattle.bm_base.proofs.Maps.{each_entry}
 use Rattle.laws_of_rounds.proofs.Grouped.{once_keys}
 use Rattle.laws_of_rounds.proofs.Racked.{some_passing}
 use Rattle.laws_of_rounds.proofs.Sets.{has_distinct, has_filter_map, rack_among}
 use Rattle.laws_of_rounds.proofs.Wished.{badly_counted}
-use Rattle.laws_of_rounds.proofs.Told.{among_map, has_among, some_value, passing_there}
+use Rattle.laws_of_rounds.proofs.Told.{among_map, has_among, passing_there}
+use Rattle.bm_base.proofs.Options.{there}
 use Rattle.laws_of_rounds.proofs.Deferred.{among_found}
 
 -- Lists in which each number stands once.
@@ -95,14 +99,14 @@ module _ (C : Cluster) (ss : List ℕ) (known : (s : ℕ) → has ss s ≡ true 
   one_on : AreOnOneRack C ss → (s : ℕ) → has ss s ≡ true → length (racks C ss) ≡ 1
   one_on all s at_s =
       one_of_all (racks C ss) (once_racks C ss)
-      (λ r q at_r at_q. let x = rack_from C ss r at_r in let y = rack_from C ss q at_q in some_same r q (sym x.2 ∙ all x.0 y.0 x.1 y.1 ∙ y.2))
+      (λ r q at_r at_q. let x = rack_from C ss r at_r in let y = rack_from C ss q at_q in same_Some r q (sym x.2 ∙ all x.0 y.0 x.1 y.1 ∙ y.2))
       (some_has (racks C ss) (known s at_s).0 (rack_among C ss s (known s at_s).0 at_s (known s at_s).1))
 
 -- The racks of the alive nodes.
 
 rack_there : (m : Map by_number ℕ) (r : ℕ) → has (map (λ e. e.1) (entries m)) r ≡ true → (n : ℕ) × (get m n ≡ Some r)
 rack_there m r h =
-    let one = each_any (λ e. get m e.0 ≡ Some e.1) (λ e. e.1 == r) (entries m) (found_numbers m) (sym (any_map (λ x. x == r) (λ (e : ℕ × ℕ). e.1) (entries m)) ∙ h) in
+    let one = each_any (λ e. get m e.0 ≡ Some e.1) (λ e. e.1 == r) (entries m) (each_entry m) (sym (any_map (λ x. x == r) (λ (e : ℕ × ℕ). e.1) (entries m)) ∙ h) in
     (one.0.0, one.1 ∙ ap Some (eqb-true one.0.1 r one.2))
 
 there_rack : (m : Map by_number ℕ) (n r : ℕ) → get m n ≡ Some r → has (map (λ e. e.1) (entries m)) r ≡ true
@@ -154,8 +158,8 @@ live_rack : (M : State) (b s : ℕ) → IsLawful M → has (live M.cluster M.hol
 unfolding rack_of node_of
 live_rack M b s lawful h =
     let there = passing_there (is_live_on M.cluster s) (get M.holdings.replicas (replica_at b s)) (sym (has_where (is_live_on M.cluster) M.holdings b s) ∙ h) in
-    let storage = some_value (get M.cluster.storages s) (lawful.holdings.stored (replica_at b s) there) in
-    let node = some_value (get M.cluster.nodes storage.0.node) (lawful.cluster.alive s storage.0 storage.1) in
+    let storage = there (get M.cluster.storages s) (lawful.holdings.stored (replica_at b s) there) in
+    let node = there (get M.cluster.nodes storage.0.node) (lawful.cluster.alive s storage.0 storage.1) in
     (node.0, ap (λ o. option_and_then (λ n. get M.cluster.nodes n) (option_map (λ i. i.node) o)) storage.1 ∙ node.1)
 
 some_first : (xs : List ℕ) → 1 ≤ length xs → (s : ℕ) × (has xs s ≡ true)

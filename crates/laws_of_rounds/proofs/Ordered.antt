@@ -29,13 +29,16 @@ use Rattle.bm_base.specs.Rounds.{is_commanded}
 use Rattle.bm_base.specs.Refusals.{refusal_of, round_refusal, node_refusal, storage_refusal, block_refusal}
 use Rattle.bm_base.specs.Calls.{after_event, refused_or, step, state_after}
 use Rattle.bm_base.proofs.MapLaws.{get-empty, get-insert, get-keep, get-revise, get-remove}
-use Rattle.laws_of_rounds.specs.Words.{after_round}
-use Rattle.laws_of_rounds.proofs.Listed.{each_any, and_never, some_same}
-use Rattle.laws_of_rounds.proofs.Marked.{unordered_dropped, ordered_by}
-use Rattle.laws_of_rounds.proofs.Commanded.{IsTested, IsChosen, chosen_deletes, chosen_deletes_of, at_same}
-use Rattle.laws_of_rounds.proofs.Kept.{one_stays, remarked, surplus_of, marks_started, from_some, deleted_marks, live_is_kept, weaker_kind}
-use Rattle.laws_of_rounds.proofs.Later.{marks_after}
-use Rattle.laws_of_rounds.proofs.Lively.{live_is}
+use Rattle.bm_base.specs.NextRound.{after_round}
+use Rattle.std.proofs.lemmas.Option.{same_Some}
+use Rattle.bm_base.proofs.Each.{each_any}
+use Rattle.bm_base.proofs.Listed.{and_never}
+use Rattle.bm_base.proofs.Marked.{unordered_dropped, ordered_by}
+use Rattle.bm_base.proofs.Commanded.{IsTested, IsChosen, chosen_deletes, chosen_deletes_of, at_same}
+use Rattle.bm_base.proofs.Kept.{one_stays, remarked, surplus_of, marks_started, deleted_marks, live_is_kept, weaker_kind}
+use Rattle.bm_base.proofs.Options.{revised}
+use Rattle.bm_base.proofs.AfterRound.{marks_after}
+use Rattle.bm_base.proofs.Lively.{live_is}
 
 -- a mark of a replica: where its delete was commanded, it is not usable
 abbrev pub IsDone : Marks → Type 0
@@ -46,7 +49,7 @@ abbrev pub AreDone : Map by_replica Marks → Type 0
 AreDone r = (q : ReplicaId) (m : Marks) → get r q ≡ Some m → IsDone m
 
 done_same : (m n : Marks) → Some n ≡ Some m → IsDone n → IsDone m
-done_same m n e h = subst IsDone (some_same n m e) h
+done_same m n e h = subst IsDone (same_Some n m e) h
 
 -- Changes of a map.
 
@@ -63,7 +66,7 @@ done_kept r p h q m e = h q m (passed_was (get r q) (p q) m (sym (get-keep r p q
 
 done_revised : (r : Map by_replica Marks) (f : ReplicaId → Marks → Marks) → ((q : ReplicaId) (m : Marks) → IsDone m → IsDone (f q m)) → AreDone r → AreDone (revise r f)
 done_revised r f each h q m e =
-    let was = from_some (f q) (get r q) m (sym (get-revise r f q) ∙ e) in
+    let was = revised (f q) (get r q) m (sym (get-revise r f q) ∙ e) in
     subst IsDone was.2 (each q was.0 (h q was.0 was.1))
 
 done_inserted : (r : Map by_replica Marks) (k : ReplicaId) (v : Marks) → IsDone v → AreDone r → AreDone (insert r k v)
@@ -152,7 +155,7 @@ done_remarked chosen s m h = with_mark (has chosen s) (unordered_dropped m) (dro
 
 done_started : (M : State) → AreDone M.holdings.replicas → AreDone (started M).holdings.replicas
 done_started M h q m e =
-    let was = from_some (remarked (surplus_of M q.block) q.storage) (get M.holdings.replicas q) m (sym (marks_started M q) ∙ e) in
+    let was = revised (remarked (surplus_of M q.block) q.storage) (get M.holdings.replicas q) m (sym (marks_started M q) ∙ e) in
     subst IsDone was.2 (done_remarked (surplus_of M q.block) q.storage was.0 (h q was.0 was.1))
 
 -- what is chosen to be deleted is not usable
@@ -161,7 +164,7 @@ unfolding is_commanded started begun
 chosen_not_usable M q m e h =
     let found = each_any (IsChosen M.cluster (started M).holdings) (λ d. (d.storage == q.storage) && (d.block == q.block)) (chosen_deletes_of M) (chosen_deletes M.cluster (started M).holdings M.limits) h in
     let is = at_same found.0 q found.2 in
-    let same : found.1.marks ≡ m = some_same found.1.marks m (sym (subst (λ p. get (started M).holdings.replicas p ≡ Some found.1.marks) is found.1.is_there) ∙ e) in
+    let same : found.1.marks ≡ m = same_Some found.1.marks m (sym (subst (λ p. get (started M).holdings.replicas p ≡ Some found.1.marks) is found.1.is_there) ∙ e) in
     let marks = deleted_marks M q found.1.marks (subst (λ p. is_deletable M.cluster (started M).holdings p found.1.marks ≡ true) is found.1.deletable) in
     by_live (is_usable m) refl (subst (λ n. (is_stray n.tag ≡ true) ⊎ ((n.excess ≡ true) ⊎ (is_corrupt n.tag ≡ true))) same (weaker_kind found.1.marks (has_enough_live M.cluster (started M).holdings q.block) marks.1))
   where
@@ -175,7 +178,7 @@ done_commanded false m chosen old e = old e
 
 pub done_round : (M : State) → AreDone M.holdings.replicas → AreDone (after_round M).holdings.replicas
 done_round M h q m e =
-    let was = from_some (ordered_by (chosen_deletes_of M) q) (get (started M).holdings.replicas q) m (sym (marks_after M q) ∙ e) in
+    let was = revised (ordered_by (chosen_deletes_of M) q) (get (started M).holdings.replicas q) m (sym (marks_after M q) ∙ e) in
     subst IsDone was.2 (done_commanded (is_commanded (chosen_deletes_of M) q) was.0 (chosen_not_usable M q was.0 was.1) (done_started M h q was.0 was.1))
 
 -- Calls.

@@ -16,11 +16,12 @@ use Rattle.bm_base.specs.Lists.{has, has_repeats, least}
 use Rattle.bm_base.specs.Replicas.{is_live_on, rack_of, node_of}
 use Rattle.bm_base.specs.Excess.{excess_cmp, excess_among, remaining, share_rack, has_rack_mate, started}
 use Rattle.bm_base.specs.Lawful.{IsLawful}
-use Rattle.laws_of_rounds.specs.Words.{unmarked, live_unmarked, live_marked}
-use Rattle.laws_of_rounds.proofs.Listed.{any_weaker, count_without, has_filter, once_filter, or_left, or_right, same_again, and_second, some_same}
-use Rattle.laws_of_rounds.proofs.Stands.{has_where, once_where}
-use Rattle.laws_of_rounds.proofs.Surpluses.{kept_of, others, kept_step, chosen_first, least_among, least_there}
-use Rattle.laws_of_rounds.proofs.Marked.{marked_is, marked_unmarked, unordered_dropped}
+use Rattle.bm_base.specs.NextRound.{unmarked, live_unmarked, live_marked}
+use Rattle.std.proofs.lemmas.Option.{same_Some}
+use Rattle.bm_base.proofs.Listed.{any_weaker, count_without, has_filter, once_filter, or_left, or_right, same_again, and_second}
+use Rattle.bm_base.proofs.Stands.{has_where, once_where}
+use Rattle.bm_base.proofs.Surpluses.{kept_of, others, kept_step, chosen_first, least_among, least_there}
+use Rattle.bm_base.proofs.Marked.{marked_is, marked_unmarked, unordered_dropped}
 use Rattle.laws_of_rounds.proofs.Reasons.{marks_unmarked, none_unknown, none_made_live}
 
 -- The least of a list has the least class, where the class is compared first.
@@ -59,7 +60,7 @@ module _ (class : ℕ → ℕ) (rest : ℕ → ℕ → Ordering) where
   pub least_below : (xs : List ℕ) (x : ℕ) → least by_class xs ≡ Some x → IsBelow x xs
   least_below [] x e = λ t there. absurd (false≢true there)
   least_below (z ∷ xs) x e =
-      subst (λ y. IsBelow y (z ∷ xs)) (some_same (option_map_or (λ y. if is_lt (by_class y z) then y else z) (least by_class xs) z) x e)
+      subst (λ y. IsBelow y (z ∷ xs)) (same_Some (option_map_or (λ y. if is_lt (by_class y z) then y else z) (least by_class xs) z) x e)
       (by_rest (least by_class xs) refl (λ y. least_below xs y))
     where
       by_rest : (m : Option ℕ) → least by_class xs ≡ m → ((y : ℕ) → least by_class xs ≡ Some y → IsBelow y xs)

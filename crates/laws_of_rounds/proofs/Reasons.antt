@@ -15,14 +15,15 @@ use Rattle.bm_base.specs.Replicas.{is_usable, is_live_on, is_good, is_stray, is_
 use Rattle.bm_base.specs.Excess.{begun, started, without_expired, without_unordered_excess, marked, excess_in, excess_of, excess_among}
 use Rattle.bm_base.specs.Lawful.{IsLawful}
 use Rattle.bm_base.proofs.MapLaws.{get-revise}
-use Rattle.laws_of_rounds.specs.Words.{unmarked, live_unmarked, live_marked, live_after, drained_unmarked}
+use Rattle.bm_base.specs.NextRound.{unmarked, live_unmarked, live_marked, live_after, drained_unmarked}
 use Rattle.laws_of_rounds.specs.Deletes.{MayBeDeleted}
-use Rattle.laws_of_rounds.proofs.Listed.{has_filter, or_left, or_right, same_again, and_first, and_second, some_same}
-use Rattle.laws_of_rounds.proofs.Stands.{has_where}
-use Rattle.laws_of_rounds.proofs.Surpluses.{kept_of, chosen_among}
-use Rattle.laws_of_rounds.proofs.Marked.{marked_unmarked, marked_count, marked_is, after_marked, excess_known, unordered_dropped}
-use Rattle.laws_of_rounds.proofs.Commanded.{IsTested, deleted_is}
-use Rattle.laws_of_rounds.proofs.Kept.{deleted_marks, marks_before, marks_started, remarked_excess, remarked, remarked_ordered, remarked_tag, surplus_of, weaker_kind}
+use Rattle.std.proofs.lemmas.Option.{same_Some}
+use Rattle.bm_base.proofs.Listed.{has_filter, or_left, or_right, same_again, and_first, and_second}
+use Rattle.bm_base.proofs.Stands.{has_where}
+use Rattle.bm_base.proofs.Surpluses.{kept_of, chosen_among}
+use Rattle.bm_base.proofs.Marked.{marked_unmarked, marked_count, marked_is, after_marked, excess_known, unordered_dropped}
+use Rattle.bm_base.proofs.Commanded.{IsTested, deleted_is}
+use Rattle.bm_base.proofs.Kept.{deleted_marks, marks_before, marks_started, remarked_excess, remarked, remarked_ordered, remarked_tag, surplus_of, weaker_kind}
 
 pub may_be_deleted : (M : State) (q : ReplicaId) → IsTested M q → MayBeDeleted M q
 may_be_deleted M q h =
@@ -103,7 +104,7 @@ pub corrupt_waits : (M : State) (q : ReplicaId) (m : Marks) → IsLawful M → I
     → (i : BlockInfo) × (get M.holdings.blocks q.block ≡ Some i) × (i.repl ≤ length (live_marked M q.block))
 corrupt_waits M q m lawful h found corrupt =
     let is = deleted_is M q h in
-    let same : is.0 ≡ m = some_same is.0 m (sym is.1 ∙ found) in
+    let same : is.0 ≡ m = same_Some is.0 m (sym is.1 ∙ found) in
     let was = marks_before M q is.0 is.1 in
     let marks = deleted_marks M q is.0 is.2 in
     let good : is.0.excess ≡ true → is_good is.0.tag ≡ true =

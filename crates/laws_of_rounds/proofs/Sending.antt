@@ -23,15 +23,15 @@ use Rattle.bm_base.specs.Excess.{begun, started, marked, without_expired, withou
 use Rattle.bm_base.specs.Transfers.{pending_targets, streams_from, scheduled_to, stream_limit, targets_of, holders_of, barred_for, is_barred, is_target, class_of}
 use Rattle.bm_base.specs.Replicas.{racks}
 use Rattle.bm_base.specs.Rounds.{whole_round, commands_of, node_commands, has_commands}
-use Rattle.laws_of_rounds.specs.Words.{IsAmong, transfers_chosen, transfers_commanded, live_marked, drained_marked}
+use Rattle.bm_base.specs.NextRound.{IsAmong, transfers_chosen, transfers_commanded, live_marked, drained_marked}
 use Rattle.laws_of_rounds.specs.Transfers.{IsFreshNode}
-use Rattle.laws_of_rounds.proofs.Listed.{and_first, and_second, any_append, or_left, or_right, same_again, filter_append, length_append, filter_filter, any_map, any_filter}
-use Rattle.laws_of_rounds.proofs.Stands.{has_where, has_listed, listed}
+use Rattle.bm_base.proofs.Listed.{and_first, and_second, any_append, or_left, or_right, same_again, filter_append, length_append, filter_filter, any_map, any_filter}
+use Rattle.bm_base.proofs.Stands.{has_where, has_listed, listed}
 use Rattle.laws_of_rounds.proofs.Grouped.{has_keys, once_keys, on_one_node, each_node, all_of_each}
-use Rattle.laws_of_rounds.proofs.Commanded.{chosen_deletes_of}
-use Rattle.laws_of_rounds.proofs.Kept.{marks_started}
+use Rattle.bm_base.proofs.Commanded.{chosen_deletes_of}
+use Rattle.bm_base.proofs.Kept.{marks_started}
 use Rattle.laws_of_rounds.proofs.Racked.{passing_some}
-use Rattle.laws_of_rounds.proofs.Lively.{sources_are}
+use Rattle.laws_of_rounds.proofs.Usable.{sources_are}
 use Rattle.laws_of_rounds.proofs.Choosing.{EachAfter, after_split, after_whole, IsChosenAfter, each_chosen, source_is, target_is}
 
 -- each transfer of the next round was chosen

@@ -9,7 +9,8 @@ use Rattle.bm_base.specs.Lists.{has, distinct}
 use Rattle.bm_base.specs.Replicas.{racks, rack_of}
 use Rattle.bm_base.proofs.MapLaws.{get-insert, get-empty, same_map}
 use Rattle.bm_base.proofs.Ties.{number_tie}
-use Rattle.laws_of_rounds.proofs.Listed.{eq_turned, same_again}
+use Rattle.bm_base.proofs.Clusters.{eqb_turned}
+use Rattle.bm_base.proofs.Listed.{same_again}
 use Rattle.laws_of_rounds.proofs.Grouped.{has_keys}
 use Rattle.laws_of_rounds.proofs.Racked.{some_passing, passing_some}
 
@@ -26,7 +27,7 @@ get_all : (xs : List ℕ) (m : Map by_number (Unit {0})) (q : ℕ) → get (inse
 get_all [] m q = refl
 get_all (x ∷ xs) m q =
     get_all xs (insert m x tt) q
-    ∙ ap (cond (has xs q) (Some tt)) (get-insert m x tt q ∙ ap (λ b. cond b (Some tt) (get m q)) (number_tie q x ∙ eq_turned q x))
+    ∙ ap (cond (has xs q) (Some tt)) (get-insert m x tt q ∙ ap (λ b. cond b (Some tt) (get m q)) (number_tie q x ∙ eqb_turned q x))
     ∙ one_of (x == q) (has xs q) (get m q)
 
 get_set : (xs : List ℕ) (q : ℕ) → get {o = by_number} (insert_all (empty {X = Unit {0}}) (units xs)) q ≡ cond (has xs q) (Some tt) None

@@ -19,16 +19,21 @@ use Rattle.bm_base.specs.Excess.{begun, started, marked, without_expired, withou
 use Rattle.bm_base.specs.Deletes.{deletes_of, deletes}
 use Rattle.bm_base.specs.Lawful.{IsLawful}
 use Rattle.bm_base.specs.Rounds.{whole_round, commands_of, node_commands, has_commands, is_commanded, finished}
-use Rattle.laws_of_rounds.specs.Words.{IsAmong, IsTransferCommanded, deletes_commanded, transfers_chosen, after_round}
-use Rattle.laws_of_rounds.proofs.Listed.{Each, each_all, each_weaker, each_filter_by, each_flat_map, each_any, or_left, or_right, same_again, some_same}
-use Rattle.laws_of_rounds.proofs.Stands.{has_where}
-use Rattle.laws_of_rounds.proofs.Lively.{sources_usable}
+use Rattle.bm_base.specs.NextRound.{IsAmong, IsTransferCommanded, deletes_commanded, transfers_chosen, after_round}
+use Rattle.std.proofs.lemmas.Option.{same_Some}
+use Rattle.bm_base.proofs.Options.{there}
+use Rattle.bm_base.proofs.Each.{Each, each_of, each_then, each_filter_by, each_flat_map, each_any}
+use Rattle.bm_base.proofs.Listed.{or_left, or_right, same_again}
+use Rattle.bm_base.proofs.Stands.{has_where}
+use Rattle.laws_of_rounds.proofs.Usable.{sources_usable}
 use Rattle.laws_of_rounds.proofs.Grouped.{has_keys, each_node, each_on_node, all_of_each}
-use Rattle.laws_of_rounds.proofs.Commanded.{IsTested, chosen_deletes_of, deleted_is}
-use Rattle.laws_of_rounds.proofs.Kept.{marks_started, marks_before, remarked, remarked_ordered, surplus_of, from_some, remarked_tag}
-use Rattle.laws_of_rounds.proofs.Marked.{ordered_by}
+use Rattle.bm_base.proofs.Commanded.{IsTested, chosen_deletes_of, deleted_is}
+use Rattle.bm_base.proofs.Kept.{marks_started, marks_before, remarked, remarked_ordered, surplus_of, remarked_tag}
+use Rattle.bm_base.proofs.Options.{revised}
+use Rattle.bm_base.proofs.Marked.{ordered_by}
 use Rattle.laws_of_rounds.proofs.Sending.{node_is, storage_is, streams_of_node, two_below, source_usable}
-use Rattle.laws_of_rounds.proofs.Later.{each_among, each_is, commanded_chosen, ordered_by_round, marks_after, pending_now}
+use Rattle.laws_of_rounds.proofs.Later.{each_among, each_is, commanded_chosen, ordered_by_round, pending_now}
+use Rattle.bm_base.proofs.AfterRound.{marks_after}
 
 -- Each node its own.
 
@@ -37,9 +42,9 @@ own_of : (C : Cluster) (ts : List Transfer) (ds : List Delete) (n : ℕ)
 unfolding node_commands
 own_of C ts ds n = (
   all_of_each (λ (t : Transfer). node_of C t.source ≡ Some n) (filter (λ (t : Transfer). has_storage C n t.source) ts)
-      (each_filter_by (λ (_ : Transfer). Unit {0}) (λ t. has_storage C n t.source) (λ t. node_of C t.source ≡ Some n) (λ t _ e. node_is C n t.source e) ts (each_all (λ (_ : Transfer). Unit {0}) (λ _. tt) ts)),
+      (each_filter_by (λ (_ : Transfer). Unit {0}) (λ t. has_storage C n t.source) (λ t. node_of C t.source ≡ Some n) (λ t _ e. node_is C n t.source e) ts (each_of (λ (_ : Transfer). Unit {0}) ts (λ _. tt))),
   all_of_each (λ (d : Delete). node_of C d.storage ≡ Some n) (filter (λ (d : Delete). has_storage C n d.storage) ds)
-      (each_filter_by (λ (_ : Delete). Unit {0}) (λ d. has_storage C n d.storage) (λ d. node_of C d.storage ≡ Some n) (λ d _ e. node_is C n d.storage e) ds (each_all (λ (_ : Delete). Unit {0}) (λ _. tt) ds)),
+      (each_filter_by (λ (_ : Delete). Unit {0}) (λ d. has_storage C n d.storage) (λ d. node_of C d.storage ≡ Some n) (λ d _ e. node_is C n d.storage e) ds (each_of (λ (_ : Delete). Unit {0}) ds (λ _. tt))),
 )
 
 abbrev IsOwn : Cluster → NodeCommands → Type 0
@@ -189,10 +194,6 @@ module _ (C : Cluster) (r : ℕ) (ts : List Transfer) (ds : List Delete) where
       (among_filter has_commands (map (node_commands C ts ds) (keys C.nodes)) (node_commands C ts ds n) (among_map (node_commands C ts ds) (keys C.nodes) n (among_numbers (keys C.nodes) n alive))
       (lt-ltb 0 (length (node_commands C ts ds n).transfers + length (node_commands C ts ds n).deletes) (omega (arith, long)))) own
 
-pub some_value : {X : Type 0} (o : Option X) → is_some o ≡ true → (x : X) × (o ≡ Some x)
-some_value None e = absurd (false≢true e)
-some_value (Some x) e = (x, refl)
-
 pub passing_there : (p : Marks → Bool) (o : Option Marks) → option_map_or p o false ≡ true → is_some o ≡ true
 passing_there p None e = e
 passing_there p (Some m) e = refl
@@ -206,7 +207,7 @@ source_alive : (M : State) (b s : ℕ) → IsLawful M → has (sources_of M.clus
 unfolding node_of
 source_alive M b s lawful h =
     let there = mapped_was (remarked (surplus_of M b) s) (get M.holdings.replicas (replica_at b s)) (sym (ap is_some (marks_started M (replica_at b s))) ∙ passing_there is_usable (get (started M).holdings.replicas (replica_at b s)) (sym (has_where (λ _ m. is_usable m) (started M).holdings b s) ∙ sym (sources_usable M.cluster (started M).holdings b s) ∙ h)) in
-    let storage = some_value (get M.cluster.storages s) (lawful.holdings.stored (replica_at b s) there) in
+    let storage = there (get M.cluster.storages s) (lawful.holdings.stored (replica_at b s) there) in
     (storage.0.node, has_keys M.cluster.nodes storage.0.node ∙ lawful.cluster.alive s storage.0 storage.1, storage_is M.cluster storage.0.node s (ap (option_map (λ i. i.node)) storage.1))
 
 pub chosen_told : (M : State) (t : Transfer) → IsLawful M → IsAmong (transfers_chosen M) t → IsTransferCommanded M t
@@ -231,16 +232,8 @@ deletes_alive : (limits : RoundLimits) (C : Cluster) (H : Holdings) → Each (Is
 unfolding deletes
 deletes_alive limits C H =
     each_flat_map (IsAmong (keys C.nodes)) (IsOnAlive C) (deletes_of limits C H)
-    (λ n at. each_weaker (λ (d : Delete). has_storage C n d.storage ≡ true) (IsOnAlive C) (λ d on. (n, has_among (keys C.nodes) n at, on)) (deletes_of limits C H n) (each_on_node limits C H n))
+    (λ n at. each_then (λ (d : Delete). has_storage C n d.storage ≡ true) (IsOnAlive C) (deletes_of limits C H n) (each_on_node limits C H n) (λ d on. (n, has_among (keys C.nodes) n at, on)))
     (keys C.nodes) (each_among (keys C.nodes))
-
-commanded_at : (q : ReplicaId) (d : Delete) (front back : List Delete) → ((d.storage == q.storage) && (d.block == q.block)) ≡ true → list_any (λ e. (e.storage == q.storage) && (e.block == q.block)) (front ++ d ∷ back) ≡ true
-commanded_at q d [] back e = or_left ((d.storage == q.storage) && (d.block == q.block)) (list_any (λ c. (c.storage == q.storage) && (c.block == q.block)) back) e
-commanded_at q d (c ∷ front) back e =
-    or_right ((c.storage == q.storage) && (c.block == q.block)) (list_any (λ f. (f.storage == q.storage) && (f.block == q.block)) (front ++ d ∷ back)) (commanded_at q d front back e)
-
-pub commanded_among : (q : ReplicaId) (d : Delete) (ds : List Delete) → IsAmong ds d → ((d.storage == q.storage) && (d.block == q.block)) ≡ true → list_any (λ e. (e.storage == q.storage) && (e.block == q.block)) ds ≡ true
-commanded_among q d ds at e = subst (λ es. list_any (λ (c : Delete). (c.storage == q.storage) && (c.block == q.block)) es ≡ true) (sym at.2) (commanded_at q d at.0 at.1 e)
 
 delete_told : (M : State) (q : ReplicaId) → is_commanded (chosen_deletes_of M) q ≡ true → IsTested M q
 unfolding is_commanded whole_round started begun
@@ -261,9 +254,9 @@ newly false m e f = absurd (false≢true (sym e ∙ f))
 
 pub ordered_told : (M : State) (q : ReplicaId) (m n : Marks) → get M.holdings.replicas q ≡ Some m → m.ordered ≡ false → get (after_round M).holdings.replicas q ≡ Some n → n.ordered ≡ true → IsTested M q
 ordered_told M q m n before unordered after ordered =
-    let was = from_some (ordered_by (chosen_deletes_of M) q) (get (started M).holdings.replicas q) n (sym (marks_after M q) ∙ after) in
+    let was = revised (ordered_by (chosen_deletes_of M) q) (get (started M).holdings.replicas q) n (sym (marks_after M q) ∙ after) in
     let first = marks_before M q was.0 was.1 in
-    let same : first.0 ≡ m = some_same first.0 m (sym first.1 ∙ before) in
+    let same : first.0 ≡ m = same_Some first.0 m (sym first.1 ∙ before) in
     delete_told M q (newly (is_commanded (chosen_deletes_of M) q) was.0
     (ap (λ x. x.ordered) (sym first.2) ∙ remarked_ordered (surplus_of M q.block) q.storage first.0 ∙ ap (λ x. x.ordered) same ∙ unordered)
     (ap (λ x. x.ordered) was.2 ∙ ordered))
@@ -272,19 +265,6 @@ pub pending_told : (M : State) (t : Transfer) → IsTransferCommanded M t → ge
 pending_told M t h = pending_now M t (commanded_chosen M t h)
 
 -- What a round leaves as it is.
-
-tag_marked : (ds : List Delete) (q : ReplicaId) (m : Marks) → (ordered_by ds q m).tag ≡ m.tag
-tag_marked ds q m = elim (is_commanded ds q) as (λ b. (if b then record m { ordered = true } else m).tag ≡ m.tag) [ true ↦ refl | false ↦ refl ]
-
-tag_twice : (f g : Marks → Marks) → ((m : Marks) → (f m).tag ≡ m.tag) → ((m : Marks) → (g m).tag ≡ m.tag) → (o : Option Marks)
-    → option_map (λ m. m.tag) (option_map f (option_map g o)) ≡ option_map (λ m. m.tag) o
-tag_twice f g hf hg None = refl
-tag_twice f g hf hg (Some m) = ap Some (hf (g m) ∙ hg m)
-
-pub same_tag : (M : State) (q : ReplicaId) → option_map (λ m. m.tag) (get (after_round M).holdings.replicas q) ≡ option_map (λ m. m.tag) (get M.holdings.replicas q)
-same_tag M q =
-    ap (option_map (λ (m : Marks). m.tag)) (marks_after M q ∙ ap (option_map (ordered_by (chosen_deletes_of M) q)) (marks_started M q))
-    ∙ tag_twice (ordered_by (chosen_deletes_of M) q) (remarked (surplus_of M q.block) q.storage) (tag_marked (chosen_deletes_of M) q) (remarked_tag (surplus_of M q.block) q.storage) (get M.holdings.replicas q)
 
 pub same_rest : (M : State) → ((after_round M).cluster ≡ M.cluster) × ((after_round M).holdings.blocks ≡ M.holdings.blocks) × ((after_round M).limits ≡ M.limits)
     × ((after_round M).round ≡ M.round + 1) × ((after_round M).calls ≡ M.calls)

@@ -17,8 +17,9 @@ use Rattle.bm_base.specs.State.{RoundLimits, Cluster, Holdings, State}
 use Rattle.bm_base.specs.Levels.{level, level_number, is_at}
 use Rattle.bm_base.specs.Excess.{begun, started}
 use Rattle.bm_base.specs.Transfers.{WishedCopy, wished_count, wishes_for, wishes, transfer_for, transfers_from, transfers}
-use Rattle.laws_of_rounds.specs.Words.{transfers_chosen}
-use Rattle.laws_of_rounds.proofs.Listed.{Each, each_all, each_append, each_weaker, each_flat_map, some_same}
+use Rattle.bm_base.specs.NextRound.{transfers_chosen}
+use Rattle.std.proofs.lemmas.Option.{same_Some}
+use Rattle.bm_base.proofs.Each.{Each, each_of, each_appended, each_then, each_flat_map}
 use Rattle.laws_of_rounds.proofs.Choosing.{EachAfter, after_push, after_split, IsOfLevel, each_wish, each_replicate}
 use Rattle.laws_of_rounds.proofs.Later.{each_at}
 use Rattle.laws_of_rounds.proofs.Wished.{of_wish}
@@ -35,7 +36,7 @@ Rises R (x ∷ xs) = Each (R x) xs × Rises R xs
 module _ {X : Type 0} (R : X → X → Type 0) where
   rises_append : (xs ys : List X) → Rises R xs → Rises R ys → Each (λ x. Each (R x) ys) xs → Rises R (xs ++ ys)
   rises_append [] ys h k all = k
-  rises_append (x ∷ xs) ys h k all = (each_append (R x) xs ys h.0 all.0, rises_append xs ys h.1 k all.1)
+  rises_append (x ∷ xs) ys h k all = (each_appended (R x) xs ys h.0 all.0, rises_append xs ys h.1 k all.1)
 
   rises_replicate : (n : ℕ) (x : X) → R x x → Rises R (replicate n x)
   rises_replicate zero x h = tt
@@ -95,14 +96,13 @@ module _ (C : Cluster) (H : Holdings) where
   -- a wish for a block before those for greater blocks
   before_greater : (urgency : Level) (b n : ℕ) (w : WishedCopy) → b < n → IsFor urgency b w → Each (IsBefore w) (wishes_for C H urgency n)
   before_greater urgency b n w lt is =
-      each_weaker (IsFor urgency n) (IsBefore w) (λ v h. let e = is.1 in let f = h.1 in inr (is.0 ∙ sym h.0, omega (arith, lt, e, f))) (wishes_for C H urgency n) (each_for urgency n)
+      each_then (IsFor urgency n) (IsBefore w) (wishes_for C H urgency n) (each_for urgency n) (λ v h. let e = is.1 in let f = h.1 in inr (is.0 ∙ sym h.0, omega (arith, lt, e, f)))
 
   rises_at : (urgency : Level) (ks : List ℕ) → Rises (λ k n. k < n) ks → Rises IsBefore (flat_map (wishes_for C H urgency) ks)
   rises_at urgency [] h = tt
   rises_at urgency (b ∷ ks) h =
       rises_append IsBefore (wishes_for C H urgency b) (flat_map (wishes_for C H urgency) ks) (rises_for urgency b) (rises_at urgency ks h.1)
-      (each_weaker (IsFor urgency b) (λ w. Each (IsBefore w) (flat_map (wishes_for C H urgency) ks))
-      (λ w is. each_flat_map (λ n. b < n) (IsBefore w) (wishes_for C H urgency) (λ n lt. before_greater urgency b n w lt is) ks h.0) (wishes_for C H urgency b) (each_for urgency b))
+      (each_then (IsFor urgency b) (λ w. Each (IsBefore w) (flat_map (wishes_for C H urgency) ks)) (wishes_for C H urgency b) (each_for urgency b) (λ w is. each_flat_map (λ n. b < n) (IsBefore w) (wishes_for C H urgency) (λ n lt. before_greater urgency b n w lt is) ks h.0))
 
   abbrev at : Level → List WishedCopy
   at urgency = flat_map (wishes_for C H urgency) (keys H.blocks)
@@ -110,7 +110,7 @@ module _ (C : Cluster) (H : Holdings) where
   each_urgency : (urgency : Level) → Each (λ w. w.urgency ≡ urgency) (at urgency)
   each_urgency urgency =
       each_flat_map (λ _. Unit {0}) (λ w. w.urgency ≡ urgency) (wishes_for C H urgency)
-      (λ b _. each_weaker (IsFor urgency b) (λ w. w.urgency ≡ urgency) (λ w h. h.0) (wishes_for C H urgency b) (each_for urgency b)) (keys H.blocks) (each_all (λ _. Unit {0}) (λ _. tt) (keys H.blocks))
+      (λ b _. each_then (IsFor urgency b) (λ w. w.urgency ≡ urgency) (wishes_for C H urgency b) (each_for urgency b) (λ w h. h.0)) (keys H.blocks) (each_of (λ _. Unit {0}) (keys H.blocks) (λ _. tt))
 
   lower_before : (l k : Level) → level_number l < level_number k → (w v : WishedCopy) → w.urgency ≡ l → v.urgency ≡ k → IsBefore w v
   lower_before l k lt w v e f =
@@ -121,9 +121,7 @@ module _ (C : Cluster) (H : Holdings) where
   levels_rise [] h = tt
   levels_rise (l ∷ ls) h =
       rises_append IsBefore (at l) (flat_map at ls) (rises_at l (keys H.blocks) (keys_rise H.blocks)) (levels_rise ls h.1)
-      (each_weaker (λ w. w.urgency ≡ l) (λ w. Each (IsBefore w) (flat_map at ls))
-      (λ w e. each_flat_map (λ k. level_number l < level_number k) (IsBefore w) at (λ k lt. each_weaker (λ v. v.urgency ≡ k) (IsBefore w) (λ v f. lower_before l k lt w v e f) (at k) (each_urgency k)) ls h.0)
-      (at l) (each_urgency l))
+      (each_then (λ w. w.urgency ≡ l) (λ w. Each (IsBefore w) (flat_map at ls)) (at l) (each_urgency l) (λ w e. each_flat_map (λ k. level_number l < level_number k) (IsBefore w) at (λ k lt. each_then (λ v. v.urgency ≡ k) (IsBefore w) (at k) (each_urgency k) (λ v f. lower_before l k lt w v e f)) ls h.0))
 
   wishes_rise : Rises IsBefore (wishes C H)
   unfolding wishes
@@ -150,7 +148,7 @@ module _ (C : Cluster) (H : Holdings) where
     served_pushed : (front : List Transfer) (w v : WishedCopy) (o : Option Transfer) → ((t : Transfer) → o ≡ Some t → t.block ≡ w.block) → IsOfLevel C H w → IsBefore w v
         → Each (IsServedBefore v) front → Each (IsServedBefore v) (front ++ option_to_list o)
     served_pushed front w v None same of_level lt h = subst (Each (IsServedBefore v)) (sym (append-nil front)) h
-    served_pushed front w v (Some t) same of_level lt h = each_append (IsServedBefore v) front (t ∷ []) h ((w, same t refl, of_level, lt), tt)
+    served_pushed front w v (Some t) same of_level lt h = each_appended (IsServedBefore v) front (t ∷ []) h ((w, same t refl, of_level, lt), tt)
 
     served_all : (front : List Transfer) (w : WishedCopy) (o : Option Transfer) → ((t : Transfer) → o ≡ Some t → t.block ≡ w.block) → IsOfLevel C H w → (ws : List WishedCopy) → Each (IsBefore w) ws
         → Each (λ v. Each (IsServedBefore v) front) ws → Each (λ v. Each (IsServedBefore v) (front ++ option_to_list o)) ws
@@ -167,14 +165,14 @@ module _ (C : Cluster) (H : Holdings) where
 
     pub all_in_order : EachAfter IsInOrder [] (transfers limits C H)
     unfolding transfers
-    all_in_order = in_order [] (wishes C H) wishes_rise (each_wish C H) (each_all (λ v. Unit {0}) (λ _. tt) (wishes C H)) tt
+    all_in_order = in_order [] (wishes C H) wishes_rise (each_wish C H) (each_of (λ v. Unit {0}) (wishes C H) (λ _. tt)) tt
 
   of_order : (t u : Transfer) (l k : Level) (v : WishedCopy) → level C H t.block ≡ Some l → level C H u.block ≡ Some k → u.block ≡ v.block → IsOfLevel C H v → IsServedBefore v t
       → (level_number l < level_number k) ⊎ ((l ≡ k) × (t.block ≤ u.block))
   of_order t u l k v at_l at_k same at_v served =
       let w : WishedCopy = served.0 in
-      let is_l : w.urgency ≡ l = some_same w.urgency l (sym served.2 ∙ ap (level C H) (sym served.1) ∙ at_l) in
-      let is_k : v.urgency ≡ k = some_same v.urgency k (sym at_v ∙ ap (level C H) (sym same) ∙ at_k) in
+      let is_l : w.urgency ≡ l = same_Some w.urgency l (sym served.2 ∙ ap (level C H) (sym served.1) ∙ at_l) in
+      let is_k : v.urgency ≡ k = same_Some v.urgency k (sym at_v ∙ ap (level C H) (sym same) ∙ at_k) in
       by_case w is_l is_k served.1 served.3
     where
       by_case : (w : WishedCopy) → w.urgency ≡ l → v.urgency ≡ k → t.block ≡ w.block → IsBefore w v → (level_number l < level_number k) ⊎ ((l ≡ k) × (t.block ≤ u.block))

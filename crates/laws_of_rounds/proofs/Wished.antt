@@ -15,12 +15,14 @@ use Rattle.bm_base.specs.Replicas.{live, drained, sources_of, racks, rack_of, is
 use Rattle.bm_base.specs.Levels.{level, level_of, is_at}
 use Rattle.bm_base.specs.Excess.{begun, started, marked, without_expired, without_unordered_excess, share_rack}
 use Rattle.bm_base.specs.Transfers.{WishedCopy, wished_count, wishes_for, wishes, pending_targets, targets_of, holders_of, barred_for, is_on_racks, class_of, least_source, least_target, transfer_for, transfers_from, transfers}
-use Rattle.laws_of_rounds.specs.Words.{transfers_chosen, live_marked}
+use Rattle.bm_base.specs.NextRound.{transfers_chosen, live_marked}
 use Rattle.laws_of_rounds.specs.Transfers.{copies_chosen, copies_on_their_way}
 use Rattle.std.proofs.lemmas.List.Sums.{length-filter}
 use Rattle.bm_base.specs.declared.replica.ReplicaId.{ReplicaId}
 use Rattle.laws_of_rounds.proofs.Needs.{level_known}
-use Rattle.laws_of_rounds.proofs.Listed.{Each, filter_append, length_append, same_again, some_same}
+use Rattle.std.proofs.lemmas.Option.{same_Some}
+use Rattle.bm_base.proofs.Each.{Each}
+use Rattle.bm_base.proofs.Listed.{filter_append, length_append, same_again}
 use Rattle.laws_of_rounds.proofs.Grouped.{grouped, has_keys, once_keys}
 use Rattle.laws_of_rounds.proofs.Choosing.{target_is}
 use Rattle.laws_of_rounds.proofs.Sending.{chosen_at, target_parts}
@@ -127,7 +129,7 @@ count_none b = refl
 
 block_mapped : (b s : ℕ) (i : BlockInfo) (o : Option ℕ) (t : Transfer) → option_map (λ u. record { block = b; stamp = i.stamp; source = s; target = u }) o ≡ Some t → t.block ≡ b
 block_mapped b s i None t e = absurd (false≢true (ap is_some e))
-block_mapped b s i (Some u) t e = ap (λ z. z.block) (sym (some_same (record { block = b; stamp = i.stamp; source = s; target = u }) t e))
+block_mapped b s i (Some u) t e = ap (λ z. z.block) (sym (same_Some (record { block = b; stamp = i.stamp; source = s; target = u }) t e))
 
 block_kept : (full : Bool) (o : Option BlockInfo) (from : Option ℕ) (to : BlockInfo → Option ℕ) (b : ℕ) (t : Transfer)
     → (if full then None else option_and_then (λ i. option_and_then (λ s. option_map (λ u. record { block = b; stamp = i.stamp; source = s; target = u }) (to i)) from) o) ≡ Some t → t.block ≡ b
@@ -312,7 +314,7 @@ second_rack_shared M front back t is badly s there =
     let head = head_count t back in
     let at = target_is C front why.urgency (holders_of C H front t.block) (barred_for H front t.block) why.info.stamp.len t.target why.target in
     let parts = target_parts C front why.urgency (holders_of C H front t.block) (barred_for H front t.block) why.info.stamp.len t.target at.0 in
-    let urgent : why.urgency ≡ BadlyDistributed = some_same why.urgency BadlyDistributed (sym why.at_level ∙ badly) in
+    let urgent : why.urgency ≡ BadlyDistributed = same_Some why.urgency BadlyDistributed (sym why.at_level ∙ badly) in
     let off = first_off (is_at BadlyDistributed (Some why.urgency)) (length (racks C (holders_of C H front t.block)) == 1) (class_of C (holders_of C H front t.block) t.target == 1) (ap (λ l. is_at BadlyDistributed (Some l)) urgent) parts.apart in
     let none = none_other C H front t.block why.info.repl (length (targets_of (transfers_chosen M) t.block)) (length (targets_of back t.block)) (omega (arith, long, head)) counted.0
     (no_more_targets M t.block why.info (known_before M t.block why.info why.known) (omega (arith, long, head))) in

@@ -12,7 +12,7 @@ use Rattle.bm_base.specs.Levels.{level}
 use Rattle.bm_base.specs.Excess.{started}
 use Rattle.bm_base.specs.Lawful.{IsLawful}
 use Rattle.bm_base.specs.Rounds.{whole_round}
-use Rattle.laws_of_rounds.specs.Words.{IsAmong, IsDeleteCommanded, IsTransferCommanded, transfers_chosen, after_round}
+use Rattle.bm_base.specs.NextRound.{IsAmong, IsDeleteCommanded, IsTransferCommanded, transfers_chosen, after_round}
 
 -- each node is commanded transfers from its own storages and deletes on its own storages
 abbrev pub EachNodeItsOwn : Type 0

@@ -16,7 +16,7 @@ use Rattle.bm_base.specs.Excess.{started}
 use Rattle.bm_base.specs.Rounds.{whole_round}
 use Rattle.bm_base.specs.Lawful.{IsLawful}
 use Rattle.bm_base.specs.Calls.{state_after}
-use Rattle.laws_of_rounds.specs.Words.{IsAmong, IsDeleteCommanded, after_round, live_marked, live_after, drained_after}
+use Rattle.bm_base.specs.NextRound.{IsAmong, IsDeleteCommanded, after_round, live_marked, live_after, drained_after}
 
 -- The last good replica.
 

@@ -1,6 +1,5 @@
 -- The laws, each a statement that is read aloud.
 pub mod Levels
-pub mod Words
 pub mod Live
 pub mod Surplus
 pub mod Deletes

@@ -4,7 +4,7 @@ use Rattle.bm_base.specs.declared.replica.ReplicaId.{ReplicaId}
 use Rattle.bm_base.specs.declared.commands.Transfer.{Transfer}
 use Rattle.bm_base.specs.State.{State}
 use Rattle.bm_base.specs.Replicas.{node_of}
-use Rattle.laws_of_rounds.specs.Words.{IsDeleteCommanded, IsTransferCommanded, after_round}
+use Rattle.bm_base.specs.NextRound.{IsDeleteCommanded, IsTransferCommanded, after_round}
 
 -- so many rounds later
 abbrev pub after_rounds : ℕ → State → State

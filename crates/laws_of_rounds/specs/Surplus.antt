@@ -10,7 +10,7 @@ use Rattle.bm_base.specs.Lists.{has}
 use Rattle.bm_base.specs.Replicas.{rack_of, is_draining}
 use Rattle.bm_base.specs.Excess.{started}
 use Rattle.bm_base.specs.Lawful.{IsLawful}
-use Rattle.laws_of_rounds.specs.Words.{live_unmarked, live_marked, live_after, drained_unmarked, drained_marked, drained_after}
+use Rattle.bm_base.specs.NextRound.{live_unmarked, live_marked, live_after, drained_unmarked, drained_marked, drained_after}
 
 -- Before a round marks, live are the good replicas on nodes that do not drain, but those in excess of which the delete was
 -- commanded.

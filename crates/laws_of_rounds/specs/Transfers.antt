@@ -13,7 +13,7 @@ use Rattle.bm_base.specs.Replicas.{node_of, rack_of, has_storage, drains, is_dra
 use Rattle.bm_base.specs.Levels.{level, level_number}
 use Rattle.bm_base.specs.Excess.{started}
 use Rattle.bm_base.specs.Rounds.{whole_round}
-use Rattle.laws_of_rounds.specs.Words.{IsAmong, IsTransferCommanded, transfers_chosen, transfers_commanded, live_marked, drained_marked}
+use Rattle.bm_base.specs.NextRound.{IsAmong, IsTransferCommanded, transfers_chosen, transfers_commanded, live_marked, drained_marked}
 
 -- what holds of each transfer of the next round, given those chosen before it
 abbrev pub ForEachTransfer : (State → List Transfer → Transfer → Type 0) → Type 0

@@ -1,4 +1,4 @@
-use Rattle.laws_of_rounds.proofs.Told.{same_tag}
+use Rattle.bm_base.proofs.AfterRound.{same_tag}
 use Rattle.laws_of_rounds.proofs.commands.round_changes_no_tag.Goals as goal
 
 pub returns : goal.returns

@@ -1,5 +1,5 @@
 use Rattle.laws_of_rounds.proofs.Reasons.{corrupt_waits}
-use Rattle.laws_of_rounds.proofs.Tested.{tested}
+use Rattle.bm_base.proofs.Tested.{tested}
 use Rattle.laws_of_rounds.proofs.deletes.corrupt_waits_for_live.Goals as goal
 
 pub returns : goal.returns

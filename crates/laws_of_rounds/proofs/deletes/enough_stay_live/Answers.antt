@@ -1,6 +1,6 @@
 use Rattle.bm_base.specs.State.{replica_at}
-use Rattle.laws_of_rounds.proofs.Kept.{enough_stay}
-use Rattle.laws_of_rounds.proofs.Tested.{tested}
+use Rattle.bm_base.proofs.Kept.{enough_stay}
+use Rattle.bm_base.proofs.Tested.{tested}
 use Rattle.laws_of_rounds.proofs.deletes.enough_stay_live.Goals as goal
 
 pub returns : goal.returns

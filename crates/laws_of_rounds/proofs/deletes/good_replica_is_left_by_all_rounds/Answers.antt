@@ -1,7 +1,7 @@
 use Rattle.bm_base.specs.State.{first_state, replica_at}
 use Rattle.bm_base.specs.Calls.{state_after}
 use Rattle.laws_of_rounds.proofs.Ordered.{done_reached, good_stays}
-use Rattle.laws_of_rounds.proofs.Tested.{tested}
+use Rattle.bm_base.proofs.Tested.{tested}
 use Rattle.laws_of_rounds.proofs.deletes.good_replica_is_left_by_all_rounds.Goals as goal
 
 pub returns : goal.returns

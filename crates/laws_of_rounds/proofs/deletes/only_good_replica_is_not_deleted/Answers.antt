@@ -1,6 +1,6 @@
 use Rattle.bm_base.specs.State.{replica_at}
-use Rattle.laws_of_rounds.proofs.LastGood.{only_good_stays}
-use Rattle.laws_of_rounds.proofs.Tested.{tested}
+use Rattle.bm_base.proofs.LastGood.{only_good_stays}
+use Rattle.bm_base.proofs.Tested.{tested}
 use Rattle.laws_of_rounds.proofs.deletes.only_good_replica_is_not_deleted.Goals as goal
 
 pub returns : goal.returns

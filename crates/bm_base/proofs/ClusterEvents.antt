@@ -24,9 +24,9 @@ use Rattle.bm_base.proofs.Ties.{number_tie}
 use Rattle.bm_base.proofs.Options.{there, is_there, revised, not_passed, fails_not}
 use Rattle.bm_base.proofs.Each.{Each, each_of, each_all, each_mapped, each_then}
 use Rattle.bm_base.proofs.Maps.{Holds, get_kept, get_removed, get_here, get_revised, known_inserted, known_removed, known_before, get_inserted, holds_inserted, holds_insert_all, len_inserted, len_insert_all, len_removed, len_revised}
-use Rattle.laws_of_events.proofs.Clusters.{is_on}
-use Rattle.laws_of_events.proofs.Checks.{all_fail, first_fails}
-use Rattle.laws_of_events.specs.Fitting.{FitsEvent}
+use Rattle.bm_base.proofs.Clusters.{is_on}
+use Rattle.bm_base.proofs.Checks.{all_fail, first_fails}
+use Rattle.bm_base.specs.Fitting.{FitsEvent}
 
 -- what a new node's storages are known as
 abbrev pub fresh : ℕ → List ℕ → List (ℕ × StorageInfo)

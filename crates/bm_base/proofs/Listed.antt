@@ -1,14 +1,9 @@
--- Words and lemmas on lists: what holds of each element, and counts.
+-- Tests of lists, and counts.
 use Rattle.std.specs.Prelude.{◌≡◌, ℕ, zero, suc, ◌+◌, ◌≤◌, Bool, true, false, not, ◌&&◌, ◌||◌, ◌==◌, List, [], ◌∷◌, ◌++◌, map, filter, flat_map, length, take, Some}
 use Rattle.std.specs.List.{list_any}
 use Rattle.std.proofs.Common.{cond, refl, sym, ap, subst, ◌∙◌, arith}
 use Rattle.std.proofs.lemmas.Bool.{eqb-true, eq-eqb, false≢true}
 use Rattle.bm_base.specs.Lists.{has, has_repeats}
-
--- what holds of each element of a list
-abbrev pub Each : {X : Type 0} → (X → Type 0) → List X → Type 0
-Each P [] = Unit {0}
-Each P (x ∷ xs) = P x × Each P xs
 
 -- Tests.
 
@@ -32,53 +27,10 @@ pub and_never : (b : Bool) → (b && false) ≡ false
 and_never true = refl
 and_never false = refl
 
-pub some_same : {X : Type 0} (x y : X) → Some x ≡ Some y → x ≡ y
-some_same x y e = cc
-
 pub same_again : (a : ℕ) → (a == a) ≡ true
 same_again a = eq-eqb a a refl
 
-pub eq_turned_by : (a b : ℕ) (t u : Bool) → (a == b) ≡ t → (b == a) ≡ u → t ≡ u
-eq_turned_by a b true true e f = refl
-eq_turned_by a b false false e f = refl
-eq_turned_by a b true false e f = sym (eq-eqb b a (sym (eqb-true a b e))) ∙ f
-eq_turned_by a b false true e f = sym e ∙ eq-eqb a b (sym (eqb-true b a f))
-
-pub eq_turned : (a b : ℕ) → (a == b) ≡ (b == a)
-eq_turned a b = eq_turned_by a b (a == b) (b == a) refl refl
-
 module _ {X : Type 0} where
-  pub each_append : (P : X → Type 0) (xs ys : List X) → Each P xs → Each P ys → Each P (xs ++ ys)
-  each_append P [] ys h k = k
-  each_append P (x ∷ xs) ys h k = (h.0, each_append P xs ys h.1 k)
-
-  pub each_weaker : (P Q : X → Type 0) → ((x : X) → P x → Q x) → (xs : List X) → Each P xs → Each Q xs
-  each_weaker P Q f [] h = tt
-  each_weaker P Q f (x ∷ xs) h = (f x h.0, each_weaker P Q f xs h.1)
-
-  pub each_take : (P : X → Type 0) (n : ℕ) (xs : List X) → Each P xs → Each P (take n xs)
-  each_take P zero xs h = tt
-  each_take P (suc n) [] h = tt
-  each_take P (suc n) (x ∷ xs) h = (h.0, each_take P n xs h.1)
-
-  pub each_filter_by : (P : X → Type 0) (p : X → Bool) (Q : X → Type 0) → ((x : X) → P x → p x ≡ true → Q x) → (xs : List X) → Each P xs → Each Q (filter p xs)
-  each_filter_by P p Q f [] h = tt
-  each_filter_by P p Q f (x ∷ xs) h =
-      let rest = each_filter_by P p Q f xs h.1 in
-      elim (p x) as (λ b. p x ≡ b → Each Q (cond b (x ∷ filter p xs) (filter p xs))) [
-        | true ↦ λ e. (f x h.0 e, rest)
-        | false ↦ λ _. rest
-      ] refl
-
-  -- one that passes is among those of which it holds
-  pub each_any : (P : X → Type 0) (p : X → Bool) (xs : List X) → Each P xs → list_any p xs ≡ true → (x : X) × P x × (p x ≡ true)
-  each_any P p [] h e = absurd (false≢true e)
-  each_any P p (x ∷ xs) h e =
-      (elim (p x) as (λ b. p x ≡ b → (b || list_any p xs) ≡ true → (y : X) × P y × (p y ≡ true)) [
-        | true ↦ λ t _. (x, h.0, t)
-        | false ↦ λ _ f. each_any P p xs h.1 f
-      ]) refl e
-
   pub any_append : (p : X → Bool) (xs ys : List X) → list_any p (xs ++ ys) ≡ (list_any p xs || list_any p ys)
   any_append p [] ys = refl
   any_append p (x ∷ xs) ys = ap (λ b. p x || b) (any_append p xs ys) ∙ (elim (p x) as (λ b. (b || (list_any p xs || list_any p ys)) ≡ ((b || list_any p xs) || list_any p ys)) [ true ↦ refl | false ↦ refl ])
@@ -138,21 +90,9 @@ module _ {X : Type 0} where
   length_take-le (suc n) (x ∷ xs) = let rest = length_take-le n xs in omega (arith, rest)
 
 module _ {X Y : Type 0} where
-  pub each_map : (P : Y → Type 0) (f : X → Y) (xs : List X) → Each (λ x. P (f x)) xs → Each P (map f xs)
-  each_map P f [] h = tt
-  each_map P f (x ∷ xs) h = (h.0, each_map P f xs h.1)
-
-  pub each_flat_map : (Q : X → Type 0) (P : Y → Type 0) (f : X → List Y) → ((x : X) → Q x → Each P (f x)) → (xs : List X) → Each Q xs → Each P (flat_map f xs)
-  each_flat_map Q P f g [] h = tt
-  each_flat_map Q P f g (x ∷ xs) h = each_append P (f x) (flat_map f xs) (g x h.0) (each_flat_map Q P f g xs h.1)
-
   pub any_map : (p : Y → Bool) (f : X → Y) (xs : List X) → list_any p (map f xs) ≡ list_any (λ x. p (f x)) xs
   any_map p f [] = refl
   any_map p f (x ∷ xs) = ap (λ b. p (f x) || b) (any_map p f xs)
-
-pub each_all : {X : Type 0} (P : X → Type 0) → ((x : X) → P x) → (xs : List X) → Each P xs
-each_all P f [] = tt
-each_all P f (x ∷ xs) = (f x, each_all P f xs)
 
 -- Numbers that stand once.
 

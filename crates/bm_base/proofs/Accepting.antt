@@ -20,13 +20,13 @@ use Rattle.bm_base.specs.Lawful.{IsLawful, IsLawfulHoldings, HasFittingNumbers}
 use Rattle.bm_base.proofs.Options.{there, is_there, fails_not}
 use Rattle.bm_base.proofs.Each.{each_all, each_mapped}
 use Rattle.bm_base.proofs.Maps.{Holds, get_kept, get_removed, known_revised, holds_inserted, holds_insert_all}
-use Rattle.laws_of_events.proofs.Checks.{IsAccepted, accepted, all_fail, both_fail, first_fails}
-use Rattle.laws_of_events.proofs.ClusterEvents.{fit_cluster, lawful_cluster, registrable}
-use Rattle.laws_of_events.proofs.Among.{after_death, after_failure, after_registration, after_heartbeat, after_removal, after_drain, after_undrain, drained_blocks, drained_replicas, drained_before}
-use Rattle.laws_of_events.proofs.BlockEvents.{added_lawful, deleted_lawful, replication_lawful, restamped_lawful, found_lawful, info_after}
-use Rattle.laws_of_events.proofs.Entering.{enter_lawful, enter_pending, report_lawful, report_pending, put_by, told_below}
-use Rattle.laws_of_events.proofs.Rounding.{counted_lawful}
-use Rattle.laws_of_events.specs.Fitting.{FitsEvent}
+use Rattle.bm_base.proofs.Checks.{IsAccepted, accepted, all_fail, both_fail, first_fails}
+use Rattle.bm_base.proofs.ClusterEvents.{fit_cluster, lawful_cluster, registrable}
+use Rattle.bm_base.proofs.Among.{after_death, after_failure, after_registration, after_heartbeat, after_removal, after_drain, after_undrain, drained_blocks, drained_replicas, drained_before}
+use Rattle.bm_base.proofs.BlockEvents.{added_lawful, deleted_lawful, replication_lawful, restamped_lawful, found_lawful, info_after}
+use Rattle.bm_base.proofs.Entering.{enter_lawful, enter_pending, report_lawful, report_pending, put_by, told_below}
+use Rattle.bm_base.proofs.Rounding.{counted_lawful}
+use Rattle.bm_base.specs.Fitting.{FitsEvent}
 
 -- What is known of an accepted event.
 

@@ -18,15 +18,10 @@ use Rattle.bm_base.specs.Lists.{has, has_repeats}
 use Rattle.bm_base.specs.Replicas.{storages_where}
 use Rattle.bm_base.proofs.MapLaws.{find_below, entries-revise}
 use Rattle.bm_base.proofs.Ties.{number_tie, replica_tie}
-use Rattle.laws_of_rounds.proofs.Listed.{Each, each_weaker, any_map, any_filter, any_agree, eq_turned, same_again}
-
-equal : (r : Ordering) → is_eq r ≡ true → r ≡ Equal
-equal Less p = cc
-equal Equal p = refl
-equal Greater p = cc
-
-pub same_key : {K : Type 0} (o : Order K) (p q : K) → eq_by_cmp o.cmp p q ≡ true → p ≡ q
-same_key o p q e = o.same p q (equal _ e)
+use Rattle.bm_base.proofs.Clusters.{eqb_turned}
+use Rattle.bm_base.proofs.Each.{Each, each_then}
+use Rattle.bm_base.proofs.Maps.{same_key}
+use Rattle.bm_base.proofs.Listed.{any_map, any_filter, any_agree, same_again}
 
 module _ {K X : Type 0} (o : Order K) where
   -- of entries in order one at most has the key
@@ -41,40 +36,6 @@ module _ {K X : Type 0} (o : Order K) where
             ap (λ b. p e.1 || b) (rest ∙ ap (λ v. option_map_or p v false) none) ∙ (elim (p e.1) as (λ b. (b || false) ≡ b) [ true ↦ refl | false ↦ refl ])
         | false ↦ λ _. rest
       ] refl
-
-  found_further : (e : K × X) (es : List (K × X)) → T (below_all o.cmp e.0 es) → (d : K × X) → find o.cmp d.0 es ≡ Some d.1 → find o.cmp d.0 (e ∷ es) ≡ Some d.1
-  found_further e es low d found =
-      elim (eq_by_cmp o.cmp d.0 e.0) as (λ b. eq_by_cmp o.cmp d.0 e.0 ≡ b → cond b (Some e.1) (find o.cmp d.0 es) ≡ Some d.1) [
-        | true ↦ λ t.
-            let none : find o.cmp d.0 es ≡ None = find_below o.cmp d.0 es (subst (λ q. T (below_all o.cmp q es)) (sym (same_key o d.0 e.0 t)) low) in
-            absurd (some≢none d.1 (sym found ∙ none))
-        | false ↦ λ _. found
-      ] refl
-    where
-      some≢none : (x : X) → Some x ≡ None → ⊥
-      some≢none x e = true≢false (ap is_some e)
-
-  -- each entry is found under its key
-  pub found_each : ((k : K) → eq_by_cmp o.cmp k k ≡ true) → (es : List (K × X)) → T (is_sorted o.cmp es) → Each (λ e. find o.cmp e.0 es ≡ Some e.1) es
-  found_each same [] h = tt
-  found_each same (e ∷ es) h = (
-    ap (λ b. cond b (Some e.1) (find o.cmp e.0 es)) (same e.0),
-    each_weaker (λ d. find o.cmp d.0 es ≡ Some d.1) (λ d. find o.cmp d.0 (e ∷ es) ≡ Some d.1) (found_further e es (first _ _ h)) es (found_each same es (second _ _ h)),
-  )
-
-number_again : (k : ℕ) → eq_by_cmp nat_cmp k k ≡ true
-number_again k = number_tie k k ∙ same_again k
-
-replica_again : (k : ReplicaId) → eq_by_cmp replica_cmp k k ≡ true
-replica_again k = replica_tie k k ∙ ap (λ b. b && (k.storage == k.storage)) (same_again k.block) ∙ same_again k.storage
-
-pub found_numbers : {X : Type 0} (m : Map by_number X) → Each (λ e. get m e.0 ≡ Some e.1) (entries m)
-unfolding get entries
-found_numbers m = found_each by_number number_again m.list m.sorted
-
-pub found_replicas : {X : Type 0} (m : Map by_replica X) → Each (λ e. get m e.0 ≡ Some e.1) (entries m)
-unfolding get entries
-found_replicas m = found_each by_replica replica_again m.list m.sorted
 
 -- Storages of a block.
 
@@ -108,8 +69,8 @@ at_key : {X : Type 0} (p : ℕ → X → Bool) (b s : ℕ) (e : ReplicaId × X)
     → (((e.0.block == b) && p e.0.storage e.1) && (e.0.storage == s)) ≡ (eq_by_cmp replica_cmp (replica_at b s) e.0 && p s e.1)
 at_key p b s e =
     on_storage (e.0.block == b) p e.0.storage s e.1
-    ∙ turned (e.0.block == b) (p s e.1) (e.0.storage == s) (b == e.0.block) (eq_turned e.0.block b)
-    ∙ ap (λ t. ((b == e.0.block) && t) && p s e.1) (eq_turned e.0.storage s)
+    ∙ turned (e.0.block == b) (p s e.1) (e.0.storage == s) (b == e.0.block) (eqb_turned e.0.block b)
+    ∙ ap (λ t. ((b == e.0.block) && t) && p s e.1) (eqb_turned e.0.storage s)
     ∙ ap (λ t. t && p s e.1) (sym (replica_tie (replica_at b s) e.0))
 
 any_listed : {X : Type 0} (p : ℕ → X → Bool) (b s : ℕ) (es : List (ReplicaId × X))

@@ -7,18 +7,24 @@ use Rattle.bm_base.specs.declared.replica.BlockInfo.{BlockInfo}
 use Rattle.bm_base.specs.Map.{get}
 use Rattle.bm_base.specs.State.{State, replica_at}
 use Rattle.bm_base.specs.Lists.{has}
+use Rattle.bm_base.specs.Excess.{begun, started}
+use Rattle.bm_base.specs.Rounds.{whole_round}
+use Rattle.bm_base.specs.Calls.{counted}
 use Rattle.bm_base.specs.Lawful.{IsLawful}
-use Rattle.laws_of_rounds.specs.Words.{after_round, live_after}
-use Rattle.laws_of_rounds.proofs.Commanded.{IsTested}
-use Rattle.laws_of_rounds.proofs.Kept.{one_stays, from_some}
-use Rattle.laws_of_rounds.proofs.Told.{same_tag}
-use Rattle.laws_of_rounds.proofs.Lively.{live_is}
+use Rattle.bm_base.specs.Sparing.{SparesLastGood, KeepsEnoughLive}
+use Rattle.bm_base.specs.NextRound.{after_round, live_after}
+use Rattle.bm_base.proofs.Commanded.{IsTested}
+use Rattle.bm_base.proofs.Kept.{one_stays, enough_stay, live_stays}
+use Rattle.bm_base.proofs.Options.{revised}
+use Rattle.bm_base.proofs.AfterRound.{same_tag}
+use Rattle.bm_base.proofs.Lively.{live_is}
+use Rattle.bm_base.proofs.Tested.{tested}
 
 -- a replica that is live after a round was good before it
 was_good : (M : State) (b t : ℕ) → has (live_after M b) t ≡ true → (m : Marks) × (get M.holdings.replicas (replica_at b t) ≡ Some m) × (m.tag ≡ Good)
 was_good M b t h =
     let now = (live_is M.cluster (after_round M).holdings b t).0 h in
-    from_some (λ (m : Marks). m.tag) (get M.holdings.replicas (replica_at b t)) Good
+    revised (λ (m : Marks). m.tag) (get M.holdings.replicas (replica_at b t)) Good
     (sym (same_tag M (replica_at b t)) ∙ ap (option_map (λ (m : Marks). m.tag)) now.1 ∙ ap Some now.2)
 
 pub only_good_stays : (M : State) (b s : ℕ) (i : BlockInfo) → IsLawful M → get M.holdings.blocks b ≡ Some i
@@ -27,3 +33,14 @@ only_good_stays M b s i lawful known only h =
     let one = one_stays M b s i lawful known h in
     let was = was_good M b one.0 one.1 in
     one.3 (only one.0 was.0 was.1 was.2)
+
+-- The same as a round's contract says it.
+
+pub round_spares : (M : State) → IsLawful M → SparesLastGood M (whole_round M).0
+round_spares M lawful b s i known only h = only_good_stays M b s i lawful known only (tested M (replica_at b s) h)
+
+pub round_keeps : (M : State) → IsLawful M → KeepsEnoughLive M (whole_round M).0 (counted (whole_round M).1)
+unfolding whole_round started begun
+round_keeps M lawful b s i known h =
+    let enough = enough_stay M b s i lawful known (tested M (replica_at b s) h) in
+    (enough.0, enough.1, λ t there again. live_stays M b t there (tested M (replica_at b t) again))

@@ -11,7 +11,7 @@ use Rattle.bm_base.specs.Map.{by_number}
 use Rattle.bm_base.specs.Replicas.{drains}
 use Rattle.bm_base.specs.Lawful.{IsLawful}
 use Rattle.bm_base.proofs.MapLaws.{get-empty}
-use Rattle.laws_of_events.specs.Fitting.{HasFittingStart}
+use Rattle.bm_base.specs.Fitting.{HasFittingStart}
 
 module _ (K X : Type 0) (o : Order K) where
   nothing_there : (q : K) (x : X) → get (empty {X = X} {o = o}) q ≡ Some x → ⊥

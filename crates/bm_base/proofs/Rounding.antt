@@ -20,8 +20,8 @@ use Rattle.bm_base.specs.Lawful.{IsLawful, IsLawfulHoldings, HasFittingNumbers}
 use Rattle.bm_base.proofs.Options.{there, is_there}
 use Rattle.bm_base.proofs.Each.{Each, each_mapped, each_then}
 use Rattle.bm_base.proofs.Maps.{Holds, get_kept, get_revised, known_revised, holds_insert_all}
-use Rattle.laws_of_events.proofs.Among.{lawful_among, among_here}
-use Rattle.laws_of_events.proofs.Chosen.{IsPlaced, in_excess_usable, each_placed}
+use Rattle.bm_base.proofs.Among.{lawful_among, among_here}
+use Rattle.bm_base.proofs.ChosenCopies.{IsPlaced, in_excess_usable, each_placed}
 
 -- Marks that keep their tags, and are in excess only where the replica is good.
 module _ (C : Cluster) (H G : Holdings) (f : ReplicaId → Marks → Marks) (L : IsLawfulHoldings C H) (tags : (q : ReplicaId) (m : Marks) → (f q m).tag ≡ m.tag)

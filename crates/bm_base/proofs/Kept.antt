@@ -16,11 +16,13 @@ use Rattle.bm_base.specs.Excess.{begun, started, without_expired, without_unorde
 use Rattle.bm_base.specs.Deletes.{is_deletable}
 use Rattle.bm_base.specs.Lawful.{IsLawful}
 use Rattle.bm_base.proofs.MapLaws.{get-revise}
-use Rattle.laws_of_rounds.specs.Words.{unmarked, live_unmarked, live_marked, live_after}
-use Rattle.laws_of_rounds.proofs.Listed.{and_first, or_left, same_again, some_same}
-use Rattle.laws_of_rounds.proofs.Stands.{has_where}
-use Rattle.laws_of_rounds.proofs.Marked.{unordered_dropped, marked_in, after_marked, excess_known, marked_count}
-use Rattle.laws_of_rounds.proofs.Commanded.{IsTested, deleted_is}
+use Rattle.bm_base.proofs.Options.{revised}
+use Rattle.bm_base.specs.NextRound.{unmarked, live_unmarked, live_marked, live_after}
+use Rattle.std.proofs.lemmas.Option.{same_Some}
+use Rattle.bm_base.proofs.Listed.{and_first, or_left, same_again}
+use Rattle.bm_base.proofs.Stands.{has_where}
+use Rattle.bm_base.proofs.Marked.{unordered_dropped, marked_in, after_marked, excess_known, marked_count}
+use Rattle.bm_base.proofs.Commanded.{IsTested, deleted_is}
 
 -- Tests.
 
@@ -91,14 +93,10 @@ marks_started M q =
     ∙ ap (option_map (marked_in (surplus_of M q.block) q.storage)) (get-revise M.holdings.replicas (λ _ m. unordered_dropped m) q)
     ∙ (elim (get M.holdings.replicas q) as (λ o. option_map (marked_in (surplus_of M q.block) q.storage) (option_map unordered_dropped o) ≡ option_map (remarked (surplus_of M q.block) q.storage) o) [ None ↦ refl | Some m ↦ refl ])
 
-pub from_some : {X Y : Type 0} (f : X → Y) (o : Option X) (y : Y) → option_map f o ≡ Some y → (x : X) × (o ≡ Some x) × (f x ≡ y)
-from_some f None y e = absurd (false≢true (ap is_some e))
-from_some f (Some x) y e = (x, refl, some_same (f x) y e)
-
 -- the marks before the round, of marks at its start
 pub marks_before : (M : State) (q : ReplicaId) (m : Marks) → get (started M).holdings.replicas q ≡ Some m
     → (n : Marks) × (get M.holdings.replicas q ≡ Some n) × (remarked (surplus_of M q.block) q.storage n ≡ m)
-marks_before M q m e = from_some (remarked (surplus_of M q.block) q.storage) (get M.holdings.replicas q) m (sym (marks_started M q) ∙ e)
+marks_before M q m e = revised (remarked (surplus_of M q.block) q.storage) (get M.holdings.replicas q) m (sym (marks_started M q) ∙ e)
 
 -- Where a round commands a delete.
 
