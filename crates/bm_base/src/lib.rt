@@ -7,6 +7,7 @@ mod call;
 mod commands;
 mod config;
 mod event;
+mod fits;
 mod ids;
 mod items;
 mod level;
