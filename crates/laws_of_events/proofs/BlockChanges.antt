@@ -24,7 +24,7 @@ use Rattle.bm_base.proofs.Options.{none_stays, all_stays}
 use Rattle.bm_base.proofs.Maps.{key_itself, not_tied, get_here, get_taken, get_left}
 use Rattle.bm_base.proofs.Entering.{stays_by}
 use Rattle.laws_of_events.proofs.Reporting.{named_numbers, reported_elsewhere}
-use Rattle.laws_of_events.proofs.Parts.{cut_is_part, one_part_changed}
+use Rattle.bm_parts.proofs.Parts.{cut_is_part, one_part_changed}
 use Rattle.laws_of_events.specs.Changes as law
 use Rattle.laws_of_events.specs.Reports.{held_after, numbers_of}
 

@@ -2,14 +2,11 @@ pub mod Leading
 pub mod Telling
 pub mod Reporting
 pub mod ReportLaws
-pub mod PartMaps
-pub mod Parts
 pub mod NodeChanges
 pub mod BlockChanges
 pub mod Counting
 pub mod BadStays
 pub mod Asked
-pub mod PartSums
 pub mod Calling
 pub mod Arriving
 pub mod Plainly

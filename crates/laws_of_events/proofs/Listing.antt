@@ -1,5 +1,5 @@
 -- What queries list.
-use Rattle.std.proofs.Common.{◌≡◌, ℕ, ◌*◌, ◌≤◌, Bool, true, false, cond, not, ◌&&◌, ◌||◌, Some, None, List, [], ◌∷◌, map, filter, length, ◌⊎◌, inl, inr, refl, sym, ap, ◌∙◌, eqb-true, eq-eqb, arith}
+use Rattle.std.proofs.Common.{◌≡◌, ℕ, ◌*◌, ◌≤◌, Bool, true, false, not, ◌&&◌, ◌||◌, Some, None, List, [], ◌∷◌, map, length, ◌⊎◌, inl, inr, refl, sym, ap, ◌∙◌, eqb-true, eq-eqb, arith}
 use Rattle.std.specs.Prelude.{◌==◌, nat_le, nat_lt, if◌then◌else◌, option_and_then}
 use Rattle.std.specs.List.{list_any}
 use Rattle.std.proofs.lemmas.Bool.{and_parts, and_from, not-true, lt-leb}
@@ -19,26 +19,9 @@ use Rattle.bm_base.specs.Queries.{all_replicas, replicas_where, missing_blocks, 
 use Rattle.bm_base.specs.Lawful.{IsLawfulHoldings}
 use Rattle.bm_base.proofs.Options.{there, is_there}
 use Rattle.bm_base.proofs.Maps.{entry_passes, passes_entry}
+use Rattle.bm_parts.proofs.Filters.{any_of_mapped, any_of_filtered, any_shown}
 use Rattle.laws_of_events.proofs.Telling.{found_good}
 use Rattle.laws_of_events.specs.Queries as law
-
--- Lists made of entries.
-
-pub any_of_mapped : {X Y : Type 0} (g : Y → Bool) (f : X → Y) (xs : List X) → list_any g (map f xs) ≡ list_any (λ x. g (f x)) xs
-any_of_mapped g f [] = refl
-any_of_mapped g f (x ∷ xs) = ap (λ b. g (f x) || b) (any_of_mapped g f xs)
-
-kept_any : {X : Type 0} (g : X → Bool) (b : Bool) (x : X) (xs : List X) → list_any g (cond b (x ∷ xs) xs) ≡ ((b && g x) || list_any g xs)
-kept_any g true x xs = refl
-kept_any g false x xs = refl
-
-any_of_filtered : {X : Type 0} (g p : X → Bool) (xs : List X) → list_any g (filter p xs) ≡ list_any (λ x. p x && g x) xs
-any_of_filtered g p [] = refl
-any_of_filtered g p (x ∷ xs) = kept_any g (p x) x (filter p xs) ∙ ap (λ b. (p x && g x) || b) (any_of_filtered g p xs)
-
--- some entry that is kept by p passes g, as f shows it
-pub any_shown : {X Y : Type 0} (g : Y → Bool) (f : X → Y) (p : X → Bool) (xs : List X) → list_any g (map f (filter p xs)) ≡ list_any (λ x. p x && g (f x)) xs
-any_shown g f p xs = any_of_mapped g f (filter p xs) ∙ any_of_filtered (λ x. g (f x)) p xs
 
 -- All replicas.
 

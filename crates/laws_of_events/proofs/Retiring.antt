@@ -1,9 +1,9 @@
 -- A node that is retired may die.
-use Rattle.std.proofs.Common.{◌≡◌, ◌≢◌, ℕ, ◌<◌, ◌≤◌, Bool, true, false, cond, not, ◌&&◌, ◌||◌, Option, Some, None, is_some, List, [], ◌∷◌, map, filter, length, refl, sym, ap, ◌∙◌, arith, eqb-true, eq-eqb, true≢false}
+use Rattle.std.proofs.Common.{◌≡◌, ℕ, ◌<◌, ◌≤◌, Bool, true, false, not, ◌&&◌, ◌||◌, Option, Some, None, List, [], ◌∷◌, length, refl, sym, ap, ◌∙◌, arith, eqb-true, eq-eqb, true≢false}
 use Rattle.std.specs.Prelude.{◌==◌, nat_le}
 use Rattle.std.specs.Option.{option_map_or}
 use Rattle.std.specs.List.{list_any}
-use Rattle.std.proofs.lemmas.Bool.{and_parts, and_from, and_right, leb-true, le-leb, false_from_ne_true, eqb-false}
+use Rattle.std.proofs.lemmas.Bool.{and_parts, and_from, and_right, leb-true, le-leb, false_from_ne_true}
 use Rattle.bm_base.specs.declared.replica.ReplicaId.{ReplicaId}
 use Rattle.bm_base.specs.declared.replica.Marks.{Marks}
 use Rattle.bm_base.specs.declared.replica.BlockInfo.{BlockInfo}
@@ -11,8 +11,8 @@ use Rattle.bm_base.specs.declared.refusal.Refusal.{Refusal}
 use Rattle.bm_base.specs.declared.call.Call.TheVariants as call
 use Rattle.bm_base.specs.declared.call.Answer.{Answer}
 use Rattle.bm_base.specs.declared.call.Answer.TheVariants as answer
-use Rattle.bm_base.specs.Map.{get, keep, entries, keys}
-use Rattle.bm_base.specs.State.{Cluster, Holdings, State, by_replica, replica_at}
+use Rattle.bm_base.specs.Map.{get, entries, keys}
+use Rattle.bm_base.specs.State.{Cluster, Holdings, State, replica_at}
 use Rattle.bm_base.specs.Lists.{has}
 use Rattle.bm_base.specs.Replicas.{is_usable, is_live_on, is_drained_on, node_of, has_storage, drains, is_draining, storages_where, live, drained, has_enough_live}
 use Rattle.bm_base.specs.Queries.{missing_blocks, is_held_back_by, is_retired}
@@ -20,14 +20,13 @@ use Rattle.bm_base.specs.Events.{without_node, without_storages, change_cluster,
 use Rattle.bm_base.specs.Refusals.{node_refusal}
 use Rattle.bm_base.specs.Calls.{step, refused_or, after_event}
 use Rattle.bm_base.specs.Lawful.{IsLawfulHoldings}
-use Rattle.bm_base.proofs.MapLaws.{entries-keep}
-use Rattle.bm_base.proofs.Keeping.{get-keep_there}
 use Rattle.bm_base.proofs.Options.{not_failed, not_passed}
-use Rattle.bm_base.proofs.Each.{Each, each_then}
-use Rattle.bm_base.proofs.Maps.{each_entry, get_left, entry_passes, passes_entry}
-use Rattle.bm_base.proofs.Clusters.{same_node}
+use Rattle.bm_base.proofs.Maps.{entry_passes, passes_entry}
 use Rattle.laws_of_events.proofs.NodeChanges.{on_it, is_on_it, node_at, still_there}
-use Rattle.laws_of_events.proofs.Listing.{any_of_mapped, any_shown, stored_where, usable_marks, marks_usable, missing_is, is_missing}
+use Rattle.bm_parts.proofs.Filters.{any_of_mapped, any_shown}
+use Rattle.bm_parts.proofs.Storages.{storages_left}
+use Rattle.bm_parts.proofs.Deaths.{draining_elsewhere}
+use Rattle.laws_of_events.proofs.Listing.{stored_where, usable_marks, marks_usable, missing_is, is_missing}
 use Rattle.laws_of_events.specs.Draining as law
 use Rattle.laws_of_events.specs.Draining.{usable}
 
@@ -36,53 +35,6 @@ use Rattle.laws_of_events.specs.Draining.{usable}
 draining_at : (C : Cluster) (n s : ℕ) → has_storage C n s ≡ true → is_draining C s ≡ drains C n
 unfolding has_storage is_draining
 draining_at C n s h = ap (λ z. option_map_or (drains C) z false) (node_at (node_of C s) n h)
-
-drains_elsewhere : (C : Cluster) (n m : ℕ) → m ≢ n → drains (without_node C n) m ≡ drains C m
-unfolding without_node drains
-drains_elsewhere C n m other = ap is_some (get_left C.draining n m other)
-
-node_elsewhere : (C : Cluster) (n s : ℕ) → has_storage C n s ≡ false → node_of (without_node C n) s ≡ node_of C s
-unfolding without_node
-node_elsewhere C n s h = same_node C (without_node C n) s (get-keep_there C.storages (λ t. not (has_storage C n t)) s (not_failed (has_storage C n s) h))
-
-draining_elsewhere : (C : Cluster) (n s : ℕ) → has_storage C n s ≡ false → is_draining (without_node C n) s ≡ is_draining C s
-unfolding has_storage is_draining
-draining_elsewhere C n s h = ap (λ z. option_map_or (drains (without_node C n)) z false) (node_elsewhere C n s h) ∙ by_node (node_of C s) h
-  where
-    by_node : (z : Option ℕ) → option_map_or (λ m. m == n) z false ≡ false → option_map_or (drains (without_node C n)) z false ≡ option_map_or (drains C) z false
-    by_node None e = refl
-    by_node (Some m) e = drains_elsewhere C n m (eqb-false m n e)
-
--- Storages of replicas that are left.
-
-filtered_twice : {X : Type 0} (p q : X → Bool) (xs : List X) → filter p (filter q xs) ≡ filter (λ x. q x && p x) xs
-filtered_twice p q [] = refl
-filtered_twice p q (x ∷ xs) = by_test (q x) ∙ ap (λ ys. cond (q x && p x) (x ∷ ys) ys) (filtered_twice p q xs)
-  where
-    by_test : (b : Bool) → filter p (cond b (x ∷ filter q xs) (filter q xs)) ≡ cond (b && p x) (x ∷ filter p (filter q xs)) (filter p (filter q xs))
-    by_test true = refl
-    by_test false = refl
-
-filtered_alike : {X : Type 0} (p q : X → Bool) (xs : List X) → Each (λ x. p x ≡ q x) xs → filter p xs ≡ filter q xs
-filtered_alike p q [] h = refl
-filtered_alike p q (x ∷ xs) h = λ i. cond (h.0 i) (x ∷ filtered_alike p q xs h.1 i) (filtered_alike p q xs h.1 i)
-
--- where a test of what is left comes to a test of what was there
-module _ (H : Holdings) (gone : ℕ → Bool) (p q : ℕ → Marks → Bool) (b : ℕ) (same : (s : ℕ) (m : Marks) → get H.replicas (replica_at b s) ≡ Some m → (not (gone s) && p s m) ≡ q s m) where
-  at_entry : (k : ReplicaId) (m : Marks) (t : Bool) → (k.block == b) ≡ t → get H.replicas k ≡ Some m → (not (gone k.storage) && (t && p k.storage m)) ≡ (t && q k.storage m)
-  at_entry k m true e is = same k.storage m (ap (λ c. get H.replicas (replica_at c k.storage)) (sym (eqb-true k.block b e)) ∙ is)
-  at_entry k m false e is = and_right (not (gone k.storage)) false refl
-
-  storages_left : storages_where p (without_storages H gone) b ≡ storages_where q H b
-  unfolding storages_where without_storages
-  storages_left =
-      let test : ReplicaId × Marks → Bool = λ e. (e.0.block == b) && p e.0.storage e.1 in
-      let stays : ReplicaId × Marks → Bool = λ e. not (gone e.0.storage) in
-      let lists : filter test (entries (keep H.replicas (λ k _. not (gone k.storage)))) ≡ filter (λ e. (e.0.block == b) && q e.0.storage e.1) (entries H.replicas) =
-      ap (filter test) (entries-keep by_replica H.replicas (λ k _. not (gone k.storage))) ∙ filtered_twice test stays (entries H.replicas)
-      ∙ filtered_alike (λ e. stays e && test e) (λ e. (e.0.block == b) && q e.0.storage e.1) (entries H.replicas)
-      (each_then (λ e. get H.replicas e.0 ≡ Some e.1) (λ e. (stays e && test e) ≡ ((e.0.block == b) && q e.0.storage e.1)) (entries H.replicas) (each_entry H.replicas) (λ e is. at_entry e.0 e.1 (e.0.block == b) refl is)) in
-      ap (map (λ e. e.0.storage)) lists
 
 -- What the query says.
 

@@ -16,7 +16,7 @@ use Rattle.bm_base.specs.State.{Cluster, Holdings, State, replica_at}
 use Rattle.bm_base.specs.Calls.{done_by, after_event}
 use Rattle.bm_base.specs.Lawful.{IsLawful}
 use Rattle.laws_of_events.specs.Reports.{held_after, numbers_of, IsBadIn}
-use Rattle.laws_of_events.specs.Parts.{block_of}
+use Rattle.bm_parts.specs.Parts.{block_of}
 
 abbrev pub cluster_after : State → Event → Cluster
 cluster_after M e = (after_event M e).cluster

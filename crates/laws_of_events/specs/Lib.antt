@@ -2,7 +2,6 @@
 pub mod LawfulForEver
 pub mod PlainWords
 pub mod Reports
-pub mod Parts
 pub mod Changes
 pub mod Calls
 pub mod Queries

@@ -1,7 +1,7 @@
 // The parts into which blocks are cut by their numbers.
 #![tactic(auto)]
 
-ghost use Rattle.laws_of_events.specs.Parts as law;
+ghost use Rattle.bm_parts.specs.Parts as law;
 
 /// The part of a shard has what the whole has of the shard's numbers, and nothing else.
 pub fn cut_gives_parts()

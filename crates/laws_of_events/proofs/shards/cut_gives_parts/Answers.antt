@@ -1,4 +1,4 @@
-use Rattle.laws_of_events.proofs.Parts.{cut_is_part}
+use Rattle.bm_parts.proofs.Parts.{cut_is_part}
 use Rattle.laws_of_events.proofs.shards.cut_gives_parts.Goals as goal
 
 pub returns : goal.returns

@@ -1,4 +1,4 @@
-use Rattle.laws_of_events.proofs.Parts.{shard_below}
+use Rattle.bm_parts.proofs.Parts.{shard_below}
 use Rattle.laws_of_events.proofs.shards.every_number_has_its_shard.Goals as goal
 
 pub returns : goal.returns

@@ -1,4 +1,4 @@
-use Rattle.laws_of_events.proofs.Parts.{parts_changed}
+use Rattle.bm_parts.proofs.Parts.{parts_changed}
 use Rattle.laws_of_events.proofs.shards.parts_change_by_themselves.Goals as goal
 
 pub returns : goal.returns

@@ -11,9 +11,9 @@ use Rattle.bm_base.specs.Events.{change_holdings}
 use Rattle.bm_base.specs.Calls.{new_replicas, done}
 use Rattle.bm_base.specs.Shards.{shard_of, cut}
 use Rattle.bm_base.proofs.MapLaws.{entries-keep}
-use Rattle.laws_of_events.proofs.PartMaps.{part, get_in}
-use Rattle.laws_of_events.proofs.Parts.{parts_changed}
-use Rattle.laws_of_events.specs.Parts as law
+use Rattle.bm_parts.proofs.PartMaps.{part, get_in}
+use Rattle.bm_parts.proofs.Parts.{parts_changed}
+use Rattle.bm_parts.specs.Parts as law
 
 -- how many pass, by recursion
 abbrev tally : {X : Type 0} → (X → Bool) → List X → ℕ

@@ -18,8 +18,8 @@ use Rattle.bm_base.specs.Shards.{shard_of, cut}
 use Rattle.bm_base.proofs.Keeping.{keep-insert, keep-keep, keep-remove}
 use Rattle.bm_base.proofs.MapLaws.{same_map}
 use Rattle.bm_base.proofs.Ties.{number_tie, replica_tie}
-use Rattle.laws_of_events.proofs.PartMaps.{part, get_in, get_out, part_revised, part_revised_others, part_kept, part_kept_others, part_inserted_other, part_removed_other, part_inserted_all}
-use Rattle.laws_of_events.specs.Parts as law
+use Rattle.bm_parts.proofs.PartMaps.{part, get_in, get_out, part_revised, part_revised_others, part_kept, part_kept_others, part_inserted_other, part_removed_other, part_inserted_all}
+use Rattle.bm_parts.specs.Parts as law
 
 pub shard_below : law.every_number_has_its_shard
 shard_below b shards h = mod-lt b h
@@ -30,10 +30,10 @@ if_same false x y e = refl
 
 module _ (index shards : ℕ) where
   -- whether a number is of the shard
-  abbrev own : ℕ → Bool
+  abbrev pub own : ℕ → Bool
   own b = shard_of b shards == index
 
-  abbrev own_replica : ReplicaId → Bool
+  abbrev pub own_replica : ReplicaId → Bool
   own_replica q = own q.block
 
   pub cut_is_part : (H : Holdings) → law.IsPartOf H (cut H index shards) index shards
@@ -53,7 +53,7 @@ module _ (index shards : ℕ) where
   unfolding cut
   cut_by H G b r t = λ i. record { blocks = b i; replicas = r i; pending = t i }
 
-  cut_to : (H P : Holdings) → part own H.blocks ≡ P.blocks → part own_replica H.replicas ≡ P.replicas → part own_replica H.pending ≡ P.pending → cut H index shards ≡ P
+  pub cut_to : (H P : Holdings) → part own H.blocks ≡ P.blocks → part own_replica H.replicas ≡ P.replicas → part own_replica H.pending ≡ P.pending → cut H index shards ≡ P
   unfolding cut
   cut_to H P b r t = λ i. record { blocks = b i; replicas = r i; pending = t i }
 

@@ -1,0 +1,29 @@
+-- Lists.
+pub mod Filters
+pub mod Joined
+pub mod Sorted
+-- Parts of holdings under events.
+pub mod PartMaps
+pub mod Parts
+pub mod PartSums
+-- Parts of holdings in a round.
+pub mod Cutting
+pub mod Parting
+pub mod Merging
+-- The whole of parts.
+pub mod Wholes
+pub mod Changing
+pub mod OneShard
+-- Queries.
+pub mod JoinedReplicas
+pub mod JoinedBlocks
+pub mod HeldBack
+pub mod OwnShard
+-- Settled blocks.
+pub mod Settling
+-- Levels.
+pub mod Storages
+pub mod Deaths
+pub mod Leveling
+pub mod Drains
+pub mod Racked

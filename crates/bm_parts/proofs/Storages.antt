@@ -1,0 +1,67 @@
+-- Storages of a block's replicas, under changes that leave its replicas' marks.
+use Rattle.std.proofs.Common.{◌≡◌, ℕ, Bool, true, false, not, ◌&&◌, Option, Some, None, map, filter, refl, sym, ap, ◌∙◌, eqb-true, eq-eqb, true≢false}
+use Rattle.std.specs.Prelude.{◌==◌, option_and_then}
+use Rattle.std.specs.List.{list_any}
+use Rattle.std.proofs.lemmas.Bool.{and_parts, and_from, and_right}
+use Rattle.bm_base.specs.declared.replica.ReplicaId.{ReplicaId}
+use Rattle.bm_base.specs.declared.replica.Marks.{Marks}
+use Rattle.bm_base.specs.Map.{Map, Order, get, keep, entries}
+use Rattle.bm_base.specs.State.{Holdings, by_replica, replica_at}
+use Rattle.bm_base.specs.Replicas.{is_usable, storages_where}
+use Rattle.bm_base.specs.Events.{without_storages}
+use Rattle.bm_base.proofs.MapLaws.{same_map, get-keep, entries-keep}
+use Rattle.bm_base.proofs.Each.{Each, each_mapped, each_then, each_both, each_filtered, each_passing}
+use Rattle.bm_base.proofs.Maps.{each_entry, passes_entry}
+use Rattle.bm_parts.specs.Settled.{usable}
+use Rattle.bm_parts.proofs.Filters.{filtered_twice, filtered_alike, any_shown}
+
+-- Storages of replicas that are left, where a test of what is left comes to a test of what was there.
+module _ (H : Holdings) (gone : ℕ → Bool) (p q : ℕ → Marks → Bool) (b : ℕ) (same : (s : ℕ) (m : Marks) → get H.replicas (replica_at b s) ≡ Some m → (not (gone s) && p s m) ≡ q s m) where
+  at_entry : (k : ReplicaId) (m : Marks) (t : Bool) → (k.block == b) ≡ t → get H.replicas k ≡ Some m → (not (gone k.storage) && (t && p k.storage m)) ≡ (t && q k.storage m)
+  at_entry k m true e is = same k.storage m (ap (λ c. get H.replicas (replica_at c k.storage)) (sym (eqb-true k.block b e)) ∙ is)
+  at_entry k m false e is = and_right (not (gone k.storage)) false refl
+
+  pub storages_left : storages_where p (without_storages H gone) b ≡ storages_where q H b
+  unfolding storages_where without_storages
+  storages_left =
+      let test : ReplicaId × Marks → Bool = λ e. (e.0.block == b) && p e.0.storage e.1 in
+      let stays : ReplicaId × Marks → Bool = λ e. not (gone e.0.storage) in
+      let lists : filter test (entries (keep H.replicas (λ k _. not (gone k.storage)))) ≡ filter (λ e. (e.0.block == b) && q e.0.storage e.1) (entries H.replicas) =
+      ap (filter test) (entries-keep by_replica H.replicas (λ k _. not (gone k.storage))) ∙ filtered_twice test stays (entries H.replicas)
+      ∙ filtered_alike (λ e. stays e && test e) (λ e. (e.0.block == b) && q e.0.storage e.1) (entries H.replicas)
+      (each_then (λ e. get H.replicas e.0 ≡ Some e.1) (λ e. (stays e && test e) ≡ ((e.0.block == b) && q e.0.storage e.1)) (entries H.replicas) (each_entry H.replicas) (λ e is. at_entry e.0 e.1 (e.0.block == b) refl is)) in
+      ap (map (λ e. e.0.storage)) lists
+
+-- where none leaves, all is as before
+all_kept : {K X : Type 0} {o : Order K} (m : Map o X) → keep m (λ _ _. true) ≡ m
+all_kept m = same_map (keep m (λ _ _. true)) m (λ q. get-keep m (λ _ _. true) q ∙ itself (get m q))
+  where
+    itself : {Y : Type 0} (z : Option Y) → option_and_then (λ x. Some x) z ≡ z
+    itself None = refl
+    itself (Some x) = refl
+
+pub none_leaves : (H : Holdings) → without_storages H (λ _. false) ≡ H
+unfolding without_storages
+none_leaves H = λ i. record H { replicas = all_kept H.replicas i; pending = all_kept H.pending i }
+
+-- what holds of the storage of each of the block's replicas that pass
+pub each_where : (P : ℕ → Type 0) (p : ℕ → Marks → Bool) (H : Holdings) (b : ℕ) → ((s : ℕ) (m : Marks) → get H.replicas (replica_at b s) ≡ Some m → p s m ≡ true → P s) → Each P (storages_where p H b)
+unfolding storages_where
+each_where P p H b holds =
+    let test : ReplicaId × Marks → Bool = λ e. (e.0.block == b) && p e.0.storage e.1 in
+    let found : ReplicaId × Marks → Type 0 = λ e. get H.replicas e.0 ≡ Some e.1 in
+    each_mapped P (λ e. e.0.storage) (filter test (entries H.replicas))
+    (each_then (λ e. found e × (test e ≡ true)) (λ e. P e.0.storage) (filter test (entries H.replicas))
+    (each_both found (λ e. test e ≡ true) (filter test (entries H.replicas)) (each_filtered found test (entries H.replicas) (each_entry H.replicas)) (each_passing test (entries H.replicas)))
+    (λ e h. let passes = and_parts (e.0.block == b) (p e.0.storage e.1) h.1 in holds e.0.storage e.1 (ap (λ c. get H.replicas (replica_at c e.0.storage)) (sym (eqb-true e.0.block b passes.0)) ∙ h.0) passes.1))
+
+-- where none of the block's usable replicas stands on a storage that passes, the storage of each fails
+pub usable_fails : (t : ℕ → Bool) (H : Holdings) (b s : ℕ) (m : Marks) → list_any t (usable H b) ≡ false → get H.replicas (replica_at b s) ≡ Some m → is_usable m ≡ true → t s ≡ false
+unfolding storages_where
+usable_fails t H b s m none there can = by_test (t s) refl
+  where
+    by_test : (c : Bool) → t s ≡ c → c ≡ false
+    by_test false e = refl
+    by_test true e =
+        let one = passes_entry H.replicas (λ e. ((e.0.block == b) && is_usable e.1) && t e.0.storage) (replica_at b s) m there (and_from ((b == b) && is_usable m) (t s) (and_from (b == b) (is_usable m) (eq-eqb b b refl) can) e) in
+        absurd (true≢false (sym one ∙ sym (any_shown t (λ (e : ReplicaId × Marks). e.0.storage) (λ e. (e.0.block == b) && is_usable e.1) (entries H.replicas)) ∙ none))

@@ -1,0 +1,5 @@
+use Rattle.bm_parts.proofs.Changing.{done_adds_up}
+use Rattle.bm_parts.proofs.events.done_adds_up.Goals as goal
+
+pub returns : goal.returns
+returns c = done_adds_up

@@ -1,0 +1,5 @@
+use Rattle.bm_parts.proofs.Drains.{drain_leaves_levels}
+use Rattle.bm_parts.proofs.levels.drain_leaves_levels.Goals as goal
+
+pub returns : goal.returns
+returns c = drain_leaves_levels

@@ -1,0 +1,5 @@
+use Rattle.bm_parts.proofs.Drains.{undrain_leaves_levels}
+use Rattle.bm_parts.proofs.levels.undrain_leaves_levels.Goals as goal
+
+pub returns : goal.returns
+returns c = undrain_leaves_levels

@@ -1,0 +1,5 @@
+use Rattle.bm_parts.proofs.OwnShard.{own_shard_answers}
+use Rattle.bm_parts.proofs.queries.own_shard_answers.Goals as goal
+
+pub returns : goal.returns
+returns c = own_shard_answers

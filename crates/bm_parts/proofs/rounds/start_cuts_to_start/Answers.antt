@@ -1,0 +1,5 @@
+use Rattle.bm_parts.proofs.Cutting.{start_cuts_to_start}
+use Rattle.bm_parts.proofs.rounds.start_cuts_to_start.Goals as goal
+
+pub returns : goal.returns
+returns c = start_cuts_to_start

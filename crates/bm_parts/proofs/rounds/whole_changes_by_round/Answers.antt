@@ -1,0 +1,5 @@
+use Rattle.bm_parts.proofs.Changing.{whole_changes_by_round}
+use Rattle.bm_parts.proofs.rounds.whole_changes_by_round.Goals as goal
+
+pub returns : goal.returns
+returns c = whole_changes_by_round

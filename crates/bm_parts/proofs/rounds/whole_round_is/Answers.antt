@@ -1,0 +1,5 @@
+use Rattle.bm_parts.proofs.Merging.{whole_round_is}
+use Rattle.bm_parts.proofs.rounds.whole_round_is.Goals as goal
+
+pub returns : goal.returns
+returns c = whole_round_is

@@ -1,0 +1,5 @@
+use Rattle.bm_parts.proofs.Wholes.{whole_has_its_parts}
+use Rattle.bm_parts.proofs.whole.whole_has_its_parts.Goals as goal
+
+pub returns : goal.returns
+returns c = whole_has_its_parts

@@ -1,0 +1,78 @@
+-- What events on the cluster leave of levels: which blocks a shard need not judge anew.
+use Rattle.std.specs.Prelude.{◌≡◌, ℕ, false, ◌==◌, List, IsSome}
+use Rattle.std.specs.List.{list_any}
+use Rattle.bm_base.specs.declared.event.Remaining.{Remaining}
+use Rattle.bm_base.specs.declared.replica.ReplicaId.{ReplicaId}
+use Rattle.bm_base.specs.Map.{get, contains_key}
+use Rattle.bm_base.specs.State.{Cluster, Holdings}
+use Rattle.bm_base.specs.Lists.{has}
+use Rattle.bm_base.specs.Replicas.{rack_of, has_storage, is_draining, is_multi_rack}
+use Rattle.bm_base.specs.Levels.{level}
+use Rattle.bm_base.specs.Events.{register, heartbeat, without_node, without_storage, drain, undrain, without_storages, begun_to_drain}
+use Rattle.bm_base.specs.Refusals.{knows_storage}
+use Rattle.bm_parts.specs.Settled.{usable}
+
+-- each replica is on a storage of an alive node
+abbrev pub IsRacked : Cluster → Holdings → Type 0
+IsRacked C H = (q : ReplicaId) → IsSome (get H.replicas q) → IsSome (rack_of C q.storage)
+
+-- Heartbeats.
+
+-- a heartbeat leaves racks, and which nodes drain
+abbrev pub heartbeat_leaves_racks : Type 0
+heartbeat_leaves_racks =
+    (C : Cluster) (rs : List Remaining)
+    → ((s : ℕ) → rack_of (heartbeat C rs) s ≡ rack_of C s) × ((s : ℕ) → is_draining (heartbeat C rs) s ≡ is_draining C s) × (is_multi_rack (heartbeat C rs) ≡ is_multi_rack C)
+
+-- and so every level
+abbrev pub heartbeat_leaves_levels : Type 0
+heartbeat_leaves_levels = (C : Cluster) (rs : List Remaining) (H : Holdings) (b : ℕ) → level (heartbeat C rs) H b ≡ level C H b
+
+-- Nodes and storages that come and go.
+
+-- a new node leaves every level, where the cluster has several racks as before
+abbrev pub register_leaves_levels : Type 0
+register_leaves_levels =
+    (C : Cluster) (H : Holdings) (n rack : ℕ) (ss : List ℕ) (b : ℕ) → contains_key C.nodes n ≡ false → list_any (knows_storage C) ss ≡ false → IsRacked C H
+    → is_multi_rack (register C n rack ss) ≡ is_multi_rack C → level (register C n rack ss) H b ≡ level C H b
+
+-- a death leaves the levels of blocks with no usable replica there, where the cluster has several racks as before
+abbrev pub death_leaves_levels : Type 0
+death_leaves_levels =
+    (C : Cluster) (H : Holdings) (n b : ℕ) → list_any (has_storage C n) (usable H b) ≡ false → is_multi_rack (without_node C n) ≡ is_multi_rack C
+    → level (without_node C n) (without_storages H (has_storage C n)) b ≡ level C H b
+
+-- and so does a storage that fails
+abbrev pub failure_leaves_levels : Type 0
+failure_leaves_levels = (C : Cluster) (H : Holdings) (t b : ℕ) → has (usable H b) t ≡ false → level (without_storage C t) (without_storages H (λ s. s == t)) b ≡ level C H b
+
+-- Nodes that drain.
+
+-- a node that begins to drain leaves the levels of blocks with no usable replica there
+abbrev pub drain_leaves_levels : Type 0
+drain_leaves_levels = (C : Cluster) (H : Holdings) (n b : ℕ) → list_any (has_storage C n) (usable H b) ≡ false → level (drain C n) (begun_to_drain C H n) b ≡ level C H b
+
+-- and so does one that ceases to drain
+abbrev pub undrain_leaves_levels : Type 0
+undrain_leaves_levels = (C : Cluster) (H : Holdings) (n b : ℕ) → list_any (has_storage C n) (usable H b) ≡ false → level (undrain C n) H b ≡ level C H b
+
+-- Replicas stay on storages of alive nodes.
+
+abbrev pub register_keeps_racked : Type 0
+register_keeps_racked =
+    (C : Cluster) (H : Holdings) (n rack : ℕ) (ss : List ℕ) → contains_key C.nodes n ≡ false → list_any (knows_storage C) ss ≡ false → IsRacked C H → IsRacked (register C n rack ss) H
+
+abbrev pub death_keeps_racked : Type 0
+death_keeps_racked = (C : Cluster) (H : Holdings) (n : ℕ) → IsRacked C H → IsRacked (without_node C n) (without_storages H (has_storage C n))
+
+abbrev pub failure_keeps_racked : Type 0
+failure_keeps_racked = (C : Cluster) (H : Holdings) (t : ℕ) → IsRacked C H → IsRacked (without_storage C t) (without_storages H (λ s. s == t))
+
+abbrev pub heartbeat_keeps_racked : Type 0
+heartbeat_keeps_racked = (C : Cluster) (H : Holdings) (rs : List Remaining) → IsRacked C H → IsRacked (heartbeat C rs) H
+
+abbrev pub drain_keeps_racked : Type 0
+drain_keeps_racked = (C : Cluster) (H : Holdings) (n : ℕ) → IsRacked C H → IsRacked (drain C n) (begun_to_drain C H n)
+
+abbrev pub undrain_keeps_racked : Type 0
+undrain_keeps_racked = (C : Cluster) (H : Holdings) (n : ℕ) → IsRacked C H → IsRacked (undrain C n) H

@@ -1,0 +1,63 @@
+-- How the answers of shards are joined to those of the whole.
+use Rattle.std.specs.Prelude.{◌≡◌, ℕ, ◌≤◌, Bool, not, ◌&&◌, List, flat_map, Some}
+use Rattle.std.specs.List.{list_any}
+use Rattle.bm_base.specs.declared.replica.ReplicaId.{ReplicaId}
+use Rattle.bm_base.specs.declared.replica.Marks.{Marks}
+use Rattle.bm_base.specs.declared.replica.Replica.{Replica}
+use Rattle.bm_base.specs.declared.event.Event.{Event}
+use Rattle.bm_base.specs.Map.{by_number, keys}
+use Rattle.bm_base.specs.State.{Cluster, Holdings, by_replica, replica_at}
+use Rattle.bm_base.specs.Replicas.{drains}
+use Rattle.bm_base.specs.Levels.{level}
+use Rattle.bm_base.specs.Queries.{all_replicas, replicas_where, missing_blocks, blocks_on, places, is_held_back_by, is_retired}
+use Rattle.bm_base.specs.Versions.{table}
+use Rattle.bm_base.specs.Refusals.{block_checks, block_refusal}
+use Rattle.bm_base.specs.Shards.{shard_of, cut}
+use Rattle.bm_base.specs.Ordered.{ordered_by}
+use Rattle.bm_parts.specs.Parts.{block_of}
+use Rattle.bm_parts.specs.Whole.{parts}
+
+-- What all shards are asked.
+
+abbrev pub replica_key : Replica → ReplicaId
+replica_key r = replica_at r.block r.storage
+
+abbrev pub replicas_join : Type 0
+replicas_join = (H : Holdings) (shards : ℕ) → 1 ≤ shards → ordered_by by_replica replica_key (flat_map all_replicas (parts H shards)) ≡ all_replicas H
+
+-- so those whose marks pass a test, as those that are corrupt, and those in excess
+abbrev pub marked_replicas_join : Type 0
+marked_replicas_join =
+    (p : Marks → Bool) (H : Holdings) (shards : ℕ) → 1 ≤ shards → ordered_by by_replica (λ (q : ReplicaId). q) (flat_map (replicas_where p) (parts H shards)) ≡ replicas_where p H
+
+abbrev pub missing_join : Type 0
+missing_join = (C : Cluster) (H : Holdings) (shards : ℕ) → 1 ≤ shards → ordered_by by_number (λ (b : ℕ). b) (flat_map (missing_blocks C) (parts H shards)) ≡ missing_blocks C H
+
+abbrev pub blocks_on_join : Type 0
+blocks_on_join = (s : ℕ) (H : Holdings) (shards : ℕ) → 1 ≤ shards → ordered_by by_number (λ (b : ℕ). b) (flat_map (λ P. blocks_on P s) (parts H shards)) ≡ blocks_on H s
+
+abbrev pub tables_join : Type 0
+tables_join = (H : Holdings) (shards : ℕ) → 1 ≤ shards → ordered_by by_number (λ (row : ℕ × List ℕ). row.0) (flat_map table (parts H shards)) ≡ table H
+
+-- whether some block of these holdings holds node n back
+unfoldable pub holds_back : Cluster → ℕ → Holdings → Bool
+holds_back C n H = list_any (is_held_back_by C H n) (keys H.blocks)
+
+-- a node is held back by the whole exactly where it is by some part
+abbrev pub held_back_by_some_part : Type 0
+held_back_by_some_part = (C : Cluster) (n : ℕ) (H : Holdings) (shards : ℕ) → 1 ≤ shards → list_any (holds_back C n) (parts H shards) ≡ holds_back C n H
+
+-- so it is retired where it drains and no part holds it back
+abbrev pub retired_by_all_parts : Type 0
+retired_by_all_parts = (C : Cluster) (n : ℕ) (H : Holdings) (shards : ℕ) → 1 ≤ shards → is_retired C H n ≡ (drains C n && not (list_any (holds_back C n) (parts H shards)))
+
+-- What is asked of one block is asked of its shard.
+
+abbrev pub own_shard_answers : Type 0
+own_shard_answers =
+    (C : Cluster) (H : Holdings) (b shards : ℕ) → let P = cut H (shard_of b shards) shards in
+    (block_refusal P b ≡ block_refusal H b) × (places P b ≡ places H b) × (level C P b ≡ level C H b)
+
+-- and so are the checks of an event on one block
+abbrev pub own_shard_checks : Type 0
+own_shard_checks = (H : Holdings) (e : Event) (b shards : ℕ) → block_of e ≡ Some b → block_checks (cut H (shard_of b shards) shards) e ≡ block_checks H e

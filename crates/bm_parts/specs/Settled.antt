@@ -1,0 +1,38 @@
+-- Blocks at which a round need not look for marks or deletes.
+use Rattle.std.specs.Prelude.{◌≡◌, ℕ, ◌≤◌, false, List, [], length, Some}
+use Rattle.bm_base.specs.declared.replica.ReplicaId.{ReplicaId}
+use Rattle.bm_base.specs.declared.replica.Marks.{Marks}
+use Rattle.bm_base.specs.declared.replica.Tag.TheVariants.{Good}
+use Rattle.bm_base.specs.declared.replica.BlockInfo.{BlockInfo}
+use Rattle.bm_base.specs.Map.{get}
+use Rattle.bm_base.specs.State.{Cluster, Holdings}
+use Rattle.bm_base.specs.Replicas.{is_usable, live, drained, storages_where}
+use Rattle.bm_base.specs.Levels.{level}
+use Rattle.bm_base.specs.Excess.{excess_in, without_expired, without_unordered_excess}
+use Rattle.bm_base.specs.Deletes.{is_deletable}
+use Rattle.bm_base.specs.RoundParts.{started_holdings}
+
+-- good, not in excess and not ordered
+abbrev pub plain : Marks
+plain = record { tag = Good; excess = false; ordered = false }
+
+-- the storages of the block's usable replicas, live or drained, rising
+abbrev pub usable : Holdings → ℕ → List ℕ
+usable H b = storages_where (λ _ m. is_usable m) H b
+
+-- All replicas of the block are good ones with no mark, and there are no more of them than are wanted, whichever nodes drain.
+pub record IsSettled (H : Holdings) (b : ℕ) : Type 0 where
+  pub all_plain : (q : ReplicaId) (m : Marks) → q.block ≡ b → get H.replicas q ≡ Some m → m ≡ plain
+  pub few : (i : BlockInfo) → get H.blocks b ≡ Some i → length (usable H b) ≤ i.repl
+
+-- a round marks none of its replicas, and leaves which of them are live and drained, and its level
+abbrev pub settled_is_left : Type 0
+settled_is_left =
+    (C : Cluster) (pend r : ℕ) (H : Holdings) (b : ℕ) → IsSettled H b → let G = started_holdings C pend r H in
+    (excess_in C (without_unordered_excess (without_expired pend r H)) b ≡ []) × (live C G b ≡ live C H b) × (drained C G b ≡ drained C H b) × (level C G b ≡ level C H b)
+
+-- and none of its replicas is to be deleted
+abbrev pub settled_is_kept : Type 0
+settled_is_kept =
+    (C : Cluster) (pend r : ℕ) (H : Holdings) (q : ReplicaId) (m : Marks) → IsSettled H q.block
+    → get (started_holdings C pend r H).replicas q ≡ Some m → is_deletable C (started_holdings C pend r H) q m ≡ false

@@ -1,0 +1,54 @@
+-- The whole of the parts of several shards.
+use Rattle.std.specs.Prelude.{◌≡◌, ℕ, suc, ◌+◌, ◌≤◌, List, [], ◌∷◌, length, map}
+use Rattle.bm_base.specs.Map.{entries, insert_all}
+use Rattle.bm_base.specs.State.{Holdings, empty_holdings}
+use Rattle.bm_base.specs.declared.event.Done.{Done}
+use Rattle.bm_base.specs.Calls.{done}
+use Rattle.bm_base.specs.Entries.{count_up}
+use Rattle.bm_base.specs.Shards.{cut}
+
+-- what the one holds beside what the other holds
+unfoldable pub beside : Holdings → Holdings → Holdings
+beside P Q = record {
+  blocks = insert_all Q.blocks (entries P.blocks);
+  replicas = insert_all Q.replicas (entries P.replicas);
+  pending = insert_all Q.pending (entries P.pending);
+}
+
+-- what all of them hold
+abbrev pub whole_of : List Holdings → Holdings
+whole_of [] = empty_holdings
+whole_of (P ∷ Ps) = beside P (whole_of Ps)
+
+-- the parts of so many shards, from this index on
+abbrev pub parts_from : Holdings → ℕ → ℕ → ℕ → List Holdings
+parts_from H shards index n = map (λ i. cut H i shards) (count_up index n)
+
+-- the parts of all shards, by their indexes
+abbrev pub parts : Holdings → ℕ → List Holdings
+parts H shards = parts_from H shards 0 shards
+
+-- each holds blocks of its own numbers alone, where the first has this index
+abbrev pub AreOwn : ℕ → ℕ → List Holdings → Type 0
+AreOwn shards index [] = Unit {0}
+AreOwn shards index (P ∷ Ps) = (cut P index shards ≡ P) × AreOwn shards (suc index) Ps
+
+-- of two lists of parts, each beside the other's at the same index, from this index on
+abbrev pub EachPart : (ℕ → Holdings → Holdings → Type 0) → ℕ → List Holdings → List Holdings → Type 0
+EachPart R index [] [] = Unit {0}
+EachPart R index (P ∷ Ps) (Q ∷ Qs) = R index P Q × EachPart R (suc index) Ps Qs
+EachPart R index [] (Q ∷ Qs) = ⊥
+EachPart R index (P ∷ Ps) [] = ⊥
+
+-- how many replicas came and went in all parts
+abbrev pub done_of_all : List Holdings → List Holdings → Done
+done_of_all (P ∷ Ps) (Q ∷ Qs) = record { added = (done P Q).added + (done_of_all Ps Qs).added; removed = (done P Q).removed + (done_of_all Ps Qs).removed }
+done_of_all _ _ = record { added = 0; removed = 0 }
+
+-- the whole of the parts is what was cut
+abbrev pub parts_are_the_whole : Type 0
+parts_are_the_whole = (H : Holdings) (shards : ℕ) → 1 ≤ shards → whole_of (parts H shards) ≡ H
+
+-- and the parts of a whole that was put together are those of which it was
+abbrev pub whole_has_its_parts : Type 0
+whole_has_its_parts = (Ps : List Holdings) (shards : ℕ) → AreOwn shards 0 Ps → shards ≡ length Ps → parts (whole_of Ps) shards ≡ Ps

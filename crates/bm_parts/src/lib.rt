@@ -1,0 +1,20 @@
+//! Blocks cut into parts by their numbers: how what is done to parts, found in them and asked of them joins to the whole.
+//!
+//! A shard holds the blocks whose number modulo the number of shards is its index, with their replicas and their transfers on
+//! their way. `specs/` says what a part is, what an event and a round make of one, and what the whole of parts is.
+//!
+//! - `whole`: parts put together
+//! - `events`, `rounds`: changes of parts, and of the whole
+//! - `queries`: answers of parts, joined
+//! - `settled`: blocks at which a round need not look
+//! - `levels`: events on the cluster after which a shard need not judge its blocks anew
+//!
+//! No function here does anything: its contract is a law.
+#![tactic(auto)]
+
+pub mod events;
+pub mod levels;
+pub mod queries;
+pub mod rounds;
+pub mod settled;
+pub mod whole;
