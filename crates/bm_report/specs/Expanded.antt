@@ -1,15 +1,15 @@
 -- What a shard is told by the entries of a report, and what a look-up of its numbers leaves as it was.
-use Rattle.std.specs.Prelude.{◌≡◌, ◌≢◌, ℕ, ◌+◌, ◌-◌, ◌==◌, List, map, filter, IsSome, Some}
+use Rattle.std.specs.Prelude.{◌≡◌, ◌≢◌, ℕ, ◌+◌, ◌-◌, List, map, IsSome, Some}
 use Rattle.bm_base.specs.declared.ids.Part.{Part}
 use Rattle.bm_base.specs.declared.event.Entry.{Entry}
 use Rattle.bm_base.specs.Entries.{Told, count_up, expanded}
-use Rattle.bm_base.specs.Shards.{shard_of}
+use Rattle.bm_parts.specs.Parts.{told_of}
 use Rattle.bm_arena.specs.Contents.{Contents, block_at, slot_of, marks_at, list_of, HasHead, HasRoom}
 use Rattle.bm_arena.specs.Holding.{replicas_of, blocks_of}
 
 -- what is told of a shard's numbers
 abbrev pub of_part : Part → List Told → List Told
-of_part part ts = filter (λ t. shard_of t.id part.shards == part.index) ts
+of_part part ts = told_of part.index part.shards ts
 
 -- what the entries of a report tell of a shard's numbers, in their order, repeats included
 abbrev pub told_to : Part → List Entry → List Told
