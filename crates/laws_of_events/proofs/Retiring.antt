@@ -28,7 +28,7 @@ use Rattle.bm_parts.proofs.Storages.{storages_left}
 use Rattle.bm_parts.proofs.Deaths.{draining_elsewhere}
 use Rattle.laws_of_events.proofs.Listing.{stored_where, usable_marks, marks_usable, missing_is, is_missing}
 use Rattle.laws_of_events.specs.Draining as law
-use Rattle.laws_of_events.specs.Draining.{usable}
+use Rattle.bm_parts.specs.Settled.{usable}
 
 -- Draining storages.
 

@@ -12,10 +12,11 @@ use Rattle.bm_base.specs.declared.call.Answer.TheVariants as answer
 use Rattle.bm_base.specs.Map.{get}
 use Rattle.bm_base.specs.Lists.{has}
 use Rattle.bm_base.specs.State.{Cluster, Holdings, State, replica_at, first_state}
-use Rattle.bm_base.specs.Replicas.{live, is_usable, drains, is_draining, storages_where}
+use Rattle.bm_base.specs.Replicas.{live, drains, is_draining}
 use Rattle.bm_base.specs.Queries.{missing_blocks, is_retired}
 use Rattle.bm_base.specs.Calls.{done_by, after_event, counted, step, state_after}
 use Rattle.bm_base.specs.Lawful.{IsLawful}
+use Rattle.bm_parts.specs.Settled.{usable}
 use Rattle.laws_of_events.specs.Reports.{held_after}
 use Rattle.laws_of_events.specs.Changes.{cluster_after, IsOn}
 use Rattle.laws_of_events.specs.Queries.{IsHeld}
@@ -98,10 +99,6 @@ retired_is_said_plainly =
     → IsTrue (is_retired C H n)
     ↔ (IsTrue (drains C n)
     × ((b s : ℕ) (i : BlockInfo) → get H.blocks b ≡ Some i → IsOn C n s → IsHeld H (replica_at b s) (λ m. (m.tag ≡ Good) × (m.excess ≡ false)) → i.repl ≤ length (live C H b)))
-
--- the storages of the block's usable replicas, whatever their nodes
-abbrev pub usable : Holdings → ℕ → List ℕ
-usable H b = storages_where (λ _ m. is_usable m) H b
 
 -- Where the query answers yes, the node may die: each block has the live replicas that it had, one of which too few are live
 -- has all its usable ones too, and none is missing that was not.
