@@ -19,7 +19,7 @@ mod replica;
 mod replica_map;
 mod round;
 mod slot_link;
-mod sorted;
+pub mod sorted;
 mod storage;
 
 pub use call::{Answer, Call};

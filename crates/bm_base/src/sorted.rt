@@ -7,7 +7,7 @@ use std::alloc::AllocError;
 use std::cmp::Ordering;
 
 /// How many entries stand before the key's place.
-pub(crate) fn place<K: Ord + Copy, V: Copy>(entries: &[(K, V)], key: &K) -> usize
+pub fn place<K: Ord + Copy, V: Copy>(entries: &[(K, V)], key: &K) -> usize
     requires { T (list.is_sorted K.cmp entries.now) }
     ensures { result ≡ place K.cmp key.now entries.now }
 {
@@ -24,7 +24,7 @@ pub(crate) fn place<K: Ord + Copy, V: Copy>(entries: &[(K, V)], key: &K) -> usiz
 }
 
 /// The value at a key.
-pub(crate) fn find<K: Ord + Copy, V: Copy>(entries: &[(K, V)], key: &K) -> Option<V>
+pub fn find<K: Ord + Copy, V: Copy>(entries: &[(K, V)], key: &K) -> Option<V>
     requires { T (list.is_sorted K.cmp entries.now) }
     ensures { result ≡ list.find K.cmp key.now entries.now }
 {

@@ -1,0 +1,18 @@
+use Rattle.std.proofs.Common.{◌≤◌, ℕ, not, filter, is_some, refl, ap, sym, subst, ◌∙◌, nat_eq}
+use Rattle.std.specs.Prelude.{◌==◌}
+use Rattle.std.specs.Map.{lookup}
+use Rattle.bm_pending.specs.Inside.{room_at}
+use Rattle.bm_pending.proofs.Blocks.{items_or, room_or, freed-rooms, filtered-room, absent-targets}
+use Rattle.bm_pending.proofs.by_block.drop_in.Goals as goal
+
+pub returns-in-Some-clause-rooms : goal.returns-in-Some-clause-rooms
+returns-in-Some-clause-rooms c q =
+    let updates = ((c.get_mut.follows.holds c.drop_target.new.targets).3 (ap is_some (sym c.in-Some.ensures.value))).0 q in
+    subst (λ o. room_at c.args.blocks.now.entries q ≤ room_or o) (sym updates)
+    (freed-rooms c.args.blocks.now.entries c.args.block c.in-Some.targets.now c.drop_target.new.targets c.in-Some.ensures.value
+    (filtered-room c.in-Some.targets.now c.drop_target.new.targets _ c.drop_target.ensures.items c.drop_target.ensures.capacity) q)
+
+pub returns-in_default-clause-targets : goal.returns-in_default-clause-targets
+returns-in_default-clause-targets c q =
+    ap (λ m. items_or (lookup (nat_eq q) m.entries)) c.get_mut.follows.holds-at-none
+    ∙ absent-targets c.args.blocks.now.entries c.args.block (filter {X = ℕ × ℕ} (λ t. not (t.0 == c.args.storage))) refl (sym c.in_default.ensures.value) q

@@ -1,0 +1,9 @@
+use Rattle.std.proofs.Common.{ap, ◌∙◌}
+use Rattle.bm_pending.proofs.Changes.{map_of-nil, room-nil}
+use Rattle.bm_pending.proofs.pending.PendingTransfers.new.Goals as goal
+
+pub returns-clause-map : goal.returns-clause-map
+returns-clause-map c = map_of-nil c.new.result.entries c.new.ensures.empty
+
+pub returns-clause-room : goal.returns-clause-room
+returns-clause-room c block = room-nil c.new.result.entries block c.new.ensures.empty

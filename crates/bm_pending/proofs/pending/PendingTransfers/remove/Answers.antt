@@ -1,0 +1,11 @@
+use Rattle.bm_pending.proofs.Changes.{map-removed, rising-removed, room-kept}
+use Rattle.bm_pending.proofs.pending.PendingTransfers.remove.Goals as goal
+
+pub invariant_of-self : goal.invariant_of-self
+invariant_of-self c = rising-removed c.self.inside.by_block.entries c.drop_in.new.blocks.entries c.block.inside.0 c.storage.inside.0 c.drop_in.ensures.targets c.self.invariant.rising
+
+pub returns-clause-map : goal.returns-clause-map
+returns-clause-map c = rw (← c.self.view_is, ← c.block.view_is, ← c.storage.view_is) (map-removed c.self.inside.by_block.entries c.drop_in.new.blocks.entries c.block.inside.0 c.storage.inside.0 c.drop_in.ensures.targets c.self.invariant.rising)
+
+pub returns-clause-rooms : goal.returns-clause-rooms
+returns-clause-rooms c other = room-kept c.self.inside.by_block.entries c.args.self.now c.self.view_is c.drop_in.new.blocks.entries other (c.drop_in.ensures.rooms other)

@@ -1,0 +1,42 @@
+-- How the entries of the blocks stand for the transfers on their way.
+use Rattle.std.specs.Prelude.{ℕ, ◌-◌, not, ◌==◌, List, [], ◌∷◌, length, map, nat_eq, T}
+use Rattle.std.specs.Option.{option_map_or}
+use Rattle.std.specs.Ordering.{nat_cmp}
+use Rattle.std.specs.FinMap.{is_sorted}
+use Rattle.std.specs.Map.{lookup}
+use Rattle.smallvec.specs.SmallVec.{SmallVec}
+use Rattle.bm_base.specs.Map.{Map, empty, insert, keep}
+use Rattle.bm_base.specs.State.{by_replica, replica_at}
+
+-- the targets of one block with the rounds of their commands
+abbrev pub Targets : Type 0
+Targets = SmallVec (ℕ × ℕ)
+
+-- the transfers of one block in the place of those that were there
+unfoldable pub with_block : ℕ → List (ℕ × ℕ) → Map by_replica ℕ → Map by_replica ℕ
+with_block b [] m = keep m (λ q _. not (q.block == b))
+with_block b (t ∷ ts) m = insert (with_block b ts m) (replica_at b t.0) t.1
+
+-- the transfers of all blocks
+unfoldable pub map_of : List (ℕ × Targets) → Map by_replica ℕ
+map_of [] = empty
+map_of (e ∷ es) = with_block e.0 e.1.items (map_of es)
+
+-- the targets of a block
+abbrev pub targets_at : List (ℕ × Targets) → ℕ → List (ℕ × ℕ)
+targets_at es b = option_map_or (λ (v : Targets). v.items) (lookup (nat_eq b) es) []
+
+abbrev pub room_in : Targets → ℕ
+room_in v = v.capacity - length v.items
+
+-- how many more transfers of a block need no memory
+abbrev pub room_at : List (ℕ × Targets) → ℕ → ℕ
+room_at es b = option_map_or room_in (lookup (nat_eq b) es) 0
+
+-- each block with how many more of its transfers need no memory
+abbrev pub rooms_of : List (ℕ × Targets) → List (ℕ × ℕ)
+rooms_of es = map (λ e. (e.0, room_in e.1)) es
+
+-- the targets of each block rise
+pub record IsPending (es : List (ℕ × Targets)) : Type 0 where
+  pub rising : (b : ℕ) → T (is_sorted nat_cmp (targets_at es b))

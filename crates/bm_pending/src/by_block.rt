@@ -1,0 +1,123 @@
+// The blocks with their targets: what is changed, and what is looked up.
+ghost use Rattle.std.specs.Prelude.{◌≡◌, ◌≢◌, ◌≤◌, ◌<◌, ◌+◌, ℕ, [], not, ◌==◌, nat_eq, filter, cond, OnOk, IfErr, IsOk, T};
+ghost use Rattle.std.specs.Ordering.{nat_cmp};
+ghost use Rattle.std.specs.FinMap as list;
+ghost use Rattle.bm_base.specs.declared.refusal.Refusal.TheVariants.{Memory};
+ghost use Rattle.bm_base.specs.Lists.{has};
+ghost use Rattle.bm_pending.specs.OnTheWay.{is_expired};
+ghost use Rattle.bm_pending.specs.Inside.{targets_at, room_at};
+
+use crate::targets::{Targets, drop_expired, drop_storages, drop_target, put};
+use bm_base::sorted::find;
+use bm_base::{Refusal, StorageId};
+use indexmap::IndexMap;
+use smallvec::SmallVec;
+use std::alloc::Global;
+
+/// Each block with its targets, which strictly rise, and the rounds of their commands.
+pub(crate) type Blocks = IndexMap<u64, Targets>;
+
+/// Makes room for so many more targets of a block.
+pub(crate) fn reserve_in(
+    blocks: &mut Blocks,
+    alloc: Global,
+    block: u64,
+    additional: usize,
+) -> Result<(), Refusal>
+    ensures targets { (q : ℕ) → targets_at blocks.new.entries q ≡ targets_at blocks.old.entries q }
+    ensures room { OnOk result (additional ≤ room_at blocks.new.entries block) }
+    ensures rooms { (q : ℕ) → room_at blocks.old.entries q ≤ room_at blocks.new.entries q }
+    ensures succeeds { 0 < additional → additional ≤ room_at blocks.old.entries block → IsOk result }
+    ensures refused { IfErr result (λ e. e ≡ Memory) }
+{
+    match blocks.get_mut(&block) {
+        Some(targets) => targets.reserve(additional)?,
+        None => {
+            let mut targets = SmallVec::new(alloc);
+            targets.reserve(additional)?;
+            blocks.insert(block, targets)?;
+        }
+    }
+    Ok(())
+}
+
+/// Sets the round of a target of a block.
+pub(crate) fn put_in(blocks: &mut Blocks, block: u64, storage: u32, round: u64)
+    requires sorted { (q : ℕ) → T (list.is_sorted nat_cmp (targets_at blocks.old.entries q)) }
+    requires room { 0 < room_at blocks.old.entries block }
+    ensures targets { (q : ℕ) → targets_at blocks.new.entries q ≡ cond (nat_eq block q) (list.put nat_cmp storage round (targets_at blocks.old.entries q)) (targets_at blocks.old.entries q) }
+    ensures rooms { (q : ℕ) → room_at blocks.old.entries q ≤ room_at blocks.new.entries q + cond (nat_eq block q) 1 0 }
+{
+    if let Some(targets) = blocks.get_mut(&block) {
+        put(targets, storage, round);
+    }
+}
+
+/// Takes a target of a block out.
+pub(crate) fn drop_in(blocks: &mut Blocks, block: u64, storage: u32)
+    ensures targets { (q : ℕ) → targets_at blocks.new.entries q ≡ cond (nat_eq block q) (filter (λ t. not (t.0 == storage)) (targets_at blocks.old.entries q)) (targets_at blocks.old.entries q) }
+    ensures rooms { (q : ℕ) → room_at blocks.old.entries q ≤ room_at blocks.new.entries q }
+{
+    if let Some(targets) = blocks.get_mut(&block) {
+        drop_target(targets, storage);
+    }
+}
+
+/// Takes a block out.
+pub(crate) fn drop_block(blocks: &mut Blocks, block: u64)
+    ensures targets { (q : ℕ) → targets_at blocks.new.entries q ≡ cond (nat_eq block q) [] (targets_at blocks.old.entries q) }
+    ensures rooms { (q : ℕ) → room_at blocks.new.entries q ≡ cond (nat_eq block q) 0 (room_at blocks.old.entries q) }
+{
+    blocks.swap_remove(&block);
+}
+
+/// Takes the transfers out that are given up.
+pub(crate) fn drop_expired_in(blocks: &mut Blocks, pend: u32, round: u64)
+    ensures targets { (q : ℕ) → targets_at blocks.new.entries q ≡ filter (λ t. not (is_expired pend round t.1)) (targets_at blocks.old.entries q) }
+    ensures rooms { (q : ℕ) → room_at blocks.old.entries q ≤ room_at blocks.new.entries q }
+{
+    blocks.retain(|_, targets| {
+        drop_expired(targets, pend, round);
+        true
+    });
+}
+
+/// Takes the transfers to these storages out.
+pub(crate) fn drop_storages_in(blocks: &mut Blocks, storages: &[StorageId])
+    ensures targets { (q : ℕ) → targets_at blocks.new.entries q ≡ filter (λ t. not (has storages.now t.0)) (targets_at blocks.old.entries q) }
+    ensures rooms { (q : ℕ) → room_at blocks.old.entries q ≤ room_at blocks.new.entries q }
+{
+    blocks.retain(|_, targets| {
+        drop_storages(targets, storages);
+        true
+    });
+}
+
+/// Takes the blocks with no target out.
+pub(crate) fn shed(blocks: &mut Blocks)
+    ensures targets { (q : ℕ) → targets_at blocks.new.entries q ≡ targets_at blocks.old.entries q }
+    ensures kept { (q : ℕ) → targets_at blocks.old.entries q ≢ [] → room_at blocks.new.entries q ≡ room_at blocks.old.entries q }
+    ensures freed { (q : ℕ) → targets_at blocks.old.entries q ≡ [] → room_at blocks.new.entries q ≡ 0 }
+{
+    // Reads nothing, and says that each block stands once.
+    let _ = blocks.iter();
+    blocks.retain(|_, targets| !targets.is_empty());
+}
+
+/// The targets of a block.
+pub(crate) fn targets_in(blocks: &Blocks, block: u64) -> &[(u32, u64)]
+    ensures { result.now ≡ targets_at blocks.now.entries block }
+{
+    match blocks.get(&block) {
+        Some(targets) => targets.as_slice(),
+        None => &[],
+    }
+}
+
+/// The round of a target of a block.
+pub(crate) fn find_in(blocks: &Blocks, block: u64, storage: u32) -> Option<u64>
+    requires { (q : ℕ) → T (list.is_sorted nat_cmp (targets_at blocks.now.entries q)) }
+    ensures { result ≡ list.find nat_cmp storage (targets_at blocks.now.entries block) }
+{
+    find(targets_in(blocks, block), &storage)
+}
