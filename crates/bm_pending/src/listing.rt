@@ -86,7 +86,9 @@ pub(crate) fn entries_in(blocks: &Blocks, alloc: Global) -> Result<Vec<(ReplicaI
 fn has_expired(targets: &[(u32, u64)], pend: u32, round: u64) -> bool
     ensures { result ≡ list_any (λ t. is_expired pend round t.1) targets.now }
 {
-    targets.iter().any(|target| is_expired(target.1, pend, round))
+    targets
+        .iter()
+        .any(|target| is_expired(target.1, pend, round))
 }
 
 /// The numbers of the blocks with a transfer that is given up, rising.

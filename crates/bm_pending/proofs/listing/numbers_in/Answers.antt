@@ -1,6 +1,6 @@
-use Rattle.std.proofs.Common.{◌≡◌, rules, nat_eq, ap, sym, subst, ◌∙◌}
+use Rattle.std.proofs.Common.{◌≡◌, rules, nat_eq, sym, subst, ◌∙◌}
 use Rattle.std.specs.Cmp.{nat_eq_equiv}
-use Rattle.std.specs.List.{list_any, IsDistinct}
+use Rattle.std.specs.List.{IsDistinct}
 use Rattle.std.specs.Map.{keys_of}
 use Rattle.std.proofs.lemmas.List.Sorted.{IsNonDecreasingBy-from_sort, list_any-IsPermutation}
 use Rattle.std.proofs.lemmas.Map.Keys.{IsDistinct-IsPermutation}

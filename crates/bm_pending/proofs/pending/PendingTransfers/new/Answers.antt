@@ -1,4 +1,3 @@
-use Rattle.std.proofs.Common.{ap, ◌∙◌}
 use Rattle.bm_pending.proofs.Changes.{map_of-nil, room-nil}
 use Rattle.bm_pending.proofs.pending.PendingTransfers.new.Goals as goal
 
