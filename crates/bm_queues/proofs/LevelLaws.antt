@@ -1,6 +1,7 @@
 -- Level lists: that they are lawful, and that a growth and a change of level keep them so.
-use Rattle.std.proofs.Common.{◌≡◌, ◌≢◌, ℕ, zero, suc, ◌<◌, ◌≤◌, ◌-◌, ◌++◌, List, [], ◌∷◌, length, get_or, set, take, replicate, Option, Some, None, inl, inr, subst, sym, ap, ◌∙◌, refl, arith}
+use Rattle.std.proofs.Common.{◌≡◌, ◌≢◌, ◌⊎◌, ℕ, zero, suc, ◌<◌, ◌≤◌, ◌-◌, ◌++◌, List, [], ◌∷◌, length, get_or, set, take, replicate, Option, Some, None, inl, inr, subst, sym, ap, ◌∙◌, refl, arith}
 use Rattle.std.specs.Prelude.{if◌then◌else◌, ◌==◌, ◌↔◌, option_and_then}
+use Rattle.std.specs.Option.{IfSome}
 use Rattle.std.proofs.lemmas.Bool.{cases_eq, eq-eqb, ne_eqb}
 use Rattle.std.proofs.lemmas.Option.{none-some, same_Some}
 use Rattle.std.proofs.lemmas.List.{get_or-set_same, get_or-set_other, get_or_past, length-set, take_all}
@@ -10,8 +11,10 @@ use Rattle.bm_base.specs.Levels.{level_number}
 use Rattle.bm_queues.specs.LevelBytes.{level_of_byte}
 use Rattle.bm_base.specs.SlotLists.{Among, without, slot_after}
 use Rattle.bm_queues.specs.Links.{list_from, AreLinks}
-use Rattle.bm_queues.specs.Levels.{Levels, IsLawful, AreLevels, five, with_room, visited, slots_of, next_of}
+use Rattle.bm_queues.specs.Levels.{Levels, IsLawful, AreLevels, five, with_room, visited, level_at, slots_of, next_of}
+use Rattle.bm_queues.specs.Walks.{slots_from, IsPast}
 use Rattle.bm_queues.proofs.Visits.{walk-after, below_or_past}
+use Rattle.bm_queues.proofs.Walking.{from-with, from-without, next-is_among, rest-next, past-is}
 use Rattle.bm_base.proofs.SlotLists.{Among-without, Among-without_other, without-gone, without-absent}
 
 pub five-at : (k : ℕ) (next back : List (Option ℕ)) (l : Level) → get_or (five k next back) (level_number l) [] ≡ list_from k next back (level_number l)
@@ -231,3 +234,43 @@ module _ (k : ℕ) (next back : List (Option ℕ)) (levels : List (Option Level)
   grown-view k' next' back' levels' same n more is =
       let heads = are.heads in
       rw (is, take_all n levels (omega (arith, more)), same 0 (omega (arith, heads)), same 1 (omega (arith, heads)), same 2 (omega (arith, heads)), same 3 (omega (arith, heads)), same 4 (omega (arith, heads))) refl
+
+-- Going over the slots of a level while another slot's level changes.
+
+dec_level : (o : Option Level) (l : Level) → (o ≡ Some l) ⊎ (o ≡ Some l → ⊥)
+dec_level None l = inr (none-some l)
+dec_level (Some t) l =
+    elim (cases_eq (level_number t) (level_number l)) [
+      | inl same ↦ inl (ap Some (same_level t l same))
+      | inr apart ↦ inr (λ e. apart (ap level_number (same_Some t l e)))
+    ]
+
+-- where the slot has another level than before, and these are the lists then
+module _ (v : Levels) (lists : Level → List ℕ) (slot : ℕ) (level : Option Level)
+    (front : (l : Level) → level ≡ Some l → lists l ≡ slot ∷ slots_of v l)
+    (left : (l : Level) → level_at v slot ≡ Some l → level ≢ Some l → lists l ≡ without slot (slots_of v l))
+    (others : (l : Level) → Some l ≢ level → Some l ≢ level_at v slot → lists l ≡ slots_of v l) where
+  -- it leaves what is to come, if it was left behind
+  pub rest-set : (l : Level) (at : Option ℕ) → IsPast slot at (slots_of v l) → slots_from (lists l) at ≡ slots_from (slots_of v l) at
+  rest-set l at past =
+      elim (dec_level level l) [
+        | inl new ↦ ap (λ xs. slots_from xs at) (front l new) ∙ from-with slot (slots_of v l) at past
+        | inr not_new ↦ elim (dec_level (level_at v slot) l) [
+          | inl was ↦ ap (λ xs. slots_from xs at) (left l was not_new) ∙ from-without slot (slots_of v l) at past
+          | inr not_was ↦ ap (λ xs. slots_from xs at) (others l (λ e. not_new (sym e)) (λ e. not_was (sym e)))
+        ]
+      ]
+
+-- the slot behind a slot of a level, as `next` has it
+module _ (v : Levels) (lawful : IsLawful v) (slot : ℕ) (r : Option ℕ) (is : r ≡ next_of v slot) (l : Level) (at : level_at v slot ≡ Some l) where
+  behind : r ≡ slot_after slot (slots_of v l)
+  behind = is ∙ ap (option_and_then (λ m. slot_after slot (slots_of v m))) at
+
+  pub member-next : IfSome r (λ z. Among z (slots_of v l))
+  member-next = next-is_among (slots_of v l) r slot behind
+
+  pub level-rest : slots_from (slots_of v l) (Some slot) ≡ slot ∷ slots_from (slots_of v l) r
+  level-rest = rest-next (slots_of v l) r slot behind (lawful.distinct l) ((lawful.exact l slot).1 at)
+
+  pub level-past : IsPast slot r (slots_of v l)
+  level-past = past-is (slots_of v l) r slot behind (lawful.distinct l)

@@ -1,4 +1,5 @@
 pub mod Links
+pub mod Walks
 pub mod Linked
 pub mod LevelBytes
 pub mod Levels

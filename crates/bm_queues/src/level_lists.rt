@@ -1,9 +1,10 @@
 // Five lists over slots, one for each level.
-ghost use Rattle.std.specs.Prelude.{◌≡◌, ◌≢◌, ◌<◌, ◌≤◌, ◌==◌, ℕ, [], ◌∷◌, length, if◌then◌else◌, Some, IfOk, IfErr, OnOk, OnErr, IsOk};
+ghost use Rattle.std.specs.Prelude.{◌≡◌, ◌≢◌, ◌<◌, ◌≤◌, ◌==◌, ℕ, [], ◌∷◌, length, if◌then◌else◌, Option, Some, IfSome, IfOk, IfErr, OnOk, OnErr, IsOk};
 ghost use Rattle.bm_base.specs.declared.level.Level.{Level};
 ghost use Rattle.bm_base.specs.declared.refusal.Refusal.TheVariants.{Memory};
-ghost use Rattle.bm_base.specs.SlotLists.{first_of, without};
+ghost use Rattle.bm_base.specs.SlotLists.{Among, first_of, without};
 ghost use Rattle.bm_queues.specs.Levels.{level_at, slots_of, next_of, with_room, moved, visited, IsLawful};
+ghost use Rattle.bm_queues.specs.Walks.{slots_from, IsPast};
 
 use crate::level_byte::{LevelByte, no_level};
 use crate::slot_lists::SlotLists;
@@ -94,6 +95,7 @@ impl LevelLists {
         ensures room { length self.new.levels ≡ length self.old.levels }
         ensures levels { (other : ℕ) → level_at self.new other ≡ (if other == slot then level else level_at self.old other) }
         ensures others { (l : Level) → Some l ≢ level → Some l ≢ level_at self.old slot → slots_of self.new l ≡ slots_of self.old l }
+        ensures rest { (l : Level) (at : Option ℕ) → IsPast slot at (slots_of self.old l) → slots_from (slots_of self.new l) at ≡ slots_from (slots_of self.old l) at }
         ensures lawful { IsLawful self.new }
     {
         let byte = LevelByte::of(level);
@@ -115,17 +117,24 @@ impl LevelLists {
         self.levels[slot].get()
     }
 
-    /// The first slot of a level; none where its list is empty.
+    /// The first slot of a level; none where its list is empty. All its slots are to come from there on.
     pub fn first(&self, level: Level) -> Option<usize>
-        ensures { result ≡ first_of (slots_of self.now level) }
+        ensures slot { result ≡ first_of (slots_of self.now level) }
+        ensures member { IfSome result (λ x. Among x (slots_of self.now level)) }
+        ensures rest { slots_from (slots_of self.now level) result ≡ slots_of self.now level }
     {
         self.lists.first(level.number() as usize)
     }
 
-    /// The slot behind a slot in the list of its level; none behind the last one, and where it has no level.
+    /// The slot behind a slot in the list of its level; none behind the last one, and where it has no level. From there on those
+    /// slots of the level are to come that stand behind it: the slot itself was left behind, and may change its level without
+    /// a change to them.
     pub fn next(&self, slot: usize) -> Option<usize>
         requires { slot < length self.now.levels }
-        ensures { result ≡ next_of self.now slot }
+        ensures slot { result ≡ next_of self.now slot }
+        ensures member { (l : Level) → level_at self.now slot ≡ Some l → IfSome result (λ x. Among x (slots_of self.now l)) }
+        ensures rest { (l : Level) → level_at self.now slot ≡ Some l → slots_from (slots_of self.now l) (Some slot) ≡ slot ∷ slots_from (slots_of self.now l) result }
+        ensures past { (l : Level) → level_at self.now slot ≡ Some l → IsPast slot result (slots_of self.now l) }
     {
         self.lists.next(slot)
     }

@@ -1,8 +1,9 @@
 // A set of slots in the order in which they came, the last one first.
-ghost use Rattle.std.specs.Prelude.{◌≡◌, ◌≢◌, ℕ, ◌<◌, ◌≤◌, IsTrue, ◌↔◌, [], ◌∷◌, length, IfOk, IfErr, OnOk, OnErr, IsOk};
+ghost use Rattle.std.specs.Prelude.{◌≡◌, ◌≢◌, ℕ, ◌<◌, ◌≤◌, IsTrue, ◌↔◌, [], ◌∷◌, length, Option, Some, IfSome, IfOk, IfErr, OnOk, OnErr, IsOk};
 ghost use Rattle.bm_base.specs.declared.refusal.Refusal.TheVariants.{Memory};
 ghost use Rattle.bm_base.specs.SlotLists.{Among, without, first_of, slot_after};
 ghost use Rattle.bm_queues.specs.Members.{with_room, visited, IsLawful};
+ghost use Rattle.bm_queues.specs.Walks.{slots_from, IsPast};
 
 use crate::slot_lists::SlotLists;
 use crate::walk::Walk;
@@ -81,6 +82,7 @@ impl SlotSet {
         ensures held { Among slot self.new.slots }
         ensures others { (other : ℕ) → other ≢ slot → (Among other self.new.slots ↔ Among other self.old.slots) }
         ensures room { self.new.room ≡ self.old.room }
+        ensures rest { (at : Option ℕ) → IsPast slot at self.old.slots → slots_from self.new.slots at ≡ slots_from self.old.slots at }
     {
         if self.lists.is_listed(slot) {
             return;
@@ -96,6 +98,7 @@ impl SlotSet {
         ensures gone { Among slot self.new.slots → ⊥ }
         ensures room { self.new.room ≡ self.old.room }
         ensures others { (other : ℕ) → other ≢ slot → (Among other self.new.slots ↔ Among other self.old.slots) }
+        ensures rest { (at : Option ℕ) → IsPast slot at self.old.slots → slots_from self.new.slots at ≡ slots_from self.old.slots at }
     {
         if self.lists.is_listed(slot) {
             self.lists.unlink(slot);
@@ -119,17 +122,23 @@ impl SlotSet {
         self.count
     }
 
-    /// The slot at the front; none where the set is empty.
+    /// The slot at the front; none where the set is empty. All slots are to come from there on.
     pub fn first(&self) -> Option<usize>
-        ensures { result ≡ first_of self.now.slots }
+        ensures slot { result ≡ first_of self.now.slots }
+        ensures member { IfSome result (λ x. Among x self.now.slots) }
+        ensures rest { slots_from self.now.slots result ≡ self.now.slots }
     {
         self.lists.first(0)
     }
 
-    /// The slot behind a slot; none behind the last one, and where it is not in the set.
+    /// The slot behind a slot; none behind the last one, and where it is not in the set. From there on those slots are to come
+    /// that stand behind it: the slot itself was left behind, and may be taken out, or put in again, without a change to them.
     pub fn next(&self, slot: usize) -> Option<usize>
         requires { slot < self.now.room }
-        ensures { result ≡ slot_after slot self.now.slots }
+        ensures slot { result ≡ slot_after slot self.now.slots }
+        ensures member { IfSome result (λ x. Among x self.now.slots) }
+        ensures rest { Among slot self.now.slots → slots_from self.now.slots (Some slot) ≡ slot ∷ slots_from self.now.slots result }
+        ensures past { IsPast slot result self.now.slots }
     {
         self.lists.next(slot)
     }

@@ -1,6 +1,11 @@
-use Rattle.std.proofs.Common.{◌≡◌, ◌<◌, None, sym, ◌∙◌, arith}
+use Rattle.std.proofs.Common.{◌≡◌, ◌≢◌, ◌<◌, [], None, get_or, sym, ◌∙◌, arith}
+use Rattle.std.proofs.lemmas.Bool.{false≢true}
+use Rattle.std.proofs.lemmas.List.{get_or_default}
+use Rattle.std.proofs.lemmas.Option.{none-some}
+use Rattle.bm_base.specs.Levels.{level_number}
+use Rattle.bm_queues.specs.Levels.{level_at, five}
 use Rattle.bm_base.proofs.SlotLists.{without-gone}
-use Rattle.bm_queues.proofs.LevelLaws.{lawful-levels, cleared-levels, moved-levels, others-none, others-some, left-none, left-some, front-some}
+use Rattle.bm_queues.proofs.LevelLaws.{lawful-levels, cleared-levels, moved-levels, others-none, others-some, left-none, left-some, front-some, rest-set}
 use Rattle.bm_queues.proofs.level_lists.LevelLists.set.Goals as goal
 
 pub returns-then-is-clause-lawful : goal.returns-then-is-clause-lawful
@@ -63,3 +68,22 @@ returns-in-Some-clause-lawful c = lawful-levels _ _ _ _ (invariant_of-self c)
 
 pub returns-in_default-clause-lawful : goal.returns-in_default-clause-lawful
 returns-in_default-clause-lawful c = lawful-levels _ _ _ _ (invariant_of-self-in_default c)
+
+-- the slot had another level, since the bytes differ
+has_another : (c : goal.After-link_front) → level_at c.args.self.now c.args.slot ≢ c.args.level
+has_another c same =
+    let inside = rw (← c.self.view_is) at c.requires in
+    let was = rw (← c.self.view_is) at same in
+    let read : c.index.result.now ≡ c.of-byte.result =
+    c.index.ensures ∙ get_or_default c.self.inside.levels.items c.args.slot c.index.result.now None inside ∙ was ∙ sym c.of-byte.ensures in
+    false≢true (sym c.if-is.false ∙ c.is.ensures.1 read)
+
+pub returns-in-Some-clause-rest : goal.returns-in-Some-clause-rest
+returns-in-Some-clause-rest c =
+    rest-set c.args.self.now (λ l. get_or (five c.link_front.new.self.heads c.link_front.new.self.next.items c.link_front.new.self.previous.items) (level_number l) []) c.args.slot c.args.level
+    (λ l new. returns-in-Some-clause-front c l new (has_another c)) (returns-in-Some-clause-left c) (returns-in-Some-clause-others c)
+
+pub returns-in_default-clause-rest : goal.returns-in_default-clause-rest
+returns-in_default-clause-rest c =
+    rest-set c.args.self.now (λ l. get_or (five c.unlink.new.self.heads c.unlink.new.self.next.items c.unlink.new.self.previous.items) (level_number l) []) c.args.slot c.args.level
+    (λ l new. absurd (none-some l (sym c.in_default.is ∙ new))) (returns-in_default-clause-left c) (returns-in_default-clause-others c)

@@ -3,6 +3,8 @@ use Rattle.std.proofs.lemmas.Bool.{false≢true}
 use Rattle.bm_base.specs.SlotLists.{Among}
 use Rattle.bm_queues.specs.Links.{list_from}
 use Rattle.bm_base.proofs.SlotLists.{length-without, without-absent}
+use Rattle.bm_queues.specs.Walks.{slots_from}
+use Rattle.bm_queues.proofs.Walking.{from-without}
 use Rattle.bm_queues.proofs.MemberLaws.{only_list, gone-without, others-without}
 use Rattle.bm_queues.proofs.slot_set.SlotSet.remove.Goals as goal
 
@@ -38,3 +40,10 @@ returns-then-is_listed-clause-others c other differs =
     let heads = c.self.invariant.heads in
     let low : 0 < c.self.inside.lists.heads = omega (arith, heads) in
     rw (← c.self.view_is) (others-without c.args.slot (list_from c.self.inside.lists.heads c.self.inside.lists.next.items c.self.inside.lists.previous.items 0) _ (c.unlink.ensures.lists 0 low) other differs)
+
+pub returns-then-is_listed-clause-rest : goal.returns-then-is_listed-clause-rest
+returns-then-is_listed-clause-rest c at past =
+    let heads = c.self.invariant.heads in
+    let low : 0 < c.self.inside.lists.heads = omega (arith, heads) in
+    let before = rw (← c.self.view_is) at past in
+    rw (← c.self.view_is) (ap (λ xs. slots_from xs at) (c.unlink.ensures.lists 0 low) ∙ from-without c.args.slot (list_from c.self.inside.lists.heads c.self.inside.lists.next.items c.self.inside.lists.previous.items 0) at before)
