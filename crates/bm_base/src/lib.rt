@@ -21,6 +21,7 @@ mod round;
 mod slot_link;
 pub mod sorted;
 mod storage;
+mod storage_ids;
 
 pub use call::{Answer, Call};
 pub use commands::{Commands, Delete, NodeCommands, Transfer};
@@ -38,3 +39,4 @@ pub use replica_map::ReplicaMap;
 pub use round::{Chosen, RoundPart, Wish};
 pub use slot_link::{END_OF_LINKS, NO_LINK, SlotLink, fits_link};
 pub use storage::StorageInfo;
+pub use storage_ids::StorageIds;

@@ -4,7 +4,7 @@ ghost use Rattle.std.specs.Prelude.{◌≡◌, ◌∷◌, []};
 use crate::{Chosen, RoundPart, Wish, choose, commands, merge_wishes};
 use bm_base::{
     BlockId, Commands, Config, Delete, Event, Gen, Items, Level, NodeId, Rack, Remaining, Stamp,
-    StorageId, Transfer,
+    StorageId, StorageIds, Transfer,
 };
 use bm_topo::Topology;
 use std::alloc::Global;
@@ -22,6 +22,14 @@ fn list(rt: &impl Abort, alloc: Global, storages: &[u32]) -> Items<StorageId> {
         listed.push(StorageId(*storage)).expect(rt, "memory");
     }
     Items::from_vec(listed)
+}
+
+fn ids(rt: &impl Abort, alloc: Global, storages: &[u32]) -> StorageIds {
+    let mut listed = StorageIds::new(alloc);
+    for storage in storages {
+        listed.push(StorageId(*storage)).expect(rt, "memory");
+    }
+    listed
 }
 
 /// A node comes, on a rack, with one storage on which 1,000 bytes are free.
@@ -68,10 +76,10 @@ fn wish(alloc: Global, level: Level, block: u64) -> Wish
         block: BlockId(block),
         stamp: STAMP,
         count: 1,
-        live: Items::from_vec(Vec::new(alloc)),
-        drained: Items::from_vec(Vec::new(alloc)),
-        pairs: Items::from_vec(Vec::new(alloc)),
-        pending: Items::from_vec(Vec::new(alloc)),
+        live: StorageIds::new(alloc),
+        drained: StorageIds::new(alloc),
+        pairs: StorageIds::new(alloc),
+        pending: StorageIds::new(alloc),
     }
 }
 
@@ -118,6 +126,22 @@ fn wishes_of_two_parts_in_one_order(rt: HostRuntime) {
     let merged = merge_wishes(alloc, parts.as_slice()).expect(&rt, "memory");
     let keys = [(0, 3), (0, 4), (1, 1), (2, 2)];
     assert!(rt; are_keys(merged.as_slice(), keys.as_slice()));
+}
+
+/// More storages than a wish holds in itself: the lists of a block with six replicas.
+#[test]
+fn lists_of_more_than_four(rt: HostRuntime) {
+    let alloc = rt.alloc();
+    let four = ids(&rt, alloc, [1, 2, 3, 4].as_slice());
+    assert!(rt;
+        four.as_slice() == [StorageId(1), StorageId(2), StorageId(3), StorageId(4)].as_slice()
+    );
+    let six = ids(&rt, alloc, [9, 8, 7, 6, 5, 4].as_slice());
+    let wanted = [9, 8, 7, 6, 5, 4];
+    assert!(rt; six.as_slice().len() == wanted.len());
+    for (storage, number) in six.as_slice().iter().zip(wanted.as_slice()) {
+        assert!(rt; storage.0 == *number);
+    }
 }
 
 /// What is chosen of one part with this wish alone.
@@ -178,8 +202,8 @@ fn two_copies_of_one_block(rt: HostRuntime) {
     let topology = four_nodes(&rt, alloc);
     let mut wish = wish(alloc, Level::Highest, 7);
     wish.count = 2;
-    wish.live = list(&rt, alloc, [11].as_slice());
-    wish.pairs = list(&rt, alloc, [11].as_slice());
+    wish.live = ids(&rt, alloc, [11].as_slice());
+    wish.pairs = ids(&rt, alloc, [11].as_slice());
     let chosen = choose_wish(&rt, alloc, &topology, wish);
     let transfers = [copy_to(31), copy_to(21)];
     assert!(rt; is_chosen(&chosen, transfers.as_slice(), NO_DELETES.as_slice()));
@@ -200,9 +224,9 @@ fn drained_source_goes_first(rt: HostRuntime) {
     let mut topology = four_nodes(&rt, alloc);
     take(&rt, &mut topology, &Event::Drain { node: NodeId(1) });
     let mut wish = wish(alloc, Level::Highest, 7);
-    wish.live = list(&rt, alloc, [21].as_slice());
-    wish.drained = list(&rt, alloc, [11].as_slice());
-    wish.pairs = list(&rt, alloc, [11, 21].as_slice());
+    wish.live = ids(&rt, alloc, [21].as_slice());
+    wish.drained = ids(&rt, alloc, [11].as_slice());
+    wish.pairs = ids(&rt, alloc, [11, 21].as_slice());
     let chosen = choose_wish(&rt, alloc, &topology, wish);
     assert!(rt; is_chosen(&chosen, [copy_to(31)].as_slice(), NO_DELETES.as_slice()));
 }

@@ -11,7 +11,8 @@ ghost use Rattle.bm_shard.specs.Meant.{meant, storages_in};
 use crate::holdings::Holdings;
 use crate::standing::has_storage;
 use bm_base::{
-    BlockId, Items, Level, Marks, NodeId, Rack, Replica, ReplicaId, StorageId, Tag, level_of,
+    BlockId, Items, Level, Marks, NodeId, Rack, Replica, ReplicaId, StorageId, StorageIds, Tag,
+    level_of,
 };
 use bm_topo::Topology;
 use std::alloc::{AllocError, Global};
@@ -158,10 +159,10 @@ impl Holdings {
         topology: &Topology,
         which: Which,
         id: BlockId,
-    ) -> Result<Vec<StorageId>, AllocError>
-        ensures { IfOk result (λ v. v.items ≡ replicas.storages_where (meant topology.now.cluster which) self.now id) }
+    ) -> Result<StorageIds, AllocError>
+        ensures { IfOk result (λ v. v ≡ replicas.storages_where (meant topology.now.cluster which) self.now id) }
     {
-        let mut storages = Vec::new(alloc);
+        let mut storages = StorageIds::new(alloc);
         for (replica, marks) in self.replicas.of_block(id) {
             if is_meant(topology, which, replica.storage, marks) {
                 storages.push(replica.storage)?;

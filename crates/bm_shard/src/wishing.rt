@@ -8,7 +8,7 @@ ghost use Rattle.bm_shard.specs.Wishing.{IsLeveled, wanted};
 
 use crate::holdings::Holdings;
 use crate::queries::Which;
-use bm_base::{BlockId, Items, Level, ReplicaId, StorageId, Wish};
+use bm_base::{BlockId, Level, ReplicaId, StorageIds, Wish};
 use bm_topo::Topology;
 use std::alloc::{AllocError, Global};
 
@@ -107,10 +107,10 @@ impl Holdings {
             block: id,
             stamp: info.stamp,
             count,
-            live: Items::from_vec(live),
-            drained: Items::from_vec(drained),
-            pairs: Items::from_vec(pairs),
-            pending: Items::from_vec(pending),
+            live,
+            drained,
+            pairs,
+            pending,
         }))
     }
 
@@ -128,8 +128,8 @@ impl Holdings {
 
     /// The targets of the block's transfers that are on their way.
     #[tactic(auto, unfolding(bm_base::specs::Transfers::pending_targets))]
-    fn pending_targets(&self, alloc: Global, id: BlockId) -> Result<Vec<StorageId>, AllocError>
-        ensures { IfOk result (λ v. v.items ≡ transfers.pending_targets self.now id) }
+    fn pending_targets(&self, alloc: Global, id: BlockId) -> Result<StorageIds, AllocError>
+        ensures { IfOk result (λ v. v ≡ transfers.pending_targets self.now id) }
     {
         targets_of(alloc, self.pending.of_block(id))
     }
@@ -142,10 +142,10 @@ fn still_wanted(repl: u32, live: usize, pending: usize) -> u32
     (repl as usize).saturating_sub(live).saturating_sub(pending) as u32
 }
 
-fn targets_of(alloc: Global, run: &[(ReplicaId, u64)]) -> Result<Vec<StorageId>, AllocError>
-    ensures { IfOk result (λ v. v.items ≡ map (λ e. e.0.storage) run.now) }
+fn targets_of(alloc: Global, run: &[(ReplicaId, u64)]) -> Result<StorageIds, AllocError>
+    ensures { IfOk result (λ v. v ≡ map (λ e. e.0.storage) run.now) }
 {
-    let mut targets = Vec::new(alloc);
+    let mut targets = StorageIds::new(alloc);
     for (replica, _) in run {
         targets.push(replica.storage)?;
     }

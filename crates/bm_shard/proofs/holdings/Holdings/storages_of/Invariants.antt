@@ -4,4 +4,4 @@ use Rattle.bm_shard.proofs.holdings.Holdings.storages_of.Given as goal
 
 abbrev pub invariant-loop-replica : goal.invariant-loop-replica
 invariant-loop-replica l =
-    l.storages.items ++ storages_in (meant l.topology.cluster l.which) (drop l.replica-index l.replica-items) ≡ storages_in (meant l.topology.cluster l.which) l.replica-items
+    l.storages ++ storages_in (meant l.topology.cluster l.which) (drop l.replica-index l.replica-items) ≡ storages_in (meant l.topology.cluster l.which) l.replica-items

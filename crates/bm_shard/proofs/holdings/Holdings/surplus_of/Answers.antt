@@ -19,5 +19,5 @@ returns-clause-surplus c =
     IfOk-weaker c.excess_of.result _ _
     (λ _ e. e
     ∙ surplus_is c.args.topology.now.cluster c.args.self.now c.args.id c.in-Some.info c.as_slice.result.now (c.in-Some.ensures ∙ (λ i. get (c.self.view_is i).blocks (c.id.view_is i)))
-    (c.as_slice.ensures.value ∙ c.in_ok-live.ensures))
+    (c.as_slice.ensures ∙ c.in_ok-live.ensures))
     c.excess_of.ensures.chosen

@@ -14,10 +14,10 @@ returns-then-count-eq0 c =
 
 pub returns : goal.returns
 returns c =
-    let live = c.from_vec.ensures ∙ c.in_ok-live.ensures in
-    let drained = c.from_vec-2.ensures ∙ c.in_ok-drained.ensures in
-    let pairs = c.from_vec-3.ensures ∙ c.in_ok-pairs.ensures in
-    let pending = c.from_vec-4.ensures ∙ c.in_ok-pending.ensures in
+    let live = c.in_ok-live.ensures in
+    let drained = c.in_ok-drained.ensures in
+    let pairs = c.in_ok-pairs.ensures in
+    let pending = c.in_ok-pending.ensures in
     wants c.args.topology.now.cluster c.args.self.now c.args.level c.args.id c.in-Some.info c.wished_count-count.result _ (c.in-Some.ensures ∙ (λ i. get (c.self.view_is i).blocks (c.id.view_is i)))
     c.wished_count-count.ensures c.if-count-eq0.false
     (λ i. record {
