@@ -1,5 +1,5 @@
 -- A round leaves a lawful state lawful.
-use Rattle.std.proofs.Common.{◌≡◌, ℕ, ◌+◌, ◌<◌, ◌≤◌, Bool, true, false, not, Some, List, map, is_some, refl, sym, ap, ◌∙◌, arith}
+use Rattle.std.proofs.Common.{◌≡◌, ℕ, ◌+◌, ◌<◌, ◌≤◌, Bool, true, false, not, Some, None, List, map, is_some, refl, sym, ap, ◌∙◌, arith}
 use Rattle.std.specs.Prelude.{if◌then◌else◌, nat_le, ◌-◌}
 use Rattle.std.proofs.lemmas.Bool.{and_parts}
 use Rattle.bm_base.specs.declared.replica.ReplicaId.{ReplicaId}
@@ -14,12 +14,13 @@ use Rattle.bm_base.specs.Excess.{without_expired, without_unordered_excess, exce
 use Rattle.bm_base.specs.Transfers.{transfers}
 use Rattle.bm_base.specs.Deletes.{deletes}
 use Rattle.bm_base.specs.Rounds.{is_commanded, finished, round_with, whole_round}
-use Rattle.bm_base.specs.Refusals.{last_number}
+use Rattle.bm_base.specs.Refusals.{round_refusal, last_number}
 use Rattle.bm_base.specs.Calls.{counted}
 use Rattle.bm_base.specs.Lawful.{IsLawful, IsLawfulHoldings, HasFittingNumbers}
 use Rattle.bm_base.proofs.Options.{there, is_there}
 use Rattle.bm_base.proofs.Each.{Each, each_mapped, each_then}
 use Rattle.bm_base.proofs.Maps.{Holds, get_kept, get_revised, known_revised, holds_insert_all}
+use Rattle.bm_base.proofs.Checks.{round_accepted}
 use Rattle.bm_base.proofs.Among.{lawful_among, among_here}
 use Rattle.bm_base.proofs.ChosenCopies.{IsPlaced, in_excess_usable, each_placed}
 
@@ -202,3 +203,11 @@ counted_lawful M L lt = record {
   numbers = record { nodes = L.numbers.nodes; storages = L.numbers.storages; blocks = L.numbers.blocks; replicas = L.numbers.replicas; round = L.numbers.round; calls = omega arith };
   commanded = L.commanded;
 }
+
+-- a round counts no call itself
+calls_same : (M : State) → M.calls < last_number → (whole_round M).1.calls < last_number
+unfolding whole_round started begun
+calls_same M lt = lt
+
+pub round_lawful : (M : State) → IsLawful M → round_refusal M ≡ None → IsLawful (counted (whole_round M).1)
+round_lawful M L none = let left = round_accepted M none in counted_lawful (whole_round M).1 (whole_lawful M L left.0) (calls_same M left.1)

@@ -6,7 +6,7 @@ use Rattle.bm_base.specs.declared.event.Event.{Event}
 use Rattle.bm_base.specs.declared.refusal.Refusal.{Refusal}
 use Rattle.bm_base.specs.declared.refusal.Refusal.TheVariants.{CallsSpent}
 use Rattle.bm_base.specs.State.{State}
-use Rattle.bm_base.specs.Refusals.{◌before◌, refusal_of, first_of, cluster_checks, block_checks, calls_spent, last_number}
+use Rattle.bm_base.specs.Refusals.{◌before◌, refusal_of, first_of, cluster_checks, block_checks, calls_spent, round_refusal, last_number}
 use Rattle.bm_base.specs.Answering.{checked}
 
 checked-before_err : (x y : Option Refusal) (r : Refusal) → checked x ≡ Err r → checked (x before y) ≡ Err r
@@ -41,3 +41,11 @@ calls_spent-last M e = ap (λ n. cond (nat_le last_number n) (Some CallsSpent) N
 pub calls_spent-below : (M : State) → M.calls < last_number → calls_spent M ≡ None
 unfolding calls_spent
 calls_spent-below M lt = grind (arith, nat_tests, lt)
+
+pub nothing_refused : (x : Option Refusal) (u : Unit {0}) → checked x ≡ Ok u → x ≡ None
+nothing_refused None u e = refl
+nothing_refused (Some r) u e = cc
+
+pub round_passed : (M : State) → M.round < last_number → M.calls < last_number → round_refusal M ≡ None
+unfolding round_refusal calls_spent
+round_passed M r k = grind (arith, nat_tests, r, k)

@@ -4,6 +4,7 @@ ghost use Rattle.bm_base.specs.State.{first_state};
 ghost use Rattle.bm_base.specs.Refusals.{refusal_of, first_of, cluster_checks, last_number};
 ghost use Rattle.bm_base.specs.Configuration.{config_refusal};
 ghost use Rattle.bm_base.specs.Calls.{done_by, after_event};
+ghost use Rattle.bm_base.specs.Lawful.{IsLawful};
 ghost use Rattle.bm_base.specs.Answering.{checked, Refuses, takes_memory};
 ghost use Rattle.bm_manager.specs.Growth.{needs_memory};
 
@@ -52,6 +53,16 @@ impl Model for Manager {
       round = m.round;
       calls = m.calls;
     } };
+
+    ghost use Rattle.bm_base.specs.Lawful.{IsLawful};
+
+    ghost invariant = { λ m. IsLawful (record {
+      limits = limits_of m.config;
+      cluster = m.topology.cluster;
+      holdings = m.holdings;
+      round = m.round;
+      calls = m.calls;
+    }) };
 }
 
 impl Manager {
@@ -88,11 +99,24 @@ impl Manager {
         ensures unchanged { OnErr result (self.new ≡ self.old) }
     {
         self.check(event)?;
+        event.fits();
         self.topology.prepare(event)?;
         let done = self.holdings.change(&self.topology, event)?;
         self.topology.commit(event);
         self.calls += 1;
         Ok(done)
+    }
+
+    /// Does nothing when it runs: the state is lawful at all times, and this says so to the function that calls it.
+    ///
+    /// Replicas, and transfers on their way, are on storages of alive nodes; only alive nodes drain; a node has one replica of a
+    /// block at most; a replica is stray just where its block is not known; only good ones are in excess; what is on its way is of a
+    /// known block; there are at most `MAX_NODES` nodes and `MAX_STORAGES` storages, and of each block 1 to `MAX_REPLICATION`
+    /// replicas are wanted; and the numbers fit their types.
+    pub fn lawful(&self)
+        ensures { IsLawful self.now }
+    {
+        let _ = &self.config;
     }
 
     /// The first refusal of an event.

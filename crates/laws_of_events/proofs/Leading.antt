@@ -16,16 +16,8 @@ use Rattle.bm_base.specs.Fitting.{HasFittingStart, FitsCall, FitCalls}
 use Rattle.bm_base.proofs.Each.{Each, each_all}
 use Rattle.bm_base.proofs.Checks.{round_accepted}
 use Rattle.bm_base.proofs.First.{first_lawful}
-use Rattle.bm_base.proofs.Rounding.{whole_lawful, counted_lawful}
+use Rattle.bm_base.proofs.Rounding.{round_lawful}
 use Rattle.bm_base.proofs.Accepting.{event_lawful}
-
--- a round counts no call itself
-calls_same : (M : State) → M.calls < last_number → (whole_round M).1.calls < last_number
-unfolding whole_round started begun
-calls_same M lt = lt
-
-pub round_lawful : (M : State) → IsLawful M → round_refusal M ≡ None → IsLawful (counted (whole_round M).1)
-round_lawful M L none = let left = round_accepted M none in counted_lawful (whole_round M).1 (whole_lawful M L left.0) (calls_same M left.1)
 
 -- a call that may be refused, and else leaves a lawful state
 by_refusal : (M : State) (o : Option Refusal) (next : Answer × State) → IsLawful M → (o ≡ None → IsLawful next.1) → IsLawful (refused_or M o next).1

@@ -24,6 +24,7 @@ use Rattle.bm_base.proofs.Commanded.{IsTested, chosen_deletes_of, each_delete, e
 use Rattle.bm_base.proofs.Kept.{marks_started, remarked, remarked_ordered, surplus_of}
 use Rattle.bm_base.proofs.Options.{revised}
 use Rattle.bm_base.proofs.Marked.{ordered_by}
+use Rattle.bm_base.proofs.AfterRound.{marks_after}
 use Rattle.laws_of_rounds.proofs.Reasons.{not_ordered}
 use Rattle.laws_of_rounds.proofs.Sending.{fresh_node}
 

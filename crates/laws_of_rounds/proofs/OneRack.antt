@@ -157,8 +157,8 @@ badly_two n d repl rs multi e = by_tests (nat_le repl n) (nat_lt 1 repl) refl (r
 live_rack : (M : State) (b s : ℕ) → IsLawful M → has (live M.cluster M.holdings b) s ≡ true → (r : ℕ) × (rack_of M.cluster s ≡ Some r)
 unfolding rack_of node_of
 live_rack M b s lawful h =
-    let there = passing_there (is_live_on M.cluster s) (get M.holdings.replicas (replica_at b s)) (sym (has_where (is_live_on M.cluster) M.holdings b s) ∙ h) in
-    let storage = there (get M.cluster.storages s) (lawful.holdings.stored (replica_at b s) there) in
+    let known = passing_there (is_live_on M.cluster s) (get M.holdings.replicas (replica_at b s)) (sym (has_where (is_live_on M.cluster) M.holdings b s) ∙ h) in
+    let storage = there (get M.cluster.storages s) (lawful.holdings.stored (replica_at b s) known) in
     let node = there (get M.cluster.nodes storage.0.node) (lawful.cluster.alive s storage.0 storage.1) in
     (node.0, ap (λ o. option_and_then (λ n. get M.cluster.nodes n) (option_map (λ i. i.node) o)) storage.1 ∙ node.1)
 

@@ -31,6 +31,7 @@ use Rattle.bm_base.proofs.Commanded.{IsTested, chosen_deletes_of, deleted_is}
 use Rattle.bm_base.proofs.Kept.{marks_started, marks_before, remarked, remarked_ordered, surplus_of, remarked_tag}
 use Rattle.bm_base.proofs.Options.{revised}
 use Rattle.bm_base.proofs.Marked.{ordered_by}
+use Rattle.bm_base.proofs.Tested.{commanded_among}
 use Rattle.laws_of_rounds.proofs.Sending.{node_is, storage_is, streams_of_node, two_below, source_usable}
 use Rattle.laws_of_rounds.proofs.Later.{each_among, each_is, commanded_chosen, ordered_by_round, pending_now}
 use Rattle.bm_base.proofs.AfterRound.{marks_after}
@@ -206,8 +207,8 @@ mapped_was f (Some x) e = refl
 source_alive : (M : State) (b s : ℕ) → IsLawful M → has (sources_of M.cluster (started M).holdings b) s ≡ true → (n : ℕ) × (has (keys M.cluster.nodes) n ≡ true) × (has_storage M.cluster n s ≡ true)
 unfolding node_of
 source_alive M b s lawful h =
-    let there = mapped_was (remarked (surplus_of M b) s) (get M.holdings.replicas (replica_at b s)) (sym (ap is_some (marks_started M (replica_at b s))) ∙ passing_there is_usable (get (started M).holdings.replicas (replica_at b s)) (sym (has_where (λ _ m. is_usable m) (started M).holdings b s) ∙ sym (sources_usable M.cluster (started M).holdings b s) ∙ h)) in
-    let storage = there (get M.cluster.storages s) (lawful.holdings.stored (replica_at b s) there) in
+    let known = mapped_was (remarked (surplus_of M b) s) (get M.holdings.replicas (replica_at b s)) (sym (ap is_some (marks_started M (replica_at b s))) ∙ passing_there is_usable (get (started M).holdings.replicas (replica_at b s)) (sym (has_where (λ _ m. is_usable m) (started M).holdings b s) ∙ sym (sources_usable M.cluster (started M).holdings b s) ∙ h)) in
+    let storage = there (get M.cluster.storages s) (lawful.holdings.stored (replica_at b s) known) in
     (storage.0.node, has_keys M.cluster.nodes storage.0.node ∙ lawful.cluster.alive s storage.0 storage.1, storage_is M.cluster storage.0.node s (ap (option_map (λ i. i.node)) storage.1))
 
 pub chosen_told : (M : State) (t : Transfer) → IsLawful M → IsAmong (transfers_chosen M) t → IsTransferCommanded M t
