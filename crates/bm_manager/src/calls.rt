@@ -2,6 +2,7 @@
 ghost use Rattle.std.specs.Prelude.{◌≡◌, IfOk, OnErr};
 ghost use Rattle.bm_base.specs.Answering.{MayAnswer, MayAnswerAll, state_left, state_left_by};
 ghost use Rattle.bm_base.specs.Calls.{step};
+ghost use Rattle.bm_base.specs.Lawful.{IsLawful};
 
 use crate::manager::Manager;
 use bm_base::{Answer, Call, Items};
@@ -62,16 +63,20 @@ impl Manager {
 
     /// Makes the calls one after another, and gives the answer of each: a run of the definition, in which a call that was
     /// refused for want of memory is passed over. An `Err` comes before the first call, where there is no room for the answers.
+    /// Whatever the calls and the answers are, the state that they leave is lawful.
     pub fn answer_all(&mut self, calls: &[Call]) -> Result<Items<Answer>, AllocError>
         ensures answers { IfOk result (λ answers. MayAnswerAll step self.old calls.now answers) }
         ensures state { IfOk result (λ answers. self.new ≡ state_left_by step self.old calls.now answers) }
         ensures unchanged { OnErr result (self.new ≡ self.old) }
+        ensures lawful { IsLawful self.new }
     {
+        self.lawful();
         let mut answers = Vec::with_capacity(self.alloc, calls.len())?;
         for call in calls {
             let answer = self.answer(call);
             let _ = answers.push(answer);
         }
+        self.lawful();
         Ok(Items::from_vec(answers))
     }
 }

@@ -4,6 +4,7 @@ ghost use Rattle.bm_base.specs.declared.refusal.Refusal.TheVariants.{Memory};
 ghost use Rattle.bm_base.specs.Transfers.{transfers};
 ghost use Rattle.bm_base.specs.Deletes.{deletes};
 ghost use Rattle.bm_base.specs.Rounds.{whole_round};
+ghost use Rattle.bm_base.specs.Sparing.{SparesLastGood, KeepsEnoughLive};
 ghost use Rattle.bm_base.specs.RoundParts.{round_part, started_holdings};
 ghost use Rattle.bm_base.specs.Refusals.{round_refusal, last_number};
 ghost use Rattle.bm_base.specs.Calls.{counted};
@@ -20,13 +21,20 @@ impl Manager {
     /// `work` for each alive node in all; and the stray replicas, those in excess, and the corrupt ones of blocks of which enough
     /// replicas are live are ordered to be deleted, at most `invalidate` for each node. What each DataNode is to do is answered.
     /// `RoundsSpent`; `CallsSpent`; `Memory`; a refused round changes nothing.
+    ///
+    /// No round commands the delete of a known block's last good replica. Where a round commands the delete of a replica of a known
+    /// block, as many replicas of the block as are wanted, one at least, are live after the round, and the delete of none of them is
+    /// commanded.
     pub fn round(&mut self) -> Result<Commands, Refusal>
         ensures accepted { OnOk result (round_refusal self.old ≡ None) }
         ensures commands { IfOk result (λ k. k ≡ (whole_round self.old).0) }
         ensures state { OnOk result (self.new ≡ counted (whole_round self.old).1) }
         ensures refused { IfErr result (Refuses (round_refusal self.old) true) }
         ensures unchanged { OnErr result (self.new ≡ self.old) }
+        ensures last_good { IfOk result (λ k. SparesLastGood self.old k) }
+        ensures enough_live { IfOk result (λ k. KeepsEnoughLive self.old k self.new) }
     {
+        self.lawful();
         self.check_round()?;
         self.next_round()
     }
