@@ -14,7 +14,7 @@ use Rattle.bm_base.specs.Lists.{has}
 use Rattle.bm_base.specs.Replicas.{is_usable, is_live_on, is_good, is_stray, is_corrupt, is_draining, has_enough_live}
 use Rattle.bm_base.specs.Excess.{begun, started, without_expired, without_unordered_excess, marked, excess_in, excess_among}
 use Rattle.bm_base.specs.Deletes.{is_deletable}
-use Rattle.bm_base.specs.Lawful.{IsLawful}
+use Rattle.bm_base.specs.Lawful.{IsOrderly}
 use Rattle.bm_base.proofs.MapLaws.{get-revise}
 use Rattle.bm_base.proofs.Options.{revised}
 use Rattle.bm_base.specs.NextRound.{unmarked, live_unmarked, live_marked, live_after}
@@ -110,7 +110,7 @@ none_of_none : (C : Cluster) (k : ℕ) (xs : List ℕ) (s : ℕ) → has (excess
 none_of_none C zero xs s h = absurd (false≢true h)
 none_of_none C (suc k) xs s h = omega arith
 
-module _ (M : State) (b s : ℕ) (i : BlockInfo) (lawful : IsLawful M) (known : get M.holdings.blocks b ≡ Some i) where
+module _ (M : State) (b s : ℕ) (i : BlockInfo) (lawful : IsOrderly M) (known : get M.holdings.blocks b ≡ Some i) where
   pub enough_of : has_enough_live M.cluster (started M).holdings b ≡ true → i.repl ≤ length (live_marked M b)
   unfolding has_enough_live started begun marked without_expired without_unordered_excess
   enough_of e = leb-true i.repl (length (live_marked M b)) (sym (ap (λ j. option_map_or (λ x. nat_le x.repl (length (live_marked M b))) j false) known) ∙ e)
@@ -160,7 +160,7 @@ some_first : (xs : List ℕ) → 1 ≤ length xs → (t : ℕ) × (has xs t ≡ 
 some_first [] h = absurd (omega arith)
 some_first (x ∷ xs) h = (x, or_left (x == x) (has xs x) (same_again x))
 
-pub one_stays : (M : State) (b s : ℕ) (i : BlockInfo) → IsLawful M → get M.holdings.blocks b ≡ Some i → IsTested M (replica_at b s)
+pub one_stays : (M : State) (b s : ℕ) (i : BlockInfo) → IsOrderly M → get M.holdings.blocks b ≡ Some i → IsTested M (replica_at b s)
     → (t : ℕ) × (has (live_after M b) t ≡ true) × (IsTested M (replica_at b t) → ⊥) × (t ≡ s → ⊥)
 one_stays M b s i lawful known h =
     let enough = enough_stay M b s i lawful known h in

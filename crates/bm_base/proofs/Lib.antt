@@ -33,6 +33,7 @@ pub mod Entering
 pub mod ChosenCopies
 pub mod Rounding
 pub mod Accepting
+pub mod Orderly
 -- What a round's deletes leave of a block.
 pub mod Listed
 pub mod Stands

@@ -6,8 +6,8 @@ use Rattle.bm_base.specs.declared.replica.ReplicaId.{ReplicaId}
 use Rattle.bm_base.specs.declared.replica.Marks.{Marks}
 use Rattle.bm_base.specs.declared.commands.Transfer.{Transfer}
 use Rattle.bm_base.specs.declared.commands.Delete.{Delete}
-use Rattle.bm_base.specs.Map.{get, revise, contains_key}
-use Rattle.bm_base.specs.State.{Cluster, Holdings, State, replica_at}
+use Rattle.bm_base.specs.Map.{Map, get, revise, contains_key}
+use Rattle.bm_base.specs.State.{Cluster, Holdings, State, by_replica, replica_at}
 use Rattle.bm_base.specs.Lists.{has}
 use Rattle.bm_base.specs.Replicas.{is_good, is_stray}
 use Rattle.bm_base.specs.Excess.{without_expired, without_unordered_excess, excess_in, marked, begun, started}
@@ -16,7 +16,7 @@ use Rattle.bm_base.specs.Deletes.{deletes}
 use Rattle.bm_base.specs.Rounds.{is_commanded, finished, round_with, whole_round}
 use Rattle.bm_base.specs.Refusals.{round_refusal, last_number}
 use Rattle.bm_base.specs.Calls.{counted}
-use Rattle.bm_base.specs.Lawful.{IsLawful, IsLawfulHoldings, HasFittingNumbers}
+use Rattle.bm_base.specs.Lawful.{IsLawful, IsOrderly, IsLawfulHoldings, HasFittingNumbers, IsCommandedByNow}
 use Rattle.bm_base.proofs.Options.{there, is_there}
 use Rattle.bm_base.proofs.Each.{Each, each_mapped, each_then}
 use Rattle.bm_base.proofs.Maps.{Holds, get_kept, get_revised, known_revised, holds_insert_all}
@@ -128,73 +128,54 @@ module _ (C : Cluster) (r : ℕ) (H : Holdings) (ts : List Transfer) (ds : List 
 
 -- Whole states.
 
-pub begun_lawful : (M : State) → IsLawful M → M.round < last_number → IsLawful (begun M)
-unfolding begun without_expired
-begun_lawful M L lt = record {
-  cluster = L.cluster;
-  holdings = expired_lawful M.cluster M.holdings M.limits.pend (M.round + 1) L.holdings;
-  numbers = record {
-    nodes = L.numbers.nodes;
-    storages = L.numbers.storages;
-    blocks = L.numbers.blocks;
-    replicas = L.numbers.replicas;
-    round = omega arith;
-    calls = L.numbers.calls;
-  };
-  commanded = λ q t e. let h : t ≤ M.round = L.commanded q t (get_kept M.holdings.pending (λ _ t. not (nat_le M.limits.pend (M.round + 1 - t))) q t e).0 in omega (arith, h);
-}
+pub orderly : (M : State) → IsLawful M → IsOrderly M
+orderly M L = record { cluster = L.cluster; holdings = L.holdings; commanded = L.commanded }
 
--- other marks
-remarked_state : (M : State) (G : Holdings) (f : ReplicaId → Marks → Marks) → IsLawful M → IsLawfulHoldings M.cluster G → G.replicas ≡ revise M.holdings.replicas f → G.blocks ≡ M.holdings.blocks → G.pending ≡ M.holdings.pending → IsLawful (record M { holdings = G })
-remarked_state M G f L K r b t = record {
-  cluster = L.cluster;
-  holdings = K;
-  numbers = record {
-    nodes = L.numbers.nodes;
-    storages = L.numbers.storages;
-    blocks = λ c i e. L.numbers.blocks c i (sym (ap (λ m. get m c) b) ∙ e);
-    replicas = λ q e. L.numbers.replicas q (sym (ap (λ m. contains_key m q) r ∙ known_revised M.holdings.replicas f q) ∙ e);
-    round = L.numbers.round;
-    calls = L.numbers.calls;
-  };
-  commanded = λ q x e. L.commanded q x (sym (ap (λ m. get m q) t) ∙ e);
-}
+started_lawful : (M : State) → IsLawfulHoldings M.cluster M.holdings → IsLawfulHoldings M.cluster (started M).holdings
+unfolding started begun
+started_lawful M L =
+    let young = expired_lawful M.cluster M.holdings M.limits.pend (M.round + 1) L in
+    marked_lawful M.cluster _ (cleared_lawful M.cluster _ young)
 
-cleared_state : (M : State) → IsLawful M → IsLawful (record M { holdings = without_unordered_excess M.holdings })
-unfolding without_unordered_excess
-cleared_state M L = remarked_state M (without_unordered_excess M.holdings) (λ _ m. if m.ordered then m else record m { excess = false }) L (cleared_lawful M.cluster M.holdings L.holdings) refl refl refl
+started_commanded : (M : State) → IsCommandedByNow M → Holds (λ _ r. r ≤ M.round + 1) (started M).holdings.pending
+unfolding started begun marked without_unordered_excess without_expired
+started_commanded M L q t e =
+    let h : t ≤ M.round = L q t (get_kept M.holdings.pending (λ _ t. not (nat_le M.limits.pend (M.round + 1 - t))) q t e).0 in
+    omega (arith, h)
 
-marked_state : (M : State) → IsLawful M → IsLawful (record M { holdings = marked M.cluster M.holdings })
-unfolding marked
-marked_state M L =
-    remarked_state M (marked M.cluster M.holdings) (λ q m. if has (excess_in M.cluster M.holdings q.block) q.storage then record m { excess = true } else m) L (marked_lawful M.cluster M.holdings L.holdings) refl refl refl
+pub round_orderly : (M : State) → IsOrderly M → IsOrderly (whole_round M).1
+unfolding whole_round started begun
+round_orderly M O =
+    let H : Holdings = (started M).holdings in
+    let ts : List Transfer = transfers M.limits M.cluster H in
+    let ds : List Delete = deletes M.limits M.cluster H in
+    let placed : Each (IsPlaced M.cluster H) ts = each_placed M.limits M.cluster H in
+    record {
+      cluster = O.cluster;
+      holdings = finished_lawful M.cluster (M.round + 1) H ts ds (started_lawful M O.holdings) placed;
+      commanded = all_pending M.cluster (M.round + 1) H ts ds (λ _ r. r ≤ M.round + 1) (started_commanded M O.commanded)
+          (each_then (IsPlaced M.cluster H) (λ _. M.round + 1 ≤ M.round + 1) ts placed (λ _ _. omega arith));
+    }
 
-pub started_lawful : (M : State) → IsLawful M → M.round < last_number → IsLawful (started M)
-unfolding started
-started_lawful M L lt = marked_state (record (begun M) { holdings = without_unordered_excess (begun M).holdings }) (cleared_state (begun M) (begun_lawful M L lt))
+-- the replicas of revised marks are those that were there
+known_thrice : (m : Map by_replica Marks) (f g h : ReplicaId → Marks → Marks) (q : ReplicaId) → contains_key (revise (revise (revise m f) g) h) q ≡ contains_key m q
+known_thrice m f g h q = known_revised (revise (revise m f) g) h q ∙ known_revised (revise m f) g q ∙ known_revised m f q
 
-finished_numbers : (N : State) (ts : List Transfer) (ds : List Delete) → HasFittingNumbers N → HasFittingNumbers (record N { holdings = finished N.round N.holdings ts ds })
-unfolding finished
-finished_numbers N ts ds F = record {
+round_numbers : (M : State) → HasFittingNumbers M → M.round < last_number → HasFittingNumbers (whole_round M).1
+unfolding whole_round started begun marked without_unordered_excess without_expired finished
+round_numbers M F lt = record {
   nodes = F.nodes;
   storages = F.storages;
   blocks = F.blocks;
-  replicas = λ q e. F.replicas q (sym (known_revised N.holdings.replicas (ordered N.cluster N.round N.holdings ts ds) q) ∙ e);
-  round = F.round;
+  replicas = λ q e. F.replicas q (sym (known_thrice M.holdings.replicas _ _ _ q) ∙ e);
+  round = omega arith;
   calls = F.calls;
 }
 
-pub finished_state : (N : State) (ts : List Transfer) → IsLawful N → Each (IsPlaced N.cluster N.holdings) ts → IsLawful (round_with N ts).1
-finished_state N ts L each = record {
-  cluster = L.cluster;
-  holdings = finished_lawful N.cluster N.round N.holdings ts (deletes N.limits N.cluster N.holdings) L.holdings each;
-  numbers = finished_numbers N ts (deletes N.limits N.cluster N.holdings) L.numbers;
-  commanded = all_pending N.cluster N.round N.holdings ts (deletes N.limits N.cluster N.holdings) (λ _ r. r ≤ N.round) L.commanded (each_then (IsPlaced N.cluster N.holdings) (λ _. N.round ≤ N.round) ts each (λ _ _. omega arith));
-}
-
 pub whole_lawful : (M : State) → IsLawful M → M.round < last_number → IsLawful (whole_round M).1
-unfolding whole_round
-whole_lawful M L lt = finished_state (started M) (transfers (started M).limits (started M).cluster (started M).holdings) (started_lawful M L lt) (each_placed (started M).limits (started M).cluster (started M).holdings)
+whole_lawful M L lt =
+    let O = round_orderly M (orderly M L) in
+    record { cluster = O.cluster; holdings = O.holdings; numbers = round_numbers M L.numbers lt; commanded = O.commanded }
 
 pub counted_lawful : (M : State) → IsLawful M → M.calls < last_number → IsLawful (counted M)
 counted_lawful M L lt = record {

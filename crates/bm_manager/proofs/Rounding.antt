@@ -14,6 +14,7 @@ use Rattle.bm_base.specs.RoundParts.{started_holdings}
 use Rattle.bm_base.specs.Calls.{counted}
 use Rattle.bm_base.specs.Lawful.{IsLawful}
 use Rattle.bm_base.specs.Sparing.{SparesLastGood, KeepsEnoughLive}
+use Rattle.bm_base.proofs.Rounding.{orderly}
 use Rattle.bm_base.proofs.LastGood.{round_spares, round_keeps}
 
 -- the holdings as the next round of a state chooses
@@ -42,10 +43,10 @@ module _ (M : State) (ts : List Transfer) (ds : List Delete) (all_ts : ts ≡ tr
 -- What a round's deletes leave, of its commands and of the state after it.
 
 pub spares : (M : State) (r : Result Commands Refusal) → IsLawful M → IfOk r (λ k. k ≡ (whole_round M).0) → IfOk r (λ k. SparesLastGood M k)
-spares M (Ok k) L is = subst (SparesLastGood M) (sym is) (round_spares M L)
+spares M (Ok k) L is = subst (SparesLastGood M) (sym is) (round_spares M (orderly M L))
 spares M (Err e) L is = is
 
 pub keeps : (M N : State) (r : Result Commands Refusal) → IsLawful M → IfOk r (λ k. k ≡ (whole_round M).0) → OnOk r (N ≡ counted (whole_round M).1)
     → IfOk r (λ k. KeepsEnoughLive M k N)
-keeps M N (Ok k) L is left = subst (λ (x : Commands × State). KeepsEnoughLive M x.0 x.1) (λ i. (sym is i, sym left i)) (round_keeps M L)
+keeps M N (Ok k) L is left = subst (λ (x : Commands × State). KeepsEnoughLive M x.0 x.1) (λ i. (sym is i, sym left i)) (round_keeps M (orderly M L))
 keeps M N (Err e) L is left = is

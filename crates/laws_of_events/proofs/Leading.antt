@@ -18,24 +18,20 @@ use Rattle.bm_base.proofs.Checks.{round_accepted}
 use Rattle.bm_base.proofs.First.{first_lawful}
 use Rattle.bm_base.proofs.Rounding.{round_lawful}
 use Rattle.bm_base.proofs.Accepting.{event_lawful}
-
--- a call that may be refused, and else leaves a lawful state
-by_refusal : (M : State) (o : Option Refusal) (next : Answer × State) → IsLawful M → (o ≡ None → IsLawful next.1) → IsLawful (refused_or M o next).1
-by_refusal M None next L h = h refl
-by_refusal M (Some r) next L h = L
+use Rattle.bm_base.proofs.Orderly.{by_refusal}
 
 pub step_lawful : (M : State) (k : Call) → IsLawful M → FitsCall k → IsLawful (step M k).1
 unfolding step
-step_lawful M (call.Apply e) L h = by_refusal M (refusal_of M e) _ L (event_lawful M e L h)
-step_lawful M call.Round L h = by_refusal M (round_refusal M) _ L (round_lawful M L)
+step_lawful M (call.Apply e) L h = by_refusal IsLawful M (refusal_of M e) _ L (event_lawful M e L h)
+step_lawful M call.Round L h = by_refusal IsLawful M (round_refusal M) _ L (round_lawful M L)
 step_lawful M call.Replicas L h = L
 step_lawful M call.Corrupt L h = L
 step_lawful M call.Excess L h = L
 step_lawful M call.Missing L h = L
-step_lawful M (call.BlocksOn s) L h = by_refusal M (storage_refusal M.cluster s) _ L (λ _. L)
-step_lawful M (call.Places b) L h = by_refusal M (block_refusal M.holdings b) _ L (λ _. L)
-step_lawful M (call.LevelOf b) L h = by_refusal M (block_refusal M.holdings b) _ L (λ _. L)
-step_lawful M (call.Retired n) L h = by_refusal M (node_refusal M.cluster n) _ L (λ _. L)
+step_lawful M (call.BlocksOn s) L h = by_refusal IsLawful M (storage_refusal M.cluster s) _ L (λ _. L)
+step_lawful M (call.Places b) L h = by_refusal IsLawful M (block_refusal M.holdings b) _ L (λ _. L)
+step_lawful M (call.LevelOf b) L h = by_refusal IsLawful M (block_refusal M.holdings b) _ L (λ _. L)
+step_lawful M (call.Retired n) L h = by_refusal IsLawful M (node_refusal M.cluster n) _ L (λ _. L)
 step_lawful M call.Calls L h = L
 step_lawful M call.Rounds L h = L
 

@@ -17,7 +17,7 @@ use Rattle.bm_base.specs.Lists.{has}
 use Rattle.bm_base.specs.Replicas.{is_stray, is_corrupt, node_of, has_storage, has_enough_live}
 use Rattle.bm_base.specs.Excess.{begun, started, marked, without_expired, without_unordered_excess}
 use Rattle.bm_base.specs.Deletes.{is_deletable, deletable_on, deletes_of, deletes}
-use Rattle.bm_base.specs.Lawful.{IsLawful}
+use Rattle.bm_base.specs.Lawful.{IsOrderly}
 use Rattle.bm_base.specs.Rounds.{whole_round, commands_of, node_commands, has_commands}
 use Rattle.bm_base.specs.NextRound.{IsAmong, IsDeleteCommanded, live_marked, transfers_chosen}
 use Rattle.laws_of_rounds.specs.Deletes.{IsToBeDeleted}
@@ -135,7 +135,7 @@ full_node limits C H r ts n some alive long =
       full,
     )
 
-pub only_limit : (M : State) (q : ReplicaId) (m : Marks) (n : ℕ) → IsLawful M → 1 ≤ M.limits.invalidate
+pub only_limit : (M : State) (q : ReplicaId) (m : Marks) (n : ℕ) → IsOrderly M → 1 ≤ M.limits.invalidate
     → get (started M).holdings.replicas q ≡ Some m → m.ordered ≡ false → IsToBeDeleted M q m → node_of M.cluster q.storage ≡ Some n
     → IsDeleteCommanded M q ⊎ ((k : NodeCommands) × IsAmong (whole_round M).0.nodes k × (k.node ≡ n) × (M.limits.invalidate ≤ length k.deletes))
 unfolding whole_round started begun node_of

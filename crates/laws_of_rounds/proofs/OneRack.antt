@@ -11,7 +11,7 @@ use Rattle.bm_base.specs.State.{Cluster, State, replica_at}
 use Rattle.bm_base.specs.Lists.{has, has_repeats, distinct}
 use Rattle.bm_base.specs.Replicas.{live, drained, is_live_on, racks, rack_of, node_of, is_multi_rack}
 use Rattle.bm_base.specs.Levels.{level, level_of}
-use Rattle.bm_base.specs.Lawful.{IsLawful}
+use Rattle.bm_base.specs.Lawful.{IsOrderly}
 use Rattle.laws_of_rounds.specs.Levels.{AreOnOneRack, HasTwoRacks}
 use Rattle.laws_of_rounds.proofs.Needs.{level_known}
 use Rattle.std.proofs.lemmas.Option.{same_Some}
@@ -154,7 +154,7 @@ badly_two n d repl rs multi e = by_tests (nat_le repl n) (nat_lt 1 repl) refl (r
     by_tests true false f q r e = absurd (false≢true (ap is_some e))
     by_tests false p f q r e = absurd (other (n == 0) (d == 0) (n == 1) (nat_lt (n * 3) repl) e)
 
-live_rack : (M : State) (b s : ℕ) → IsLawful M → has (live M.cluster M.holdings b) s ≡ true → (r : ℕ) × (rack_of M.cluster s ≡ Some r)
+live_rack : (M : State) (b s : ℕ) → IsOrderly M → has (live M.cluster M.holdings b) s ≡ true → (r : ℕ) × (rack_of M.cluster s ≡ Some r)
 unfolding rack_of node_of
 live_rack M b s lawful h =
     let known = passing_there (is_live_on M.cluster s) (get M.holdings.replicas (replica_at b s)) (sym (has_where (is_live_on M.cluster) M.holdings b s) ∙ h) in
@@ -166,7 +166,7 @@ some_first : (xs : List ℕ) → 1 ≤ length xs → (s : ℕ) × (has xs s ≡ 
 some_first [] h = absurd (omega arith)
 some_first (x ∷ xs) h = (x, or_left (x == x) (has xs x) (same_again x))
 
-pub level_three : (M : State) (b : ℕ) (i : BlockInfo) → IsLawful M → get M.holdings.blocks b ≡ Some i
+pub level_three : (M : State) (b : ℕ) (i : BlockInfo) → IsOrderly M → get M.holdings.blocks b ≡ Some i
     → (level M.cluster M.holdings b ≡ Some BadlyDistributed)
     ↔ ((2 ≤ i.repl) × (i.repl ≤ length (live M.cluster M.holdings b)) × AreOnOneRack M.cluster (live M.cluster M.holdings b) × HasTwoRacks M.cluster)
 level_three M b i lawful known =

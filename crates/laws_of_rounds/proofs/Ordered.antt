@@ -23,7 +23,7 @@ use Rattle.bm_base.specs.Events.{entered, enter, report, without_pending, revise
 use Rattle.bm_base.specs.Excess.{begun, started}
 use Rattle.bm_base.specs.Lists.{has}
 use Rattle.bm_base.specs.Deletes.{is_deletable}
-use Rattle.bm_base.specs.Lawful.{IsLawful}
+use Rattle.bm_base.specs.Lawful.{IsOrderly}
 use Rattle.bm_base.specs.declared.replica.BlockInfo.{BlockInfo}
 use Rattle.bm_base.specs.Rounds.{is_commanded}
 use Rattle.bm_base.specs.Refusals.{refusal_of, round_refusal, node_refusal, storage_refusal, block_refusal}
@@ -218,7 +218,7 @@ done_reached c ks = done_calls (first_state c) ks (done_first c)
 
 -- The replica that stays.
 
-pub good_stays : (M : State) (b s : ℕ) (i : BlockInfo) → IsDoneState M → IsLawful M → get M.holdings.blocks b ≡ Some i → IsTested M (replica_at b s)
+pub good_stays : (M : State) (b s : ℕ) (i : BlockInfo) → IsDoneState M → IsOrderly M → get M.holdings.blocks b ≡ Some i → IsTested M (replica_at b s)
     → (t : ℕ) × (m : Marks) × (get (after_round M).holdings.replicas (replica_at b t) ≡ Some m) × (m.tag ≡ Good) × (m.excess ≡ false) × (m.ordered ≡ false) × (is_draining M.cluster t ≡ false)
 good_stays M b s i done lawful known h =
     let one = one_stays M b s i lawful known h in

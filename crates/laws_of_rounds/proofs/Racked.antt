@@ -15,7 +15,7 @@ use Rattle.bm_base.specs.State.{Cluster, State, replica_at}
 use Rattle.bm_base.specs.Lists.{has, has_repeats, least}
 use Rattle.bm_base.specs.Replicas.{is_live_on, rack_of, node_of}
 use Rattle.bm_base.specs.Excess.{excess_cmp, excess_among, remaining, share_rack, has_rack_mate, started}
-use Rattle.bm_base.specs.Lawful.{IsLawful}
+use Rattle.bm_base.specs.Lawful.{IsOrderly}
 use Rattle.bm_base.specs.NextRound.{unmarked, live_unmarked, live_marked}
 use Rattle.std.proofs.lemmas.Option.{same_Some}
 use Rattle.bm_base.proofs.Listed.{any_weaker, count_without, has_filter, once_filter, or_left, or_right, same_again, and_second}
@@ -260,7 +260,7 @@ rack_known C s r i e f =
     let is : rack_of C s ≡ Some r = ap (λ o. option_and_then (λ n. get C.nodes n) (option_map (λ j. j.node) o)) e ∙ f in
     ap (λ o. option_map_or (λ a. option_map_or (λ b. b == a) o false) o false) is ∙ same_again r
 
-pub live_on_rack : (M : State) (b s : ℕ) → IsLawful M → has (live_unmarked M b) s ≡ true → share_rack M.cluster s s ≡ true
+pub live_on_rack : (M : State) (b s : ℕ) → IsOrderly M → has (live_unmarked M b) s ≡ true → share_rack M.cluster s s ≡ true
 live_on_rack M b s lawful h =
     let there = is_some_value (is_live_on M.cluster s) (get (unmarked M).holdings.replicas (replica_at b s)) (sym (has_where (is_live_on M.cluster) (unmarked M).holdings b s) ∙ h) in
     let was = mapped_some unordered_dropped (get M.holdings.replicas (replica_at b s)) there.0 (sym (marks_unmarked M (replica_at b s)) ∙ there.1) in
@@ -268,7 +268,7 @@ live_on_rack M b s lawful h =
     let node = some_again (get M.cluster.nodes storage.0.node) (lawful.cluster.alive s storage.0 storage.1) in
     rack_known M.cluster s node.0 storage.0 storage.1 node.1
 
-shared_stays : (M : State) (b s t : ℕ) → IsLawful M → has (live_unmarked M b) s ≡ true → has (live_marked M b) t ≡ true → has_rack_mate M.cluster (live_marked M b) t ≡ true
+shared_stays : (M : State) (b s t : ℕ) → IsOrderly M → has (live_unmarked M b) s ≡ true → has (live_marked M b) t ≡ true → has_rack_mate M.cluster (live_marked M b) t ≡ true
     → list_any (share_rack M.cluster s) (live_marked M b) ≡ true
 shared_stays M b s t lawful there has_t mate = by_info (get M.holdings.blocks b) refl
   where
@@ -300,7 +300,7 @@ two_pass p xs t u once at_t at_u pass_t pass_u apart =
         long [] h = absurd (false≢true h)
         long (z ∷ zs) h = omega arith
 
-pub last_stays : (M : State) (b s t u : ℕ) → IsLawful M → has (live_unmarked M b) s ≡ true → has (live_marked M b) t ≡ true → has (live_marked M b) u ≡ true → (t ≡ u → ⊥)
+pub last_stays : (M : State) (b s t u : ℕ) → IsOrderly M → has (live_unmarked M b) s ≡ true → has (live_marked M b) t ≡ true → has (live_marked M b) u ≡ true → (t ≡ u → ⊥)
     → rack_of M.cluster t ≡ rack_of M.cluster u → (v : ℕ) × (has (live_marked M b) v ≡ true) × (rack_of M.cluster v ≡ rack_of M.cluster s)
 last_stays M b s t u lawful there at_t at_u apart same =
     let C : Cluster = M.cluster in

@@ -13,7 +13,7 @@ use Rattle.bm_base.specs.State.{State, replica_at}
 use Rattle.bm_base.specs.Lists.{has}
 use Rattle.bm_base.specs.Replicas.{is_usable, is_live_on, is_good, is_stray, is_corrupt, is_draining, has_enough_live, storages_where}
 use Rattle.bm_base.specs.Excess.{begun, started, without_expired, without_unordered_excess, marked, excess_in, excess_of, excess_among}
-use Rattle.bm_base.specs.Lawful.{IsLawful}
+use Rattle.bm_base.specs.Lawful.{IsOrderly}
 use Rattle.bm_base.proofs.MapLaws.{get-revise}
 use Rattle.bm_base.specs.NextRound.{unmarked, live_unmarked, live_marked, live_after, drained_unmarked}
 use Rattle.laws_of_rounds.specs.Deletes.{MayBeDeleted}
@@ -82,7 +82,7 @@ dropped_excess true m e = e
 dropped_excess false m e = absurd (false≢true e)
 
 -- in a lawful state, what is in excess once a round has marked is good
-excess_good : (M : State) (q : ReplicaId) (n : Marks) → IsLawful M → get M.holdings.replicas q ≡ Some n → (remarked (surplus_of M q.block) q.storage n).excess ≡ true → is_good n.tag ≡ true
+excess_good : (M : State) (q : ReplicaId) (n : Marks) → IsOrderly M → get M.holdings.replicas q ≡ Some n → (remarked (surplus_of M q.block) q.storage n).excess ≡ true → is_good n.tag ≡ true
 excess_good M q n lawful found e = by_choice (has (surplus_of M q.block) q.storage) refl e
   where
     by_choice : (c : Bool) → has (surplus_of M q.block) q.storage ≡ c → (if c then record (unordered_dropped n) { excess = true } else unordered_dropped n).excess ≡ true → is_good n.tag ≡ true
@@ -100,7 +100,7 @@ corrupt_only Bad excess enough c g (inl h) = absurd (false≢true h)
 corrupt_only Bad excess enough c g (inr (inl h)) = absurd (false≢true (g h))
 corrupt_only Bad excess enough c g (inr (inr h)) = h.1
 
-pub corrupt_waits : (M : State) (q : ReplicaId) (m : Marks) → IsLawful M → IsTested M q → get (started M).holdings.replicas q ≡ Some m → is_corrupt m.tag ≡ true
+pub corrupt_waits : (M : State) (q : ReplicaId) (m : Marks) → IsOrderly M → IsTested M q → get (started M).holdings.replicas q ≡ Some m → is_corrupt m.tag ≡ true
     → (i : BlockInfo) × (get M.holdings.blocks q.block ≡ Some i) × (i.repl ≤ length (live_marked M q.block))
 corrupt_waits M q m lawful h found corrupt =
     let is = deleted_is M q h in

@@ -17,7 +17,7 @@ use Rattle.bm_base.specs.Replicas.{node_of, has_storage, sources_of, is_usable, 
 use Rattle.bm_base.specs.Levels.{level}
 use Rattle.bm_base.specs.Excess.{begun, started, marked, without_expired, without_unordered_excess}
 use Rattle.bm_base.specs.Deletes.{deletes_of, deletes}
-use Rattle.bm_base.specs.Lawful.{IsLawful}
+use Rattle.bm_base.specs.Lawful.{IsOrderly}
 use Rattle.bm_base.specs.Rounds.{whole_round, commands_of, node_commands, has_commands, is_commanded, finished}
 use Rattle.bm_base.specs.NextRound.{IsAmong, IsTransferCommanded, deletes_commanded, transfers_chosen, after_round}
 use Rattle.std.proofs.lemmas.Option.{same_Some}
@@ -204,14 +204,14 @@ mapped_was f None e = e
 mapped_was f (Some x) e = refl
 
 -- the node of a source is alive
-source_alive : (M : State) (b s : ℕ) → IsLawful M → has (sources_of M.cluster (started M).holdings b) s ≡ true → (n : ℕ) × (has (keys M.cluster.nodes) n ≡ true) × (has_storage M.cluster n s ≡ true)
+source_alive : (M : State) (b s : ℕ) → IsOrderly M → has (sources_of M.cluster (started M).holdings b) s ≡ true → (n : ℕ) × (has (keys M.cluster.nodes) n ≡ true) × (has_storage M.cluster n s ≡ true)
 unfolding node_of
 source_alive M b s lawful h =
     let known = mapped_was (remarked (surplus_of M b) s) (get M.holdings.replicas (replica_at b s)) (sym (ap is_some (marks_started M (replica_at b s))) ∙ passing_there is_usable (get (started M).holdings.replicas (replica_at b s)) (sym (has_where (λ _ m. is_usable m) (started M).holdings b s) ∙ sym (sources_usable M.cluster (started M).holdings b s) ∙ h)) in
     let storage = there (get M.cluster.storages s) (lawful.holdings.stored (replica_at b s) known) in
     (storage.0.node, has_keys M.cluster.nodes storage.0.node ∙ lawful.cluster.alive s storage.0 storage.1, storage_is M.cluster storage.0.node s (ap (option_map (λ i. i.node)) storage.1))
 
-pub chosen_told : (M : State) (t : Transfer) → IsLawful M → IsAmong (transfers_chosen M) t → IsTransferCommanded M t
+pub chosen_told : (M : State) (t : Transfer) → IsOrderly M → IsAmong (transfers_chosen M) t → IsTransferCommanded M t
 unfolding whole_round started begun
 chosen_told M t lawful at =
     let alive = source_alive M t.block t.source lawful (source_usable M at.0 at.1 t at.2).0 in
