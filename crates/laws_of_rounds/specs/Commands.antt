@@ -10,7 +10,6 @@ use Rattle.bm_base.specs.State.{State, replica_at}
 use Rattle.bm_base.specs.Replicas.{node_of, drains}
 use Rattle.bm_base.specs.Levels.{level}
 use Rattle.bm_base.specs.Excess.{started}
-use Rattle.bm_base.specs.Lawful.{IsLawful}
 use Rattle.bm_base.specs.Rounds.{whole_round}
 use Rattle.bm_base.specs.NextRound.{IsAmong, IsDeleteCommanded, IsTransferCommanded, transfers_chosen, after_round}
 
@@ -26,9 +25,9 @@ FirstTwoOfANode =
     (M : State) → All (λ k. drains M.cluster k.node ≡ false → (front back : List Transfer) (t : Transfer) → k.transfers ≡ front ++ t ∷ back
     → (level M.cluster (started M).holdings t.block ≡ Some Highest) ⊎ (length front < 2)) (whole_round M).0.nodes
 
--- in a lawful state, what a round chooses it commands
-abbrev pub ChosenTransferIsCommanded : Type 0
-ChosenTransferIsCommanded = (M : State) (t : Transfer) → IsLawful M → IsAmong (transfers_chosen M) t → IsTransferCommanded M t
+-- what a round chooses it commands
+abbrev pub ChosenTransferIsCommanded : State → Type 0
+ChosenTransferIsCommanded M = (t : Transfer) → IsAmong (transfers_chosen M) t → IsTransferCommanded M t
 
 -- a delete that is commanded is ordered once the round is over
 abbrev pub CommandedDeleteIsOrdered : Type 0

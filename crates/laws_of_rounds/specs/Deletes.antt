@@ -14,30 +14,29 @@ use Rattle.bm_base.specs.Lists.{has}
 use Rattle.bm_base.specs.Replicas.{is_usable, is_stray, is_corrupt, node_of, is_draining}
 use Rattle.bm_base.specs.Excess.{started}
 use Rattle.bm_base.specs.Rounds.{whole_round}
-use Rattle.bm_base.specs.Lawful.{IsLawful}
 use Rattle.bm_base.specs.Calls.{state_after}
 use Rattle.bm_base.specs.NextRound.{IsAmong, IsDeleteCommanded, after_round, live_marked, live_after, drained_after}
 
 -- The last good replica.
 
 -- A round does not command the delete of the only good replica of a known block.
-abbrev pub OnlyGoodReplicaIsNotDeleted : Type 0
-OnlyGoodReplicaIsNotDeleted =
-    (M : State) (b s : ℕ) (i : BlockInfo) → IsLawful M → get M.holdings.blocks b ≡ Some i
+abbrev pub OnlyGoodReplicaIsNotDeleted : State → Type 0
+OnlyGoodReplicaIsNotDeleted M =
+    (b s : ℕ) (i : BlockInfo) → get M.holdings.blocks b ≡ Some i
     → ((t : ℕ) (m : Marks) → get M.holdings.replicas (replica_at b t) ≡ Some m → m.tag ≡ Good → t ≡ s)
     → IsDeleteCommanded M (replica_at b s) → ⊥
 
 -- Where a round commands the delete of a replica of a known block, another replica of the block is live after the round, and the
 -- round does not command its delete.
-abbrev pub LastGoodReplicaStays : Type 0
-LastGoodReplicaStays =
-    (M : State) (b s : ℕ) (i : BlockInfo) → IsLawful M → get M.holdings.blocks b ≡ Some i → IsDeleteCommanded M (replica_at b s)
+abbrev pub LastGoodReplicaStays : State → Type 0
+LastGoodReplicaStays M =
+    (b s : ℕ) (i : BlockInfo) → get M.holdings.blocks b ≡ Some i → IsDeleteCommanded M (replica_at b s)
     → (t : ℕ) × (has (live_after M b) t ≡ true) × (IsDeleteCommanded M (replica_at b t) → ⊥) × (t ≡ s → ⊥)
 
 -- More than that: as many replicas of the block as are wanted are live after the round, and one at least is wanted.
-abbrev pub EnoughStayLive : Type 0
-EnoughStayLive =
-    (M : State) (b s : ℕ) (i : BlockInfo) → IsLawful M → get M.holdings.blocks b ≡ Some i → IsDeleteCommanded M (replica_at b s)
+abbrev pub EnoughStayLive : State → Type 0
+EnoughStayLive M =
+    (b s : ℕ) (i : BlockInfo) → get M.holdings.blocks b ≡ Some i → IsDeleteCommanded M (replica_at b s)
     → (1 ≤ i.repl) × (i.repl ≤ length (live_after M b))
 
 -- what is live after a round, the round does not command to delete
@@ -61,9 +60,9 @@ abbrev pub OnlyWhatMayBeDeleted : Type 0
 OnlyWhatMayBeDeleted = (M : State) (q : ReplicaId) → IsDeleteCommanded M q → MayBeDeleted M q
 
 -- a corrupt one only where as many of its block as are wanted are live
-abbrev pub CorruptWaitsForLive : Type 0
-CorruptWaitsForLive =
-    (M : State) (q : ReplicaId) (m : Marks) → IsLawful M → IsDeleteCommanded M q → get (started M).holdings.replicas q ≡ Some m → is_corrupt m.tag ≡ true
+abbrev pub CorruptWaitsForLive : State → Type 0
+CorruptWaitsForLive M =
+    (q : ReplicaId) (m : Marks) → IsDeleteCommanded M q → get (started M).holdings.replicas q ≡ Some m → is_corrupt m.tag ≡ true
     → (i : BlockInfo) × (get M.holdings.blocks q.block ≡ Some i) × (i.repl ≤ length (live_marked M q.block))
 
 -- what was ordered before the round is not commanded again
@@ -81,9 +80,9 @@ IsToBeDeleted M q m =
     ⊎ ((is_corrupt m.tag ≡ true) × ((i : BlockInfo) × (get M.holdings.blocks q.block ≡ Some i) × (i.repl ≤ length (live_marked M q.block)))))
 
 -- What is to be deleted is commanded to be deleted, but where its node is commanded as many deletes as the limit says.
-abbrev pub OnlyTheLimitDefers : Type 0
-OnlyTheLimitDefers =
-    (M : State) (q : ReplicaId) (m : Marks) (n : ℕ) → IsLawful M → 1 ≤ M.limits.invalidate
+abbrev pub OnlyTheLimitDefers : State → Type 0
+OnlyTheLimitDefers M =
+    (q : ReplicaId) (m : Marks) (n : ℕ) → 1 ≤ M.limits.invalidate
     → get (started M).holdings.replicas q ≡ Some m → m.ordered ≡ false → IsToBeDeleted M q m → node_of M.cluster q.storage ≡ Some n
     → IsDeleteCommanded M q ⊎ ((k : NodeCommands) × IsAmong (whole_round M).0.nodes k × (k.node ≡ n) × (M.limits.invalidate ≤ length k.deletes))
 
@@ -100,6 +99,6 @@ OrderedReplicaIsNotUsable =
 abbrev pub GoodReplicaIsLeftByAllRounds : Type 0
 GoodReplicaIsLeftByAllRounds =
     (config : Config) (ks : List Call) (b s : ℕ) (i : BlockInfo)
-    → let M = state_after (first_state config) ks in IsLawful M → get M.holdings.blocks b ≡ Some i → IsDeleteCommanded M (replica_at b s)
+    → let M = state_after (first_state config) ks in get M.holdings.blocks b ≡ Some i → IsDeleteCommanded M (replica_at b s)
     → (t : ℕ) × (m : Marks) × (get (after_round M).holdings.replicas (replica_at b t) ≡ Some m) × (m.tag ≡ Good) × (m.excess ≡ false) × (m.ordered ≡ false)
     × (is_draining M.cluster t ≡ false)

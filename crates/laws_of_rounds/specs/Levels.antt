@@ -8,7 +8,6 @@ use Rattle.bm_base.specs.State.{Cluster, Holdings, State}
 use Rattle.bm_base.specs.Lists.{has}
 use Rattle.bm_base.specs.Replicas.{live, drained, rack_of}
 use Rattle.bm_base.specs.Levels.{level, level_of}
-use Rattle.bm_base.specs.Lawful.{IsLawful}
 use Rattle.bm_base.specs.Queries.{missing_blocks}
 use Rattle.bm_base.specs.Events.{set_replication}
 
@@ -24,15 +23,15 @@ need (Some NoUsableReplica) = 5
 abbrev pub UnknownBlockHasNoLevel : Type 0
 UnknownBlockHasNoLevel = (C : Cluster) (H : Holdings) (b : ℕ) → get H.blocks b ≡ None → level C H b ≡ None
 
-abbrev pub LevelFourIsNoUsableReplica : Type 0
-LevelFourIsNoUsableReplica =
-    (M : State) (b : ℕ) (i : BlockInfo) → IsLawful M → get M.holdings.blocks b ≡ Some i
+abbrev pub LevelFourIsNoUsableReplica : State → Type 0
+LevelFourIsNoUsableReplica M =
+    (b : ℕ) (i : BlockInfo) → get M.holdings.blocks b ≡ Some i
     → (level M.cluster M.holdings b ≡ Some NoUsableReplica) ↔ ((length (live M.cluster M.holdings b) ≡ 0) × (length (drained M.cluster M.holdings b) ≡ 0))
 
 -- with no live replica and a drained one a block is the first to be copied, and not missing
-abbrev pub OnlyDrainedIsLevelZero : Type 0
-OnlyDrainedIsLevelZero =
-    (M : State) (b : ℕ) (i : BlockInfo) → IsLawful M → get M.holdings.blocks b ≡ Some i
+abbrev pub OnlyDrainedIsLevelZero : State → Type 0
+OnlyDrainedIsLevelZero M =
+    (b : ℕ) (i : BlockInfo) → get M.holdings.blocks b ≡ Some i
     → length (live M.cluster M.holdings b) ≡ 0 → 1 ≤ length (drained M.cluster M.holdings b)
     → (level M.cluster M.holdings b ≡ Some Highest) × (has (missing_blocks M.cluster M.holdings) b ≡ false)
 
@@ -44,15 +43,15 @@ AreOnOneRack C ss = (s t : ℕ) → has ss s ≡ true → has ss t ≡ true → 
 abbrev pub HasTwoRacks : Cluster → Type 0
 HasTwoRacks C = (n : ℕ) × (k : ℕ) × (r : ℕ) × (q : ℕ) × (get C.nodes n ≡ Some r) × (get C.nodes k ≡ Some q) × (r ≡ q → ⊥)
 
-abbrev pub LevelThreeIsOneRack : Type 0
-LevelThreeIsOneRack =
-    (M : State) (b : ℕ) (i : BlockInfo) → IsLawful M → get M.holdings.blocks b ≡ Some i
+abbrev pub LevelThreeIsOneRack : State → Type 0
+LevelThreeIsOneRack M =
+    (b : ℕ) (i : BlockInfo) → get M.holdings.blocks b ≡ Some i
     → (level M.cluster M.holdings b ≡ Some BadlyDistributed)
     ↔ ((2 ≤ i.repl) × (i.repl ≤ length (live M.cluster M.holdings b)) × AreOnOneRack M.cluster (live M.cluster M.holdings b) × HasTwoRacks M.cluster)
 
 abbrev pub ShortOfReplicas : Type 0
 ShortOfReplicas =
-    (M : State) (b : ℕ) (i : BlockInfo) → IsLawful M → get M.holdings.blocks b ≡ Some i
+    (M : State) (b : ℕ) (i : BlockInfo) → get M.holdings.blocks b ≡ Some i
     → (2 ≤ need (level M.cluster M.holdings b)) ↔ (length (live M.cluster M.holdings b) < i.repl)
 
 -- so many are live, on so many racks, and so many drained; `repl` are wanted, and then `more`

@@ -1,4 +1,5 @@
 -- The laws, each a statement that is read aloud.
+pub mod States
 pub mod Levels
 pub mod Live
 pub mod Surplus

@@ -9,7 +9,6 @@ use Rattle.bm_base.specs.State.{State, replica_at}
 use Rattle.bm_base.specs.Lists.{has}
 use Rattle.bm_base.specs.Replicas.{rack_of, is_draining}
 use Rattle.bm_base.specs.Excess.{started}
-use Rattle.bm_base.specs.Lawful.{IsLawful}
 use Rattle.bm_base.specs.NextRound.{live_unmarked, live_marked, live_after, drained_unmarked, drained_marked, drained_after}
 
 -- Before a round marks, live are the good replicas on nodes that do not drain, but those in excess of which the delete was
@@ -47,9 +46,9 @@ abbrev pub MarkingMakesNoneLive : Type 0
 MarkingMakesNoneLive = (M : State) (b s : ℕ) → has (live_marked M b) s ≡ true → has (live_unmarked M b) s ≡ true
 
 -- Where two live replicas of a block share a rack once the round has marked, each rack that had a live one has one still.
-abbrev pub LastOfRackStays : Type 0
-LastOfRackStays =
-    (M : State) (b s t u : ℕ) → IsLawful M → has (live_unmarked M b) s ≡ true
+abbrev pub LastOfRackStays : State → Type 0
+LastOfRackStays M =
+    (b s t u : ℕ) → has (live_unmarked M b) s ≡ true
     → has (live_marked M b) t ≡ true → has (live_marked M b) u ≡ true → (t ≡ u → ⊥) → rack_of M.cluster t ≡ rack_of M.cluster u
     → (v : ℕ) × (has (live_marked M b) v ≡ true) × (rack_of M.cluster v ≡ rack_of M.cluster s)
 

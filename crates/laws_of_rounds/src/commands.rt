@@ -1,4 +1,5 @@
 // What nodes are commanded, and what stands of it in the state.
+ghost use Rattle.laws_of_rounds.specs.States.{InLawfulStates, AfterAllCalls};
 ghost use Rattle.laws_of_rounds.specs.Commands as law;
 
 /// A round commands each node transfers from its own storages, and deletes on its own storages.
@@ -14,7 +15,8 @@ pub fn first_two_of_a_node()
 
 /// In a lawful state, each transfer that a round chooses it commands.
 pub fn chosen_transfer_is_commanded()
-    ensures { law.ChosenTransferIsCommanded }
+    ensures lawful { InLawfulStates law.ChosenTransferIsCommanded }
+    ensures reached { AfterAllCalls law.ChosenTransferIsCommanded }
 {}
 
 /// A replica of which a round commands the delete is there, and is ordered to be deleted once the round is over.

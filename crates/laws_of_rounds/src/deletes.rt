@@ -1,23 +1,27 @@
 // Which replicas a round commands to delete. The first laws say that no round takes a block's last good replica.
+ghost use Rattle.laws_of_rounds.specs.States.{InLawfulStates, AfterAllCalls};
 ghost use Rattle.laws_of_rounds.specs.Deletes as law;
 
 /// No round commands the delete of a block's last good replica: in a lawful state a round does not command the delete of the only
 /// good replica of a known block, in excess or not.
 pub fn only_good_replica_is_not_deleted()
-    ensures { law.OnlyGoodReplicaIsNotDeleted }
+    ensures lawful { InLawfulStates law.OnlyGoodReplicaIsNotDeleted }
+    ensures reached { AfterAllCalls law.OnlyGoodReplicaIsNotDeleted }
 {}
 
 /// More than that: in a lawful state, where a round commands the delete of a replica of a known block, another replica of the
 /// block is live after the round, that is, good and not in excess, on a node that does not drain, and the round does not command
 /// its delete.
 pub fn last_good_replica_stays()
-    ensures { law.LastGoodReplicaStays }
+    ensures lawful { InLawfulStates law.LastGoodReplicaStays }
+    ensures reached { AfterAllCalls law.LastGoodReplicaStays }
 {}
 
 /// And more: in a lawful state, where a round commands the delete of a replica of a known block, as many replicas of the
 /// block as are wanted are live after the round, and one at least is wanted.
 pub fn enough_stay_live()
-    ensures { law.EnoughStayLive }
+    ensures lawful { InLawfulStates law.EnoughStayLive }
+    ensures reached { AfterAllCalls law.EnoughStayLive }
 {}
 
 /// In any state, a round commands the delete of no replica that is live after it.
@@ -37,7 +41,8 @@ pub fn only_stray_excess_or_corrupt_is_deleted()
 
 /// A round commands the delete of a corrupt replica only where as many replicas of its block as are wanted are live.
 pub fn corrupt_waits_for_live()
-    ensures { law.CorruptWaitsForLive }
+    ensures lawful { InLawfulStates law.CorruptWaitsForLive }
+    ensures reached { AfterAllCalls law.CorruptWaitsForLive }
 {}
 
 /// A round commands the delete of no replica of which it was commanded before, unless the replica was reported since.
@@ -53,7 +58,8 @@ pub fn at_most_invalidate_a_node()
 /// In a lawful state, each replica that is stray, in excess, or corrupt with enough of its block live, is commanded to be deleted,
 /// unless it is ordered already, or its node is commanded as many deletes as the limit says, which is one at least.
 pub fn only_the_limit_defers()
-    ensures { law.OnlyTheLimitDefers }
+    ensures lawful { InLawfulStates law.OnlyTheLimitDefers }
+    ensures reached { AfterAllCalls law.OnlyTheLimitDefers }
 {}
 
 /// Whatever calls were made, a replica of which a round commanded the delete, and which was not reported since, is neither live

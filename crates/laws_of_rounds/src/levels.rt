@@ -1,4 +1,5 @@
 // How urgently blocks want replicas.
+ghost use Rattle.laws_of_rounds.specs.States.{InLawfulStates, AfterAllCalls};
 ghost use Rattle.laws_of_rounds.specs.Levels as law;
 
 /// A block that is not known has no level. A known one has one level or none, since `level` is a function.
@@ -8,18 +9,21 @@ pub fn unknown_block_has_no_level()
 
 /// In a lawful state a known block has level 4 exactly where no replica of it is live, and none is drained.
 pub fn level_four_is_no_usable_replica()
-    ensures { law.LevelFourIsNoUsableReplica }
+    ensures lawful { InLawfulStates law.LevelFourIsNoUsableReplica }
+    ensures reached { AfterAllCalls law.LevelFourIsNoUsableReplica }
 {}
 
 /// In a lawful state a known block with no live replica, but a drained one, has level 0, and so is not missing.
 pub fn only_drained_is_level_zero()
-    ensures { law.OnlyDrainedIsLevelZero }
+    ensures lawful { InLawfulStates law.OnlyDrainedIsLevelZero }
+    ensures reached { AfterAllCalls law.OnlyDrainedIsLevelZero }
 {}
 
 /// In a lawful state a known block has level 3 exactly where two or more replicas are wanted, as many are live, all of these stand
 /// on one rack, and the alive nodes stand on two racks or more.
 pub fn level_three_is_one_rack()
-    ensures { law.LevelThreeIsOneRack }
+    ensures lawful { InLawfulStates law.LevelThreeIsOneRack }
+    ensures reached { AfterAllCalls law.LevelThreeIsOneRack }
 {}
 
 /// In a lawful state a known block has level 0, 1, 2 or 4 exactly where fewer replicas are live than are wanted.

@@ -1,4 +1,5 @@
 // Which live replicas a round marks as being too many.
+ghost use Rattle.laws_of_rounds.specs.States.{InLawfulStates, AfterAllCalls};
 ghost use Rattle.laws_of_rounds.specs.Surplus as law;
 
 /// Before a round marks, live are the good replicas on nodes that do not drain, but those in excess of which the delete was
@@ -30,7 +31,8 @@ pub fn marking_makes_none_live()
 
 /// In a lawful state a round marks no block's last live replica on a rack while another rack has two or more of them.
 pub fn last_of_rack_stays()
-    ensures { law.LastOfRackStays }
+    ensures lawful { InLawfulStates law.LastOfRackStays }
+    ensures reached { AfterAllCalls law.LastOfRackStays }
 {}
 
 /// A round leaves of each known block as many live replicas as are wanted, or all of them where there are no more than that.

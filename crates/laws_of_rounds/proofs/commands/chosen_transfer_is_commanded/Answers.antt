@@ -1,5 +1,16 @@
+use Rattle.bm_base.specs.Lawful.{IsOrderly}
+use Rattle.bm_base.specs.State.{State}
+use Rattle.bm_base.proofs.Orderly.{calls_orderly}
+use Rattle.bm_base.proofs.Rounding.{orderly}
 use Rattle.laws_of_rounds.proofs.Told.{chosen_told}
+use Rattle.laws_of_rounds.specs.Commands.{ChosenTransferIsCommanded}
 use Rattle.laws_of_rounds.proofs.commands.chosen_transfer_is_commanded.Goals as goal
 
-pub returns : goal.returns
-returns c = chosen_told
+in_orderly : (M : State) → IsOrderly M → ChosenTransferIsCommanded M
+in_orderly M O = λ t. chosen_told M t O
+
+pub returns-clause-lawful : goal.returns-clause-lawful
+returns-clause-lawful c = λ M L. in_orderly M (orderly M L)
+
+pub returns-clause-reached : goal.returns-clause-reached
+returns-clause-reached c = λ config ks. in_orderly _ (calls_orderly config ks)

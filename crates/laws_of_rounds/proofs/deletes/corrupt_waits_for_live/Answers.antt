@@ -1,6 +1,17 @@
-use Rattle.laws_of_rounds.proofs.Reasons.{corrupt_waits}
+use Rattle.bm_base.specs.Lawful.{IsOrderly}
+use Rattle.bm_base.specs.State.{State}
+use Rattle.bm_base.proofs.Orderly.{calls_orderly}
+use Rattle.bm_base.proofs.Rounding.{orderly}
 use Rattle.bm_base.proofs.Tested.{tested}
+use Rattle.laws_of_rounds.proofs.Reasons.{corrupt_waits}
+use Rattle.laws_of_rounds.specs.Deletes.{CorruptWaitsForLive}
 use Rattle.laws_of_rounds.proofs.deletes.corrupt_waits_for_live.Goals as goal
 
-pub returns : goal.returns
-returns c = λ M q m lawful h. corrupt_waits M q m lawful (tested M q h)
+in_orderly : (M : State) → IsOrderly M → CorruptWaitsForLive M
+in_orderly M O = λ q m h. corrupt_waits M q m O (tested M q h)
+
+pub returns-clause-lawful : goal.returns-clause-lawful
+returns-clause-lawful c = λ M L. in_orderly M (orderly M L)
+
+pub returns-clause-reached : goal.returns-clause-reached
+returns-clause-reached c = λ config ks. in_orderly _ (calls_orderly config ks)

@@ -1,7 +1,17 @@
-use Rattle.bm_base.specs.State.{replica_at}
+use Rattle.bm_base.specs.Lawful.{IsOrderly}
+use Rattle.bm_base.specs.State.{State, replica_at}
 use Rattle.bm_base.proofs.Kept.{enough_stay}
+use Rattle.bm_base.proofs.Orderly.{calls_orderly}
+use Rattle.bm_base.proofs.Rounding.{orderly}
 use Rattle.bm_base.proofs.Tested.{tested}
+use Rattle.laws_of_rounds.specs.Deletes.{EnoughStayLive}
 use Rattle.laws_of_rounds.proofs.deletes.enough_stay_live.Goals as goal
 
-pub returns : goal.returns
-returns c = λ M b s i lawful known h. enough_stay M b s i lawful known (tested M (replica_at b s) h)
+in_orderly : (M : State) → IsOrderly M → EnoughStayLive M
+in_orderly M O = λ b s i known h. enough_stay M b s i O known (tested M (replica_at b s) h)
+
+pub returns-clause-lawful : goal.returns-clause-lawful
+returns-clause-lawful c = λ M L. in_orderly M (orderly M L)
+
+pub returns-clause-reached : goal.returns-clause-reached
+returns-clause-reached c = λ config ks. in_orderly _ (calls_orderly config ks)

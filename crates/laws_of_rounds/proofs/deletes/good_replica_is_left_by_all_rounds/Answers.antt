@@ -1,9 +1,10 @@
 use Rattle.bm_base.specs.State.{first_state, replica_at}
 use Rattle.bm_base.specs.Calls.{state_after}
+use Rattle.bm_base.proofs.Orderly.{calls_orderly}
 use Rattle.laws_of_rounds.proofs.Ordered.{done_reached, good_stays}
 use Rattle.bm_base.proofs.Tested.{tested}
 use Rattle.laws_of_rounds.proofs.deletes.good_replica_is_left_by_all_rounds.Goals as goal
 
 pub returns : goal.returns
-returns c = λ config ks b s i lawful known h.
-    good_stays (state_after (first_state config) ks) b s i (done_reached config ks) lawful known (tested (state_after (first_state config) ks) (replica_at b s) h)
+returns c = λ config ks b s i known h.
+    good_stays (state_after (first_state config) ks) b s i (done_reached config ks) (calls_orderly config ks) known (tested (state_after (first_state config) ks) (replica_at b s) h)

@@ -1,9 +1,19 @@
-use Rattle.bm_base.specs.State.{replica_at}
+use Rattle.bm_base.specs.Lawful.{IsOrderly}
+use Rattle.bm_base.specs.State.{State, replica_at}
 use Rattle.bm_base.proofs.Kept.{one_stays}
+use Rattle.bm_base.proofs.Orderly.{calls_orderly}
+use Rattle.bm_base.proofs.Rounding.{orderly}
 use Rattle.bm_base.proofs.Tested.{tested}
+use Rattle.laws_of_rounds.specs.Deletes.{LastGoodReplicaStays}
 use Rattle.laws_of_rounds.proofs.deletes.last_good_replica_stays.Goals as goal
 
-pub returns : goal.returns
-returns c = λ M b s i lawful known h.
-    let left = one_stays M b s i lawful known (tested M (replica_at b s) h) in
+in_orderly : (M : State) → IsOrderly M → LastGoodReplicaStays M
+in_orderly M O = λ b s i known h.
+    let left = one_stays M b s i O known (tested M (replica_at b s) h) in
     (left.0, left.1, λ again. left.2 (tested M (replica_at b left.0) again), left.3)
+
+pub returns-clause-lawful : goal.returns-clause-lawful
+returns-clause-lawful c = λ M L. in_orderly M (orderly M L)
+
+pub returns-clause-reached : goal.returns-clause-reached
+returns-clause-reached c = λ config ks. in_orderly _ (calls_orderly config ks)

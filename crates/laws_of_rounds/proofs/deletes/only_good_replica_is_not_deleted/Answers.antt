@@ -1,7 +1,17 @@
-use Rattle.bm_base.specs.State.{replica_at}
+use Rattle.bm_base.specs.Lawful.{IsOrderly}
+use Rattle.bm_base.specs.State.{State, replica_at}
 use Rattle.bm_base.proofs.LastGood.{only_good_stays}
+use Rattle.bm_base.proofs.Orderly.{calls_orderly}
+use Rattle.bm_base.proofs.Rounding.{orderly}
 use Rattle.bm_base.proofs.Tested.{tested}
+use Rattle.laws_of_rounds.specs.Deletes.{OnlyGoodReplicaIsNotDeleted}
 use Rattle.laws_of_rounds.proofs.deletes.only_good_replica_is_not_deleted.Goals as goal
 
-pub returns : goal.returns
-returns c = λ M b s i lawful known only h. only_good_stays M b s i lawful known only (tested M (replica_at b s) h)
+in_orderly : (M : State) → IsOrderly M → OnlyGoodReplicaIsNotDeleted M
+in_orderly M O = λ b s i known only h. only_good_stays M b s i O known only (tested M (replica_at b s) h)
+
+pub returns-clause-lawful : goal.returns-clause-lawful
+returns-clause-lawful c = λ M L. in_orderly M (orderly M L)
+
+pub returns-clause-reached : goal.returns-clause-reached
+returns-clause-reached c = λ config ks. in_orderly _ (calls_orderly config ks)

@@ -1,5 +1,16 @@
+use Rattle.bm_base.specs.Lawful.{IsOrderly}
+use Rattle.bm_base.specs.State.{State}
+use Rattle.bm_base.proofs.Orderly.{calls_orderly}
+use Rattle.bm_base.proofs.Rounding.{orderly}
 use Rattle.laws_of_rounds.proofs.Deferred.{only_limit}
+use Rattle.laws_of_rounds.specs.Deletes.{OnlyTheLimitDefers}
 use Rattle.laws_of_rounds.proofs.deletes.only_the_limit_defers.Goals as goal
 
-pub returns : goal.returns
-returns c = only_limit
+in_orderly : (M : State) → IsOrderly M → OnlyTheLimitDefers M
+in_orderly M O = λ q m n. only_limit M q m n O
+
+pub returns-clause-lawful : goal.returns-clause-lawful
+returns-clause-lawful c = λ M L. in_orderly M (orderly M L)
+
+pub returns-clause-reached : goal.returns-clause-reached
+returns-clause-reached c = λ config ks. in_orderly _ (calls_orderly config ks)

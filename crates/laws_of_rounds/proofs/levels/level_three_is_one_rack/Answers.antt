@@ -1,5 +1,16 @@
+use Rattle.bm_base.specs.Lawful.{IsOrderly}
+use Rattle.bm_base.specs.State.{State}
+use Rattle.bm_base.proofs.Orderly.{calls_orderly}
+use Rattle.bm_base.proofs.Rounding.{orderly}
 use Rattle.laws_of_rounds.proofs.OneRack.{level_three}
+use Rattle.laws_of_rounds.specs.Levels.{LevelThreeIsOneRack}
 use Rattle.laws_of_rounds.proofs.levels.level_three_is_one_rack.Goals as goal
 
-pub returns : goal.returns
-returns c = level_three
+in_orderly : (M : State) → IsOrderly M → LevelThreeIsOneRack M
+in_orderly M O = λ b i. level_three M b i O
+
+pub returns-clause-lawful : goal.returns-clause-lawful
+returns-clause-lawful c = λ M L. in_orderly M (orderly M L)
+
+pub returns-clause-reached : goal.returns-clause-reached
+returns-clause-reached c = λ config ks. in_orderly _ (calls_orderly config ks)

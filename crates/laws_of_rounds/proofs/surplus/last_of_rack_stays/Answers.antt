@@ -1,5 +1,16 @@
+use Rattle.bm_base.specs.Lawful.{IsOrderly}
+use Rattle.bm_base.specs.State.{State}
+use Rattle.bm_base.proofs.Orderly.{calls_orderly}
+use Rattle.bm_base.proofs.Rounding.{orderly}
 use Rattle.laws_of_rounds.proofs.Racked.{last_stays}
+use Rattle.laws_of_rounds.specs.Surplus.{LastOfRackStays}
 use Rattle.laws_of_rounds.proofs.surplus.last_of_rack_stays.Goals as goal
 
-pub returns : goal.returns
-returns c = last_stays
+in_orderly : (M : State) → IsOrderly M → LastOfRackStays M
+in_orderly M O = λ b s t u. last_stays M b s t u O
+
+pub returns-clause-lawful : goal.returns-clause-lawful
+returns-clause-lawful c = λ M L. in_orderly M (orderly M L)
+
+pub returns-clause-reached : goal.returns-clause-reached
+returns-clause-reached c = λ config ks. in_orderly _ (calls_orderly config ks)
