@@ -11,14 +11,14 @@ use Rattle.bm_base.specs.Excess.{begun, started}
 use Rattle.bm_base.specs.Rounds.{whole_round}
 use Rattle.bm_base.specs.Calls.{step, refused_or, counted, state_after}
 use Rattle.bm_base.specs.Answering.{is_refused, wants_memory, state_left, MayAnswerAll, state_left_by}
-use Rattle.bm_base.specs.Lawful.{IsLawful}
+use Rattle.bm_base.specs.Lawful.{IsLawful, IsOrderly}
 use Rattle.bm_base.specs.Fitting.{HasFittingStart, FitsCall, FitCalls}
 use Rattle.bm_base.proofs.Each.{Each, each_all}
 use Rattle.bm_base.proofs.Checks.{round_accepted}
-use Rattle.bm_base.proofs.First.{first_lawful}
+use Rattle.bm_base.proofs.First.{first_lawful, first_orderly}
 use Rattle.bm_base.proofs.Rounding.{round_lawful}
 use Rattle.bm_base.proofs.Accepting.{event_lawful}
-use Rattle.bm_base.proofs.Orderly.{by_refusal}
+use Rattle.bm_base.proofs.Orderly.{by_refusal, step_orderly}
 
 pub step_lawful : (M : State) (k : Call) → IsLawful M → FitsCall k → IsLawful (step M k).1
 unfolding step
@@ -61,14 +61,22 @@ lawful_after M (k ∷ ks) L h = lawful_after (step M k).1 ks (step_lawful M k L 
 pub lawful_from_first : (c : Config) (ks : List Call) → HasFittingStart c → FitCalls ks → IsLawful (state_after (first_state c) ks)
 lawful_from_first c ks start h = lawful_after (first_state c) ks (first_lawful c start) (each_all FitsCall ks h)
 
-either_state : (b : Bool) (M N : State) → IsLawful M → IsLawful N → IsLawful (if b then M else N)
-either_state true M N L K = L
-either_state false M N L K = K
+either_state : (P : State → Type 0) (b : Bool) (M N : State) → P M → P N → P (if b then M else N)
+either_state P true M N L K = L
+either_state P false M N L K = K
 
 lawful_left : (M : State) (ks : List Call) (answers : List Answer) → IsLawful M → Each FitsCall ks → IsLawful (state_left_by step M ks answers)
 lawful_left M [] answers L h = L
 lawful_left M (k ∷ ks) [] L h = L
-lawful_left M (k ∷ ks) (a ∷ rest) L h = lawful_left (state_left step M k a) ks rest (either_state (wants_memory a) M (step M k).1 L (step_lawful M k L h.0)) h.1
+lawful_left M (k ∷ ks) (a ∷ rest) L h = lawful_left (state_left step M k a) ks rest (either_state IsLawful (wants_memory a) M (step M k).1 L (step_lawful M k L h.0)) h.1
 
 pub lawful_left_from_first : (c : Config) (ks : List Call) (answers : List Answer) → HasFittingStart c → FitCalls ks → MayAnswerAll step (first_state c) ks answers → IsLawful (state_left_by step (first_state c) ks answers)
 lawful_left_from_first c ks answers start h may = lawful_left (first_state c) ks answers (first_lawful c start) (each_all FitsCall ks h)
+
+orderly_left : (M : State) (ks : List Call) (answers : List Answer) → IsOrderly M → IsOrderly (state_left_by step M ks answers)
+orderly_left M [] answers L = L
+orderly_left M (k ∷ ks) [] L = L
+orderly_left M (k ∷ ks) (a ∷ rest) L = orderly_left (state_left step M k a) ks rest (either_state IsOrderly (wants_memory a) M (step M k).1 L (step_orderly M k L))
+
+pub orderly_left_from_first : (c : Config) (ks : List Call) (answers : List Answer) → MayAnswerAll step (first_state c) ks answers → IsOrderly (state_left_by step (first_state c) ks answers)
+orderly_left_from_first c ks answers may = orderly_left (first_state c) ks answers (first_orderly c)

@@ -1,4 +1,4 @@
--- Lawful states in plain words.
+-- Orderly states in plain words.
 use Rattle.std.proofs.Common.{◌≡◌, ◌≢◌, ℕ, Bool, true, false, not, ◌&&◌, Some, None, is_some, refl, sym, ap, ◌∙◌, eqb-true, eq-eqb, true≢false}
 use Rattle.std.specs.Prelude.{◌==◌}
 use Rattle.std.specs.Option.{option_map_or}
@@ -10,10 +10,10 @@ use Rattle.bm_base.specs.Map.{get, contains_key}
 use Rattle.bm_base.specs.State.{Cluster, State, first_state}
 use Rattle.bm_base.specs.Calls.{state_after}
 use Rattle.bm_base.specs.Replicas.{is_good, is_stray, drains, is_draining, node_of, has_storage, are_sisters}
-use Rattle.bm_base.specs.Lawful.{IsLawful, IsLawfulCluster}
+use Rattle.bm_base.specs.Lawful.{IsOrderly, IsLawfulCluster}
 use Rattle.bm_base.proofs.Options.{there, not_there}
 use Rattle.bm_base.proofs.Clusters.{node_is, is_on}
-use Rattle.laws_of_events.proofs.Leading.{lawful_from_first}
+use Rattle.bm_base.proofs.Orderly.{calls_orderly}
 use Rattle.laws_of_events.proofs.Arriving.{still_to_come}
 use Rattle.laws_of_events.proofs.Spared.{node_off, none_sent_there}
 use Rattle.laws_of_events.specs.PlainWords as law
@@ -56,7 +56,7 @@ redone : (a b : Bool) → a ≡ not b → a ≡ false → b ≡ true
 redone a true e h = refl
 redone a false e h = absurd (true≢false (sym e ∙ h))
 
-pub plainly : (M : State) → IsLawful M → ((p : ReplicaId) → is_some (get M.holdings.pending p) ≡ true → get M.holdings.replicas p ≡ None)
+pub plainly : (M : State) → IsOrderly M → ((p : ReplicaId) → is_some (get M.holdings.pending p) ≡ true → get M.holdings.replicas p ≡ None)
     → ((p : ReplicaId) → is_some (get M.holdings.pending p) ≡ true → is_draining M.cluster p.storage ≡ false) → law.SoundState M
 unfolding drains
 plainly M L coming spares =
@@ -80,4 +80,4 @@ plainly M L coming spares =
     }
 
 pub sound_from_first : law.calls_lead_to_sound
-sound_from_first c ks start fit = plainly (state_after (first_state c) ks) (lawful_from_first c ks start fit) (still_to_come c ks) (none_sent_there c ks)
+sound_from_first c ks = plainly (state_after (first_state c) ks) (calls_orderly c ks) (still_to_come c ks) (none_sent_there c ks)

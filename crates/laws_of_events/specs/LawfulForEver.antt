@@ -11,7 +11,7 @@ use Rattle.bm_base.specs.Refusals.{refusal_of, round_refusal}
 use Rattle.bm_base.specs.Rounds.{whole_round}
 use Rattle.bm_base.specs.Calls.{step, after_event, counted, state_after}
 use Rattle.bm_base.specs.Answering.{is_refused, MayAnswerAll, state_left_by}
-use Rattle.bm_base.specs.Lawful.{IsLawful}
+use Rattle.bm_base.specs.Lawful.{IsLawful, IsOrderly}
 use Rattle.bm_base.specs.Fitting.{HasFittingStart, FitsEvent, FitsCall, FitCalls}
 
 -- of every configuration, allowed or not
@@ -42,6 +42,15 @@ calls_lead_to_lawful = (c : Config) (ks : List Call) → HasFittingStart c → F
 abbrev pub answered_calls_lead_to_lawful : Type 0
 answered_calls_lead_to_lawful =
     (c : Config) (ks : List Call) (answers : List Answer) → HasFittingStart c → FitCalls ks → MayAnswerAll step (first_state c) ks answers → IsLawful (state_left_by step (first_state c) ks answers)
+
+-- Whatever numbers calls bring, the state that they lead to is lawful but for the sizes of its numbers.
+
+abbrev pub calls_lead_to_orderly : Type 0
+calls_lead_to_orderly = (c : Config) (ks : List Call) → IsOrderly (state_after (first_state c) ks)
+
+abbrev pub answered_calls_lead_to_orderly : Type 0
+answered_calls_lead_to_orderly =
+    (c : Config) (ks : List Call) (answers : List Answer) → MayAnswerAll step (first_state c) ks answers → IsOrderly (state_left_by step (first_state c) ks answers)
 
 -- what is on its way to a storage is not there yet, whatever its tag
 abbrev pub IsStillToCome : State → Type 0

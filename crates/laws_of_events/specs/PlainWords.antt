@@ -11,7 +11,6 @@ use Rattle.bm_base.specs.declared.limits.TheConstants.{MAX_NODES, MAX_STORAGES, 
 use Rattle.bm_base.specs.Map.{get, len}
 use Rattle.bm_base.specs.State.{Cluster, Holdings, State, first_state}
 use Rattle.bm_base.specs.Calls.{state_after}
-use Rattle.bm_base.specs.Fitting.{HasFittingStart, FitCalls}
 
 -- the storage is there, on a node that is there
 abbrev pub IsOnAliveNode : Cluster → ℕ → Type 0
@@ -39,4 +38,4 @@ abbrev pub SoundState : State → Type 0
 SoundState M = IsSound M.cluster M.holdings
 
 abbrev pub calls_lead_to_sound : Type 0
-calls_lead_to_sound = (c : Config) (ks : List Call) → HasFittingStart c → FitCalls ks → SoundState (state_after (first_state c) ks)
+calls_lead_to_sound = (c : Config) (ks : List Call) → SoundState (state_after (first_state c) ks)

@@ -39,6 +39,16 @@ pub fn answered_calls_lead_to_lawful()
     ensures { law.answered_calls_lead_to_lawful }
 {}
 
+/// Every list of calls, whatever numbers they bring, leads to a state that is lawful but for the sizes of its numbers.
+pub fn calls_lead_to_orderly()
+    ensures { law.calls_lead_to_orderly }
+{}
+
+/// The same where memory may lack.
+pub fn answered_calls_lead_to_orderly()
+    ensures { law.answered_calls_lead_to_orderly }
+{}
+
 /// After every list of calls: what is on its way to a storage is not there yet, whatever its tag.
 pub fn transfers_are_still_to_come()
     ensures { law.transfers_are_still_to_come }

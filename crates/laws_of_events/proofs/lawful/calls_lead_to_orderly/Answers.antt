@@ -1,0 +1,5 @@
+use Rattle.bm_base.proofs.Orderly.{calls_orderly}
+use Rattle.laws_of_events.proofs.lawful.calls_lead_to_orderly.Goals as goal
+
+pub returns : goal.returns
+returns c = calls_orderly
