@@ -1,5 +1,5 @@
 -- Why a block that loses a replica by a round keeps as many live ones as are wanted.
-use Rattle.std.specs.Prelude.{◌≡◌, ℕ, zero, suc, ◌-◌, ◌≤◌, ◌⊎◌, Bool, true, false, not, ◌&&◌, ◌||◌, ◌==◌, nat_le, if◌then◌else◌, List, [], ◌∷◌, length, Option, Some, None, option_map, is_some}
+use Rattle.std.specs.Prelude.{◌≡◌, ℕ, zero, suc, ◌-◌, ◌≤◌, ◌⊎◌, Bool, true, false, not, ◌&&◌, ◌||◌, ◌==◌, nat_le, if◌then◌else◌, List, [], ◌∷◌, length, Some, None, option_map, is_some}
 use Rattle.std.specs.Option.{option_map_or}
 use Rattle.std.proofs.Common.{refl, sym, ap, subst, ◌∙◌, arith, inl, inr}
 use Rattle.std.proofs.lemmas.Bool.{leb-true, false≢true, true≢false}
@@ -18,7 +18,6 @@ use Rattle.bm_base.specs.Lawful.{IsOrderly}
 use Rattle.bm_base.proofs.MapLaws.{get-revise}
 use Rattle.bm_base.proofs.Options.{revised}
 use Rattle.bm_base.specs.NextRound.{unmarked, live_unmarked, live_marked, live_after}
-use Rattle.std.proofs.lemmas.Option.{same_Some}
 use Rattle.bm_base.proofs.Listed.{and_first, or_left, same_again}
 use Rattle.bm_base.proofs.Stands.{has_where}
 use Rattle.bm_base.proofs.Marked.{unordered_dropped, marked_in, after_marked, excess_known, marked_count}

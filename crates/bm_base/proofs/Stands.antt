@@ -1,27 +1,24 @@
 -- What stands in a map and in a block's lists of storages.
-use Rattle.std.specs.Prelude.{◌≡◌, ℕ, Bool, true, false, ◌&&◌, ◌||◌, ◌==◌, List, [], ◌∷◌, map, filter, Some, None, is_some, T}
+use Rattle.std.specs.Prelude.{◌≡◌, ℕ, Bool, true, false, ◌&&◌, ◌||◌, ◌==◌, List, [], ◌∷◌, map, filter, Some, None, T}
 use Rattle.std.specs.Option.{option_map_or}
 use Rattle.std.specs.List.{list_any}
-use Rattle.std.specs.declared.cmp.Ordering.{Ordering}
-use Rattle.std.specs.declared.cmp.Ordering.TheVariants.{Less, Equal, Greater}
-use Rattle.std.specs.Ordering.{nat_cmp, eq_by_cmp, is_eq}
+use Rattle.std.specs.Ordering.{eq_by_cmp}
 use Rattle.std.specs.FinMap.{find, is_sorted}
 use Rattle.std.specs.FinMap.Entries.{below_all}
 use Rattle.std.proofs.Common.{inl, inr, cond, refl, sym, ap, subst, ◌∙◌}
-use Rattle.std.proofs.lemmas.Bool.{cases_Bool, eqb-true, true≢false}
+use Rattle.std.proofs.lemmas.Bool.{cases_Bool, eqb-true}
 use Rattle.bm_base.specs.Conjunction.{first, second}
 use Rattle.bm_base.specs.declared.replica.ReplicaId.{ReplicaId}
 use Rattle.bm_base.specs.declared.replica.Marks.{Marks}
-use Rattle.bm_base.specs.Map.{Map, Order, by_number, get, entries, revise}
+use Rattle.bm_base.specs.Map.{Map, Order, get, entries, revise}
 use Rattle.bm_base.specs.State.{Holdings, by_replica, replica_cmp, replica_at}
 use Rattle.bm_base.specs.Lists.{has, has_repeats}
 use Rattle.bm_base.specs.Replicas.{storages_where}
 use Rattle.bm_base.proofs.MapLaws.{find_below, entries-revise}
-use Rattle.bm_base.proofs.Ties.{number_tie, replica_tie}
+use Rattle.bm_base.proofs.Ties.{replica_tie}
 use Rattle.bm_base.proofs.Clusters.{eqb_turned}
-use Rattle.bm_base.proofs.Each.{Each, each_then}
 use Rattle.bm_base.proofs.Maps.{same_key}
-use Rattle.bm_base.proofs.Listed.{any_map, any_filter, any_agree, same_again}
+use Rattle.bm_base.proofs.Listed.{any_map, any_filter, any_agree}
 
 module _ {K X : Type 0} (o : Order K) where
   -- of entries in order one at most has the key

@@ -1,8 +1,8 @@
 -- What a manager is made of is a lawful state.
-use Rattle.std.proofs.Common.{◌≡◌, ◌+◌, ◌<◌, ◌^◌, None, sym, ap, subst, ◌∙◌}
+use Rattle.std.proofs.Common.{◌≡◌, ◌+◌, None, sym, ap, subst, ◌∙◌}
 use Rattle.bm_base.specs.declared.config.Config.{Config}
 use Rattle.bm_base.specs.declared.event.Event.{Event}
-use Rattle.bm_base.specs.State.{Cluster, Holdings, State, limits_of, first_state, empty_cluster, empty_holdings}
+use Rattle.bm_base.specs.State.{Cluster, Holdings, State, limits_of, empty_cluster, empty_holdings}
 use Rattle.bm_base.specs.Events.{change_cluster, change_holdings}
 use Rattle.bm_base.specs.Refusals.{refusal_of}
 use Rattle.bm_base.specs.Calls.{after_event}

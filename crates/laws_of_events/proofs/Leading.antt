@@ -1,20 +1,17 @@
 -- Calls lead to lawful states.
-use Rattle.std.proofs.Common.{◌≡◌, ◌<◌, Bool, true, false, if◌then◌else◌, Option, Some, None, List, [], ◌∷◌, refl}
+use Rattle.std.proofs.Common.{◌≡◌, Bool, true, false, if◌then◌else◌, Option, Some, None, List, [], ◌∷◌, refl}
 use Rattle.bm_base.specs.declared.config.Config.{Config}
 use Rattle.bm_base.specs.declared.refusal.Refusal.{Refusal}
 use Rattle.bm_base.specs.declared.call.Call.{Call}
 use Rattle.bm_base.specs.declared.call.Call.TheVariants as call
 use Rattle.bm_base.specs.declared.call.Answer.{Answer}
 use Rattle.bm_base.specs.State.{State, first_state}
-use Rattle.bm_base.specs.Refusals.{refusal_of, round_refusal, node_refusal, storage_refusal, block_refusal, last_number}
-use Rattle.bm_base.specs.Excess.{begun, started}
-use Rattle.bm_base.specs.Rounds.{whole_round}
-use Rattle.bm_base.specs.Calls.{step, refused_or, counted, state_after}
+use Rattle.bm_base.specs.Refusals.{refusal_of, round_refusal, node_refusal, storage_refusal, block_refusal}
+use Rattle.bm_base.specs.Calls.{step, refused_or, state_after}
 use Rattle.bm_base.specs.Answering.{is_refused, wants_memory, state_left, MayAnswerAll, state_left_by}
 use Rattle.bm_base.specs.Lawful.{IsLawful, IsOrderly}
 use Rattle.bm_base.specs.Fitting.{HasFittingStart, FitsCall, FitCalls}
 use Rattle.bm_base.proofs.Each.{Each, each_all}
-use Rattle.bm_base.proofs.Checks.{round_accepted}
 use Rattle.bm_base.proofs.First.{first_lawful, first_orderly}
 use Rattle.bm_base.proofs.Rounding.{round_lawful}
 use Rattle.bm_base.proofs.Accepting.{event_lawful}

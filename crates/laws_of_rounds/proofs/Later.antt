@@ -1,5 +1,5 @@
 -- What one round leaves for the next.
-use Rattle.std.specs.Prelude.{◌≡◌, ℕ, zero, suc, ◌+◌, ◌-◌, ◌<◌, Bool, true, false, not, ◌&&◌, ◌||◌, ◌==◌, nat_le, if◌then◌else◌, List, [], ◌∷◌, ◌++◌, map, Option, Some, None, is_some, option_map, option_and_then}
+use Rattle.std.specs.Prelude.{◌≡◌, ℕ, zero, suc, ◌+◌, ◌-◌, ◌<◌, Bool, true, false, not, ◌&&◌, ◌||◌, ◌==◌, nat_le, if◌then◌else◌, List, [], ◌∷◌, ◌++◌, map, Option, Some, None, is_some, option_and_then}
 use Rattle.std.specs.List.{list_any}
 use Rattle.std.specs.Ordering.{eq_by_cmp}
 use Rattle.std.proofs.Common.{cond, refl, sym, ap, subst, ◌∙◌, arith}
@@ -13,7 +13,7 @@ use Rattle.bm_base.specs.State.{Holdings, State, by_replica, replica_cmp, replic
 use Rattle.bm_base.specs.Replicas.{node_of}
 use Rattle.bm_base.specs.Excess.{begun, started, marked, without_expired, without_unordered_excess}
 use Rattle.bm_base.specs.Rounds.{finished, is_commanded, whole_round}
-use Rattle.bm_base.proofs.MapLaws.{get-revise, get-keep, get-insert}
+use Rattle.bm_base.proofs.MapLaws.{get-keep, get-insert}
 use Rattle.bm_base.proofs.Ties.{replica_tie}
 use Rattle.bm_base.specs.NextRound.{IsTransferCommanded, IsAmong, deletes_commanded, transfers_commanded, transfers_chosen, after_round}
 use Rattle.laws_of_rounds.specs.Rounds.{after_rounds}

@@ -1,7 +1,7 @@
 -- What nodes are told, in order, and that all that is chosen is told.
 use Rattle.std.specs.Prelude.{◌≡◌, ℕ, ◌+◌, ◌≤◌, ◌<◌, ◌⊎◌, Bool, true, false, ◌&&◌, ◌||◌, ◌==◌, if◌then◌else◌, List, [], ◌∷◌, ◌++◌, map, filter, flat_map, length, Option, Some, None, is_some, option_map}
 use Rattle.std.specs.Option.{option_map_or}
-use Rattle.std.specs.List.{list_any, All}
+use Rattle.std.specs.List.{All}
 use Rattle.std.proofs.Common.{cond, refl, sym, ap, subst, ◌∙◌, arith, inl, inr, append_assoc}
 use Rattle.std.proofs.lemmas.Bool.{eqb-true, lt-ltb, false≢true}
 use Rattle.bm_base.specs.declared.replica.ReplicaId.{ReplicaId}
@@ -28,7 +28,7 @@ use Rattle.bm_base.proofs.Stands.{has_where}
 use Rattle.laws_of_rounds.proofs.Usable.{sources_usable}
 use Rattle.laws_of_rounds.proofs.Grouped.{has_keys, each_node, each_on_node, all_of_each}
 use Rattle.bm_base.proofs.Commanded.{IsTested, chosen_deletes_of, deleted_is}
-use Rattle.bm_base.proofs.Kept.{marks_started, marks_before, remarked, remarked_ordered, surplus_of, remarked_tag}
+use Rattle.bm_base.proofs.Kept.{marks_started, marks_before, remarked, remarked_ordered, surplus_of}
 use Rattle.bm_base.proofs.Options.{revised}
 use Rattle.bm_base.proofs.Marked.{ordered_by}
 use Rattle.bm_base.proofs.Tested.{commanded_among}

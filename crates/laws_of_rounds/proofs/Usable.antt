@@ -1,18 +1,14 @@
 -- What is usable: live or drained.
-use Rattle.std.specs.Prelude.{◌≡◌, ℕ, ◌↔◌, Bool, true, false, not, ◌&&◌, ◌||◌, ◌==◌, Option, Some, None}
+use Rattle.std.specs.Prelude.{◌≡◌, ℕ, Bool, true, false, not, ◌&&◌, ◌||◌, ◌==◌, Option, Some, None}
 use Rattle.std.specs.Option.{option_map_or}
-use Rattle.std.proofs.Common.{refl, sym, ap, ◌∙◌}
-use Rattle.std.proofs.lemmas.Bool.{false≢true}
+use Rattle.std.proofs.Common.{refl, sym, ◌∙◌}
 use Rattle.std.proofs.lemmas.List.Folds.{list_any-append}
-use Rattle.bm_base.specs.declared.replica.Tag.{Tag}
-use Rattle.bm_base.specs.declared.replica.Tag.TheVariants.{Good, Stale, Bad, Stray}
 use Rattle.bm_base.specs.declared.replica.Marks.{Marks}
 use Rattle.bm_base.specs.Map.{get}
 use Rattle.bm_base.specs.State.{Cluster, Holdings, replica_at}
 use Rattle.bm_base.specs.Lists.{has, has_repeats}
-use Rattle.bm_base.specs.Replicas.{live, drained, sources_of, is_usable, is_live_on, is_drained_on, is_draining, is_good}
+use Rattle.bm_base.specs.Replicas.{live, drained, sources_of, is_usable, is_live_on, is_drained_on, is_draining}
 use Rattle.laws_of_rounds.specs.Live.{usable}
-use Rattle.bm_base.proofs.Listed.{and_first, and_second}
 use Rattle.bm_base.proofs.Stands.{has_where, once_where}
 
 pub live_once : (C : Cluster) (H : Holdings) (b : ℕ) → has_repeats (live C H b) ≡ false

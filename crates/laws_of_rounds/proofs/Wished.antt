@@ -27,7 +27,7 @@ use Rattle.laws_of_rounds.proofs.Grouped.{grouped, has_keys, once_keys}
 use Rattle.laws_of_rounds.proofs.Choosing.{target_is}
 use Rattle.laws_of_rounds.proofs.Sending.{chosen_at, target_parts}
 use Rattle.laws_of_rounds.proofs.Racked.{share_is, share_of}
-use Rattle.laws_of_rounds.proofs.Sets.{has_distinct, racks_alike, rack_among}
+use Rattle.laws_of_rounds.proofs.Sets.{rack_among}
 
 -- Wishes for one block.
 

@@ -1,11 +1,11 @@
-use Rattle.std.proofs.Common.{◌≡◌, ◌<◌, ◌+◌, ℕ, None, ap, sym, subst, ◌∙◌}
+use Rattle.std.proofs.Common.{◌+◌, ℕ, ap, sym, subst, ◌∙◌}
 use Rattle.bm_base.specs.State.{State, Holdings}
 use Rattle.bm_base.specs.Transfers.{transfers}
 use Rattle.bm_base.specs.Deletes.{deletes}
 use Rattle.bm_base.specs.Rounds.{finished, whole_round}
 use Rattle.bm_base.specs.RoundParts.{started_holdings}
 use Rattle.bm_base.specs.Calls.{counted}
-use Rattle.bm_base.specs.Refusals.{round_refusal, last_number}
+use Rattle.bm_base.specs.Refusals.{round_refusal}
 use Rattle.bm_base.specs.Lawful.{IsLawful}
 use Rattle.bm_base.proofs.Rounding.{round_lawful}
 use Rattle.bm_manager.specs.contracts.manager.Manager.{the_view}
