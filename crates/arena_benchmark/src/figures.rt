@@ -43,3 +43,11 @@ pub fn print_memory(rt: &impl Runtime, blocks: u64, before: Option<u64>) {
         }
     }
 }
+
+/// Prints how many operations a second there are, where `count` of them took so many nanoseconds.
+pub fn print_rate(rt: &impl Runtime, what: &str, count: u64, nanos: u128) {
+    let all = u128::from(count).saturating_mul(1_000_000_000);
+    if let Some(rate) = all.checked_div(nanos) {
+        let _ = eprintln!(rt; "{what}: {rate} a second, {count} in {nanos} ns");
+    }
+}

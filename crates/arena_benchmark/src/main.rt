@@ -1,4 +1,4 @@
-//! How fast the arena's list operations are, and how much memory a replica takes.
+//! How fast the arena's list operations are, how fast full reports are over it, and how much memory a replica takes.
 //!
 //! Each argument is a number of blocks, each of which gets three replicas on 1,024 storages. What was done goes to standard
 //! output, and how long it took goes to standard error, with what the process holds in memory where the system tells it. A
@@ -6,10 +6,14 @@
 #![tactic(auto)]
 
 mod figures;
+mod passes;
 mod phases;
+mod reporting;
+mod workload;
 
 use bm_base::Refusal;
 use figures::{now, print_memory, print_time, resident_bytes};
+use passes::measure_reports;
 use phases::Blocks;
 use std::env;
 use std::process::ExitCode;
@@ -22,7 +26,7 @@ fn main(rt: HostRuntime) -> ExitCode {
     };
     for word in words.skip(1) {
         match word.as_str().parse::<u64>() {
-            Ok(count) if measure(&rt, count).is_ok() => {}
+            Ok(count) if measure(&rt, count).is_ok() && measure_reports(&rt, count).is_ok() => {}
             _ => return ExitCode::FAILURE,
         }
     }

@@ -1,10 +1,11 @@
 -- What a shard is told by the entries of a report, and what a look-up of its numbers leaves as it was.
-use Rattle.std.specs.Prelude.{◌≡◌, ◌≢◌, ℕ, ◌+◌, ◌-◌, List, map, IsSome, Some}
+use Rattle.std.specs.Prelude.{◌≡◌, ◌≢◌, ℕ, ◌+◌, ◌-◌, ◌≤◌, List, map, IsSome, Some}
 use Rattle.bm_base.specs.declared.ids.Part.{Part}
 use Rattle.bm_base.specs.declared.event.Entry.{Entry}
 use Rattle.bm_base.specs.Entries.{Told, count_up, expanded}
 use Rattle.bm_parts.specs.Parts.{told_of}
-use Rattle.bm_arena.specs.Contents.{Contents, block_at, slot_of, marks_at, list_of, HasHead, HasRoom}
+use Rattle.bm_arena.specs.Triplets.{Block}
+use Rattle.bm_arena.specs.Contents.{Contents, block_at, slot_of, marks_at, list_of, room_at, with_room, HasHead, HasRoom}
 use Rattle.bm_arena.specs.Holding.{replicas_of, blocks_of}
 
 -- what is told of a shard's numbers
@@ -31,3 +32,7 @@ pub record IsPrepared (old new : Contents) : Type 0 where
   pub held : (slot : ℕ) → IsSome (block_at old slot) → IsSome (block_at new slot)
   pub marks : (slot t : ℕ) → IsSome (block_at old slot) → marks_at new slot t ≡ marks_at old slot t
   pub room : (slot : ℕ) → slot ≢ old.delimiter → HasRoom old slot → HasRoom new slot
+  -- what a slot holds stays there, its replicas in their order, but for more room
+  pub entries : (slot : ℕ) (b : Block) → block_at old slot ≡ Some b → block_at new slot ≡ Some (with_room (room_at new slot) b)
+  pub grows : (slot : ℕ) → room_at old slot ≤ room_at new slot
+  pub bound : old.bound ≤ new.bound

@@ -16,6 +16,7 @@ mod looking;
 mod marking;
 mod notices;
 mod report;
+mod rooms;
 mod sweeping;
 mod tally;
 #[cfg(test)]

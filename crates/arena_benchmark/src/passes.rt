@@ -1,0 +1,135 @@
+// The phases of the reports, with the processor time of each.
+ghost use Rattle.std.specs.Prelude.{◌≡◌};
+ghost use Rattle.arena_benchmark.specs.Orderly.{IsOrderly};
+
+use crate::figures::print_rate;
+use crate::reporting::{Counts, NOTHING, Shard};
+use crate::workload::{order_of_storages, rising_reports, shuffle_each};
+use bm_base::{Entry, Refusal, StorageId};
+use std::rt::Runtime;
+use std::time::CpuClock;
+
+// Each phase is passed through so many times where there are few blocks, and so many where there are many; the first pass is not
+// measured.
+const PASSES: u64 = 9;
+const PASSES_OF_MANY: u64 = 4;
+const MANY: u64 = 500_000;
+
+// A phase: its name, the order of the storages, and the reports of its passes, of which two take turns.
+#[derive(Clone, Copy)]
+struct Phase<'a> {
+    name: &'a str,
+    order: &'a [StorageId],
+    even: &'a [Vec<Entry>],
+    odd: &'a [Vec<Entry>],
+}
+
+// The processor time of the thread in nanoseconds, or 0 where the system does not tell.
+fn used(rt: &impl CpuClock) -> u128 {
+    match rt.thread_cpu_time() {
+        Ok(time) => time.as_nanos(),
+        Err(_) => 0,
+    }
+}
+
+// One pass: what it did, and how long it took.
+fn pass<R: CpuClock>(
+    rt: &R,
+    shard: &mut Shard,
+    order: &[StorageId],
+    reports: &[Vec<Entry>],
+) -> Result<(Counts, u128), Refusal>
+    requires { IsOrderly shard.old.topology.cluster shard.old.arena }
+    ensures { IsOrderly shard.new.topology.cluster shard.new.arena }
+{
+    let start = used(rt);
+    let counts = shard.take_all(order, reports)?;
+    Ok((counts, used(rt).saturating_sub(start)))
+}
+
+// The one in the middle of some times.
+fn median(mut times: Vec<u128>) -> Result<u128, Refusal> {
+    times.sort()?;
+    let middle = times.len() / 2;
+    Ok(times.get(middle).copied().unwrap_or(0))
+}
+
+fn passes_over(blocks: u64) -> u64 {
+    if blocks < MANY {
+        PASSES
+    } else {
+        PASSES_OF_MANY
+    }
+}
+
+// All passes of a phase, and the median of the times of all but the first.
+fn run<R: Runtime + CpuClock + AllocGlobal>(
+    rt: &R,
+    shard: &mut Shard,
+    phase: &Phase<'_>,
+) -> Result<Counts, Refusal>
+    requires { IsOrderly shard.old.topology.cluster shard.old.arena }
+    ensures { IsOrderly shard.new.topology.cluster shard.new.arena }
+{
+    let mut counts = NOTHING;
+    let mut times = Vec::new(rt.alloc());
+    let blocks = shard.blocks();
+    for number in 0..passes_over(blocks) {
+        let reports = if number % 2 == 0 { phase.even } else { phase.odd };
+        let (more, time) = pass(rt, shard, phase.order, reports)?;
+        counts.add(more);
+        if number > 0 {
+            times.push(time)?;
+        }
+    }
+    print_rate(rt, phase.name, blocks.saturating_mul(3), median(times)?);
+    Ok(counts)
+}
+
+fn print_counts(rt: &impl Runtime, name: &str, counts: Counts) {
+    let Counts {
+        added,
+        removed,
+        changed,
+    } = counts;
+    let _ = println!(rt; "{name}: added {added}, removed {removed}, changed {changed}");
+}
+
+/// Measures the reports of all storages over so many blocks: the first ones, and then unchanged ones in the same order as
+/// before, by rising number, and in another order than before.
+pub fn measure_reports<R: Runtime + CpuClock + AllocGlobal>(
+    rt: &R,
+    blocks: u64,
+) -> Result<(), Refusal> {
+    let order = order_of_storages(rt.alloc())?;
+    let rising = rising_reports(rt.alloc(), blocks)?;
+    let mut shuffled = rising_reports(rt.alloc(), blocks)?;
+    shuffle_each(shuffled.as_mut_slice());
+    let mut shard = Shard::new(rt.alloc(), blocks)?;
+    let replicas = blocks.saturating_mul(3);
+    let (first, time) = pass(rt, &mut shard, order.as_slice(), shuffled.as_slice())?;
+    print_rate(rt, "first reports", replicas, time);
+    print_counts(rt, "first reports", first);
+    let (rising, shuffled) = (rising.as_slice(), shuffled.as_slice());
+    let order = order.as_slice();
+    measure_unchanged(rt, &mut shard, "same order", order, shuffled, shuffled)?;
+    measure_unchanged(rt, &mut shard, "rising", order, rising, rising)?;
+    measure_unchanged(rt, &mut shard, "other order", order, shuffled, rising)
+}
+
+// A phase whose passes change nothing.
+fn measure_unchanged<'x, R: Runtime + CpuClock + AllocGlobal>(
+    rt: &R,
+    shard: &mut Shard,
+    name: &'x str,
+    order: &'x [StorageId],
+    even: &'x [Vec<Entry>],
+    odd: &'x [Vec<Entry>],
+) -> Result<(), Refusal>
+    requires { IsOrderly shard.old.topology.cluster shard.old.arena }
+    ensures { IsOrderly shard.new.topology.cluster shard.new.arena }
+{
+    let counts = run(rt, shard, &Phase { name, order, even, odd })?;
+    print_counts(rt, name, counts);
+    Ok(())
+}

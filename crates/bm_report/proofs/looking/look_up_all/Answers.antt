@@ -1,0 +1,32 @@
+use Rattle.std.proofs.Common.{map, length, refl, ◌∙◌}
+use Rattle.std.proofs.lemmas.Option.{slice_get_read}
+use Rattle.bm_report.specs.Midway.{told_of}
+use Rattle.std.proofs.Common.{[]}
+use Rattle.bm_report.proofs.Aborts.{naming-chain}
+use Rattle.bm_report.proofs.Prepared.{prepared-chain}
+use Rattle.bm_report.proofs.Running.{told_on, told_end}
+use Rattle.bm_report.proofs.Naming.{named_apart, not_named, entry_named, rest_named}
+use Rattle.bm_report.proofs.looking.look_up_all.Goals as goal
+
+pub loop-entry-preserved : goal.loop-entry-preserved
+loop-entry-preserved c =
+    let at = slice_get_read c.args.entries.now (length c.args.entries.now) c.loop-entry.entry-index c.entry-item.result refl c.loop-entry-test.true c.entry-item.is in record {
+  fresh = naming-chain c.args.arena.now c.loop-entry.arena c.look_up_run.new.arena [] c.loop-entry.named.items c.look_up_run.new.named.items c.loop-entry.invariant.fresh c.look_up_run.ensures.fresh;
+  kept = prepared-chain c.args.arena.now c.loop-entry.arena c.look_up_run.new.arena c.loop-entry.invariant.kept c.look_up_run.ensures.kept;
+  here = c.in_ok-look_up_run.ensures.here;
+  others = λ b out.
+      c.look_up_run.ensures.others b (not_named _ (λ in_it. named_apart _ b out (c.loop-entry.invariant.rest b (entry_named c.args.part c.args.entries.now c.loop-entry.entry-index c.entry-item.result b at in_it)))) ∙ c.loop-entry.invariant.others b out;
+  rest = λ b in_it. c.loop-entry.invariant.rest b (rest_named c.args.part c.args.entries.now c.loop-entry.entry-index c.entry-item.result b at in_it);
+  named =
+      told_on c.args.part c.args.entries.now c.loop-entry.entry-index c.entry-item.result (map told_of c.loop-entry.named.items) (map told_of c.look_up_run.new.named.items) _ at c.loop-entry.invariant.named
+      c.in_ok-look_up_run.ensures.named;
+}
+
+pub returns-clause-named : goal.returns-clause-named
+returns-clause-named c =
+    told_end c.args.part c.args.entries.now c.loop-entry.entry-index (map told_of c.loop-entry.named.items) _ c.loop-entry-test.false c.loop-entry.invariant.named
+
+pub returns-in_err-look_up_run-clause-others : goal.returns-in_err-look_up_run-clause-others
+returns-in_err-look_up_run-clause-others c b out =
+    let at = slice_get_read c.args.entries.now (length c.args.entries.now) c.loop-entry.entry-index c.entry-item.result refl c.loop-entry-test.true c.entry-item.is in
+    c.look_up_run.ensures.others b (not_named _ (λ in_it. named_apart _ b out (c.loop-entry.invariant.rest b (entry_named c.args.part c.args.entries.now c.loop-entry.entry-index c.entry-item.result b at in_it)))) ∙ c.loop-entry.invariant.others b out
