@@ -5,6 +5,7 @@ use Rattle.std.proofs.lemmas.Bool.{ne_eqb, eq-eqb, cases_lt}
 use Rattle.std.proofs.lemmas.Nat.{div-add-mod'}
 use Rattle.std.proofs.Math.Nat.{mul-add-mod_self_right, mod-eq_of_lt}
 use Rattle.std.proofs.lemmas.List.Elements.{filter-append}
+use Rattle.std.proofs.lemmas.Grind.{flat_map-append}
 use Rattle.bm_base.specs.declared.event.Entry.{Entry}
 use Rattle.bm_base.specs.declared.ids.Part.{Part}
 use Rattle.bm_base.specs.declared.replica.Stamp.{Stamp}
@@ -13,7 +14,7 @@ use Rattle.bm_base.specs.Shards.{shard_of}
 use Rattle.bm_report.proofs.Underway.{drop_next, drop_all}
 use Rattle.bm_report.specs.Expanded.{of_part, told_to, told_from}
 
-nothing : {X : Type 0} (l : List X) → l ++ [] ≡ l
+pub nothing : {X : Type 0} (l : List X) → l ++ [] ≡ l
 nothing [] = refl
 nothing (x ∷ l) = ap (λ t. x ∷ t) (nothing l)
 
@@ -138,3 +139,16 @@ told_rest p es i e at =
 pub told_out : (p : Part) (es : List Entry) (i : ℕ) → length es ≤ i → of_part p (expanded (drop i es)) ≡ []
 unfolding expanded
 told_out p es i past = ap (λ l. of_part p (expanded l)) (drop_all es i past)
+
+-- entries in two parts
+pub told_both : (p : Part) (es fs gs : List Entry) → es ++ fs ≡ gs → told_to p gs ≡ told_to p es ++ told_to p fs
+unfolding expanded
+told_both p es fs gs whole = ap (λ l. of_part p (expanded l)) (sym whole) ∙ ap (of_part p) (flat_map-append told_by es fs) ∙ filter-append _ (expanded es) (expanded fs)
+
+pub told_parts : (p : Part) (es fs gs : List Entry) (xs ys all : List Told) → es ++ fs ≡ gs → ys ≡ xs ++ told_to p es → xs ++ told_to p gs ≡ all → ys ++ told_to p fs ≡ all
+told_parts p es fs gs xs ys all whole is so_far =
+    ap (λ l. l ++ told_to p fs) is ∙ append_assoc xs (told_to p es) (told_to p fs) ∙ ap (λ l. xs ++ l) (sym (told_both p es fs gs whole)) ∙ so_far
+
+pub told_none : (p : Part) (es : List Entry) → es ≡ [] → told_to p es ≡ []
+unfolding expanded
+told_none p es none = ap (told_to p) none

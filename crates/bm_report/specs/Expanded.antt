@@ -7,6 +7,7 @@ use Rattle.bm_parts.specs.Parts.{told_of}
 use Rattle.bm_arena.specs.Triplets.{Block}
 use Rattle.bm_arena.specs.Contents.{Contents, block_at, slot_of, marks_at, list_of, room_at, with_room, HasHead, HasRoom}
 use Rattle.bm_arena.specs.Holding.{replicas_of, blocks_of}
+use Rattle.bm_report.specs.declared.types.Known.{Known}
 
 -- what is told of a shard's numbers
 abbrev pub of_part : Part → List Told → List Told
@@ -19,6 +20,10 @@ told_to part es = of_part part (expanded es)
 -- what an entry tells of its numbers from b on
 abbrev pub told_from : Entry → ℕ → List Told
 told_from e b = map (λ n. record { id = n; stamp = e.stamp }) (count_up b (e.to + 1 - b))
+
+-- what was looked up of a number is so
+abbrev pub IsKnown : Contents → Known → Type 0
+IsKnown a k = (slot : ℕ) → k.slot ≡ Some slot → slot_of a k.id ≡ Some slot
 
 -- numbers may have got slots, and slots room: all that is held stays
 pub record IsPrepared (old new : Contents) : Type 0 where

@@ -8,7 +8,7 @@ ghost use Rattle.bm_report.specs.Expanded.{of_part, told_to};
 ghost use Rattle.bm_report.specs.Ready.{named_of, CanBeEntered};
 
 use crate::entering::enter;
-use crate::looking::first_of_part;
+use crate::finding::first_of_part;
 use crate::sweeping::settle_one;
 use crate::types::{Named, Tally};
 use bm_arena::Arena;

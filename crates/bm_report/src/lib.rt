@@ -12,6 +12,7 @@ mod by_number;
 mod chunks;
 mod direct;
 mod entering;
+mod finding;
 mod looking;
 mod marking;
 mod notices;

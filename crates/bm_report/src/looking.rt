@@ -1,39 +1,31 @@
 // The slots of the blocks that a report names.
-ghost use Rattle.std.specs.Prelude.{◌≡◌, ◌≢◌, ◌<◌, ◌≤◌, ◌+◌, ◌-◌, ◌^◌, ◌==◌, ◌++◌, ◌∷◌, [], map, ℕ, slice_get, IsSome, IfOk, IfErr, OnOk, OnErr, None, Some, false};
+ghost use Rattle.std.specs.Prelude.{◌≡◌, ◌≢◌, ◌<◌, ◌≤◌, ◌+◌, ◌-◌, ◌^◌, ◌==◌, ◌++◌, ◌∷◌, [], map, ℕ, slice_get, IsSome, IfOk, IfErr, OnOk, OnErr, None, Some, false, length};
 ghost use Rattle.bm_base.specs.declared.refusal.Refusal.TheVariants.{Memory};
-ghost use Rattle.bm_arena.specs.Contents.{block_at, slot_of, marks_at, HasHead, HasRoom};
+ghost use Rattle.bm_arena.specs.Contents.{slot_of, HasHead};
 ghost use Rattle.bm_base.specs.Entries.{told_by};
 ghost use Rattle.bm_base.specs.Events.{is_named};
 ghost use Rattle.bm_base.specs.Shards.{shard_of};
 ghost use Rattle.bm_report.specs.Midway.{AreHere, HaveRoom, told_of};
 ghost use Rattle.bm_report.specs.Aborted.{NamesNew};
-ghost use Rattle.bm_report.specs.Expanded.{IsPrepared, of_part, told_to};
+ghost use Rattle.bm_report.specs.Expanded.{IsKnown, IsPrepared, of_part, told_to};
 
+use crate::chunks::chunk_len;
+use crate::finding::{find_firsts, first_of_part, slot_for};
 use crate::rooms::make_rooms;
-use crate::types::Named;
-use bm_arena::{Arena, Slot};
-use bm_base::{BlockId, Entry, Part, Refusal, Stamp, StorageId, shard_of};
-
-/// The slot of a number, which has an entry from now on.
-fn slot_for(arena: &mut Arena, id: BlockId) -> Result<Slot, Refusal>
-    ensures kept { IsPrepared arena.old arena.new }
-    ensures here { IfOk result (λ slot. slot_of arena.new id ≡ Some slot) }
-    ensures others { (b : ℕ) → b ≢ id → slot_of arena.new b ≡ slot_of arena.old b }
-    ensures unchanged { OnErr result (arena.new ≡ arena.old) }
-    ensures refused { IfErr result (λ e. e ≡ Memory) }
-{
-    arena.lawful();
-    arena.add_entry(id)
-}
+use crate::types::{Known, Named};
+use bm_arena::Arena;
+use bm_base::{BlockId, Entry, Part, Refusal, Stamp, StorageId};
 
 /// Looks up one number. After an `Err` it has no new entry that is not named.
 fn look_up_one(
     arena: &mut Arena,
     id: BlockId,
     stamp: Stamp,
+    known: &Known,
     named: &mut Vec<Named>,
 ) -> Result<(), Refusal>
-    requires { AreHere arena.old named.old.items }
+    requires here { AreHere arena.old named.old.items }
+    requires known { IsKnown arena.old known.now }
     ensures kept { IsPrepared arena.old arena.new }
     ensures others { (b : ℕ) → b ≢ id → slot_of arena.new b ≡ slot_of arena.old b }
     ensures here { OnOk result (AreHere arena.new named.new.items) }
@@ -42,28 +34,9 @@ fn look_up_one(
     ensures refused { IfErr result (λ e. e ≡ Memory) }
 {
     named.reserve(1)?;
-    let slot = slot_for(arena, id)?;
+    let slot = slot_for(arena, id, known)?;
     named.push_reserved(Named { id, slot, stamp });
     Ok(())
-}
-
-/// The first number of the part from a number on.
-pub(crate) fn first_of_part(from: BlockId, part: Part) -> u128
-    requires shards { 0 < part.shards }
-    requires index { part.index < part.shards }
-    ensures of_part { shard_of result part.shards ≡ part.index }
-    ensures from { from ≤ result }
-    ensures near { result < from + part.shards }
-{
-    let shards = u64::from(part.shards);
-    let here = u64::from(shard_of(from, part.shards));
-    let index = u64::from(part.index);
-    let gap = if here <= index {
-        index - here
-    } else {
-        index + shards - here
-    };
-    u128::from(from.0) + u128::from(gap)
 }
 
 /// Looks up the numbers of an entry that are of the part: from one to the next, so that numbers of other shards cost nothing.
@@ -71,11 +44,13 @@ fn look_up_run(
     arena: &mut Arena,
     entry: &Entry,
     part: Part,
+    known: &Known,
     named: &mut Vec<Named>,
 ) -> Result<(), Refusal>
     requires shards { 0 < part.shards }
     requires index { part.index < part.shards }
     requires here { AreHere arena.old named.old.items }
+    requires known { IsKnown arena.old known.now }
     ensures kept { IsPrepared arena.old arena.new }
     ensures others { (b : ℕ) → is_named (of_part part (told_by entry.now)) b ≡ false → slot_of arena.new b ≡ slot_of arena.old b }
     ensures here { OnOk result (AreHere arena.new named.new.items) }
@@ -86,8 +61,33 @@ fn look_up_run(
     let last = u128::from(entry.to.0);
     let mut next = first_of_part(entry.from, part);
     while next <= last {
-        look_up_one(arena, BlockId(next as u64), entry.stamp, named)?;
+        look_up_one(arena, BlockId(next as u64), entry.stamp, known, named)?;
         next += u128::from(part.shards);
+    }
+    Ok(())
+}
+
+/// Looks up the numbers of a chunk of entries, of which the first ones are looked up together.
+fn look_up_chunk(
+    arena: &mut Arena,
+    chunk: &[Entry],
+    part: Part,
+    named: &mut Vec<Named>,
+) -> Result<(), Refusal>
+    requires few { length chunk.now ≤ 64 }
+    requires shards { 0 < part.shards }
+    requires index { part.index < part.shards }
+    requires here { AreHere arena.old named.old.items }
+    ensures kept { IsPrepared arena.old arena.new }
+    ensures others { (b : ℕ) → is_named (told_to part chunk.now) b ≡ false → slot_of arena.new b ≡ slot_of arena.old b }
+    ensures here { OnOk result (AreHere arena.new named.new.items) }
+    ensures named { OnOk result (map told_of named.new.items ≡ map told_of named.old.items ++ told_to part chunk.now) }
+    ensures fresh { NamesNew arena.old arena.new named.old.items named.new.items }
+    ensures refused { IfErr result (λ e. e ≡ Memory) }
+{
+    let known = find_firsts(arena, chunk, part);
+    for (place, entry) in chunk.iter().enumerate() {
+        look_up_run(arena, entry, part, &known[place], named)?;
     }
     Ok(())
 }
@@ -110,16 +110,19 @@ fn look_up_all(
     ensures refused { IfErr result (λ e. e ≡ Memory) }
 {
     named.clear();
-    for entry in entries {
-        look_up_run(arena, entry, part, named)?;
+    let mut rest = entries;
+    while !rest.is_empty() {
+        let (chunk, behind) = rest.split_at(chunk_len(rest.len()));
+        look_up_chunk(arena, chunk, part, named)?;
+        rest = behind;
     }
     Ok(())
 }
 
 /// Looks up all numbers of the part that a report of a storage names, and makes the room that `apply` needs beside `changed`. Each
-/// number is hashed once. Nothing that is held changes. `Memory`.
+/// number that has an entry is hashed once, and a new one twice. Nothing that is held changes. `Memory`.
 ///
-/// The look-ups come first, and then the room, chunk by chunk: so the reads of the blocks' entries do not wait for one another.
+/// The look-ups come first and then the room, both in chunks, so that reads of memory do not wait for one another.
 pub(crate) fn look_up(
     arena: &mut Arena,
     storage: StorageId,

@@ -1,0 +1,88 @@
+// The slot of a number, and which numbers of an entry are of a part.
+ghost use Rattle.std.specs.Prelude.{◌≡◌, ◌≢◌, ◌<◌, ◌≤◌, ◌+◌, ◌^◌, ℕ, length, slice_index_or, IfOk, IfErr, OnErr, Some};
+ghost use Rattle.bm_base.specs.declared.refusal.Refusal.TheVariants.{Memory};
+ghost use Rattle.bm_base.specs.Shards.{shard_of};
+ghost use Rattle.bm_arena.specs.Contents.{slot_of};
+ghost use Rattle.bm_report.specs.declared.types.Known.{Known};
+ghost use Rattle.bm_report.specs.Expanded.{IsKnown, IsPrepared};
+
+use crate::chunks::CHUNK;
+use crate::types::Known;
+use bm_arena::{Arena, Slot};
+use bm_base::{BlockId, Entry, Part, Refusal, shard_of};
+
+/// Nothing was looked up.
+const UNKNOWN: Known = Known {
+    id: BlockId(0),
+    slot: None,
+};
+
+/// The slot of a number, which has an entry from now on.
+pub(crate) fn slot_for(arena: &mut Arena, id: BlockId, known: &Known) -> Result<Slot, Refusal>
+    requires { IsKnown arena.old known.now }
+    ensures kept { IsPrepared arena.old arena.new }
+    ensures here { IfOk result (λ slot. slot_of arena.new id ≡ Some slot) }
+    ensures others { (b : ℕ) → b ≢ id → slot_of arena.new b ≡ slot_of arena.old b }
+    ensures unchanged { OnErr result (arena.new ≡ arena.old) }
+    ensures refused { IfErr result (λ e. e ≡ Memory) }
+{
+    if known.id.0 == id.0 {
+        if let Some(slot) = known.slot {
+            return Ok(slot);
+        }
+    }
+    arena.lawful();
+    arena.add_entry(id)
+}
+
+/// Looks up the first number of the part that an entry names.
+fn find_first(arena: &Arena, entry: &Entry, part: Part) -> Known
+    requires shards { 0 < part.shards }
+    requires index { part.index < part.shards }
+    ensures { IsKnown arena.now result }
+{
+    let first = first_of_part(entry.from, part);
+    if first <= u128::from(entry.to.0) {
+        let id = BlockId(first as u64);
+        Known {
+            id,
+            slot: arena.find(id),
+        }
+    } else {
+        UNKNOWN
+    }
+}
+
+/// The same for each entry of a chunk. No look-up depends on another, so they do not wait for one another.
+pub(crate) fn find_firsts(arena: &Arena, chunk: &[Entry], part: Part) -> [Known; CHUNK]
+    requires few { length chunk.now ≤ 64 }
+    requires shards { 0 < part.shards }
+    requires index { part.index < part.shards }
+    ensures { (i : ℕ) (default : Known) → i < length chunk.now → IsKnown arena.now (slice_index_or result i default) }
+{
+    let mut known = [UNKNOWN; CHUNK];
+    for (place, entry) in chunk.iter().enumerate() {
+        known[place] = find_first(arena, entry, part);
+    }
+    known
+}
+
+/// The first number of the part from a number on.
+pub(crate) fn first_of_part(from: BlockId, part: Part) -> u128
+    requires shards { 0 < part.shards }
+    requires index { part.index < part.shards }
+    ensures of_part { shard_of result part.shards ≡ part.index }
+    ensures from { from ≤ result }
+    ensures near { result < from + part.shards }
+{
+    let shards = u64::from(part.shards);
+    let here = u64::from(shard_of(from, part.shards));
+    let index = u64::from(part.index);
+    let gap = if here <= index {
+        index - here
+    } else {
+        index + shards - here
+    };
+    u128::from(from.0) + u128::from(gap)
+}
+
