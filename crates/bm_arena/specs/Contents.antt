@@ -99,6 +99,10 @@ with_marks storage marks b = record b { replicas = change_marks b.replicas stora
 abbrev pub slot_of : Contents → ℕ → Option ℕ
 slot_of a id = lookup (nat_eq id) a.ids
 
+-- the slot is that of a number
+abbrev pub IsEntry : Contents → ℕ → Type 0
+IsEntry a slot = (id : ℕ) × (slot_of a id ≡ Some slot)
+
 -- an entry with no block and no replica
 abbrev pub empty_block : ℕ → Block
 empty_block id = record { id = id; info = None; replicas = []; room = 3 }

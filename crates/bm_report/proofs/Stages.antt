@@ -1,6 +1,6 @@
 -- The stages of a report: the delimiter put, blocks entered, what was not reported swept out, the delimiter taken, marks settled.
 use Rattle.std.proofs.Common.{◌≡◌, ◌≢◌, ℕ, ◌+◌, ◌<◌, ◌≤◌, Bool, true, false, cond, List, [], ◌∷◌, length, map, Option, Some, None, is_some, IsSome, refl, subst, inl, inr, sym, ap, ◌∙◌, arith, eqb, eq-eqb, eqb-true, ne_eqb, add-one}
-use Rattle.std.specs.Prelude.{◌==◌, nat_eq, IsSomeAnd}
+use Rattle.std.specs.Prelude.{◌==◌, nat_eq, IsSomeAnd, ◌⊎◌}
 use Rattle.std.specs.List.{list_any}
 use Rattle.std.specs.Option.{option_and_then, option_or}
 use Rattle.std.specs.Map.{lookup}
@@ -15,7 +15,7 @@ use Rattle.bm_base.specs.Events.{report}
 use Rattle.bm_base.proofs.MapLaws.{same_map, get-remove}
 use Rattle.bm_arena.specs.Triplets.{Block}
 use Rattle.bm_base.specs.SlotLists.{Among, Distinct, without}
-use Rattle.bm_arena.specs.Contents.{Contents, block_at, slot_of, marks_at, list_of, find_marks, HasHead, IsLawful, KeepsOthers, KeepsEntries, count_up}
+use Rattle.bm_arena.specs.Contents.{Contents, block_at, slot_of, marks_at, list_of, find_marks, HasHead, IsLawful, KeepsOthers, KeepsEntries, IsEntry, count_up}
 use Rattle.bm_base.proofs.SlotLists.{Among-without, Among-without_other, without-gone, Distinct-without}
 use Rattle.bm_report.specs.declared.types.Named.{Named}
 use Rattle.bm_report.specs.declared.types.Tally.{Tally}
@@ -27,6 +27,7 @@ use Rattle.bm_report.proofs.Behind.{Among-after}
 use Rattle.bm_report.proofs.Frames.{some_there}
 use Rattle.bm_report.proofs.Maps.{Held, tie, get-here, some_is}
 use Rattle.bm_report.proofs.Swept.{number-leads}
+use Rattle.bm_report.proofs.Underway.{listed-chain}
 use Rattle.bm_report.proofs.Settled.{here-ids}
 use Rattle.bm_report.proofs.Reported.{reported}
 use Rattle.bm_report.proofs.Counting.{came, came_and_went, len-settled}
@@ -292,6 +293,13 @@ module _ (C : Cluster) (s : ℕ) (ns : List Named) (a0 a1 : Contents) (lawful0 :
           by (Some m) e =
               let at = number-leads a0 lawful0 slot s apart (some_is (marks_at a0 slot s) m e) in
               settling.others slot m (marks4 ∙ e) (good (replica_at (number_at a0 slot) s) m (get-here a0 (number_at a0 slot) slot s at ∙ e)) ∙ same4
+
+      pub listed5 : (l0 l2 l3 : List ℕ) → IsListed a1 a2 l0 l2 → IsListed a2 a3 l2 l3 → (slot : ℕ) → Among slot l3 → Among slot l0 ⊎ IsEntry a0 slot
+      listed5 l0 l2 l3 f g slot m = by ((listed-chain a1 a2 a3 l0 l2 l3 f g).only slot m)
+        where
+          by : Among slot l0 ⊎ IsEntry a1 slot → Among slot l0 ⊎ IsEntry a0 slot
+          by (inl before) = inl before
+          by (inr led) = inr (led.0, ap (λ l. lookup (nat_eq led.0) l) (sym others1.ids) ∙ led.1)
 
       pub rises5 : a1.steps ≡ count_up a0.steps → t1.steps ≡ 1 → ((n : ℕ) → a1.steps ≡ count_ups t1.steps n → a2.steps ≡ count_ups t2.steps n) → a5.steps ≡ count_ups (t3.steps + 1) a0.steps
       rises5 first one rises =

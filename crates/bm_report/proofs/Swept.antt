@@ -185,7 +185,7 @@ module _ (s x : ℕ) (a b : Contents) (lawful : IsLawful a) (next : slot_after a
       record {
         put = subst Q (sym same) f.put;
         swept = λ c w g. (subst P whole-behind f.swept) c w (swept-cons s x (behind b s) a b c u v w (swept-one u v v_is) g);
-        listed = listed-chain first a b ls ms ns f.listed (listed-push a b x ms ns others.blocks ns_is);
+        listed = listed-chain first a b ls ms ns f.listed (listed-push a b x ms ns others.blocks ns_is (number_at a x, leads) others.ids);
         removed = omega (arith, removed_is, count, f.removed);
         steps = omega (arith, steps_is, count, f.steps);
       }

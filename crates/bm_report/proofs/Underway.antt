@@ -1,13 +1,14 @@
 -- Blocks entered so far, and the rest.
 use Rattle.std.proofs.Common.{◌≡◌, ◌≢◌, ℕ, zero, suc, ◌+◌, ◌≤◌, List, [], ◌∷◌, ◌++◌, length, drop, Some, refl, subst, inl, inr, sym, ap, ◌∙◌, arith, length-append, eqb}
-use Rattle.std.specs.Prelude.{slice_get}
+use Rattle.std.specs.Prelude.{slice_get, nat_eq, ◌⊎◌}
+use Rattle.std.specs.Map.{lookup}
 use Rattle.std.proofs.lemmas.Bool.{cases_Bool, eqb-true, eqb-false}
 use Rattle.std.proofs.lemmas.Option.{none-some}
 use Rattle.std.proofs.lemmas.List.{take-append-drop}
 use Rattle.std.proofs.Common.{take}
 use Rattle.bm_base.specs.State.{Cluster}
 use Rattle.bm_base.specs.SlotLists.{Among}
-use Rattle.bm_arena.specs.Contents.{Contents, block_at, HasHead}
+use Rattle.bm_arena.specs.Contents.{Contents, block_at, IsEntry, HasHead}
 use Rattle.bm_arena.proofs.Replicas.{Among-left, Among-last}
 use Rattle.bm_report.specs.declared.types.Named.{Named}
 use Rattle.bm_report.specs.declared.types.Tally.{Tally}
@@ -19,17 +20,23 @@ use Rattle.bm_report.proofs.Once.{once-entered_all}
 -- listing
 
 pub listed-none : (a : Contents) (xs : List ℕ) → IsListed a a xs xs
-listed-none a xs = record { same = λ slot out. refl; more = λ slot m. m }
+listed-none a xs = record { same = λ slot out. refl; more = λ slot m. m; only = λ slot m. inl m; ids = refl }
 
 pub listed-chain : (a b c : Contents) (xs ys zs : List ℕ) → IsListed a b xs ys → IsListed b c ys zs → IsListed a c xs zs
 listed-chain a b c xs ys zs f g = record {
   same = λ slot out. g.same slot out ∙ f.same slot (λ m. out (g.more slot m));
   more = λ slot m. g.more slot (f.more slot m);
+  only = λ slot m. by slot (g.only slot m);
+  ids = g.ids ∙ f.ids;
 }
+  where
+    by : (slot : ℕ) → Among slot ys ⊎ IsEntry b slot → Among slot xs ⊎ IsEntry a slot
+    by slot (inl m) = f.only slot m
+    by slot (inr led) = inr (led.0, ap (λ l. lookup (nat_eq led.0) l) (sym f.ids) ∙ led.1)
 
 -- one block changed, and its slot pushed
-pub listed-push : (a b : Contents) (slot : ℕ) (xs ys : List ℕ) → ((other : ℕ) → other ≢ slot → block_at b other ≡ block_at a other) → ys ≡ xs ++ slot ∷ [] → IsListed a b xs ys
-listed-push a b slot xs ys others is =
+pub listed-push : (a b : Contents) (slot : ℕ) (xs ys : List ℕ) → ((other : ℕ) → other ≢ slot → block_at b other ≡ block_at a other) → ys ≡ xs ++ slot ∷ [] → IsEntry a slot → b.ids ≡ a.ids → IsListed a b xs ys
+listed-push a b slot xs ys others is entry ids =
     let P : List ℕ → Type 0 = λ l. IsListed a b xs l in
     subst P (sym is)
     (record {
@@ -39,11 +46,23 @@ listed-push a b slot xs ys others is =
             | inr other ↦ others x (eqb-false x slot other)
           ];
       more = λ x m. Among-left x xs (slot ∷ []) m;
+      only = λ x m. last x xs m;
+      ids = ids;
     })
+  where
+    last : (x : ℕ) (l : List ℕ) → Among x (l ++ slot ∷ []) → Among x l ⊎ IsEntry a x
+    last x [] (inl same) = let P : ℕ → Type 0 = λ k. IsEntry a k in inr (subst P (sym same) entry)
+    last x [] (inr m) = absurd m
+    last x (y ∷ l) (inl same) = inl (inl same)
+    last x (y ∷ l) (inr m) = in_rest (last x l m)
+      where
+        in_rest : Among x l ⊎ IsEntry a x → Among x (y ∷ l) ⊎ IsEntry a x
+        in_rest (inl there) = inl (inr there)
+        in_rest (inr led) = inr led
 
 -- no block changed
-pub listed-same : (a b : Contents) (xs : List ℕ) → b.blocks ≡ a.blocks → IsListed a b xs xs
-listed-same a b xs same = record { same = λ slot out. ap (λ (x : Contents). block_at x slot) (λ i. record b { blocks = same i }); more = λ slot m. m }
+pub listed-same : (a b : Contents) (xs : List ℕ) → b.blocks ≡ a.blocks → b.ids ≡ a.ids → IsListed a b xs xs
+listed-same a b xs same ids = record { same = λ slot out. ap (λ (x : Contents). block_at x slot) (λ i. record b { blocks = same i }); more = λ slot m. m; only = λ slot m. inl m; ids = ids }
 
 -- counting
 

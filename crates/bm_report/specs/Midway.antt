@@ -1,5 +1,5 @@
 -- A full report while it runs: which marks a replica has, which maps and lists there are, what is counted.
-use Rattle.std.specs.Prelude.{◌≡◌, ◌≢◌, ℕ, zero, suc, ◌+◌, ◌≤◌, ◌<◌, ◌^◌, ◌*◌, Bool, true, false, not, ◌&&◌, ◌||◌, ◌==◌, if◌then◌else◌, List, [], ◌∷◌, length, map, Option, Some, None, IsSome}
+use Rattle.std.specs.Prelude.{◌≡◌, ◌≢◌, ℕ, zero, suc, ◌+◌, ◌≤◌, ◌<◌, ◌^◌, ◌*◌, Bool, true, false, not, ◌&&◌, ◌||◌, ◌==◌, if◌then◌else◌, List, [], ◌∷◌, length, map, Option, Some, None, IsSome, ◌⊎◌}
 use Rattle.std.specs.Option.{option_map_or, option_or}
 use Rattle.bm_base.specs.declared.replica.ReplicaId.{ReplicaId}
 use Rattle.bm_base.specs.declared.replica.Tag.{Tag}
@@ -14,7 +14,7 @@ use Rattle.bm_base.specs.Replicas.{is_good, is_bad, are_sisters}
 use Rattle.bm_base.specs.Events.{same_stamp, replaces}
 use Rattle.bm_arena.specs.Triplets.{Block}
 use Rattle.bm_base.specs.SlotLists.{Among, without}
-use Rattle.bm_arena.specs.Contents.{Contents, block_at, slot_of, marks_at, list_of, HasHead, HasRoom, count_up, known_of, KeepsEntries}
+use Rattle.bm_arena.specs.Contents.{Contents, block_at, slot_of, marks_at, list_of, HasHead, HasRoom, count_up, known_of, IsEntry, KeepsEntries}
 use Rattle.bm_report.specs.declared.types.Named.{Named}
 use Rattle.bm_report.specs.declared.types.Tally.{Tally}
 use Rattle.bm_arena.specs.Holding.{replicas_of, blocks_of, info_at}
@@ -172,10 +172,12 @@ pub record IsSmall (t : Tally) (n : ℕ) : Type 0 where
   pub removed : t.removed + 2 * n < 2 ^ 128
   pub steps : t.steps + 2 * n < 2 ^ 128
 
--- blocks that are not listed are as before
+-- blocks that are not listed are as before, and the slots of numbers alone come into the list
 pub record IsListed (old new : Contents) (before after : List ℕ) : Type 0 where
   pub same : (slot : ℕ) → (Among slot after → ⊥) → block_at new slot ≡ block_at old slot
   pub more : (slot : ℕ) → Among slot before → Among slot after
+  pub only : (slot : ℕ) → Among slot after → Among slot before ⊎ IsEntry old slot
+  pub ids : new.ids ≡ old.ids
 
 -- Some of the named blocks are entered, and the rest is to be: what stands now, and what comes of it in the end.
 pub record IsUnderway (C : Cluster) (s : ℕ) (all rest : List Named) (first now : Contents) (t u : Tally) : Type 0 where

@@ -1,9 +1,9 @@
 // A full report is applied by the delimiter.
-ghost use Rattle.std.specs.Prelude.{◌≡◌, ◌≢◌, ◌≤◌, ◌<◌, ◌+◌, ℕ, length, map, vec_len, vec_capacity, None};
+ghost use Rattle.std.specs.Prelude.{◌≡◌, ◌≢◌, ◌≤◌, ◌<◌, ◌+◌, ℕ, length, map, vec_len, vec_capacity, None, ◌⊎◌};
 ghost use Rattle.bm_base.specs.Events as events;
 ghost use Rattle.bm_base.specs.Calls as calls;
 ghost use Rattle.bm_base.specs.SlotLists.{Among};
-ghost use Rattle.bm_arena.specs.Contents.{block_at, marks_at, list_of, HasHead, KeepsEntries};
+ghost use Rattle.bm_arena.specs.Contents.{block_at, marks_at, list_of, HasHead, IsEntry, KeepsEntries};
 ghost use Rattle.bm_arena.specs.Holding.{replicas_of, blocks_of, holdings_of};
 ghost use Rattle.bm_report.specs.Midway.{AreHere, HaveRoom, IsOncePerNode, IsExcessGood, told_of, count_ups, AllStand};
 
@@ -33,6 +33,7 @@ pub(crate) fn apply(
     ensures blocks { blocks_of arena.new ≡ blocks_of arena.old }
     ensures entries { KeepsEntries arena.old arena.new }
     ensures free { (t : ℕ) → marks_at arena.new arena.new.delimiter t ≡ marks_at arena.old arena.old.delimiter t }
+    ensures listed { (slot : ℕ) → Among slot changed.new.items → Among slot changed.old.items ⊎ IsEntry arena.old slot }
     ensures changed { (slot : ℕ) → slot ≢ arena.old.delimiter → (Among slot changed.new.items → ⊥) → block_at arena.new slot ≡ block_at arena.old slot }
     ensures quiet { AllStand arena.old storage named.now → result.removed ≡ 0 → changed.new.items ≡ changed.old.items }
     ensures added { result.added ≡ calls.new_replicas (replicas_of arena.old) (replicas_of arena.new) }

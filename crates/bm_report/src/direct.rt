@@ -1,11 +1,11 @@
 // The calls that keep nothing between the look-up of a report and its end.
-ghost use Rattle.std.specs.Prelude.{◌≡◌, ◌<◌, ◌≤◌, ◌+◌, ℕ, length, None, OnOk, IfErr};
+ghost use Rattle.std.specs.Prelude.{◌≡◌, ◌<◌, ◌≤◌, ◌+◌, ℕ, length, None, OnOk, IfErr, false};
 ghost use Rattle.bm_base.specs.declared.refusal.Refusal.TheVariants.{Memory};
 ghost use Rattle.bm_base.specs.declared.limits.TheConstants.{MAX_NUMBERS};
 ghost use Rattle.bm_base.specs.Entries.{numbers_in};
 ghost use Rattle.bm_base.specs.Events as events;
 ghost use Rattle.bm_base.specs.Calls as calls;
-ghost use Rattle.bm_arena.specs.Contents.{marks_at, KeepsEntries};
+ghost use Rattle.bm_arena.specs.Contents.{slot_of, marks_at, KeepsEntries};
 ghost use Rattle.bm_arena.specs.Holding.{replicas_of, blocks_of, holdings_of};
 ghost use Rattle.bm_report.specs.Midway.{IsOncePerNode, count_ups};
 ghost use Rattle.bm_report.specs.Expanded.{IsPrepared, told_to};
@@ -30,6 +30,7 @@ pub fn ready(
     requires part { part.index < part.shards }
     ensures ready { OnOk result (HasPlaces arena.new storage (told_to part entries.now)) }
     ensures kept { IsPrepared arena.old arena.new }
+    ensures others { (b : ℕ) → events.is_named (told_to part entries.now) b ≡ false → slot_of arena.new b ≡ slot_of arena.old b }
     ensures refused { IfErr result (λ e. e ≡ Memory) }
 {
     let mut named: Vec<Named> = Vec::new(arena.allocator());

@@ -1,10 +1,10 @@
 // A full report, and a notice of a received replica, from the look-up of its numbers to its end.
-ghost use Rattle.std.specs.Prelude.{◌≡◌, ◌≢◌, ◌<◌, ◌+◌, ◌∷◌, ◌&&◌, [], ℕ, if◌then◌else◌, length, None, Some, IsSome, IsTrue, OnOk, IfErr};
+ghost use Rattle.std.specs.Prelude.{◌≡◌, ◌≢◌, ◌<◌, ◌+◌, ◌∷◌, ◌&&◌, [], ℕ, if◌then◌else◌, length, None, Some, IsSome, IsTrue, OnOk, IfErr, ◌⊎◌, false};
 ghost use Rattle.bm_base.specs.declared.refusal.Refusal.TheVariants.{Memory};
 ghost use Rattle.bm_base.specs.Events as events;
 ghost use Rattle.bm_base.specs.Calls as calls;
 ghost use Rattle.bm_base.specs.SlotLists.{Among};
-ghost use Rattle.bm_arena.specs.Contents.{block_at, slot_of, marks_at, KeepsEntries};
+ghost use Rattle.bm_arena.specs.Contents.{block_at, slot_of, marks_at, IsEntry, KeepsEntries};
 ghost use Rattle.bm_arena.specs.Holding.{replicas_of, blocks_of, holdings_of};
 ghost use Rattle.bm_report.specs.Midway.{IsOncePerNode, count_ups};
 ghost use Rattle.bm_report.specs.Expanded.{IsPrepared, told_to};
@@ -75,6 +75,7 @@ impl Report {
         ensures ready { OnOk result (IsReady self.new arena.new storage) }
         ensures changed { OnOk result (self.new.changed ≡ []) }
         ensures kept { IsPrepared arena.old arena.new }
+        ensures others { (b : ℕ) → events.is_named (told_to part entries.now) b ≡ false → slot_of arena.new b ≡ slot_of arena.old b }
         ensures fresh { (b : ℕ) → slot_of arena.old b ≡ None → IsSome (slot_of arena.new b) → IsTrue (events.is_named (told self.new) b) }
         ensures refused { IfErr result (λ e. e ≡ Memory) }
     {
@@ -108,6 +109,7 @@ impl Report {
         ensures once { IsOncePerNode topology.now.cluster (replicas_of arena.new) }
         ensures good { HasGoodExcess (replicas_of arena.new) }
         ensures free { (t : ℕ) → marks_at arena.new arena.new.delimiter t ≡ marks_at arena.old arena.old.delimiter t }
+        ensures listed { (slot : ℕ) → Among slot self.new.changed → Among slot self.old.changed ⊎ IsEntry arena.old slot }
         ensures changed { (slot : ℕ) → slot ≢ arena.old.delimiter → (Among slot self.new.changed → ⊥) → block_at arena.new slot ≡ block_at arena.old slot }
         ensures unchanged { StandAlready (holdings_of arena.old) storage (told self.old) → result.removed ≡ 0 → self.new.changed ≡ self.old.changed }
         ensures told { told self.new ≡ told self.old }
@@ -160,7 +162,8 @@ impl Report {
         self.changed.clear();
     }
 
-    /// The slots whose replicas or marks changed by `apply_full`, in any order; one may stand twice.
+    /// The slots whose replicas or marks changed by `apply_full`, in any order. One may stand twice, and that of a block which the
+    /// report names more than once, with different stamps, may stand there although its marks are in the end what they were.
     pub fn changed(&self) -> &[Slot]
         ensures { result.now ≡ self.now.changed }
     {

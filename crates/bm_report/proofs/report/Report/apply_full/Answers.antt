@@ -1,5 +1,7 @@
-use Rattle.std.proofs.Common.{◌≡◌, List, subst, sym, ap, ◌∙◌}
+use Rattle.std.proofs.Common.{◌≡◌, ◌⊎◌, List, subst, sym, ap, ◌∙◌}
 use Rattle.bm_report.specs.declared.types.Named.{Named}
+use Rattle.bm_base.specs.SlotLists.{Among}
+use Rattle.bm_arena.specs.Contents.{IsEntry}
 use Rattle.bm_arena.specs.Holding.{holdings_of}
 use Rattle.bm_report.specs.Midway.{AllStand, IsOncePerNode}
 use Rattle.bm_report.specs.Ready.{Looked, HasGoodExcess}
@@ -26,3 +28,8 @@ unfolding holdings_of
 returns-clause-good c =
     let P : Held → Type 0 = λ K. HasGoodExcess K in
     subst P (sym c.apply.ensures.replicas) (good-told c.args.topology.now.cluster (holdings_of c.args.arena.now) c.args.storage _ c.requires.good)
+
+pub returns-clause-listed : goal.returns-clause-listed
+returns-clause-listed c slot m =
+    let P : Looked → Type 0 = λ r. Among slot r.changed ⊎ IsEntry c.args.arena.now slot in
+    subst P c.self.view_is (c.apply.ensures.listed slot m)
