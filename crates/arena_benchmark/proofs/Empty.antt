@@ -1,9 +1,9 @@
 -- Where there is no replica, nothing stands against a report.
-use Rattle.std.proofs.Common.{◌≡◌, None, Some, is_some, subst, sym, ap, ◌∙◌}
+use Rattle.std.proofs.Common.{◌≡◌, is_some, subst, sym, ap, ◌∙◌}
 use Rattle.std.proofs.lemmas.Bool.{false≢true}
 use Rattle.std.proofs.lemmas.Option.{none-some}
 use Rattle.bm_base.specs.declared.replica.Marks.{Marks}
-use Rattle.bm_base.specs.Map.{Map, empty, get}
+use Rattle.bm_base.specs.Map.{Map, empty}
 use Rattle.bm_base.specs.State.{Cluster, by_replica}
 use Rattle.bm_base.proofs.MapLaws.{get-empty}
 use Rattle.bm_arena.specs.Contents.{Contents}

@@ -12,7 +12,9 @@ use std::time::CpuClock;
 // Each phase is passed through so many times where there are few blocks, and so many where there are many; the first pass is not
 // measured.
 const PASSES: u64 = 9;
+
 const PASSES_OF_MANY: u64 = 4;
+
 const MANY: u64 = 500_000;
 
 // A phase: its name, the order of the storages, and the reports of its passes, of which two take turns.
@@ -75,7 +77,11 @@ fn run<R: Runtime + CpuClock + AllocGlobal>(
     let mut times = Vec::new(rt.alloc());
     let blocks = shard.blocks();
     for number in 0..passes_over(blocks) {
-        let reports = if number % 2 == 0 { phase.even } else { phase.odd };
+        let reports = if number % 2 == 0 {
+            phase.even
+        } else {
+            phase.odd
+        };
         let (more, time) = pass(rt, shard, phase.order, reports)?;
         counts.add(more);
         if number > 0 {
@@ -129,7 +135,16 @@ fn measure_unchanged<'x, R: Runtime + CpuClock + AllocGlobal>(
     requires { IsOrderly shard.old.topology.cluster shard.old.arena }
     ensures { IsOrderly shard.new.topology.cluster shard.new.arena }
 {
-    let counts = run(rt, shard, &Phase { name, order, even, odd })?;
+    let counts = run(
+        rt,
+        shard,
+        &Phase {
+            name,
+            order,
+            even,
+            odd,
+        },
+    )?;
     print_counts(rt, name, counts);
     Ok(())
 }

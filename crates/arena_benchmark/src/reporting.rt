@@ -126,13 +126,15 @@ impl Shard {
         requires { IsOrderly self.old.topology.cluster self.old.arena }
         ensures { IsOrderly self.new.topology.cluster self.new.arena }
     {
-        self.report
-            .ready(&mut self.arena, storage, entries, WHOLE)?;
+        self.report.ready(&mut self.arena, storage, entries, WHOLE)?;
         // Between two reports it is in no list.
         if self.arena.has_delimiter(storage) {
             return Ok(NO_CHANGE);
         }
-        Ok(self.report.apply_full(&mut self.arena, &self.topology, storage))
+        Ok(
+            self.report
+                .apply_full(&mut self.arena, &self.topology, storage),
+        )
     }
 
     fn take_of(&mut self, storage: StorageId, reports: &[Vec<Entry>]) -> Result<Counts, Refusal>

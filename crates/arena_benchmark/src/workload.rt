@@ -5,6 +5,7 @@ use bm_base::{BlockId, Entry, Gen, Refusal, Stamp, StorageId};
 use std::alloc::Global;
 
 pub const NODES: u32 = 256;
+
 pub const STORAGES: u32 = 1024;
 
 /// How many nodes stand in one of the 16 racks.

@@ -1,10 +1,10 @@
 -- What one changed block changes, and what it keeps.
 use Rattle.std.proofs.Common.{◌≡◌, ◌≢◌, ℕ, Option, Some, None, refl, inl, inr, ap, ◌∙◌}
-use Rattle.std.specs.Option.{option_map, option_and_then, option_map_or}
+use Rattle.std.specs.Option.{option_map, option_map_or}
 use Rattle.std.proofs.lemmas.Bool.{cases_eq}
 use Rattle.std.proofs.lemmas.List.{get_or-set_other}
 use Rattle.bm_arena.specs.Triplets.{Block, change_block}
-use Rattle.bm_arena.specs.Contents.{Contents, block_at, room_at, KeepsAllBut}
+use Rattle.bm_arena.specs.Contents.{Contents, block_at, KeepsAllBut}
 use Rattle.bm_arena.proofs.Triplets.{get_or-set_here}
 
 module _ (a : Contents) (slot : ℕ) (h : Block → Block) where

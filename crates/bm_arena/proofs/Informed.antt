@@ -1,12 +1,11 @@
 -- What is kept when it is set what is known of a block, and when a number gets an entry.
-use Rattle.std.proofs.Common.{◌≡◌, ◌≢◌, ℕ, List, [], Bool, true, false, cond, eqb, eq-eqb, eqb-true, Option, Some, None, is_some, IsSome, refl, subst, inl, inr, sym, ap, ◌∙◌}
+use Rattle.std.proofs.Common.{◌≡◌, ◌≢◌, ℕ, [], Bool, true, false, cond, eqb, eq-eqb, eqb-true, Option, Some, None, is_some, IsSome, refl, subst, inl, inr, sym, ap, ◌∙◌}
 use Rattle.std.specs.Option.{option_map, option_and_then}
 use Rattle.std.proofs.lemmas.Bool.{cases_eq, false≢true}
-use Rattle.std.proofs.lemmas.Option.{none-some}
 use Rattle.bm_base.specs.declared.replica.BlockInfo.{BlockInfo}
 use Rattle.bm_arena.specs.Triplets.{Block}
 use Rattle.bm_arena.specs.Contents.{Contents, block_at, slot_of, marks_at, find_marks, with_info, IsAdded, IsLawful}
-use Rattle.bm_arena.specs.Holding.{replicas_of, blocks_of, info_at, with_known}
+use Rattle.bm_arena.specs.Holding.{replicas_of, blocks_of, with_known}
 use Rattle.bm_arena.proofs.Changed.{changed_at, changed-here, changed-elsewhere, changed-blind}
 use Rattle.bm_arena.proofs.Held.{replicas-kept, blocks-set, same_replicas, same_blocks}
 

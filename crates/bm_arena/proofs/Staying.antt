@@ -1,12 +1,12 @@
 -- Entries stay under list operations and new marks.
-use Rattle.std.proofs.Common.{◌≡◌, ℕ, List, Option, Some, None, IsSome, refl, subst, inl, inr, sym, ap, ◌∙◌}
+use Rattle.std.proofs.Common.{◌≡◌, ℕ, List, IsSome, refl, subst, inl, inr, sym, ap, ◌∙◌}
 use Rattle.std.specs.Prelude.{nat_eq}
 use Rattle.std.specs.Option.{option_map_or}
 use Rattle.std.specs.Map.{lookup}
 use Rattle.std.proofs.lemmas.Bool.{cases_eq}
 use Rattle.bm_arena.specs.Triplets.{Block}
 use Rattle.bm_base.specs.declared.replica.Marks.{Marks}
-use Rattle.bm_arena.specs.Contents.{Contents, with_marks, block_at, known_of, room_at, KeepsOthers, KeepsAllBut, KeepsEntries}
+use Rattle.bm_arena.specs.Contents.{Contents, with_marks, block_at, known_of, KeepsOthers, KeepsAllBut, KeepsEntries}
 use Rattle.bm_arena.proofs.Changed.{keeps-changed}
 use Rattle.bm_arena.proofs.Marked.{set_at, set-known}
 

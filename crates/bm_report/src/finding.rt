@@ -85,4 +85,3 @@ pub(crate) fn first_of_part(from: BlockId, part: Part) -> u128
     };
     u128::from(from.0) + u128::from(gap)
 }
-

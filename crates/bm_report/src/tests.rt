@@ -36,7 +36,9 @@ enum Step {
     Linked(u64, u32, bool),
     /// A storage makes a full report.
     Reports(u32, [Line; 3]),
-    /// The same, with no slots kept.
+    /// The same to a part of several: its index, and how many there are.
+    ReportsToPart(u32, [Line; 3], u32, u32),
+    /// A storage makes a full report, of which no slots are kept.
     ReportsByNumber(u32, [Line; 3]),
     /// A full report is made ready.
     Readies(u32, [Line; 3]),
@@ -164,10 +166,15 @@ fn linked(
     Answer::Fine
 }
 
-fn reported(rt: &impl Abort, world: &mut World, storage: StorageId, entries: &[Entry]) -> Answer {
-    let is_ready = world
-        .report
-        .ready(&mut world.arena, storage, entries, WHOLE);
+fn reported(
+    rt: &impl Abort,
+    world: &mut World,
+    storage: StorageId,
+    entries: &[Entry],
+    part: Part,
+) -> Answer {
+    assert!(rt; part.index < part.shards);
+    let is_ready = world.report.ready(&mut world.arena, storage, entries, part);
     assert!(rt; is_ready.is_ok());
     assert!(rt; is_simple(&world.arena));
     assert!(rt; !world.arena.has_delimiter(storage));
@@ -308,7 +315,12 @@ fn told(rt: &impl Abort, world: &mut World, step: Step) -> Answer {
         }
         Step::Reports(storage, lines) => {
             let entries = [entry(lines[0]), entry(lines[1]), entry(lines[2])];
-            reported(rt, world, StorageId(storage), entries.as_slice())
+            reported(rt, world, StorageId(storage), entries.as_slice(), WHOLE)
+        }
+        Step::ReportsToPart(storage, lines, index, shards) => {
+            let entries = [entry(lines[0]), entry(lines[1]), entry(lines[2])];
+            let part = Part { index, shards };
+            reported(rt, world, StorageId(storage), entries.as_slice(), part)
         }
         Step::ReportsByNumber(storage, lines) => {
             let entries = [entry(lines[0]), entry(lines[1]), entry(lines[2])];
@@ -504,6 +516,64 @@ const UNCHANGED_AND_LONG: [(Step, Answer); 7] = [
 #[test]
 fn unchanged_report_lists_no_slot(rt: HostRuntime) {
     go(&rt, rt.alloc(), UNCHANGED_AND_LONG.as_slice());
+}
+
+const TO_ONE_PART_OF_FIVE: [(Step, Answer); 8] = [
+    (Step::Known(12), Answer::Fine),
+    (
+        Step::ReportsToPart(11, [Line(4, 13, 1), Line(3, 6, 1), Line(16, 17, 0)], 2, 5),
+        Answer::Did(3, 0, 5),
+    ),
+    (Step::Walk(11), Answer::Blocks([17, 12, 7, 0], 3)),
+    (Step::Entries, Answer::Number(3)),
+    (Step::MarksOf(12, 11), Answer::Tagged(Tag::Good, false)),
+    (
+        Step::ReportsToPart(11, [Line(8, 14, 0), NO_LINE, NO_LINE], 2, 5),
+        Answer::Did(0, 2, 5),
+    ),
+    (Step::Walk(11), Answer::Blocks([12, 0, 0, 0], 1)),
+    (Step::MarksOf(12, 11), Answer::Tagged(Tag::Stale, false)),
+];
+
+#[test]
+fn part_takes_its_own_numbers_of_each_run(rt: HostRuntime) {
+    go(&rt, rt.alloc(), TO_ONE_PART_OF_FIVE.as_slice());
+}
+
+/// Makes ready a report of a thousand new numbers from one on, and gives it up.
+fn give_up_thousand(rt: &impl Abort, world: &mut World, from: u64) {
+    let line = Line(from, from.saturating_add(999), 1);
+    let is_ready = world.report.ready(
+        &mut world.arena,
+        StorageId(11),
+        [entry(line)].as_slice(),
+        WHOLE,
+    );
+    assert!(rt; is_ready.is_ok());
+    assert_eq!(rt; world.arena.count(), 1001);
+    world.report.abort(&mut world.arena);
+}
+
+#[test]
+fn thousand_reports_given_up_leave_nothing(rt: HostRuntime) {
+    let mut world = one_node(&rt, rt.alloc());
+    let _ = linked(&rt, &mut world.arena, 7, StorageId(12), true);
+    for i in 0..1000u64 {
+        give_up_thousand(&rt, &mut world, 1000 * (i + 1));
+    }
+    assert_eq!(&rt; world.arena.count(), 1);
+    assert_eq!(&rt;
+        walked(&rt, &world.arena, StorageId(12)),
+        Answer::Blocks([7, 0, 0, 0], 1)
+    );
+    assert_eq!(&rt;
+        walked(&rt, &world.arena, StorageId(11)),
+        Answer::Blocks([0, 0, 0, 0], 0)
+    );
+    assert_eq!(&rt;
+        marks_of(&world.arena, 7, StorageId(12)),
+        Answer::Tagged(Tag::Good, true)
+    );
 }
 
 const NOTICES: [(Step, Answer); 7] = [

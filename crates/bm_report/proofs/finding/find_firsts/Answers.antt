@@ -1,4 +1,4 @@
-use Rattle.std.proofs.Common.{◌≡◌, ◌<◌, ◌+◌, ℕ, length, inl, inr, subst, sym, ◌∙◌, arith, get_or-set_same}
+use Rattle.std.proofs.Common.{◌<◌, ◌+◌, ℕ, length, inl, inr, subst, sym, ◌∙◌, arith, get_or-set_same}
 use Rattle.std.specs.Prelude.{slice_set, slice_index_or}
 use Rattle.std.proofs.Math.ListN.{length-set}
 use Rattle.std.proofs.lemmas.Bool.{cases_eq}

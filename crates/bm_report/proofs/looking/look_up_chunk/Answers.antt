@@ -10,16 +10,16 @@ use Rattle.bm_report.proofs.looking.look_up_chunk.Goals as goal
 pub loop-place-preserved : goal.loop-place-preserved
 loop-place-preserved c =
     let at = slice_get_read c.args.chunk.now (length c.args.chunk.now) c.loop-place.place c.index-chunk-place.result refl c.loop-place-test.true c.index-chunk-place.is in record {
-  fresh = naming-chain c.args.arena.now c.loop-place.arena c.look_up_run.new.arena c.args.named.now.items c.loop-place.named.items c.look_up_run.new.named.items c.loop-place.invariant.fresh c.look_up_run.ensures.fresh;
-  kept = prepared-chain c.args.arena.now c.loop-place.arena c.look_up_run.new.arena c.loop-place.invariant.kept c.look_up_run.ensures.kept;
-  here = c.in_ok-look_up_run.ensures.here;
-  others = λ b out.
-      c.look_up_run.ensures.others b (not_named _ (λ in_it. named_apart _ b out (c.loop-place.invariant.rest b (entry_named c.args.part c.args.chunk.now c.loop-place.place c.index-chunk-place.result b at in_it)))) ∙ c.loop-place.invariant.others b out;
-  rest = λ b in_it. c.loop-place.invariant.rest b (rest_named c.args.part c.args.chunk.now c.loop-place.place c.index-chunk-place.result b at in_it);
-  named =
-      told_on c.args.part c.args.chunk.now c.loop-place.place c.index-chunk-place.result (map told_of c.loop-place.named.items) (map told_of c.look_up_run.new.named.items) _ at c.loop-place.invariant.named
-      c.in_ok-look_up_run.ensures.named;
-}
+      fresh = naming-chain c.args.arena.now c.loop-place.arena c.look_up_run.new.arena c.args.named.now.items c.loop-place.named.items c.look_up_run.new.named.items c.loop-place.invariant.fresh c.look_up_run.ensures.fresh;
+      kept = prepared-chain c.args.arena.now c.loop-place.arena c.look_up_run.new.arena c.loop-place.invariant.kept c.look_up_run.ensures.kept;
+      here = c.in_ok-look_up_run.ensures.here;
+      others = λ b out.
+          c.look_up_run.ensures.others b (not_named _ (λ in_it. named_apart _ b out (c.loop-place.invariant.rest b (entry_named c.args.part c.args.chunk.now c.loop-place.place c.index-chunk-place.result b at in_it)))) ∙ c.loop-place.invariant.others b out;
+      rest = λ b in_it. c.loop-place.invariant.rest b (rest_named c.args.part c.args.chunk.now c.loop-place.place c.index-chunk-place.result b at in_it);
+      named =
+          told_on c.args.part c.args.chunk.now c.loop-place.place c.index-chunk-place.result (map told_of c.loop-place.named.items) (map told_of c.look_up_run.new.named.items) _ at c.loop-place.invariant.named
+          c.in_ok-look_up_run.ensures.named;
+    }
 
 pub returns-clause-named : goal.returns-clause-named
 returns-clause-named c =

@@ -1,5 +1,4 @@
-use Rattle.std.proofs.Common.{◌≡◌, Some, is_some, length, refl, ap, ◌∙◌, add-one, take}
-use Rattle.std.specs.Prelude.{slice_get}
+use Rattle.std.proofs.Common.{is_some, length, refl, ap, ◌∙◌, add-one}
 use Rattle.std.proofs.lemmas.Option.{slice_get_read}
 use Rattle.bm_report.proofs.Prepared.{prepared-chain, here-prepared, here_at, room_more}
 use Rattle.bm_report.proofs.rooms.make_chunk_rooms.Goals as goal

@@ -36,8 +36,8 @@ loop-rest-preserved c =
         done.0 ++ c.split_at.result.0.now,
         append_assoc done.0 c.split_at.result.0.now c.split_at.result.1.now ∙ ap (λ l. done.0 ++ l) whole ∙ done.1,
         room-append c.make_chunk_rooms.new.arena c.args.storage done.0 c.split_at.result.0.now
-        (room-prepared c.args.storage c.loop-rest.arena c.make_chunk_rooms.new.arena done.0 c.lawful.ensures c.make_chunk_rooms.ensures.kept (here-part c.loop-rest.arena done.0 c.loop-rest.rest.now (subst P (sym done.1) all)) done.2)
-        c.in_ok-make_chunk_rooms.ensures.room,
+            (room-prepared c.args.storage c.loop-rest.arena c.make_chunk_rooms.new.arena done.0 c.lawful.ensures c.make_chunk_rooms.ensures.kept (here-part c.loop-rest.arena done.0 c.loop-rest.rest.now (subst P (sym done.1) all)) done.2)
+            c.in_ok-make_chunk_rooms.ensures.room,
       );
       numbers = λ b. c.make_chunk_rooms.ensures.numbers b ∙ c.loop-rest.invariant.numbers b;
     }

@@ -5,7 +5,6 @@ use Rattle.std.proofs.lemmas.Bool.{false≢true}
 use Rattle.bm_arena.proofs.Lawfulness.{IsLawful-arena}
 use Rattle.bm_arena.proofs.Reading.{reserve-arena, reserve-view, room-entry}
 use Rattle.bm_arena.proofs.Bounds.{below-changed}
-use Rattle.bm_arena.specs.Holding.{replicas_of, blocks_of}
 use Rattle.bm_arena.proofs.Held.{replicas-kept, blocks-kept}
 use Rattle.bm_arena.proofs.arena.Arena.reserve_triplet.Goals as goal
 

@@ -5,7 +5,6 @@ use Rattle.bm_arena.proofs.Marked.{set-marks, set-others, set-elsewhere, set-kno
 use Rattle.bm_arena.proofs.Relinked.{set_marks-arena, set_marks-lists, set_marks-blocks}
 use Rattle.bm_arena.proofs.Bounds.{below-changed}
 use Rattle.bm_arena.specs.Contents.{IsLawful, KeepsAllBut, with_marks}
-use Rattle.bm_arena.specs.Holding.{replicas_of, blocks_of}
 use Rattle.bm_arena.proofs.Changed.{keeps-changed}
 use Rattle.bm_arena.proofs.Held.{replicas-put, blocks-kept}
 use Rattle.bm_arena.proofs.arena.Arena.set_marks.Goals as goal
