@@ -1,5 +1,5 @@
 -- Lists that are filtered twice, and lists of what passes.
-use Rattle.std.proofs.Common.{◌≡◌, Bool, true, false, cond, ◌&&◌, ◌||◌, List, [], ◌∷◌, map, filter, refl, sym, ap, ◌∙◌}
+use Rattle.std.proofs.Common.{◌≡◌, ◌≤◌, Bool, true, false, cond, ◌&&◌, ◌||◌, List, [], ◌∷◌, map, filter, length, arith, refl, sym, ap, ◌∙◌}
 use Rattle.std.specs.List.{list_any}
 use Rattle.bm_base.proofs.Each.{Each}
 
@@ -14,6 +14,12 @@ swapped true b false h = h refl
 swapped false b true h = refl
 swapped false b false h = refl
 
+fewer_head : {X : Type 0} (b c : Bool) (x : X) (ys zs : List X) → (b ≡ true → c ≡ true) → length ys ≤ length zs → length (cond b (x ∷ ys) ys) ≤ length (cond c (x ∷ zs) zs)
+fewer_head true true x ys zs more rest = omega (arith, rest)
+fewer_head true false x ys zs more rest = let clash = more refl in cc
+fewer_head false true x ys zs more rest = omega (arith, rest)
+fewer_head false false x ys zs more rest = rest
+
 module _ {X : Type 0} where
   pub filtered_twice : (p q : X → Bool) (xs : List X) → filter p (filter q xs) ≡ filter (λ x. q x && p x) xs
   filtered_twice p q [] = refl
@@ -26,6 +32,11 @@ module _ {X : Type 0} where
   pub filtered_alike : (p q : X → Bool) (xs : List X) → Each (λ x. p x ≡ q x) xs → filter p xs ≡ filter q xs
   filtered_alike p q [] h = refl
   filtered_alike p q (x ∷ xs) h = λ i. cond (h.0 i) (x ∷ filtered_alike p q xs h.1 i) (filtered_alike p q xs h.1 i)
+
+  -- fewer pass a test that wants more
+  pub fewer_passing : (p q : X → Bool) → ((x : X) → p x ≡ true → q x ≡ true) → (xs : List X) → length (filter p xs) ≤ length (filter q xs)
+  fewer_passing p q more [] = omega arith
+  fewer_passing p q more (x ∷ xs) = fewer_head (p x) (q x) x (filter p xs) (filter q xs) (more x) (fewer_passing p q more xs)
 
   pub filter_none : (p : X → Bool) (xs : List X) → Each (λ x. p x ≡ false) xs → filter p xs ≡ []
   filter_none p [] h = refl

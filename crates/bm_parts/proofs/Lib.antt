@@ -19,10 +19,11 @@ pub mod JoinedReplicas
 pub mod JoinedBlocks
 pub mod HeldBack
 pub mod OwnShard
--- Settled blocks.
+-- Storages of a block's replicas, and settled blocks.
+pub mod Storages
+pub mod OneBlock
 pub mod Settling
 -- Levels.
-pub mod Storages
 pub mod Deaths
 pub mod Leveling
 pub mod Drains

@@ -1,73 +1,34 @@
--- A round leaves settled blocks.
-use Rattle.std.proofs.Common.{◌≡◌, ℕ, ◌-◌, ◌≤◌, Bool, true, false, cond, not, ◌&&◌, List, [], ◌∷◌, map, filter, length, Option, Some, None, refl, sym, ap, ◌∙◌, arith, eqb-true}
-use Rattle.std.specs.Prelude.{◌==◌, if◌then◌else◌, option_and_then}
+-- Settled blocks: a round leaves them, and most changes leave them settled.
+use Rattle.std.proofs.Common.{◌≡◌, ℕ, ◌-◌, ◌≤◌, Bool, true, false, not, ◌&&◌, List, [], ◌∷◌, length, Option, Some, None, refl, sym, ap, ◌∙◌, arith}
+use Rattle.std.specs.Prelude.{◌==◌, ◌||◌, if◌then◌else◌, option_map, option_and_then}
 use Rattle.std.specs.Option.{option_map_or}
 use Rattle.bm_base.specs.declared.replica.ReplicaId.{ReplicaId}
 use Rattle.bm_base.specs.declared.replica.Marks.{Marks}
 use Rattle.bm_base.specs.declared.replica.BlockInfo.{BlockInfo}
-use Rattle.bm_base.specs.Map.{get, entries, revise}
-use Rattle.bm_base.specs.State.{Cluster, Holdings, by_replica}
+use Rattle.bm_base.specs.Map.{get, keep, revise}
+use Rattle.bm_base.specs.State.{Cluster, Holdings, replica_at}
 use Rattle.bm_base.specs.Lists.{has}
-use Rattle.bm_base.specs.Replicas.{is_usable, is_live_on, is_drained_on, is_draining, live, drained, storages_where, racks, is_multi_rack}
+use Rattle.bm_base.specs.Replicas.{is_usable, is_live_on, is_drained_on, is_draining, has_storage, drains, live, drained, storages_where, racks, is_multi_rack}
 use Rattle.bm_base.specs.Levels.{level, level_of}
 use Rattle.bm_base.specs.Excess.{without_expired, without_unordered_excess, excess_among, excess_of, excess_in, marked}
 use Rattle.bm_base.specs.Deletes.{is_deletable}
-use Rattle.bm_base.proofs.MapLaws.{entries-revise}
+use Rattle.bm_base.proofs.MapLaws.{get-revise}
 use Rattle.bm_base.specs.RoundParts.{started_holdings}
 use Rattle.bm_parts.specs.Settled as law
 use Rattle.bm_parts.specs.Settled.{IsSettled, plain, usable}
-use Rattle.bm_base.proofs.Each.{Each, each_then}
-use Rattle.bm_base.proofs.Maps.{each_entry, get_revised}
-
--- storages of a block whose replicas' marks don't change
-module _ (f : ReplicaId → Marks → Marks) (p : ℕ → Marks → Bool) (b : ℕ) where
-  abbrev picks : ReplicaId × Marks → Bool
-  picks e = (e.0.block == b) && p e.0.storage e.1
-
-  abbrev picked : List (ReplicaId × Marks) → List ℕ
-  picked es = map (λ (e : ReplicaId × Marks). e.0.storage) (filter picks es)
-
-  abbrev changed : ReplicaId × Marks → ReplicaId × Marks
-  changed e = (e.0, f e.0 e.1)
-
-  passing : (e : ReplicaId × Marks) → (e.0.block ≡ b → f e.0 e.1 ≡ e.1) → (t : Bool) → (e.0.block == b) ≡ t → (t && p e.0.storage (f e.0 e.1)) ≡ (t && p e.0.storage e.1)
-  passing e same true is = ap (p e.0.storage) (same (eqb-true e.0.block b is))
-  passing e same false is = refl
-
-  picked_head : (e : ReplicaId × Marks) (es fs : List (ReplicaId × Marks)) (t : Bool) → map (λ (e : ReplicaId × Marks). e.0.storage) es ≡ map (λ (e : ReplicaId × Marks). e.0.storage) fs
-      → map (λ (e : ReplicaId × Marks). e.0.storage) (cond t (changed e ∷ es) es) ≡ map (λ (e : ReplicaId × Marks). e.0.storage) (cond t (e ∷ fs) fs)
-  picked_head e es fs true rest = ap (λ ss. e.0.storage ∷ ss) rest
-  picked_head e es fs false rest = rest
-
-  same_storages : (es : List (ReplicaId × Marks)) → Each (λ e. e.0.block ≡ b → f e.0 e.1 ≡ e.1) es → picked (map changed es) ≡ picked es
-  same_storages [] each = refl
-  same_storages (e ∷ es) each =
-      ap (λ t. map (λ (e : ReplicaId × Marks). e.0.storage) (cond t (changed e ∷ filter picks (map changed es)) (filter picks (map changed es)))) (passing e each.0 (e.0.block == b) refl)
-      ∙ picked_head e (filter picks (map changed es)) (filter picks es) (picks e) (same_storages es each.1)
-
-storages_revised : (H : Holdings) (f : ReplicaId → Marks → Marks) (p : ℕ → Marks → Bool) (b : ℕ) → ((q : ReplicaId) (m : Marks) → q.block ≡ b → get H.replicas q ≡ Some m → f q m ≡ m)
-    → storages_where p (record H { replicas = revise H.replicas f }) b ≡ storages_where p H b
-unfolding storages_where
-storages_revised H f p b same =
-    ap (picked f p b) (entries-revise by_replica H.replicas f)
-    ∙ same_storages f p b (entries H.replicas) (each_then (λ e. get H.replicas e.0 ≡ Some e.1) (λ e. e.0.block ≡ b → f e.0 e.1 ≡ e.1) (entries H.replicas) (each_entry H.replicas) (λ e there at. same e.0 e.1 at there))
+use Rattle.std.proofs.lemmas.Bool.{and_parts, and_right, or_parts}
+use Rattle.bm_parts.proofs.OneBlock.{settled_is_of_its_block}
+use Rattle.bm_parts.proofs.Storages.{storages_left, storages_revised, fewer_where}
+use Rattle.bm_base.specs.declared.commands.Transfer.{Transfer}
+use Rattle.bm_base.specs.declared.commands.Delete.{Delete}
+use Rattle.bm_base.specs.Events.{without_storages, begun_to_drain}
+use Rattle.bm_base.specs.Rounds.{is_commanded, finished}
+use Rattle.std.specs.List.{list_any}
+use Rattle.bm_base.proofs.Maps.{get_kept, get_revised}
 
 -- no more are live than are usable
 fewer_live : (C : Cluster) (H : Holdings) (b : ℕ) → length (live C H b) ≤ length (usable H b)
-unfolding storages_where
-fewer_live C H b = fewer_listed (entries H.replicas)
-  where
-    fewer_by : (e : ReplicaId × Marks) (ls us : List (ReplicaId × Marks)) (t u d : Bool) → length (map (λ (e : ReplicaId × Marks). e.0.storage) ls) ≤ length (map (λ (e : ReplicaId × Marks). e.0.storage) us)
-        → length (map (λ (e : ReplicaId × Marks). e.0.storage) (cond (t && (u && not d)) (e ∷ ls) ls)) ≤ length (map (λ (e : ReplicaId × Marks). e.0.storage) (cond (t && u) (e ∷ us) us))
-    fewer_by e ls us true true true rest = omega (arith, rest)
-    fewer_by e ls us true true false rest = omega (arith, rest)
-    fewer_by e ls us true false d rest = rest
-    fewer_by e ls us false u d rest = rest
-
-    fewer_listed : (es : List (ReplicaId × Marks))
-        → length (map (λ (e : ReplicaId × Marks). e.0.storage) (filter (λ e. (e.0.block == b) && is_live_on C e.0.storage e.1) es)) ≤ length (map (λ (e : ReplicaId × Marks). e.0.storage) (filter (λ e. (e.0.block == b) && is_usable e.1) es))
-    fewer_listed [] = omega arith
-    fewer_listed (e ∷ es) = fewer_by e _ _ (e.0.block == b) (is_usable e.1) (is_draining C e.0.storage) (fewer_listed es)
+fewer_live C H b = fewer_where (is_live_on C) (λ _ m. is_usable m) H b (λ s m h. (and_parts (is_usable m) (not (is_draining C s)) h).0)
 
 module _ (C : Cluster) (pend r : ℕ) (H : Holdings) (b : ℕ) (settled : IsSettled H b) where
   abbrev U : Holdings
@@ -78,7 +39,7 @@ module _ (C : Cluster) (pend r : ℕ) (H : Holdings) (b : ℕ) (settled : IsSett
 
   storages_dropped : (p : ℕ → Marks → Bool) → storages_where p U b ≡ storages_where p H b
   unfolding without_unordered_excess without_expired storages_where
-  storages_dropped p = storages_revised H (λ _ m. dropping m) p b (λ q m at there. ap dropping (settled.all_plain q m at there) ∙ sym (settled.all_plain q m at there))
+  storages_dropped p = storages_revised H (λ _ m. dropping m) p b (λ q m at there. ap (p q.storage) (ap dropping (settled.all_plain q m at there) ∙ sym (settled.all_plain q m at there)))
 
   known_same : get U.blocks b ≡ get H.blocks b
   unfolding without_unordered_excess without_expired
@@ -104,7 +65,7 @@ module _ (C : Cluster) (pend r : ℕ) (H : Holdings) (b : ℕ) (settled : IsSett
 
   storages_same : (p : ℕ → Marks → Bool) → storages_where p (started_holdings C pend r H) b ≡ storages_where p H b
   unfolding started_holdings marked
-  storages_same p = storages_revised U marking p b (λ q m at there. not_marked q m at) ∙ storages_dropped p
+  storages_same p = storages_revised U marking p b (λ q m at there. ap (p q.storage) (not_marked q m at)) ∙ storages_dropped p
 
   live_same : live C (started_holdings C pend r H) b ≡ live C H b
   live_same = storages_same (is_live_on C)
@@ -133,3 +94,68 @@ plain_is_kept C G q = refl
 
 pub settled_is_kept : law.settled_is_kept
 settled_is_kept C pend r H q m settled there = ap (is_deletable C (started_holdings C pend r H) q) (marks_at_start C pend r H q.block settled q m refl there) ∙ plain_is_kept C (started_holdings C pend r H) q
+
+-- Which changes leave a block settled.
+
+pub leaving_keeps_settled : law.leaving_keeps_settled
+unfolding without_storages
+leaving_keeps_settled H gone b settled = record {
+  all_plain = λ q m at there. settled.all_plain q m at (get_kept H.replicas (λ q _. not (gone q.storage)) q m there).0;
+  few = λ i is.
+      let few = settled.few i is in
+      let left = ap length (storages_left H gone (λ _ m. is_usable m) (λ s m. not (gone s) && is_usable m) b (λ s m there. refl)) in
+      let less = fewer_where (λ s m. not (gone s) && is_usable m) (λ _ m. is_usable m) H b (λ s m h. (and_parts (not (gone s)) (is_usable m) h).1) in
+      omega (arith, few, left, less);
+}
+
+pub drain_keeps_settled : law.drain_keeps_settled
+unfolding begun_to_drain
+drain_keeps_settled C H n b settled = by_test (drains C n)
+  where
+    by_test : (t : Bool) → IsSettled (if t then H else record H { pending = keep H.pending (λ q _. not (has_storage C n q.storage)) }) b
+    by_test true = settled
+    by_test false = settled_is_of_its_block H (record H { pending = keep H.pending (λ q _. not (has_storage C n q.storage)) }) b refl (λ s. refl) settled
+
+-- a delete of another block
+none_commanded : (ds : List Delete) (q : ReplicaId) → list_any (λ d. d.block == q.block) ds ≡ false → is_commanded ds q ≡ false
+unfolding is_commanded
+none_commanded [] q none = refl
+none_commanded (d ∷ ds) q none =
+    let two = or_parts (d.block == q.block) (list_any (λ d. d.block == q.block) ds) none in
+    ap (λ t. ((d.storage == q.storage) && t) || list_any (λ (d : Delete). (d.storage == q.storage) && (d.block == q.block)) ds) two.0
+    ∙ ap (λ t. t || list_any (λ (d : Delete). (d.storage == q.storage) && (d.block == q.block)) ds) (and_right (d.storage == q.storage) false refl) ∙ none_commanded ds q two.1
+
+module _ (C : Cluster) (pend r : ℕ) (H : Holdings) (ts : List Transfer) (ds : List Delete) (b : ℕ) (none : list_any (λ d. d.block == b) ds ≡ false) (settled : IsSettled H b) where
+  abbrev begun_round : Holdings
+  begun_round = started_holdings C pend r H
+
+  -- the end of the round leaves each of its replicas
+  not_ordered : (s : ℕ) → get (finished r begun_round ts ds).replicas (replica_at b s) ≡ get begun_round.replicas (replica_at b s)
+  unfolding finished
+  not_ordered s =
+      get-revise begun_round.replicas (λ q m. if is_commanded ds q then record m { ordered = true } else m) (replica_at b s)
+      ∙ same (get begun_round.replicas (replica_at b s)) (none_commanded ds (replica_at b s) none)
+    where
+      same : (o : Option Marks) → is_commanded ds (replica_at b s) ≡ false → option_map (λ (m : Marks). if is_commanded ds (replica_at b s) then record m { ordered = true } else m) o ≡ o
+      same None e = refl
+      same (Some m) e = ap (λ t. Some (if t then record m { ordered = true } else m)) e
+
+  known_at_end : get (finished r begun_round ts ds).blocks b ≡ get begun_round.blocks b
+  unfolding finished
+  known_at_end = refl
+
+  known_at_start : get begun_round.blocks b ≡ get H.blocks b
+  unfolding started_holdings marked without_unordered_excess without_expired
+  known_at_start = refl
+
+  settled_at_start : IsSettled begun_round b
+  settled_at_start = record {
+    all_plain = marks_at_start C pend r H b settled;
+    few = λ i is. let few = settled.few i (sym known_at_start ∙ is) in let as_many = ap length (storages_same C pend r H b settled (λ _ m. is_usable m)) in omega (arith, few, as_many);
+  }
+
+  settled_at_end : IsSettled (finished r begun_round ts ds) b
+  settled_at_end = settled_is_of_its_block begun_round (finished r begun_round ts ds) b known_at_end not_ordered settled_at_start
+
+pub round_keeps_settled : law.round_keeps_settled
+round_keeps_settled C pend r H ts ds b none settled = settled_at_end C pend r H ts ds b none settled

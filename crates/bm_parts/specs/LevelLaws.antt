@@ -1,20 +1,42 @@
 -- What events on the cluster leave of levels: which blocks a shard need not judge anew.
-use Rattle.std.specs.Prelude.{◌≡◌, ℕ, false, ◌==◌, List, IsSome}
+use Rattle.std.specs.Prelude.{◌≡◌, ◌≢◌, ℕ, false, ◌==◌, List, Some, None, IsSome}
 use Rattle.std.specs.List.{list_any}
+use Rattle.bm_base.specs.declared.commands.Transfer.{Transfer}
+use Rattle.bm_base.specs.declared.commands.Delete.{Delete}
+use Rattle.bm_base.specs.declared.event.Event.{Event}
 use Rattle.bm_base.specs.declared.event.Remaining.{Remaining}
 use Rattle.bm_base.specs.declared.replica.ReplicaId.{ReplicaId}
 use Rattle.bm_base.specs.Map.{get, contains_key}
-use Rattle.bm_base.specs.State.{Cluster, Holdings}
+use Rattle.bm_base.specs.State.{Cluster, Holdings, replica_at}
 use Rattle.bm_base.specs.Lists.{has}
 use Rattle.bm_base.specs.Replicas.{rack_of, has_storage, is_draining, is_multi_rack}
 use Rattle.bm_base.specs.Levels.{level}
-use Rattle.bm_base.specs.Events.{register, heartbeat, without_node, without_storage, drain, undrain, without_storages, begun_to_drain}
-use Rattle.bm_base.specs.Refusals.{knows_storage}
+use Rattle.bm_base.specs.Events.{register, heartbeat, without_node, without_storage, drain, undrain, without_storages, begun_to_drain, change_cluster, change_holdings}
+use Rattle.bm_base.specs.Refusals.{knows_storage, first_of, cluster_checks}
+use Rattle.bm_base.specs.Rounds.{finished}
+use Rattle.bm_base.specs.RoundParts.{round_on_part}
+use Rattle.bm_base.specs.Lawful.{IsLawfulCluster}
+use Rattle.bm_parts.specs.Parts.{block_of, change_part}
 use Rattle.bm_parts.specs.Settled.{usable}
 
 -- each replica is on a storage of an alive node
 abbrev pub IsRacked : Cluster → Holdings → Type 0
 IsRacked C H = (q : ReplicaId) → IsSome (get H.replicas q) → IsSome (rack_of C q.storage)
+
+-- One block.
+
+-- a block's level is of what is known of it and of its own replicas, whatever else is held
+abbrev pub level_is_of_its_block : Type 0
+level_is_of_its_block =
+    (C : Cluster) (H G : Holdings) (b : ℕ) → get G.blocks b ≡ get H.blocks b → ((s : ℕ) → get G.replicas (replica_at b s) ≡ get H.replicas (replica_at b s)) → level C G b ≡ level C H b
+
+-- an event on one block leaves the levels of all others
+abbrev pub event_leaves_other_levels : Type 0
+event_leaves_other_levels = (C : Cluster) (H : Holdings) (e : Event) (b c : ℕ) → block_of e ≡ Some b → c ≢ b → level C (change_holdings C H e) c ≡ level C H c
+
+-- the end of a round leaves every level as the start of it made it
+abbrev pub round_ends_without_levels : Type 0
+round_ends_without_levels = (C : Cluster) (r : ℕ) (G : Holdings) (ts : List Transfer) (ds : List Delete) (b : ℕ) → level C (finished r G ts ds) b ≡ level C G b
 
 -- Heartbeats.
 
@@ -58,21 +80,13 @@ undrain_leaves_levels = (C : Cluster) (H : Holdings) (n b : ℕ) → list_any (h
 
 -- Replicas stay on storages of alive nodes.
 
-abbrev pub register_keeps_racked : Type 0
-register_keeps_racked =
-    (C : Cluster) (H : Holdings) (n rack : ℕ) (ss : List ℕ) → contains_key C.nodes n ≡ false → list_any (knows_storage C) ss ≡ false → IsRacked C H → IsRacked (register C n rack ss) H
+-- an event that the cluster does not refuse, in a part of the holdings
+abbrev pub event_keeps_racked : Type 0
+event_keeps_racked =
+    (C : Cluster) (P : Holdings) (e : Event) (index shards : ℕ) → IsLawfulCluster C → first_of (cluster_checks C e) ≡ None → IsRacked C P
+    → IsRacked (change_cluster C e) (change_part C P index shards e)
 
-abbrev pub death_keeps_racked : Type 0
-death_keeps_racked = (C : Cluster) (H : Holdings) (n : ℕ) → IsRacked C H → IsRacked (without_node C n) (without_storages H (has_storage C n))
-
-abbrev pub failure_keeps_racked : Type 0
-failure_keeps_racked = (C : Cluster) (H : Holdings) (t : ℕ) → IsRacked C H → IsRacked (without_storage C t) (without_storages H (λ s. s == t))
-
-abbrev pub heartbeat_keeps_racked : Type 0
-heartbeat_keeps_racked = (C : Cluster) (H : Holdings) (rs : List Remaining) → IsRacked C H → IsRacked (heartbeat C rs) H
-
-abbrev pub drain_keeps_racked : Type 0
-drain_keeps_racked = (C : Cluster) (H : Holdings) (n : ℕ) → IsRacked C H → IsRacked (drain C n) (begun_to_drain C H n)
-
-abbrev pub undrain_keeps_racked : Type 0
-undrain_keeps_racked = (C : Cluster) (H : Holdings) (n : ℕ) → IsRacked C H → IsRacked (undrain C n) H
+-- and a round
+abbrev pub round_keeps_racked : Type 0
+round_keeps_racked =
+    (C : Cluster) (pend r : ℕ) (P : Holdings) (index shards : ℕ) (ts : List Transfer) (ds : List Delete) → IsRacked C P → IsRacked C (round_on_part C pend r P index shards ts ds)

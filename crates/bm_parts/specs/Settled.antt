@@ -1,15 +1,20 @@
 -- Blocks at which a round need not look for marks or deletes.
-use Rattle.std.specs.Prelude.{◌≡◌, ℕ, ◌≤◌, false, List, [], length, Some}
+use Rattle.std.specs.Prelude.{◌≡◌, ℕ, ◌≤◌, Bool, false, ◌==◌, List, [], length, Some}
+use Rattle.std.specs.List.{list_any}
+use Rattle.bm_base.specs.declared.commands.Transfer.{Transfer}
+use Rattle.bm_base.specs.declared.commands.Delete.{Delete}
 use Rattle.bm_base.specs.declared.replica.ReplicaId.{ReplicaId}
 use Rattle.bm_base.specs.declared.replica.Marks.{Marks}
 use Rattle.bm_base.specs.declared.replica.Tag.TheVariants.{Good}
 use Rattle.bm_base.specs.declared.replica.BlockInfo.{BlockInfo}
 use Rattle.bm_base.specs.Map.{get}
-use Rattle.bm_base.specs.State.{Cluster, Holdings}
+use Rattle.bm_base.specs.State.{Cluster, Holdings, replica_at}
 use Rattle.bm_base.specs.Replicas.{is_usable, live, drained, storages_where}
 use Rattle.bm_base.specs.Levels.{level}
 use Rattle.bm_base.specs.Excess.{excess_in, without_expired, without_unordered_excess}
 use Rattle.bm_base.specs.Deletes.{is_deletable}
+use Rattle.bm_base.specs.Events.{without_storages, begun_to_drain}
+use Rattle.bm_base.specs.Rounds.{finished}
 use Rattle.bm_base.specs.RoundParts.{started_holdings}
 
 -- good, not in excess and not ordered
@@ -36,3 +41,24 @@ abbrev pub settled_is_kept : Type 0
 settled_is_kept =
     (C : Cluster) (pend r : ℕ) (H : Holdings) (q : ReplicaId) (m : Marks) → IsSettled H q.block
     → get (started_holdings C pend r H).replicas q ≡ Some m → is_deletable C (started_holdings C pend r H) q m ≡ false
+
+-- Which changes leave a block settled.
+
+-- it is settled by what is known of it and by its own replicas, whatever else is held
+abbrev pub settled_is_of_its_block : Type 0
+settled_is_of_its_block =
+    (H G : Holdings) (b : ℕ) → get G.blocks b ≡ get H.blocks b → ((s : ℕ) → get G.replicas (replica_at b s) ≡ get H.replicas (replica_at b s)) → IsSettled H b → IsSettled G b
+
+-- replicas may leave
+abbrev pub leaving_keeps_settled : Type 0
+leaving_keeps_settled = (H : Holdings) (gone : ℕ → Bool) (b : ℕ) → IsSettled H b → IsSettled (without_storages H gone) b
+
+-- nodes may begin to drain
+abbrev pub drain_keeps_settled : Type 0
+drain_keeps_settled = (C : Cluster) (H : Holdings) (n b : ℕ) → IsSettled H b → IsSettled (begun_to_drain C H n) b
+
+-- and a round that deletes none of its replicas leaves it settled
+abbrev pub round_keeps_settled : Type 0
+round_keeps_settled =
+    (C : Cluster) (pend r : ℕ) (H : Holdings) (ts : List Transfer) (ds : List Delete) (b : ℕ) → list_any (λ d. d.block == b) ds ≡ false → IsSettled H b
+    → IsSettled (finished r (started_holdings C pend r H) ts ds) b

@@ -1,7 +1,22 @@
-// What events on the cluster leave of levels.
+// What events and rounds leave of levels, and that replicas stay on storages of alive nodes.
 #![tactic(auto)]
 
 ghost use Rattle.bm_parts.specs.LevelLaws as law;
+
+/// A block's level is of what is known of it and of its own replicas, whatever else is held.
+pub fn level_is_of_its_block()
+    ensures { law.level_is_of_its_block }
+{}
+
+/// An event on one block leaves the levels of all others.
+pub fn event_leaves_other_levels()
+    ensures { law.event_leaves_other_levels }
+{}
+
+/// The end of a round leaves every level as the start of it made it.
+pub fn round_ends_without_levels()
+    ensures { law.round_ends_without_levels }
+{}
 
 /// A heartbeat leaves the rack of each storage, which storages stand on nodes that drain, and whether there are several racks.
 pub fn heartbeat_leaves_racks()
@@ -38,32 +53,12 @@ pub fn undrain_leaves_levels()
     ensures { law.undrain_leaves_levels }
 {}
 
-/// With a new node, replicas stay on storages of alive nodes.
-pub fn register_keeps_racked()
-    ensures { law.register_keeps_racked }
+/// An event that the cluster does not refuse leaves the replicas of a part on storages of alive nodes.
+pub fn event_keeps_racked()
+    ensures { law.event_keeps_racked }
 {}
 
-/// After a death, the replicas that are left stand on storages of alive nodes.
-pub fn death_keeps_racked()
-    ensures { law.death_keeps_racked }
-{}
-
-/// After a storage failed, the replicas that are left stand on storages of alive nodes.
-pub fn failure_keeps_racked()
-    ensures { law.failure_keeps_racked }
-{}
-
-/// With a heartbeat, replicas stay on storages of alive nodes.
-pub fn heartbeat_keeps_racked()
-    ensures { law.heartbeat_keeps_racked }
-{}
-
-/// With a node that begins to drain, replicas stay on storages of alive nodes.
-pub fn drain_keeps_racked()
-    ensures { law.drain_keeps_racked }
-{}
-
-/// With a node that ceases to drain, replicas stay on storages of alive nodes.
-pub fn undrain_keeps_racked()
-    ensures { law.undrain_keeps_racked }
+/// A round leaves the replicas of a part on storages of alive nodes.
+pub fn round_keeps_racked()
+    ensures { law.round_keeps_racked }
 {}

@@ -12,3 +12,23 @@ pub fn settled_is_left()
 pub fn settled_is_kept()
     ensures { law.settled_is_kept }
 {}
+
+/// Whether a block is settled is of what is known of it and of its own replicas, whatever else is held.
+pub fn settled_is_of_its_block()
+    ensures { law.settled_is_of_its_block }
+{}
+
+/// A settled block stays settled where storages leave with their replicas.
+pub fn leaving_keeps_settled()
+    ensures { law.leaving_keeps_settled }
+{}
+
+/// A settled block stays settled where a node begins to drain.
+pub fn drain_keeps_settled()
+    ensures { law.drain_keeps_settled }
+{}
+
+/// A round that deletes none of its replicas leaves a settled block settled.
+pub fn round_keeps_settled()
+    ensures { law.round_keeps_settled }
+{}

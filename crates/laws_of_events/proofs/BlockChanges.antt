@@ -1,5 +1,5 @@
 -- What events on blocks and replicas change.
-use Rattle.std.proofs.Common.{◌≡◌, ◌≢◌, ℕ, ◌+◌, ◌%◌, Bool, true, false, cond, not, ◌&&◌, Option, Some, None, List, refl, sym, ap, subst, ◌∙◌, eq-eqb, ne_eqb, arith, mod-eq_of_lt}
+use Rattle.std.proofs.Common.{◌≡◌, ◌≢◌, ℕ, Bool, true, false, cond, not, ◌&&◌, Option, Some, None, List, refl, sym, ap, subst, ◌∙◌, eq-eqb, ne_eqb}
 use Rattle.std.specs.Prelude.{◌==◌, if◌then◌else◌, option_and_then, option_map}
 use Rattle.std.specs.Ordering.{eq_by_cmp, nat_cmp}
 use Rattle.std.proofs.lemmas.Bool.{and_left}
@@ -17,42 +17,25 @@ use Rattle.bm_base.specs.State.{Cluster, Holdings, State, by_replica, replica_at
 use Rattle.bm_base.specs.Replicas.{is_good}
 use Rattle.bm_base.specs.Entries.{Told, expanded}
 use Rattle.bm_base.specs.Events.{add_block, delete_block, set_replication, restamp, make_bad, remove_replica, without_pending, revise_block, enter, is_named, leaves_by_report, report, change_holdings, as_stray, as_bad, as_restamped}
-use Rattle.bm_base.specs.Shards.{shard_of, cut}
 use Rattle.bm_base.specs.Calls.{after_event}
 use Rattle.bm_base.proofs.MapLaws.{get-keep, get-revise}
 use Rattle.bm_base.proofs.Options.{none_stays, all_stays}
 use Rattle.bm_base.proofs.Maps.{key_itself, not_tied, get_here, get_taken, get_left}
 use Rattle.bm_base.proofs.Entering.{stays_by}
 use Rattle.laws_of_events.proofs.Reporting.{named_numbers, reported_elsewhere}
-use Rattle.bm_parts.proofs.Parts.{cut_is_part, one_part_changed}
+use Rattle.bm_parts.specs.Parts.{IsSameOf}
+use Rattle.bm_parts.proofs.OneBlock.{others_stay}
 use Rattle.laws_of_events.specs.Changes as law
 use Rattle.laws_of_events.specs.Reports.{held_after, numbers_of}
 
--- Of another block everything stays: with so many shards that the two are in different ones.
+-- Of another block everything stays.
 
 held_is : (M : State) (e : Event) → held_after M e ≡ change_holdings M.cluster M.holdings e
 unfolding after_event
 held_is M e = refl
 
-module _ (H G : Holdings) (b c : ℕ) (same : cut G c (b + c + 1) ≡ cut H c (b + c + 1)) where
-  c_own : shard_of c (b + c + 1) ≡ c
-  c_own = mod-eq_of_lt (omega arith)
-
-  same_of : law.IsSameOf c H G
-  same_of =
-      let P = cut_is_part c (b + c + 1) G in
-      let Q = cut_is_part c (b + c + 1) H in
-      record {
-        block = sym (P.blocks c c_own) ∙ ap (λ K. get K.blocks c) same ∙ Q.blocks c c_own;
-        replicas = λ s. sym (P.replicas (replica_at c s) c_own) ∙ ap (λ K. get K.replicas (replica_at c s)) same ∙ Q.replicas (replica_at c s) c_own;
-        pending = λ s. sym (P.pending (replica_at c s) c_own) ∙ ap (λ K. get K.pending (replica_at c s)) same ∙ Q.pending (replica_at c s) c_own;
-      }
-
 pub leaves_other_blocks : law.event_leaves_other_blocks
-leaves_other_blocks M e b c is other =
-    let mine : b % (b + c + 1) ≡ b = mod-eq_of_lt (omega arith) in
-    let apart : shard_of b (b + c + 1) ≢ c = λ h. other (sym (sym mine ∙ h)) in
-    subst (λ G. law.IsSameOf c M.holdings G) (sym (held_is M e)) (same_of M.holdings (change_holdings M.cluster M.holdings e) b c (one_part_changed M.cluster M.holdings e b c (b + c + 1) is apart))
+leaves_other_blocks M e b c is other = subst (λ G. IsSameOf c M.holdings G) (sym (held_is M e)) (others_stay M.cluster M.holdings e b c is other)
 
 -- Blocks.
 

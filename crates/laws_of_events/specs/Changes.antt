@@ -16,7 +16,7 @@ use Rattle.bm_base.specs.State.{Cluster, Holdings, State, replica_at}
 use Rattle.bm_base.specs.Calls.{done_by, after_event}
 use Rattle.bm_base.specs.Lawful.{IsLawful}
 use Rattle.laws_of_events.specs.Reports.{held_after, numbers_of, IsBadIn}
-use Rattle.bm_parts.specs.Parts.{block_of}
+use Rattle.bm_parts.specs.Parts.{IsSameOf, block_of}
 
 abbrev pub cluster_after : State → Event → Cluster
 cluster_after M e = (after_event M e).cluster
@@ -33,11 +33,6 @@ no_event_clears_bad =
     (M : State) (e : Event) → IsLawful M → (p : ReplicaId) → IsBadIn M.holdings p → IsSome (get (held_after M e).replicas p) → IsTrue (contains_key (held_after M e).blocks p.block) → IsBadIn (held_after M e) p
 
 -- An event on one block leaves all that is held of another.
-pub record IsSameOf (c : ℕ) (H G : Holdings) : Type 0 where
-  pub block : get G.blocks c ≡ get H.blocks c
-  pub replicas : (s : ℕ) → get G.replicas (replica_at c s) ≡ get H.replicas (replica_at c s)
-  pub pending : (s : ℕ) → get G.pending (replica_at c s) ≡ get H.pending (replica_at c s)
-
 abbrev pub event_leaves_other_blocks : Type 0
 event_leaves_other_blocks = (M : State) (e : Event) (b c : ℕ) → block_of e ≡ Some b → c ≢ b → IsSameOf c M.holdings (held_after M e)
 

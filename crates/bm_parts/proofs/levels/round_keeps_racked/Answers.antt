@@ -1,0 +1,5 @@
+use Rattle.bm_parts.proofs.Racked.{round_keeps_racked}
+use Rattle.bm_parts.proofs.levels.round_keeps_racked.Goals as goal
+
+pub returns : goal.returns
+returns c = round_keeps_racked
