@@ -71,9 +71,9 @@ unfolding finished storages_where
 storages_at_end p same r G ts ds b =
     storages_revised G (λ q m. if is_commanded ds q then record m { ordered = true } else m) p b (λ q m at there. unseen (p q.storage) (same q.storage) (is_commanded ds q) m)
 
-pub round_ends_without_levels : law.round_ends_without_levels
+pub round_end_leaves_levels : law.round_end_leaves_levels
 unfolding level finished
-round_ends_without_levels C r G ts ds b =
+round_end_leaves_levels C r G ts ds b =
     let lives = storages_at_end (is_live_on C) (λ s m. refl) r G ts ds b in
     let spent = storages_at_end (is_drained_on C) (λ s m. refl) r G ts ds b in
     (λ j. option_and_then (λ (i : BlockInfo). level_of (length (lives j)) (length (spent j)) i.repl (length (racks C (lives j))) (is_multi_rack C)) (known r G ts ds b j))

@@ -1,4 +1,4 @@
--- What events on the cluster leave of levels: which blocks a shard need not judge anew.
+-- What events and rounds leave of levels: which blocks a shard need not judge anew.
 use Rattle.std.specs.Prelude.{◌≡◌, ◌≢◌, ℕ, false, ◌==◌, List, Some, None, IsSome}
 use Rattle.std.specs.List.{list_any}
 use Rattle.bm_base.specs.declared.commands.Transfer.{Transfer}
@@ -28,15 +28,16 @@ IsRacked C H = (q : ReplicaId) → IsSome (get H.replicas q) → IsSome (rack_of
 -- a block's level is of what is known of it and of its own replicas, whatever else is held
 abbrev pub level_is_of_its_block : Type 0
 level_is_of_its_block =
-    (C : Cluster) (H G : Holdings) (b : ℕ) → get G.blocks b ≡ get H.blocks b → ((s : ℕ) → get G.replicas (replica_at b s) ≡ get H.replicas (replica_at b s)) → level C G b ≡ level C H b
+    (C : Cluster) (H G : Holdings) (b : ℕ) → get G.blocks b ≡ get H.blocks b → ((s : ℕ) → get G.replicas (replica_at b s) ≡ get H.replicas (replica_at b s))
+    → level C G b ≡ level C H b
 
 -- an event on one block leaves the levels of all others
 abbrev pub event_leaves_other_levels : Type 0
 event_leaves_other_levels = (C : Cluster) (H : Holdings) (e : Event) (b c : ℕ) → block_of e ≡ Some b → c ≢ b → level C (change_holdings C H e) c ≡ level C H c
 
 -- the end of a round leaves every level as the start of it made it
-abbrev pub round_ends_without_levels : Type 0
-round_ends_without_levels = (C : Cluster) (r : ℕ) (G : Holdings) (ts : List Transfer) (ds : List Delete) (b : ℕ) → level C (finished r G ts ds) b ≡ level C G b
+abbrev pub round_end_leaves_levels : Type 0
+round_end_leaves_levels = (C : Cluster) (r : ℕ) (G : Holdings) (ts : List Transfer) (ds : List Delete) (b : ℕ) → level C (finished r G ts ds) b ≡ level C G b
 
 -- Heartbeats.
 

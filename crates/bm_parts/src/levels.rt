@@ -14,8 +14,8 @@ pub fn event_leaves_other_levels()
 {}
 
 /// The end of a round leaves every level as the start of it made it.
-pub fn round_ends_without_levels()
-    ensures { law.round_ends_without_levels }
+pub fn round_end_leaves_levels()
+    ensures { law.round_end_leaves_levels }
 {}
 
 /// A heartbeat leaves the rack of each storage, which storages stand on nodes that drain, and whether there are several racks.
