@@ -5,6 +5,7 @@ use Rattle.std.specs.Ordering.{eq_by_cmp}
 use Rattle.std.specs.List.{list_any}
 use Rattle.std.proofs.lemmas.Bool.{or_parts}
 use Rattle.bm_base.specs.declared.event.Event.TheVariants.{Register, Dead, StorageFailed, Heartbeat, Drain, Undrain, AddBlock, DeleteBlock, SetReplication, Restamp, Received, Deleted, Corrupt, FullReport}
+use Rattle.bm_base.specs.declared.event.Remaining.{Remaining}
 use Rattle.bm_base.specs.declared.refusal.Refusal.{Refusal}
 use Rattle.bm_base.specs.declared.refusal.Refusal.TheVariants.{NodeKnown, StorageKnown, UnknownStorage}
 use Rattle.bm_base.specs.declared.replica.ReplicaId.{ReplicaId}
@@ -44,6 +45,18 @@ racked_left C D H gone same racked q here =
     let was = get_kept H.replicas (λ q _. not (gone q.storage)) q stayed.0 stayed.1 in
     ap is_some (same q.storage (not_passed (gone q.storage) was.1)) ∙ racked q (is_there (get H.replicas q) stayed.0 was.0)
 
+pub register_keeps_racked : (C : Cluster) (H : Holdings) (n rack : ℕ) (ss : List ℕ) → contains_key C.nodes n ≡ false → list_any (knows_storage C) ss ≡ false → IsRacked C H → IsRacked (register C n rack ss) H
+register_keeps_racked C H n rack ss new unknown racked = racked_alike C (register C n rack ss) H (λ s was. (stands_before C n rack ss new unknown s was).0) racked
+
+pub heartbeat_keeps_racked : (C : Cluster) (H : Holdings) (rs : List Remaining) → IsRacked C H → IsRacked (heartbeat C rs) H
+heartbeat_keeps_racked C H rs racked = racked_alike C (heartbeat C rs) H (λ s was. rack_heard C rs s) racked
+
+pub death_keeps_racked : (C : Cluster) (H : Holdings) (n : ℕ) → IsRacked C H → IsRacked (without_node C n) (without_storages H (has_storage C n))
+death_keeps_racked C H n racked = racked_left C (without_node C n) H (has_storage C n) (rack_elsewhere C n) racked
+
+pub failure_keeps_racked : (C : Cluster) (H : Holdings) (t : ℕ) → IsRacked C H → IsRacked (without_storage C t) (without_storages H (λ s. s == t))
+failure_keeps_racked C H t racked = racked_left C (without_storage C t) H (λ s. s == t) (rack_left C t) racked
+
 -- Nodes that drain.
 
 rack_drained : (C : Cluster) (n s : ℕ) → rack_of (drain C n) s ≡ rack_of C s
@@ -63,8 +76,12 @@ same_replicas C H n = by_test (drains C n)
     by_test true = refl
     by_test false = refl
 
-begun_racked : (C : Cluster) (P : Holdings) (n : ℕ) → IsRacked (drain C n) P → IsRacked (drain C n) (begun_to_drain C P n)
-begun_racked C P n racked q here = racked q (ap (λ m. is_some (get m q)) (sym (same_replicas C P n)) ∙ here)
+pub drain_keeps_racked : (C : Cluster) (H : Holdings) (n : ℕ) → IsRacked C H → IsRacked (drain C n) (begun_to_drain C H n)
+drain_keeps_racked C H n racked q here =
+    racked_alike C (drain C n) H (λ s was. rack_drained C n s) racked q (ap (λ m. is_some (get m q)) (sym (same_replicas C H n)) ∙ here)
+
+pub undrain_keeps_racked : (C : Cluster) (H : Holdings) (n : ℕ) → IsRacked C H → IsRacked (undrain C n) H
+undrain_keeps_racked C H n racked = racked_alike C (undrain C n) H (λ s was. rack_undrained C n s) racked
 
 -- Replicas that were there before.
 
@@ -132,13 +149,12 @@ register_unrefused C n rack ss e =
 pub event_keeps_racked : law.event_keeps_racked
 unfolding change_cluster change_holdings cluster_checks add_block delete_block set_replication restamp without_pending revise_block make_bad revise_at remove_replica
 event_keeps_racked C P (Register n rack ss) index shards lawful e racked =
-    let fresh = register_unrefused C n rack ss e in
-    racked_alike C (register C n rack ss) P (λ s was. (stands_before C n rack ss fresh.0 fresh.1 s was).0) racked
-event_keeps_racked C P (Dead n) index shards lawful e racked = racked_left C (without_node C n) P (has_storage C n) (rack_elsewhere C n) racked
-event_keeps_racked C P (StorageFailed t) index shards lawful e racked = racked_left C (without_storage C t) P (λ s. s == t) (rack_left C t) racked
-event_keeps_racked C P (Heartbeat n rs) index shards lawful e racked = racked_alike C (heartbeat C rs) P (λ s was. rack_heard C rs s) racked
-event_keeps_racked C P (Drain n) index shards lawful e racked = begun_racked C P n (racked_alike C (drain C n) P (λ s was. rack_drained C n s) racked)
-event_keeps_racked C P (Undrain n) index shards lawful e racked = racked_alike C (undrain C n) P (λ s was. rack_undrained C n s) racked
+    let fresh = register_unrefused C n rack ss e in register_keeps_racked C P n rack ss fresh.0 fresh.1 racked
+event_keeps_racked C P (Dead n) index shards lawful e racked = death_keeps_racked C P n racked
+event_keeps_racked C P (StorageFailed t) index shards lawful e racked = failure_keeps_racked C P t racked
+event_keeps_racked C P (Heartbeat n rs) index shards lawful e racked = heartbeat_keeps_racked C P rs racked
+event_keeps_racked C P (Drain n) index shards lawful e racked = drain_keeps_racked C P n racked
+event_keeps_racked C P (Undrain n) index shards lawful e racked = undrain_keeps_racked C P n racked
 event_keeps_racked C P (AddBlock b stamp repl) index shards lawful e racked = either C P racked (shard_of b shards == index) (add_block P b stamp repl) racked
 event_keeps_racked C P (DeleteBlock b) index shards lawful e racked =
     either C P racked (shard_of b shards == index) (delete_block P b) (racked_among C P racked (delete_block P b) (racked_revised C P racked (λ q m. if q.block == b then as_stray m else m)))
