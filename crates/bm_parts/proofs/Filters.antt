@@ -1,6 +1,7 @@
 -- Lists that are filtered twice, and lists of what passes.
 use Rattle.std.proofs.Common.{◌≡◌, ◌≤◌, Bool, true, false, cond, ◌&&◌, ◌||◌, List, [], ◌∷◌, map, filter, length, arith, refl, sym, ap, ◌∙◌}
-use Rattle.std.specs.List.{list_any}
+use Rattle.std.specs.List.{All, list_any}
+use Rattle.std.proofs.lemmas.List.Elements.{All-nil, All-cons}
 use Rattle.bm_base.proofs.Each.{Each}
 
 within : (a b c : Bool) → (a ≡ true → b ≡ c) → (c ≡ true → a ≡ true) → (a && b) ≡ c
@@ -79,3 +80,8 @@ any_of_filtered g p (x ∷ xs) = kept_any g (p x) x (filter p xs) ∙ ap (λ b. 
 -- some entry that is kept by p passes g, as f shows it
 pub any_shown : {X Y : Type 0} (g : Y → Bool) (f : X → Y) (p : X → Bool) (xs : List X) → list_any g (map f (filter p xs)) ≡ list_any (λ x. p x && g (f x)) xs
 any_shown g f p xs = any_of_mapped g f (filter p xs) ∙ any_of_filtered (λ x. g (f x)) p xs
+
+-- what holds of each, in std's word
+pub all_each : {X : Type 0} (P : X → Type 0) (xs : List X) → Each P xs → All P xs
+all_each P [] h = All-nil P
+all_each P (x ∷ xs) h = All-cons P x xs h.0 (all_each P xs h.1)

@@ -10,6 +10,8 @@ pub mod PartSums
 pub mod Cutting
 pub mod Parting
 pub mod Merging
+pub mod Gathered
+pub mod Finding
 -- The whole of parts.
 pub mod Wholes
 pub mod Changing

@@ -1,21 +1,17 @@
 -- A list that was sorted is in the order of its keys.
-use Rattle.std.proofs.Common.{◌≡◌, Some, List, [], ◌∷◌, map, sym, ap, subst, ◌∙◌, T}
+use Rattle.std.proofs.Common.{◌≡◌, Some, List, map, sym, ap, subst, ◌∙◌, T}
 use Rattle.std.specs.Ordering.{eq_by_cmp}
 use Rattle.std.specs.FinMap.{is_sorted}
-use Rattle.std.specs.List.{All, list_any}
+use Rattle.std.specs.List.{list_any}
 use Rattle.std.specs.List.Sorted.{IsPermutation}
 use Rattle.std.proofs.lemmas.List.Sorted.{All-permutation, IsPermutation-sym, IsPermutation-map, list_any-IsPermutation}
-use Rattle.std.proofs.lemmas.List.Elements.{All-nil, All-cons}
 use Rattle.bm_base.specs.Map.{Map, Order, get, entries}
 use Rattle.bm_base.specs.OfSorted.{of_sorted, entries-of_sorted}
 use Rattle.bm_base.specs.Ordered.{ordered_by}
 use Rattle.bm_base.proofs.Each.{Each, each_all}
 use Rattle.bm_base.proofs.Maps.{key_itself, each_entry, passes_entry}
+use Rattle.bm_parts.proofs.Filters.{all_each}
 use Rattle.bm_parts.proofs.Joined.{gathered, values_again}
-
-all_each : {X : Type 0} (P : X → Type 0) (xs : List X) → Each P xs → All P xs
-all_each P [] h = All-nil P
-all_each P (x ∷ xs) h = All-cons P x xs h.0 (all_each P xs h.1)
 
 -- what was sorted, and whose keys rise strictly, is what was to be sorted in the order of its keys
 pub sorted_is_ordered : (K X : Type 0) (o : Order K) (key : X → K) (xs ys : List X) → T (is_sorted o.cmp (map (λ y. (key y, y)) ys)) → IsPermutation xs ys → ordered_by o key xs ≡ ys

@@ -1,7 +1,8 @@
--- The parts into which blocks are cut by their numbers, and the whole of them.
+-- The parts into which blocks are cut by their numbers, the whole of them, and what a round finds in each.
 pub mod Parts
 pub mod Whole
 pub mod Settled
+pub mod Found
 -- The laws, each as a statement that a function's contract cites.
 pub mod EventLaws
 pub mod RoundLaws

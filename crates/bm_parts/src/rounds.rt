@@ -1,7 +1,18 @@
 // Rounds over parts.
 #![tactic(auto)]
 
+ghost use Rattle.bm_parts.specs.Found as found;
 ghost use Rattle.bm_parts.specs.RoundLaws as law;
+
+/// Each list that a round finds rises, and has just the elements that it is said to have.
+pub fn round_part_is_found()
+    ensures { found.round_part_is_found }
+{}
+
+/// Four lists that rise and have just these elements are what a round finds, in whatever order they were come upon.
+pub fn found_is_round_part()
+    ensures { found.found_is_round_part }
+{}
 
 /// A round begins in each part as it begins in the whole: the same transfers have expired, the same replicas are in excess.
 pub fn start_cuts_to_start()

@@ -1,0 +1,56 @@
+-- What a round finds in holdings, said by what stands in each of its lists: a list that rises and has just these elements is the
+-- list, in whatever order they were come upon.
+use Rattle.std.specs.Prelude.{◌≡◌, ℕ, ◌-◌, true, nat_le, List, map, Some, IsSome, T}
+use Rattle.std.specs.Ordering.{eq_by_cmp}
+use Rattle.std.specs.FinMap.{is_sorted}
+use Rattle.std.specs.List.{All, list_any}
+use Rattle.bm_base.specs.declared.replica.ReplicaId.{ReplicaId}
+use Rattle.bm_base.specs.declared.replica.Marks.{Marks}
+use Rattle.bm_base.specs.declared.commands.Delete.{Delete}
+use Rattle.bm_base.specs.declared.round.Wish.{Wish}
+use Rattle.bm_base.specs.declared.round.RoundPart.{RoundPart}
+use Rattle.bm_base.specs.Map.{Order, get, contains_key}
+use Rattle.bm_base.specs.State.{Cluster, Holdings, by_replica, replica_at}
+use Rattle.bm_base.specs.Lists.{has}
+use Rattle.bm_base.specs.Excess.{without_expired, without_unordered_excess, excess_in}
+use Rattle.bm_base.specs.Deletes.{is_deletable}
+use Rattle.bm_base.specs.Ordered.{by_pair}
+use Rattle.bm_base.specs.RoundParts.{started_holdings, wish_at, wish_key, delete_key, round_part}
+
+-- the keys rise, each element is as said, and for each that is as said one with its key is there
+pub record IsGathered {K X : Type 0} (o : Order K) (key : X → K) (P : X → Type 0) (xs : List X) : Type 0 where
+  pub rises : T (is_sorted o.cmp (map (λ x. (key x, x)) xs))
+  pub only : All P xs
+  pub all : (x : X) → P x → list_any (λ y. eq_by_cmp o.cmp (key x) (key y)) xs ≡ true
+
+-- a transfer on its way that is too old in round r
+abbrev pub IsExpired : ℕ → ℕ → Holdings → ReplicaId → Type 0
+IsExpired pend r H q = (t : ℕ) × (get H.pending q ≡ Some t) × (nat_le pend (r - t) ≡ true)
+
+-- a live replica of which there are too many
+abbrev pub IsTooMany : Cluster → Holdings → ReplicaId → Type 0
+IsTooMany C H q = IsSome (get H.replicas q) × (has (excess_in C H q.block) q.storage ≡ true)
+
+-- what a block wishes for at its level
+abbrev pub IsWished : Cluster → Holdings → Wish → Type 0
+IsWished C H w = wish_at C H w.level w.block ≡ Some w
+
+-- a replica on a known storage that is to be deleted
+abbrev pub IsToDelete : Cluster → Holdings → Delete → Type 0
+IsToDelete C H d =
+    (contains_key C.storages d.storage ≡ true) × ((m : Marks) × (get H.replicas (replica_at d.block d.storage) ≡ Some m) × (is_deletable C H (replica_at d.block d.storage) m ≡ true))
+
+-- each list of what is found as round r begins
+pub record IsFound (C : Cluster) (pend r : ℕ) (H : Holdings) (p : RoundPart) : Type 0 where
+  pub expired : IsGathered by_replica (λ (q : ReplicaId). q) (IsExpired pend r H) p.expired
+  pub excess : IsGathered by_replica (λ (q : ReplicaId). q) (IsTooMany C (without_unordered_excess (without_expired pend r H))) p.excess
+  pub wishes : IsGathered by_pair wish_key (IsWished C (started_holdings C pend r H)) p.wishes
+  pub deletes : IsGathered by_pair delete_key (IsToDelete C (started_holdings C pend r H)) p.deletes
+
+-- what a round finds is so
+abbrev pub round_part_is_found : Type 0
+round_part_is_found = (C : Cluster) (pend r : ℕ) (H : Holdings) → IsFound C pend r H (round_part C pend r H)
+
+-- and nothing else is
+abbrev pub found_is_round_part : Type 0
+found_is_round_part = (C : Cluster) (pend r : ℕ) (H : Holdings) (p : RoundPart) → IsFound C pend r H p → p ≡ round_part C pend r H
