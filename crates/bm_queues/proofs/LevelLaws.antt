@@ -1,7 +1,6 @@
 -- Level lists: that they are lawful, and that a growth and a change of level keep them so.
 use Rattle.std.proofs.Common.{◌≡◌, ◌≢◌, ◌⊎◌, ℕ, zero, suc, ◌<◌, ◌≤◌, ◌-◌, ◌++◌, List, [], ◌∷◌, length, get_or, set, take, replicate, Option, Some, None, inl, inr, subst, sym, ap, ◌∙◌, refl, arith}
 use Rattle.std.specs.Prelude.{if◌then◌else◌, ◌==◌, ◌↔◌, option_and_then}
-use Rattle.std.specs.Option.{IfSome}
 use Rattle.std.proofs.lemmas.Bool.{cases_eq, eq-eqb, ne_eqb}
 use Rattle.std.proofs.lemmas.Option.{none-some, same_Some}
 use Rattle.std.proofs.lemmas.List.{get_or-set_same, get_or-set_other, get_or_past, length-set, take_all}
@@ -12,9 +11,9 @@ use Rattle.bm_queues.specs.LevelBytes.{level_of_byte}
 use Rattle.bm_base.specs.SlotLists.{Among, without, slot_after}
 use Rattle.bm_queues.specs.Links.{list_from, AreLinks}
 use Rattle.bm_queues.specs.Levels.{Levels, IsLawful, AreLevels, five, with_room, visited, level_at, slots_of, next_of}
-use Rattle.bm_queues.specs.Walks.{slots_from, IsPast}
+use Rattle.bm_queues.specs.Walks.{slots_from, IsOn, IsPast}
 use Rattle.bm_queues.proofs.Visits.{walk-after, below_or_past}
-use Rattle.bm_queues.proofs.Walking.{from-with, from-without, next-is_among, rest-next, past-is}
+use Rattle.bm_queues.proofs.Walking.{from-with, from-without, on-with, on-without, next-is_on, rest-next, past-is}
 use Rattle.bm_base.proofs.SlotLists.{Among-without, Among-without_other, without-gone, without-absent}
 
 pub five-at : (k : ℕ) (next back : List (Option ℕ)) (l : Level) → get_or (five k next back) (level_number l) [] ≡ list_from k next back (level_number l)
@@ -261,13 +260,23 @@ module _ (v : Levels) (lists : Level → List ℕ) (slot : ℕ) (level : Option 
         ]
       ]
 
+  pub on-set : (l : Level) (at : Option ℕ) → IsPast slot at (slots_of v l) → IsOn at (slots_of v l) → IsOn at (lists l)
+  on-set l at past on =
+      elim (dec_level level l) [
+        | inl new ↦ subst (λ xs. IsOn at xs) (sym (front l new)) (on-with slot (slots_of v l) at on)
+        | inr not_new ↦ elim (dec_level (level_at v slot) l) [
+          | inl was ↦ subst (λ xs. IsOn at xs) (sym (left l was not_new)) (on-without slot (slots_of v l) at past on)
+          | inr not_was ↦ subst (λ xs. IsOn at xs) (sym (others l (λ e. not_new (sym e)) (λ e. not_was (sym e)))) on
+        ]
+      ]
+
 -- the slot behind a slot of a level, as `next` has it
 module _ (v : Levels) (lawful : IsLawful v) (slot : ℕ) (r : Option ℕ) (is : r ≡ next_of v slot) (l : Level) (at : level_at v slot ≡ Some l) where
   behind : r ≡ slot_after slot (slots_of v l)
   behind = is ∙ ap (option_and_then (λ m. slot_after slot (slots_of v m))) at
 
-  pub member-next : IfSome r (λ z. Among z (slots_of v l))
-  member-next = next-is_among (slots_of v l) r slot behind
+  pub level-on : IsOn r (slots_of v l)
+  level-on = next-is_on (slots_of v l) r slot behind
 
   pub level-rest : slots_from (slots_of v l) (Some slot) ≡ slot ∷ slots_from (slots_of v l) r
   level-rest = rest-next (slots_of v l) r slot behind (lawful.distinct l) ((lawful.exact l slot).1 at)

@@ -4,8 +4,8 @@ use Rattle.std.specs.Option.{IfSome}
 use Rattle.std.proofs.lemmas.Bool.{cases_Bool, eq-eqb, ne_eqb, eqb-true, eqb-false}
 use Rattle.std.proofs.lemmas.Option.{none-some, same_Some}
 use Rattle.bm_base.specs.SlotLists.{Among, Distinct, without, first_of, slot_after}
-use Rattle.bm_base.proofs.SlotLists.{dec_among, slot_after-absent, without-absent}
-use Rattle.bm_queues.specs.Walks.{slots_from, IsPast}
+use Rattle.bm_base.proofs.SlotLists.{dec_among, slot_after-absent, without-absent, Among-without_other}
+use Rattle.bm_queues.specs.Walks.{slots_from, IsOn, IsPast}
 
 if_some : (r : Option ℕ) (P : ℕ → Type 0) → ((z : ℕ) → r ≡ Some z → P z) → IfSome r P
 if_some None P h = tt
@@ -77,18 +77,27 @@ from-without x (y ∷ ys) (Some z) past =
           ])
     ]
 
+-- and one still stands on the list
+pub on-with : (x : ℕ) (xs : List ℕ) (at : Option ℕ) → IsOn at xs → IsOn at (x ∷ xs)
+on-with x xs None on = tt
+on-with x xs (Some z) on = inr on
+
+pub on-without : (x : ℕ) (xs : List ℕ) (at : Option ℕ) → IsPast x at xs → IsOn at xs → IsOn at (without x xs)
+on-without x xs None past on = tt
+on-without x xs (Some z) past on = Among-without_other x z xs on (λ e. past.0 (ap Some e))
+
 -- What the first slot and the slot behind a slot say, as the calls have it.
 
 module _ (xs : List ℕ) (r : Option ℕ) where
   pub all-from : r ≡ first_of xs → slots_from xs r ≡ xs
   all-from is = ap (slots_from xs) is ∙ from-first xs
 
-  pub first-is_among : r ≡ first_of xs → IfSome r (λ z. Among z xs)
-  first-is_among is = if_some r (λ z. Among z xs) (λ z e. first-among xs z (sym is ∙ e))
+  pub first-is_on : r ≡ first_of xs → IsOn r xs
+  first-is_on is = if_some r (λ z. Among z xs) (λ z e. first-among xs z (sym is ∙ e))
 
   module _ (x : ℕ) (is : r ≡ slot_after x xs) where
-    pub next-is_among : IfSome r (λ z. Among z xs)
-    next-is_among = if_some r (λ z. Among z xs) (λ z e. after-among x xs z (sym is ∙ e))
+    pub next-is_on : IsOn r xs
+    next-is_on = if_some r (λ z. Among z xs) (λ z e. after-among x xs z (sym is ∙ e))
 
     pub rest-next : Distinct xs → Among x xs → slots_from xs (Some x) ≡ x ∷ slots_from xs r
     rest-next distinct there = from-next x xs distinct there ∙ ap (λ at. x ∷ slots_from xs at) (sym is)

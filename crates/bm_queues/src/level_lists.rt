@@ -1,10 +1,10 @@
 // Five lists over slots, one for each level.
-ghost use Rattle.std.specs.Prelude.{◌≡◌, ◌≢◌, ◌<◌, ◌≤◌, ◌==◌, ℕ, [], ◌∷◌, length, if◌then◌else◌, Option, Some, IfSome, IfOk, IfErr, OnOk, OnErr, IsOk};
+ghost use Rattle.std.specs.Prelude.{◌≡◌, ◌≢◌, ◌<◌, ◌≤◌, ◌==◌, ℕ, [], ◌∷◌, length, if◌then◌else◌, Option, Some, IfOk, IfErr, OnOk, OnErr, IsOk};
 ghost use Rattle.bm_base.specs.declared.level.Level.{Level};
 ghost use Rattle.bm_base.specs.declared.refusal.Refusal.TheVariants.{Memory};
-ghost use Rattle.bm_base.specs.SlotLists.{Among, first_of, without};
+ghost use Rattle.bm_base.specs.SlotLists.{first_of, without};
 ghost use Rattle.bm_queues.specs.Levels.{level_at, slots_of, next_of, with_room, moved, visited, IsLawful};
-ghost use Rattle.bm_queues.specs.Walks.{slots_from, IsPast};
+ghost use Rattle.bm_queues.specs.Walks.{slots_from, IsOn, IsPast};
 
 use crate::level_byte::{LevelByte, no_level};
 use crate::slot_lists::SlotLists;
@@ -96,6 +96,7 @@ impl LevelLists {
         ensures levels { (other : ℕ) → level_at self.new other ≡ (if other == slot then level else level_at self.old other) }
         ensures others { (l : Level) → Some l ≢ level → Some l ≢ level_at self.old slot → slots_of self.new l ≡ slots_of self.old l }
         ensures rest { (l : Level) (at : Option ℕ) → IsPast slot at (slots_of self.old l) → slots_from (slots_of self.new l) at ≡ slots_from (slots_of self.old l) at }
+        ensures on { (l : Level) (at : Option ℕ) → IsPast slot at (slots_of self.old l) → IsOn at (slots_of self.old l) → IsOn at (slots_of self.new l) }
         ensures lawful { IsLawful self.new }
     {
         let byte = LevelByte::of(level);
@@ -120,7 +121,7 @@ impl LevelLists {
     /// The first slot of a level; none where its list is empty. All its slots are to come from there on.
     pub fn first(&self, level: Level) -> Option<usize>
         ensures slot { result ≡ first_of (slots_of self.now level) }
-        ensures member { IfSome result (λ x. Among x (slots_of self.now level)) }
+        ensures on { IsOn result (slots_of self.now level) }
         ensures rest { slots_from (slots_of self.now level) result ≡ slots_of self.now level }
     {
         self.lists.first(level.number() as usize)
@@ -132,7 +133,7 @@ impl LevelLists {
     pub fn next(&self, slot: usize) -> Option<usize>
         requires { slot < length self.now.levels }
         ensures slot { result ≡ next_of self.now slot }
-        ensures member { (l : Level) → level_at self.now slot ≡ Some l → IfSome result (λ x. Among x (slots_of self.now l)) }
+        ensures on { (l : Level) → level_at self.now slot ≡ Some l → IsOn result (slots_of self.now l) }
         ensures rest { (l : Level) → level_at self.now slot ≡ Some l → slots_from (slots_of self.now l) (Some slot) ≡ slot ∷ slots_from (slots_of self.now l) result }
         ensures past { (l : Level) → level_at self.now slot ≡ Some l → IsPast slot result (slots_of self.now l) }
     {

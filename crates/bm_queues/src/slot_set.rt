@@ -1,9 +1,9 @@
 // A set of slots in the order in which they came, the last one first.
-ghost use Rattle.std.specs.Prelude.{◌≡◌, ◌≢◌, ℕ, ◌<◌, ◌≤◌, IsTrue, ◌↔◌, [], ◌∷◌, length, Option, Some, IfSome, IfOk, IfErr, OnOk, OnErr, IsOk};
+ghost use Rattle.std.specs.Prelude.{◌≡◌, ◌≢◌, ℕ, ◌<◌, ◌≤◌, IsTrue, ◌↔◌, [], ◌∷◌, length, Option, Some, IfOk, IfErr, OnOk, OnErr, IsOk};
 ghost use Rattle.bm_base.specs.declared.refusal.Refusal.TheVariants.{Memory};
 ghost use Rattle.bm_base.specs.SlotLists.{Among, without, first_of, slot_after};
 ghost use Rattle.bm_queues.specs.Members.{with_room, visited, IsLawful};
-ghost use Rattle.bm_queues.specs.Walks.{slots_from, IsPast};
+ghost use Rattle.bm_queues.specs.Walks.{slots_from, IsOn, IsPast};
 
 use crate::slot_lists::SlotLists;
 use crate::walk::Walk;
@@ -83,6 +83,7 @@ impl SlotSet {
         ensures others { (other : ℕ) → other ≢ slot → (Among other self.new.slots ↔ Among other self.old.slots) }
         ensures room { self.new.room ≡ self.old.room }
         ensures rest { (at : Option ℕ) → IsPast slot at self.old.slots → slots_from self.new.slots at ≡ slots_from self.old.slots at }
+        ensures on { (at : Option ℕ) → IsPast slot at self.old.slots → IsOn at self.old.slots → IsOn at self.new.slots }
     {
         if self.lists.is_listed(slot) {
             return;
@@ -99,6 +100,7 @@ impl SlotSet {
         ensures room { self.new.room ≡ self.old.room }
         ensures others { (other : ℕ) → other ≢ slot → (Among other self.new.slots ↔ Among other self.old.slots) }
         ensures rest { (at : Option ℕ) → IsPast slot at self.old.slots → slots_from self.new.slots at ≡ slots_from self.old.slots at }
+        ensures on { (at : Option ℕ) → IsPast slot at self.old.slots → IsOn at self.old.slots → IsOn at self.new.slots }
     {
         if self.lists.is_listed(slot) {
             self.lists.unlink(slot);
@@ -125,7 +127,7 @@ impl SlotSet {
     /// The slot at the front; none where the set is empty. All slots are to come from there on.
     pub fn first(&self) -> Option<usize>
         ensures slot { result ≡ first_of self.now.slots }
-        ensures member { IfSome result (λ x. Among x self.now.slots) }
+        ensures on { IsOn result self.now.slots }
         ensures rest { slots_from self.now.slots result ≡ self.now.slots }
     {
         self.lists.first(0)
@@ -136,7 +138,7 @@ impl SlotSet {
     pub fn next(&self, slot: usize) -> Option<usize>
         requires { slot < self.now.room }
         ensures slot { result ≡ slot_after slot self.now.slots }
-        ensures member { IfSome result (λ x. Among x self.now.slots) }
+        ensures on { IsOn result self.now.slots }
         ensures rest { Among slot self.now.slots → slots_from self.now.slots (Some slot) ≡ slot ∷ slots_from self.now.slots result }
         ensures past { IsPast slot result self.now.slots }
     {

@@ -12,7 +12,9 @@ mod choices;
 mod clusters;
 mod managers;
 mod runs;
+mod slots;
 mod tally;
+mod transfers;
 mod views;
 mod windows;
 
@@ -36,6 +38,9 @@ fn main(rt: HostRuntime) -> ExitCode {
 
 fn go_over_tables<R: Print + Eprint>(rt: &R, alloc: Global) -> Result<(), Refusal> {
     tell(rt, "arenas", arenas::go_over(rt, alloc)?);
+    tell(rt, "levels", slots::go_over_levels(rt, alloc)?);
+    tell(rt, "sets", slots::go_over_sets(rt, alloc)?);
+    tell(rt, "transfers", transfers::go_over(rt, alloc)?);
     tell(rt, "clusters", clusters::go_over(rt, alloc)?);
     tell(rt, "choices", choices::go_over(rt, alloc)?);
     tell(rt, "managers", managers::go_over(rt, alloc)?);

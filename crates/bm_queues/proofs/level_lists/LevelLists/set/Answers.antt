@@ -5,7 +5,7 @@ use Rattle.std.proofs.lemmas.Option.{none-some}
 use Rattle.bm_base.specs.Levels.{level_number}
 use Rattle.bm_queues.specs.Levels.{level_at, five}
 use Rattle.bm_base.proofs.SlotLists.{without-gone}
-use Rattle.bm_queues.proofs.LevelLaws.{lawful-levels, cleared-levels, moved-levels, others-none, others-some, left-none, left-some, front-some, rest-set}
+use Rattle.bm_queues.proofs.LevelLaws.{lawful-levels, cleared-levels, moved-levels, others-none, others-some, left-none, left-some, front-some, rest-set, on-set}
 use Rattle.bm_queues.proofs.level_lists.LevelLists.set.Goals as goal
 
 pub returns-then-is-clause-lawful : goal.returns-then-is-clause-lawful
@@ -86,4 +86,14 @@ returns-in-Some-clause-rest c =
 pub returns-in_default-clause-rest : goal.returns-in_default-clause-rest
 returns-in_default-clause-rest c =
     rest-set c.args.self.now (λ l. get_or (five c.unlink.new.self.heads c.unlink.new.self.next.items c.unlink.new.self.previous.items) (level_number l) []) c.args.slot c.args.level
+    (λ l new. absurd (none-some l (sym c.in_default.is ∙ new))) (returns-in_default-clause-left c) (returns-in_default-clause-others c)
+
+pub returns-in-Some-clause-on : goal.returns-in-Some-clause-on
+returns-in-Some-clause-on c =
+    on-set c.args.self.now (λ l. get_or (five c.link_front.new.self.heads c.link_front.new.self.next.items c.link_front.new.self.previous.items) (level_number l) []) c.args.slot c.args.level
+    (λ l new. returns-in-Some-clause-front c l new (has_another c)) (returns-in-Some-clause-left c) (returns-in-Some-clause-others c)
+
+pub returns-in_default-clause-on : goal.returns-in_default-clause-on
+returns-in_default-clause-on c =
+    on-set c.args.self.now (λ l. get_or (five c.unlink.new.self.heads c.unlink.new.self.next.items c.unlink.new.self.previous.items) (level_number l) []) c.args.slot c.args.level
     (λ l new. absurd (none-some l (sym c.in_default.is ∙ new))) (returns-in_default-clause-left c) (returns-in_default-clause-others c)

@@ -1,10 +1,10 @@
-use Rattle.std.proofs.Common.{◌<◌, length, sym, ap, ◌∙◌, arith}
+use Rattle.std.proofs.Common.{◌<◌, length, subst, sym, ap, ◌∙◌, arith}
 use Rattle.std.proofs.lemmas.Bool.{false≢true}
 use Rattle.bm_base.specs.SlotLists.{Among}
 use Rattle.bm_queues.specs.Links.{list_from}
 use Rattle.bm_base.proofs.SlotLists.{length-without, without-absent}
-use Rattle.bm_queues.specs.Walks.{slots_from}
-use Rattle.bm_queues.proofs.Walking.{from-without}
+use Rattle.bm_queues.specs.Walks.{slots_from, IsOn}
+use Rattle.bm_queues.proofs.Walking.{from-without, on-without}
 use Rattle.bm_queues.proofs.MemberLaws.{only_list, gone-without, others-without}
 use Rattle.bm_queues.proofs.slot_set.SlotSet.remove.Goals as goal
 
@@ -47,3 +47,11 @@ returns-then-is_listed-clause-rest c at past =
     let low : 0 < c.self.inside.lists.heads = omega (arith, heads) in
     let before = rw (← c.self.view_is) at past in
     rw (← c.self.view_is) (ap (λ xs. slots_from xs at) (c.unlink.ensures.lists 0 low) ∙ from-without c.args.slot (list_from c.self.inside.lists.heads c.self.inside.lists.next.items c.self.inside.lists.previous.items 0) at before)
+
+pub returns-then-is_listed-clause-on : goal.returns-then-is_listed-clause-on
+returns-then-is_listed-clause-on c at past on =
+    let heads = c.self.invariant.heads in
+    let low : 0 < c.self.inside.lists.heads = omega (arith, heads) in
+    let past_before = rw (← c.self.view_is) at past in
+    let on_before = rw (← c.self.view_is) at on in
+    subst (λ xs. IsOn at xs) (sym (c.unlink.ensures.lists 0 low)) (on-without c.args.slot (list_from c.self.inside.lists.heads c.self.inside.lists.next.items c.self.inside.lists.previous.items 0) at past_before on_before)
