@@ -49,7 +49,7 @@ returns-clause-distinct c =
     IsDistinct-IsPermutation nat_eq nat_eq_equiv.symm c.loop-block.numbers.items c.sort.new.self.items c.sort.ensures.permutation
     (subst (IsDistinct nat_eq) (sym (numbers_are c)) (IsDistinct-keys_filter nat_eq (has_old c.args.pend c.args.round) c.args.blocks.now.entries c.iter-block-items.ensures.unique))
 
-pub returns-clause-all : goal.returns-clause-all
-returns-clause-all c b none =
+pub returns-clause-absent : goal.returns-clause-absent
+returns-clause-absent c b none =
     none-passing c.args.blocks.now.entries c.iter-block-items.ensures.unique (λ t. is_expired c.args.pend c.args.round t.1) c.loop-block.numbers.items (numbers_are c) b
     (list_any-IsPermutation (nat_eq b) c.loop-block.numbers.items c.sort.new.self.items c.sort.ensures.permutation ∙ none)

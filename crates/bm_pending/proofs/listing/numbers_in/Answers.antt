@@ -15,8 +15,8 @@ returns-clause-distinct c =
     let e : c.in_ok-numbers.numbers.items ≡ keys_of c.args.blocks.now.entries = search rules in
     IsDistinct-IsPermutation nat_eq nat_eq_equiv.symm c.in_ok-numbers.numbers.items c.sort.new.self.items c.sort.ensures.permutation (subst (IsDistinct nat_eq) (sym e) c.keys.ensures.unique)
 
-pub returns-clause-all : goal.returns-clause-all
-returns-clause-all c b none =
+pub returns-clause-absent : goal.returns-clause-absent
+returns-clause-absent c b none =
     let e : c.in_ok-numbers.numbers.items ≡ keys_of c.args.blocks.now.entries = search rules in
     no-targets c.args.blocks.now.entries c.keys.ensures.unique c.in_ok-numbers.numbers.items e b
     (list_any-IsPermutation (nat_eq b) c.in_ok-numbers.numbers.items c.sort.new.self.items c.sort.ensures.permutation ∙ none)
