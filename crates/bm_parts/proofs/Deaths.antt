@@ -1,13 +1,13 @@
 -- Racks and draining of the storages that a death, or a storage's failure, leaves.
 use Rattle.std.proofs.Common.{◌≡◌, ◌≢◌, ℕ, false, not, Option, Some, None, is_some, refl, ap, ◌∙◌}
-use Rattle.std.specs.Prelude.{◌==◌, option_map, option_and_then}
+use Rattle.std.specs.Prelude.{◌==◌, option_and_then}
 use Rattle.std.specs.Option.{option_map_or}
 use Rattle.std.proofs.lemmas.Bool.{eqb-false}
-use Rattle.bm_base.specs.declared.storage.StorageInfo.{StorageInfo}
 use Rattle.bm_base.specs.Map.{get}
 use Rattle.bm_base.specs.State.{Cluster}
 use Rattle.bm_base.specs.Replicas.{node_of, rack_of, has_storage, drains, is_draining}
 use Rattle.bm_base.specs.Events.{without_node, without_storage}
+use Rattle.bm_base.proofs.Clusters.{same_node}
 use Rattle.bm_base.proofs.Keeping.{get-keep_there}
 use Rattle.bm_base.proofs.Options.{not_failed}
 use Rattle.bm_base.proofs.Maps.{get_left}
@@ -17,8 +17,8 @@ unfolding without_node drains
 drains_elsewhere C n m other = ap is_some (get_left C.draining n m other)
 
 node_elsewhere : (C : Cluster) (n s : ℕ) → has_storage C n s ≡ false → node_of (without_node C n) s ≡ node_of C s
-unfolding without_node node_of
-node_elsewhere C n s h = ap (option_map (λ (i : StorageInfo). i.node)) (get-keep_there C.storages (λ t. not (has_storage C n t)) s (not_failed (has_storage C n s) h))
+unfolding without_node
+node_elsewhere C n s h = same_node C (without_node C n) s (get-keep_there C.storages (λ t. not (has_storage C n t)) s (not_failed (has_storage C n s) h))
 
 pub draining_elsewhere : (C : Cluster) (n s : ℕ) → has_storage C n s ≡ false → is_draining (without_node C n) s ≡ is_draining C s
 unfolding has_storage is_draining
@@ -39,8 +39,8 @@ rack_elsewhere C n s h = ap (option_and_then (λ m. get (without_node C n).nodes
 -- Another storage than one that failed.
 module _ (C : Cluster) (t s : ℕ) (other : (s == t) ≡ false) where
   node_left : node_of (without_storage C t) s ≡ node_of C s
-  unfolding without_storage node_of
-  node_left = ap (option_map (λ (i : StorageInfo). i.node)) (get_left C.storages t s (eqb-false s t other))
+  unfolding without_storage
+  node_left = same_node C (without_storage C t) s (get_left C.storages t s (eqb-false s t other))
 
   pub rack_left : rack_of (without_storage C t) s ≡ rack_of C s
   unfolding rack_of without_storage

@@ -1,7 +1,8 @@
 -- Lists that are filtered twice, and lists of what passes.
-use Rattle.std.proofs.Common.{◌≡◌, ◌≤◌, Bool, true, false, cond, ◌&&◌, ◌||◌, List, [], ◌∷◌, map, filter, length, arith, refl, sym, ap, ◌∙◌}
+use Rattle.std.proofs.Common.{◌≡◌, ◌≤◌, Bool, true, false, cond, ◌&&◌, List, [], ◌∷◌, map, filter, length, arith, refl, sym, ap, ◌∙◌}
 use Rattle.std.specs.List.{All, list_any}
 use Rattle.std.proofs.lemmas.List.Elements.{All-nil, All-cons}
+use Rattle.bm_base.proofs.Listed.{any_map, any_filter, filter_filter}
 use Rattle.bm_base.proofs.Each.{Each}
 
 within : (a b c : Bool) → (a ≡ true → b ≡ c) → (c ≡ true → a ≡ true) → (a && b) ≡ c
@@ -22,14 +23,6 @@ fewer_head false true x ys zs more rest = omega (arith, rest)
 fewer_head false false x ys zs more rest = rest
 
 module _ {X : Type 0} where
-  pub filtered_twice : (p q : X → Bool) (xs : List X) → filter p (filter q xs) ≡ filter (λ x. q x && p x) xs
-  filtered_twice p q [] = refl
-  filtered_twice p q (x ∷ xs) = by_test (q x) ∙ ap (λ ys. cond (q x && p x) (x ∷ ys) ys) (filtered_twice p q xs)
-    where
-      by_test : (b : Bool) → filter p (cond b (x ∷ filter q xs) (filter q xs)) ≡ cond (b && p x) (x ∷ filter p (filter q xs)) (filter p (filter q xs))
-      by_test true = refl
-      by_test false = refl
-
   pub filtered_alike : (p q : X → Bool) (xs : List X) → Each (λ x. p x ≡ q x) xs → filter p xs ≡ filter q xs
   filtered_alike p q [] h = refl
   filtered_alike p q (x ∷ xs) h = λ i. cond (h.0 i) (x ∷ filtered_alike p q xs h.1 i) (filtered_alike p q xs h.1 i)
@@ -49,11 +42,11 @@ module _ {X : Type 0} where
 
   -- what passes the second test passes the first anyway
   pub filter_within : (p t u : X → Bool) → ((x : X) → p x ≡ true → t x ≡ u x) → ((x : X) → u x ≡ true → p x ≡ true) → (xs : List X) → filter t (filter p xs) ≡ filter u xs
-  filter_within p t u same only xs = filtered_twice t p xs ∙ ap (λ (s : X → Bool). filter s xs) (λ i x. within (p x) (t x) (u x) (same x) (only x) i)
+  filter_within p t u same only xs = filter_filter t p xs ∙ ap (λ (s : X → Bool). filter s xs) (λ i x. within (p x) (t x) (u x) (same x) (only x) i)
 
   -- two tests, one of which matters only where the other passes
   pub filter_swap : (p t u : X → Bool) → ((x : X) → p x ≡ true → t x ≡ u x) → (xs : List X) → filter t (filter p xs) ≡ filter p (filter u xs)
-  filter_swap p t u same xs = filtered_twice t p xs ∙ ap (λ (s : X → Bool). filter s xs) (λ i x. swapped (p x) (t x) (u x) (same x) i) ∙ sym (filtered_twice p u xs)
+  filter_swap p t u same xs = filter_filter t p xs ∙ ap (λ (s : X → Bool). filter s xs) (λ i x. swapped (p x) (t x) (u x) (same x) i) ∙ sym (filter_filter p u xs)
 
 pub map_filter : {X Y : Type 0} (f : X → Y) (p : Y → Bool) (xs : List X) → filter p (map f xs) ≡ map f (filter (λ x. p (f x)) xs)
 map_filter f p [] = refl
@@ -65,21 +58,9 @@ map_filter f p (x ∷ xs) = ap (λ ys. cond (p (f x)) (f x ∷ ys) ys) (map_filt
 
 -- Whether one passes.
 
-pub any_of_mapped : {X Y : Type 0} (g : Y → Bool) (f : X → Y) (xs : List X) → list_any g (map f xs) ≡ list_any (λ x. g (f x)) xs
-any_of_mapped g f [] = refl
-any_of_mapped g f (x ∷ xs) = ap (λ b. g (f x) || b) (any_of_mapped g f xs)
-
-kept_any : {X : Type 0} (g : X → Bool) (b : Bool) (x : X) (xs : List X) → list_any g (cond b (x ∷ xs) xs) ≡ ((b && g x) || list_any g xs)
-kept_any g true x xs = refl
-kept_any g false x xs = refl
-
-pub any_of_filtered : {X : Type 0} (g p : X → Bool) (xs : List X) → list_any g (filter p xs) ≡ list_any (λ x. p x && g x) xs
-any_of_filtered g p [] = refl
-any_of_filtered g p (x ∷ xs) = kept_any g (p x) x (filter p xs) ∙ ap (λ b. (p x && g x) || b) (any_of_filtered g p xs)
-
 -- some entry that is kept by p passes g, as f shows it
 pub any_shown : {X Y : Type 0} (g : Y → Bool) (f : X → Y) (p : X → Bool) (xs : List X) → list_any g (map f (filter p xs)) ≡ list_any (λ x. p x && g (f x)) xs
-any_shown g f p xs = any_of_mapped g f (filter p xs) ∙ any_of_filtered (λ x. g (f x)) p xs
+any_shown g f p xs = any_map g f (filter p xs) ∙ any_filter (λ x. g (f x)) p xs
 
 -- what holds of each, in std's word
 pub all_each : {X : Type 0} (P : X → Type 0) (xs : List X) → Each P xs → All P xs

@@ -28,7 +28,8 @@ use Rattle.bm_base.proofs.Options.{is_there, there}
 use Rattle.bm_base.proofs.RisingParts.{wish_is, wishes_rise, deletes_rise}
 use Rattle.bm_parts.specs.Found as law
 use Rattle.bm_parts.specs.Found.{IsGathered, IsExpired, IsTooMany, IsWished, IsToDelete, IsFound}
-use Rattle.bm_parts.proofs.Filters.{any_of_mapped, any_shown, all_each}
+use Rattle.bm_parts.proofs.Filters.{any_shown, all_each}
+use Rattle.bm_base.proofs.Listed.{any_map}
 use Rattle.bm_parts.proofs.JoinedReplicas.{listed_rises}
 use Rattle.bm_parts.proofs.Gathered.{gathered_alike}
 
@@ -77,7 +78,7 @@ any_flat_at t f (u ∷ ss) s e h = list_any-append t (f u) (flat_map f ss) ∙ b
 
 has_key : {X : Type 0} (m : Map by_number X) (b : ℕ) (x : X) → get m b ≡ Some x → has (keys m) b ≡ true
 unfolding keys
-has_key m b x e = any_of_mapped (λ y. y == b) (λ e. e.0) (entries m) ∙ passes_entry m (λ e. e.0 == b) b x e (eq-eqb b b refl)
+has_key m b x e = any_map (λ y. y == b) (λ e. e.0) (entries m) ∙ passes_entry m (λ e. e.0 == b) b x e (eq-eqb b b refl)
 
 module _ (C : Cluster) (H : Holdings) where
   deletes_on : (s : ℕ) → contains_key C.storages s ≡ true → Each (IsToDelete C H) (deletable_on C H s)

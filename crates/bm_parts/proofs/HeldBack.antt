@@ -14,7 +14,7 @@ use Rattle.bm_parts.specs.QueryLaws as law
 use Rattle.bm_parts.specs.QueryLaws.{holds_back}
 use Rattle.bm_parts.specs.Whole.{parts}
 use Rattle.bm_parts.proofs.Parts.{own}
-use Rattle.bm_parts.proofs.Filters.{any_of_mapped}
+use Rattle.bm_base.proofs.Listed.{any_map, any_agree}
 use Rattle.bm_parts.proofs.Joined.{share, in_a_share, any_of_numbers, each_of_numbers}
 use Rattle.bm_parts.proofs.Cutting.{keys_cut, drained_cut, enough_cut}
 
@@ -56,14 +56,11 @@ module _ (C : Cluster) (n : ℕ) (H : Holdings) (shards : ℕ) where
       ap (list_any (is_held_back_by C (cut H i shards) n)) (keys_cut i shards H)
       ∙ any_alike (own i shards) (is_held_back_by C (cut H i shards) n) (is_held_back_by C H n) (held_back_cut i) (keys H.blocks)
 
-  same_tests : (f g : ℕ → Bool) → ((i : ℕ) → f i ≡ g i) → (xs : List ℕ) → list_any f xs ≡ list_any g xs
-  same_tests f g same xs = ap (λ (t : ℕ → Bool). list_any t xs) (λ j i. same i j)
-
   held_back : 1 ≤ shards → list_any (holds_back C n) (parts H shards) ≡ holds_back C n H
   unfolding holds_back
   held_back some =
-      any_of_mapped (holds_back C n) (λ i. cut H i shards) (count_up 0 shards)
-      ∙ same_tests (λ i. holds_back C n (cut H i shards)) (λ i. list_any (is_held_back_by C H n) (share (λ b. shard_of b shards) (keys H.blocks) i)) held_back_in (count_up 0 shards)
+      any_map (holds_back C n) (λ i. cut H i shards) (count_up 0 shards)
+      ∙ any_agree (λ i. holds_back C n (cut H i shards)) (λ i. list_any (is_held_back_by C H n) (share (λ b. shard_of b shards) (keys H.blocks) i)) held_back_in (count_up 0 shards)
       ∙ sym (any_flat (is_held_back_by C H n) (share (λ b. shard_of b shards) (keys H.blocks)) (count_up 0 shards))
       ∙ any_share (is_held_back_by C H n) (λ b. shard_of b shards) shards (λ b. mod-lt b some) (keys H.blocks)
 

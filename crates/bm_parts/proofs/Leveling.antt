@@ -1,6 +1,6 @@
 -- What events on the cluster leave of levels.
 use Rattle.std.proofs.Common.{◌≡◌, ◌≢◌, ℕ, Bool, true, false, not, ◌&&◌, Option, Some, None, is_some, List, [], ◌∷◌, map, length, refl, sym, ap, ◌∙◌, true≢false}
-use Rattle.std.specs.Prelude.{◌==◌, if◌then◌else◌, option_map, option_and_then, filter_map}
+use Rattle.std.specs.Prelude.{◌==◌, option_map, option_and_then, filter_map}
 use Rattle.std.specs.Option.{option_map_or}
 use Rattle.std.specs.Ordering.{eq_by_cmp, nat_cmp}
 use Rattle.std.specs.List.{list_any, cons_option}
@@ -9,17 +9,17 @@ use Rattle.bm_base.specs.declared.event.Remaining.{Remaining}
 use Rattle.bm_base.specs.declared.replica.Marks.{Marks}
 use Rattle.bm_base.specs.declared.replica.BlockInfo.{BlockInfo}
 use Rattle.bm_base.specs.declared.storage.StorageInfo.{StorageInfo}
-use Rattle.bm_base.specs.Map.{Map, by_number, get, revise_at, contains_key}
+use Rattle.bm_base.specs.Map.{get, contains_key}
 use Rattle.bm_base.specs.State.{Cluster, Holdings, replica_at}
 use Rattle.bm_base.specs.Lists.{distinct}
 use Rattle.bm_base.specs.Replicas.{is_usable, is_live_on, is_drained_on, node_of, rack_of, has_storage, drains, is_draining, racks, live, drained, is_multi_rack}
 use Rattle.bm_base.specs.Levels.{level, level_of}
-use Rattle.bm_base.specs.Events.{register, heartbeat, set_remaining, without_node, without_storage, without_storages}
+use Rattle.bm_base.specs.Events.{register, heartbeat, without_node, without_storage, without_storages}
 use Rattle.bm_base.specs.Refusals.{knows_storage}
-use Rattle.bm_base.proofs.MapLaws.{get-revise}
 use Rattle.bm_base.proofs.Ties.{number_tie}
 use Rattle.bm_base.proofs.Each.{Each, none_passes}
 use Rattle.bm_base.proofs.Maps.{get_insert_all_elsewhere, get_left, get_other}
+use Rattle.bm_base.proofs.ClusterEvents.{same_nodes}
 use Rattle.bm_parts.specs.LevelLaws as law
 use Rattle.bm_parts.specs.LevelLaws.{IsRacked}
 use Rattle.bm_parts.proofs.Storages.{storages_left, none_leaves, each_where, usable_fails}
@@ -81,30 +81,14 @@ level_alike C D H b stay multi =
 
 -- Heartbeats.
 
-same_node : (b : Bool) (v : ℕ) (o : Option StorageInfo) → option_map (λ (i : StorageInfo). i.node) (option_map (λ (i : StorageInfo). if b then record i { remaining = v } else i) o) ≡ option_map (λ (i : StorageInfo). i.node) o
-same_node b v None = refl
-same_node true v (Some i) = refl
-same_node false v (Some i) = refl
-
-node_same : (m : Map by_number StorageInfo) (r : Remaining) (s : ℕ)
-    → option_map (λ (i : StorageInfo). i.node) (get (revise_at m r.storage (λ i. record i { remaining = r.remaining })) s) ≡ option_map (λ (i : StorageInfo). i.node) (get m s)
-unfolding revise_at
-node_same m r s =
-    ap (option_map (λ (i : StorageInfo). i.node)) (get-revise m (λ q x. if eq_by_cmp nat_cmp q r.storage then record x { remaining = r.remaining } else x) s)
-    ∙ same_node (eq_by_cmp nat_cmp s r.storage) r.remaining (get m s)
-
-nodes_same : (m : Map by_number StorageInfo) (rs : List Remaining) (s : ℕ) → option_map (λ (i : StorageInfo). i.node) (get (set_remaining m rs) s) ≡ option_map (λ (i : StorageInfo). i.node) (get m s)
-nodes_same m [] s = refl
-nodes_same m (r ∷ rs) s = nodes_same (revise_at m r.storage (λ i. record i { remaining = r.remaining })) rs s ∙ node_same m r s
-
 module _ (C : Cluster) (rs : List Remaining) where
   pub rack_heard : (s : ℕ) → rack_of (heartbeat C rs) s ≡ rack_of C s
   unfolding rack_of node_of heartbeat
-  rack_heard s = ap (option_and_then (λ n. get C.nodes n)) (nodes_same C.storages rs s)
+  rack_heard s = ap (option_and_then (λ n. get C.nodes n)) (same_nodes C.storages rs s)
 
   draining_heard : (s : ℕ) → is_draining (heartbeat C rs) s ≡ is_draining C s
   unfolding is_draining drains node_of heartbeat
-  draining_heard s = ap (λ z. option_map_or (drains C) z false) (nodes_same C.storages rs s)
+  draining_heard s = ap (λ z. option_map_or (drains C) z false) (same_nodes C.storages rs s)
 
   multi_heard : is_multi_rack (heartbeat C rs) ≡ is_multi_rack C
   unfolding is_multi_rack heartbeat

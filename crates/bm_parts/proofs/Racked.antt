@@ -1,5 +1,5 @@
 -- Replicas stay on storages of alive nodes.
-use Rattle.std.proofs.Common.{◌≡◌, ℕ, Bool, true, false, not, ◌||◌, Option, Some, None, is_some, List, map, refl, sym, ap, ◌∙◌}
+use Rattle.std.proofs.Common.{◌≡◌, ℕ, Bool, true, false, not, ◌||◌, Some, None, is_some, List, [], ◌∷◌, map, refl, sym, ap, ◌∙◌}
 use Rattle.std.specs.Prelude.{◌==◌, if◌then◌else◌, IsSome, option_map, option_and_then}
 use Rattle.std.specs.Ordering.{eq_by_cmp}
 use Rattle.std.specs.List.{list_any}
@@ -7,7 +7,7 @@ use Rattle.std.proofs.lemmas.Bool.{or_parts}
 use Rattle.bm_base.specs.declared.event.Event.TheVariants.{Register, Dead, StorageFailed, Heartbeat, Drain, Undrain, AddBlock, DeleteBlock, SetReplication, Restamp, Received, Deleted, Corrupt, FullReport}
 use Rattle.bm_base.specs.declared.event.Remaining.{Remaining}
 use Rattle.bm_base.specs.declared.refusal.Refusal.{Refusal}
-use Rattle.bm_base.specs.declared.refusal.Refusal.TheVariants.{NodeKnown, StorageKnown, UnknownStorage}
+use Rattle.bm_base.specs.declared.refusal.Refusal.TheVariants.{NodeKnown, StorageKnown, TooMany, UnknownStorage}
 use Rattle.bm_base.specs.declared.replica.ReplicaId.{ReplicaId}
 use Rattle.bm_base.specs.declared.replica.Marks.{Marks}
 use Rattle.bm_base.specs.declared.replica.Stamp.{Stamp}
@@ -22,8 +22,9 @@ use Rattle.bm_base.specs.Events.{register, heartbeat, without_node, without_stor
 use Rattle.bm_base.specs.Excess.{without_expired, without_unordered_excess, marked}
 use Rattle.bm_base.specs.Rounds.{finished}
 use Rattle.bm_base.specs.RoundParts.{started_holdings}
-use Rattle.bm_base.specs.Refusals.{first_of, cluster_checks, knows_node, knows_storage}
+use Rattle.bm_base.specs.Refusals.{first_of, cluster_checks, knows_node, knows_storage, is_too_long}
 use Rattle.bm_base.specs.Lawful.{IsLawfulCluster}
+use Rattle.bm_base.proofs.Checks.{first_fails, all_fail}
 use Rattle.bm_base.proofs.Options.{there, is_there, not_passed, fails_not}
 use Rattle.bm_base.proofs.Each.{each_of, each_mapped}
 use Rattle.bm_base.proofs.Maps.{Holds, get_kept, get_revised, get_removed, known_revised, holds_inserted, holds_insert_all}
@@ -105,13 +106,8 @@ known_rack C s lawful known =
     let i = there (get C.storages s) known in
     ap (λ z. is_some (option_and_then (λ n. get C.nodes n) (option_map (λ (i : StorageInfo). i.node) z))) i.1 ∙ lawful.alive s i.0 i.1
 
--- where the first check does not refuse
-unrefused : (r : Refusal) (b : Bool) (o : Option Refusal) → (if b then Some r else o) ≡ None → (b ≡ false) × (o ≡ None)
-unrefused r true o e = cc
-unrefused r false o e = (refl, e)
-
-storage_known : (C : Cluster) (s : ℕ) (o : Option Refusal) → (if not (knows_storage C s) then Some UnknownStorage else o) ≡ None → knows_storage C s ≡ true
-storage_known C s o e = fails_not (knows_storage C s) (unrefused UnknownStorage (not (knows_storage C s)) o e).0
+storage_known : (C : Cluster) (s : ℕ) (cs : List (Refusal × Bool)) → first_of ((UnknownStorage, not (knows_storage C s)) ∷ cs) ≡ None → knows_storage C s ≡ true
+storage_known C s cs e = fails_not (knows_storage C s) (first_fails UnknownStorage (not (knows_storage C s)) cs e).0
 
 module _ (C : Cluster) (P : Holdings) (racked : IsRacked C P) (s : ℕ) (rack : IsSome (rack_of C s)) where
   abbrev HasRack : ReplicaId → Marks → Type 0
@@ -142,9 +138,8 @@ module _ (C : Cluster) (P : Holdings) (racked : IsRacked C P) (s : ℕ) (rack : 
 register_unrefused : (C : Cluster) (n rack : ℕ) (ss : List ℕ) → first_of (cluster_checks C (Register n rack ss)) ≡ None → (contains_key C.nodes n ≡ false) × (list_any (knows_storage C) ss ≡ false)
 unfolding cluster_checks knows_node
 register_unrefused C n rack ss e =
-    let new = unrefused NodeKnown (contains_key C.nodes n) _ e in
-    let unknown = unrefused StorageKnown (has_repeats ss || list_any (knows_storage C) ss) _ new.1 in
-    (new.0, (or_parts (has_repeats ss) (list_any (knows_storage C) ss) unknown.0).1)
+    let fails = all_fail NodeKnown StorageKnown TooMany (contains_key C.nodes n) (has_repeats ss || list_any (knows_storage C) ss) _ e in
+    (fails.0, (or_parts (has_repeats ss) (list_any (knows_storage C) ss) fails.1).1)
 
 pub event_keeps_racked : law.event_keeps_racked
 unfolding change_cluster change_holdings cluster_checks add_block delete_block set_replication restamp without_pending revise_block make_bad revise_at remove_replica
@@ -162,14 +157,14 @@ event_keeps_racked C P (SetReplication b repl) index shards lawful e racked = ei
 event_keeps_racked C P (Restamp b stamp) index shards lawful e racked =
     either C P racked (shard_of b shards == index) (restamp P b stamp) (racked_among C P racked (restamp P b stamp) (racked_revised C P racked (λ q m. if q.block == b then as_restamped m else m)))
 event_keeps_racked C P (Received s b stamp) index shards lawful e racked =
-    either C P racked (shard_of b shards == index) (enter C P (replica_at b s) stamp) (entered_racked C P racked s (known_rack C s lawful (storage_known C s _ e)) b stamp)
+    either C P racked (shard_of b shards == index) (enter C P (replica_at b s) stamp) (entered_racked C P racked s (known_rack C s lawful (storage_known C s [] e)) b stamp)
 event_keeps_racked C P (Deleted s b) index shards lawful e racked =
     either C P racked (shard_of b shards == index) (remove_replica P (replica_at b s))
     (racked_among C P racked (remove_replica P (replica_at b s)) (λ q m here. is_there (get P.replicas q) m (get_removed P.replicas (replica_at b s) q m here).1))
 event_keeps_racked C P (Corrupt s b) index shards lawful e racked =
     either C P racked (shard_of b shards == index) (make_bad P (replica_at b s))
     (racked_among C P racked (make_bad P (replica_at b s)) (racked_revised C P racked (λ q m. if eq_by_cmp replica_cmp q (replica_at b s) then as_bad m else m)))
-event_keeps_racked C P (FullReport s es) index shards lawful e racked = reported_racked C P racked s (known_rack C s lawful (storage_known C s _ e)) (told_of index shards (expanded es))
+event_keeps_racked C P (FullReport s es) index shards lawful e racked = reported_racked C P racked s (known_rack C s lawful (storage_known C s ((TooMany, is_too_long es) ∷ []) e)) (told_of index shards (expanded es))
 
 pub round_keeps_racked : law.round_keeps_racked
 unfolding finished started_holdings marked without_unordered_excess without_expired

@@ -4,7 +4,7 @@ use Rattle.std.specs.Prelude.{◌==◌, option_and_then}
 use Rattle.std.specs.List.{list_any}
 use Rattle.std.proofs.lemmas.Simd.{map-map}
 use Rattle.std.proofs.lemmas.List.{length-map}
-use Rattle.std.proofs.lemmas.Bool.{and_parts, and_from, and_right}
+use Rattle.std.proofs.lemmas.Bool.{and_from, and_right}
 use Rattle.bm_base.specs.declared.replica.ReplicaId.{ReplicaId}
 use Rattle.bm_base.specs.declared.replica.Marks.{Marks}
 use Rattle.bm_base.specs.Map.{Map, Order, get, keep, revise, entries}
@@ -12,10 +12,12 @@ use Rattle.bm_base.specs.State.{Holdings, by_replica, replica_at}
 use Rattle.bm_base.specs.Replicas.{is_usable, storages_where}
 use Rattle.bm_base.specs.Events.{without_storages}
 use Rattle.bm_base.proofs.MapLaws.{same_map, get-keep, entries-keep, entries-revise}
-use Rattle.bm_base.proofs.Each.{Each, each_mapped, each_then, each_both, each_filtered, each_passing}
+use Rattle.bm_base.proofs.Listed.{filter_filter}
+use Rattle.bm_base.proofs.ChosenCopies.{HasOne, each_storage}
+use Rattle.bm_base.proofs.Each.{Each, each_then}
 use Rattle.bm_base.proofs.Maps.{each_entry, passes_entry}
 use Rattle.bm_parts.specs.Settled.{usable}
-use Rattle.bm_parts.proofs.Filters.{filtered_twice, filtered_alike, fewer_passing, map_filter, any_shown}
+use Rattle.bm_parts.proofs.Filters.{filtered_alike, fewer_passing, map_filter, any_shown}
 use Rattle.bm_parts.proofs.PartMaps.{part, part_same}
 
 -- Storages of replicas that are left, where a test of what is left comes to a test of what was there.
@@ -30,7 +32,7 @@ module _ (H : Holdings) (gone : ℕ → Bool) (p q : ℕ → Marks → Bool) (b 
       let test : ReplicaId × Marks → Bool = λ e. (e.0.block == b) && p e.0.storage e.1 in
       let stays : ReplicaId × Marks → Bool = λ e. not (gone e.0.storage) in
       let lists : filter test (entries (keep H.replicas (λ k _. not (gone k.storage)))) ≡ filter (λ e. (e.0.block == b) && q e.0.storage e.1) (entries H.replicas) =
-      ap (filter test) (entries-keep by_replica H.replicas (λ k _. not (gone k.storage))) ∙ filtered_twice test stays (entries H.replicas)
+      ap (filter test) (entries-keep by_replica H.replicas (λ k _. not (gone k.storage))) ∙ filter_filter test stays (entries H.replicas)
       ∙ filtered_alike (λ e. stays e && test e) (λ e. (e.0.block == b) && q e.0.storage e.1) (entries H.replicas)
       (each_then (λ e. get H.replicas e.0 ≡ Some e.1) (λ e. (stays e && test e) ≡ ((e.0.block == b) && q e.0.storage e.1)) (entries H.replicas) (each_entry H.replicas) (λ e is. at_entry e.0 e.1 (e.0.block == b) refl is)) in
       ap (map (λ e. e.0.storage)) lists
@@ -49,14 +51,7 @@ none_leaves H = λ i. record H { replicas = all_kept H.replicas i; pending = all
 
 -- what holds of the storage of each of the block's replicas that pass
 pub each_where : (P : ℕ → Type 0) (p : ℕ → Marks → Bool) (H : Holdings) (b : ℕ) → ((s : ℕ) (m : Marks) → get H.replicas (replica_at b s) ≡ Some m → p s m ≡ true → P s) → Each P (storages_where p H b)
-unfolding storages_where
-each_where P p H b holds =
-    let test : ReplicaId × Marks → Bool = λ e. (e.0.block == b) && p e.0.storage e.1 in
-    let found : ReplicaId × Marks → Type 0 = λ e. get H.replicas e.0 ≡ Some e.1 in
-    each_mapped P (λ e. e.0.storage) (filter test (entries H.replicas))
-    (each_then (λ e. found e × (test e ≡ true)) (λ e. P e.0.storage) (filter test (entries H.replicas))
-    (each_both found (λ e. test e ≡ true) (filter test (entries H.replicas)) (each_filtered found test (entries H.replicas) (each_entry H.replicas)) (each_passing test (entries H.replicas)))
-    (λ e h. let passes = and_parts (e.0.block == b) (p e.0.storage e.1) h.1 in holds e.0.storage e.1 (ap (λ c. get H.replicas (replica_at c e.0.storage)) (sym (eqb-true e.0.block b passes.0)) ∙ h.0) passes.1))
+each_where P p H b holds = each_then (HasOne p H b) P (storages_where p H b) (each_storage p H b) (λ s one. holds s one.0 one.1 one.2)
 
 -- where none of the block's usable replicas stands on a storage that passes, the storage of each fails
 pub usable_fails : (t : ℕ → Bool) (H : Holdings) (b s : ℕ) (m : Marks) → list_any t (usable H b) ≡ false → get H.replicas (replica_at b s) ≡ Some m → is_usable m ≡ true → t s ≡ false
@@ -91,7 +86,7 @@ own_replicas : (p : ℕ → Marks → Bool) (K : Holdings) (b : ℕ) → storage
 unfolding storages_where
 own_replicas p K b =
     sym (ap (λ es. map (λ (e : ReplicaId × Marks). e.0.storage) (filter (λ e. p e.0.storage e.1) es)) (entries-keep by_replica K.replicas (λ q _. q.block == b))
-    ∙ ap (map (λ (e : ReplicaId × Marks). e.0.storage)) (filtered_twice (λ (e : ReplicaId × Marks). p e.0.storage e.1) (λ e. e.0.block == b) (entries K.replicas)))
+    ∙ ap (map (λ (e : ReplicaId × Marks). e.0.storage)) (filter_filter (λ (e : ReplicaId × Marks). p e.0.storage e.1) (λ e. e.0.block == b) (entries K.replicas)))
 
 -- the block's storages by its own replicas
 pub storages_of_same : (p : ℕ → Marks → Bool) (H G : Holdings) (b : ℕ) → ((s : ℕ) → get G.replicas (replica_at b s) ≡ get H.replicas (replica_at b s)) → storages_where p G b ≡ storages_where p H b

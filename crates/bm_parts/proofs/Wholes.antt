@@ -10,7 +10,8 @@ use Rattle.bm_base.proofs.MapLaws.{entries-keep, get-empty}
 use Rattle.bm_parts.specs.Whole.{beside, whole_of, parts_from, parts, AreOwn}
 use Rattle.bm_parts.specs.Whole as law
 use Rattle.bm_base.proofs.Each.{each_of}
-use Rattle.bm_parts.proofs.Filters.{filter_none, filter_within, filtered_twice}
+use Rattle.bm_parts.proofs.Filters.{filter_none, filter_within}
+use Rattle.bm_base.proofs.Listed.{filter_filter}
 use Rattle.bm_parts.proofs.PartMaps.{part, part_is, get_out, part_inserted_all}
 use Rattle.bm_parts.proofs.Parts.{own, own_replica, cut_to, whole_from_parts}
 use Rattle.bm_parts.proofs.Joined.{own_entries}
@@ -19,7 +20,7 @@ use Rattle.bm_parts.proofs.Joined.{own_entries}
 
 -- no entry passes two tests, one of which fails where the other passes
 filter_other : {X : Type 0} (p q : X → Bool) → ((x : X) → p x ≡ true → q x ≡ false) → (xs : List X) → filter q (filter p xs) ≡ []
-filter_other p q other xs = filtered_twice q p xs ∙ filter_none (λ x. p x && q x) xs (each_of (λ x. (p x && q x) ≡ false) xs (λ x. fails (p x) (q x) (other x)))
+filter_other p q other xs = filter_filter q p xs ∙ filter_none (λ x. p x && q x) xs (each_of (λ x. (p x && q x) ≡ false) xs (λ x. fails (p x) (q x) (other x)))
   where
     fails : (a b : Bool) → (a ≡ true → b ≡ false) → (a && b) ≡ false
     fails true b h = h refl

@@ -19,7 +19,8 @@ use Rattle.bm_base.specs.Queries.{all_replicas, replicas_where, missing_blocks, 
 use Rattle.bm_base.specs.Lawful.{IsLawfulHoldings}
 use Rattle.bm_base.proofs.Options.{there, is_there}
 use Rattle.bm_base.proofs.Maps.{entry_passes, passes_entry}
-use Rattle.bm_parts.proofs.Filters.{any_of_mapped, any_of_filtered, any_shown}
+use Rattle.bm_base.proofs.Listed.{any_map, any_filter}
+use Rattle.bm_parts.proofs.Filters.{any_shown}
 use Rattle.laws_of_events.proofs.Telling.{found_good}
 use Rattle.laws_of_events.specs.Queries as law
 
@@ -29,8 +30,8 @@ pub listed : law.replicas_are_held
 unfolding all_replicas
 listed H test =
     let show : ReplicaId × Marks → Replica = λ e. record { block = e.0.block; storage = e.0.storage; tag = e.1.tag } in (
-      (λ h. let e = entry_passes H.replicas (λ e. test (show e)) (sym (any_of_mapped test show (entries H.replicas)) ∙ h) in (e.0, (e.1, e.2, e.3))),
-      (λ h. any_of_mapped test show (entries H.replicas) ∙ passes_entry H.replicas (λ e. test (show e)) h.0 h.1.0 h.1.1 h.1.2),
+      (λ h. let e = entry_passes H.replicas (λ e. test (show e)) (sym (any_map test show (entries H.replicas)) ∙ h) in (e.0, (e.1, e.2, e.3))),
+      (λ h. any_map test show (entries H.replicas) ∙ passes_entry H.replicas (λ e. test (show e)) h.0 h.1.0 h.1.1 h.1.2),
     )
 
 -- Those whose marks pass.
@@ -173,7 +174,7 @@ module _ (C : Cluster) (H : Holdings) (b : ℕ) where
 
   shown_missing : has (missing_blocks C H) b ≡ list_any (λ e. missing_level e.0 && (e.0 == b)) (entries H.blocks)
   unfolding missing_blocks keys
-  shown_missing = any_of_filtered (λ y. y == b) missing_level (map (λ e. e.0) (entries H.blocks)) ∙ any_of_mapped (λ y. missing_level y && (y == b)) (λ e. e.0) (entries H.blocks)
+  shown_missing = any_filter (λ y. y == b) missing_level (map (λ e. e.0) (entries H.blocks)) ∙ any_map (λ y. missing_level y && (y == b)) (λ e. e.0) (entries H.blocks)
 
   pub missing_is : has (missing_blocks C H) b ≡ true → law.IsMissing H b
   missing_is h =

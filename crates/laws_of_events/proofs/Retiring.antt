@@ -23,7 +23,8 @@ use Rattle.bm_base.specs.Lawful.{IsLawfulHoldings}
 use Rattle.bm_base.proofs.Options.{not_failed, not_passed}
 use Rattle.bm_base.proofs.Maps.{entry_passes, passes_entry}
 use Rattle.laws_of_events.proofs.NodeChanges.{on_it, is_on_it, node_at, still_there}
-use Rattle.bm_parts.proofs.Filters.{any_of_mapped, any_shown}
+use Rattle.bm_base.proofs.Listed.{any_map}
+use Rattle.bm_parts.proofs.Filters.{any_shown}
 use Rattle.bm_parts.proofs.Storages.{storages_left}
 use Rattle.bm_parts.proofs.Deaths.{draining_elsewhere}
 use Rattle.laws_of_events.proofs.Listing.{stored_where, usable_marks, marks_usable, missing_is, is_missing}
@@ -63,7 +64,7 @@ module _ (C : Cluster) (H : Holdings) (n : ℕ) where
 
   any_held_back : list_any (is_held_back_by C H n) (keys H.blocks) ≡ list_any (λ e. is_held_back_by C H n e.0) (entries H.blocks)
   unfolding keys
-  any_held_back = any_of_mapped (is_held_back_by C H n) (λ e. e.0) (entries H.blocks)
+  any_held_back = any_map (is_held_back_by C H n) (λ e. e.0) (entries H.blocks)
 
   held_back_is : (b : ℕ) → is_held_back_by C H n b ≡ (list_any (has_storage C n) (drained C H b) && not (has_enough_live C H b))
   unfolding is_held_back_by
