@@ -11,6 +11,7 @@ use Rattle.bm_base.specs.Excess.{started}
 use Rattle.bm_base.specs.Rounds.{finished, is_commanded, whole_round}
 use Rattle.bm_base.specs.NextRound.{transfers_chosen, after_round}
 use Rattle.bm_base.proofs.MapLaws.{get-revise}
+use Rattle.bm_base.proofs.Rounding.{ordered_tag}
 use Rattle.bm_base.proofs.Marked.{ordered_by}
 use Rattle.bm_base.proofs.Commanded.{chosen_deletes_of}
 use Rattle.bm_base.proofs.Kept.{marks_started, remarked, remarked_tag, surplus_of}
@@ -23,9 +24,6 @@ pub marks_after : (M : State) (q : ReplicaId) → get (after_round M).holdings.r
 unfolding whole_round
 marks_after M q = marks_finished (started M).round (started M).holdings (transfers_chosen M) (chosen_deletes_of M) q
 
-tag_marked : (ds : List Delete) (q : ReplicaId) (m : Marks) → (ordered_by ds q m).tag ≡ m.tag
-tag_marked ds q m = elim (is_commanded ds q) as (λ b. (if b then record m { ordered = true } else m).tag ≡ m.tag) [ true ↦ refl | false ↦ refl ]
-
 tag_twice : (f g : Marks → Marks) → ((m : Marks) → (f m).tag ≡ m.tag) → ((m : Marks) → (g m).tag ≡ m.tag) → (o : Option Marks)
     → option_map (λ m. m.tag) (option_map f (option_map g o)) ≡ option_map (λ m. m.tag) o
 tag_twice f g hf hg None = refl
@@ -34,4 +32,4 @@ tag_twice f g hf hg (Some m) = ap Some (hf (g m) ∙ hg m)
 pub same_tag : (M : State) (q : ReplicaId) → option_map (λ m. m.tag) (get (after_round M).holdings.replicas q) ≡ option_map (λ m. m.tag) (get M.holdings.replicas q)
 same_tag M q =
     ap (option_map (λ (m : Marks). m.tag)) (marks_after M q ∙ ap (option_map (ordered_by (chosen_deletes_of M) q)) (marks_started M q))
-    ∙ tag_twice (ordered_by (chosen_deletes_of M) q) (remarked (surplus_of M q.block) q.storage) (tag_marked (chosen_deletes_of M) q) (remarked_tag (surplus_of M q.block) q.storage) (get M.holdings.replicas q)
+    ∙ tag_twice (ordered_by (chosen_deletes_of M) q) (remarked (surplus_of M q.block) q.storage) (λ m. ordered_tag (is_commanded (chosen_deletes_of M) q) m) (remarked_tag (surplus_of M q.block) q.storage) (get M.holdings.replicas q)

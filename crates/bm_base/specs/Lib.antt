@@ -36,5 +36,6 @@ pub mod Choices
 pub mod Refusals
 pub mod Configuration
 pub mod Calls
+pub mod AllStates
 pub mod Runs
 pub mod Answering

@@ -8,10 +8,11 @@ use Rattle.bm_base.specs.declared.replica.Tag.TheVariants.{Stale, Bad}
 use Rattle.bm_base.specs.declared.replica.Marks.{Marks}
 use Rattle.bm_base.specs.declared.event.Event.TheVariants.{Register, Dead, StorageFailed, Heartbeat, Drain, Undrain, AddBlock, DeleteBlock, SetReplication, Restamp, Received, Deleted, Corrupt, FullReport}
 use Rattle.bm_base.specs.Map.{Map, get, revise, revise_at, remove, contains_key}
-use Rattle.bm_base.specs.State.{Holdings, by_replica, replica_at, replica_cmp}
+use Rattle.bm_base.specs.State.{Holdings, State, by_replica, replica_at, replica_cmp}
 use Rattle.bm_base.specs.Replicas.{is_good, has_storage}
 use Rattle.bm_base.specs.Events.{add_block, delete_block, set_replication, restamp, make_bad, remove_replica, without_storages, without_pending, revise_block, change_holdings, as_stray, as_bad, as_restamped}
 use Rattle.bm_base.specs.Calls.{after_event}
+use Rattle.bm_base.specs.Lawful.{IsOrderly}
 use Rattle.bm_base.proofs.Options.{there}
 use Rattle.bm_base.proofs.Maps.{get_kept, get_removed, get_revised, get_taken}
 use Rattle.bm_base.proofs.Among.{drained_replicas}
@@ -54,21 +55,21 @@ not_gone : (H : Holdings) (b c : ℕ) → contains_key (remove H.blocks b) c ≡
 not_gone H b c known true e = let gone : false ≡ true = sym (ap is_some (get_taken H.blocks b)) ∙ ap (contains_key (remove H.blocks b)) (sym (eqb-true c b e)) ∙ known in cc
 not_gone H b c known false e = refl
 
-pub bad_stays : law.no_event_clears_bad
+pub bad_stays : (M : State) → IsOrderly M → law.no_event_clears_bad M
 unfolding after_event change_holdings without_storages add_block delete_block set_replication restamp make_bad remove_replica without_pending revise_block revise_at
-bad_stays M (Received s b stamp) L p bad is known = received_leaves_bad s b stamp M L p bad is
-bad_stays M (FullReport s es) L p bad is known = report_leaves_bad s es M L p bad is
-bad_stays M (Dead n) L p bad is known = same_bad M.holdings _ p (λ k e. (get_kept M.holdings.replicas (λ q _. not (has_storage M.cluster n q.storage)) p k e).0) bad is
-bad_stays M (StorageFailed s) L p bad is known = same_bad M.holdings _ p (λ k e. (get_kept M.holdings.replicas (λ q _. not (q.storage == s)) p k e).0) bad is
-bad_stays M (DeleteBlock b) L p bad is known =
+bad_stays M L (Received s b stamp) p bad is known = received_leaves_bad M L s b stamp p bad is
+bad_stays M L (FullReport s es) p bad is known = report_leaves_bad M L s es p bad is
+bad_stays M L (Dead n) p bad is known = same_bad M.holdings _ p (λ k e. (get_kept M.holdings.replicas (λ q _. not (has_storage M.cluster n q.storage)) p k e).0) bad is
+bad_stays M L (StorageFailed s) p bad is known = same_bad M.holdings _ p (λ k e. (get_kept M.holdings.replicas (λ q _. not (q.storage == s)) p k e).0) bad is
+bad_stays M L (DeleteBlock b) p bad is known =
     revised_bad M.holdings (λ q m. if q.block == b then as_stray m else m) p (λ k e. if_elsewhere (p.block == b) (as_stray k) k (not_gone M.holdings b p.block known (p.block == b) refl) e) bad is
-bad_stays M (Restamp b stamp) L p bad is known = revised_bad M.holdings (λ q m. if q.block == b then as_restamped m else m) p (λ k e. if_bad (p.block == b) (as_restamped k) k (restamped_bad k.tag e) e) bad is
-bad_stays M (Deleted s b) L p bad is known = same_bad M.holdings _ p (λ k e. (get_removed M.holdings.replicas (replica_at b s) p k e).1) bad is
-bad_stays M (Corrupt s b) L p bad is known =
+bad_stays M L (Restamp b stamp) p bad is known = revised_bad M.holdings (λ q m. if q.block == b then as_restamped m else m) p (λ k e. if_bad (p.block == b) (as_restamped k) k (restamped_bad k.tag e) e) bad is
+bad_stays M L (Deleted s b) p bad is known = same_bad M.holdings _ p (λ k e. (get_removed M.holdings.replicas (replica_at b s) p k e).1) bad is
+bad_stays M L (Corrupt s b) p bad is known =
     revised_bad M.holdings (λ q m. if eq_by_cmp replica_cmp q (replica_at b s) then as_bad m else m) p (λ k e. if_bad (eq_by_cmp replica_cmp p (replica_at b s)) (as_bad k) k refl e) bad is
-bad_stays M (Register n rack ss) L p bad is known = bad
-bad_stays M (Heartbeat n rs) L p bad is known = bad
-bad_stays M (Drain n) L p bad is known = (bad.0, ap (λ m. get m p) (drained_replicas M.cluster M.holdings n) ∙ bad.1, bad.2)
-bad_stays M (Undrain n) L p bad is known = bad
-bad_stays M (AddBlock b stamp repl) L p bad is known = bad
-bad_stays M (SetReplication b repl) L p bad is known = bad
+bad_stays M L (Register n rack ss) p bad is known = bad
+bad_stays M L (Heartbeat n rs) p bad is known = bad
+bad_stays M L (Drain n) p bad is known = (bad.0, ap (λ m. get m p) (drained_replicas M.cluster M.holdings n) ∙ bad.1, bad.2)
+bad_stays M L (Undrain n) p bad is known = bad
+bad_stays M L (AddBlock b stamp repl) p bad is known = bad
+bad_stays M L (SetReplication b repl) p bad is known = bad

@@ -23,7 +23,7 @@ use Rattle.bm_base.specs.Replicas.{is_good, is_bad, is_stray, are_sisters}
 use Rattle.bm_base.specs.Entries.{Told, count_up, expanded}
 use Rattle.bm_base.specs.Events.{was_bad, was_excess, same_stamp, entered_tag, entered, replaces, enter, is_named, leaves_by_report, report, change_cluster, change_holdings}
 use Rattle.bm_base.specs.Calls.{new_replicas, done, done_by, after_event}
-use Rattle.bm_base.specs.Lawful.{IsLawfulHoldings}
+use Rattle.bm_base.specs.Lawful.{IsLawfulHoldings, IsOrderly}
 use Rattle.bm_base.proofs.MapLaws.{same_map, get-keep, get-insert}
 use Rattle.bm_base.proofs.Ties.{replica_tie}
 use Rattle.bm_base.proofs.Entries.{expanded-++, told_by-around, ids_told, has-count_up}
@@ -268,14 +268,14 @@ bad_told : (C : Cluster) (H : Holdings) (s : ℕ) (named : ℕ → Bool) (stays 
 bad_told C H s named stays L p m bad (inl was) = let same : Some m ≡ Some bad.0 = sym was.0 ∙ bad.1 in let is : m ≡ bad.0 = (cc) in ap (λ n. n.tag) is ∙ bad.2
 bad_told C H s named stays L p m bad (inr put) = let i = known_since_bad C H L p bad in ap (λ n. n.tag) put.3 ∙ (told_marks H p put.2).bad i.0 i.1 bad
 
-pub report_leaves_bad : law.report_leaves_bad_bad
-report_leaves_bad s es M L p bad is =
+pub report_leaves_bad : (M : State) → IsOrderly M → law.report_leaves_bad_bad M
+report_leaves_bad M L s es p bad is =
     let G = report M.cluster M.holdings s (expanded es) in
     let m = there (get G.replicas p) (sym (ap (λ G. is_some (get G.replicas p)) (held_report M s es)) ∙ is) in
     (m.0, ap (λ G. get G.replicas p) (held_report M s es) ∙ m.1, bad_told M.cluster M.holdings s (is_named (expanded es)) (stays_by M.cluster M.holdings s (expanded es)) L.holdings p m.0 bad (report_origin M.cluster M.holdings s (expanded es) p m.0 m.1))
 
-pub received_leaves_bad : law.received_leaves_bad_bad
-received_leaves_bad s b stamp M L p bad is =
+pub received_leaves_bad : (M : State) → IsOrderly M → law.received_leaves_bad_bad M
+received_leaves_bad M L s b stamp p bad is =
     let G = enter M.cluster M.holdings (replica_at b s) stamp in
     let m = there (get G.replicas p) (sym (ap (λ G. is_some (get G.replicas p)) (held_received M s b stamp)) ∙ is) in (
       m.0,

@@ -19,7 +19,7 @@ use Rattle.bm_base.specs.Queries.{missing_blocks, is_held_back_by, is_retired}
 use Rattle.bm_base.specs.Events.{without_node, without_storages, change_cluster, change_holdings}
 use Rattle.bm_base.specs.Refusals.{node_refusal}
 use Rattle.bm_base.specs.Calls.{step, refused_or, after_event}
-use Rattle.bm_base.specs.Lawful.{IsLawfulHoldings}
+use Rattle.bm_base.specs.Lawful.{IsLawfulHoldings, IsOrderly}
 use Rattle.bm_base.proofs.Options.{not_failed, not_passed}
 use Rattle.bm_base.proofs.Maps.{entry_passes, passes_entry}
 use Rattle.laws_of_events.proofs.NodeChanges.{on_it, is_on_it, node_at, still_there}
@@ -178,9 +178,9 @@ said_yes : (M : State) (n : ℕ) → (step M (call.Retired n)).0 ≡ answer.IsRe
 unfolding step
 said_yes M n e = yes_by M (node_refusal M.cluster n) (is_retired M.cluster M.holdings n) e
 
-pub may_die : law.retired_node_may_die
+pub may_die : (M : State) → IsOrderly M → law.retired_node_may_die M
 unfolding after_event change_cluster change_holdings
-may_die M n L said =
+may_die M L n said =
     let retired = said_yes M n said in
     record {
       live_stay = live_stays M.cluster M.holdings n retired;

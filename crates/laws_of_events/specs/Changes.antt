@@ -14,7 +14,6 @@ use Rattle.bm_base.specs.Map.{get, contains_key, len}
 use Rattle.bm_base.specs.Lists.{has}
 use Rattle.bm_base.specs.State.{Cluster, Holdings, State, replica_at}
 use Rattle.bm_base.specs.Calls.{done_by, after_event}
-use Rattle.bm_base.specs.Lawful.{IsLawful}
 use Rattle.laws_of_events.specs.Reports.{held_after, numbers_of, IsBadIn}
 use Rattle.bm_parts.specs.Parts.{IsSameOf, block_of}
 
@@ -28,9 +27,9 @@ abbrev pub counts_add_up : Type 0
 counts_add_up = (M : State) (e : Event) → len (held_after M e).replicas + (done_by M e).removed ≡ len M.holdings.replicas + (done_by M e).added
 
 -- what was bad stays so, as long as the replica is there and its block is known
-abbrev pub no_event_clears_bad : Type 0
-no_event_clears_bad =
-    (M : State) (e : Event) → IsLawful M → (p : ReplicaId) → IsBadIn M.holdings p → IsSome (get (held_after M e).replicas p) → IsTrue (contains_key (held_after M e).blocks p.block) → IsBadIn (held_after M e) p
+abbrev pub no_event_clears_bad : State → Type 0
+no_event_clears_bad M =
+    (e : Event) (p : ReplicaId) → IsBadIn M.holdings p → IsSome (get (held_after M e).replicas p) → IsTrue (contains_key (held_after M e).blocks p.block) → IsBadIn (held_after M e) p
 
 -- An event on one block leaves all that is held of another.
 abbrev pub event_leaves_other_blocks : Type 0

@@ -15,7 +15,6 @@ use Rattle.bm_base.specs.State.{Cluster, Holdings, State, replica_at, first_stat
 use Rattle.bm_base.specs.Replicas.{live, drains, is_draining}
 use Rattle.bm_base.specs.Queries.{missing_blocks, is_retired}
 use Rattle.bm_base.specs.Calls.{done_by, after_event, counted, step, state_after}
-use Rattle.bm_base.specs.Lawful.{IsLawful}
 use Rattle.bm_parts.specs.Settled.{usable}
 use Rattle.laws_of_events.specs.Reports.{held_after}
 use Rattle.laws_of_events.specs.Changes.{cluster_after, IsOn}
@@ -107,5 +106,5 @@ pub record NothingIsMissed (M N : State) : Type 0 where
   pub usable_stay : (b : ℕ) (i : BlockInfo) → get M.holdings.blocks b ≡ Some i → length (live M.cluster M.holdings b) < i.repl → usable N.holdings b ≡ usable M.holdings b
   pub none_missing : (b : ℕ) → IsTrue (has (missing_blocks N.cluster N.holdings) b) → IsTrue (has (missing_blocks M.cluster M.holdings) b)
 
-abbrev pub retired_node_may_die : Type 0
-retired_node_may_die = (M : State) (n : ℕ) → IsLawful M → (step M (call.Retired n)).0 ≡ answer.IsRetired true → NothingIsMissed M (after_event M (Dead n))
+abbrev pub retired_node_may_die : State → Type 0
+retired_node_may_die M = (n : ℕ) → (step M (call.Retired n)).0 ≡ answer.IsRetired true → NothingIsMissed M (after_event M (Dead n))

@@ -15,7 +15,6 @@ use Rattle.bm_base.specs.Queries.{blocks_on}
 use Rattle.bm_base.specs.Entries.{Told, expanded}
 use Rattle.bm_base.specs.State.{Cluster, Holdings, State, replica_at}
 use Rattle.bm_base.specs.Calls.{done_by, after_event}
-use Rattle.bm_base.specs.Lawful.{IsLawful}
 
 -- what the state holds after an event
 abbrev pub held_after : State → Event → Holdings
@@ -83,11 +82,11 @@ received_is_there =
     → (m : Marks) × (get (held_after M (Received s b stamp)).replicas (replica_at b s) ≡ Some m) × HasToldMarks M.holdings (replica_at b s) stamp m
 
 -- what was bad and is still there is bad
-abbrev pub LeavesBadBad : Event → Type 0
-LeavesBadBad e = (M : State) → IsLawful M → (p : ReplicaId) → IsBadIn M.holdings p → IsSome (get (held_after M e).replicas p) → IsBadIn (held_after M e) p
+abbrev pub LeavesBadBad : State → Event → Type 0
+LeavesBadBad M e = (p : ReplicaId) → IsBadIn M.holdings p → IsSome (get (held_after M e).replicas p) → IsBadIn (held_after M e) p
 
-abbrev pub report_leaves_bad_bad : Type 0
-report_leaves_bad_bad = (s : ℕ) (es : List Entry) → LeavesBadBad (FullReport s es)
+abbrev pub report_leaves_bad_bad : State → Type 0
+report_leaves_bad_bad M = (s : ℕ) (es : List Entry) → LeavesBadBad M (FullReport s es)
 
-abbrev pub received_leaves_bad_bad : Type 0
-received_leaves_bad_bad = (s b : ℕ) (stamp : Stamp) → LeavesBadBad (Received s b stamp)
+abbrev pub received_leaves_bad_bad : State → Type 0
+received_leaves_bad_bad M = (s b : ℕ) (stamp : Stamp) → LeavesBadBad M (Received s b stamp)

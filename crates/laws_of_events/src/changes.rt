@@ -1,6 +1,7 @@
 // What each event changes, and what it leaves.
 #![tactic(auto)]
 
+ghost use Rattle.bm_base.specs.AllStates.{InLawfulStates, AfterAllCalls};
 ghost use Rattle.laws_of_events.specs.Changes as law;
 
 /// A node that registers is there with its rack and its storages, on which nothing remains yet; all else stays.
@@ -85,5 +86,6 @@ pub fn report_leaves_unnamed_blocks()
 
 /// Whatever the event, a replica that was bad is bad as long as it is there and its block is known.
 pub fn no_event_clears_bad()
-    ensures { law.no_event_clears_bad }
+    ensures lawful { InLawfulStates law.no_event_clears_bad }
+    ensures reached { AfterAllCalls law.no_event_clears_bad }
 {}

@@ -1,6 +1,7 @@
 // Nodes that are to be taken away: they drain until each of their blocks has enough replicas elsewhere.
 #![tactic(auto)]
 
+ghost use Rattle.bm_base.specs.AllStates.{InLawfulStates, AfterAllCalls};
 ghost use Rattle.laws_of_events.specs.Draining as law;
 
 /// A node that is told to drain drains; whether another does stays.
@@ -63,5 +64,6 @@ pub fn retired_is_said_plainly()
 /// A node of which the query says that it is retired may die: each block keeps the live replicas that it had, each block of which
 /// too few are live keeps all its usable ones, and no block is missing that was not.
 pub fn retired_node_may_die()
-    ensures { law.retired_node_may_die }
+    ensures lawful { InLawfulStates law.retired_node_may_die }
+    ensures reached { AfterAllCalls law.retired_node_may_die }
 {}

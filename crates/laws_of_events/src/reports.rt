@@ -1,6 +1,7 @@
 // What a full report and a received replica leave.
 #![tactic(auto)]
 
+ghost use Rattle.bm_base.specs.AllStates.{InLawfulStates, AfterAllCalls};
 ghost use Rattle.laws_of_events.specs.Reports as law;
 
 /// After a full report a storage has exactly the replicas that the report names, each once.
@@ -41,10 +42,12 @@ pub fn received_is_there()
 
 /// A replica that was bad and is still there after a full report is bad.
 pub fn report_leaves_bad_bad()
-    ensures { law.report_leaves_bad_bad }
+    ensures lawful { InLawfulStates law.report_leaves_bad_bad }
+    ensures reached { AfterAllCalls law.report_leaves_bad_bad }
 {}
 
 /// A replica that was bad and is still there after one was received is bad.
 pub fn received_leaves_bad_bad()
-    ensures { law.received_leaves_bad_bad }
+    ensures lawful { InLawfulStates law.received_leaves_bad_bad }
+    ensures reached { AfterAllCalls law.received_leaves_bad_bad }
 {}

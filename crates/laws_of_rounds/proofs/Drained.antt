@@ -5,6 +5,7 @@ use Rattle.std.specs.Ordering.{nat_cmp, ordering_then}
 use Rattle.std.proofs.Common.{refl, sym, ap, subst, ◌∙◌, arith, inl, inr}
 use Rattle.std.proofs.lemmas.Bool.{ltb-false, false≢true, true≢false}
 use Rattle.std.proofs.lemmas.List.Sums.{length-filter}
+use Rattle.std.proofs.lemmas.List.{length-append}
 use Rattle.bm_base.specs.declared.level.Level.{Level}
 use Rattle.bm_base.specs.declared.level.Level.TheVariants.{Highest, VeryUnderReplicated, UnderReplicated, BadlyDistributed, NoUsableReplica}
 use Rattle.bm_base.specs.declared.replica.ReplicaId.{ReplicaId}
@@ -19,7 +20,7 @@ use Rattle.bm_base.specs.Excess.{begun, started, marked, excess_in}
 use Rattle.bm_base.specs.Rounds.{finished, is_commanded, whole_round}
 use Rattle.bm_base.specs.Transfers.{stream_limit, streams_from, node_number, source_rank, source_cmp, least_source_by, least_source}
 use Rattle.bm_base.specs.NextRound.{IsTransferCommanded, transfers_chosen, unmarked, drained_unmarked, drained_marked, drained_after}
-use Rattle.bm_base.proofs.Listed.{has_filter, or_right, and_first, filter_append, length_append}
+use Rattle.bm_base.proofs.Listed.{has_filter, or_right, and_first, filter_append}
 use Rattle.bm_base.proofs.Stands.{revised_where, has_where}
 use Rattle.laws_of_rounds.proofs.Usable.{sources_are}
 use Rattle.bm_base.proofs.Lively.{drained_is}
@@ -129,7 +130,7 @@ four_before : (M : State) (front back : List Transfer) (t : Transfer) (n : ℕ) 
 four_before M front back t n is =
     let p : Transfer → Bool = λ u. has_storage M.cluster n u.source in
     let all : length (filter p (front ++ t ∷ back)) ≤ 4 = subst (λ ts. length (filter p ts) ≤ 4) is (four_at_most M n) in
-    let long = ap length (filter_append p front (t ∷ back)) ∙ length_append (filter p front) (filter p (t ∷ back)) in
+    let long = ap length (filter_append p front (t ∷ back)) ∙ length-append (filter p front) (filter p (t ∷ back)) in
     omega (arith, all, long)
 
 pub drained_first : (M : State) (front back : List Transfer) (t : Transfer) → transfers_chosen M ≡ front ++ t ∷ back

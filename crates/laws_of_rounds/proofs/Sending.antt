@@ -5,6 +5,8 @@ use Rattle.std.specs.List.{list_any, All}
 use Rattle.std.proofs.Common.{cond, refl, sym, ap, subst, ◌∙◌, arith, inl, inr}
 use Rattle.std.proofs.lemmas.Bool.{eqb-true, leb-true, false≢true, true≢false}
 use Rattle.std.proofs.lemmas.List.Sums.{length-filter, sum_by_push}
+use Rattle.std.proofs.lemmas.List.Folds.{list_any-append}
+use Rattle.std.proofs.lemmas.List.{length-append}
 use Rattle.bm_base.specs.declared.replica.ReplicaId.{ReplicaId}
 use Rattle.bm_base.specs.declared.replica.Marks.{Marks}
 use Rattle.bm_base.specs.declared.level.Level.{Level}
@@ -25,7 +27,7 @@ use Rattle.bm_base.specs.Replicas.{racks}
 use Rattle.bm_base.specs.Rounds.{whole_round, commands_of, node_commands, has_commands}
 use Rattle.bm_base.specs.NextRound.{IsAmong, transfers_chosen, transfers_commanded, live_marked, drained_marked}
 use Rattle.laws_of_rounds.specs.Transfers.{IsFreshNode}
-use Rattle.bm_base.proofs.Listed.{and_first, and_second, any_append, or_left, or_right, same_again, filter_append, length_append, filter_filter, any_map, any_filter}
+use Rattle.bm_base.proofs.Listed.{and_first, and_second, or_left, or_right, same_again, filter_append, filter_filter, any_map, any_filter}
 use Rattle.bm_base.proofs.Stands.{has_where, has_listed, listed}
 use Rattle.laws_of_rounds.proofs.Grouped.{has_keys, once_keys, on_one_node, each_node, all_of_each}
 use Rattle.bm_base.proofs.Commanded.{chosen_deletes_of}
@@ -124,7 +126,7 @@ module _ (limits : RoundLimits) (C : Cluster) (H : Holdings) where
       let long : length (filter (λ (u : Transfer). has_storage C n u.source) (front ++ t ∷ []))
       ≡ length (filter (λ (u : Transfer). has_storage C n u.source) front) + length (filter (λ (u : Transfer). has_storage C n u.source) (t ∷ [])) =
       ap length (filter_append (λ (u : Transfer). has_storage C n u.source) front (t ∷ []))
-      ∙ length_append (filter (λ (u : Transfer). has_storage C n u.source) front) (filter (λ (u : Transfer). has_storage C n u.source) (t ∷ [])) in
+      ∙ length-append (filter (λ (u : Transfer). has_storage C n u.source) front) (filter (λ (u : Transfer). has_storage C n u.source) (t ∷ [])) in
       (elim (has_storage C n t.source) as (λ b. has_storage C n t.source ≡ b → length (filter (λ (u : Transfer). has_storage C n u.source) (front ++ t ∷ [])) ≤ 4) [
         | true ↦ λ e.
             let below = limit_four why.urgency (is_draining C t.source) (streams_from C front t.source) (source_is C front why.urgency (sources_of C H t.block) t.source why.source).0 in
@@ -156,7 +158,7 @@ four_a_node M =
 pub few_chosen : (M : State) → length (transfers_chosen M) ≤ M.limits.work * len M.cluster.nodes
 few_chosen M =
     after_whole (IsChosenAfter M.limits M.cluster (started M).holdings) (λ ts. length ts ≤ M.limits.work * len M.cluster.nodes)
-    (λ front t _ why. let few = why.few in let long = length_append front (t ∷ []) in omega (arith, few, long)) [] (transfers_chosen M) (omega arith) (each_of M)
+    (λ front t _ why. let few = why.few in let long = length-append front (t ∷ []) in omega (arith, few, long)) [] (transfers_chosen M) (omega arith) (each_of M)
 
 module _ {X : Type 0} (on : ℕ → X → Bool) (apart : (n k : ℕ) (x : X) → on n x ≡ true → on k x ≡ true → n ≡ k) where
   not_on : (n k : ℕ) → (k == n) ≡ false → (x : X) → on k x ≡ (not (on n x) && on k x)
@@ -193,7 +195,7 @@ module _ {X : Type 0} (on : ℕ → X → Bool) (apart : (n k : ℕ) (x : X) →
       (elim (has ns n) as (λ t. has ns n ≡ t → (t || has_repeats ns) ≡ false → length (filter (on n) xs ++ flat_map (λ k. filter (on k) xs) ns) ≤ length xs) [
         | true ↦ λ _ e. absurd (true≢false e)
         | false ↦ λ none e.
-            let long = length_append (filter (on n) xs) (flat_map (λ k. filter (on k) xs) ns) in
+            let long = length-append (filter (on n) xs) (flat_map (λ k. filter (on k) xs) ns) in
             let same = ap length (rest_of n ns xs none) in
             let below = grouped_count ns (filter (λ x. not (on n x)) xs) e in
             let all = split_count (on n) xs in
@@ -208,8 +210,8 @@ commanded_of C ts ds [] = omega arith
 commanded_of C ts ds (n ∷ ns) =
     let rest = commanded_of C ts ds ns in
     let first : List Transfer = filter (λ (t : Transfer). has_storage C n t.source) ts in
-    let right = length_append first (flat_map (λ k. filter (λ (t : Transfer). has_storage C k t.source) ts) ns) in
-    let left = length_append first (flat_map (λ (k : NodeCommands). k.transfers) (filter has_commands (map (node_commands C ts ds) ns))) in
+    let right = length-append first (flat_map (λ k. filter (λ (t : Transfer). has_storage C k t.source) ts) ns) in
+    let left = length-append first (flat_map (λ (k : NodeCommands). k.transfers) (filter has_commands (map (node_commands C ts ds) ns))) in
     elim (has_commands (node_commands C ts ds n)) as (λ b. length (flat_map (λ (k : NodeCommands). k.transfers) (cond b (node_commands C ts ds n ∷ filter has_commands (map (node_commands C ts ds) ns)) (filter has_commands (map (node_commands C ts ds) ns))))
     ≤ length (first ++ flat_map (λ k. filter (λ (t : Transfer). has_storage C k t.source) ts) ns)) [
       | true ↦ omega (arith, rest, left, right)
@@ -280,9 +282,9 @@ not_barred C barred u s n free at there same =
 barred_replica : (H : Holdings) (front : List Transfer) (b s : ℕ) → is_some (get H.replicas (replica_at b s)) ≡ true → has (barred_for H front b) s ≡ true
 unfolding barred_for
 barred_replica H front b s e =
-    any_append (λ y. y == s) (storages_where (λ _ _. true) H b ++ pending_targets H b) (targets_of front b)
+    list_any-append (λ y. y == s) (storages_where (λ _ _. true) H b ++ pending_targets H b) (targets_of front b)
     ∙ or_left (has (storages_where (λ _ _. true) H b ++ pending_targets H b) s) (has (targets_of front b) s)
-    (any_append (λ y. y == s) (storages_where (λ _ _. true) H b) (pending_targets H b)
+    (list_any-append (λ y. y == s) (storages_where (λ _ _. true) H b) (pending_targets H b)
     ∙ or_left (has (storages_where (λ _ _. true) H b) s) (has (pending_targets H b) s) (has_where (λ _ _. true) H b s ∙ is_there (get H.replicas (replica_at b s)) e))
   where
     is_there : (o : Option Marks) → is_some o ≡ true → option_map_or (λ _. true) o false ≡ true
@@ -307,14 +309,14 @@ has_pending H b s = ap (λ xs. has xs s) (pending_listed H b) ∙ has_listed H.p
 barred_pending : (H : Holdings) (front : List Transfer) (b s : ℕ) → has (pending_targets H b) s ≡ true → has (barred_for H front b) s ≡ true
 unfolding barred_for
 barred_pending H front b s e =
-    any_append (λ y. y == s) (storages_where (λ _ _. true) H b ++ pending_targets H b) (targets_of front b)
+    list_any-append (λ y. y == s) (storages_where (λ _ _. true) H b ++ pending_targets H b) (targets_of front b)
     ∙ or_left (has (storages_where (λ _ _. true) H b ++ pending_targets H b) s) (has (targets_of front b) s)
-    (any_append (λ y. y == s) (storages_where (λ _ _. true) H b) (pending_targets H b) ∙ or_right (has (storages_where (λ _ _. true) H b) s) (has (pending_targets H b) s) e)
+    (list_any-append (λ y. y == s) (storages_where (λ _ _. true) H b) (pending_targets H b) ∙ or_right (has (storages_where (λ _ _. true) H b) s) (has (pending_targets H b) s) e)
 
 barred_target : (H : Holdings) (front : List Transfer) (b s : ℕ) → has (targets_of front b) s ≡ true → has (barred_for H front b) s ≡ true
 unfolding barred_for
 barred_target H front b s e =
-    any_append (λ y. y == s) (storages_where (λ _ _. true) H b ++ pending_targets H b) (targets_of front b)
+    list_any-append (λ y. y == s) (storages_where (λ _ _. true) H b ++ pending_targets H b) (targets_of front b)
     ∙ or_right (has (storages_where (λ _ _. true) H b ++ pending_targets H b) s) (has (targets_of front b) s) e
 
 any_at : {X : Type 0} (p : X → Bool) (front back : List X) (x : X) → p x ≡ true → list_any p (front ++ x ∷ back) ≡ true

@@ -4,6 +4,7 @@ use Rattle.std.specs.Option.{option_map_or}
 use Rattle.std.proofs.Common.{cond, refl, sym, ap, ◌∙◌, arith, inl, inr, append-nil}
 use Rattle.std.proofs.lemmas.Bool.{eqb-true, leb-true, false≢true, true≢false}
 use Rattle.std.proofs.lemmas.List.{length-map}
+use Rattle.std.proofs.lemmas.List.{length-append}
 use Rattle.bm_base.specs.declared.level.Level.{Level}
 use Rattle.bm_base.specs.declared.level.Level.TheVariants.{Highest, VeryUnderReplicated, UnderReplicated, BadlyDistributed, NoUsableReplica}
 use Rattle.bm_base.specs.declared.replica.BlockInfo.{BlockInfo}
@@ -22,7 +23,7 @@ use Rattle.bm_base.specs.declared.replica.ReplicaId.{ReplicaId}
 use Rattle.laws_of_rounds.proofs.Needs.{level_known}
 use Rattle.std.proofs.lemmas.Option.{same_Some}
 use Rattle.bm_base.proofs.Each.{Each}
-use Rattle.bm_base.proofs.Listed.{filter_append, length_append, same_again}
+use Rattle.bm_base.proofs.Listed.{filter_append, same_again}
 use Rattle.laws_of_rounds.proofs.Grouped.{grouped, has_keys, once_keys}
 use Rattle.laws_of_rounds.proofs.Choosing.{target_is}
 use Rattle.laws_of_rounds.proofs.Sending.{chosen_at, target_parts}
@@ -92,7 +93,7 @@ module _ (C : Cluster) (H : Holdings) where
         step : (urgency : Level) (rest : List WishedCopy) (n : ℕ) → length (filter (about b) rest) ≡ n
             → length (filter (about b) (at urgency ++ rest)) ≡ cond (is_at urgency (level C H b)) (wished_count C H urgency i.repl b) 0 + n
         step urgency rest n e =
-            ap length (filter_append (about b) (at urgency) rest) ∙ length_append (filter (about b) (at urgency)) (filter (about b) rest)
+            ap length (filter_append (about b) (at urgency) rest) ∙ length-append (filter (about b) (at urgency)) (filter (about b) rest)
             ∙ (λ j. length_at urgency j + e j)
 
     -- as many as its level wants
@@ -116,7 +117,7 @@ count_append : (xs ys : List Transfer) (b : ℕ) → length (targets_of (xs ++ y
 unfolding targets_of
 count_append xs ys b =
     length-map (filter (λ t. t.block == b) (xs ++ ys)) (λ t. t.target) ∙ ap length (filter_append (λ t. t.block == b) xs ys)
-    ∙ length_append (filter (λ t. t.block == b) xs) (filter (λ t. t.block == b) ys)
+    ∙ length-append (filter (λ t. t.block == b) xs) (filter (λ t. t.block == b) ys)
     ∙ (λ j. sym (length-map (filter (λ t. t.block == b) xs) (λ t. t.target)) j + sym (length-map (filter (λ t. t.block == b) ys) (λ t. t.target)) j)
 
 count_one : (t : Transfer) (b : ℕ) → length (targets_of (t ∷ []) b) ≡ cond (t.block == b) 1 0

@@ -1,5 +1,4 @@
 -- The laws, each a statement that is read aloud.
-pub mod States
 pub mod Levels
 pub mod Live
 pub mod Surplus

@@ -1,5 +1,16 @@
+use Rattle.bm_base.specs.State.{State}
+use Rattle.bm_base.specs.Lawful.{IsOrderly}
+use Rattle.bm_base.proofs.Rounding.{orderly}
+use Rattle.bm_base.proofs.Orderly.{calls_orderly}
+use Rattle.laws_of_events.specs.Changes.{no_event_clears_bad}
 use Rattle.laws_of_events.proofs.BadStays.{bad_stays}
 use Rattle.laws_of_events.proofs.changes.no_event_clears_bad.Goals as goal
 
-pub returns : goal.returns
-returns c = bad_stays
+in_orderly : (M : State) → IsOrderly M → no_event_clears_bad M
+in_orderly M O = bad_stays M O
+
+pub returns-clause-lawful : goal.returns-clause-lawful
+returns-clause-lawful c = λ M L. in_orderly M (orderly M L)
+
+pub returns-clause-reached : goal.returns-clause-reached
+returns-clause-reached c = λ config ks. in_orderly _ (calls_orderly config ks)

@@ -1,5 +1,16 @@
+use Rattle.bm_base.specs.State.{State}
+use Rattle.bm_base.specs.Lawful.{IsOrderly}
+use Rattle.bm_base.proofs.Rounding.{orderly}
+use Rattle.bm_base.proofs.Orderly.{calls_orderly}
+use Rattle.laws_of_events.specs.Reports.{report_leaves_bad_bad}
 use Rattle.laws_of_events.proofs.ReportLaws.{report_leaves_bad}
 use Rattle.laws_of_events.proofs.reports.report_leaves_bad_bad.Goals as goal
 
-pub returns : goal.returns
-returns c = report_leaves_bad
+in_orderly : (M : State) → IsOrderly M → report_leaves_bad_bad M
+in_orderly M O = report_leaves_bad M O
+
+pub returns-clause-lawful : goal.returns-clause-lawful
+returns-clause-lawful c = λ M L. in_orderly M (orderly M L)
+
+pub returns-clause-reached : goal.returns-clause-reached
+returns-clause-reached c = λ config ks. in_orderly _ (calls_orderly config ks)
