@@ -7,7 +7,8 @@ use crate::ids::{BlockId, NodeId, Rack, StorageId};
 use crate::replica::Stamp;
 
 impl Event {
-    /// Does nothing when it runs: the numbers of an event fit their types, and this says so to the function that calls it.
+    /// Changes nothing and answers nothing: the numbers of an event fit their types, and this says so to the function that calls
+    /// it. It reads each of them once. Takes no memory.
     pub fn fits(&self)
         ensures { FitsEvent self.now }
     {
