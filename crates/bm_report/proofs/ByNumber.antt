@@ -1,5 +1,5 @@
 -- Numbers entered and settled one after another, each with the slot that it has.
-use Rattle.std.proofs.Common.{◌≡◌, ℕ, ◌+◌, ◌≤◌, List, [], ◌∷◌, ◌++◌, length, map, Option, Some, None, refl, subst, sym, ap, ◌∙◌, arith, length-append}
+use Rattle.std.proofs.Common.{◌≡◌, ℕ, ◌+◌, ◌≤◌, List, [], ◌∷◌, ◌++◌, length, map, Option, Some, None, refl, subst, inl, inr, sym, ap, ◌∙◌, arith, length-append}
 use Rattle.std.proofs.Common.{zero, suc, Bool, true, false, ◌||◌, cond, eqb}
 use Rattle.std.specs.Prelude.{nat_eq, filter, ◌==◌, IsTrue, IsSomeAnd}
 use Rattle.std.proofs.lemmas.Bool.{eq-eqb}
@@ -13,11 +13,12 @@ use Rattle.bm_base.specs.declared.ids.Part.{Part}
 use Rattle.bm_base.specs.Entries.{Told, count_up, run_length, told_by, expanded, numbers_in}
 use Rattle.bm_base.specs.Shards.{shard_of}
 use Rattle.bm_base.specs.Events.{is_named}
+use Rattle.bm_base.specs.SlotLists.{Among}
 use Rattle.bm_base.specs.State.{Cluster}
 use Rattle.bm_arena.specs.Contents.{Contents, slot_of, marks_at, HasRoom}
 use Rattle.bm_report.specs.declared.types.Named.{Named}
 use Rattle.bm_report.specs.declared.types.Tally.{Tally}
-use Rattle.bm_report.specs.Midway.{AreHere, HaveRoom, IsEntered, IsCounted, IsSmall, IsUnderway, IsSettling, told_of}
+use Rattle.bm_report.specs.Midway.{AreHere, HaveRoom, IsEntered, IsCounted, IsSmall, IsUnderway, IsSettling, told_of, slot_in}
 use Rattle.bm_report.specs.Ready.{named_in, named_of, HasPlace, CanBeEntered}
 use Rattle.bm_report.specs.Expanded.{told_to}
 use Rattle.bm_report.proofs.Underway.{underway-first, underway-next, underway-last, here-part, here-rest, room-part}
@@ -173,3 +174,12 @@ module _ (s : ℕ) (all : List Told) (first : Contents) where
 
   pub unsettled-last : (now : Contents) → IsUnsettled [] now → IsSettling s (named_of first all) first now
   unsettled-last now f = f.2 now (settling-same s [] now refl)
+
+-- the slot of a told number
+pub told_slot : (a : Contents) (s : ℕ) (ts : List Told) → ((b : ℕ) → IsTrue (is_named ts b) → HasPlace a s b) → (slot : ℕ) → Among slot (map slot_in (named_of a ts)) → (b : ℕ) × IsTrue (is_named ts b) × (slot_of a b ≡ Some slot)
+told_slot a s ts places slot m = in_list ts (here_of a s ts places) slot m
+  where
+    in_list : (us : List Told) → AreHere a (named_of a us) → (slot : ℕ) → Among slot (map slot_in (named_of a us)) → (b : ℕ) × IsTrue (is_named us b) × (slot_of a b ≡ Some slot)
+    in_list [] h slot m = absurd m
+    in_list (t ∷ us) h slot (inl same) = (t.id, first_named t us, h.0 ∙ ap Some (sym same))
+    in_list (t ∷ us) h slot (inr m) = let rest = in_list us h.1 slot m in (rest.0, then_named t us rest.0 rest.1, rest.2)

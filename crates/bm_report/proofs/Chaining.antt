@@ -1,5 +1,5 @@
 -- One named block entered, and many one after another.
-use Rattle.std.proofs.Common.{◌≡◌, ℕ, suc, ◌+◌, ◌≤◌, Bool, true, false, cond, not, ◌||◌, List, [], ◌∷◌, ◌++◌, Option, Some, None, is_some, IsSome, refl, subst, sym, ap, ◌∙◌, arith, add-one, length-append}
+use Rattle.std.proofs.Common.{◌≡◌, ◌≢◌, map, inl, inr, ℕ, suc, ◌+◌, ◌≤◌, Bool, true, false, cond, not, ◌||◌, List, [], ◌∷◌, ◌++◌, Option, Some, None, is_some, IsSome, refl, subst, sym, ap, ◌∙◌, arith, add-one, length-append}
 use Rattle.std.specs.Option.{option_and_then}
 use Rattle.std.specs.Map.{lookup}
 use Rattle.std.specs.Prelude.{nat_eq}
@@ -8,12 +8,12 @@ use Rattle.bm_base.specs.declared.replica.Marks.{Marks}
 use Rattle.bm_base.specs.declared.replica.BlockInfo.{BlockInfo}
 use Rattle.bm_base.specs.Map.{Map, by_number, get, insert, len, contains_key}
 use Rattle.bm_base.specs.State.{Cluster, replica_at}
-use Rattle.bm_base.specs.SlotLists.{without}
-use Rattle.bm_arena.specs.Contents.{Contents, slot_of, marks_at, count_up}
+use Rattle.bm_base.specs.SlotLists.{Among, without}
+use Rattle.bm_arena.specs.Contents.{Contents, block_at, slot_of, marks_at, count_up}
 use Rattle.bm_report.specs.declared.types.Named.{Named}
 use Rattle.bm_report.specs.declared.types.Tally.{Tally}
 use Rattle.bm_arena.specs.Holding.{replicas_of, blocks_of, info_at}
-use Rattle.bm_report.specs.Midway.{entered_one, entered_all, fresh, midway_marks, is_settled, behind, without_all, count_ups, AreHere, HaveRoom, IsFramed, IsEntered, IsCounted, IsOncePerNode, IsExcessGood, moved_tally, linked_tally}
+use Rattle.bm_report.specs.Midway.{entered_one, entered_all, fresh, midway_marks, is_settled, behind, without_all, count_ups, AreHere, HaveRoom, IsFramed, IsEntered, IsCounted, IsOncePerNode, IsExcessGood, moved_tally, linked_tally, slot_in}
 use Rattle.bm_arena.proofs.Held.{get-blocks_of}
 use Rattle.bm_report.proofs.Frames.{framed-none, framed-chain}
 use Rattle.bm_report.proofs.Maps.{Held, get-here, entered_at, put-known, some_is, len-put_known}
@@ -59,8 +59,8 @@ settled_if false false e = absurd (false≢true (sym e))
 module _ (C : Cluster) (a c : Contents) (s : ℕ) (n : Named) (here : slot_of a n.id ≡ Some n.slot) (was : Option Marks) (was_is : was ≡ marks_at a n.slot s) (marks : Marks)
     (marks_is : marks ≡ midway_marks (info_at a n.slot) was n.stamp) (behind_is : behind c s ≡ without n.slot (behind a s)) (frame : IsFramed s a c) where
   module _ (replicas : replicas_of c ≡ entered_at C (replicas_of a) (replica_at n.id s) marks) where
-    pub entered_new : IsEntered C s (n ∷ []) a c
-    entered_new = record { replicas = replicas ∙ entered_one_as C a s n here was was_is marks marks_is; behind = behind_is; frame = frame }
+    pub entered_new : ((slot : ℕ) → slot ≢ n.slot → block_at c slot ≡ block_at a slot) → IsEntered C s (n ∷ []) a c
+    entered_new others = record { replicas = replicas ∙ entered_one_as C a s n here was was_is marks marks_is; behind = behind_is; frame = frame; others = λ x out. others x (λ same. out (inl same)) }
 
     settles : (b t : Bool) → t ≡ is_settled marks → (b || not t) ≡ false → (b ≡ false) × (IsExcessGood (replicas_of a) → IsExcessGood (replicas_of c))
     settles b t is e =
@@ -108,7 +108,7 @@ module _ (C : Cluster) (a c : Contents) (s : ℕ) (n : Named) (here : slot_of a 
     replicas_too : replicas_of c ≡ entered_at C (replicas_of a) (replica_at n.id s) marks
     replicas_too = replicas ∙ put-known C (replicas_of a) n.id s marks once there
 
-    pub entered_known : IsEntered C s (n ∷ []) a c
+    pub entered_known : ((slot : ℕ) → slot ≢ n.slot → block_at c slot ≡ block_at a slot) → IsEntered C s (n ∷ []) a c
     entered_known = entered_new replicas_too
 
     pub counted_known : (t u : Tally) (settled : Bool) → settled ≡ is_settled marks → u ≡ moved_tally t settled → c.steps ≡ count_up a.steps → IsCounted C s (n ∷ []) a c t u
@@ -128,7 +128,7 @@ module _ (C : Cluster) (a c : Contents) (s : ℕ) (n : Named) (here : slot_of a 
 
 -- none entered
 pub entered-none : (C : Cluster) (s : ℕ) (a : Contents) → IsEntered C s [] a a
-entered-none C s a = record { replicas = refl; behind = refl; frame = framed-none s a }
+entered-none C s a = record { replicas = refl; behind = refl; frame = framed-none s a; others = λ x out. refl }
 
 pub counted-none : (C : Cluster) (s : ℕ) (a : Contents) (t : Tally) → IsCounted C s [] a a t t
 counted-none C s a t = record {
@@ -160,7 +160,17 @@ module _ (C : Cluster) (s : ℕ) (xs ys : List Named) (a b c : Contents) (f : Is
     replicas = g.replicas ∙ (λ i. entered_all C (f.frame.blocks i) s ys (f.replicas i)) ∙ sym (entered_all-append C (blocks_of a) s xs ys (replicas_of a));
     behind = g.behind ∙ ap (without_all ys) f.behind ∙ sym (without_all-append xs ys (behind a s));
     frame = framed-chain s a b c f.frame g.frame;
+    others = λ x out. g.others x (λ m. out (in_back x xs m)) ∙ f.others x (λ m. out (in_front x xs m));
   }
+    where
+      in_front : (x : ℕ) (ns : List Named) → Among x (map slot_in ns) → Among x (map slot_in (ns ++ ys))
+      in_front x [] m = absurd m
+      in_front x (n ∷ ns) (inl same) = inl same
+      in_front x (n ∷ ns) (inr m) = inr (in_front x ns m)
+
+      in_back : (x : ℕ) (ns : List Named) → Among x (map slot_in ys) → Among x (map slot_in (ns ++ ys))
+      in_back x [] m = m
+      in_back x (n ∷ ns) m = inr (in_back x ns m)
 
   pub counted-append : (t u v : Tally) → IsCounted C s xs a b t u → IsCounted C s ys b c u v → IsCounted C s (xs ++ ys) a c t v
   counted-append t u v p q =

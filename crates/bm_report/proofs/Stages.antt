@@ -20,7 +20,7 @@ use Rattle.bm_base.proofs.SlotLists.{Among-without, Among-without_other, without
 use Rattle.bm_report.specs.declared.types.Named.{Named}
 use Rattle.bm_report.specs.declared.types.Tally.{Tally}
 use Rattle.bm_arena.specs.Holding.{replicas_of, blocks_of, holdings_of}
-use Rattle.bm_report.specs.Midway.{after, behind, without_all, number_at, entered_all, fresh, out_all, settled_all, last_stamp, told_of, count_ups, AreHere, HaveRoom, IsOncePerNode, IsExcessGood, IsEntered, IsCounted, IsSwept, IsSettling, IsListed}
+use Rattle.bm_report.specs.Midway.{after, behind, without_all, number_at, slot_in, entered_all, fresh, out_all, settled_all, last_stamp, told_of, count_ups, AreHere, HaveRoom, IsOncePerNode, IsExcessGood, IsEntered, IsCounted, IsSwept, IsSettling, IsListed}
 use Rattle.bm_arena.proofs.Held.{get-replicas_of, blocks-kept, one_number}
 use Rattle.bm_arena.proofs.Staying.{entries-chain, entries-others}
 use Rattle.bm_report.proofs.Behind.{Among-after}
@@ -293,6 +293,16 @@ module _ (C : Cluster) (s : ℕ) (ns : List Named) (a0 a1 : Contents) (lawful0 :
           by (Some m) e =
               let at = number-leads a0 lawful0 slot s apart (some_is (marks_at a0 slot s) m e) in
               settling.others slot m (marks4 ∙ e) (good (replica_at (number_at a0 slot) s) m (get-here a0 (number_at a0 slot) slot s at ∙ e)) ∙ same4
+
+      -- a block that is on another storage alone and is not named
+      pub others5 : (slot : ℕ) → slot ≢ a0.delimiter → marks_at a0 slot s ≡ None → (Among slot (map slot_in ns) → ⊥) → block_at a5 slot ≡ block_at a0 slot
+      others5 slot apart absent out =
+          let found : Option Block → Option Marks = λ o. option_and_then (λ (b : Block). find_marks b.replicas s) o in
+          let still : block_at a2 slot ≡ block_at a0 slot = entered.others slot out ∙ others1.blocks slot apart in
+          let not_behind : Among slot (behind a2 s) → ⊥ = λ m.
+          some_there (marks_at a2 slot s) ((lawful2.exact slot s).0 (Among-after a2.delimiter slot (list_of a2 s) m)) (ap found still ∙ absent) in
+          let same4 : block_at a4 slot ≡ block_at a0 slot = others4.blocks slot (λ e. apart (e ∙ delimiter3)) ∙ swept.others slot not_behind ∙ still in
+          settling.absent slot (ap found same4 ∙ absent) ∙ same4
 
       pub listed5 : (l0 l2 l3 : List ℕ) → IsListed a1 a2 l0 l2 → IsListed a2 a3 l2 l3 → (slot : ℕ) → Among slot l3 → Among slot l0 ⊎ IsEntry a0 slot
       listed5 l0 l2 l3 f g slot m = by ((listed-chain a1 a2 a3 l0 l2 l3 f g).only slot m)

@@ -83,6 +83,7 @@ swept-none s a t = record {
   removed = omega arith;
   steps = omega arith;
   lengths = omega arith;
+  others = λ y out. refl;
   entries = entries-none a;
 }
 
@@ -103,8 +104,13 @@ swept-cons s x xs a b c t u v f g = record {
   removed = omega (arith, f.removed, g.removed);
   steps = omega (arith, f.steps, g.steps);
   lengths = omega (arith, f.lengths, g.lengths);
+  others = λ y out. g.others y (λ m. out (inr m)) ∙ f.others y (λ m. out (first y m));
   entries = entries-chain a b c f.entries g.entries;
 }
+  where
+    first : (y : ℕ) → Among y (x ∷ []) → Among y (x ∷ xs)
+    first y (inl same) = inl same
+    first y (inr m) = absurd m
 
 -- the slot after the delimiter has a replica on s
 pub next-there : (s x : ℕ) (a : Contents) → IsLawful a → slot_after a.delimiter (list_of a s) ≡ Some x → IsSome (marks_at a x s)
@@ -171,6 +177,7 @@ module _ (s x : ℕ) (a b : Contents) (lawful : IsLawful a) (next : slot_after a
         removed = omega arith;
         steps = omega arith;
         lengths = omega (arith, fewer, here);
+        others = λ y out. others.blocks y (λ same. out (inl same));
         entries = entries-others a b x s others;
       })
 

@@ -135,11 +135,16 @@ pub record IsFramed (s : ℕ) (old new : Contents) : Type 0 where
   pub room : (slot : ℕ) → marks_at new slot s ≡ None → HasRoom old slot → HasRoom new slot
   pub entries : KeepsEntries old new
 
+-- the slot of a named block
+abbrev pub slot_in : Named → ℕ
+slot_in n = n.slot
+
 -- what entering named blocks on s makes of an arena
 pub record IsEntered (C : Cluster) (s : ℕ) (ns : List Named) (old new : Contents) : Type 0 where
   pub replicas : replicas_of new ≡ entered_all C (blocks_of old) s ns (replicas_of old)
   pub behind : behind new s ≡ without_all ns (behind old s)
   pub frame : IsFramed s old new
+  pub others : (slot : ℕ) → (Among slot (map slot_in ns) → ⊥) → block_at new slot ≡ block_at old slot
 
 -- what is counted meanwhile
 pub record IsCounted (C : Cluster) (s : ℕ) (ns : List Named) (old new : Contents) (before after : Tally) : Type 0 where
@@ -204,6 +209,7 @@ pub record IsSwept (s : ℕ) (xs : List ℕ) (old new : Contents) (t u : Tally) 
   pub removed : u.removed ≡ t.removed + length xs
   pub steps : u.steps ≡ t.steps + length xs
   pub lengths : len (replicas_of new) + length xs ≡ len (replicas_of old)
+  pub others : (slot : ℕ) → (Among slot xs → ⊥) → block_at new slot ≡ block_at old slot
   pub entries : KeepsEntries old new
 
 -- some of the slots behind the delimiter are out, and the rest is to be

@@ -1,11 +1,11 @@
 // The calls that keep nothing between the look-up of a report and its end.
-ghost use Rattle.std.specs.Prelude.{◌≡◌, ◌<◌, ◌≤◌, ◌+◌, ℕ, length, None, OnOk, IfErr, false};
+ghost use Rattle.std.specs.Prelude.{◌≡◌, ◌<◌, ◌≤◌, ◌+◌, ℕ, length, None, Some, OnOk, IfErr, IsTrue, false, ◌≢◌};
 ghost use Rattle.bm_base.specs.declared.refusal.Refusal.TheVariants.{Memory};
 ghost use Rattle.bm_base.specs.declared.limits.TheConstants.{MAX_NUMBERS};
 ghost use Rattle.bm_base.specs.Entries.{numbers_in};
 ghost use Rattle.bm_base.specs.Events as events;
 ghost use Rattle.bm_base.specs.Calls as calls;
-ghost use Rattle.bm_arena.specs.Contents.{slot_of, marks_at, KeepsEntries};
+ghost use Rattle.bm_arena.specs.Contents.{block_at, slot_of, marks_at, KeepsEntries};
 ghost use Rattle.bm_arena.specs.Holding.{replicas_of, blocks_of, holdings_of};
 ghost use Rattle.bm_report.specs.Midway.{IsOncePerNode, count_ups};
 ghost use Rattle.bm_report.specs.Expanded.{IsPrepared, told_to};
@@ -60,6 +60,8 @@ pub fn apply_full(
     ensures entries { KeepsEntries arena.old arena.new }
     ensures once { IsOncePerNode topology.now.cluster (replicas_of arena.new) }
     ensures good { HasGoodExcess (replicas_of arena.new) }
+    ensures others { (slot : ℕ) → slot ≢ arena.old.delimiter → marks_at arena.old slot storage ≡ None →
+        ((b : ℕ) → IsTrue (events.is_named (told_to part entries.now) b) → slot_of arena.old b ≢ Some slot) → block_at arena.new slot ≡ block_at arena.old slot }
     ensures free { (t : ℕ) → marks_at arena.new arena.new.delimiter t ≡ marks_at arena.old arena.old.delimiter t }
     ensures added { result.added ≡ calls.new_replicas (replicas_of arena.old) (replicas_of arena.new) }
     ensures removed { result.removed ≡ calls.new_replicas (replicas_of arena.new) (replicas_of arena.old) }

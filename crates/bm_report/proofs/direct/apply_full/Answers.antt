@@ -12,8 +12,8 @@ use Rattle.bm_report.proofs.Maps.{Held}
 use Rattle.bm_report.proofs.Places.{list_within}
 use Rattle.bm_report.proofs.Simple.{good_excess}
 use Rattle.bm_report.proofs.Lasting.{once-told, good-told}
-use Rattle.bm_report.proofs.ByNumber.{named-ids, here_of, room_of, told_back, entered_as, counted_as, settling_as, few_told}
-use Rattle.bm_report.proofs.Stages.{behind-fits, replicas1, here1, room1, once1, here4, good4, replicas5, blocks5, entries5, free5, added5, removed5}
+use Rattle.bm_report.proofs.ByNumber.{named-ids, here_of, room_of, told_back, entered_as, counted_as, settling_as, few_told, told_slot}
+use Rattle.bm_report.proofs.Stages.{behind-fits, replicas1, here1, room1, once1, here4, good4, replicas5, blocks5, entries5, free5, others5, added5, removed5}
 use Rattle.bm_report.proofs.direct.apply_full.Goals as goal
 
 abbrev start : Tally
@@ -86,6 +86,10 @@ returns-clause-blocks c = blocks5 c.args.topology.now.cluster c.args.storage (na
 
 pub returns-clause-entries : goal.returns-clause-entries
 returns-clause-entries c = entries5 c.args.topology.now.cluster c.args.storage (named_of c.args.arena.now (told_to c.args.part c.args.entries.now)) c.args.arena.now c.put_delimiter.new.self c.lawful.ensures (here_of c.args.arena.now c.args.storage (told_to c.args.part c.args.entries.now) c.requires.ready.places) (room_of c.args.arena.now c.args.storage (told_to c.args.part c.args.entries.now) c.requires.ready.places) c.put_delimiter.ensures.list c.put_delimiter.ensures.others c.enter_entries.new.arena c.sweep_behind.new.arena c.take_delimiter.new.self c.lawful-2.ensures (entered_as c.args.topology.now.cluster c.args.storage (told_to c.args.part c.args.entries.now) c.args.arena.now c.put_delimiter.new.self c.enter_entries.new.arena c.put_delimiter.ensures.others.ids c.enter_entries.ensures.entered) start c.enter_entries.new.tally c.sweep_behind.new.tally c.sweep_behind.ensures c.take_delimiter.ensures.others c.lawful-3.ensures c.settle_named.new.arena (settling_as c.args.storage (told_to c.args.part c.args.entries.now) c.args.arena.now c.take_delimiter.new.self c.settle_named.new.arena (c.take_delimiter.ensures.others.ids ∙ c.sweep_behind.ensures.ids ∙ c.enter_entries.ensures.entered.frame.ids ∙ c.put_delimiter.ensures.others.ids) c.settle_named.ensures)
+
+pub returns-clause-others : goal.returns-clause-others
+returns-clause-others c slot apart absent out = others5 c.args.topology.now.cluster c.args.storage (named_of c.args.arena.now (told_to c.args.part c.args.entries.now)) c.args.arena.now c.put_delimiter.new.self c.lawful.ensures (here_of c.args.arena.now c.args.storage (told_to c.args.part c.args.entries.now) c.requires.ready.places) (room_of c.args.arena.now c.args.storage (told_to c.args.part c.args.entries.now) c.requires.ready.places) c.put_delimiter.ensures.list c.put_delimiter.ensures.others c.enter_entries.new.arena c.sweep_behind.new.arena c.take_delimiter.new.self c.lawful-2.ensures (entered_as c.args.topology.now.cluster c.args.storage (told_to c.args.part c.args.entries.now) c.args.arena.now c.put_delimiter.new.self c.enter_entries.new.arena c.put_delimiter.ensures.others.ids c.enter_entries.ensures.entered) start c.enter_entries.new.tally c.sweep_behind.new.tally c.sweep_behind.ensures c.take_delimiter.ensures.others c.lawful-3.ensures c.settle_named.new.arena (settling_as c.args.storage (told_to c.args.part c.args.entries.now) c.args.arena.now c.take_delimiter.new.self c.settle_named.new.arena (c.take_delimiter.ensures.others.ids ∙ c.sweep_behind.ensures.ids ∙ c.enter_entries.ensures.entered.frame.ids ∙ c.put_delimiter.ensures.others.ids) c.settle_named.ensures) slot apart absent
+    (λ m. let led = told_slot c.args.arena.now c.args.storage (told_to c.args.part c.args.entries.now) c.requires.ready.places slot m in out led.0 led.1 led.2)
 
 pub returns-clause-free : goal.returns-clause-free
 returns-clause-free c = free5 c.args.topology.now.cluster c.args.storage (named_of c.args.arena.now (told_to c.args.part c.args.entries.now)) c.args.arena.now c.put_delimiter.new.self c.lawful.ensures (here_of c.args.arena.now c.args.storage (told_to c.args.part c.args.entries.now) c.requires.ready.places) (room_of c.args.arena.now c.args.storage (told_to c.args.part c.args.entries.now) c.requires.ready.places) c.put_delimiter.ensures.list c.put_delimiter.ensures.others c.enter_entries.new.arena c.sweep_behind.new.arena c.take_delimiter.new.self c.lawful-2.ensures (entered_as c.args.topology.now.cluster c.args.storage (told_to c.args.part c.args.entries.now) c.args.arena.now c.put_delimiter.new.self c.enter_entries.new.arena c.put_delimiter.ensures.others.ids c.enter_entries.ensures.entered) start c.enter_entries.new.tally c.sweep_behind.new.tally c.sweep_behind.ensures c.take_delimiter.ensures.others c.lawful-3.ensures c.settle_named.new.arena (settling_as c.args.storage (told_to c.args.part c.args.entries.now) c.args.arena.now c.take_delimiter.new.self c.settle_named.new.arena (c.take_delimiter.ensures.others.ids ∙ c.sweep_behind.ensures.ids ∙ c.enter_entries.ensures.entered.frame.ids ∙ c.put_delimiter.ensures.others.ids) c.settle_named.ensures) c.requires.free c.take_delimiter.ensures.marks
