@@ -11,6 +11,7 @@ mod bags;
 mod choices;
 mod clusters;
 mod managers;
+mod reports;
 mod runs;
 mod slots;
 mod tally;
@@ -41,6 +42,7 @@ fn go_over_tables<R: Print + Eprint>(rt: &R, alloc: Global) -> Result<(), Refusa
     tell(rt, "levels", slots::go_over_levels(rt, alloc)?);
     tell(rt, "sets", slots::go_over_sets(rt, alloc)?);
     tell(rt, "transfers", transfers::go_over(rt, alloc)?);
+    tell(rt, "reports", reports::go_over(rt, alloc)?);
     tell(rt, "clusters", clusters::go_over(rt, alloc)?);
     tell(rt, "choices", choices::go_over(rt, alloc)?);
     tell(rt, "managers", managers::go_over(rt, alloc)?);
