@@ -1,7 +1,7 @@
-use Rattle.std.proofs.Common.{◌≡◌, [], None, Some, is_some, IsTrue, sym, ap, subst, ◌∙◌}
+use Rattle.std.proofs.Common.{◌≡◌, [], sym, ap, subst, ◌∙◌}
 use Rattle.std.proofs.lemmas.Bool.{false≢true}
 use Rattle.std.proofs.lemmas.Option.{none-some}
-use Rattle.std.specs.Option.{IsSome, option_and_then}
+use Rattle.std.specs.Option.{IsSome}
 use Rattle.bm_base.specs.declared.replica.Marks.{Marks}
 use Rattle.bm_base.specs.Map.{Map, empty, get}
 use Rattle.bm_base.specs.State.{Cluster, by_replica}
