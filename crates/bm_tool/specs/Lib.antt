@@ -12,3 +12,4 @@ pub mod Starting
 pub mod Progress
 pub mod Outcome
 pub mod Status
+pub mod Options

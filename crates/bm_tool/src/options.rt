@@ -1,19 +1,29 @@
 // The options of the program.
+ghost use Rattle.std.specs.Prelude.{◌≡◌, false, None, IfOk, string_bytes, map, codes};
+ghost use Rattle.clap.specs.Words.{FailsBy, app_of, found_of, rule_of};
+ghost use Rattle.bm_base.specs.Configuration.{config_refusal};
+ghost use Rattle.bm_tool.specs.Options.{IsNumberOf, configured_by, option_rule, refusals_of, tool};
 
 use bm_base::Config;
-use clap::{Arg, ArgMatches, Command, Error, value_parser};
+use clap::{Arg, ArgAction, ArgMatches, Command, Error, value_parser};
 use std::alloc::{AllocError, Global};
 
 /// The configuration that the words of a command line name, the program's name first: each option at most once, a whole number
 /// within its range. What is not named is standard, and both numbers begin at 0. An `Err` is a request for help, a command line
 /// that is refused, or want of memory.
-pub fn config_of(alloc: Global, words: &[String]) -> Result<Config, Error> {
+pub fn config_of(alloc: Global, words: &[String]) -> Result<Config, Error>
+    ensures exact { IfOk result (λ c. c ≡ configured_by (map string_bytes words.now)) }
+    ensures allowed { IfOk result (λ c. config_refusal c ≡ None) }
+    ensures refused { FailsBy (refusals_of (map string_bytes words.now)) result }
+{
     let command = command(alloc)?;
     let matches = command.try_get_matches_from(words)?;
     Ok(config_from(&matches))
 }
 
-fn command<'a>(alloc: Global) -> Result<Command<'a>, AllocError> {
+fn command<'a>(alloc: Global) -> Result<Command<'a>, AllocError>
+    ensures { IfOk result (λ c. app_of c ≡ tool) }
+{
     Command::new(alloc, "bm_tool")
         .about(
             "Answers calls on a block manager: one JSON object a line in, one line of text for each out",
@@ -60,29 +70,43 @@ fn option<'a>(
     alloc: Global,
     name: &'a str,
     standard: &'a str,
-    most: i64,
+    most: u32,
     help: &'a str,
-) -> Arg<'a> {
+) -> Arg<'a>
+    ensures rule { rule_of result ≡ option_rule name.entry.now standard.entry.now most }
+    ensures local { result.global ≡ false }
+{
     Arg::new(alloc, name)
+        .action(ArgAction::Set)
         .long(name)
         .value_name("N")
-        .value_parser(value_parser!(u32).range(1..=most))
+        .value_parser(value_parser!(u32).range(1..=i64::from(most)))
         .default_value(standard)
         .help(help)
 }
 
-fn config_from(matches: &ArgMatches<'_>) -> Config {
+fn config_from(matches: &ArgMatches<'_>) -> Config
+    ensures shards { IsNumberOf (found_of matches.now) (codes "shards") result.shards }
+    ensures workers { IsNumberOf (found_of matches.now) (codes "workers") result.workers }
+    ensures work { IsNumberOf (found_of matches.now) (codes "work") result.work }
+    ensures invalidate { IsNumberOf (found_of matches.now) (codes "invalidate") result.invalidate }
+    ensures pend { IsNumberOf (found_of matches.now) (codes "pend") result.pend }
+    ensures counts { (result.first_round ≡ 0) × (result.first_call ≡ 0) }
+{
     let standard = Config::standard();
     Config {
-        shards: matches.get_one::<u32>("shards").unwrap_or(standard.shards),
-        workers: matches
-            .get_one::<u32>("workers")
-            .unwrap_or(standard.workers),
-        work: matches.get_one::<u32>("work").unwrap_or(standard.work),
-        invalidate: matches
-            .get_one::<u32>("invalidate")
-            .unwrap_or(standard.invalidate),
-        pend: matches.get_one::<u32>("pend").unwrap_or(standard.pend),
+        shards: number(matches, "shards", standard.shards),
+        workers: number(matches, "workers", standard.workers),
+        work: number(matches, "work", standard.work),
+        invalidate: number(matches, "invalidate", standard.invalidate),
+        pend: number(matches, "pend", standard.pend),
         ..standard
     }
+}
+
+/// The number that was found for an option; `standard` where none was found, which a default value rules out.
+fn number(matches: &ArgMatches<'_>, name: &str, standard: u32) -> u32
+    ensures { IsNumberOf (found_of matches.now) name.now result }
+{
+    matches.get_one::<u32>(name).unwrap_or(standard)
 }
