@@ -1,5 +1,7 @@
 -- What standard error says of a fault, without its line end, and the exit status.
 use Rattle.std.specs.Prelude.{ℕ, List, codes}
+use Rattle.clap.specs.declared.error.kind.ErrorKind.{ErrorKind}
+use Rattle.clap.specs.declared.error.kind.ErrorKind.TheVariants as kind
 use Rattle.bm_tool.specs.declared.fault.Fault.{Fault}
 use Rattle.bm_tool.specs.declared.fault.Fault.TheVariants.{Config, Read, Write, Memory, TooMuch}
 use Rattle.bm_tool.specs.declared.status.End.{End}
@@ -17,3 +19,10 @@ status_of Answered = 0
 status_of Helped = 0
 status_of (Faulted fault) = 1
 status_of Misused = 2
+
+-- how the program ends where the options gave no configuration, by the kind of the error
+abbrev pub end_of : ErrorKind → End
+end_of kind.OutOfMemory = Faulted Memory
+end_of kind.DisplayHelp = Helped
+end_of kind.DisplayVersion = Helped
+end_of other = Misused

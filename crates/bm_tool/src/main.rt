@@ -2,6 +2,10 @@
 //! of text for it to standard output.
 #![tactic(auto)]
 
+ghost use Rattle.std.specs.Prelude.{◌≡◌};
+ghost use Rattle.clap.specs.Words.{kind_of};
+ghost use Rattle.bm_tool.specs.Status.{end_of};
+
 mod call;
 mod ends;
 mod fault;
@@ -68,7 +72,9 @@ fn asked<R: Input + Print + Eprint + AllocGlobal>(rt: &R, words: &[String]) -> E
 }
 
 /// Says why there is no run.
-fn told<R: Print + Eprint>(rt: &R, error: &Error) -> End {
+fn told<R: Print + Eprint>(rt: &R, error: &Error) -> End
+    ensures { result ≡ end_of (kind_of error.now) }
+{
     if matches!(error.kind(), ErrorKind::OutOfMemory) {
         return faulted(rt, Fault::Memory);
     }
@@ -80,7 +86,9 @@ fn told<R: Print + Eprint>(rt: &R, error: &Error) -> End {
     }
 }
 
-fn faulted<R: Eprint>(rt: &R, fault: Fault) -> End {
+fn faulted<R: Eprint>(rt: &R, fault: Fault) -> End
+    ensures { result ≡ End.Faulted fault }
+{
     let _ = rt.eprintln(fault_text(fault));
     End::Faulted(fault)
 }
