@@ -1,18 +1,23 @@
 -- What the words of a command line make of the configuration. How the words are read (an option's name and its value, by two words
 -- or by one with `=`) and when they are refused is said by the definitions of the crate that reads them, clap: `walk` and `fault_of`.
-use Rattle.std.specs.Prelude.{◌≡◌, ◌<◌, ◌^◌, ℕ, List, [], ◌∷◌, Option, Some, codes, pos}
+use Rattle.std.specs.Prelude.{◌≡◌, ◌⊎◌, ⊤, ◌<◌, ◌^◌, ℕ, List, [], ◌∷◌, Option, Some, codes, pos}
 use Rattle.std.specs.Option.{option_map_or}
 use Rattle.std.specs.Str.Parse.{IsNumeral, digits_value, without_leading_plus}
 use Rattle.clap.specs.Walk.{Row, Rule, Text, first_of, nothing_held, settled, walk}
 use Rattle.clap.specs.Simple.{App, argument_words, built, names_of, new_rule, new_shape}
 use Rattle.clap.specs.Faults.{fault_of}
-use Rattle.clap.specs.Kinds.{Kinds}
+use Rattle.clap.specs.Kinds.{IsAmong, Kinds}
 use Rattle.clap.specs.Matches.{one_text}
 use Rattle.clap.specs.declared.parser.matches.Found.{Found}
 use Rattle.clap.specs.declared.builder.action.ArgAction.TheVariants.{Set}
 use Rattle.clap.specs.declared.builder.value_parser.ValueParser.TheVariants.{Signed}
+use Rattle.clap.specs.declared.error.kind.ErrorKind.{ErrorKind}
+use Rattle.clap.specs.declared.error.kind.ErrorKind.TheVariants.{OutOfMemory}
 use Rattle.bm_base.specs.Configuration.{standard}
 use Rattle.bm_base.specs.declared.config.Config.{Config}
+use Rattle.bm_tool.specs.Status.{end_of}
+use Rattle.bm_tool.specs.declared.status.End.{End}
+use Rattle.bm_tool.specs.declared.status.End.TheVariants.{Answered, Helped, Faulted, Misused}
 
 -- an option --name N, with a whole number from 1 to most, in the library's words
 abbrev pub option_rule : Text → Text → ℕ → Rule
@@ -71,3 +76,15 @@ configured_by words = record standard {
 -- why there is no configuration: help is asked for, or the words are refused; none where they are taken
 abbrev pub refusals_of : List Text → Kinds
 refusals_of words = fault_of tool words
+
+-- a run was made, whatever came of it
+abbrev pub IsOfRun : End → Type 0
+IsOfRun Answered = ⊤
+IsOfRun (Faulted fault) = ⊤
+IsOfRun Helped = ⊥
+IsOfRun Misused = ⊥
+
+-- how the program ends on words that are refused for these reasons: it runs only where there is none, and else the end tells a
+-- reason, or that memory lacked
+abbrev pub EndsBy : Kinds → End → Type 0
+EndsBy reasons end = ((reasons ≡ []) × IsOfRun end) ⊎ ((k : ErrorKind) × IsAmong k (OutOfMemory ∷ reasons) × (end ≡ end_of k))

@@ -2,8 +2,9 @@
 //! of text for it to standard output.
 #![tactic(auto)]
 
-ghost use Rattle.std.specs.Prelude.{◌≡◌};
+ghost use Rattle.std.specs.Prelude.{◌≡◌, map, string_bytes};
 ghost use Rattle.clap.specs.Words.{kind_of};
+ghost use Rattle.bm_tool.specs.Options.{EndsBy, refusals_of};
 ghost use Rattle.bm_tool.specs.Status.{end_of};
 
 mod call;
@@ -61,7 +62,9 @@ fn words_of<R: Env + AllocGlobal>(rt: &R) -> io::Result<Vec<String>> {
     Ok(words)
 }
 
-fn asked<R: Input + Print + Eprint + AllocGlobal>(rt: &R, words: &[String]) -> End {
+fn asked<R: Input + Print + Eprint + AllocGlobal>(rt: &R, words: &[String]) -> End
+    ensures { EndsBy (refusals_of (map string_bytes words.now)) result }
+{
     match config_of(rt.alloc(), words) {
         Ok(config) => match answer_all(rt, &config) {
             Ok(_) => End::Answered,
