@@ -37,6 +37,7 @@ pub mod Orderly
 -- What a round's deletes leave of a block.
 pub mod Listed
 pub mod Stands
+pub mod Sets
 pub mod Lively
 pub mod Surpluses
 pub mod Marked

@@ -24,7 +24,8 @@ use Rattle.laws_of_rounds.specs.Deletes.{IsToBeDeleted}
 use Rattle.std.proofs.lemmas.Option.{same_Some}
 use Rattle.bm_base.proofs.Listed.{same_again}
 use Rattle.bm_base.proofs.Maps.{same_key}
-use Rattle.laws_of_rounds.proofs.Grouped.{has_keys, deletes_on_node}
+use Rattle.laws_of_rounds.proofs.Grouped.{deletes_on_node}
+use Rattle.bm_base.proofs.Sets.{has_keys}
 use Rattle.bm_base.proofs.Commanded.{chosen_deletes_of}
 use Rattle.bm_base.proofs.Kept.{marks_before}
 use Rattle.laws_of_rounds.proofs.Sending.{storage_is}

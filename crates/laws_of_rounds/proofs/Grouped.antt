@@ -1,55 +1,23 @@
 -- Keys stand once, so what is chosen node by node is commanded node by node.
-use Rattle.std.specs.Prelude.{◌≡◌, ℕ, ◌≤◌, Bool, true, false, ◌&&◌, ◌||◌, ◌==◌, if◌then◌else◌, List, [], ◌∷◌, ◌++◌, map, filter, flat_map, length, Option, Some, None, is_some, T}
+use Rattle.std.specs.Prelude.{◌≡◌, ℕ, ◌≤◌, Bool, true, false, ◌&&◌, ◌||◌, ◌==◌, if◌then◌else◌, List, [], ◌∷◌, ◌++◌, map, filter, flat_map, length, Some, None}
 use Rattle.std.specs.Option.{option_map_or}
 use Rattle.std.specs.List.{All}
-use Rattle.std.specs.Ordering.{nat_cmp, eq_by_cmp}
-use Rattle.std.specs.FinMap.{find, is_sorted}
 use Rattle.std.proofs.Common.{cond, refl, sym, ap, subst, ◌∙◌, arith}
 use Rattle.std.proofs.lemmas.Bool.{eqb-true, false≢true, true≢false}
 use Rattle.std.proofs.lemmas.List.Elements.{All-nil, All-cons}
-use Rattle.bm_base.specs.Conjunction.{first, second}
 use Rattle.bm_base.specs.declared.commands.Transfer.{Transfer}
 use Rattle.bm_base.specs.declared.commands.Delete.{Delete}
 use Rattle.bm_base.specs.declared.commands.NodeCommands.{NodeCommands}
-use Rattle.bm_base.specs.Map.{Map, by_number, get, entries, keys, contains_key}
+use Rattle.bm_base.specs.Map.{entries, keys}
 use Rattle.bm_base.specs.State.{RoundLimits, Cluster, Holdings, State}
 use Rattle.bm_base.specs.Lists.{has, has_repeats}
 use Rattle.bm_base.specs.Replicas.{has_storage, node_of}
 use Rattle.bm_base.specs.Excess.{begun, started}
 use Rattle.bm_base.specs.Deletes.{is_deletable, deletable_on, deletes_of, deletes}
 use Rattle.bm_base.specs.Rounds.{whole_round, commands_of, node_commands, has_commands}
-use Rattle.bm_base.proofs.MapLaws.{find_below}
-use Rattle.bm_base.proofs.Ties.{number_tie}
-use Rattle.bm_base.proofs.Clusters.{eqb_turned}
 use Rattle.bm_base.proofs.Each.{Each, each_of, each_take, each_mapped, each_filter_by, each_then, each_flat_map}
-use Rattle.bm_base.proofs.Listed.{any_map, any_agree, filter_append, length_take-le, same_again}
-use Rattle.bm_base.proofs.Stands.{any_at}
-
--- Keys.
-
-key_at : {X : Type 0} (k : ℕ) (e : ℕ × X) → (e.0 == k) ≡ (eq_by_cmp nat_cmp k e.0 && true)
-key_at k e = eqb_turned e.0 k ∙ sym (number_tie k e.0) ∙ (elim (eq_by_cmp nat_cmp k e.0) as (λ b. b ≡ (b && true)) [ true ↦ refl | false ↦ refl ])
-
-any_key : {X : Type 0} (k : ℕ) (es : List (ℕ × X)) → T (is_sorted nat_cmp es) → has (map (λ e. e.0) es) k ≡ option_map_or (λ _. true) (find nat_cmp k es) false
-any_key k es h = any_map (λ y. y == k) (λ e. e.0) es ∙ any_agree (λ e. e.0 == k) (λ e. eq_by_cmp nat_cmp k e.0 && true) (key_at k) es ∙ any_at by_number k (λ _. true) es h
-
-some_is : {X : Type 0} (o : Option X) → option_map_or (λ _. true) o false ≡ is_some o
-some_is None = refl
-some_is (Some x) = refl
-
-pub has_keys : {X : Type 0} (m : Map by_number X) (k : ℕ) → has (keys m) k ≡ contains_key m k
-unfolding keys entries get
-has_keys m k = any_key k m.list m.sorted ∙ some_is (find nat_cmp k m.list)
-
-once_keys_of : {X : Type 0} (es : List (ℕ × X)) → T (is_sorted nat_cmp es) → has_repeats (map (λ e. e.0) es) ≡ false
-once_keys_of [] h = refl
-once_keys_of (e ∷ es) h =
-    ap (λ b. b || has_repeats (map (λ d. d.0) es)) (any_key e.0 es (second _ _ h) ∙ ap (λ o. option_map_or (λ _. true) o false) (find_below nat_cmp e.0 es (first _ _ h)))
-    ∙ once_keys_of es (second _ _ h)
-
-pub once_keys : {X : Type 0} (m : Map by_number X) → has_repeats (keys m) ≡ false
-unfolding keys entries
-once_keys m = once_keys_of m.list m.sorted
+use Rattle.bm_base.proofs.Listed.{filter_append, length_take-le, same_again}
+use Rattle.bm_base.proofs.OneWish.{once_keys}
 
 -- Groups.
 

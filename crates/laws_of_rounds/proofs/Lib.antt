@@ -4,7 +4,6 @@ pub mod Reasons
 pub mod Racked
 pub mod Choosing
 pub mod Sending
-pub mod Sets
 pub mod Wished
 pub mod Later
 pub mod Ordered

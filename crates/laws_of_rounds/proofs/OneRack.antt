@@ -19,9 +19,9 @@ use Rattle.bm_base.proofs.Each.{each_any}
 use Rattle.bm_base.proofs.Listed.{any_map, or_left, same_again}
 use Rattle.bm_base.proofs.Stands.{has_where}
 use Rattle.bm_base.proofs.Maps.{each_entry}
-use Rattle.laws_of_rounds.proofs.Grouped.{once_keys}
-use Rattle.laws_of_rounds.proofs.Racked.{some_passing}
-use Rattle.laws_of_rounds.proofs.Sets.{has_distinct, has_filter_map, rack_among}
+use Rattle.bm_base.proofs.OneWish.{once_keys}
+use Rattle.bm_base.proofs.Sets.{some_passing}
+use Rattle.bm_base.proofs.Sets.{has_distinct, has_filter_map, rack_among}
 use Rattle.laws_of_rounds.proofs.Wished.{badly_counted}
 use Rattle.laws_of_rounds.proofs.Told.{among_map, has_among, passing_there}
 use Rattle.bm_base.proofs.Options.{there}

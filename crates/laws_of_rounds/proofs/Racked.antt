@@ -18,7 +18,8 @@ use Rattle.bm_base.specs.Excess.{excess_cmp, excess_among, remaining, share_rack
 use Rattle.bm_base.specs.Lawful.{IsOrderly}
 use Rattle.bm_base.specs.NextRound.{unmarked, live_unmarked, live_marked}
 use Rattle.std.proofs.lemmas.Option.{same_Some}
-use Rattle.bm_base.proofs.Listed.{any_weaker, count_without, has_filter, once_filter, or_left, or_right, same_again, and_second}
+use Rattle.bm_base.proofs.Listed.{any_weaker, count_without, has_filter, once_filter, same_again, and_second}
+use Rattle.bm_base.proofs.Sets.{some_passing, passing_some}
 use Rattle.bm_base.proofs.Stands.{has_where, once_where}
 use Rattle.bm_base.proofs.Surpluses.{kept_of, others, kept_step, chosen_first, least_among, least_there}
 use Rattle.bm_base.proofs.Marked.{marked_is, marked_unmarked, unordered_dropped}
@@ -107,18 +108,6 @@ pub share_of : (C : Cluster) (s u r : ℕ) → rack_of C s ≡ Some r → rack_o
 unfolding share_rack
 share_of C s u r e f =
     ap (λ o. option_map_or (λ a. option_map_or (λ q. q == a) (rack_of C u) false) o false) e ∙ ap (λ o. option_map_or (λ q. q == r) o false) f ∙ same_again r
-
--- one of some passes
-pub some_passing : (p : ℕ → Bool) (xs : List ℕ) → list_any p xs ≡ true → (y : ℕ) × (has xs y ≡ true) × (p y ≡ true)
-some_passing p [] e = absurd (false≢true e)
-some_passing p (x ∷ xs) e =
-    (elim (p x) as (λ b. p x ≡ b → (b || list_any p xs) ≡ true → (y : ℕ) × (has (x ∷ xs) y ≡ true) × (p y ≡ true)) [
-      | true ↦ λ t _. (x, or_left (x == x) (has xs x) (same_again x), t)
-      | false ↦ λ _ f. let rest = some_passing p xs f in (rest.0, or_right (x == rest.0) (has xs rest.0) rest.1, rest.2)
-    ]) refl e
-
-pub passing_some : (p : ℕ → Bool) (xs : List ℕ) (y : ℕ) → has xs y ≡ true → p y ≡ true → list_any p xs ≡ true
-passing_some p xs y there e = any_weaker (λ x. x == y) p (λ x t. subst (λ z. p z ≡ true) (sym (eqb-true x y t)) e) xs there
 
 any_of_some : (p : ℕ → Bool) (xs : List ℕ) → 1 ≤ length (filter p xs) → list_any p xs ≡ true
 any_of_some p [] h = absurd (omega arith)

@@ -29,10 +29,12 @@ use Rattle.bm_base.specs.NextRound.{IsAmong, transfers_chosen, transfers_command
 use Rattle.laws_of_rounds.specs.Transfers.{IsFreshNode}
 use Rattle.bm_base.proofs.Listed.{and_first, and_second, or_left, or_right, same_again, filter_append, filter_filter, any_map, any_filter}
 use Rattle.bm_base.proofs.Stands.{has_where, has_listed, listed}
-use Rattle.laws_of_rounds.proofs.Grouped.{has_keys, once_keys, on_one_node, each_node, all_of_each}
+use Rattle.laws_of_rounds.proofs.Grouped.{on_one_node, each_node, all_of_each}
+use Rattle.bm_base.proofs.Sets.{has_keys}
+use Rattle.bm_base.proofs.OneWish.{once_keys}
 use Rattle.bm_base.proofs.Commanded.{chosen_deletes_of}
 use Rattle.bm_base.proofs.Kept.{marks_started}
-use Rattle.laws_of_rounds.proofs.Racked.{passing_some}
+use Rattle.bm_base.proofs.Sets.{passing_some}
 use Rattle.laws_of_rounds.proofs.Usable.{sources_are}
 use Rattle.laws_of_rounds.proofs.Choosing.{EachAfter, after_split, after_whole, IsChosenAfter, each_chosen, source_is, target_is}
 

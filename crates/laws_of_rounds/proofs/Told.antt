@@ -26,7 +26,8 @@ use Rattle.bm_base.proofs.Each.{Each, each_of, each_then, each_filter_by, each_f
 use Rattle.bm_base.proofs.Listed.{or_left, or_right, same_again}
 use Rattle.bm_base.proofs.Stands.{has_where}
 use Rattle.laws_of_rounds.proofs.Usable.{sources_usable}
-use Rattle.laws_of_rounds.proofs.Grouped.{has_keys, each_node, each_on_node, all_of_each}
+use Rattle.laws_of_rounds.proofs.Grouped.{each_node, each_on_node, all_of_each}
+use Rattle.bm_base.proofs.Sets.{has_keys}
 use Rattle.bm_base.proofs.Commanded.{IsTested, chosen_deletes_of, deleted_is}
 use Rattle.bm_base.proofs.Kept.{marks_started, marks_before, remarked, remarked_ordered, surplus_of}
 use Rattle.bm_base.proofs.Options.{revised}

@@ -24,11 +24,13 @@ use Rattle.laws_of_rounds.proofs.Needs.{level_known}
 use Rattle.std.proofs.lemmas.Option.{same_Some}
 use Rattle.bm_base.proofs.Each.{Each}
 use Rattle.bm_base.proofs.Listed.{filter_append, same_again}
-use Rattle.laws_of_rounds.proofs.Grouped.{grouped, has_keys, once_keys}
+use Rattle.laws_of_rounds.proofs.Grouped.{grouped}
+use Rattle.bm_base.proofs.Sets.{has_keys}
+use Rattle.bm_base.proofs.OneWish.{once_keys}
 use Rattle.laws_of_rounds.proofs.Choosing.{target_is}
 use Rattle.laws_of_rounds.proofs.Sending.{chosen_at, target_parts}
 use Rattle.laws_of_rounds.proofs.Racked.{share_is, share_of}
-use Rattle.laws_of_rounds.proofs.Sets.{rack_among}
+use Rattle.bm_base.proofs.Sets.{rack_among}
 
 -- Wishes for one block.
 
