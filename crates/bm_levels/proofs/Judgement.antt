@@ -1,0 +1,61 @@
+-- What was counted of the replicas at a slot decides how its block is judged.
+use Rattle.std.specs.Prelude.{◌≡◌, ℕ, Bool, true, false, not, ◌&&◌, nat_le, List, [], length, filter_map, Option, Some, None, option_and_then}
+use Rattle.std.specs.Option.{option_map_or}
+use Rattle.std.specs.List.{list_any}
+use Rattle.std.proofs.Common.{refl, sym, ap, ◌∙◌, arith}
+use Rattle.bm_base.specs.declared.replica.Marks.{Marks}
+use Rattle.bm_base.specs.declared.replica.BlockInfo.{BlockInfo}
+use Rattle.bm_base.specs.Levels.{level_of}
+use Rattle.bm_base.specs.Spread.{spread}
+use Rattle.bm_arena.specs.Triplets.{Block}
+use Rattle.bm_levels.specs.declared.count.Count.{Count}
+use Rattle.bm_levels.specs.Judged.{storages_at, is_live_by, is_drained_by, is_plain, level_by, is_settled_at}
+use Rattle.bm_levels.specs.Counted.{none, counted_on, racks_of}
+use Rattle.bm_levels.proofs.Counts.{counted_is}
+
+abbrev listed : Option Block → List (ℕ × Marks)
+listed o = option_map_or (λ (b : Block). b.replicas) o []
+
+abbrev info_in : Option Block → Option BlockInfo
+info_in o = option_and_then (λ (b : Block). b.info) o
+
+module _ (rack : ℕ → Option ℕ) (draining : ℕ → Bool) where
+  pub level_known : (multi : Bool) (o : Option Block) (i : BlockInfo) (k : Count) → info_in o ≡ Some i → k ≡ counted_on rack draining none (listed o)
+      → level_of k.live k.drained i.repl (racks_of k) multi ≡ level_by rack draining multi o
+  unfolding level_by
+  level_known multi None i k e f = cc
+  level_known multi (Some b) i k e f =
+      let h = counted_is rack draining none b.replicas in
+      let lives : (counted_on rack draining none b.replicas).live ≡ length (storages_at (is_live_by draining) b.replicas) = omega (arith, h.0) in
+      let others : (counted_on rack draining none b.replicas).drained ≡ length (storages_at (is_drained_by draining) b.replicas) = omega (arith, h.1) in
+      ap (λ z. level_of z.live z.drained i.repl (racks_of z) multi) f
+      ∙ (λ t. level_of (lives t) (others t) i.repl (h.3 t) multi)
+      ∙ sym (ap (option_and_then (λ (j : BlockInfo). level_of (length (storages_at (is_live_by draining) b.replicas)) (length (storages_at (is_drained_by draining) b.replicas)) j.repl (spread (filter_map rack (storages_at (is_live_by draining) b.replicas))) multi)) e)
+
+  pub level_unknown : (multi : Bool) (o : Option Block) → info_in o ≡ None → None ≡ level_by rack draining multi o
+  unfolding level_by
+  level_unknown multi None e = refl
+  level_unknown multi (Some b) e =
+      sym (ap (option_and_then (λ (j : BlockInfo). level_of (length (storages_at (is_live_by draining) b.replicas)) (length (storages_at (is_drained_by draining) b.replicas)) j.repl (spread (filter_map rack (storages_at (is_live_by draining) b.replicas))) multi)) e)
+
+  plain_all : (rs : List (ℕ × Marks)) (k : Count) → k ≡ counted_on rack draining none rs → k.is_plain ≡ not (list_any (λ (r : ℕ × Marks). not (is_plain r.1)) rs)
+  plain_all rs k f = ap (λ z. z.is_plain) f ∙ (counted_is rack draining none rs).2
+
+  pub settled_known : (o : Option Block) (i : BlockInfo) (k : Count) → info_in o ≡ Some i → k ≡ counted_on rack draining none (listed o)
+      → (k.is_plain && nat_le (option_map_or (λ (b : Block). length b.replicas) o 0) i.repl) ≡ is_settled_at o
+  unfolding is_settled_at
+  settled_known None i k e f = cc
+  settled_known (Some b) i k e f =
+      (λ t. plain_all b.replicas k f t && nat_le (length b.replicas) i.repl)
+      ∙ sym (ap (λ z. not (list_any (λ (r : ℕ × Marks). not (is_plain r.1)) b.replicas) && option_map_or (λ (j : BlockInfo). nat_le (length b.replicas) j.repl) z true) e)
+
+  pub settled_unknown : (o : Option Block) (k : Count) → info_in o ≡ None → k ≡ counted_on rack draining none (listed o) → k.is_plain ≡ is_settled_at o
+  unfolding is_settled_at
+  settled_unknown None k e f = ap (λ z. z.is_plain) f
+  settled_unknown (Some b) k e f =
+      plain_all b.replicas k f ∙ all (not (list_any (λ (r : ℕ × Marks). not (is_plain r.1)) b.replicas))
+      ∙ sym (ap (λ z. not (list_any (λ (r : ℕ × Marks). not (is_plain r.1)) b.replicas) && option_map_or (λ (j : BlockInfo). nat_le (length b.replicas) j.repl) z true) e)
+    where
+      all : (c : Bool) → c ≡ (c && true)
+      all true = refl
+      all false = refl

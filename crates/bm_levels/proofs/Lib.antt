@@ -1,0 +1,12 @@
+pub mod Counts
+pub mod Slots
+pub mod Judgement
+pub mod Keeping
+pub mod Alike
+pub mod Levels
+pub mod Settled
+pub mod Agreeing
+pub mod OneSlot
+pub mod Emptied
+pub mod Vacant
+pub mod Added

@@ -1,0 +1,57 @@
+-- Where one slot changed and was judged anew, all that holds between calls holds again.
+use Rattle.std.specs.Prelude.{◌≡◌, ◌≢◌, ◌↔◌, ℕ, ◌+◌, IsSome, false, Some, None, Option, option_and_then}
+use Rattle.std.proofs.Common.{refl, sym, ap, subst, ◌∙◌, inl, inr}
+use Rattle.std.proofs.lemmas.Bool.{cases_eq}
+use Rattle.bm_base.specs.State.{Cluster}
+use Rattle.bm_base.specs.Replicas.{rack_of, is_draining, is_multi_rack}
+use Rattle.bm_arena.specs.Triplets.{Block}
+use Rattle.bm_arena.specs.Contents.{Contents, block_at, find_marks}
+use Rattle.bm_arena.specs.Holding.{info_at}
+use Rattle.bm_levels.specs.Judged.{level_in, is_settled_at}
+use Rattle.bm_levels.specs.Kept.{Kept, level_of_slot, IsUnsettled, HasRoomFor, IsJudged, IsSameAt}
+use Rattle.bm_levels.specs.Leveled.{Leveled, IsLeveled, AreLevels}
+use Rattle.bm_levels.proofs.Judgement.{level_unknown}
+
+-- a slot that a number leads to is held
+pub held_by : (a : Contents) (slot : ℕ) {id : ℕ} → (slot ≢ a.delimiter) × (b : Block) × (block_at a slot ≡ Some b) × (b.id ≡ id) → IsSome (block_at a slot)
+held_by a slot f = let P : Option Block → Type 0 = λ o. IsSome o in subst P (sym f.2) refl
+
+-- what changed: the block at one slot, which is not the delimiter's
+pub record IsChangedAt (old new : Contents) (slot : ℕ) : Type 0 where
+  pub blocks : (other : ℕ) → other ≢ slot → block_at new other ≡ block_at old other
+  pub delimiter : new.delimiter ≡ old.delimiter
+  pub apart : slot ≢ old.delimiter
+  pub held : IsSome (block_at old slot)
+
+module _ (C : Cluster) (old : Leveled) (a : Contents) (K : Kept) (slot : ℕ) (changed : IsChangedAt old.arena a slot)
+    (judged : IsJudged (rack_of C) (is_draining C) (is_multi_rack C) (block_at a slot) K slot)
+    (others : (other : ℕ) → other ≢ slot → IsSameAt old.kept K other) where
+  marker : block_at a a.delimiter ≡ block_at old.arena old.arena.delimiter
+  marker = ap (block_at a) changed.delimiter ∙ changed.blocks old.arena.delimiter (λ e. changed.apart (sym e))
+
+  pub leveled_after : IsLeveled old → ((bound : ℕ) → HasRoomFor old.kept bound → HasRoomFor K bound) → IsLeveled (record { arena = a; kept = K })
+  leveled_after h room = record {
+    free = λ s. ap (λ o. option_and_then (λ (b : Block). find_marks b.replicas s) o) marker ∙ h.free s;
+    blank = ap (λ o. option_and_then (λ (b : Block). b.info) o) marker ∙ h.blank;
+    room = λ z there. elim (cases_eq z slot) [
+      | inl same ↦ let P : ℕ → Type 0 = λ x. HasRoomFor K (x + 1) in subst P (sym same) (room (slot + 1) (h.room slot changed.held))
+      | inr differs ↦ let P : Option Block → Type 0 = λ o. IsSome o in room (z + 1) (h.room z (subst P (changed.blocks z differs) there))
+    ];
+    unsettled = λ z. elim (cases_eq z slot) [
+      | inl same ↦ let P : ℕ → Type 0 = λ x. IsUnsettled K x ↔ (is_settled_at (block_at a x) ≡ false) in subst P (sym same) judged.unsettled
+      | inr differs ↦
+          let g = others z differs in
+          let P : Option Block → Type 0 = λ o. IsUnsettled K z ↔ (is_settled_at o ≡ false) in
+          subst P (sym (changed.blocks z differs)) (λ u. (h.unsettled z).0 (g.unsettled.0 u), λ s. g.unsettled.1 ((h.unsettled z).1 s))
+    ];
+    unknown = λ z e. elim (cases_eq z slot) [
+      | inl same ↦ let P : ℕ → Type 0 = λ x. info_at a x ≡ None → level_of_slot K x ≡ None in subst P (sym same) (λ f. judged.level ∙ sym (level_unknown (rack_of C) (is_draining C) (is_multi_rack C) (block_at a slot) f)) e
+      | inr differs ↦ (others z differs).level ∙ h.unknown z (sym (ap (λ o. option_and_then (λ (b : Block). b.info) o) (changed.blocks z differs)) ∙ e)
+    ];
+  }
+
+  pub levels_after : AreLevels C old → AreLevels C (record { arena = a; kept = K })
+  levels_after h z = elim (cases_eq z slot) [
+    | inl same ↦ let P : ℕ → Type 0 = λ x. level_of_slot K x ≡ level_in C (block_at a x) in subst P (sym same) judged.level
+    | inr differs ↦ (others z differs).level ∙ h z ∙ sym (ap (level_in C) (changed.blocks z differs))
+  ]

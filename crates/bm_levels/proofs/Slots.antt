@@ -1,0 +1,54 @@
+-- The replicas at a slot, place by place.
+use Rattle.std.specs.Prelude.{◌≡◌, ℕ, suc, ◌+◌, ◌<◌, ◌≤◌, List, [], ◌∷◌, length, drop, slice_get, Option, Some, None, option_map, option_and_then}
+use Rattle.std.specs.Option.{option_map_or}
+use Rattle.std.proofs.Common.{sym, ap, ◌∙◌, arith, inl, inr, drop_of_length-le}
+use Rattle.std.proofs.lemmas.Option.{slice_get_cases, slice_get-map}
+use Rattle.std.proofs.lemmas.List.{length-map}
+use Rattle.bm_base.specs.declared.replica.Marks.{Marks}
+use Rattle.bm_arena.specs.Triplets.{Block}
+use Rattle.bm_arena.specs.Contents.{Contents}
+use Rattle.bm_levels.specs.Kept.{slots_led}
+use Rattle.bm_report.proofs.Underway.{drop_next}
+
+abbrev listed : Option Block → List (ℕ × Marks)
+listed o = option_map_or (λ (b : Block). b.replicas) o []
+
+-- the replica at a place is the next of those from it on
+pub next_at : (o : Option Block) (i : ℕ) (r : ℕ × Marks) → option_and_then (λ (b : Block). slice_get b.replicas i) o ≡ Some r → drop i (listed o) ≡ r ∷ drop (i + 1) (listed o)
+next_at None i r e = cc
+next_at (Some b) i r e = drop_next b.replicas i r e ∙ (let same : suc i ≡ i + 1 = omega arith in ap (λ k. r ∷ drop k b.replicas) same)
+
+-- there is one at each place below their count
+pub none_at : (o : Option Block) (i : ℕ) → option_and_then (λ (b : Block). slice_get b.replicas i) o ≡ None → i < option_map_or (λ (b : Block). length b.replicas) o 0 → ⊥
+none_at None i e lt = omega (arith, lt)
+none_at (Some b) i e lt =
+    elim (slice_get_cases b.replicas i).1 [
+      | inl h ↦ absurd (sure (sym h.2 ∙ e))
+      | inr h ↦ omega (arith, lt, h.0)
+    ]
+  where
+    sure : {X : Type 0} {x : X} → Some x ≡ None → ⊥
+    sure e = cc
+
+-- none from their count on
+pub end_at : (o : Option Block) (i : ℕ) → option_map_or (λ (b : Block). length b.replicas) o 0 ≤ i → drop i (listed o) ≡ []
+end_at None i h = drop_of_length-le {A = ℕ × Marks} [] (omega arith)
+end_at (Some b) i h = drop_of_length-le b.replicas h
+
+-- the slot at a place of those to which numbers lead
+pub led_next : (a : Contents) (i slot : ℕ) → Some slot ≡ option_map (λ (p : ℕ × ℕ). p.1) (slice_get a.ids i) → drop i (slots_led a) ≡ slot ∷ drop (i + 1) (slots_led a)
+led_next a i slot e =
+    drop_next (slots_led a) i slot (slice_get-map (λ (p : ℕ × ℕ). p.1) a.ids i ∙ sym e) ∙ (let same : suc i ≡ i + 1 = omega arith in ap (λ k. slot ∷ drop k (slots_led a)) same)
+
+pub led_none : (a : Contents) (i : ℕ) → option_map (λ (p : ℕ × ℕ). p.1) (slice_get a.ids i) ≡ None → i < length a.ids → ⊥
+led_none a i e lt =
+    elim (slice_get_cases a.ids i).1 [
+      | inl h ↦ absurd (sure (sym (ap (option_map (λ (p : ℕ × ℕ). p.1)) h.2) ∙ e))
+      | inr h ↦ omega (arith, lt, h.0)
+    ]
+  where
+    sure : {X : Type 0} {x : X} → Some x ≡ None → ⊥
+    sure e = cc
+
+pub led_end : (a : Contents) (i : ℕ) → length a.ids ≤ i → drop i (slots_led a) ≡ []
+led_end a i h = drop_of_length-le (slots_led a) (let same = length-map a.ids (λ (p : ℕ × ℕ). p.1) in omega (arith, h, same))

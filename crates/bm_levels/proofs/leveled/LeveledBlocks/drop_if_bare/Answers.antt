@@ -1,0 +1,34 @@
+use Rattle.std.proofs.Common.{◌≡◌, ℕ, Some, not, subst, sym, ap, ◌∙◌}
+use Rattle.std.specs.Prelude.{◌≢◌}
+use Rattle.bm_base.specs.State.{Cluster}
+use Rattle.bm_arena.specs.Contents.{slot_of}
+use Rattle.bm_arena.specs.Holding.{blocks_of, replicas_of}
+use Rattle.bm_levels.specs.Leveled.{Leveled, AreLevels}
+use Rattle.bm_levels.proofs.Emptied.{IsEmptied, emptied, no_value}
+use Rattle.bm_levels.proofs.leveled.LeveledBlocks.drop_if_bare.Goals as goal
+
+done : (c : goal.After-drop_entry) → IsEmptied (record { arena = c.self.inside.arena; kept = c.self.inside.kept }) c.drop_entry.new.self c.args.slot
+done c =
+    let P : Leveled → Type 0 = λ v. slot_of v.arena c.requires.0 ≡ Some c.args.slot in
+    let here = subst P (sym c.self.view_is) c.requires.1 in
+    emptied (record { arena = c.self.inside.arena; kept = c.self.inside.kept }) c.drop_entry.new.self c.args.slot c.requires.0 c.lawful.ensures here (c.is_bare.ensures.0 c.if-is_bare.true)
+    (sym c.info.ensures ∙ no_value c.info.result (c.is_none.ensures ∙ ap not c.if-is_none.true)) c.drop_entry.ensures.after c.drop_entry.ensures.entries c.drop_entry.ensures.numbers
+
+pub invariant_of-self : goal.invariant_of-self
+invariant_of-self c = (done c).leveled c.self.invariant
+
+pub returns-then-is_none-clause-blocks : goal.returns-then-is_none-clause-blocks
+returns-then-is_none-clause-blocks c = (done c).blocks ∙ ap (λ (v : Leveled). blocks_of v.arena) c.self.view_is
+
+pub returns-then-is_none-clause-replicas : goal.returns-then-is_none-clause-replicas
+returns-then-is_none-clause-replicas c = (done c).replicas ∙ ap (λ (v : Leveled). replicas_of v.arena) c.self.view_is
+
+pub returns-then-is_none-clause-numbers : goal.returns-then-is_none-clause-numbers
+returns-then-is_none-clause-numbers c =
+    let P : Leveled → Type 0 = λ v. (id : ℕ) → slot_of v.arena id ≢ Some c.args.slot → slot_of c.drop_entry.new.self id ≡ slot_of v.arena id in
+    subst P c.self.view_is (done c).numbers
+
+pub returns-then-is_none-clause-levels : goal.returns-then-is_none-clause-levels
+returns-then-is_none-clause-levels c =
+    let P : Leveled → Type 0 = λ v. (C : Cluster) → AreLevels C v → AreLevels C (record { arena = c.drop_entry.new.self; kept = c.self.inside.kept }) in
+    subst P c.self.view_is (done c).levels

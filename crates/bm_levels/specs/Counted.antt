@@ -1,0 +1,32 @@
+-- Counting the replicas at a slot, one after another.
+use Rattle.std.specs.Prelude.{ℕ, ◌+◌, Bool, true, false, not, ◌&&◌, ◌||◌, ◌==◌, if◌then◌else◌, List, [], ◌∷◌, Option, Some, None, is_some}
+use Rattle.std.specs.Option.{option_map_or}
+use Rattle.std.specs.Int.{from_bool}
+use Rattle.bm_base.specs.declared.replica.Marks.{Marks}
+use Rattle.bm_base.specs.Replicas.{is_usable}
+use Rattle.bm_levels.specs.declared.count.Count.{Count}
+use Rattle.bm_levels.specs.Judged.{is_plain}
+
+abbrev pub none : Count
+none = record { live = 0; drained = 0; first = None; is_spread = false; is_plain = true }
+
+-- a live replica stands on this rack
+unfoldable pub seen : Count → ℕ → Count
+seen k r = option_map_or (λ f. record k { is_spread = k.is_spread || not (r == f) }) k.first (record k { first = Some r })
+
+-- one more replica, on a storage, with these marks
+unfoldable pub one_more : (ℕ → Option ℕ) → (ℕ → Bool) → Count → ℕ → Marks → Count
+one_more rack draining k s m =
+    let plain = record k { is_plain = k.is_plain && is_plain m } in
+    if not (is_usable m) then plain
+    else if draining s then record plain { drained = k.drained + 1 }
+    else option_map_or (seen (record plain { live = k.live + 1 })) (rack s) (record plain { live = k.live + 1 })
+
+-- all replicas of a list, behind those that were counted
+abbrev pub counted_on : (ℕ → Option ℕ) → (ℕ → Bool) → Count → List (ℕ × Marks) → Count
+counted_on rack draining k [] = k
+counted_on rack draining k (r ∷ rs) = counted_on rack draining (one_more rack draining k r.0 r.1) rs
+
+-- on how many racks the live ones stand, 2 for more
+unfoldable pub racks_of : Count → ℕ
+racks_of k = if k.is_spread then 2 else from_bool (is_some k.first)

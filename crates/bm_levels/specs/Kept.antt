@@ -1,0 +1,44 @@
+-- What is kept of blocks beside their replicas, by slot.
+use Rattle.std.specs.Prelude.{◌≡◌, ◌↔◌, ℕ, ◌≤◌, Bool, false, List, length, map, Option}
+use Rattle.bm_base.specs.declared.level.Level.{Level}
+use Rattle.bm_base.specs.State.{Cluster}
+use Rattle.bm_base.specs.Replicas.{rack_of, is_draining, is_multi_rack}
+use Rattle.bm_base.specs.SlotLists.{Among}
+use Rattle.bm_queues.specs.Levels.{Levels, level_at}
+use Rattle.bm_queues.specs.Members.{Members}
+use Rattle.bm_arena.specs.Triplets.{Block}
+use Rattle.bm_arena.specs.Contents.{Contents, block_at}
+use Rattle.bm_levels.specs.Judged.{level_by, is_settled_at}
+
+-- the levels of the slots, and the slots at which a round has to look
+pub record Kept : Type 0 where
+  pub levels : Levels
+  pub unsettled : Members
+
+abbrev pub level_of_slot : Kept → ℕ → Option Level
+level_of_slot K slot = level_at K.levels slot
+
+abbrev pub IsUnsettled : Kept → ℕ → Type 0
+IsUnsettled K slot = Among slot K.unsettled.slots
+
+-- there is room for the slots below this one
+abbrev pub HasRoomFor : Kept → ℕ → Type 0
+HasRoomFor K bound = (bound ≤ length K.levels.levels) × (bound ≤ K.unsettled.room)
+
+-- a slot is kept as the block that stands there is judged
+pub record IsJudged (rack : ℕ → Option ℕ) (draining : ℕ → Bool) (multi : Bool) (o : Option Block) (K : Kept) (slot : ℕ) : Type 0 where
+  pub level : level_of_slot K slot ≡ level_by rack draining multi o
+  pub unsettled : IsUnsettled K slot ↔ (is_settled_at o ≡ false)
+
+-- a slot is kept as before
+pub record IsSameAt (old new : Kept) (slot : ℕ) : Type 0 where
+  pub level : level_of_slot new slot ≡ level_of_slot old slot
+  pub unsettled : IsUnsettled new slot ↔ IsUnsettled old slot
+
+-- every slot of an arena is kept as its block is judged in a cluster
+abbrev pub AreJudged : Cluster → Contents → Kept → Type 0
+AreJudged C a K = (slot : ℕ) → IsJudged (rack_of C) (is_draining C) (is_multi_rack C) (block_at a slot) K slot
+
+-- the slots to which numbers lead
+abbrev pub slots_led : Contents → List ℕ
+slots_led a = map (λ (p : ℕ × ℕ). p.1) a.ids

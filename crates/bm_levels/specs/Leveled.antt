@@ -1,0 +1,34 @@
+-- Blocks and replicas in an arena, with what is kept of each block beside them.
+use Rattle.std.specs.Prelude.{◌≡◌, ◌≢◌, ◌↔◌, ℕ, ◌+◌, false, None, IsSome}
+use Rattle.bm_base.specs.State.{Cluster}
+use Rattle.bm_arena.specs.Contents.{Contents, block_at, marks_at}
+use Rattle.bm_arena.specs.Holding.{info_at}
+use Rattle.bm_levels.specs.Judged.{level_in, is_settled_at}
+use Rattle.bm_levels.specs.Kept.{Kept, level_of_slot, IsUnsettled, HasRoomFor, IsJudged, IsSameAt}
+use Rattle.bm_base.specs.Replicas.{rack_of, is_draining, is_multi_rack}
+
+pub record Leveled : Type 0 where
+  pub arena : Contents
+  pub kept : Kept
+
+-- what holds between calls
+pub record IsLeveled (v : Leveled) : Type 0 where
+  -- no list has the delimiter in it, and it is no known block
+  pub free : (storage : ℕ) → marks_at v.arena v.arena.delimiter storage ≡ None
+  pub blank : info_at v.arena v.arena.delimiter ≡ None
+  -- there is room for every slot that is held
+  pub room : (slot : ℕ) → IsSome (block_at v.arena slot) → HasRoomFor v.kept (slot + 1)
+  -- the unsettled slots are just those of the blocks that are not settled
+  pub unsettled : (slot : ℕ) → IsUnsettled v.kept slot ↔ (is_settled_at (block_at v.arena slot) ≡ false)
+  -- a slot without a known block has no level
+  pub unknown : (slot : ℕ) → info_at v.arena slot ≡ None → level_of_slot v.kept slot ≡ None
+
+-- the level of each slot is that of its block in a cluster
+abbrev pub AreLevels : Cluster → Leveled → Type 0
+AreLevels C v = (slot : ℕ) → level_of_slot v.kept slot ≡ level_in C (block_at v.arena slot)
+
+-- one slot was judged anew, in a cluster, and all others are as they were
+pub record IsJudgedAnew (C : Cluster) (old new : Leveled) (slot : ℕ) : Type 0 where
+  pub judged : IsJudged (rack_of C) (is_draining C) (is_multi_rack C) (block_at new.arena slot) new.kept slot
+  pub blocks : (other : ℕ) → other ≢ slot → block_at new.arena other ≡ block_at old.arena other
+  pub others : (other : ℕ) → other ≢ slot → IsSameAt old.kept new.kept other

@@ -1,0 +1,5 @@
+pub mod Judged
+pub mod Counted
+pub mod Kept
+pub mod Held
+pub mod Leveled

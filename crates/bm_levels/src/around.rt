@@ -1,0 +1,61 @@
+// The cluster as an event leaves it, as far as levels depend on it.
+ghost use Rattle.std.specs.Prelude.{◌≡◌, None};
+ghost use Rattle.bm_base.specs.Replicas as replicas;
+ghost use Rattle.bm_levels.specs.Judged.{drains_then};
+
+use bm_base::{NodeId, Rack, StorageId};
+use bm_topo::Topology;
+
+/// A node that begins or ceases to drain.
+#[derive(Clone, Copy)]
+pub struct Turning {
+    pub node: NodeId,
+    /// Whether it drains from now on.
+    pub drains: bool,
+}
+
+/// The cluster as an event leaves it: the one before, with what the event changes for replicas that stay.
+#[derive(Clone, Copy)]
+pub struct Around<'a> {
+    /// The cluster before the event.
+    pub topology: &'a Topology,
+    /// The node whose draining the event changes.
+    pub turning: Option<Turning>,
+    /// Whether the alive nodes stand on two racks or more after it.
+    pub multi: bool,
+}
+
+impl<'a> Around<'a> {
+    /// The cluster that an event leaves as it is.
+    pub(crate) fn still(topology: &'a Topology) -> Around<'a>
+        ensures topology { result.topology.now ≡ topology.now }
+        ensures turning { result.turning ≡ None }
+        ensures multi { result.multi ≡ replicas.is_multi_rack topology.now.cluster }
+    {
+        Around {
+            topology,
+            turning: None,
+            multi: topology.multi_rack(),
+        }
+    }
+
+    pub(crate) fn rack_of(&self, storage: StorageId) -> Option<Rack>
+        ensures { result ≡ replicas.rack_of self.now.topology.now.cluster storage }
+    {
+        self.topology.rack_of(storage)
+    }
+
+    /// Whether the node of a storage drains.
+    #[tactic(auto, unfolding(crate::specs::Judged::drains_then, bm_base::specs::Replicas::is_draining))]
+    pub(crate) fn is_draining(&self, storage: StorageId) -> bool
+        ensures { result ≡ drains_then self.now.topology.now.cluster self.now.turning storage }
+    {
+        let Some(turning) = self.turning else {
+            return self.topology.is_draining(storage);
+        };
+        match self.topology.node_of(storage) {
+            Some(node) if node == turning.node => turning.drains,
+            _ => self.topology.is_draining(storage),
+        }
+    }
+}

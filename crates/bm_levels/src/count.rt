@@ -1,0 +1,85 @@
+// What the replicas of one block come to, counted one after another.
+ghost use Rattle.std.specs.Prelude.{◌≡◌, ◌<◌, ◌-◌, ◌^◌};
+ghost use Rattle.bm_base.specs.Replicas as replicas;
+ghost use Rattle.bm_levels.specs.Judged as judged;
+ghost use Rattle.bm_levels.specs.Counted as counted;
+
+use crate::around::Around;
+use bm_base::{Marks, Rack, StorageId, Tag};
+
+/// What the replicas of a block come to, as far as they were looked at.
+#[derive(Clone, Copy)]
+pub(crate) struct Count {
+    pub live: usize,
+    pub drained: usize,
+    /// The rack of the first live replica that stands on one.
+    pub first: Option<Rack>,
+    /// Whether another rack was seen behind it.
+    pub is_spread: bool,
+    /// All are good, not in excess and not ordered to be deleted.
+    pub is_plain: bool,
+}
+
+impl Count {
+    pub(crate) fn none() -> Count
+        ensures { result ≡ counted.none }
+    {
+        Count {
+            live: 0,
+            drained: 0,
+            first: None,
+            is_spread: false,
+            is_plain: true,
+        }
+    }
+
+    /// One more replica.
+    #[tactic(auto, unfolding(crate::specs::Counted::one_more))]
+    pub(crate) fn add(&mut self, around: &Around<'_>, storage: StorageId, marks: Marks)
+        requires live { self.old.live < 2 ^ 64 - 1 }
+        requires drained { self.old.drained < 2 ^ 64 - 1 }
+        ensures { self.new ≡ counted.one_more (replicas.rack_of around.now.topology.now.cluster) (judged.drains_then around.now.topology.now.cluster around.now.turning) self.old storage marks }
+    {
+        self.is_plain = self.is_plain && is_plain(marks);
+        if !matches!(marks.tag, Tag::Good) || marks.excess {
+            return;
+        }
+        if around.is_draining(storage) {
+            self.drained += 1;
+            return;
+        }
+        self.live += 1;
+        if let Some(rack) = around.rack_of(storage) {
+            self.see(rack);
+        }
+    }
+
+    /// A live replica stands on this rack.
+    #[tactic(auto, unfolding(crate::specs::Counted::seen))]
+    fn see(&mut self, rack: Rack)
+        ensures { self.new ≡ counted.seen self.old rack }
+    {
+        match self.first {
+            None => self.first = Some(rack),
+            Some(first) => self.is_spread = self.is_spread || rack != first,
+        }
+    }
+
+    /// On how many racks the live ones stand: none, one, or two for more.
+    #[tactic(auto, unfolding(crate::specs::Counted::racks_of))]
+    pub(crate) fn racks(&self) -> usize
+        ensures { result ≡ counted.racks_of self.now }
+    {
+        if self.is_spread {
+            2
+        } else {
+            usize::from(self.first.is_some())
+        }
+    }
+}
+
+fn is_plain(marks: Marks) -> bool
+    ensures { result ≡ judged.is_plain marks }
+{
+    matches!(marks.tag, Tag::Good) && !marks.excess && !marks.ordered
+}

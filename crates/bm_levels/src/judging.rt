@@ -1,0 +1,60 @@
+// The judgement of one block.
+ghost use Rattle.std.specs.Prelude.{◌≡◌};
+ghost use Rattle.bm_base.specs.Replicas as replicas;
+ghost use Rattle.bm_arena.specs.Contents.{block_at};
+ghost use Rattle.bm_levels.specs.Judged as judged;
+ghost use Rattle.bm_levels.specs.Counted as counted;
+ghost use Rattle.bm_arena.specs.Holding.{replicas_at};
+
+use crate::around::Around;
+use crate::count::Count;
+use bm_arena::{Arena, Slot};
+use bm_base::{Level, level_of};
+
+/// What is kept of a block beside its replicas.
+#[derive(Clone, Copy)]
+pub(crate) struct Judged {
+    /// How urgently it wants replicas.
+    pub level: Option<Level>,
+    /// Whether a round need not look at it.
+    pub is_settled: bool,
+}
+
+/// Judges the block at a slot. One look at each of its replicas.
+#[tactic(auto, unfolding(crate::specs::Judged::level_by, crate::specs::Judged::is_settled_at))]
+pub(crate) fn judge(arena: &Arena, slot: Slot, around: &Around<'_>) -> Judged
+    ensures level { result.level ≡ judged.level_by (replicas.rack_of around.now.topology.now.cluster) (judged.drains_then around.now.topology.now.cluster around.now.turning) around.now.multi (block_at arena.now slot) }
+    ensures settled { result.is_settled ≡ judged.is_settled_at (block_at arena.now slot) }
+{
+    let count = count_all(arena, slot, around);
+    let Some(info) = arena.info(slot) else {
+        return Judged {
+            level: None,
+            is_settled: count.is_plain,
+        };
+    };
+    let level = level_of(
+        count.live,
+        count.drained,
+        info.repl,
+        count.racks(),
+        around.multi,
+    );
+    Judged {
+        level,
+        is_settled: count.is_plain && arena.triplet_count(slot) <= info.repl as usize,
+    }
+}
+
+/// Counts the replicas of the block at a slot.
+fn count_all(arena: &Arena, slot: Slot, around: &Around<'_>) -> Count
+    ensures { result ≡ counted.counted_on (replicas.rack_of around.now.topology.now.cluster) (judged.drains_then around.now.topology.now.cluster around.now.turning) counted.none (replicas_at arena.now slot) }
+{
+    let mut count = Count::none();
+    for place in 0..arena.triplet_count(slot) {
+        if let Some((storage, marks)) = arena.triplet_at(slot, place) {
+            count.add(around, storage, marks);
+        }
+    }
+    count
+}

@@ -1,0 +1,143 @@
+// What is kept of the blocks of a shard beside their replicas.
+ghost use Rattle.std.specs.Prelude.{◌≡◌, ◌≢◌, ◌↔◌, ℕ, ◌+◌, ◌<◌, Some, None, IfOk, IfErr, OnOk, IsOk};
+ghost use Rattle.bm_base.specs.declared.refusal.Refusal.TheVariants.{Memory};
+ghost use Rattle.bm_base.specs.declared.level.Level.{Level};
+ghost use Rattle.bm_base.specs.Replicas as replicas;
+ghost use Rattle.bm_base.specs.SlotLists.{Among};
+ghost use Rattle.bm_arena.specs.Contents.{block_at};
+ghost use Rattle.bm_queues.specs.Levels as queues;
+ghost use Rattle.bm_levels.specs.Judged.{drains_then};
+ghost use Rattle.bm_levels.specs.Kept.{level_of_slot, IsUnsettled, HasRoomFor, IsJudged, IsSameAt, slots_led};
+
+use crate::around::Around;
+use crate::judging::judge;
+use bm_arena::{Arena, Slot};
+use bm_base::{Level, Refusal};
+use bm_queues::{LevelLists, SlotSet, Walk};
+use bm_topo::Topology;
+use std::alloc::Global;
+use std::marker::Model;
+
+/// The level of each block, and the set of the blocks that are not settled, both by the slots of an arena.
+///
+/// A block is settled if all its replicas are good ones with no mark, and no more of them are there than are wanted: a round marks
+/// none of them and deletes none. Blocks that wait for a delete that was ordered stay unsettled until it is reported.
+#[derive(Drop)]
+pub struct KeptLevels {
+    levels: LevelLists,
+    unsettled: SlotSet,
+}
+
+impl Model for KeptLevels {
+    ghost use Rattle.bm_levels.specs.Kept.{Kept};
+
+    ghost Value = { Kept };
+
+    ghost view = { λ k. record { levels = k.levels; unsettled = k.unsettled } };
+}
+
+impl KeptLevels {
+    /// No slot has a level, and none is unsettled.
+    pub fn new(alloc: Global) -> Result<KeptLevels, Refusal>
+        ensures levels { IfOk result (λ k. (slot : ℕ) → level_of_slot k slot ≡ None) }
+        ensures settled { IfOk result (λ k. (slot : ℕ) → IsUnsettled k slot → ⊥) }
+        ensures refused { IfErr result (λ e. e ≡ Memory) }
+    {
+        Ok(KeptLevels {
+            levels: LevelLists::new(alloc)?,
+            unsettled: SlotSet::new(alloc)?,
+        })
+    }
+
+    /// Makes room for all slots below a bound; no call but this takes memory.
+    pub fn grow_to(&mut self, bound: usize) -> Result<(), Refusal>
+        ensures room { OnOk result (HasRoomFor self.new bound) }
+        ensures kept { (other : ℕ) → HasRoomFor self.old other → HasRoomFor self.new other }
+        ensures there { HasRoomFor self.old bound → IsOk result }
+        ensures same { (slot : ℕ) → IsSameAt self.old self.new slot }
+        ensures refused { IfErr result (λ e. e ≡ Memory) }
+    {
+        self.levels.grow_to(bound)?;
+        self.unsettled.grow_to(bound)
+    }
+
+    /// Judges the block at a slot anew.
+    pub fn judge(&mut self, arena: &Arena, slot: Slot, around: &Around<'_>)
+        requires room { (bound : ℕ) × (slot < bound) × HasRoomFor self.old bound }
+        ensures judged { IsJudged (replicas.rack_of around.now.topology.now.cluster) (drains_then around.now.topology.now.cluster around.now.turning) around.now.multi (block_at arena.now slot) self.new slot }
+        ensures others { (other : ℕ) → other ≢ slot → IsSameAt self.old self.new other }
+        ensures room { (bound : ℕ) → HasRoomFor self.old bound → HasRoomFor self.new bound }
+    {
+        let judged = judge(arena, slot, around);
+        self.levels.set(slot, judged.level);
+        if judged.is_settled {
+            self.unsettled.remove(slot);
+        } else {
+            self.unsettled.insert(slot);
+        }
+    }
+
+    /// Judges the block at a slot anew, in a cluster that stays as it is.
+    #[tactic(auto, unfolding(crate::specs::Judged::drains_then))]
+    pub(crate) fn judge_in(&mut self, topology: &Topology, arena: &Arena, slot: Slot)
+        requires room { (bound : ℕ) × (slot < bound) × HasRoomFor self.old bound }
+        ensures judged { IsJudged (replicas.rack_of topology.now.cluster) (replicas.is_draining topology.now.cluster) (replicas.is_multi_rack topology.now.cluster) (block_at arena.now slot) self.new slot }
+        ensures others { (other : ℕ) → other ≢ slot → IsSameAt self.old self.new other }
+        ensures room { (bound : ℕ) → HasRoomFor self.old bound → HasRoomFor self.new bound }
+    {
+        self.judge(arena, slot, &Around::still(topology));
+    }
+
+    /// Judges the blocks at these slots anew.
+    pub fn judge_all(&mut self, arena: &Arena, slots: &[Slot], around: &Around<'_>)
+        requires room { (bound : ℕ) × ((slot : ℕ) → Among slot slots.now → slot < bound) × HasRoomFor self.old bound }
+        ensures judged { (slot : ℕ) → Among slot slots.now → IsJudged (replicas.rack_of around.now.topology.now.cluster) (drains_then around.now.topology.now.cluster around.now.turning) around.now.multi (block_at arena.now slot) self.new slot }
+        ensures others { (slot : ℕ) → (Among slot slots.now → ⊥) → IsSameAt self.old self.new slot }
+        ensures room { (bound : ℕ) → HasRoomFor self.old bound → HasRoomFor self.new bound }
+    {
+        for slot in slots {
+            self.judge(arena, *slot, around);
+        }
+    }
+
+    /// Judges all blocks anew: where the alive nodes come to stand on two racks, or no longer do.
+    pub fn judge_each(&mut self, arena: &Arena, around: &Around<'_>)
+        requires { (slot : ℕ) → Among slot (slots_led arena.now) → HasRoomFor self.old (slot + 1) }
+        ensures judged { (slot : ℕ) → Among slot (slots_led arena.now) → IsJudged (replicas.rack_of around.now.topology.now.cluster) (drains_then around.now.topology.now.cluster around.now.turning) around.now.multi (block_at arena.now slot) self.new slot }
+        ensures others { (slot : ℕ) → (Among slot (slots_led arena.now) → ⊥) → IsSameAt self.old self.new slot }
+        ensures room { (bound : ℕ) → HasRoomFor self.old bound → HasRoomFor self.new bound }
+    {
+        for place in 0..arena.count() {
+            if let Some(slot) = arena.slot_at(place) {
+                self.judge(arena, slot, around);
+            }
+        }
+    }
+
+    /// The level of the block at a slot.
+    pub fn level(&self, slot: Slot) -> Option<Level>
+        ensures { result ≡ level_of_slot self.now slot }
+    {
+        if slot < self.levels.room() {
+            self.levels.level(slot)
+        } else {
+            None
+        }
+    }
+
+    /// The slots at a level, in any order.
+    pub fn at_level(&self, level: Level) -> Walk<'_>
+        ensures slots { result ≡ queues.slots_of self.now.levels level }
+        ensures exact { (slot : ℕ) → Among slot result ↔ (level_of_slot self.now slot ≡ Some level) }
+    {
+        self.levels.lawful();
+        self.levels.walk(level)
+    }
+
+    /// The slots at which a round has to look, in any order.
+    pub fn unsettled(&self) -> Walk<'_>
+        ensures { result ≡ self.now.unsettled.slots }
+    {
+        self.unsettled.walk()
+    }
+}

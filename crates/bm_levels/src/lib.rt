@@ -1,0 +1,19 @@
+//! How urgent the blocks of a shard are, and at which of them a round has to look.
+//!
+//! The blocks and replicas of a shard stand in an arena. Beside it stand, by the slots of the arena, the level of each block and the
+//! set of the blocks that are not settled: those of which a round may mark or delete a replica. Where the replicas of a block change,
+//! the block is judged anew from its own replicas, with one look at each of them. Nothing here takes memory but `new`, `grow_to` and
+//! `ready_block`.
+#![tactic(auto)]
+
+mod around;
+mod count;
+mod judging;
+mod kept;
+mod leveled;
+#[cfg(test)]
+mod tests;
+
+pub use around::{Around, Turning};
+pub use kept::KeptLevels;
+pub use leveled::LeveledBlocks;
