@@ -1,26 +1,25 @@
 -- The number that is found for an option.
-use Rattle.std.proofs.Common.{zero, suc, ◌||◌, fold, ◌≡◌, ◌∙◌, ◌<◌, ◌≤◌, ◌^◌, ◌==◌, cond, drop, take, ap, map, ℕ, Bool, true, false, not, List, [], ◌∷◌, ◌++◌, length, length-append, Option, Some, None, refl, sym, subst, inl, inr, arith, codes, true≢false, is_some}
-use Rattle.std.specs.List.{All, list_all, list_any, slice_index_or}
+use Rattle.std.proofs.Common.{zero, suc, ◌||◌, fold, ◌≡◌, ◌∙◌, ◌<◌, ◌≤◌, ◌^◌, drop, take, ap, map, ℕ, Bool, true, false, not, List, [], ◌∷◌, ◌++◌, length, Option, Some, None, refl, sym, subst, inl, inr, arith, codes, true≢false, is_some}
+use Rattle.std.specs.List.{list_any, slice_index_or}
 use Rattle.std.specs.Option.{option_map_or}
 use Rattle.std.specs.Str.{bytes_eq}
 use Rattle.std.specs.Str.Parse.{IsNumeral, starts_with_minus, without_leading_plus}
-use Rattle.std.specs.Prelude.{pos, unwrap_or}
+use Rattle.std.specs.Prelude.{pos}
 use Rattle.std.proofs.lemmas.Int.{ints}
 use Rattle.std.proofs.lemmas.List.{get_or-map, length-map}
 use Rattle.std.proofs.lemmas.List.Sums.{AllPass-from_list_all}
 use Rattle.std.proofs.lemmas.Slice.Eq.{bytes_eq-Decides}
 use Rattle.clap.specs.Lexer.{without_minus}
 use Rattle.clap.specs.Facts.{args_of, groups_of, unwrap_or_range}
-use Rattle.clap.specs.Built.{IsAuto, IsParsedFrom, NamesNoGroup}
+use Rattle.clap.specs.Built.{IsParsedFrom, NamesNoGroup}
 use Rattle.clap.specs.Texts.{items_of}
 use Rattle.clap.specs.Matches.{first_value, found_of, one_text}
 use Rattle.clap.specs.Values.{IsSignedIn}
-use Rattle.clap.specs.Walk.{Rule, Text, first_of, with_default, is_empty, is_simple_arg, rule_of, rows_of, texts}
+use Rattle.clap.specs.Walk.{Rule, Text, first_of, with_default, is_simple_arg, rule_of, rows_of, texts}
 use Rattle.clap.specs.Simple.{App, HasMatchesOf, app_of, built, has_plain_fields, is_simple, matches_of, new_rule}
 use Rattle.clap.specs.declared.builder.arg.Arg.{Arg}
 use Rattle.clap.specs.declared.builder.command.Command.{Command}
 use Rattle.clap.specs.declared.builder.command.Command.TheViews.{out-Command}
-use Rattle.clap.specs.declared.builder.value_parser.ValueParser.{ValueParser}
 use Rattle.clap.specs.declared.builder.value_parser.ValueParser.TheVariants.{Signed}
 use Rattle.clap.specs.declared.parser.matches.ArgMatches.{ArgMatches}
 use Rattle.clap.proofs.SimpleLemmas.{is_false, is_nil}
@@ -227,7 +226,7 @@ given_number : (words : List Text) (name d : Text) (most : ℕ) (w : Place name 
 given_number words name d most w t found =
     let apart = neither _ _ w.filled_alone in
     let split : first_of name (fold with_default (rows_given words) (w.filled_before ++ w.filled ∷ w.filled_after)) ≡ Some t
-        = ap (λ (l : List Rule). first_of name (fold with_default (rows_given words) l)) (sym w.filled_rules) ∙ found in
+    = ap (λ (l : List Rule). first_of name (fold with_default (rows_given words) l)) (sym w.filled_rules) ∙ found in
     subst (λ (u : Text). list_any (has_name u) w.filled_before ≡ false → list_any (has_name u) w.filled_after ≡ false
     → first_of u (fold with_default (rows_given words) (w.filled_before ++ w.filled ∷ w.filled_after)) ≡ Some t
     → option_map_or number_of (first_of u (rows_given words)) (number_of d) ≡ number_of t) w.filled_name

@@ -1,13 +1,11 @@
 -- What is found for an option is the text that the words give, and otherwise its standard text.
-use Rattle.std.proofs.Common.{◌≡◌, ◌∙◌, ap, ℕ, Bool, true, false, List, [], ◌∷◌, ◌++◌, fold, Option, Some, None, refl, sym}
-use Rattle.std.specs.Prelude.{find, option_and_then, slice_get}
+use Rattle.std.proofs.Common.{◌≡◌, ◌∙◌, ap, Bool, true, false, List, [], ◌∷◌, ◌++◌, fold, Option, Some, None, refl, sym}
+use Rattle.std.specs.Prelude.{find, slice_get}
 use Rattle.std.specs.List.{list_any}
 use Rattle.std.specs.Option.{option_map_or, option_or}
 use Rattle.std.specs.Str.{bytes_eq}
 use Rattle.std.proofs.lemmas.List.Folds.{find-append}
 use Rattle.std.proofs.lemmas.List.Sums.{fold-append}
-use Rattle.clap.specs.Facts.{parser_of_value}
-use Rattle.clap.specs.Values.{reading_of}
 use Rattle.clap.specs.Walk.{Row, Rule, Text, at_row, default_rows, first_of, has_row, more_values, reading_by, with_default}
 use Rattle.clap.specs.declared.parser.matches.ValueSource.TheVariants.{DefaultValue}
 use Rattle.bm_tool.specs.Options.{number_of}
@@ -112,7 +110,7 @@ pub given_or_standard : (d : Text) (before : List Rule) (a : Rule) (after : List
     → option_map_or number_of (first_of a.id rows) (number_of d) ≡ number_of t
 given_or_standard d before a after rows t own defaults none_before none_after found =
     let split : first_of a.id (fold with_default (fold with_default rows before) (a ∷ after)) ≡ Some t
-        = ap (first_of a.id) (sym (fold-append with_default rows before (a ∷ after))) ∙ found in
+    = ap (first_of a.id) (sym (fold-append with_default rows before (a ∷ after))) ∙ found in
     let last = sym (other_defaults a.id after (with_default (fold with_default rows before) a) none_after) ∙ split in
     let here = own_default d a (fold with_default rows before) t own defaults last in
     rw (other_defaults a.id before rows none_before) at here

@@ -66,13 +66,7 @@ fn command<'a>(alloc: Global) -> Result<Command<'a>, AllocError>
 }
 
 /// An option with a whole number from 1 to `most`.
-fn option<'a>(
-    alloc: Global,
-    name: &'a str,
-    standard: &'a str,
-    most: u32,
-    help: &'a str,
-) -> Arg<'a>
+fn option<'a>(alloc: Global, name: &'a str, standard: &'a str, most: u32, help: &'a str) -> Arg<'a>
     ensures rule { rule_of result ≡ option_rule name.entry.now standard.entry.now most }
     ensures local { result.global ≡ false }
 {

@@ -1,12 +1,12 @@
 -- The configuration from the five numbers that are read.
-use Rattle.std.proofs.Common.{◌≡◌, ◌∙◌, ◌≤◌, ◌&&◌, ap, codes, refl, sym, rules, arith, true, false, not, ℕ, List, map, None}
-use Rattle.std.specs.Prelude.{string_bytes, nat_le}
+use Rattle.std.proofs.Common.{◌≡◌, ◌∙◌, ◌≤◌, ap, codes, refl, sym, arith, true, ℕ, List, map, None}
+use Rattle.std.specs.Prelude.{string_bytes}
 use Rattle.clap.specs.Walk.{Text}
 use Rattle.clap.specs.Simple.{App, app_of}
 use Rattle.clap.specs.Faults.{fault_of, is_simple_and_free}
-use Rattle.bm_base.specs.Configuration.{config_refusal, is_allowed, is_up_to, standard}
+use Rattle.bm_base.specs.Configuration.{config_refusal, is_allowed, is_up_to}
 use Rattle.bm_base.specs.declared.config.Config.{Config}
-use Rattle.bm_tool.specs.Options.{configured_by, number_for, tool}
+use Rattle.bm_tool.specs.Options.{configured_by, tool}
 use Rattle.bm_tool.proofs.OptionNumbers.{IsGiven, option_number, shards_place, workers_place, work_place, invalidate_place, pend_place}
 use Rattle.bm_tool.proofs.options.config_of.Goals as goal
 
@@ -35,9 +35,13 @@ up_to most n least at_most = grind arith
 
 within : (words : List Text) (c : Config) → AllGiven words c → config_refusal c ≡ None
 within words c g =
-    let all : is_allowed c ≡ true = rw (up_to 64 c.shards g.shards.least g.shards.at_most, up_to 16 c.workers g.workers.least g.workers.at_most,
-    up_to 1000 c.work g.work.least g.work.at_most, up_to 1000000 c.invalidate g.invalidate.least g.invalidate.at_most,
-    up_to 1000000 c.pend g.pend.least g.pend.at_most) refl in
+    let all : is_allowed c ≡ true = rw (
+      up_to 64 c.shards g.shards.least g.shards.at_most,
+      up_to 16 c.workers g.workers.least g.workers.at_most,
+      up_to 1000 c.work g.work.least g.work.at_most,
+      up_to 1000000 c.invalidate g.invalidate.least g.invalidate.at_most,
+      up_to 1000000 c.pend g.pend.least g.pend.at_most,
+    ) refl in
     rw all refl
 
 pub returns : goal.returns
