@@ -14,3 +14,4 @@ pub mod Deferred
 pub mod OneRack
 pub mod Usable
 pub mod Drained
+pub mod Obeying

@@ -7,3 +7,4 @@ pub mod Transfers
 pub mod Rounds
 pub mod Commands
 pub mod Choices
+pub mod Obedience

@@ -9,6 +9,7 @@ pub mod commands;
 pub mod deletes;
 pub mod levels;
 pub mod live;
+pub mod obedience;
 pub mod rounds;
 pub mod surplus;
 pub mod transfers;

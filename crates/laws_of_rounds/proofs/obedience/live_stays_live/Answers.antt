@@ -1,0 +1,7 @@
+use Rattle.bm_base.proofs.Each.{each_all}
+use Rattle.laws_of_rounds.specs.Obedience.{Obeys}
+use Rattle.laws_of_rounds.proofs.Obeying.{stays_live}
+use Rattle.laws_of_rounds.proofs.obedience.live_stays_live.Goals as goal
+
+pub returns : goal.returns
+returns c = λ M es b s only there. stays_live M b s there es (each_all (Obeys M) es only)

@@ -1,0 +1,67 @@
+-- Laws of obedience: what a round leads to where the nodes do what it commands, in whatever order, and nothing else happens.
+use Rattle.std.specs.Prelude.{◌≡◌, ℕ, ◌+◌, ◌≤◌, ◌⊎◌, true, List, [], ◌∷◌, ◌++◌, map, length}
+use Rattle.std.specs.List.{All}
+use Rattle.bm_base.specs.declared.event.Event.{Event}
+use Rattle.bm_base.specs.declared.event.Event.TheVariants.{Received, Deleted}
+use Rattle.bm_base.specs.declared.commands.Transfer.{Transfer}
+use Rattle.bm_base.specs.declared.commands.Delete.{Delete}
+use Rattle.bm_base.specs.State.{State}
+use Rattle.bm_base.specs.Lists.{has}
+use Rattle.bm_base.specs.Replicas.{live}
+use Rattle.bm_base.specs.Refusals.{refusal_of, calls_spent}
+use Rattle.bm_base.specs.Calls.{after_event}
+use Rattle.bm_base.specs.NextRound.{IsAmong, IsTransferCommanded, transfers_commanded, deletes_commanded, after_round, live_after}
+use Rattle.laws_of_rounds.specs.Transfers.{copies_chosen}
+
+-- what is told once a transfer is obeyed: its target has received the block, with the transfer's stamp
+abbrev pub copied : Transfer → Event
+copied t = Received t.target t.block t.stamp
+
+-- what is told once a delete is obeyed
+abbrev pub erased : Delete → Event
+erased d = Deleted d.storage d.block
+
+-- the event tells that a command of the next round is obeyed
+abbrev pub Obeys : State → Event → Type 0
+Obeys M e = ((t : Transfer) × IsTransferCommanded M t × (e ≡ copied t)) ⊎ ((d : Delete) × IsAmong (deletes_commanded M) d × (e ≡ erased d))
+
+-- Nothing but obedience to the next round is told: of all its commands or of some, in any order, of one also again.
+abbrev pub OnlyObeys : State → List Event → Type 0
+OnlyObeys M es = All (Obeys M) es
+
+-- All commands of the next round are obeyed, and nothing else is told.
+pub record ObeysAll (M : State) (es : List Event) : Type 0 where
+  pub only : OnlyObeys M es
+  pub each_copied : (t : Transfer) → IsTransferCommanded M t → IsAmong es (copied t)
+  pub each_erased : (d : Delete) → IsAmong (deletes_commanded M) d → IsAmong es (erased d)
+
+-- the state that events leave, one after another, of which none is refused
+abbrev pub after_events : State → List Event → State
+after_events M [] = M
+after_events M (e ∷ es) = after_events (after_event M e) es
+
+-- the state once these have followed the next round, and the live replicas of a block in it
+abbrev pub after_obeying : State → List Event → State
+after_obeying M es = after_events (after_round M) es
+
+abbrev pub live_obeying : State → List Event → ℕ → List ℕ
+live_obeying M es b = let N = after_obeying M es in live N.cluster N.holdings b
+
+-- All commands are obeyed where the transfers are, as they are listed, node by node, and then the deletes.
+abbrev pub as_listed : State → List Event
+as_listed M = map copied (transfers_commanded M) ++ map erased (deletes_commanded M)
+
+abbrev pub ListedOrderObeysAll : Type 0
+ListedOrderObeysAll = (M : State) → ObeysAll M (as_listed M)
+
+-- what is live after the round stays live, however far it is obeyed
+abbrev pub LiveStaysLive : Type 0
+LiveStaysLive = (M : State) (es : List Event) (b s : ℕ) → OnlyObeys M es → has (live_after M b) s ≡ true → has (live_obeying M es b) s ≡ true
+
+-- the target of each transfer that the round commands is live once all commands are obeyed
+abbrev pub TargetBecomesLive : Type 0
+TargetBecomesLive = (M : State) (es : List Event) (t : Transfer) → ObeysAll M es → IsTransferCommanded M t → has (live_obeying M es t.block) t.target ≡ true
+
+-- so a block has then as many live replicas as after the round, and one more for each copy that the round has chosen for it
+abbrev pub NoneIsWorseOff : State → Type 0
+NoneIsWorseOff M = (es : List Event) (b : ℕ) → ObeysAll M es → length (live_after M b) + copies_chosen M b ≤ length (live_obeying M es b)

@@ -1,0 +1,26 @@
+// What a round leads to where the nodes obey it, in whatever order, and nothing else happens.
+ghost use Rattle.bm_base.specs.AllStates.{InLawfulStates, AfterAllCalls};
+ghost use Rattle.laws_of_rounds.specs.Obedience as law;
+
+/// What a round commands is obeyed where first the transfers are done, node by node, and then the deletes. The other laws here
+/// hold in this order and in every other one.
+pub fn listed_order_obeys_all()
+    ensures { law.ListedOrderObeysAll }
+{}
+
+/// What is live after a round stays live while the nodes obey it, all of its commands or some of them.
+pub fn live_stays_live()
+    ensures { law.LiveStaysLive }
+{}
+
+/// The target of each transfer that a round commands is live once the round is obeyed.
+pub fn target_becomes_live()
+    ensures { law.TargetBecomesLive }
+{}
+
+/// Once a round is obeyed, each block has as many live replicas as after the round, and one more for each copy that the round
+/// has chosen for it: no block is further from its replication, and one for which a target was chosen has more replicas.
+pub fn none_is_worse_off()
+    ensures lawful { InLawfulStates law.NoneIsWorseOff }
+    ensures reached { AfterAllCalls law.NoneIsWorseOff }
+{}
