@@ -15,3 +15,4 @@ pub mod OneRack
 pub mod Usable
 pub mod Drained
 pub mod Obeying
+pub mod Obeyed

@@ -87,7 +87,7 @@ module _ (H : Holdings) (p : ReplicaId) (stamp : Stamp) (i : BlockInfo) (known :
 
 -- Replicas that a copy replaces.
 
-by_never : (b : Bool) → (b ≡ true → ⊥) → b ≡ false
+pub by_never : (b : Bool) → (b ≡ true → ⊥) → b ≡ false
 by_never true h = absurd (h refl)
 by_never false h = refl
 
@@ -95,7 +95,7 @@ on_one_node : (C : Cluster) (s t : ℕ) (o : Option ℕ) → node_of C s ≡ o �
 on_one_node C s t None at e = absurd (false≢true e)
 on_one_node C s t (Some n) at e = node_is C n t e ∙ sym at
 
-replaced_is : (C : Cluster) (p q : ReplicaId) → replaces C p q ≡ true → ((q.block == p.block) ≡ true) × (node_of C q.storage ≡ node_of C p.storage) × ((q.storage == p.storage) ≡ false)
+pub replaced_is : (C : Cluster) (p q : ReplicaId) → replaces C p q ≡ true → ((q.block == p.block) ≡ true) × (node_of C q.storage ≡ node_of C p.storage) × ((q.storage == p.storage) ≡ false)
 unfolding replaces are_sisters
 replaced_is C p q e =
     let sisters = and_second (q.block == p.block) (are_sisters C p.storage q.storage) e in (
@@ -151,7 +151,7 @@ stamp_known : (M : State) (t : Transfer) → IsTransferCommanded M t → (i : Bl
 stamp_known M t h = let at = commanded_chosen M t h in (source_usable M at.0 at.1 t at.2).1
 
 module _ (M N : State) (beside : IsBeside M N) where
-  beside_copy : (t : Transfer) → IsBeside M (after_event N (copied t))
+  pub beside_copy : (t : Transfer) → IsBeside M (after_event N (copied t))
   unfolding after_event change_cluster change_holdings enter
   beside_copy t = record { cluster = beside.cluster; blocks = beside.blocks }
 
@@ -190,7 +190,7 @@ module _ (M N : State) (beside : IsBeside M N) where
             ap (λ o. option_map_or is_usable o false) (all_stays (not (replaces N.cluster key q)) (get N.holdings.replicas q)
             (not_failed (replaces N.cluster key q) (ap (λ C. replaces C key q) beside.cluster ∙ safe.not_replaced t h))) ∙ there
 
-    copy_arrives : IsUnspoilt N.holdings key → IsUsable (after_event N (copied t)).holdings key
+    pub copy_arrives : IsUnspoilt N.holdings key → IsUsable (after_event N (copied t)).holdings key
     copy_arrives clean =
         ap (λ o. option_map_or is_usable o false)
         (get_copied key ∙ ap (λ b. cond b (Some (entered N.holdings key t.stamp)) (staying (not (replaces N.cluster key key)) (get N.holdings.replicas key))) (key_itself by_replica key))
@@ -213,22 +213,22 @@ module _ (M N : State) (beside : IsBeside M N) where
 
 -- Events.
 
-abbrev UnspoiltBeside : State → ReplicaId → State → Type 0
+abbrev pub UnspoiltBeside : State → ReplicaId → State → Type 0
 UnspoiltBeside M q N = IsBeside M N × IsUnspoilt N.holdings q
 
-abbrev UsableBeside : State → ReplicaId → State → Type 0
+abbrev pub UsableBeside : State → ReplicaId → State → Type 0
 UsableBeside M q N = IsBeside M N × IsUsable N.holdings q
 
-step_unspoilt : (M : State) (q : ReplicaId) (N : State) (e : Event) → UnspoiltBeside M q N → Obeys M e → UnspoiltBeside M q (after_event N e)
+pub step_unspoilt : (M : State) (q : ReplicaId) (N : State) (e : Event) → UnspoiltBeside M q N → Obeys M e → UnspoiltBeside M q (after_event N e)
 step_unspoilt M q N e h (inl c) = subst (λ x. UnspoiltBeside M q (after_event N x)) (sym c.2) (beside_copy M N h.0 c.0, copy_unspoilt M N h.0 c.0 c.1 q h.1)
 step_unspoilt M q N e h (inr c) = subst (λ x. UnspoiltBeside M q (after_event N x)) (sym c.2) (beside_erasure M N h.0 c.0, erasure_unspoilt M N h.0 c.0 c.1 q h.1)
 
-step_usable : (M : State) (q : ReplicaId) → IsSafe M q → (N : State) (e : Event) → UsableBeside M q N → Obeys M e → UsableBeside M q (after_event N e)
+pub step_usable : (M : State) (q : ReplicaId) → IsSafe M q → (N : State) (e : Event) → UsableBeside M q N → Obeys M e → UsableBeside M q (after_event N e)
 step_usable M q safe N e h (inl c) = subst (λ x. UsableBeside M q (after_event N x)) (sym c.2) (beside_copy M N h.0 c.0, copy_keeps M N h.0 c.0 c.1 q safe h.1)
 step_usable M q safe N e h (inr c) = subst (λ x. UsableBeside M q (after_event N x)) (sym c.2) (beside_erasure M N h.0 c.0, erasure_keeps M N h.0 c.0 c.1 q safe h.1)
 
 -- what each event that obeys keeps, they keep together
-through : (M : State) (P : State → Type 0) → ((N : State) (e : Event) → P N → Obeys M e → P (after_event N e)) → (N : State) → P N → (es : List Event) → Each (Obeys M) es → P (after_events N es)
+pub through : (M : State) (P : State → Type 0) → ((N : State) (e : Event) → P N → Obeys M e → P (after_event N e)) → (N : State) → P N → (es : List Event) → Each (Obeys M) es → P (after_events N es)
 through M P step N h [] each = h
 through M P step N h (e ∷ es) each = through M P step (after_event N e) (step N e h each.0) es each.1
 
@@ -241,7 +241,7 @@ passes : (d : Bool) (o : Option Marks) → option_map_or is_usable o false ≡ t
 passes d None e staying = e
 passes d (Some m) e staying = (λ i. e i && not (staying i))
 
-live_now : (C : Cluster) (H : Holdings) (b s : ℕ) → IsUsable H (replica_at b s) → is_draining C s ≡ false → has (live C H b) s ≡ true
+pub live_now : (C : Cluster) (H : Holdings) (b s : ℕ) → IsUsable H (replica_at b s) → is_draining C s ≡ false → has (live C H b) s ≡ true
 live_now C H b s there staying = has_where (is_live_on C) H b s ∙ passes (is_draining C s) (get H.replicas (replica_at b s)) there staying
 
 -- a replica that is there after the round was there before it
