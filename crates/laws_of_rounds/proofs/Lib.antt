@@ -16,3 +16,4 @@ pub mod Usable
 pub mod Drained
 pub mod Obeying
 pub mod Obeyed
+pub mod Gained

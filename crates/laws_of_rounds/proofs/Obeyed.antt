@@ -37,7 +37,7 @@ use Rattle.laws_of_rounds.proofs.Obeying.{IsUsable, IsUnspoilt, IsBeside, IsSafe
 -- Two of a list.
 
 -- R holds of each two, the earlier one first
-abbrev OfTwo : {X : Type 0} → (X → X → Type 0) → List X → Type 0
+abbrev pub OfTwo : {X : Type 0} → (X → X → Type 0) → List X → Type 0
 OfTwo R [] = Unit {0}
 OfTwo R (x ∷ xs) = Each (R x) xs × OfTwo R xs
 
@@ -66,10 +66,10 @@ one_or_two R turned (z ∷ xs) x y h here there = by_parts (among_parts z xs x h
 -- Targets.
 
 -- not copies of one block to one node
-abbrev GoApart : Cluster → Transfer → Transfer → Type 0
+abbrev pub GoApart : Cluster → Transfer → Transfer → Type 0
 GoApart C t u = t.block ≡ u.block → node_of C t.target ≡ node_of C u.target → ⊥
 
-targets_apart : (M : State) → OfTwo (GoApart M.cluster) (transfers_chosen M)
+pub targets_apart : (M : State) → OfTwo (GoApart M.cluster) (transfers_chosen M)
 targets_apart M = of_two (GoApart M.cluster) (transfers_chosen M) (λ front back u is t at same node. (fresh_node M front back u is).no_other t at same node)
 
 -- two copies of a block to one node are one

@@ -155,7 +155,7 @@ module _ (M N : State) (beside : IsBeside M N) where
   unfolding after_event change_cluster change_holdings enter
   beside_copy t = record { cluster = beside.cluster; blocks = beside.blocks }
 
-  beside_erasure : (d : Delete) → IsBeside M (after_event N (erased d))
+  pub beside_erasure : (d : Delete) → IsBeside M (after_event N (erased d))
   unfolding after_event change_cluster change_holdings remove_replica
   beside_erasure d = record { cluster = beside.cluster; blocks = beside.blocks }
 
@@ -168,7 +168,7 @@ module _ (M N : State) (beside : IsBeside M N) where
         let is = stamp_known M t h in
         entered_usable N.holdings key t.stamp is.0 (ap (λ m. get m t.block) beside.blocks ∙ is.1) is.2 clean
 
-    get_copied : (q : ReplicaId) → get (after_event N (copied t)).holdings.replicas q
+    pub get_copied : (q : ReplicaId) → get (after_event N (copied t)).holdings.replicas q
         ≡ cond (eq_by_cmp replica_cmp q key) (Some (entered N.holdings key t.stamp)) (staying (not (replaces N.cluster key q)) (get N.holdings.replicas q))
     get_copied q = ap (λ (G : Holdings). get G.replicas q) (after_copy N t) ∙ get_entered N.cluster N.holdings key t.stamp q
 
@@ -197,7 +197,7 @@ module _ (M N : State) (beside : IsBeside M N) where
         ∙ copy_usable clean
 
   module _ (d : Delete) (at : IsAmong (deletes_commanded M) d) where
-    get_without : (q : ReplicaId) → get (after_event N (erased d)).holdings.replicas q ≡ cond (eq_by_cmp replica_cmp q (replica_at d.block d.storage)) None (get N.holdings.replicas q)
+    pub get_without : (q : ReplicaId) → get (after_event N (erased d)).holdings.replicas q ≡ cond (eq_by_cmp replica_cmp q (replica_at d.block d.storage)) None (get N.holdings.replicas q)
     get_without q = ap (λ (G : Holdings). get G.replicas q) (after_erasure N d) ∙ get_erased N.holdings (replica_at d.block d.storage) q
 
     erasure_unspoilt : (q : ReplicaId) → IsUnspoilt N.holdings q → IsUnspoilt (after_event N (erased d)).holdings q
@@ -244,6 +244,11 @@ passes d (Some m) e staying = (λ i. e i && not (staying i))
 pub live_now : (C : Cluster) (H : Holdings) (b s : ℕ) → IsUsable H (replica_at b s) → is_draining C s ≡ false → has (live C H b) s ≡ true
 live_now C H b s there staying = has_where (is_live_on C) H b s ∙ passes (is_draining C s) (get H.replicas (replica_at b s)) there staying
 
+pub live_usable : (C : Cluster) (H : Holdings) (b s : ℕ) → has (live C H b) s ≡ true → IsUsable H (replica_at b s) × (is_draining C s ≡ false)
+live_usable C H b s h =
+    let is = (live_is C H b s).0 h in
+    (ap (λ o. option_map_or is_usable o false) is.1 ∙ ap (λ t. is_good t && not is.0.excess) is.2 ∙ ap not is.3, is.4)
+
 -- a replica that is there after the round was there before it
 pub there_before : (M : State) (q : ReplicaId) (m : Marks) → get (after_round M).holdings.replicas q ≡ Some m → is_some (get M.holdings.replicas q) ≡ true
 there_before M q m found =
@@ -251,19 +256,11 @@ there_before M q m found =
     is_there (get M.holdings.replicas q) was.0 was.1
 
 module _ (M : State) (b s : ℕ) (live_there : has (live_after M b) s ≡ true) where
-  abbrev live_marks : (m : Marks) × (get (after_round M).holdings.replicas (replica_at b s) ≡ Some m) × (m.tag ≡ Good) × (m.excess ≡ false) × (is_draining M.cluster s ≡ false)
-  live_marks = (live_is M.cluster (after_round M).holdings b s).0 live_there
-
-  live_usable : IsUsable (after_round M).holdings (replica_at b s)
-  live_usable =
-      let is = live_marks in
-      ap (λ o. option_map_or is_usable o false) is.1 ∙ ap (λ t. is_good t && not is.0.excess) is.2 ∙ ap not is.3
-
   pub target_elsewhere : (t : Transfer) → IsTransferCommanded M t → b ≡ t.block → node_of M.cluster s ≡ node_of M.cluster t.target → ⊥
   target_elsewhere t h same node =
       let at = commanded_chosen M t h in
       let fresh = fresh_node M at.0 at.1 t at.2 in
-      let is = live_marks in
+      let is = (live_is M.cluster (after_round M).holdings b s).0 live_there in
       fresh.no_replica s (subst (λ c. is_some (get M.holdings.replicas (replica_at c s)) ≡ true) same (there_before M (replica_at b s) is.0 is.1)) node
 
   live_safe : IsSafe M (replica_at b s)
@@ -276,5 +273,6 @@ module _ (M : State) (b s : ℕ) (live_there : has (live_after M b) s ≡ true) 
 
   pub stays_live : (es : List Event) → Each (Obeys M) es → has (live (after_events (after_round M) es).cluster (after_events (after_round M) es).holdings b) s ≡ true
   stays_live es each =
-      let end = through M (UsableBeside M (replica_at b s)) (step_usable M (replica_at b s) live_safe) (after_round M) (beside_round M, live_usable) es each in
-      live_now (after_events (after_round M) es).cluster (after_events (after_round M) es).holdings b s end.1 (ap (λ C. is_draining C s) end.0.cluster ∙ live_marks.4)
+      let here = live_usable M.cluster (after_round M).holdings b s live_there in
+      let end = through M (UsableBeside M (replica_at b s)) (step_usable M (replica_at b s) live_safe) (after_round M) (beside_round M, here.0) es each in
+      live_now (after_events (after_round M) es).cluster (after_events (after_round M) es).holdings b s end.1 (ap (λ C. is_draining C s) end.0.cluster ∙ here.1)

@@ -62,6 +62,6 @@ LiveStaysLive = (M : State) (es : List Event) (b s : ℕ) → OnlyObeys M es →
 abbrev pub TargetBecomesLive : Type 0
 TargetBecomesLive = (M : State) (es : List Event) (t : Transfer) → ObeysAll M es → IsTransferCommanded M t → has (live_obeying M es t.block) t.target ≡ true
 
--- so a block has then as many live replicas as after the round, and one more for each copy that the round has chosen for it
-abbrev pub NoneIsWorseOff : State → Type 0
-NoneIsWorseOff M = (es : List Event) (b : ℕ) → ObeysAll M es → length (live_after M b) + copies_chosen M b ≤ length (live_obeying M es b)
+-- so a block has then the live replicas that it has after the round, and one more for each copy that the round chooses for it
+abbrev pub EachCopyIsGained : State → Type 0
+EachCopyIsGained M = (es : List Event) (b : ℕ) → ObeysAll M es → length (live_obeying M es b) ≡ length (live_after M b) + copies_chosen M b

@@ -19,8 +19,8 @@ pub fn target_becomes_live()
 {}
 
 /// Once a round is obeyed, each block has as many live replicas as after the round, and one more for each copy that the round
-/// has chosen for it: no block is further from its replication, and one for which a target was chosen has more replicas.
-pub fn none_is_worse_off()
-    ensures lawful { InLawfulStates law.NoneIsWorseOff }
-    ensures reached { AfterAllCalls law.NoneIsWorseOff }
+/// chooses for it: no block is further from its replication than after the round, and one that gets a copy has more replicas.
+pub fn each_copy_is_gained()
+    ensures lawful { InLawfulStates law.EachCopyIsGained }
+    ensures reached { AfterAllCalls law.EachCopyIsGained }
 {}
