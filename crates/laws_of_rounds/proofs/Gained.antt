@@ -4,7 +4,7 @@ use Rattle.std.specs.Option.{option_map_or}
 use Rattle.std.specs.Ordering.{eq_by_cmp}
 use Rattle.std.specs.List.{list_any}
 use Rattle.std.proofs.Common.{cond, refl, sym, ap, subst, ◌∙◌, arith, inl, inr, append_assoc}
-use Rattle.std.proofs.lemmas.Bool.{eqb-true, false≢true, true≢false}
+use Rattle.std.proofs.lemmas.Bool.{eqb-true, false≢true, true≢false, and_from, or_parts, or_from, or_cases, false_from_ne_true}
 use Rattle.std.proofs.lemmas.List.{length-append, length-map}
 use Rattle.std.proofs.lemmas.List.Sums.{length-filter}
 use Rattle.std.proofs.lemmas.List.Folds.{list_any-append}
@@ -33,43 +33,27 @@ use Rattle.laws_of_rounds.proofs.Grouped.{all_of_each}
 use Rattle.laws_of_rounds.proofs.Later.{each_among, commanded_chosen, any_chosen}
 use Rattle.laws_of_rounds.proofs.Told.{among_map, chosen_told}
 use Rattle.laws_of_rounds.proofs.Usable.{live_once}
-use Rattle.laws_of_rounds.proofs.Obeying.{IsUsable, IsBeside, get_copied, get_without, beside_copy, beside_erasure, beside_round, by_never, live_now, live_usable, stays_live, target_elsewhere, through}
+use Rattle.laws_of_rounds.proofs.Obeying.{IsUsable, IsBeside, get_copied, get_without, beside_copy, beside_erasure, beside_round, live_now, live_usable, stays_live, target_elsewhere, through}
 use Rattle.laws_of_rounds.proofs.Obeyed.{OfTwo, GoApart, targets_apart, target_live}
 
 -- Lists without repeats.
 
-neither : (a b : Bool) → (a || b) ≡ false → (a ≡ false) × (b ≡ false)
-neither true b e = absurd (true≢false e)
-neither false b e = (refl, e)
-
-none_of : (a b : Bool) → a ≡ false → b ≡ false → (a || b) ≡ false
-none_of true b e f = absurd (true≢false e)
-none_of false b e f = f
-
-both : (a b : Bool) → a ≡ true → b ≡ true → (a && b) ≡ true
-both true b e f = f
-both false b e f = absurd (false≢true e)
-
-either : (a b : Bool) → (a || b) ≡ true → (a ≡ true) ⊎ (b ≡ true)
-either true b e = inl refl
-either false b e = inr e
-
 once_append : (xs ys : List ℕ) → has_repeats xs ≡ false → has_repeats ys ≡ false → ((q : ℕ) → has xs q ≡ true → has ys q ≡ true → ⊥) → has_repeats (xs ++ ys) ≡ false
 once_append [] ys ox oy apart = oy
 once_append (x ∷ xs) ys ox oy apart =
-    let once = neither (has xs x) (has_repeats xs) ox in
-    none_of (has (xs ++ ys) x) (has_repeats (xs ++ ys))
-    (list_any-append (λ y. y == x) xs ys ∙ none_of (has xs x) (has ys x) once.0 (by_never (has ys x) (apart x (or_left (x == x) (has xs x) (same_again x)))))
+    let once = or_parts (has xs x) (has_repeats xs) ox in
+    or_from (has (xs ++ ys) x) (has_repeats (xs ++ ys))
+    (list_any-append (λ y. y == x) xs ys ∙ or_from (has xs x) (has ys x) once.0 (false_from_ne_true (has ys x) (apart x (or_left (x == x) (has xs x) (same_again x)))))
     (once_append xs ys once.1 oy (λ q h k. apart q (or_right (x == q) (has xs q) h) k))
 
 -- what stands among others, each once, is no more than they are
 within : (xs ys : List ℕ) → has_repeats xs ≡ false → has_repeats ys ≡ false → ((q : ℕ) → has xs q ≡ true → has ys q ≡ true) → length xs ≤ length ys
 within [] ys ox oy h = omega arith
 within (x ∷ xs) ys ox oy h =
-    let once = neither (has xs x) (has_repeats xs) ox in
+    let once = or_parts (has xs x) (has_repeats xs) ox in
     let fewer = others_fewer x ys oy (h x (or_left (x == x) (has xs x) (same_again x))) in
     let rest = within xs (others x ys) once.1 (once_filter (λ y. not (y == x)) ys oy) (λ q there.
-        has_filter (λ y. not (y == x)) ys q ∙ both (not (q == x)) (has ys q) (ap not (by_never (q == x) (λ same. true≢false (sym there ∙ ap (has xs) (eqb-true q x same) ∙ once.0)))) (h q (or_right (x == q) (has xs q) there))) in
+        has_filter (λ y. not (y == x)) ys q ∙ and_from (not (q == x)) (has ys q) (ap not (false_from_ne_true (q == x) (λ same. true≢false (sym there ∙ ap (has xs) (eqb-true q x same) ∙ once.0)))) (h q (or_right (x == q) (has xs q) there))) in
     omega (arith, fewer, rest)
 
 -- Targets of a block.
@@ -87,8 +71,8 @@ once_targets C (t ∷ ts) b h = by_block (t.block == b) refl (once_targets C ts 
     by_block : (c : Bool) → (t.block == b) ≡ c → has_repeats (block_targets ts b) ≡ false
         → has_repeats (map (λ (u : Transfer). u.target) (cond c (t ∷ filter (λ (u : Transfer). u.block == b) ts) (filter (λ (u : Transfer). u.block == b) ts))) ≡ false
     by_block true e rest =
-        none_of (has (block_targets ts b) t.target) (has_repeats (block_targets ts b))
-        (by_never (has (block_targets ts b) t.target) (λ there.
+        or_from (has (block_targets ts b) t.target) (has_repeats (block_targets ts b))
+        (false_from_ne_true (has (block_targets ts b) t.target) (λ there.
         let u = each_any (GoApart C t) (λ (u : Transfer). (u.block == b) && (u.target == t.target)) ts h.0 (sym (has_target ts b t.target) ∙ there) in
         u.1 (eqb-true t.block b e ∙ sym (eqb-true u.0.block b (and_first (u.0.block == b) (u.0.target == t.target) u.2)))
         (ap (node_of C) (sym (eqb-true u.0.target t.target (and_second (u.0.block == b) (u.0.target == t.target) u.2))))))
@@ -108,7 +92,7 @@ target_among : (ts : List Transfer) (t : Transfer) → IsAmong ts t → has (blo
 target_among ts t at =
     has_target ts t.block t.target
     ∙ ap (list_any (λ (u : Transfer). (u.block == t.block) && (u.target == t.target))) at.2
-    ∙ any_among (λ (u : Transfer). (u.block == t.block) && (u.target == t.target)) at.0 at.1 t (both (t.block == t.block) (t.target == t.target) (same_again t.block) (same_again t.target))
+    ∙ any_among (λ (u : Transfer). (u.block == t.block) && (u.target == t.target)) at.0 at.1 t (and_from (t.block == t.block) (t.target == t.target) (same_again t.block) (same_again t.target))
 
 -- Nothing else becomes usable.
 
@@ -160,7 +144,7 @@ module _ (M : State) (orderly : IsOrderly M) (es : List Event) (obeyed : ObeysAl
       target_elsewhere M b q there t.0 (chosen_told M t.0 orderly t.1) (sym t.2) (ap (node_of M.cluster) (sym t.3)))
 
   expected_live : (q : ℕ) → has expected q ≡ true → has (live_obeying M es b) q ≡ true
-  expected_live q h = by_part (either (has (live_after M b) q) (has (block_targets (transfers_chosen M) b) q) (sym (list_any-append (λ y. y == q) (live_after M b) (block_targets (transfers_chosen M) b)) ∙ h))
+  expected_live q h = by_part (or_cases (has (live_after M b) q) (has (block_targets (transfers_chosen M) b) q) (sym (list_any-append (λ y. y == q) (live_after M b) (block_targets (transfers_chosen M) b)) ∙ h))
     where
       by_part : (has (live_after M b) q ≡ true) ⊎ (has (block_targets (transfers_chosen M) b) q ≡ true) → has (live_obeying M es b) q ≡ true
       by_part (inl there) = stays_live M b q there es each_obeys

@@ -17,3 +17,4 @@ pub mod Drained
 pub mod Obeying
 pub mod Obeyed
 pub mod Gained
+pub mod Accepted

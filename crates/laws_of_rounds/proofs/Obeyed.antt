@@ -3,7 +3,7 @@ use Rattle.std.specs.Prelude.{◌≡◌, ℕ, ◌+◌, ◌≤◌, ◌⊎◌, Boo
 use Rattle.std.specs.Option.{option_map_or}
 use Rattle.std.specs.List.{list_any}
 use Rattle.std.proofs.Common.{cond, refl, sym, ap, subst, ◌∙◌, arith, inl, inr}
-use Rattle.std.proofs.lemmas.Bool.{eqb-true, false≢true, true≢false}
+use Rattle.std.proofs.lemmas.Bool.{eqb-true, true≢false, false_from_ne_true}
 use Rattle.std.proofs.lemmas.List.{length-append, length-map}
 use Rattle.std.proofs.lemmas.List.Sums.{length-filter}
 use Rattle.std.proofs.lemmas.List.Folds.{list_any-append}
@@ -32,7 +32,7 @@ use Rattle.laws_of_rounds.proofs.Sending.{fresh_node}
 use Rattle.laws_of_rounds.proofs.Later.{each_among, each_is, commanded_chosen, any_chosen}
 use Rattle.laws_of_rounds.proofs.Told.{among_cons, cons_head, cons_tail, no_cons, chosen_told}
 use Rattle.laws_of_rounds.proofs.Usable.{live_once}
-use Rattle.laws_of_rounds.proofs.Obeying.{IsUsable, IsUnspoilt, IsBeside, IsSafe, UnspoiltBeside, UsableBeside, copy_arrives, beside_copy, beside_round, by_never, replaced_is, live_now, step_unspoilt, step_usable, stays_live, target_elsewhere, there_before, through}
+use Rattle.laws_of_rounds.proofs.Obeying.{IsUsable, IsUnspoilt, IsBeside, IsSafe, UnspoiltBeside, UsableBeside, copy_arrives, beside_copy, beside_round, replaced_is, live_now, step_unspoilt, step_usable, stays_live, target_elsewhere, there_before, through}
 
 -- Two of a list.
 
@@ -112,7 +112,7 @@ module _ (M : State) (t : Transfer) (h : IsTransferCommanded M t) where
   target_safe : IsSafe M (replica_at t.block t.target)
   target_safe = record {
     not_deleted = λ k. let was = not_ordered M (replica_at t.block t.target) (tested M (replica_at t.block t.target) k) in none_there (is_there (get M.holdings.replicas (replica_at t.block t.target)) was.0 was.1);
-    not_replaced = λ u k. by_never (replaces M.cluster (replica_at u.block u.target) (replica_at t.block t.target)) (λ e.
+    not_replaced = λ u k. false_from_ne_true (replaces M.cluster (replica_at u.block u.target) (replica_at t.block t.target)) (λ e.
         let is = replaced_is M.cluster (replica_at u.block u.target) (replica_at t.block t.target) e in
         let one : t ≡ u = one_copy M t u h k (eqb-true t.block u.block is.0) is.1 in
         true≢false (sym (same_again t.target) ∙ ap (λ (x : Transfer). t.target == x.target) one ∙ is.2));

@@ -3,7 +3,7 @@ use Rattle.std.specs.Prelude.{◌≡◌, ℕ, ◌⊎◌, Bool, true, false, not,
 use Rattle.std.specs.Option.{option_map_or}
 use Rattle.std.specs.Ordering.{eq_by_cmp}
 use Rattle.std.proofs.Common.{cond, refl, sym, ap, subst, ◌∙◌, inl, inr}
-use Rattle.std.proofs.lemmas.Bool.{eqb-true, false≢true}
+use Rattle.std.proofs.lemmas.Bool.{eqb-true, false≢true, and_parts, false_from_ne_true}
 use Rattle.bm_base.specs.declared.replica.ReplicaId.{ReplicaId}
 use Rattle.bm_base.specs.declared.replica.Stamp.{Stamp}
 use Rattle.bm_base.specs.declared.replica.Tag.{Tag}
@@ -20,7 +20,7 @@ use Rattle.bm_base.specs.Replicas.{live, is_good, is_bad, is_usable, is_live_on,
 use Rattle.bm_base.specs.Events.{same_stamp, was_bad, was_excess, entered_tag, entered, replaces, enter, remove_replica, change_cluster, change_holdings}
 use Rattle.bm_base.specs.Calls.{after_event}
 use Rattle.bm_base.specs.NextRound.{IsAmong, IsDeleteCommanded, IsTransferCommanded, deletes_commanded, transfers_chosen, after_round, live_after}
-use Rattle.bm_base.proofs.Options.{is_there, revised, not_failed, staying, all_stays}
+use Rattle.bm_base.proofs.Options.{is_there, revised, not_passed, not_failed, staying, all_stays}
 use Rattle.bm_base.proofs.Each.{Each}
 use Rattle.bm_base.proofs.MapLaws.{get-insert, get-keep, get-remove}
 use Rattle.bm_base.proofs.Maps.{same_key, key_itself, not_tied}
@@ -87,10 +87,6 @@ module _ (H : Holdings) (p : ReplicaId) (stamp : Stamp) (i : BlockInfo) (known :
 
 -- Replicas that a copy replaces.
 
-pub by_never : (b : Bool) → (b ≡ true → ⊥) → b ≡ false
-by_never true h = absurd (h refl)
-by_never false h = refl
-
 on_one_node : (C : Cluster) (s t : ℕ) (o : Option ℕ) → node_of C s ≡ o → option_map_or (λ n. has_storage C n t) o false ≡ true → node_of C t ≡ node_of C s
 on_one_node C s t None at e = absurd (false≢true e)
 on_one_node C s t (Some n) at e = node_is C n t e ∙ sym at
@@ -98,15 +94,9 @@ on_one_node C s t (Some n) at e = node_is C n t e ∙ sym at
 pub replaced_is : (C : Cluster) (p q : ReplicaId) → replaces C p q ≡ true → ((q.block == p.block) ≡ true) × (node_of C q.storage ≡ node_of C p.storage) × ((q.storage == p.storage) ≡ false)
 unfolding replaces are_sisters
 replaced_is C p q e =
-    let sisters = and_second (q.block == p.block) (are_sisters C p.storage q.storage) e in (
-      and_first (q.block == p.block) (are_sisters C p.storage q.storage) e,
-      on_one_node C p.storage q.storage (node_of C p.storage) refl (and_second (not (q.storage == p.storage)) (option_map_or (λ n. has_storage C n q.storage) (node_of C p.storage) false) sisters),
-      not_true (q.storage == p.storage) (and_first (not (q.storage == p.storage)) (option_map_or (λ n. has_storage C n q.storage) (node_of C p.storage) false) sisters),
-    )
-  where
-    not_true : (b : Bool) → not b ≡ true → b ≡ false
-    not_true true e = absurd (false≢true e)
-    not_true false e = refl
+    let is = and_parts (q.block == p.block) (are_sisters C p.storage q.storage) e in
+    let sisters = and_parts (not (q.storage == p.storage)) (option_map_or (λ n. has_storage C n q.storage) (node_of C p.storage) false) is.1 in
+    (is.0, on_one_node C p.storage q.storage (node_of C p.storage) refl sisters.1, not_passed (q.storage == p.storage) sisters.0)
 
 -- Steps.
 
@@ -232,10 +222,17 @@ pub through : (M : State) (P : State → Type 0) → ((N : State) (e : Event) �
 through M P step N h [] each = h
 through M P step N h (e ∷ es) each = through M P step (after_event N e) (step N e h each.0) es each.1
 
--- What is live.
-
 pub beside_round : (M : State) → IsBeside M (after_round M)
 beside_round M = record { cluster = (same_rest M).0; blocks = (same_rest M).1 }
+
+step_beside : (M N : State) (e : Event) → IsBeside M N → Obeys M e → IsBeside M (after_event N e)
+step_beside M N e h (inl c) = subst (λ x. IsBeside M (after_event N x)) (sym c.2) (beside_copy M N h c.0)
+step_beside M N e h (inr c) = subst (λ x. IsBeside M (after_event N x)) (sym c.2) (beside_erasure M N h c.0)
+
+pub obeyed_beside : (M : State) (es : List Event) → Each (Obeys M) es → IsBeside M (after_events (after_round M) es)
+obeyed_beside M es each = through M (IsBeside M) (step_beside M) (after_round M) (beside_round M) es each
+
+-- What is live.
 
 passes : (d : Bool) (o : Option Marks) → option_map_or is_usable o false ≡ true → d ≡ false → option_map_or (λ m. is_usable m && not d) o false ≡ true
 passes d None e staying = e
@@ -266,7 +263,7 @@ module _ (M : State) (b s : ℕ) (live_there : has (live_after M b) s ≡ true) 
   live_safe : IsSafe M (replica_at b s)
   live_safe = record {
     not_deleted = λ h. live_stays M b s live_there (tested M (replica_at b s) h);
-    not_replaced = λ t h. by_never (replaces M.cluster (replica_at t.block t.target) (replica_at b s)) (λ e.
+    not_replaced = λ t h. false_from_ne_true (replaces M.cluster (replica_at t.block t.target) (replica_at b s)) (λ e.
         let is = replaced_is M.cluster (replica_at t.block t.target) (replica_at b s) e in
         target_elsewhere t h (eqb-true b t.block is.0) is.1);
   }

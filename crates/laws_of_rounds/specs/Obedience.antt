@@ -54,6 +54,10 @@ as_listed M = map copied (transfers_commanded M) ++ map erased (deletes_commande
 abbrev pub ListedOrderObeysAll : Type 0
 ListedOrderObeysAll = (M : State) → ObeysAll M (as_listed M)
 
+-- nothing that obeys is refused but for want of calls to count
+abbrev pub ObedienceIsNotRefused : Type 0
+ObedienceIsNotRefused = (M : State) (es : List Event) (e : Event) → OnlyObeys M es → Obeys M e → refusal_of (after_obeying M es) e ≡ calls_spent (after_obeying M es)
+
 -- what is live after the round stays live, however far it is obeyed
 abbrev pub LiveStaysLive : Type 0
 LiveStaysLive = (M : State) (es : List Event) (b s : ℕ) → OnlyObeys M es → has (live_after M b) s ≡ true → has (live_obeying M es b) s ≡ true

@@ -8,6 +8,11 @@ pub fn listed_order_obeys_all()
     ensures { law.ListedOrderObeysAll }
 {}
 
+/// Nothing that tells of obedience to a round is refused while calls can be counted, however far the round is obeyed.
+pub fn obedience_is_not_refused()
+    ensures { law.ObedienceIsNotRefused }
+{}
+
 /// What is live after a round stays live while the nodes obey it, all of its commands or some of them.
 pub fn live_stays_live()
     ensures { law.LiveStaysLive }

@@ -1,0 +1,5 @@
+use Rattle.laws_of_rounds.proofs.Accepted.{not_refused}
+use Rattle.laws_of_rounds.proofs.obedience.obedience_is_not_refused.Goals as goal
+
+pub returns : goal.returns
+returns c = not_refused
