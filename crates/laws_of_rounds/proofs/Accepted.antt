@@ -14,7 +14,7 @@ use Rattle.bm_base.specs.Refusals.{first_of, ◌when◌, ◌before◌, knows_sto
 use Rattle.bm_base.specs.NextRound.{IsAmong, IsTransferCommanded, deletes_commanded}
 use Rattle.bm_base.proofs.Each.{Each, each_all, each_of, each_then, each_flat_map}
 use Rattle.bm_base.proofs.Clusters.{some_node}
-use Rattle.bm_base.proofs.Commanded.{chosen_deletes_of, each_delete}
+use Rattle.bm_base.proofs.Commanded.{each_delete}
 use Rattle.laws_of_rounds.specs.Obedience.{copied, erased, Obeys, OnlyObeys, after_obeying}
 use Rattle.laws_of_rounds.proofs.Grouped.{each_on_node}
 use Rattle.laws_of_rounds.proofs.Sending.{fresh_node, node_is}

@@ -1,5 +1,5 @@
 -- How many replicas are live once a round is obeyed: those that were, and the targets of the copies.
-use Rattle.std.specs.Prelude.{◌≡◌, ℕ, ◌+◌, ◌≤◌, ◌⊎◌, Bool, true, false, not, ◌&&◌, ◌||◌, ◌==◌, List, [], ◌∷◌, ◌++◌, map, filter, length, count_by, Option, Some, None}
+use Rattle.std.specs.Prelude.{◌≡◌, ℕ, ◌+◌, ◌≤◌, ◌⊎◌, Bool, true, false, not, ◌&&◌, ◌||◌, ◌==◌, List, [], ◌∷◌, ◌++◌, map, filter, length, Option, Some, None}
 use Rattle.std.specs.Option.{option_map_or}
 use Rattle.std.specs.Ordering.{eq_by_cmp}
 use Rattle.std.specs.List.{list_any}
@@ -12,11 +12,10 @@ use Rattle.bm_base.specs.declared.replica.ReplicaId.{ReplicaId}
 use Rattle.bm_base.specs.declared.replica.Marks.{Marks}
 use Rattle.bm_base.specs.declared.event.Event.{Event}
 use Rattle.bm_base.specs.declared.commands.Transfer.{Transfer}
-use Rattle.bm_base.specs.declared.commands.Delete.{Delete}
 use Rattle.bm_base.specs.Map.{get}
 use Rattle.bm_base.specs.State.{Cluster, State, by_replica, replica_cmp, replica_at}
 use Rattle.bm_base.specs.Lists.{has, has_repeats}
-use Rattle.bm_base.specs.Replicas.{live, is_good, is_usable, is_draining, node_of}
+use Rattle.bm_base.specs.Replicas.{is_usable, is_draining, node_of}
 use Rattle.bm_base.specs.Events.{replaces, entered}
 use Rattle.bm_base.specs.Lawful.{IsOrderly}
 use Rattle.bm_base.specs.Calls.{after_event}
@@ -25,10 +24,9 @@ use Rattle.bm_base.proofs.Options.{staying}
 use Rattle.bm_base.proofs.Each.{Each, each_all, each_then, each_any, each_appended, each_mapped}
 use Rattle.bm_base.proofs.Maps.{same_key}
 use Rattle.bm_base.proofs.Listed.{or_left, or_right, same_again, has_filter, once_filter, any_map, any_filter, and_first, and_second}
-use Rattle.bm_base.proofs.Lively.{live_is}
 use Rattle.bm_base.proofs.Surpluses.{others, others_fewer}
 use Rattle.laws_of_rounds.specs.Transfers.{copies_chosen}
-use Rattle.laws_of_rounds.specs.Obedience.{copied, erased, Obeys, ObeysAll, after_events, after_obeying, live_obeying, as_listed}
+use Rattle.laws_of_rounds.specs.Obedience.{copied, erased, Obeys, ObeysAll, after_obeying, live_obeying, as_listed}
 use Rattle.laws_of_rounds.proofs.Grouped.{all_of_each}
 use Rattle.laws_of_rounds.proofs.Later.{each_among, commanded_chosen, any_chosen}
 use Rattle.laws_of_rounds.proofs.Told.{among_map, chosen_told}
@@ -53,7 +51,7 @@ within (x ∷ xs) ys ox oy h =
     let once = or_parts (has xs x) (has_repeats xs) ox in
     let fewer = others_fewer x ys oy (h x (or_left (x == x) (has xs x) (same_again x))) in
     let rest = within xs (others x ys) once.1 (once_filter (λ y. not (y == x)) ys oy) (λ q there.
-        has_filter (λ y. not (y == x)) ys q ∙ and_from (not (q == x)) (has ys q) (ap not (false_from_ne_true (q == x) (λ same. true≢false (sym there ∙ ap (has xs) (eqb-true q x same) ∙ once.0)))) (h q (or_right (x == q) (has xs q) there))) in
+    has_filter (λ y. not (y == x)) ys q ∙ and_from (not (q == x)) (has ys q) (ap not (false_from_ne_true (q == x) (λ same. true≢false (sym there ∙ ap (has xs) (eqb-true q x same) ∙ once.0)))) (h q (or_right (x == q) (has xs q) there))) in
     omega (arith, fewer, rest)
 
 -- Targets of a block.
@@ -123,9 +121,11 @@ step_copies M N e h (inl c) =
     by_tie q true tie there = inr (c.0, c.1, same_key by_replica q (replica_at c.0.block c.0.target) tie)
     by_tie q false tie there = h.1 q (stayed (not (replaces N.cluster (replica_at c.0.block c.0.target) q)) (get N.holdings.replicas q) there)
 step_copies M N e h (inr c) =
-    subst (λ x. AddsCopies M (after_event N x)) (sym c.2)
-    (beside_erasure M N h.0 c.0, λ q there.
-    h.1 q (left (eq_by_cmp replica_cmp q (replica_at c.0.block c.0.storage)) (get N.holdings.replicas q) (sym (ap (λ o. option_map_or is_usable o false) (get_without M N h.0 c.0 c.1 q)) ∙ there)))
+    subst (λ x. AddsCopies M (after_event N x)) (sym c.2) (
+      beside_erasure M N h.0 c.0,
+      λ q there.
+          h.1 q (left (eq_by_cmp replica_cmp q (replica_at c.0.block c.0.storage)) (get N.holdings.replicas q) (sym (ap (λ o. option_map_or is_usable o false) (get_without M N h.0 c.0 c.1 q)) ∙ there)),
+    )
 
 -- Once all is obeyed.
 

@@ -1,38 +1,29 @@
 -- What is live once a round is obeyed: the targets of its copies, each on a node of its own, beside what was live.
-use Rattle.std.specs.Prelude.{◌≡◌, ℕ, ◌+◌, ◌≤◌, ◌⊎◌, Bool, true, false, not, ◌&&◌, ◌||◌, ◌==◌, List, [], ◌∷◌, ◌++◌, map, filter, length, count_by, Option, Some, None, is_some}
+use Rattle.std.specs.Prelude.{◌≡◌, ◌⊎◌, true, false, ◌==◌, List, [], ◌∷◌, ◌++◌, Option, Some, None, is_some}
 use Rattle.std.specs.Option.{option_map_or}
-use Rattle.std.specs.List.{list_any}
-use Rattle.std.proofs.Common.{cond, refl, sym, ap, subst, ◌∙◌, arith, inl, inr}
+use Rattle.std.proofs.Common.{refl, sym, ap, subst, ◌∙◌, inl, inr}
 use Rattle.std.proofs.lemmas.Bool.{eqb-true, true≢false, false_from_ne_true}
-use Rattle.std.proofs.lemmas.List.{length-append, length-map}
-use Rattle.std.proofs.lemmas.List.Sums.{length-filter}
-use Rattle.std.proofs.lemmas.List.Folds.{list_any-append}
 use Rattle.bm_base.specs.declared.replica.ReplicaId.{ReplicaId}
 use Rattle.bm_base.specs.declared.replica.Marks.{Marks}
 use Rattle.bm_base.specs.declared.event.Event.{Event}
 use Rattle.bm_base.specs.declared.commands.Transfer.{Transfer}
-use Rattle.bm_base.specs.declared.commands.Delete.{Delete}
 use Rattle.bm_base.specs.Map.{get}
 use Rattle.bm_base.specs.State.{Cluster, State, replica_at}
-use Rattle.bm_base.specs.Lists.{has, has_repeats}
+use Rattle.bm_base.specs.Lists.{has}
 use Rattle.bm_base.specs.Replicas.{live, is_usable, is_draining, node_of}
 use Rattle.bm_base.specs.Events.{replaces}
-use Rattle.bm_base.specs.Transfers.{targets_of}
-use Rattle.bm_base.specs.Lawful.{IsOrderly}
 use Rattle.bm_base.specs.Calls.{after_event}
-use Rattle.bm_base.specs.NextRound.{IsAmong, IsDeleteCommanded, IsTransferCommanded, transfers_chosen, after_round, live_after}
+use Rattle.bm_base.specs.NextRound.{IsAmong, IsTransferCommanded, transfers_chosen, after_round}
 use Rattle.bm_base.proofs.Options.{is_there}
-use Rattle.bm_base.proofs.Each.{Each, each_then, each_any, each_appended, each_mapped}
-use Rattle.bm_base.proofs.Listed.{or_left, or_right, same_again, has_filter, once_filter, any_map, any_filter, and_first, and_second}
-use Rattle.bm_base.proofs.Surpluses.{others, others_fewer}
+use Rattle.bm_base.proofs.Each.{Each, each_then}
+use Rattle.bm_base.proofs.Listed.{same_again}
 use Rattle.bm_base.proofs.Tested.{tested}
-use Rattle.laws_of_rounds.specs.Obedience.{copied, Obeys, ObeysAll, after_events}
+use Rattle.laws_of_rounds.specs.Obedience.{copied, Obeys, after_events}
 use Rattle.laws_of_rounds.proofs.Reasons.{not_ordered}
 use Rattle.laws_of_rounds.proofs.Sending.{fresh_node}
-use Rattle.laws_of_rounds.proofs.Later.{each_among, each_is, commanded_chosen, any_chosen}
-use Rattle.laws_of_rounds.proofs.Told.{among_cons, cons_head, cons_tail, no_cons, chosen_told}
-use Rattle.laws_of_rounds.proofs.Usable.{live_once}
-use Rattle.laws_of_rounds.proofs.Obeying.{IsUsable, IsUnspoilt, IsBeside, IsSafe, UnspoiltBeside, UsableBeside, copy_arrives, beside_copy, beside_round, replaced_is, live_now, step_unspoilt, step_usable, stays_live, target_elsewhere, there_before, through}
+use Rattle.laws_of_rounds.proofs.Later.{each_among, each_is, commanded_chosen}
+use Rattle.laws_of_rounds.proofs.Told.{among_cons, cons_head, cons_tail, no_cons}
+use Rattle.laws_of_rounds.proofs.Obeying.{IsUnspoilt, IsSafe, UnspoiltBeside, UsableBeside, copy_arrives, beside_copy, beside_round, replaced_is, live_now, step_unspoilt, step_usable, there_before, through}
 
 -- Two of a list.
 

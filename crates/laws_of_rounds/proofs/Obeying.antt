@@ -1,5 +1,5 @@
 -- What is live while the nodes obey a round: a replica that no command touches stays usable, and each copy that arrives is.
-use Rattle.std.specs.Prelude.{◌≡◌, ℕ, ◌⊎◌, Bool, true, false, not, ◌&&◌, ◌==◌, if◌then◌else◌, List, [], ◌∷◌, ◌++◌, Option, Some, None, is_some, option_and_then, option_map}
+use Rattle.std.specs.Prelude.{◌≡◌, ℕ, Bool, true, false, not, ◌&&◌, ◌==◌, if◌then◌else◌, List, [], ◌∷◌, Option, Some, None, is_some, option_map}
 use Rattle.std.specs.Option.{option_map_or}
 use Rattle.std.specs.Ordering.{eq_by_cmp}
 use Rattle.std.proofs.Common.{cond, refl, sym, ap, subst, ◌∙◌, inl, inr}
@@ -19,20 +19,18 @@ use Rattle.bm_base.specs.Lists.{has}
 use Rattle.bm_base.specs.Replicas.{live, is_good, is_bad, is_usable, is_live_on, node_of, has_storage, is_draining, are_sisters}
 use Rattle.bm_base.specs.Events.{same_stamp, was_bad, was_excess, entered_tag, entered, replaces, enter, remove_replica, change_cluster, change_holdings}
 use Rattle.bm_base.specs.Calls.{after_event}
-use Rattle.bm_base.specs.NextRound.{IsAmong, IsDeleteCommanded, IsTransferCommanded, deletes_commanded, transfers_chosen, after_round, live_after}
+use Rattle.bm_base.specs.NextRound.{IsAmong, IsDeleteCommanded, IsTransferCommanded, deletes_commanded, after_round, live_after}
 use Rattle.bm_base.proofs.Options.{is_there, revised, not_passed, not_failed, staying, all_stays}
 use Rattle.bm_base.proofs.Each.{Each}
 use Rattle.bm_base.proofs.MapLaws.{get-insert, get-keep, get-remove}
 use Rattle.bm_base.proofs.Maps.{same_key, key_itself, not_tied}
-use Rattle.bm_base.proofs.Listed.{and_first, and_second, same_again}
-use Rattle.bm_base.proofs.Clusters.{no_sister_itself}
+use Rattle.bm_base.proofs.Listed.{same_again}
 use Rattle.bm_base.proofs.Stands.{has_where}
 use Rattle.bm_base.proofs.Lively.{live_is}
 use Rattle.bm_base.proofs.Kept.{live_stays}
 use Rattle.bm_base.proofs.AfterRound.{same_tag}
 use Rattle.bm_base.proofs.Tested.{tested}
 use Rattle.laws_of_rounds.specs.Obedience.{copied, erased, Obeys, after_events}
-use Rattle.laws_of_rounds.proofs.Reasons.{not_ordered}
 use Rattle.laws_of_rounds.proofs.Sending.{fresh_node, source_usable, node_is}
 use Rattle.laws_of_rounds.proofs.Later.{commanded_chosen}
 use Rattle.laws_of_rounds.proofs.Told.{same_rest}
