@@ -17,22 +17,22 @@ use Rattle.bm_base.specs.State.{Cluster, State, by_replica, replica_cmp, replica
 use Rattle.bm_base.specs.Lists.{has, has_repeats}
 use Rattle.bm_base.specs.Replicas.{is_usable, is_draining, node_of}
 use Rattle.bm_base.specs.Events.{replaces, entered}
-use Rattle.bm_base.specs.Lawful.{IsOrderly}
 use Rattle.bm_base.specs.Calls.{after_event}
-use Rattle.bm_base.specs.NextRound.{IsAmong, IsTransferCommanded, transfers_commanded, deletes_commanded, transfers_chosen, after_round, live_after}
+use Rattle.bm_base.specs.NextRound.{IsAmong, IsTransferCommanded, transfers_commanded, deletes_commanded, transfers_commanded, after_round, live_after}
 use Rattle.bm_base.proofs.Options.{staying}
 use Rattle.bm_base.proofs.Each.{Each, each_all, each_then, each_any, each_appended, each_mapped}
 use Rattle.bm_base.proofs.Maps.{same_key}
 use Rattle.bm_base.proofs.Listed.{or_left, or_right, same_again, has_filter, once_filter, any_map, any_filter, and_first, and_second}
 use Rattle.bm_base.proofs.Surpluses.{others, others_fewer}
-use Rattle.laws_of_rounds.specs.Transfers.{copies_chosen}
+use Rattle.laws_of_rounds.specs.Obedience.{copies_commanded}
 use Rattle.laws_of_rounds.specs.Obedience.{copied, erased, Obeys, ObeysAll, after_obeying, live_obeying, as_listed}
 use Rattle.laws_of_rounds.proofs.Grouped.{all_of_each}
-use Rattle.laws_of_rounds.proofs.Later.{each_among, commanded_chosen, any_chosen}
-use Rattle.laws_of_rounds.proofs.Told.{among_map, chosen_told}
+use Rattle.laws_of_rounds.proofs.Later.{each_among, any_chosen}
+use Rattle.laws_of_rounds.proofs.Told.{among_map}
 use Rattle.laws_of_rounds.proofs.Usable.{live_once}
 use Rattle.laws_of_rounds.proofs.Obeying.{IsUsable, IsBeside, get_copied, get_without, beside_copy, beside_erasure, beside_round, live_now, live_usable, stays_live, target_elsewhere, through}
-use Rattle.laws_of_rounds.proofs.Obeyed.{OfTwo, GoApart, targets_apart, target_live}
+use Rattle.laws_of_rounds.proofs.Obeyed.{target_live}
+use Rattle.laws_of_rounds.proofs.Paired.{OfTwo, GoApart, commanded_apart}
 
 -- Lists without repeats.
 
@@ -129,29 +129,28 @@ step_copies M N e h (inr c) =
 
 -- Once all is obeyed.
 
-module _ (M : State) (orderly : IsOrderly M) (es : List Event) (obeyed : ObeysAll M es) (b : ℕ) where
+module _ (M : State) (es : List Event) (b : ℕ) (obeyed : ObeysAll M es) where
   each_obeys : Each (Obeys M) es
   each_obeys = each_all (Obeys M) es obeyed.only
 
   abbrev expected : List ℕ
-  expected = live_after M b ++ block_targets (transfers_chosen M) b
+  expected = live_after M b ++ block_targets (transfers_commanded M) b
 
   expected_once : has_repeats expected ≡ false
   expected_once =
-      once_append (live_after M b) (block_targets (transfers_chosen M) b) (live_once M.cluster (after_round M).holdings b) (once_targets M.cluster (transfers_chosen M) b (targets_apart M))
+      once_append (live_after M b) (block_targets (transfers_commanded M) b) (live_once M.cluster (after_round M).holdings b) (once_targets M.cluster (transfers_commanded M) b (commanded_apart M))
       (λ q there k.
-      let t = one_target (transfers_chosen M) b q k in
-      target_elsewhere M b q there t.0 (chosen_told M t.0 orderly t.1) (sym t.2) (ap (node_of M.cluster) (sym t.3)))
+      let t = one_target (transfers_commanded M) b q k in
+      target_elsewhere M b q there t.0 t.1 (sym t.2) (ap (node_of M.cluster) (sym t.3)))
 
   expected_live : (q : ℕ) → has expected q ≡ true → has (live_obeying M es b) q ≡ true
-  expected_live q h = by_part (or_cases (has (live_after M b) q) (has (block_targets (transfers_chosen M) b) q) (sym (list_any-append (λ y. y == q) (live_after M b) (block_targets (transfers_chosen M) b)) ∙ h))
+  expected_live q h = by_part (or_cases (has (live_after M b) q) (has (block_targets (transfers_commanded M) b) q) (sym (list_any-append (λ y. y == q) (live_after M b) (block_targets (transfers_commanded M) b)) ∙ h))
     where
-      by_part : (has (live_after M b) q ≡ true) ⊎ (has (block_targets (transfers_chosen M) b) q ≡ true) → has (live_obeying M es b) q ≡ true
+      by_part : (has (live_after M b) q ≡ true) ⊎ (has (block_targets (transfers_commanded M) b) q ≡ true) → has (live_obeying M es b) q ≡ true
       by_part (inl there) = stays_live M b q there es each_obeys
       by_part (inr k) =
-          let t = one_target (transfers_chosen M) b q k in
-          let told = chosen_told M t.0 orderly t.1 in
-          subst (λ (x : ℕ × ℕ). has (live_obeying M es x.0) x.1 ≡ true) (λ i. (t.2 i, t.3 i)) (target_live M t.0 told es each_obeys (obeyed.each_copied t.0 told))
+          let t = one_target (transfers_commanded M) b q k in
+          subst (λ (x : ℕ × ℕ). has (live_obeying M es x.0) x.1 ≡ true) (λ i. (t.2 i, t.3 i)) (target_live M t.0 t.1 es each_obeys (obeyed.each_copied t.0 t.1))
 
   only_copies_added : AddsCopies M (after_obeying M es)
   only_copies_added = through M (AddsCopies M) (step_copies M) (after_round M) (beside_round M, λ p there. inl there) es each_obeys
@@ -159,20 +158,20 @@ module _ (M : State) (orderly : IsOrderly M) (es : List Event) (obeyed : ObeysAl
   live_expected : (q : ℕ) → has (live_obeying M es b) q ≡ true → has expected q ≡ true
   live_expected q h =
       let is = live_usable (after_obeying M es).cluster (after_obeying M es).holdings b q h in
-      list_any-append (λ y. y == q) (live_after M b) (block_targets (transfers_chosen M) b) ∙ by_origin (sym (ap (λ C. is_draining C q) only_copies_added.0.cluster) ∙ is.1) (only_copies_added.1 (replica_at b q) is.0)
+      list_any-append (λ y. y == q) (live_after M b) (block_targets (transfers_commanded M) b) ∙ by_origin (sym (ap (λ C. is_draining C q) only_copies_added.0.cluster) ∙ is.1) (only_copies_added.1 (replica_at b q) is.0)
     where
-      by_origin : is_draining M.cluster q ≡ false → IsUsable (after_round M).holdings (replica_at b q) ⊎ IsCopy M (replica_at b q) → (has (live_after M b) q || has (block_targets (transfers_chosen M) b) q) ≡ true
-      by_origin staying (inl was) = or_left (has (live_after M b) q) (has (block_targets (transfers_chosen M) b) q) (live_now M.cluster (after_round M).holdings b q was staying)
+      by_origin : is_draining M.cluster q ≡ false → IsUsable (after_round M).holdings (replica_at b q) ⊎ IsCopy M (replica_at b q) → (has (live_after M b) q || has (block_targets (transfers_commanded M) b) q) ≡ true
+      by_origin staying (inl was) = or_left (has (live_after M b) q) (has (block_targets (transfers_commanded M) b) q) (live_now M.cluster (after_round M).holdings b q was staying)
       by_origin staying (inr copy) =
-          or_right (has (live_after M b) q) (has (block_targets (transfers_chosen M) b) q)
-          ((λ i. has (block_targets (transfers_chosen M) (copy.2 i).block) (copy.2 i).storage) ∙ target_among (transfers_chosen M) copy.0 (commanded_chosen M copy.0 copy.1))
+          or_right (has (live_after M b) q) (has (block_targets (transfers_commanded M) b) q)
+          ((λ i. has (block_targets (transfers_commanded M) (copy.2 i).block) (copy.2 i).storage) ∙ target_among (transfers_commanded M) copy.0 copy.1)
 
-  pub gained : length (live_obeying M es b) ≡ length (live_after M b) + copies_chosen M b
+  pub gained : length (live_obeying M es b) ≡ length (live_after M b) + copies_commanded M b
   gained =
       let more = within expected (live_obeying M es b) expected_once (live_once (after_obeying M es).cluster (after_obeying M es).holdings b) expected_live in
       let fewer = within (live_obeying M es b) expected (live_once (after_obeying M es).cluster (after_obeying M es).holdings b) expected_once live_expected in
-      let long = length-append (live_after M b) (block_targets (transfers_chosen M) b) in
-      let count = length-map (filter (λ (t : Transfer). t.block == b) (transfers_chosen M)) (λ (t : Transfer). t.target) ∙ length-filter (λ (t : Transfer). t.block == b) (transfers_chosen M) in
+      let long = length-append (live_after M b) (block_targets (transfers_commanded M) b) in
+      let count = length-map (filter (λ (t : Transfer). t.block == b) (transfers_commanded M)) (λ (t : Transfer). t.target) ∙ length-filter (λ (t : Transfer). t.block == b) (transfers_commanded M) in
       omega (arith, more, fewer, long, count)
 
 -- The order in which the commands are listed.

@@ -15,6 +15,7 @@ pub mod OneRack
 pub mod Usable
 pub mod Drained
 pub mod Obeying
+pub mod Paired
 pub mod Obeyed
 pub mod Gained
 pub mod Accepted

@@ -30,7 +30,7 @@ use Rattle.bm_base.proofs.Lively.{live_is}
 use Rattle.bm_base.proofs.Kept.{live_stays}
 use Rattle.bm_base.proofs.AfterRound.{same_tag}
 use Rattle.bm_base.proofs.Tested.{tested}
-use Rattle.laws_of_rounds.specs.Obedience.{copied, erased, Obeys, after_events}
+use Rattle.laws_of_rounds.specs.Obedience.{copied, erased, Obeys, after_events, after_obeying, live_obeying}
 use Rattle.laws_of_rounds.proofs.Sending.{fresh_node, source_usable, node_is}
 use Rattle.laws_of_rounds.proofs.Later.{commanded_chosen}
 use Rattle.laws_of_rounds.proofs.Told.{same_rest}
@@ -227,7 +227,7 @@ step_beside : (M N : State) (e : Event) → IsBeside M N → Obeys M e → IsBes
 step_beside M N e h (inl c) = subst (λ x. IsBeside M (after_event N x)) (sym c.2) (beside_copy M N h c.0)
 step_beside M N e h (inr c) = subst (λ x. IsBeside M (after_event N x)) (sym c.2) (beside_erasure M N h c.0)
 
-pub obeyed_beside : (M : State) (es : List Event) → Each (Obeys M) es → IsBeside M (after_events (after_round M) es)
+pub obeyed_beside : (M : State) (es : List Event) → Each (Obeys M) es → IsBeside M (after_obeying M es)
 obeyed_beside M es each = through M (IsBeside M) (step_beside M) (after_round M) (beside_round M) es each
 
 -- What is live.
@@ -266,8 +266,8 @@ module _ (M : State) (b s : ℕ) (live_there : has (live_after M b) s ≡ true) 
         target_elsewhere t h (eqb-true b t.block is.0) is.1);
   }
 
-  pub stays_live : (es : List Event) → Each (Obeys M) es → has (live (after_events (after_round M) es).cluster (after_events (after_round M) es).holdings b) s ≡ true
+  pub stays_live : (es : List Event) → Each (Obeys M) es → has (live_obeying M es b) s ≡ true
   stays_live es each =
       let here = live_usable M.cluster (after_round M).holdings b s live_there in
       let end = through M (UsableBeside M (replica_at b s)) (step_usable M (replica_at b s) live_safe) (after_round M) (beside_round M, here.0) es each in
-      live_now (after_events (after_round M) es).cluster (after_events (after_round M) es).holdings b s end.1 (ap (λ C. is_draining C s) end.0.cluster ∙ here.1)
+      live_now (after_obeying M es).cluster (after_obeying M es).holdings b s end.1 (ap (λ C. is_draining C s) end.0.cluster ∙ here.1)

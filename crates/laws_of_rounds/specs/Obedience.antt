@@ -1,5 +1,5 @@
 -- Laws of obedience: what a round leads to where the nodes do what it commands, in whatever order, and nothing else happens.
-use Rattle.std.specs.Prelude.{◌≡◌, ℕ, ◌+◌, ◌⊎◌, true, List, [], ◌∷◌, ◌++◌, map, length}
+use Rattle.std.specs.Prelude.{◌≡◌, ℕ, ◌+◌, ◌⊎◌, true, List, [], ◌∷◌, ◌++◌, map, length, count_by, ◌==◌}
 use Rattle.std.specs.List.{All}
 use Rattle.bm_base.specs.declared.event.Event.{Event}
 use Rattle.bm_base.specs.declared.event.Event.TheVariants.{Received, Deleted}
@@ -11,7 +11,6 @@ use Rattle.bm_base.specs.Replicas.{live}
 use Rattle.bm_base.specs.Refusals.{refusal_of, calls_spent}
 use Rattle.bm_base.specs.Calls.{after_event}
 use Rattle.bm_base.specs.NextRound.{IsAmong, IsTransferCommanded, transfers_commanded, deletes_commanded, after_round, live_after}
-use Rattle.laws_of_rounds.specs.Transfers.{copies_chosen}
 
 -- what is told once a transfer is obeyed: its target has received the block, with the transfer's stamp
 abbrev pub copied : Transfer → Event
@@ -25,7 +24,7 @@ erased d = Deleted d.storage d.block
 abbrev pub Obeys : State → Event → Type 0
 Obeys M e = ((t : Transfer) × IsTransferCommanded M t × (e ≡ copied t)) ⊎ ((d : Delete) × IsAmong (deletes_commanded M) d × (e ≡ erased d))
 
--- Nothing but obedience to the next round is told: of all its commands or of some, in any order, of one also again.
+-- Nothing is told but that commands of the next round are obeyed: all of them or some, in any order, each once or more often.
 abbrev pub OnlyObeys : State → List Event → Type 0
 OnlyObeys M es = All (Obeys M) es
 
@@ -35,26 +34,26 @@ pub record ObeysAll (M : State) (es : List Event) : Type 0 where
   pub each_copied : (t : Transfer) → IsTransferCommanded M t → IsAmong es (copied t)
   pub each_erased : (d : Delete) → IsAmong (deletes_commanded M) d → IsAmong es (erased d)
 
--- the state that events leave, one after another, of which none is refused
+-- the state that events leave, one after another, where none is refused
 abbrev pub after_events : State → List Event → State
 after_events M [] = M
 after_events M (e ∷ es) = after_events (after_event M e) es
 
--- the state once these have followed the next round, and the live replicas of a block in it
+-- the state once these events have followed the next round, and a block's live replicas in it
 abbrev pub after_obeying : State → List Event → State
 after_obeying M es = after_events (after_round M) es
 
 abbrev pub live_obeying : State → List Event → ℕ → List ℕ
 live_obeying M es b = let N = after_obeying M es in live N.cluster N.holdings b
 
--- All commands are obeyed where the transfers are, as they are listed, node by node, and then the deletes.
+-- One way to obey all: first the transfers, as they are listed, node by node, and then the deletes.
 abbrev pub as_listed : State → List Event
 as_listed M = map copied (transfers_commanded M) ++ map erased (deletes_commanded M)
 
 abbrev pub ListedOrderObeysAll : Type 0
 ListedOrderObeysAll = (M : State) → ObeysAll M (as_listed M)
 
--- nothing that obeys is refused but for want of calls to count
+-- what tells of obedience is refused only where no further call can be counted
 abbrev pub ObedienceIsNotRefused : Type 0
 ObedienceIsNotRefused = (M : State) (es : List Event) (e : Event) → OnlyObeys M es → Obeys M e → refusal_of (after_obeying M es) e ≡ calls_spent (after_obeying M es)
 
@@ -66,6 +65,10 @@ LiveStaysLive = (M : State) (es : List Event) (b s : ℕ) → OnlyObeys M es →
 abbrev pub TargetBecomesLive : Type 0
 TargetBecomesLive = (M : State) (es : List Event) (t : Transfer) → ObeysAll M es → IsTransferCommanded M t → has (live_obeying M es t.block) t.target ≡ true
 
--- so a block has then the live replicas that it has after the round, and one more for each copy that the round chooses for it
-abbrev pub EachCopyIsGained : State → Type 0
-EachCopyIsGained M = (es : List Event) (b : ℕ) → ObeysAll M es → length (live_obeying M es b) ≡ length (live_after M b) + copies_chosen M b
+-- how many copies of a block the next round commands
+abbrev pub copies_commanded : State → ℕ → ℕ
+copies_commanded M b = count_by (λ t. t.block == b) (transfers_commanded M)
+
+-- So a block has then as many live replicas as after the round, and one more for each copy of it that the round commands.
+abbrev pub EachCopyIsGained : Type 0
+EachCopyIsGained = (M : State) (es : List Event) (b : ℕ) → ObeysAll M es → length (live_obeying M es b) ≡ length (live_after M b) + copies_commanded M b

@@ -1,14 +1,13 @@
 // What a round leads to where the nodes obey it, in whatever order, and nothing else happens.
-ghost use Rattle.bm_base.specs.AllStates.{InLawfulStates, AfterAllCalls};
 ghost use Rattle.laws_of_rounds.specs.Obedience as law;
 
-/// What a round commands is obeyed where first the transfers are done, node by node, and then the deletes. The other laws here
-/// hold in this order and in every other one.
+/// A round is obeyed where first its transfers are done, node by node, and then its deletes. The other laws here hold in this
+/// order and in any other.
 pub fn listed_order_obeys_all()
     ensures { law.ListedOrderObeysAll }
 {}
 
-/// Nothing that tells of obedience to a round is refused while calls can be counted, however far the round is obeyed.
+/// What tells that commands of a round are obeyed is refused by no check, but that of the calls that can be counted.
 pub fn obedience_is_not_refused()
     ensures { law.ObedienceIsNotRefused }
 {}
@@ -24,8 +23,7 @@ pub fn target_becomes_live()
 {}
 
 /// Once a round is obeyed, each block has as many live replicas as after the round, and one more for each copy that the round
-/// chooses for it: no block is further from its replication than after the round, and one that gets a copy has more replicas.
+/// commands of it: no block is further from its replication than after the round, and one that gets a copy has more replicas.
 pub fn each_copy_is_gained()
-    ensures lawful { InLawfulStates law.EachCopyIsGained }
-    ensures reached { AfterAllCalls law.EachCopyIsGained }
+    ensures { law.EachCopyIsGained }
 {}
