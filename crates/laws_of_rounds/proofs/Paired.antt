@@ -14,7 +14,8 @@ use Rattle.bm_base.specs.Rounds.{node_commands, has_commands, commands_of, whole
 use Rattle.bm_base.specs.NextRound.{IsAmong, IsTransferCommanded, transfers_chosen, transfers_commanded}
 use Rattle.bm_base.proofs.Each.{Each, each_then, each_appended, each_filtered, each_mapped, each_filter_by, each_flat_map}
 use Rattle.bm_base.proofs.Commanded.{chosen_deletes_of}
-use Rattle.laws_of_rounds.proofs.Grouped.{on_one_node, once_keys}
+use Rattle.laws_of_rounds.proofs.Grouped.{on_one_node}
+use Rattle.bm_base.proofs.OneWish.{once_keys}
 use Rattle.laws_of_rounds.proofs.Sending.{fresh_node}
 use Rattle.laws_of_rounds.proofs.Later.{each_among, each_is, commanded_chosen}
 use Rattle.laws_of_rounds.proofs.Told.{among_cons, cons_head, cons_tail, has_among, no_cons}
