@@ -10,3 +10,4 @@ pub mod OneSlot
 pub mod Emptied
 pub mod Vacant
 pub mod Added
+pub mod ManySlots

@@ -90,7 +90,7 @@ impl KeptLevels {
 
     /// Judges the blocks at these slots anew.
     pub fn judge_all(&mut self, arena: &Arena, slots: &[Slot], around: &Around<'_>)
-        requires room { (bound : ℕ) × ((slot : ℕ) → Among slot slots.now → slot < bound) × HasRoomFor self.old bound }
+        requires room { (slot : ℕ) → Among slot slots.now → HasRoomFor self.old (slot + 1) }
         ensures judged { (slot : ℕ) → Among slot slots.now → IsJudged (replicas.rack_of around.now.topology.now.cluster) (drains_then around.now.topology.now.cluster around.now.turning) around.now.multi (block_at arena.now slot) self.new slot }
         ensures others { (slot : ℕ) → (Among slot slots.now → ⊥) → IsSameAt self.old self.new slot }
         ensures room { (bound : ℕ) → HasRoomFor self.old bound → HasRoomFor self.new bound }
@@ -98,6 +98,17 @@ impl KeptLevels {
         for slot in slots {
             self.judge(arena, *slot, around);
         }
+    }
+
+    /// Judges the blocks at these slots anew, in a cluster that stays as it is.
+    #[tactic(auto, unfolding(crate::specs::Judged::drains_then))]
+    pub(crate) fn judge_all_in(&mut self, topology: &Topology, arena: &Arena, slots: &[Slot])
+        requires room { (slot : ℕ) → Among slot slots.now → HasRoomFor self.old (slot + 1) }
+        ensures judged { (slot : ℕ) → Among slot slots.now → IsJudged (replicas.rack_of topology.now.cluster) (replicas.is_draining topology.now.cluster) (replicas.is_multi_rack topology.now.cluster) (block_at arena.now slot) self.new slot }
+        ensures others { (slot : ℕ) → (Among slot slots.now → ⊥) → IsSameAt self.old self.new slot }
+        ensures room { (bound : ℕ) → HasRoomFor self.old bound → HasRoomFor self.new bound }
+    {
+        self.judge_all(arena, slots, &Around::still(topology));
     }
 
     /// Judges all blocks anew: where the alive nodes come to stand on two racks, or no longer do.

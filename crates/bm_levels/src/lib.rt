@@ -11,6 +11,7 @@ mod count;
 mod judging;
 mod kept;
 mod leveled;
+mod reported;
 #[cfg(test)]
 mod tests;
 

@@ -15,7 +15,7 @@ judge-requires c =
     let x = slice_index_or c.args.slots.now c.loop-slot.slot-index 0 in
     let next : drop c.loop-slot.slot-index c.args.slots.now ≡ x ∷ drop (c.loop-slot.slot-index + 1) c.args.slots.now = grind (arith, common_steps) in
     let there = among_next c.args.slots.now (drop (c.loop-slot.slot-index + 1) c.args.slots.now) c.loop-slot.slot-index x next in
-    record { room = (c.requires.room.0, c.requires.room.1 x there, c.loop-slot.invariant.room c.requires.room.0 c.requires.room.2) }
+    record { room = (x + 1, omega arith, c.loop-slot.invariant.room (x + 1) (c.requires.room x there)) }
 
 pub loop-slot-preserved : goal.loop-slot-preserved
 loop-slot-preserved c =

@@ -1,0 +1,57 @@
+use Rattle.std.proofs.Common.{◌≡◌, ℕ, List, [], ◌⊎◌, inl, inr, refl, subst, sym, ap, ◌∙◌}
+use Rattle.std.specs.Prelude.{◌≢◌, IsSome}
+use Rattle.bm_base.specs.SlotLists.{Among}
+use Rattle.bm_base.proofs.SlotLists.{dec_among}
+use Rattle.bm_base.specs.Replicas.{rack_of, is_draining, is_multi_rack}
+use Rattle.bm_arena.specs.Contents.{block_at, IsEntry}
+use Rattle.bm_levels.specs.Kept.{IsJudged, IsSameAt}
+use Rattle.bm_levels.specs.Leveled.{Leveled, IsLeveled, AreLevels}
+use Rattle.bm_levels.proofs.OneSlot.{held_by}
+use Rattle.bm_levels.proofs.ManySlots.{leveled_reported, levels_reported}
+use Rattle.bm_levels.proofs.leveled.LeveledBlocks.apply_report.Goals as goal
+
+pub judge_all_in-requires : goal.judge_all_in-requires
+judge_all_in-requires c = record {
+  room = λ slot there.
+      let P : List ℕ → Type 0 = λ l. Among slot l in
+      elim (c.apply_full-applied.ensures.listed slot (subst P c.changed.ensures there)) [
+        | inl old ↦ absurd (subst P c.requires.fresh old)
+        | inr e ↦ c.self.invariant.room slot (held_by c.self.inside.arena slot (c.lawful.ensures.found e.0 slot e.1))
+      ];
+}
+
+abbrev before : goal.After-judge_all_in → Leveled
+before c = record { arena = c.self.inside.arena; kept = c.self.inside.kept }
+
+each : (c : goal.After-judge_all_in) → (slot : ℕ) → slot ≢ c.self.inside.arena.delimiter
+    → (IsJudged (rack_of c.args.topology.now.cluster) (is_draining c.args.topology.now.cluster) (is_multi_rack c.args.topology.now.cluster) (block_at c.apply_full-applied.new.arena slot) c.judge_all_in.new.self slot)
+    ⊎ ((block_at c.apply_full-applied.new.arena slot ≡ block_at c.self.inside.arena slot) × IsSameAt c.self.inside.kept c.judge_all_in.new.self slot)
+each c slot ne =
+    elim (dec_among slot c.changed.result.now) [
+      | inl there ↦ inl (c.judge_all_in.ensures.judged slot there)
+      | inr absent ↦
+          let P : List ℕ → Type 0 = λ l. Among slot l → ⊥ in
+          inr (c.apply_full-applied.ensures.changed slot ne (subst P c.changed.ensures absent), c.judge_all_in.ensures.others slot absent)
+    ]
+
+mark : (c : goal.After-judge_all_in) → IsSameAt c.self.inside.kept c.judge_all_in.new.self c.self.inside.arena.delimiter
+mark c =
+    c.judge_all_in.ensures.others c.self.inside.arena.delimiter
+    (λ there.
+    let P : List ℕ → Type 0 = λ l. Among c.self.inside.arena.delimiter l in
+    elim (c.apply_full-applied.ensures.listed c.self.inside.arena.delimiter (subst P c.changed.ensures there)) [
+      | inl old ↦ subst P c.requires.fresh old
+      | inr e ↦ (c.lawful.ensures.found e.0 c.self.inside.arena.delimiter e.1).0 refl
+    ])
+
+pub invariant_of-self : goal.invariant_of-self
+invariant_of-self c =
+    let r = c.apply_full-applied.ensures in
+    leveled_reported c.args.topology.now.cluster (before c) c.apply_full-applied.new.arena c.judge_all_in.new.self r.entries.delimiter r.free r.entries.known (each c) (mark c) c.self.invariant c.judge_all_in.ensures.room
+
+pub returns-clause-levels : goal.returns-clause-levels
+returns-clause-levels c =
+    let r = c.apply_full-applied.ensures in
+    let P : Leveled → Type 0 = λ v. AreLevels c.args.topology.now.cluster v → AreLevels c.args.topology.now.cluster (record { arena = c.apply_full-applied.new.arena; kept = c.judge_all_in.new.self }) in
+    subst P c.self.view_is
+    (levels_reported c.args.topology.now.cluster (before c) c.apply_full-applied.new.arena c.judge_all_in.new.self r.entries.delimiter r.free r.entries.known (each c) (mark c) c.self.invariant)

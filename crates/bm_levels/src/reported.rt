@@ -1,0 +1,71 @@
+// Notices of received replicas and full reports, with the levels of the blocks that they change.
+ghost use Rattle.std.specs.Prelude.{◌≡◌, ◌∷◌, [], ℕ};
+ghost use Rattle.bm_base.specs.Events as events;
+ghost use Rattle.bm_base.specs.Calls as calls;
+ghost use Rattle.bm_arena.specs.Contents.{KeepsEntries};
+ghost use Rattle.bm_arena.specs.Holding.{replicas_of, blocks_of, holdings_of};
+ghost use Rattle.bm_report.specs.Midway.{IsOncePerNode};
+ghost use Rattle.bm_report.specs.Ready.{told, IsReady, HasGoodExcess};
+ghost use Rattle.bm_report.specs.Received.{HasReceived};
+ghost use Rattle.bm_levels.specs.Leveled.{AreLevels};
+
+use crate::leveled::LeveledBlocks;
+use bm_base::{BlockId, Stamp, StorageId};
+use bm_report::{Applied, Report};
+use bm_topo::Topology;
+
+impl LeveledBlocks {
+    /// A replica of a block was received on a storage, for which the report was made ready by its one entry: it is there, and leaves
+    /// the other storages of the node. Takes no memory.
+    pub fn receive(
+        &mut self,
+        report: &Report,
+        topology: &Topology,
+        storage: StorageId,
+        id: BlockId,
+        stamp: Stamp,
+    ) -> Applied
+        requires told { told report.now ≡ record { id = id; stamp = stamp } ∷ [] }
+        requires ready { IsReady report.now self.old.arena storage }
+        requires once { IsOncePerNode topology.now.cluster (replicas_of self.old.arena) }
+        ensures received { HasReceived topology.now.cluster storage id stamp self.old.arena self.new.arena result }
+        ensures levels { AreLevels topology.now.cluster self.old → AreLevels topology.now.cluster self.new }
+    {
+        self.arena.lawful();
+        let found = self.arena.find(id);
+        let applied = report.apply_received(&mut self.arena, topology, storage, id, stamp);
+        if let Some(slot) = found {
+            self.kept.judge_in(topology, &self.arena, slot);
+        }
+        applied
+    }
+
+    /// Makes the replicas on a storage those of the report that was made ready, and judges the blocks that changed: none where all that
+    /// is named stands already. Takes no memory.
+    pub fn apply_report(
+        &mut self,
+        report: &mut Report,
+        topology: &Topology,
+        storage: StorageId,
+    ) -> Applied
+        requires ready { IsReady report.old self.old.arena storage }
+        requires fresh { report.old.changed ≡ [] }
+        requires once { IsOncePerNode topology.now.cluster (replicas_of self.old.arena) }
+        requires good { HasGoodExcess (replicas_of self.old.arena) }
+        ensures replicas { replicas_of self.new.arena ≡ (events.report topology.now.cluster (holdings_of self.old.arena) storage (told report.old)).replicas }
+        ensures blocks { blocks_of self.new.arena ≡ blocks_of self.old.arena }
+        ensures entries { KeepsEntries self.old.arena self.new.arena }
+        ensures once { IsOncePerNode topology.now.cluster (replicas_of self.new.arena) }
+        ensures good { HasGoodExcess (replicas_of self.new.arena) }
+        ensures told { told report.new ≡ told report.old }
+        ensures added { result.added ≡ calls.new_replicas (replicas_of self.old.arena) (replicas_of self.new.arena) }
+        ensures removed { result.removed ≡ calls.new_replicas (replicas_of self.new.arena) (replicas_of self.old.arena) }
+        ensures levels { AreLevels topology.now.cluster self.old → AreLevels topology.now.cluster self.new }
+    {
+        self.arena.lawful();
+        let applied = report.apply_full(&mut self.arena, topology, storage);
+        self.kept
+            .judge_all_in(topology, &self.arena, report.changed());
+        applied
+    }
+}
