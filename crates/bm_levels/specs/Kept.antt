@@ -35,10 +35,6 @@ pub record IsSameAt (old new : Kept) (slot : ℕ) : Type 0 where
   pub level : level_of_slot new slot ≡ level_of_slot old slot
   pub unsettled : IsUnsettled new slot ↔ IsUnsettled old slot
 
--- every slot of an arena is kept as its block is judged in a cluster
-abbrev pub AreJudged : Cluster → Contents → Kept → Type 0
-AreJudged C a K = (slot : ℕ) → IsJudged (rack_of C) (is_draining C) (is_multi_rack C) (block_at a slot) K slot
-
 -- the slots to which numbers lead
 abbrev pub slots_led : Contents → List ℕ
 slots_led a = map (λ (p : ℕ × ℕ). p.1) a.ids

@@ -26,9 +26,3 @@ pub record IsLeveled (v : Leveled) : Type 0 where
 -- the level of each slot is that of its block in a cluster
 abbrev pub AreLevels : Cluster → Leveled → Type 0
 AreLevels C v = (slot : ℕ) → level_of_slot v.kept slot ≡ level_in C (block_at v.arena slot)
-
--- one slot was judged anew, in a cluster, and all others are as they were
-pub record IsJudgedAnew (C : Cluster) (old new : Leveled) (slot : ℕ) : Type 0 where
-  pub judged : IsJudged (rack_of C) (is_draining C) (is_multi_rack C) (block_at new.arena slot) new.kept slot
-  pub blocks : (other : ℕ) → other ≢ slot → block_at new.arena other ≡ block_at old.arena other
-  pub others : (other : ℕ) → other ≢ slot → IsSameAt old.kept new.kept other

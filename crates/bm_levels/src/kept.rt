@@ -3,7 +3,7 @@ ghost use Rattle.std.specs.Prelude.{◌≡◌, ◌≢◌, ◌↔◌, ℕ, ◌+�
 ghost use Rattle.bm_base.specs.declared.refusal.Refusal.TheVariants.{Memory};
 ghost use Rattle.bm_base.specs.declared.level.Level.{Level};
 ghost use Rattle.bm_base.specs.Replicas as replicas;
-ghost use Rattle.bm_base.specs.SlotLists.{Among};
+ghost use Rattle.bm_base.specs.SlotLists.{Among, Distinct};
 ghost use Rattle.bm_arena.specs.Contents.{block_at};
 ghost use Rattle.bm_queues.specs.Levels as queues;
 ghost use Rattle.bm_levels.specs.Judged.{drains_then};
@@ -140,6 +140,7 @@ impl KeptLevels {
     pub fn at_level(&self, level: Level) -> Walk<'_>
         ensures slots { result ≡ queues.slots_of self.now.levels level }
         ensures exact { (slot : ℕ) → Among slot result ↔ (level_of_slot self.now slot ≡ Some level) }
+        ensures once { Distinct result }
     {
         self.levels.lawful();
         self.levels.walk(level)
@@ -147,8 +148,10 @@ impl KeptLevels {
 
     /// The slots at which a round has to look, in any order.
     pub fn unsettled(&self) -> Walk<'_>
-        ensures { result ≡ self.now.unsettled.slots }
+        ensures slots { result ≡ self.now.unsettled.slots }
+        ensures once { Distinct result }
     {
+        self.unsettled.lawful();
         self.unsettled.walk()
     }
 }

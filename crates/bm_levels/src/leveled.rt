@@ -1,11 +1,11 @@
 // The blocks and replicas of a shard, each block with its level.
-ghost use Rattle.std.specs.Prelude.{◌≡◌, ◌≢◌, ℕ, IsSome, None, Some, IfOk, IfErr, OnOk};
+ghost use Rattle.std.specs.Prelude.{◌≡◌, ◌≢◌, ℕ, IsSome, IsSomeAnd, None, Some, [], IfOk, IfErr, OnOk};
 ghost use Rattle.bm_base.specs.declared.refusal.Refusal.TheVariants.{Memory};
 ghost use Rattle.bm_base.specs.Map.{Map, empty, insert, remove};
 ghost use Rattle.bm_base.specs.Levels.{level};
 ghost use Rattle.bm_base.specs.State.{Cluster, by_replica, replica_at};
 ghost use Rattle.bm_arena.specs.Contents.{block_at, slot_of, marks_at, KeepsAllBut, KeepsOthers};
-ghost use Rattle.bm_arena.specs.Holding.{replicas_of, blocks_of, with_known};
+ghost use Rattle.bm_arena.specs.Holding.{replicas_of, blocks_of, info_at, with_known};
 ghost use Rattle.bm_levels.specs.Held.{holdings_with};
 ghost use Rattle.bm_levels.specs.Leveled.{AreLevels, IsLeveled};
 
@@ -54,6 +54,7 @@ impl LeveledBlocks {
         ensures blocks { blocks_of self.new.arena ≡ blocks_of self.old.arena }
         ensures replicas { replicas_of self.new.arena ≡ replicas_of self.old.arena }
         ensures numbers { (other slot : ℕ) → slot_of self.old.arena other ≡ Some slot → slot_of self.new.arena other ≡ Some slot }
+        ensures others { (other : ℕ) → other ≢ id → slot_of self.new.arena other ≡ slot_of self.old.arena other }
         ensures lists { self.new.arena.lists ≡ self.old.arena.lists }
         ensures levels { (C : Cluster) → AreLevels C self.old → AreLevels C self.new }
         ensures refused { IfErr result (λ e. e ≡ Memory) }
@@ -118,6 +119,7 @@ impl LeveledBlocks {
         ensures blocks { blocks_of self.new.arena ≡ blocks_of self.old.arena }
         ensures replicas { replicas_of self.new.arena ≡ replicas_of self.old.arena }
         ensures numbers { (id : ℕ) → slot_of self.old.arena id ≢ Some slot → slot_of self.new.arena id ≡ slot_of self.old.arena id }
+        ensures dropped { IsSomeAnd (block_at self.old.arena slot) (λ b. b.replicas ≡ []) → info_at self.old.arena slot ≡ None → block_at self.new.arena slot ≡ None }
         ensures others { (other : ℕ) → other ≢ slot → block_at self.new.arena other ≡ block_at self.old.arena other }
         ensures lists { self.new.arena.lists ≡ self.old.arena.lists }
         ensures levels { (C : Cluster) → AreLevels C self.old → AreLevels C self.new }
@@ -126,6 +128,28 @@ impl LeveledBlocks {
         if self.arena.is_bare(slot) && self.arena.info(slot).is_none() {
             self.arena.drop_entry(slot);
         }
+    }
+
+    /// Does nothing: a caller has by it that the unsettled slots are just those of blocks that are not settled, that a slot without a
+    /// known block has no level, and that the delimiter is in no list.
+    pub fn lawful(&self)
+        ensures { IsLeveled self.now }
+    {
+        let _ = &self.arena;
+    }
+
+    /// The arena, to be looked at.
+    pub fn arena(&self) -> &Arena
+        ensures { result.now ≡ self.now.arena }
+    {
+        &self.arena
+    }
+
+    /// The levels and the unsettled slots, to be looked at.
+    pub fn kept(&self) -> &KeptLevels
+        ensures { result.now ≡ self.now.kept }
+    {
+        &self.kept
     }
 
     /// The slot of a number that has an entry.

@@ -1,4 +1,4 @@
-use Rattle.std.proofs.Common.{◌≡◌, ℕ, Some, not, subst, sym, ap, ◌∙◌}
+use Rattle.std.proofs.Common.{◌≢◌, ◌≡◌, ℕ, Some, not, subst, sym, ap, ◌∙◌}
 use Rattle.bm_base.specs.State.{Cluster}
 use Rattle.bm_arena.specs.Contents.{Contents, block_at, slot_of, empty_block, IsAdded}
 use Rattle.bm_arena.specs.Holding.{blocks_of, replicas_of}
@@ -58,3 +58,8 @@ pub returns-clause-levels : goal.returns-clause-levels
 returns-clause-levels c =
     let P : Leveled → Type 0 = λ v. (C : Cluster) → AreLevels C v → AreLevels C (record { arena = c.add_entry.new.self; kept = c.grow_to.new.self }) in
     subst P c.self.view_is (levels_added (first c) c.add_entry.new.self c.grow_to.new.self c.args.id c.in_ok-slot.slot c.lawful.ensures (added_else c) c.grow_to.ensures.same)
+
+pub returns-then-is_err-clause-others : goal.returns-then-is_err-clause-others
+returns-then-is_err-clause-others c =
+    let P : Leveled → Type 0 = λ v. (other : ℕ) → other ≢ c.args.id → slot_of c.drop_entry.new.self other ≡ slot_of v.arena other in
+    subst P c.self.view_is (λ other _. numbers c other)
