@@ -153,6 +153,7 @@ impl Report {
         ensures blocks { blocks_of arena.new ≡ blocks_of arena.old }
         ensures lists { arena.new.lists ≡ arena.old.lists }
         ensures delimiter { arena.new.delimiter ≡ arena.old.delimiter }
+        ensures marker { block_at arena.new arena.new.delimiter ≡ block_at arena.old arena.old.delimiter }
         ensures steps { arena.new.steps ≡ arena.old.steps }
         ensures numbers { (b : ℕ) → slot_of arena.new b ≡ (if events.is_named (told self.old) b && is_bare_number arena.old b then None else slot_of arena.old b) }
         ensures entries { (b slot : ℕ) → slot_of arena.new b ≡ Some slot → block_at arena.new slot ≡ block_at arena.old slot }
