@@ -11,3 +11,4 @@ pub mod Emptied
 pub mod Vacant
 pub mod Added
 pub mod ManySlots
+pub mod Readied

@@ -14,7 +14,7 @@ use Rattle.bm_levels.specs.Kept.{Kept, level_of_slot, IsUnsettled, HasRoomFor, I
 use Rattle.bm_levels.specs.Leveled.{Leveled, IsLeveled, AreLevels}
 use Rattle.bm_levels.proofs.Judgement.{level_unknown}
 
-no_replicas : (rs : List (ℕ × Marks)) → ((t : ℕ) → find_marks rs t ≡ None) → rs ≡ []
+pub no_replicas : (rs : List (ℕ × Marks)) → ((t : ℕ) → find_marks rs t ≡ None) → rs ≡ []
 no_replicas [] h = refl
 no_replicas (r ∷ rs) h = absurd (sure (sym (ap (λ b. cond b (Some r.1) (find_marks rs r.0)) (eq-eqb r.0 r.0 refl)) ∙ h r.0))
   where
@@ -22,7 +22,7 @@ no_replicas (r ∷ rs) h = absurd (sure (sym (ap (λ b. cond b (Some r.1) (find_
     sure e = cc
 
 -- an entry with neither a block nor a replica is settled
-marker_settled : (o : Option Block) → ((t : ℕ) → option_and_then (λ (b : Block). find_marks b.replicas t) o ≡ None) → option_and_then (λ (b : Block). b.info) o ≡ None → is_settled_at o ≡ true
+pub marker_settled : (o : Option Block) → ((t : ℕ) → option_and_then (λ (b : Block). find_marks b.replicas t) o ≡ None) → option_and_then (λ (b : Block). b.info) o ≡ None → is_settled_at o ≡ true
 unfolding is_settled_at
 marker_settled None free blank = refl
 marker_settled (Some b) free blank = rw (no_replicas b.replicas free, blank) refl

@@ -1,20 +1,57 @@
 // Notices of received replicas and full reports, with the levels of the blocks that they change.
-ghost use Rattle.std.specs.Prelude.{◌≡◌, ◌∷◌, [], ℕ};
+ghost use Rattle.std.specs.Prelude.{◌≡◌, ◌<◌, ◌∷◌, [], ℕ, IfErr, OnOk};
+ghost use Rattle.bm_base.specs.declared.refusal.Refusal.TheVariants.{Memory};
+ghost use Rattle.bm_base.specs.State.{Cluster};
 ghost use Rattle.bm_base.specs.Events as events;
 ghost use Rattle.bm_base.specs.Calls as calls;
 ghost use Rattle.bm_arena.specs.Contents.{KeepsEntries};
 ghost use Rattle.bm_arena.specs.Holding.{replicas_of, blocks_of, holdings_of};
+ghost use Rattle.bm_report.specs.Expanded.{told_to};
 ghost use Rattle.bm_report.specs.Midway.{IsOncePerNode};
 ghost use Rattle.bm_report.specs.Ready.{told, IsReady, HasGoodExcess};
 ghost use Rattle.bm_report.specs.Received.{HasReceived};
 ghost use Rattle.bm_levels.specs.Leveled.{AreLevels};
 
 use crate::leveled::LeveledBlocks;
-use bm_base::{BlockId, Stamp, StorageId};
+use bm_base::{BlockId, Entry, Part, Refusal, Stamp, StorageId};
 use bm_report::{Applied, Report};
 use bm_topo::Topology;
 
 impl LeveledBlocks {
+    /// Finds the slot of each number of the part that the entries name, gives an entry to a number that has none, and makes all room that
+    /// the end of the report needs. Nothing that is held changes. `Memory`: then the report is given up, and no new entry stays.
+    pub fn ready_report(
+        &mut self,
+        report: &mut Report,
+        storage: StorageId,
+        entries: &[Entry],
+        part: Part,
+    ) -> Result<(), Refusal>
+        requires part { part.index < part.shards }
+        ensures told { OnOk result (told report.new ≡ told_to part entries.now) }
+        ensures ready { OnOk result (IsReady report.new self.new.arena storage) }
+        ensures fresh { OnOk result (report.new.changed ≡ []) }
+        ensures blocks { blocks_of self.new.arena ≡ blocks_of self.old.arena }
+        ensures replicas { replicas_of self.new.arena ≡ replicas_of self.old.arena }
+        ensures levels { (C : Cluster) → AreLevels C self.old → AreLevels C self.new }
+        ensures refused { IfErr result (λ e. e ≡ Memory) }
+    {
+        self.arena.lawful();
+        let found = report.ready(&mut self.arena, storage, entries, part);
+        self.arena.lawful();
+        if found.is_err() {
+            report.abort(&mut self.arena);
+            self.arena.lawful();
+            return Err(Refusal::Memory);
+        }
+        if self.kept.grow_to(self.arena.slot_bound()).is_err() {
+            report.abort(&mut self.arena);
+            self.arena.lawful();
+            return Err(Refusal::Memory);
+        }
+        Ok(())
+    }
+
     /// A replica of a block was received on a storage, for which the report was made ready by its one entry: it is there, and leaves
     /// the other storages of the node. Takes no memory.
     pub fn receive(
