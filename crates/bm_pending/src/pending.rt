@@ -51,7 +51,8 @@ impl PendingTransfers {
         }
     }
 
-    /// Makes room for so many more transfers of a block. May answer `Memory`, but not where there is room for one or more already.
+    /// Makes room for so many more transfers of a block. May answer `Memory`, but not where one or more
+    /// are asked for and there is room for so many already.
     pub fn reserve(&mut self, block: BlockId, additional: usize) -> Result<(), Refusal>
         ensures map { self.new.map ≡ self.old.map }
         ensures room { OnOk result (additional ≤ room self.new block) }
