@@ -1,5 +1,5 @@
 -- Where a report was made ready, or was not after all, nothing that is held changes.
-use Rattle.std.specs.Prelude.{◌≡◌, ◌≢◌, ◌↔◌, ℕ, ◌+◌, Bool, true, false, not, ◌&&◌, ◌==◌, if◌then◌else◌, List, [], ◌∷◌, length, Option, Some, None, IsSome, IsTrue, is_some, option_and_then}
+use Rattle.std.specs.Prelude.{◌≡◌, ◌≢◌, ℕ, ◌+◌, Bool, true, false, not, ◌&&◌, ◌==◌, if◌then◌else◌, List, [], ◌∷◌, length, Option, Some, None, IsSome, is_some, option_and_then}
 use Rattle.std.specs.Option.{option_map_or}
 use Rattle.std.proofs.Common.{refl, sym, ap, subst, ◌∙◌, inl, inr, ◌⊎◌, arith}
 use Rattle.std.proofs.lemmas.Bool.{cases_eq, eqb-true, true≢false, false≢true}
@@ -9,15 +9,14 @@ use Rattle.bm_base.specs.declared.replica.BlockInfo.{BlockInfo}
 use Rattle.bm_base.specs.State.{Cluster, replica_at}
 use Rattle.bm_base.specs.Map.{get}
 use Rattle.bm_base.specs.Replicas.{rack_of, is_draining, is_multi_rack}
-use Rattle.bm_base.specs.Events as events
 use Rattle.bm_arena.specs.Triplets.{Block}
 use Rattle.bm_arena.specs.Contents.{Contents, block_at, slot_of, marks_at, find_marks, room_at, with_room, IsLawful}
-use Rattle.bm_arena.specs.Holding.{info_at, info_in, replica_in, replicas_of, blocks_of}
+use Rattle.bm_arena.specs.Holding.{info_at, info_in, replica_in}
 use Rattle.bm_arena.proofs.Held.{get-replicas_of, get-blocks_of}
 use Rattle.bm_report.specs.Expanded.{IsPrepared}
 use Rattle.bm_report.specs.Aborted.{is_bare_block, is_bare_number}
 use Rattle.bm_levels.specs.Judged.{level_in, level_by, is_settled_at}
-use Rattle.bm_levels.specs.Kept.{Kept, level_of_slot, IsUnsettled, HasRoomFor, IsSameAt}
+use Rattle.bm_levels.specs.Kept.{Kept, HasRoomFor, IsSameAt}
 use Rattle.bm_levels.specs.Leveled.{Leveled, IsLeveled, AreLevels}
 use Rattle.bm_levels.proofs.Judgement.{level_unknown}
 use Rattle.bm_levels.proofs.ManySlots.{no_replicas, marker_settled}

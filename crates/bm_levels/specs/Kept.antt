@@ -1,13 +1,11 @@
 -- What is kept of blocks beside their replicas, by slot.
 use Rattle.std.specs.Prelude.{◌≡◌, ◌↔◌, ℕ, ◌≤◌, Bool, false, List, length, map, Option}
 use Rattle.bm_base.specs.declared.level.Level.{Level}
-use Rattle.bm_base.specs.State.{Cluster}
-use Rattle.bm_base.specs.Replicas.{rack_of, is_draining, is_multi_rack}
 use Rattle.bm_base.specs.SlotLists.{Among}
 use Rattle.bm_queues.specs.Levels.{Levels, level_at}
 use Rattle.bm_queues.specs.Members.{Members}
 use Rattle.bm_arena.specs.Triplets.{Block}
-use Rattle.bm_arena.specs.Contents.{Contents, block_at}
+use Rattle.bm_arena.specs.Contents.{Contents}
 use Rattle.bm_levels.specs.Judged.{level_by, is_settled_at}
 
 -- the levels of the slots, and the slots at which a round has to look

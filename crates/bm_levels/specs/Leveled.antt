@@ -1,11 +1,10 @@
 -- Blocks and replicas in an arena, with what is kept of each block beside them.
-use Rattle.std.specs.Prelude.{◌≡◌, ◌≢◌, ◌↔◌, ℕ, ◌+◌, false, None, IsSome}
+use Rattle.std.specs.Prelude.{◌≡◌, ◌↔◌, ℕ, ◌+◌, false, None, IsSome}
 use Rattle.bm_base.specs.State.{Cluster}
 use Rattle.bm_arena.specs.Contents.{Contents, block_at, marks_at}
 use Rattle.bm_arena.specs.Holding.{info_at}
 use Rattle.bm_levels.specs.Judged.{level_in, is_settled_at}
-use Rattle.bm_levels.specs.Kept.{Kept, level_of_slot, IsUnsettled, HasRoomFor, IsJudged, IsSameAt}
-use Rattle.bm_base.specs.Replicas.{rack_of, is_draining, is_multi_rack}
+use Rattle.bm_levels.specs.Kept.{Kept, level_of_slot, IsUnsettled, HasRoomFor}
 
 pub record Leveled : Type 0 where
   pub arena : Contents

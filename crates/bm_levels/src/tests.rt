@@ -1,7 +1,8 @@
-// A block without replicas, from its entry to the entry's end: what each call answers with ample memory.
+// What each call that may be refused memory answers with ample memory.
 
 use crate::LeveledBlocks;
-use bm_base::{BlockId, BlockInfo, Gen, Level, Stamp};
+use bm_base::{BlockId, BlockInfo, Entry, Gen, Level, Part, Stamp, StorageId};
+use bm_report::Report;
 use bm_topo::Topology;
 
 #[test]
@@ -27,4 +28,31 @@ fn a_block_comes_and_goes(rt: HostRuntime) {
     let slot = blocks.slot_of(id).expect(&rt, "its entry");
     blocks.drop_if_bare(slot);
     assert!(rt; blocks.slot_of(id).is_none());
+}
+
+/// A report of two blocks is made ready: both numbers of the part have an entry, and nothing is held of them.
+#[test]
+fn a_report_is_made_ready(rt: HostRuntime) {
+    let alloc = rt.alloc();
+    let mut blocks = LeveledBlocks::new(alloc).expect(&rt, "memory");
+    let mut report = Report::new(alloc);
+    let stamp = Stamp {
+        generation: Gen(1),
+        len: 10,
+    };
+    let entries = [Entry {
+        from: BlockId(7),
+        to: BlockId(9),
+        stamp,
+    }];
+    let part = Part {
+        index: 1,
+        shards: 2,
+    };
+    let ready = blocks.ready_report(&mut report, StorageId(11), entries.as_slice(), part);
+    assert!(rt; ready.is_ok());
+    assert!(rt; blocks.slot_of(BlockId(7)).is_some());
+    assert!(rt; blocks.slot_of(BlockId(8)).is_none());
+    assert!(rt; blocks.slot_of(BlockId(9)).is_some());
+    assert!(rt; blocks.level(BlockId(7)).is_none());
 }

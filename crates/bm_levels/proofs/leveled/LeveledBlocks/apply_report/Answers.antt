@@ -1,11 +1,11 @@
-use Rattle.std.proofs.Common.{◌≡◌, ℕ, List, [], ◌⊎◌, inl, inr, refl, subst, sym, ap, ◌∙◌}
-use Rattle.std.specs.Prelude.{◌≢◌, IsSome}
+use Rattle.std.proofs.Common.{◌≡◌, ℕ, List, ◌⊎◌, inl, inr, refl, subst}
+use Rattle.std.specs.Prelude.{◌≢◌}
 use Rattle.bm_base.specs.SlotLists.{Among}
 use Rattle.bm_base.proofs.SlotLists.{dec_among}
 use Rattle.bm_base.specs.Replicas.{rack_of, is_draining, is_multi_rack}
-use Rattle.bm_arena.specs.Contents.{block_at, IsEntry}
+use Rattle.bm_arena.specs.Contents.{block_at}
 use Rattle.bm_levels.specs.Kept.{IsJudged, IsSameAt}
-use Rattle.bm_levels.specs.Leveled.{Leveled, IsLeveled, AreLevels}
+use Rattle.bm_levels.specs.Leveled.{Leveled, AreLevels}
 use Rattle.bm_levels.proofs.OneSlot.{held_by}
 use Rattle.bm_levels.proofs.ManySlots.{leveled_reported, levels_reported}
 use Rattle.bm_levels.proofs.leveled.LeveledBlocks.apply_report.Goals as goal

@@ -1,12 +1,11 @@
-use Rattle.std.proofs.Common.{◌≡◌, ℕ, Bool, not, subst, sym, ap, ◌∙◌}
+use Rattle.std.proofs.Common.{ℕ, not, subst, ap, ◌∙◌}
 use Rattle.std.specs.Prelude.{IsSome}
 use Rattle.bm_base.specs.State.{Cluster}
 use Rattle.bm_base.specs.Events.{is_named}
 use Rattle.bm_arena.specs.Contents.{block_at}
 use Rattle.bm_report.specs.Ready.{told}
 use Rattle.bm_report.proofs.Simple.{ok_then}
-use Rattle.bm_levels.specs.Kept.{HasRoomFor}
-use Rattle.bm_levels.specs.Leveled.{Leveled, IsLeveled, AreLevels}
+use Rattle.bm_levels.specs.Leveled.{Leveled, AreLevels}
 use Rattle.bm_levels.proofs.Keeping.{same_itself}
 use Rattle.bm_levels.proofs.Added.{room_below}
 use Rattle.bm_levels.proofs.Readied.{AreAlike, alike_ready, alike_again, held_before, leveled_alike, levels_alike}
