@@ -14,7 +14,7 @@ use Rattle.bm_base.specs.Events.{entered, report}
 use Rattle.bm_report.specs.declared.types.Named.{Named}
 use Rattle.bm_report.specs.Midway.{midway_marks, settled, last_stamp, told_of, IsOncePerNode}
 use Rattle.bm_report.specs.Ready.{HasGoodExcess}
-use Rattle.bm_report.proofs.Sisters.{sisters_turned, no_sister_itself}
+use Rattle.bm_base.proofs.Clusters.{sisters_turned, no_sister_itself}
 use Rattle.bm_report.proofs.Maps.{Held}
 use Rattle.bm_report.proofs.Reported.{report_own, report_other, entered_settled}
 

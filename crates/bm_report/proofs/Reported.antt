@@ -19,7 +19,7 @@ use Rattle.bm_base.proofs.Ties.{replica_tie}
 use Rattle.bm_report.specs.declared.types.Named.{Named}
 use Rattle.bm_report.specs.Midway.{midway_marks, settled, entered_one, entered_all, out_all, settled_one, settled_all, last_stamp, told_of}
 use Rattle.bm_arena.proofs.Words.{eqb_turned}
-use Rattle.bm_report.proofs.Sisters.{no_sister_itself}
+use Rattle.bm_base.proofs.Clusters.{no_sister_itself}
 use Rattle.bm_report.proofs.Maps.{Held, tie, tied}
 use Rattle.bm_report.proofs.Once.{get-entered_at}
 use Rattle.bm_report.proofs.Chaining.{entered_one_is}

@@ -23,7 +23,7 @@ use Rattle.bm_report.specs.Midway.{IsOncePerNode, IsExcessGood, is_settled}
 use Rattle.bm_report.specs.Ready.{HasGoodExcess}
 use Rattle.bm_report.specs.Tested.{IsSingle, AreLow}
 use Rattle.bm_arena.proofs.Held.{get-replicas_of}
-use Rattle.bm_report.proofs.Sisters.{no_sister_itself}
+use Rattle.bm_base.proofs.Clusters.{no_sister_itself}
 
 only_one : (rs : List (ℕ × Marks)) (s : ℕ) (r : ℕ × Marks) → length (r ∷ rs) ≤ 1 → IsSome (find_marks (r ∷ rs) s) → r.0 ≡ s
 only_one [] s r few some = by (r.0 == s) refl some
