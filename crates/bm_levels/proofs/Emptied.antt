@@ -1,16 +1,17 @@
 -- Where the entry of a number with neither a block nor a replica is dropped, nothing that is held changes.
-use Rattle.std.specs.Prelude.{◌≡◌, ◌≢◌, ◌↔◌, ℕ, IsSome, true, false, ◌==◌, if◌then◌else◌, [], Option, Some, None, option_and_then, is_some, IsSomeAnd}
+use Rattle.std.specs.Prelude.{◌≡◌, ◌≢◌, ◌↔◌, ℕ, IsSome, Bool, true, false, ◌==◌, if◌then◌else◌, [], Option, Some, None, option_and_then, is_some, IsSomeAnd}
+use Rattle.std.specs.Option.{option_map_or}
 use Rattle.std.proofs.Common.{refl, sym, ap, subst, ◌∙◌, inl, inr}
+use Rattle.std.proofs.lemmas.Option.{same_Some}
 use Rattle.std.proofs.lemmas.Bool.{cases_eq, ne_eqb, eq-eqb, true≢false, false≢true}
-use Rattle.bm_base.specs.State.{Cluster}
-use Rattle.bm_base.specs.Replicas.{rack_of, is_draining, is_multi_rack}
 use Rattle.bm_arena.specs.Triplets.{Block}
 use Rattle.bm_arena.specs.Contents.{Contents, block_at, slot_of, find_marks, dropped, IsLawful}
-use Rattle.bm_arena.specs.Holding.{replicas_of, blocks_of, info_at}
+use Rattle.bm_arena.specs.Holding.{replicas_at, replicas_of, blocks_of, info_at}
 use Rattle.bm_arena.proofs.Held.{same_replicas, same_blocks}
-use Rattle.bm_levels.specs.Judged.{level_in, level_by, is_settled_at}
+use Rattle.bm_levels.specs.Judged.{level_by, is_settled_at}
 use Rattle.bm_levels.specs.Kept.{IsUnsettled}
-use Rattle.bm_levels.specs.Leveled.{Leveled, IsLeveled, AreLevels}
+use Rattle.bm_levels.specs.Leveled.{Leveled, IsLeveled}
+use Rattle.bm_levels.specs.LevelsBy.{AreLevelsBy}
 use Rattle.bm_levels.proofs.Judgement.{level_unknown}
 
 module _ (old : Leveled) (c : Contents) (slot : ℕ) (k : Block) (lawful : IsLawful old.arena) (here : block_at old.arena slot ≡ Some k) (apart : slot ≢ old.arena.delimiter)
@@ -57,6 +58,12 @@ module _ (old : Leveled) (c : Contents) (slot : ℕ) (k : Block) (lawful : IsLaw
   pub numbers_still : (id : ℕ) → slot_of a id ≢ Some slot → slot_of c id ≡ slot_of a id
   numbers_still id ne = numbers id ∙ ap (λ b. if b then None else slot_of a id) (ne_eqb k.id id (λ e. ne (sym (ap (slot_of a) e) ∙ leads)))
 
+  pub numbers_gone : (id : ℕ) → slot_of a id ≡ Some slot → slot_of c id ≡ None
+  numbers_gone id led =
+      let f = lawful.found id slot led in
+      let same : k ≡ f.1 = same_Some k f.1 (sym here ∙ f.2) in
+      numbers id ∙ ap (λ b. if b then None else slot_of a id) (eq-eqb k.id id (ap (λ (b : Block). b.id) same ∙ f.3))
+
   settled_empty : is_settled_at (Some k) ≡ true
   unfolding is_settled_at
   settled_empty = rw (bare, unknown) refl
@@ -86,14 +93,14 @@ module _ (old : Leveled) (c : Contents) (slot : ℕ) (k : Block) (lawful : IsLaw
     ];
   }
 
-  pub levels_still : (C : Cluster) → AreLevels C old → AreLevels C (record { arena = c; kept = old.kept })
+  pub levels_still : (rack : ℕ → Option ℕ) (draining : ℕ → Bool) (multi : Bool) → AreLevelsBy rack draining multi old → AreLevelsBy rack draining multi (record { arena = c; kept = old.kept })
   unfolding level_by
-  levels_still C h z = elim (cases_eq z slot) [
+  levels_still rack draining multi h z = elim (cases_eq z slot) [
     | inl same ↦
         let vacant : block_at c z ≡ None = entries z ∙ ap (λ b. if b then None else block_at a z) (eq-eqb z slot same) in
         let was : block_at a z ≡ Some k = ap (block_at a) same ∙ here in
-        h z ∙ ap (level_in C) was ∙ sym (level_unknown (rack_of C) (is_draining C) (is_multi_rack C) (Some k) unknown) ∙ sym (ap (level_in C) vacant)
-    | inr differs ↦ h z ∙ sym (ap (level_in C) (still z differs))
+        h z ∙ ap (level_by rack draining multi) was ∙ sym (level_unknown rack draining multi (Some k) unknown) ∙ sym (ap (level_by rack draining multi) vacant)
+    | inr differs ↦ h z ∙ sym (ap (level_by rack draining multi) (still z differs))
   ]
 
 -- all that a dropped entry leaves as it was
@@ -101,8 +108,9 @@ pub record IsEmptied (old : Leveled) (c : Contents) (slot : ℕ) : Type 0 where
   pub replicas : replicas_of c ≡ replicas_of old.arena
   pub blocks : blocks_of c ≡ blocks_of old.arena
   pub numbers : (id : ℕ) → slot_of old.arena id ≢ Some slot → slot_of c id ≡ slot_of old.arena id
+  pub gone : (id : ℕ) → slot_of old.arena id ≡ Some slot → slot_of c id ≡ None
   pub leveled : IsLeveled old → IsLeveled (record { arena = c; kept = old.kept })
-  pub levels : (C : Cluster) → AreLevels C old → AreLevels C (record { arena = c; kept = old.kept })
+  pub levels : (rack : ℕ → Option ℕ) (draining : ℕ → Bool) (multi : Bool) → AreLevelsBy rack draining multi old → AreLevelsBy rack draining multi (record { arena = c; kept = old.kept })
 
 pub emptied : (old : Leveled) (c : Contents) (slot id : ℕ) → IsLawful old.arena → slot_of old.arena id ≡ Some slot → IsSomeAnd (block_at old.arena slot) (λ (b : Block). b.replicas ≡ []) → info_at old.arena slot ≡ None
     → ((b : Block) → block_at old.arena slot ≡ Some b → c ≡ dropped old.arena slot b.id)
@@ -121,6 +129,7 @@ emptied old c slot id lawful here bare unknown after entries numbers =
       replicas = replicas_still old c slot k lawful e f.0 none info entries (numbers k e) (ap (λ (x : Contents). x.delimiter) is);
       blocks = blocks_still old c slot k lawful e f.0 none info entries (numbers k e) (ap (λ (x : Contents). x.delimiter) is);
       numbers = numbers_still old c slot k lawful e f.0 none info entries (numbers k e) (ap (λ (x : Contents). x.delimiter) is);
+      gone = numbers_gone old c slot k lawful e f.0 none info entries (numbers k e) (ap (λ (x : Contents). x.delimiter) is);
       leveled = leveled_still old c slot k lawful e f.0 none info entries (numbers k e) (ap (λ (x : Contents). x.delimiter) is);
       levels = levels_still old c slot k lawful e f.0 none info entries (numbers k e) (ap (λ (x : Contents). x.delimiter) is);
     }
@@ -128,3 +137,10 @@ emptied old c slot id lawful here bare unknown after entries numbers =
 pub no_value : {X : Type 0} (o : Option X) → is_some o ≡ false → o ≡ None
 no_value None e = refl
 no_value (Some x) e = cc
+
+-- a slot that is led to, with no replica in its list, is bare
+pub bare_at : (a : Contents) (slot id : ℕ) → IsLawful a → slot_of a id ≡ Some slot → replicas_at a slot ≡ [] → IsSomeAnd (block_at a slot) (λ (b : Block). b.replicas ≡ [])
+bare_at a slot id lawful here none =
+    let f = lawful.found id slot here in
+    let P : Option Block → Type 0 = λ o. IsSomeAnd o (λ (b : Block). b.replicas ≡ []) in
+    subst P (sym f.2) (sym (ap (λ o. option_map_or (λ (b : Block). b.replicas) o []) f.2) ∙ none)

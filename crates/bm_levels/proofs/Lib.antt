@@ -12,3 +12,15 @@ pub mod Vacant
 pub mod Added
 pub mod ManySlots
 pub mod Readied
+pub mod Standing
+pub mod Rejudged
+pub mod Leaving
+pub mod Places
+pub mod Draining
+pub mod AllMarks
+pub mod Revising
+pub mod Flagging
+pub mod RoundMarks
+pub mod Going
+pub mod Beginning
+pub mod RoundStart

@@ -27,7 +27,7 @@ unfolding is_settled_at
 marker_settled None free blank = refl
 marker_settled (Some b) free blank = rw (no_replicas b.replicas free, blank) refl
 
-known_info : (o p : Option Block) → known_of o ≡ known_of p → option_and_then (λ (b : Block). b.info) o ≡ option_and_then (λ (b : Block). b.info) p
+pub known_info : (o p : Option Block) → known_of o ≡ known_of p → option_and_then (λ (b : Block). b.info) o ≡ option_and_then (λ (b : Block). b.info) p
 known_info o p e = sym (by o) ∙ ap (λ k. option_and_then (λ (x : ℕ × Option BlockInfo). x.1) k) e ∙ by p
   where
     by : (o : Option Block) → option_and_then (λ (x : ℕ × Option BlockInfo). x.1) (known_of o) ≡ option_and_then (λ (b : Block). b.info) o

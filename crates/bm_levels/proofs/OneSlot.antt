@@ -1,5 +1,5 @@
 -- Where one slot changed and was judged anew, all that holds between calls holds again.
-use Rattle.std.specs.Prelude.{◌≡◌, ◌≢◌, ◌↔◌, ℕ, ◌+◌, IsSome, false, Some, None, Option, option_and_then}
+use Rattle.std.specs.Prelude.{◌≡◌, ◌≢◌, ◌↔◌, ℕ, ◌+◌, IsSome, Bool, false, Some, None, Option, option_and_then}
 use Rattle.std.proofs.Common.{refl, sym, ap, subst, ◌∙◌, inl, inr}
 use Rattle.std.proofs.lemmas.Bool.{cases_eq}
 use Rattle.bm_base.specs.State.{Cluster}
@@ -7,9 +7,10 @@ use Rattle.bm_base.specs.Replicas.{rack_of, is_draining, is_multi_rack}
 use Rattle.bm_arena.specs.Triplets.{Block}
 use Rattle.bm_arena.specs.Contents.{Contents, block_at, find_marks}
 use Rattle.bm_arena.specs.Holding.{info_at}
-use Rattle.bm_levels.specs.Judged.{level_in, is_settled_at}
+use Rattle.bm_levels.specs.Judged.{level_by, is_settled_at}
 use Rattle.bm_levels.specs.Kept.{Kept, level_of_slot, IsUnsettled, HasRoomFor, IsJudged, IsSameAt}
 use Rattle.bm_levels.specs.Leveled.{Leveled, IsLeveled, AreLevels}
+use Rattle.bm_levels.specs.LevelsBy.{AreLevelsBy}
 use Rattle.bm_levels.proofs.Judgement.{level_unknown}
 
 -- a slot that a number leads to is held
@@ -23,14 +24,14 @@ pub record IsChangedAt (old new : Contents) (slot : ℕ) : Type 0 where
   pub apart : slot ≢ old.delimiter
   pub held : IsSome (block_at old slot)
 
-module _ (C : Cluster) (old : Leveled) (a : Contents) (K : Kept) (slot : ℕ) (changed : IsChangedAt old.arena a slot)
-    (judged : IsJudged (rack_of C) (is_draining C) (is_multi_rack C) (block_at a slot) K slot)
+module _ (rack : ℕ → Option ℕ) (draining : ℕ → Bool) (multi : Bool) (old : Leveled) (a : Contents) (K : Kept) (slot : ℕ) (changed : IsChangedAt old.arena a slot)
+    (judged : IsJudged rack draining multi (block_at a slot) K slot)
     (others : (other : ℕ) → other ≢ slot → IsSameAt old.kept K other) where
   marker : block_at a a.delimiter ≡ block_at old.arena old.arena.delimiter
   marker = ap (block_at a) changed.delimiter ∙ changed.blocks old.arena.delimiter (λ e. changed.apart (sym e))
 
-  pub leveled_after : IsLeveled old → ((bound : ℕ) → HasRoomFor old.kept bound → HasRoomFor K bound) → IsLeveled (record { arena = a; kept = K })
-  leveled_after h room = record {
+  pub leveled_where : IsLeveled old → ((bound : ℕ) → HasRoomFor old.kept bound → HasRoomFor K bound) → IsLeveled (record { arena = a; kept = K })
+  leveled_where h room = record {
     free = λ s. ap (λ o. option_and_then (λ (b : Block). find_marks b.replicas s) o) marker ∙ h.free s;
     blank = ap (λ o. option_and_then (λ (b : Block). b.info) o) marker ∙ h.blank;
     room = λ z there. elim (cases_eq z slot) [
@@ -45,13 +46,23 @@ module _ (C : Cluster) (old : Leveled) (a : Contents) (K : Kept) (slot : ℕ) (c
           subst P (sym (changed.blocks z differs)) (λ u. (h.unsettled z).0 (g.unsettled.0 u), λ s. g.unsettled.1 ((h.unsettled z).1 s))
     ];
     unknown = λ z e. elim (cases_eq z slot) [
-      | inl same ↦ let P : ℕ → Type 0 = λ x. info_at a x ≡ None → level_of_slot K x ≡ None in subst P (sym same) (λ f. judged.level ∙ sym (level_unknown (rack_of C) (is_draining C) (is_multi_rack C) (block_at a slot) f)) e
+      | inl same ↦ let P : ℕ → Type 0 = λ x. info_at a x ≡ None → level_of_slot K x ≡ None in subst P (sym same) (λ f. judged.level ∙ sym (level_unknown rack draining multi (block_at a slot) f)) e
       | inr differs ↦ (others z differs).level ∙ h.unknown z (sym (ap (λ o. option_and_then (λ (b : Block). b.info) o) (changed.blocks z differs)) ∙ e)
     ];
   }
 
-  pub levels_after : AreLevels C old → AreLevels C (record { arena = a; kept = K })
-  levels_after h z = elim (cases_eq z slot) [
-    | inl same ↦ let P : ℕ → Type 0 = λ x. level_of_slot K x ≡ level_in C (block_at a x) in subst P (sym same) judged.level
-    | inr differs ↦ (others z differs).level ∙ h z ∙ sym (ap (level_in C) (changed.blocks z differs))
+  pub levels_where : AreLevelsBy rack draining multi old → AreLevelsBy rack draining multi (record { arena = a; kept = K })
+  levels_where h z = elim (cases_eq z slot) [
+    | inl same ↦ let P : ℕ → Type 0 = λ x. level_of_slot K x ≡ level_by rack draining multi (block_at a x) in subst P (sym same) judged.level
+    | inr differs ↦ (others z differs).level ∙ h z ∙ sym (ap (level_by rack draining multi) (changed.blocks z differs))
   ]
+
+-- in a cluster
+module _ (C : Cluster) (old : Leveled) (a : Contents) (K : Kept) (slot : ℕ) (changed : IsChangedAt old.arena a slot)
+    (judged : IsJudged (rack_of C) (is_draining C) (is_multi_rack C) (block_at a slot) K slot)
+    (others : (other : ℕ) → other ≢ slot → IsSameAt old.kept K other) where
+  pub leveled_after : IsLeveled old → ((bound : ℕ) → HasRoomFor old.kept bound → HasRoomFor K bound) → IsLeveled (record { arena = a; kept = K })
+  leveled_after = leveled_where (rack_of C) (is_draining C) (is_multi_rack C) old a K slot changed judged others
+
+  pub levels_after : AreLevels C old → AreLevels C (record { arena = a; kept = K })
+  levels_after = levels_where (rack_of C) (is_draining C) (is_multi_rack C) old a K slot changed judged others

@@ -1,5 +1,5 @@
 -- Where a report was made ready, or was not after all, nothing that is held changes.
-use Rattle.std.specs.Prelude.{◌≡◌, ◌≢◌, ℕ, ◌+◌, Bool, true, false, not, ◌&&◌, ◌==◌, if◌then◌else◌, List, [], ◌∷◌, length, Option, Some, None, IsSome, is_some, option_and_then}
+use Rattle.std.specs.Prelude.{◌≡◌, ◌≢◌, ℕ, ◌+◌, Bool, true, false, not, ◌&&◌, ◌==◌, if◌then◌else◌, List, [], ◌∷◌, length, Option, Some, None, IsSome, IsTrue, is_some, option_and_then}
 use Rattle.std.specs.Option.{option_map_or}
 use Rattle.std.proofs.Common.{refl, sym, ap, subst, ◌∙◌, inl, inr, ◌⊎◌, arith}
 use Rattle.std.proofs.lemmas.Bool.{cases_eq, eqb-true, true≢false, false≢true}
@@ -208,3 +208,25 @@ module _ (a c : Contents) (lawful_a : IsLawful a) (lawful_c : IsLawful c) (prepa
         by : slot ≢ d.delimiter → (o : Option Block) → block_at d slot ≡ o → IsSome (block_at d slot) → IsSome (block_at a slot)
         by differs (Some k) e there = was k.id k (lawful_d.known slot k e differs) (slot_of a k.id) refl
         by differs None e there = absurd (false≢true (sym (ap is_some e) ∙ there))
+
+-- an arena is prepared for what it was
+pub as_prepared : (a : Contents) → IsPrepared a a
+as_prepared a = record {
+  replicas = refl;
+  blocks = refl;
+  lists = λ t. refl;
+  heads = λ t h. h;
+  delimiter = refl;
+  steps = refl;
+  slots = λ b slot e. e;
+  held = λ slot h. h;
+  marks = λ slot t h. refl;
+  room = λ slot ne h. h;
+  entries = λ slot b e. e ∙ ap (λ n. Some (with_room n b)) (sym (ap (λ o. option_map_or (λ (k : Block). k.room) o 0) e));
+  grows = λ slot. omega arith;
+  bound = omega arith;
+}
+
+-- and has no number that it had not
+pub none_fresh : (a : Contents) (named : ℕ → Bool) (b : ℕ) → slot_of a b ≡ None → IsSome (slot_of a b) → IsTrue (named b)
+none_fresh a named b none some = absurd (let P : Option ℕ → Type 0 = λ o. IsSome o in false≢true (subst P none some))

@@ -4,6 +4,7 @@ use Rattle.bm_base.specs.declared.level.Level.{Level}
 use Rattle.bm_base.specs.SlotLists.{Among}
 use Rattle.bm_queues.specs.Levels.{Levels, level_at}
 use Rattle.bm_queues.specs.Members.{Members}
+use Rattle.bm_queues.specs.Walks.{slots_from, IsOn, IsPast}
 use Rattle.bm_arena.specs.Triplets.{Block}
 use Rattle.bm_arena.specs.Contents.{Contents}
 use Rattle.bm_levels.specs.Judged.{level_by, is_settled_at}
@@ -36,3 +37,8 @@ pub record IsSameAt (old new : Kept) (slot : ℕ) : Type 0 where
 -- the slots to which numbers lead
 abbrev pub slots_led : Contents → List ℕ
 slots_led a = map (λ (p : ℕ × ℕ). p.1) a.ids
+
+-- for one who goes over a list, and has left a slot behind, a change keeps where they stand and what is still to come
+pub record KeepsAhead (slot : ℕ) (old new : List ℕ) : Type 0 where
+  pub rest : (at : Option ℕ) → IsPast slot at old → slots_from new at ≡ slots_from old at
+  pub on : (at : Option ℕ) → IsPast slot at old → IsOn at old → IsOn at new

@@ -1,13 +1,15 @@
 // What is kept of the blocks of a shard beside their replicas.
-ghost use Rattle.std.specs.Prelude.{◌≡◌, ◌≢◌, ◌↔◌, ℕ, ◌+◌, ◌<◌, Some, None, IfOk, IfErr, OnOk, IsOk};
+ghost use Rattle.std.specs.Prelude.{◌≡◌, ◌≢◌, ◌↔◌, ℕ, ◌+◌, ◌<◌, ◌∷◌, length, Some, None, IfOk, IfErr, OnOk, IsOk};
 ghost use Rattle.bm_base.specs.declared.refusal.Refusal.TheVariants.{Memory};
 ghost use Rattle.bm_base.specs.declared.level.Level.{Level};
+ghost use Rattle.bm_base.specs.Lists.{has};
 ghost use Rattle.bm_base.specs.Replicas as replicas;
 ghost use Rattle.bm_base.specs.SlotLists.{Among, Distinct};
 ghost use Rattle.bm_arena.specs.Contents.{block_at};
 ghost use Rattle.bm_queues.specs.Levels as queues;
+ghost use Rattle.bm_queues.specs.Walks.{slots_from, IsOn, IsPast};
 ghost use Rattle.bm_levels.specs.Judged.{drains_then};
-ghost use Rattle.bm_levels.specs.Kept.{level_of_slot, IsUnsettled, HasRoomFor, IsJudged, IsSameAt, slots_led};
+ghost use Rattle.bm_levels.specs.Kept.{level_of_slot, IsUnsettled, HasRoomFor, IsJudged, IsSameAt, KeepsAhead, slots_led};
 
 use crate::around::Around;
 use crate::judging::judge;
@@ -66,6 +68,7 @@ impl KeptLevels {
         requires room { (bound : ℕ) × (slot < bound) × HasRoomFor self.old bound }
         ensures judged { IsJudged (replicas.rack_of around.now.topology.now.cluster) (drains_then around.now.topology.now.cluster around.now.turning) around.now.multi (block_at arena.now slot) self.new slot }
         ensures others { (other : ℕ) → other ≢ slot → IsSameAt self.old self.new other }
+        ensures ahead { KeepsAhead slot self.old.unsettled.slots self.new.unsettled.slots }
         ensures room { (bound : ℕ) → HasRoomFor self.old bound → HasRoomFor self.new bound }
     {
         let judged = judge(arena, slot, around);
@@ -83,6 +86,7 @@ impl KeptLevels {
         requires room { (bound : ℕ) × (slot < bound) × HasRoomFor self.old bound }
         ensures judged { IsJudged (replicas.rack_of topology.now.cluster) (replicas.is_draining topology.now.cluster) (replicas.is_multi_rack topology.now.cluster) (block_at arena.now slot) self.new slot }
         ensures others { (other : ℕ) → other ≢ slot → IsSameAt self.old self.new other }
+        ensures ahead { KeepsAhead slot self.old.unsettled.slots self.new.unsettled.slots }
         ensures room { (bound : ℕ) → HasRoomFor self.old bound → HasRoomFor self.new bound }
     {
         self.judge(arena, slot, &Around::still(topology));
@@ -144,6 +148,52 @@ impl KeptLevels {
     {
         self.levels.lawful();
         self.levels.walk(level)
+    }
+
+    /// How many slots are unsettled.
+    pub(crate) fn unsettled_count(&self) -> usize
+        ensures { result ≡ length self.now.unsettled.slots }
+    {
+        self.unsettled.len()
+    }
+
+    /// The first of the unsettled slots, from which on all are to come.
+    pub(crate) fn first_unsettled(&self) -> Option<Slot>
+        ensures on { IsOn result self.now.unsettled.slots }
+        ensures rest { slots_from self.now.unsettled.slots result ≡ self.now.unsettled.slots }
+    {
+        self.unsettled.first()
+    }
+
+    /// The slot behind an unsettled one. From there on those are to come that stand behind it: the slot itself may be judged without
+    /// a change to them.
+    pub(crate) fn next_unsettled(&self, slot: Slot) -> Option<Slot>
+        requires { IsUnsettled self.now slot }
+        ensures on { IsOn result self.now.unsettled.slots }
+        ensures rest { slots_from self.now.unsettled.slots (Some slot) ≡ slot ∷ slots_from self.now.unsettled.slots result }
+        ensures past { IsPast slot result self.now.unsettled.slots }
+    {
+        self.unsettled.lawful();
+        self.unsettled.next(slot)
+    }
+
+    /// Does nothing: a caller has by it that a level's list has just the slots at the level, each once, and that no slot is twice
+    /// unsettled.
+    pub fn lawful(&self)
+        ensures listed { (level : Level) (slot : ℕ) → Among slot (queues.slots_of self.now.levels level) ↔ (level_of_slot self.now slot ≡ Some level) }
+        ensures once { (level : Level) → Distinct (queues.slots_of self.now.levels level) }
+        ensures unsettled { Distinct self.now.unsettled.slots }
+    {
+        self.levels.lawful();
+        self.unsettled.lawful();
+    }
+
+    /// Whether a round has to look at a slot.
+    pub fn is_unsettled(&self, slot: Slot) -> bool
+        ensures { result ≡ has self.now.unsettled.slots slot }
+    {
+        self.unsettled.lawful();
+        slot < self.unsettled.room() && self.unsettled.contains(slot)
     }
 
     /// The slots at which a round has to look, in any order.

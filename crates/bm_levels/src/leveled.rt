@@ -1,13 +1,14 @@
 // The blocks and replicas of a shard, each block with its level.
-ghost use Rattle.std.specs.Prelude.{◌≡◌, ◌≢◌, ℕ, IsSome, IsSomeAnd, None, Some, [], IfOk, IfErr, OnOk};
+ghost use Rattle.std.specs.Prelude.{◌≡◌, ◌≢◌, ℕ, Bool, Option, IsSome, IsSomeAnd, None, Some, [], IfOk, IfErr, OnOk};
 ghost use Rattle.bm_base.specs.declared.refusal.Refusal.TheVariants.{Memory};
 ghost use Rattle.bm_base.specs.Map.{Map, empty, insert, remove};
 ghost use Rattle.bm_base.specs.Levels.{level};
 ghost use Rattle.bm_base.specs.State.{Cluster, by_replica, replica_at};
 ghost use Rattle.bm_arena.specs.Contents.{block_at, slot_of, marks_at, KeepsAllBut, KeepsOthers};
-ghost use Rattle.bm_arena.specs.Holding.{replicas_of, blocks_of, info_at, with_known};
+ghost use Rattle.bm_arena.specs.Holding.{replicas_at, replicas_of, blocks_of, info_at, with_known};
 ghost use Rattle.bm_levels.specs.Held.{holdings_with};
 ghost use Rattle.bm_levels.specs.Leveled.{AreLevels, IsLeveled};
+ghost use Rattle.bm_levels.specs.LevelsBy.{AreLevelsBy};
 
 use crate::kept::KeptLevels;
 use bm_arena::{Arena, Slot};
@@ -120,9 +121,11 @@ impl LeveledBlocks {
         ensures replicas { replicas_of self.new.arena ≡ replicas_of self.old.arena }
         ensures numbers { (id : ℕ) → slot_of self.old.arena id ≢ Some slot → slot_of self.new.arena id ≡ slot_of self.old.arena id }
         ensures dropped { IsSomeAnd (block_at self.old.arena slot) (λ b. b.replicas ≡ []) → info_at self.old.arena slot ≡ None → block_at self.new.arena slot ≡ None }
+        ensures gone { (id : ℕ) → slot_of self.old.arena id ≡ Some slot → replicas_at self.old.arena slot ≡ [] → info_at self.old.arena slot ≡ None → slot_of self.new.arena id ≡ None }
         ensures others { (other : ℕ) → other ≢ slot → block_at self.new.arena other ≡ block_at self.old.arena other }
         ensures lists { self.new.arena.lists ≡ self.old.arena.lists }
         ensures levels { (C : Cluster) → AreLevels C self.old → AreLevels C self.new }
+        ensures levels_by { (rack : ℕ → Option ℕ) (draining : ℕ → Bool) (multi : Bool) → AreLevelsBy rack draining multi self.old → AreLevelsBy rack draining multi self.new }
     {
         self.arena.lawful();
         if self.arena.is_bare(slot) && self.arena.info(slot).is_none() {

@@ -8,12 +8,21 @@
 
 mod around;
 mod count;
+mod dropped;
+mod forgotten;
 mod judging;
 mod kept;
+#[cfg(test)]
+mod leaving_tests;
 mod leveled;
+mod marking;
+mod rejudging;
+mod remarked;
 mod reported;
+mod revised;
 #[cfg(test)]
 mod tests;
+mod turned;
 
 pub use around::{Around, Turning};
 pub use kept::KeptLevels;

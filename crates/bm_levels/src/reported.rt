@@ -1,5 +1,5 @@
 // Notices of received replicas and full reports, with the levels of the blocks that they change.
-ghost use Rattle.std.specs.Prelude.{◌≡◌, ◌<◌, ◌∷◌, [], ℕ, IfErr, OnOk};
+ghost use Rattle.std.specs.Prelude.{◌≡◌, ◌<◌, ◌^◌, ◌∷◌, [], ℕ, IfErr, OnOk};
 ghost use Rattle.bm_base.specs.declared.refusal.Refusal.TheVariants.{Memory};
 ghost use Rattle.bm_base.specs.State.{Cluster};
 ghost use Rattle.bm_base.specs.Events as events;
@@ -97,6 +97,7 @@ impl LeveledBlocks {
         ensures told { told report.new ≡ told report.old }
         ensures added { result.added ≡ calls.new_replicas (replicas_of self.old.arena) (replicas_of self.new.arena) }
         ensures removed { result.removed ≡ calls.new_replicas (replicas_of self.new.arena) (replicas_of self.old.arena) }
+        ensures few { (result.added < 2 ^ 100) × (result.removed < 2 ^ 100) }
         ensures levels { AreLevels topology.now.cluster self.old → AreLevels topology.now.cluster self.new }
     {
         self.arena.lawful();

@@ -30,6 +30,26 @@ fn a_block_comes_and_goes(rt: HostRuntime) {
     assert!(rt; blocks.slot_of(id).is_none());
 }
 
+/// A number whose block is deleted has no entry any more, and of it no replica is removed.
+#[test]
+fn a_block_is_deleted(rt: HostRuntime) {
+    let alloc = rt.alloc();
+    let topology = Topology::new(alloc).expect(&rt, "memory");
+    let mut blocks = LeveledBlocks::new(alloc).expect(&rt, "memory");
+    let id = BlockId(7);
+    let stamp = Stamp {
+        generation: Gen(1),
+        len: 10,
+    };
+    blocks.ready_block(id).expect(&rt, "memory");
+    blocks.add_block(&topology, id, BlockInfo { stamp, repl: 3 });
+    assert!(rt; blocks.level(id) == Some(Level::NoUsableReplica));
+    assert!(rt; !blocks.remove_replica(&topology, StorageId(11), id));
+    assert!(rt; blocks.slot_of(id).is_some());
+    blocks.delete_block(&topology, id);
+    assert!(rt; blocks.slot_of(id).is_none());
+}
+
 /// A report of two blocks is made ready: both numbers of the part have an entry, and nothing is held of them.
 #[test]
 fn a_report_is_made_ready(rt: HostRuntime) {

@@ -13,7 +13,7 @@ ghost use Rattle.bm_base.specs.Answering.{checked, Refuses};
 use crate::manager::Manager;
 use bm_base::{Chosen, Commands, Refusal, RoundPart};
 use bm_round::{choose, commands};
-use bm_shard::RoundStart;
+use plain_holdings::RoundStart;
 
 impl Manager {
     /// Takes one round: the round number grows by one, transfers that are too old are given up, and the live replicas that are

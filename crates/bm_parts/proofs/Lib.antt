@@ -30,3 +30,5 @@ pub mod Deaths
 pub mod Leveling
 pub mod Drains
 pub mod Racked
+-- Where replicas stand.
+pub mod WellPlaced

@@ -8,3 +8,4 @@ pub mod EventLaws
 pub mod RoundLaws
 pub mod QueryLaws
 pub mod LevelLaws
+pub mod PlacedLaws

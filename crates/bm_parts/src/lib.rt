@@ -8,12 +8,14 @@
 //! - `queries`: answers of parts, joined
 //! - `settled`: blocks at which a round need not look
 //! - `levels`: events on the cluster after which a shard need not judge its blocks anew
+//! - `placed`: where replicas stand, and which are in excess
 //!
 //! No function here does anything: its contract is a law.
 #![tactic(auto)]
 
 pub mod events;
 pub mod levels;
+pub mod placed;
 pub mod queries;
 pub mod rounds;
 pub mod settled;

@@ -1,2 +1,4 @@
 pub mod OnTheWay
 pub mod Inside
+pub mod Remaining
+pub mod Counted

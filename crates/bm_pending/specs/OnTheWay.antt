@@ -17,6 +17,10 @@ pub record OnTheWay : Type 0 where
 abbrev pub room : OnTheWay → ℕ → ℕ
 room p b = unwrap_or (lookup (nat_eq b) p.rooms) 0
 
+-- the blocks with room or a transfer, at their places
+abbrev pub blocks_in : OnTheWay → List ℕ
+blocks_in p = map (λ e. e.0) p.rooms
+
 -- the targets of a block's transfers, rising
 abbrev pub targets_of : OnTheWay → ℕ → List ℕ
 targets_of p b = map (λ e. e.0.storage) (filter (λ e. e.0.block == b) (entries p.map))

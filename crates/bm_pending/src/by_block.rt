@@ -2,6 +2,7 @@
 ghost use Rattle.std.specs.Prelude.{◌≡◌, ◌≢◌, ◌≤◌, ◌<◌, ◌+◌, ℕ, [], not, ◌==◌, nat_eq, filter, cond, OnOk, IfErr, IsOk, T};
 ghost use Rattle.std.specs.Ordering.{nat_cmp};
 ghost use Rattle.std.specs.FinMap as list;
+ghost use Rattle.std.specs.Map.{keys_of};
 ghost use Rattle.bm_base.specs.declared.refusal.Refusal.TheVariants.{Memory};
 ghost use Rattle.bm_base.specs.Lists.{has};
 ghost use Rattle.bm_pending.specs.OnTheWay.{is_expired};
@@ -55,6 +56,7 @@ pub(crate) fn put_in(blocks: &mut Blocks, block: u64, storage: u32, round: u64)
 
 /// Takes a target of a block out.
 pub(crate) fn drop_in(blocks: &mut Blocks, block: u64, storage: u32)
+    ensures keys { keys_of blocks.new.entries ≡ keys_of blocks.old.entries }
     ensures targets { (q : ℕ) → targets_at blocks.new.entries q ≡ cond (nat_eq block q) (filter (λ t. not (t.0 == storage)) (targets_at blocks.old.entries q)) (targets_at blocks.old.entries q) }
     ensures rooms { (q : ℕ) → room_at blocks.old.entries q ≤ room_at blocks.new.entries q }
 {

@@ -5,7 +5,9 @@
 #![tactic(auto)]
 
 mod by_block;
+mod left;
 mod listing;
+mod own;
 mod pending;
 mod targets;
 #[cfg(test)]

@@ -1,17 +1,21 @@
 // The transfers on their way: the fields, what a contract sees of them, and the calls.
-ghost use Rattle.std.specs.Prelude.{◌≡◌, ◌≢◌, ◌≤◌, ◌<◌, ◌+◌, ◌++◌, [], length, ℕ, not, ◌==◌, if◌then◌else◌, OnOk, OnErr, IfOk, IfErr, IsOk, vec_len, vec_capacity};
+ghost use Rattle.std.specs.Prelude.{◌≡◌, ◌≢◌, ◌≤◌, ◌<◌, ◌+◌, ◌++◌, [], length, ℕ, not, ◌==◌, if◌then◌else◌, OnOk, OnErr, IfOk, IfErr, IsOk, IsSome, true, nat_eq, slice_get, vec_len, vec_capacity};
+ghost use Rattle.std.specs.List.{IsDistinct};
 ghost use Rattle.bm_base.specs.declared.refusal.Refusal.TheVariants.{Memory};
+ghost use Rattle.bm_base.specs.declared.replica.ReplicaId.{ReplicaId};
 ghost use Rattle.bm_base.specs.Map as map;
 ghost use Rattle.bm_base.specs.State.{replica_at};
 ghost use Rattle.bm_base.specs.Lists.{has};
-ghost use Rattle.bm_pending.specs.OnTheWay.{room, targets_of, is_expired, expired_of};
+ghost use Rattle.bm_pending.specs.Remaining as remaining;
+ghost use Rattle.bm_pending.specs.OnTheWay.{room, blocks_in, targets_of, is_expired, expired_of};
 
 use crate::by_block::{
     Blocks, drop_block, drop_expired_in, drop_in, drop_storages_in, find_in, put_in, reserve_in,
     shed, targets_in,
 };
+use crate::left::left_among;
 use crate::listing::{entries_in, expired_in, push_storages};
-use bm_base::{BlockId, Refusal, ReplicaId, StorageId};
+use bm_base::{BlockId, Refusal, ReplicaId, StorageId, StorageIds};
 use indexmap::IndexMap;
 use std::alloc::Global;
 use std::marker::Model;
@@ -19,13 +23,13 @@ use std::marker::Model;
 /// The transfers on their way, by block.
 ///
 /// A contract sees them as a map from block and target storage to the round of the command, and for each block how many more of its
-/// transfers need no memory. Only `reserve` and the calls that answer with a list take memory. A call on one block is one hash,
+/// transfers need no memory. Only `reserve`, `reserve_own` and the calls that answer with a list take memory. A call on one block is one hash,
 /// but for `reserve` of a block that is not there, and a look along its few targets. A block whose last transfer is taken out
 /// keeps its room until `shed`, which is to be called at the end of each round.
 #[derive(Drop)]
 pub struct PendingTransfers {
     by_block: Blocks,
-    alloc: Global,
+    pub(crate) alloc: Global,
 }
 
 impl Model for PendingTransfers {
@@ -75,6 +79,7 @@ impl PendingTransfers {
     /// Takes a transfer out, if it is there. Takes no memory.
     pub fn remove(&mut self, block: BlockId, storage: StorageId)
         ensures map { self.new.map ≡ map.remove self.old.map (replica_at block storage) }
+        ensures places { blocks_in self.new ≡ blocks_in self.old }
         ensures rooms { (other : ℕ) → room self.old other ≤ room self.new other }
     {
         drop_in(&mut self.by_block, block.0, storage.0);
@@ -135,6 +140,33 @@ impl PendingTransfers {
         targets_in(&self.by_block, block.0).len()
     }
 
+    /// How many blocks have room or a transfer: `block_at` has one at each place below.
+    pub fn count(&self) -> usize
+        ensures { result ≡ length (blocks_in self.now) }
+    {
+        self.by_block.len()
+    }
+
+    /// The block at a place, from 0 on; `None` from `count()` on. `remove` leaves all places as they are, so a caller can go over them
+    /// and take transfers out on the way.
+    pub fn block_at(&self, place: usize) -> Option<BlockId>
+        ensures { result ≡ slice_get (blocks_in self.now) place }
+    {
+        match self.by_block.get_index(place) {
+            Some((block, _)) => Some(BlockId(*block)),
+            None => None,
+        }
+    }
+
+    /// Does nothing: a caller has by it that the block of each transfer stands at a place, and no block at two.
+    pub fn lawful(&self)
+        ensures listed { (q : ReplicaId) → IsSome (map.get self.now.map q) → has (blocks_in self.now) q.block ≡ true }
+        ensures once { IsDistinct nat_eq (blocks_in self.now) }
+    {
+        // Reads nothing, and says that each block stands once.
+        let _ = self.by_block.len();
+    }
+
     /// Puts the targets of a block's transfers, rising, behind what is there. May answer `Memory`, and then nothing is put.
     pub fn push_targets(&self, block: BlockId, into: &mut Vec<StorageId>) -> Result<(), Refusal>
         ensures items { OnOk result (into.new.items ≡ into.old.items ++ targets_of self.now block) }
@@ -143,6 +175,21 @@ impl PendingTransfers {
         ensures refused { IfErr result (λ e. e ≡ Memory) }
     {
         push_storages(targets_in(&self.by_block, block.0), into)
+    }
+
+    /// The targets of a block's transfers that `drop_expired` leaves, rising. May answer `Memory`, but not for up to four.
+    pub fn targets_left(
+        &self,
+        alloc: Global,
+        block: BlockId,
+        pend: u32,
+        round: u64,
+    ) -> Result<StorageIds, Refusal>
+        ensures targets { IfOk result (λ v. v ≡ remaining.targets_left pend round self.now block) }
+        ensures refused { IfErr result (λ e. e ≡ Memory) }
+    {
+        let left = left_among(alloc, targets_in(&self.by_block, block.0), pend, round)?;
+        Ok(left)
     }
 
     /// The transfers with their rounds, by block and then by target. May answer `Memory`.

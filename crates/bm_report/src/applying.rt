@@ -1,5 +1,5 @@
 // A full report is applied by the delimiter.
-ghost use Rattle.std.specs.Prelude.{◌≡◌, ◌≢◌, ◌≤◌, ◌<◌, ◌+◌, ℕ, length, map, vec_len, vec_capacity, None, ◌⊎◌};
+ghost use Rattle.std.specs.Prelude.{◌≡◌, ◌≢◌, ◌≤◌, ◌<◌, ◌+◌, ◌^◌, ℕ, length, map, vec_len, vec_capacity, None, ◌⊎◌};
 ghost use Rattle.bm_base.specs.Events as events;
 ghost use Rattle.bm_base.specs.Calls as calls;
 ghost use Rattle.bm_base.specs.SlotLists.{Among};
@@ -38,6 +38,7 @@ pub(crate) fn apply(
     ensures quiet { AllStand arena.old storage named.now → result.removed ≡ 0 → changed.new.items ≡ changed.old.items }
     ensures added { result.added ≡ calls.new_replicas (replicas_of arena.old) (replicas_of arena.new) }
     ensures removed { result.removed ≡ calls.new_replicas (replicas_of arena.new) (replicas_of arena.old) }
+    ensures few { (result.added < 2 ^ 100) × (result.removed < 2 ^ 100) }
     ensures steps { result.steps ≡ length named.now + result.removed + 2 }
     ensures counted { arena.new.steps ≡ count_ups result.steps arena.old.steps }
 {

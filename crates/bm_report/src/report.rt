@@ -1,5 +1,5 @@
 // A full report, and a notice of a received replica, from the look-up of its numbers to its end.
-ghost use Rattle.std.specs.Prelude.{◌≡◌, ◌≢◌, ◌<◌, ◌+◌, ◌∷◌, ◌&&◌, [], ℕ, if◌then◌else◌, length, None, Some, IsSome, IsTrue, OnOk, IfErr, ◌⊎◌, false};
+ghost use Rattle.std.specs.Prelude.{◌≡◌, ◌≢◌, ◌<◌, ◌+◌, ◌^◌, ◌∷◌, ◌&&◌, [], ℕ, if◌then◌else◌, length, None, Some, IsSome, IsTrue, OnOk, IfErr, ◌⊎◌, false};
 ghost use Rattle.bm_base.specs.declared.refusal.Refusal.TheVariants.{Memory};
 ghost use Rattle.bm_base.specs.Events as events;
 ghost use Rattle.bm_base.specs.Calls as calls;
@@ -115,6 +115,7 @@ impl Report {
         ensures told { told self.new ≡ told self.old }
         ensures added { result.added ≡ calls.new_replicas (replicas_of arena.old) (replicas_of arena.new) }
         ensures removed { result.removed ≡ calls.new_replicas (replicas_of arena.new) (replicas_of arena.old) }
+        ensures few { (result.added < 2 ^ 100) × (result.removed < 2 ^ 100) }
         ensures steps { result.steps ≡ length (told self.old) + result.removed + 2 }
         ensures counted { arena.new.steps ≡ count_ups result.steps arena.old.steps }
     {

@@ -1,12 +1,15 @@
-pub mod Changing
-pub mod Counts
-pub mod Draining
-pub mod Entering
-pub mod OfBlock
-pub mod Ordering
-pub mod Piling
-pub mod Remarked
-pub mod Reporting
-pub mod Surplus
-pub mod Taken
-pub mod Wanting
+mod Levels
+mod Same
+mod Empty
+mod Numbers
+mod Ready
+mod Changing
+mod Counts
+mod Own
+mod OneGone
+mod Transfers
+mod Registering
+mod Arrivals
+mod LookedUp
+mod OwnTransfers
+mod AfterRound

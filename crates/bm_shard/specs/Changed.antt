@@ -1,15 +1,31 @@
--- The marks of a replica whose block changes.
-use Rattle.std.specs.Prelude.{ℕ, ◌==◌, if◌then◌else◌}
-use Rattle.bm_base.specs.declared.replica.ReplicaId.{ReplicaId}
-use Rattle.bm_base.specs.declared.replica.Marks.{Marks}
-use Rattle.bm_base.specs.Events.{as_stray, as_restamped}
-use Rattle.bm_shard.specs.declared.changes.BlockChange.{BlockChange}
-use Rattle.bm_shard.specs.declared.changes.BlockChange.TheVariants.{Deleted, Restamped}
+-- What an event makes of what is seen of a shard.
+use Rattle.std.specs.Prelude.{◌≡◌, ℕ, Bool, true, ◌==◌}
+use Rattle.std.specs.Option.{option_map_or}
+use Rattle.bm_base.specs.declared.ids.Part.{Part}
+use Rattle.bm_base.specs.declared.event.Event.{Event}
+use Rattle.bm_base.specs.Shards.{shard_of}
+use Rattle.bm_parts.specs.Parts.{block_of}
+use Rattle.bm_base.specs.declared.event.Done.{Done}
+use Rattle.bm_base.specs.Map.{get}
+use Rattle.bm_base.specs.State.{Cluster, Holdings}
+use Rattle.bm_base.specs.Levels.{level}
+use Rattle.bm_base.specs.Calls.{done}
+use Rattle.bm_shard.specs.Seen.{Seen}
 
-abbrev pub changed : BlockChange → Marks → Marks
-changed Deleted m = as_stray m
-changed Restamped m = as_restamped m
+-- the levels that are kept are those of this cluster
+abbrev pub HasLevels : Cluster → Seen → Type 0
+HasLevels C S = (b : ℕ) → get S.levels b ≡ level C S.holdings b
 
--- a replica with its marks, where this block changes
-abbrev pub changed_entry : BlockChange → ℕ → ReplicaId × Marks → ReplicaId × Marks
-changed_entry change b e = (e.0, if e.0.block == b then changed change e.1 else e.1)
+-- whether an event is on a block of the shard's own numbers, or on no block
+unfoldable pub owns : Part → Event → Bool
+owns part e = option_map_or (λ b. shard_of b part.shards == part.index) (block_of e) true
+
+-- The holdings are now these, so many replicas came and went, and levels that were right in one cluster are right in the other; all
+-- else but room stays.
+pub record HasChanged (C D : Cluster) (old new : Seen) (to : Holdings) (answer : Done) : Type 0 where
+  pub holdings : new.holdings ≡ to
+  pub done : answer ≡ done old.holdings to
+  pub levels : HasLevels C old → HasLevels D new
+  pub part : new.part ≡ old.part
+  pub round : new.round ≡ old.round
+  pub pend : new.pend ≡ old.pend

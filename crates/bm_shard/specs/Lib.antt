@@ -1,7 +1,6 @@
+pub mod Seen
+pub mod Codes
 pub mod Changed
-pub mod Growth
-pub mod Marking
-pub mod Meant
-pub mod Piles
-pub mod Reported
-pub mod Wishing
+pub mod Standing
+pub mod Inside
+pub mod Arrived

@@ -1,20 +1,24 @@
-//! What a block manager holds of blocks and replicas: the blocks, their replicas and the transfers on their way, what events change
-//! in them, what can be asked of them, and what a round finds in them.
+//! One shard of a block manager: the blocks of its numbers, their replicas on the storages of the cluster, the transfers of
+//! them that are on their way, and how urgently each block wants replicas.
 //!
-//! One plain sorted list so far: blocks and replicas stand in sorted vectors, and a full report works on a copy.
+//! An event is checked ([`Shard::check`]), all its memory is taken ([`Shard::prepare`]), and then it is made ([`Shard::commit`]), which
+//! refuses nothing; or it is given up ([`Shard::abort`]). So is a round: [`Shard::round_part`] finds what all shards choose from,
+//! [`Shard::round_ready`] takes the memory, [`Shard::round_commit`] ends it.
 #![tactic(auto)]
 
-mod changes;
-mod deleting;
-mod finishing;
-mod holdings;
-mod parting;
-mod queries;
-mod reports;
-mod standing;
-mod starting;
-mod tally;
-mod wishing;
+mod arriving;
+mod asking;
+mod checking;
+mod clusters;
+mod committing;
+mod one_block;
+mod own_transfers;
+mod preparing;
+mod receiving;
+mod rounds;
+mod shard;
+#[cfg(test)]
+mod tests;
 
-pub use holdings::Holdings;
-pub use parting::RoundStart;
+pub use bm_base::{RoundPart, Wish};
+pub use shard::Shard;

@@ -31,7 +31,7 @@ pub record IsNoLonger (nodes nodes' racks racks' : Table ℕ) (draining draining
   pub storages_fewer : len storages'.map ≤ len storages.map
 
 module _ (nodes nodes' racks racks' : Table ℕ) (draining draining' : Table (Unit {0})) (storages storages' : Table StorageInfo) (old : Seen) (is : seen_of nodes draining racks storages ≡ old) where
-  pub same_capacity : IsSound nodes.map racks.map storages.map → IsSound nodes'.map racks'.map storages'.map → IsWithin nodes nodes' racks racks' draining draining' storages storages' → IsSameCapacity old (seen_of nodes' draining' racks' storages')
+  pub same_capacity : IsSound nodes.map racks.map draining.map storages.map → IsSound nodes'.map racks'.map draining'.map storages'.map → IsWithin nodes nodes' racks racks' draining draining' storages storages' → IsSameCapacity old (seen_of nodes' draining' racks' storages')
   same_capacity sound sound' within =
       let before = racks_counted racks.map nodes.map sound.counted in
       let after = racks_counted racks'.map nodes'.map sound'.counted in

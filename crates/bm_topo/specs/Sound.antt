@@ -1,16 +1,20 @@
 -- What holds of the tables of a topology.
-use Rattle.std.specs.Prelude.{ℕ, ◌≤◌}
+use Rattle.std.specs.Prelude.{ℕ}
 use Rattle.bm_base.specs.declared.storage.StorageInfo.{StorageInfo}
-use Rattle.bm_base.specs.Map.{Map, by_number, len}
-use Rattle.bm_base.specs.declared.limits.TheConstants.{MAX_NODES, MAX_STORAGES}
+use Rattle.bm_base.specs.Map.{Map, Set, by_number}
+use Rattle.bm_base.specs.State.{Cluster}
+use Rattle.bm_base.specs.Lawful.{IsLawfulCluster}
 use Rattle.bm_topo.specs.Keys.{HasSmallKeys}
 use Rattle.bm_topo.specs.Racks.{CountsRacks}
 
-pub record IsSound (nodes racks : Map by_number ℕ) (storages : Map by_number StorageInfo) : Type 0 where
+-- the cluster of the tables
+abbrev pub cluster_of : Map by_number ℕ → Set by_number → Map by_number StorageInfo → Cluster
+cluster_of nodes draining storages = record { nodes = nodes; draining = draining; storages = storages }
+
+pub record IsSound (nodes racks : Map by_number ℕ) (draining : Set by_number) (storages : Map by_number StorageInfo) : Type 0 where
   -- numbers of nodes and storages have 32 bits
   pub node_ids : HasSmallKeys nodes
   pub storage_ids : HasSmallKeys storages
-  -- the limits are kept, so that counts have 32 bits
-  pub few_nodes : len nodes ≤ MAX_NODES
-  pub few_storages : len storages ≤ MAX_STORAGES
   pub counted : CountsRacks racks nodes
+  -- each storage stands on an alive node, only alive nodes drain, and the limits are kept
+  pub lawful : IsLawfulCluster (cluster_of nodes draining storages)

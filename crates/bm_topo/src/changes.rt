@@ -1,5 +1,6 @@
 // What events change in the cluster: room is made first, so that the change itself takes no memory.
-ghost use Rattle.std.specs.Prelude.{◌≡◌, ◌≤◌, ◌+◌, false, length, None, IfErr, IsOk, OnOk};
+ghost use Rattle.std.specs.Prelude.{◌≡◌, ◌≢◌, ℕ, ◌≤◌, ◌+◌, true, false, length, Some, None, IfErr, IsOk, OnOk};
+ghost use Rattle.bm_base.specs.declared.storage.StorageInfo.{StorageInfo};
 ghost use Rattle.bm_base.specs.Map as map;
 ghost use Rattle.bm_base.specs.Events as events;
 ghost use Rattle.bm_base.specs.Refusals.{first_of, cluster_checks};
@@ -109,7 +110,10 @@ impl Topology {
         self.forget_node(node);
     }
 
+    /// A node that has no storage any more and does not drain.
     fn forget_node(&mut self, node: NodeId)
+        requires storages { (storage : ℕ) (info : StorageInfo) → map.get self.old.cluster.storages storage ≡ Some info → info.node ≢ node }
+        requires draining { map.contains_key self.old.cluster.draining node ≡ false }
         ensures after { self.new.cluster ≡ record self.old.cluster { nodes = map.remove self.old.cluster.nodes node } }
         ensures no_growth { IsSameCapacity self.old self.new }
         ensures kept { IsNoLess self.old.room self.new.room }
@@ -123,7 +127,8 @@ impl Topology {
     }
 
     fn drain(&mut self, node: NodeId)
-        requires { 1 ≤ self.old.room.draining }
+        requires room { 1 ≤ self.old.room.draining }
+        requires alive { map.contains_key self.old.cluster.nodes node ≡ true }
         ensures after { self.new.cluster ≡ events.drain self.old.cluster node }
         ensures no_growth { IsSameCapacity self.old self.new }
     {

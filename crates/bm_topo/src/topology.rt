@@ -4,6 +4,7 @@ ghost use Rattle.bm_base.specs.Map as map;
 ghost use Rattle.bm_base.specs.State as state;
 ghost use Rattle.bm_base.specs.Replicas as replicas;
 ghost use Rattle.bm_base.specs.Refusals.{knows_node};
+ghost use Rattle.bm_base.specs.Lawful.{IsLawfulCluster};
 ghost use Rattle.bm_base.specs.declared.limits.TheConstants.{MAX_NODES, MAX_STORAGES};
 ghost use Rattle.bm_topo.specs.Seen.{no_room};
 
@@ -38,7 +39,7 @@ impl Model for Topology {
       room = record { nodes = t.nodes.room; draining = t.draining.room; racks = t.racks.room; storages = t.storages.room };
     } };
 
-    ghost invariant = { λ t. IsSound t.nodes.map t.racks.map t.storages.map };
+    ghost invariant = { λ t. IsSound t.nodes.map t.racks.map t.draining.map t.storages.map };
 }
 
 impl Topology {
@@ -55,6 +56,14 @@ impl Topology {
             racks: NumberMap::new(alloc),
             storages: NumberMap::new(alloc),
         })
+    }
+
+    /// Does nothing when it runs: says to the function that calls it that each storage stands on an alive node, that only alive nodes
+    /// drain, and that the limits are kept.
+    pub fn lawful(&self)
+        ensures { IsLawfulCluster self.now.cluster }
+    {
+        let _ = &self.nodes;
     }
 
     /// The node of a storage; `None` where the storage is not known.

@@ -1,6 +1,6 @@
 use Rattle.std.proofs.Common.{◌≤◌, ℕ, not, filter, is_some, refl, ap, sym, subst, ◌∙◌, nat_eq}
 use Rattle.std.specs.Prelude.{◌==◌}
-use Rattle.std.specs.Map.{lookup}
+use Rattle.std.specs.Map.{lookup, keys_of}
 use Rattle.bm_pending.specs.Inside.{room_at}
 use Rattle.bm_pending.proofs.Blocks.{items_or, room_or, freed-rooms, filtered-room, absent-targets}
 use Rattle.bm_pending.proofs.by_block.drop_in.Goals as goal
@@ -16,3 +16,9 @@ pub returns-in_default-clause-targets : goal.returns-in_default-clause-targets
 returns-in_default-clause-targets c q =
     ap (λ m. items_or (lookup (nat_eq q) m.entries)) c.get_mut.follows.holds-at-none
     ∙ absent-targets c.args.blocks.now.entries c.args.block (filter {X = ℕ × ℕ} (λ t. not (t.0 == c.args.storage))) refl (sym c.in_default.ensures.value) q
+
+pub returns-in-Some-clause-keys : goal.returns-in-Some-clause-keys
+returns-in-Some-clause-keys c = (c.get_mut.follows.holds c.drop_target.new.targets).1
+
+pub returns-in_default-clause-keys : goal.returns-in_default-clause-keys
+returns-in_default-clause-keys c = ap (λ m. keys_of m.entries) c.get_mut.follows.holds-at-none

@@ -1,9 +1,11 @@
-use Rattle.std.proofs.Common.{◌≡◌, ℕ, Some, not, subst, sym, ap, ◌∙◌}
+use Rattle.std.proofs.Common.{◌≡◌, ℕ, Bool, Option, Some, None, not, subst, sym, ap, ◌∙◌}
 use Rattle.std.specs.Prelude.{◌≢◌}
 use Rattle.bm_base.specs.State.{Cluster}
+use Rattle.bm_base.specs.Replicas.{rack_of, is_draining, is_multi_rack}
 use Rattle.bm_arena.specs.Contents.{slot_of}
 use Rattle.bm_arena.specs.Holding.{blocks_of, replicas_of}
 use Rattle.bm_levels.specs.Leveled.{Leveled, AreLevels}
+use Rattle.bm_levels.specs.LevelsBy.{AreLevelsBy}
 use Rattle.bm_levels.proofs.Emptied.{IsEmptied, emptied, no_value}
 use Rattle.bm_levels.proofs.leveled.LeveledBlocks.drop_if_bare.Goals as goal
 
@@ -31,4 +33,15 @@ returns-then-is_none-clause-numbers c =
 pub returns-then-is_none-clause-levels : goal.returns-then-is_none-clause-levels
 returns-then-is_none-clause-levels c =
     let P : Leveled → Type 0 = λ v. (C : Cluster) → AreLevels C v → AreLevels C (record { arena = c.drop_entry.new.self; kept = c.self.inside.kept }) in
+    subst P c.self.view_is (λ C. (done c).levels (rack_of C) (is_draining C) (is_multi_rack C))
+
+pub returns-then-is_none-clause-levels_by : goal.returns-then-is_none-clause-levels_by
+returns-then-is_none-clause-levels_by c =
+    let P : Leveled → Type 0 = λ v. (rack : ℕ → Option ℕ) (draining : ℕ → Bool) (multi : Bool) → AreLevelsBy rack draining multi v → AreLevelsBy rack draining multi (record { arena = c.drop_entry.new.self; kept = c.self.inside.kept }) in
     subst P c.self.view_is (done c).levels
+
+pub returns-then-is_none-clause-gone : goal.returns-then-is_none-clause-gone
+returns-then-is_none-clause-gone c =
+    let P : Leveled → Type 0 = λ v. (id : ℕ) → slot_of v.arena id ≡ Some c.args.slot → slot_of c.drop_entry.new.self id ≡ None in
+    let gone = subst P c.self.view_is (done c).gone in
+    λ id led none unknown. gone id led

@@ -1,4 +1,7 @@
+use Rattle.std.proofs.Common.{ap, sym, ◌∙◌}
+use Rattle.bm_pending.specs.OnTheWay.{OnTheWay, blocks_in}
 use Rattle.bm_pending.proofs.Changes.{map-removed, rising-removed, room-kept}
+use Rattle.bm_pending.proofs.ByPlaces.{places-seen}
 use Rattle.bm_pending.proofs.pending.PendingTransfers.remove.Goals as goal
 
 pub invariant_of-self : goal.invariant_of-self
@@ -9,3 +12,7 @@ returns-clause-map c = rw (← c.self.view_is, ← c.block.view_is, ← c.storag
 
 pub returns-clause-rooms : goal.returns-clause-rooms
 returns-clause-rooms c other = room-kept c.self.inside.by_block.entries c.args.self.now c.self.view_is c.drop_in.new.blocks.entries other (c.drop_in.ensures.rooms other)
+
+pub returns-clause-places : goal.returns-clause-places
+returns-clause-places c =
+    places-seen c.drop_in.new.blocks.entries ∙ c.drop_in.ensures.keys ∙ sym (places-seen c.self.inside.by_block.entries) ∙ ap (λ (p : OnTheWay). blocks_in p) c.self.view_is

@@ -7,23 +7,23 @@ use Rattle.bm_topo.specs.Named.{named}
 use Rattle.bm_topo.specs.Racks.{on_rack}
 use Rattle.bm_topo.proofs.Counting.{on_rack-le}
 use Rattle.bm_topo.proofs.Capacity.{same_capacity}
-use Rattle.bm_topo.proofs.Sounding.{registration_is_new, sound-joined}
+use Rattle.bm_topo.proofs.Sounding.{sound-joined}
 use Rattle.bm_topo.proofs.topology.Topology.add_node.Goals as goal
 
 pub overflow_add-count : goal.overflow_add-count
 overflow_add-count c =
     let few = on_rack-le c.args.self.now.cluster.nodes c.args.rack in
     let same = ap (λ t. len t.cluster.nodes) c.self.view_is in
-    omega (arith, few, same, c.count_on-count.ensures, c.self.invariant.few_nodes)
+    omega (arith, few, same, c.count_on-count.ensures, c.self.invariant.lawful.few_nodes)
 
 pub invariant_of-self : goal.invariant_of-self
 invariant_of-self c =
     let accepted = subst (λ C. first_of (cluster_checks C (Register c.args.node c.args.rack c.args.storages.now)) ≡ None) (sym (ap (λ t. t.cluster) c.self.view_is)) c.requires.accepted in
-    let new = registration_is_new _ c.args.node c.args.rack c.args.storages.now accepted in
     let count = c.count_on-count.ensures ∙ sym (ap (λ t. on_rack t.cluster.nodes c.args.rack) c.self.view_is) in
     let nodes = c.insert_reserved-2.ensures.after ∙ ap (λ k. insert c.self.inside.nodes.map k c.args.rack) (c.from-2.ensures ∙ c.node.view_is) in
     let racks = c.insert_reserved.ensures.after ∙ ap (λ k. insert c.self.inside.racks.map k (c.count_on-count.result + 1)) (c.from.ensures ∙ c.rack.view_is) in
-    sound-joined c.self.inside.nodes.map c.self.inside.racks.map _ _ c.self.inside.draining.map c.self.inside.storages.map _ c.args.node c.args.rack c.count_on-count.result c.args.storages.now (omega arith) new count nodes racks
+    let draining = c.remove.ensures.after ∙ ap (remove c.self.inside.draining.map) (c.from-3.ensures ∙ c.node.view_is) in
+    sound-joined c.self.inside.nodes.map c.self.inside.racks.map _ _ c.self.inside.draining.map _ c.self.inside.storages.map _ c.args.node c.args.rack c.count_on-count.result c.args.storages.now (omega arith) accepted count nodes racks draining
     c.add_storages.ensures.after c.add_storages.ensures.small c.self.invariant
 
 pub returns-clause-after : goal.returns-clause-after

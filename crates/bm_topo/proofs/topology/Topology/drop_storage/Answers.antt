@@ -7,7 +7,7 @@ use Rattle.bm_topo.proofs.Sounding.{sound-removed}
 use Rattle.bm_topo.proofs.topology.Topology.drop_storage.Goals as goal
 
 pub invariant_of-self : goal.invariant_of-self
-invariant_of-self c = sound-removed _ _ c.self.inside.storages.map _ c.from.result c.remove.ensures.after c.self.invariant
+invariant_of-self c = sound-removed _ _ _ c.self.inside.storages.map _ c.from.result c.remove.ensures.after c.self.invariant
 
 pub returns-clause-after : goal.returns-clause-after
 unfolding without_storage

@@ -1,5 +1,5 @@
 use Rattle.std.proofs.Common.{◌≡◌, Some, arith, refl, ap, sym, ◌∙◌}
-use Rattle.bm_base.specs.Map.{get, len, remove}
+use Rattle.bm_base.specs.Map.{get, contains_key, len, remove}
 use Rattle.bm_topo.specs.Racks.{on_rack, without_one}
 use Rattle.bm_topo.proofs.Counting.{remove_absent, stands_there}
 use Rattle.bm_topo.proofs.Capacity.{same_capacity, no_less, len-without_one}
@@ -21,8 +21,9 @@ pub invariant_of-self : goal.invariant_of-self
 invariant_of-self c =
     let there : get c.self.inside.nodes.map c.args.node ≡ Some c.in-Some.rack = ap (λ t. get t.cluster.nodes c.args.node) c.self.view_is ∙ sym c.rack_of_node.ensures ∙ c.in-Some.is in
     let counted = c.count_on-count.ensures ∙ sym (ap (λ t. on_rack t.cluster.nodes c.in-Some.rack) c.self.view_is) in
-    sound-left c.self.inside.nodes.map c.self.inside.racks.map _ _ _ c.args.node c.in-Some.rack there (c.remove.ensures.after ∙ ap (remove c.self.inside.nodes.map) (c.from.ensures ∙ c.node.view_is))
-    (c.leave_rack.ensures.after ∙ ap (without_one c.self.inside.racks.map c.in-Some.rack) counted) c.self.invariant
+    sound-left c.self.inside.nodes.map c.self.inside.racks.map _ _ _ _ c.args.node c.in-Some.rack there (c.remove.ensures.after ∙ ap (remove c.self.inside.nodes.map) (c.from.ensures ∙ c.node.view_is))
+    (c.leave_rack.ensures.after ∙ ap (without_one c.self.inside.racks.map c.in-Some.rack) counted)
+    (λ s i e. c.requires.storages s i (ap (λ t. get t.cluster.storages s) (sym c.self.view_is) ∙ e)) (ap (λ t. contains_key t.cluster.draining c.args.node) c.self.view_is ∙ c.requires.draining) c.self.invariant
 
 pub returns-clause-no_growth : goal.returns-clause-no_growth
 returns-clause-no_growth c =

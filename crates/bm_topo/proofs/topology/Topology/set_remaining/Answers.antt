@@ -6,7 +6,7 @@ use Rattle.bm_topo.proofs.Sounding.{sound-told, len-set_remaining}
 use Rattle.bm_topo.proofs.topology.Topology.set_remaining.Goals as goal
 
 pub invariant_of-self : goal.invariant_of-self
-invariant_of-self c = sound-told _ _ c.self.inside.storages.map _ c.args.remaining.now c.set_remaining.ensures.after c.self.invariant
+invariant_of-self c = sound-told _ _ _ c.self.inside.storages.map _ c.args.remaining.now c.set_remaining.ensures.after c.self.invariant
 
 pub returns-clause-after : goal.returns-clause-after
 unfolding heartbeat

@@ -1,0 +1,172 @@
+-- What a round finds of the blocks at which it looks is all that it finds.
+use Rattle.std.specs.Prelude.{◌≡◌, ◌≢◌, ℕ, Bool, true, false, nat_lt, if◌then◌else◌, List, map, Option, Some, None, IsSome, is_some, IsTrue, option_and_then}
+use Rattle.std.proofs.Common.{◌⊎◌, inl, inr, refl, sym, ap, subst, ◌∙◌}
+use Rattle.std.proofs.lemmas.Bool.{cases_Bool, false≢true}
+use Rattle.std.specs.Option.{option_map_or}
+use Rattle.bm_base.specs.declared.level.Level.{Level}
+use Rattle.bm_base.specs.declared.level.Level.TheVariants.{NoUsableReplica}
+use Rattle.bm_base.specs.declared.replica.ReplicaId.{ReplicaId}
+use Rattle.bm_base.specs.declared.replica.Marks.{Marks}
+use Rattle.bm_base.specs.declared.replica.BlockInfo.{BlockInfo}
+use Rattle.bm_base.specs.declared.commands.Delete.{Delete}
+use Rattle.bm_base.specs.declared.round.Wish.{Wish}
+use Rattle.bm_base.specs.declared.round.RoundPart.{RoundPart}
+use Rattle.bm_base.specs.Map.{Map, get, contains_key}
+use Rattle.bm_base.specs.State.{Cluster, Holdings, by_replica, replica_at}
+use Rattle.bm_base.specs.SlotLists.{Among}
+use Rattle.bm_base.specs.Ordered.{by_pair}
+use Rattle.bm_base.specs.Lists.{has}
+use Rattle.bm_base.specs.Levels.{level, is_at}
+use Rattle.bm_base.specs.Excess.{without_expired, without_unordered_excess, marked, excess_in}
+use Rattle.bm_base.specs.RoundParts.{started_holdings, expired, round_part, wish_of, wish_at, wish_key, delete_key}
+use Rattle.bm_base.proofs.Maps.{get_revised}
+use Rattle.bm_base.proofs.Options.{there, is_there, chained}
+use Rattle.bm_base.proofs.RisingParts.{wish_is}
+use Rattle.bm_arena.specs.Triplets.{Block}
+use Rattle.bm_arena.specs.Contents.{Contents, block_at, slot_of, marks_at, IsLawful}
+use Rattle.bm_arena.specs.Holding.{info_at, replicas_of}
+use Rattle.bm_arena.proofs.Held.{get-replicas_of, get-blocks_of}
+use Rattle.bm_parts.specs.Settled.{IsSettled}
+use Rattle.bm_parts.specs.Found.{IsGathered, IsExpired, IsTooMany, IsWished, IsToDelete}
+use Rattle.bm_parts.proofs.Settling.{settled_is_left, settled_is_kept}
+use Rattle.bm_parts.proofs.Finding.{round_part_is_found, found_is_round_part}
+use Rattle.bm_pending.specs.OnTheWay.{expired_of}
+use Rattle.bm_levels.specs.Judged.{is_settled_at, level_in}
+use Rattle.bm_levels.specs.Held.{holdings_with}
+use Rattle.bm_levels.specs.Kept.{level_of_slot}
+use Rattle.bm_levels.specs.Leveled.{Leveled, IsLeveled, AreLevels}
+use Rattle.bm_levels.proofs.Levels.{level_is_at_slot}
+use Rattle.bm_levels.proofs.Settled.{all_plain_at, few_at}
+use Rattle.bm_finding.specs.declared.found.Found.{Found}
+use Rattle.bm_finding.specs.Visits.{visits}
+use Rattle.bm_finding.specs.Gathering.{id_at, HasFound, IsInOrder}
+use Rattle.bm_finding.proofs.Collecting.{gathered_of}
+use Rattle.bm_finding.proofs.Listing.{excess_listed, wishes_listed, deletes_listed, wish_level}
+use Rattle.bm_finding.proofs.Visited.{AreListed, mapped_among, unsettled_visited, level_visited, ids_once}
+
+module _ (v : Leveled) (lawful : IsLawful v.arena) (leveled : IsLeveled v) (is : AreListed v.kept) (C : Cluster) (levels : AreLevels C v) (pend r : ℕ) (pending : Map by_replica ℕ) where
+  abbrev a : Contents
+  a = v.arena
+
+  abbrev H : Holdings
+  H = holdings_with a pending
+
+  abbrev U : Holdings
+  U = without_unordered_excess (without_expired pend r H)
+
+  abbrev G : Holdings
+  G = started_holdings C pend r H
+
+  abbrev ids : List ℕ
+  ids = map (id_at a) (visits v.kept)
+
+  -- a block that is settled at its slot is settled
+  settled_there : (b slot : ℕ) → slot_of a b ≡ Some slot → is_settled_at (block_at a slot) ≡ true → IsSettled H b
+  settled_there b slot here settled =
+      let found = lawful.found b slot here in
+      let k : Block = found.1 in
+      let at : is_settled_at (Some k) ≡ true = ap is_settled_at (sym found.2) ∙ settled in
+      record {
+        all_plain = λ q m same e. all_plain_at a pending lawful b slot k here found.2 at q.storage m (ap (λ c. get H.replicas (replica_at c q.storage)) (sym same) ∙ e);
+        few = few_at a pending lawful b slot k here found.2 at;
+      }
+
+  own_id : (b slot : ℕ) → slot_of a b ≡ Some slot → id_at a slot ≡ b
+  own_id b slot here = let found = lawful.found b slot here in ap (λ o. option_map_or (λ (k : Block). k.id) o 0) found.2 ∙ found.3
+
+  visited_id : (b slot : ℕ) → slot_of a b ≡ Some slot → Among slot (visits v.kept) → Among b ids
+  visited_id b slot here h = let P : ℕ → Type 0 = λ c. Among c ids in subst P (own_id b slot here) (mapped_among (id_at a) slot (visits v.kept) h)
+
+  -- a block with a number is settled, or a round looks at it
+  settled_or : (b slot : ℕ) → slot_of a b ≡ Some slot → IsSettled H b ⊎ Among b ids
+  settled_or b slot here =
+      elim (cases_Bool (is_settled_at (block_at a slot))) [
+        | inl settled ↦ inl (settled_there b slot here settled)
+        | inr loose ↦ inr (visited_id b slot here (unsettled_visited v.kept is slot ((leveled.unsettled slot).1 loose)))
+      ]
+
+  -- Where a replica or a block comes from.
+
+  was_counted : (q : ReplicaId) (m : Marks) → get U.replicas q ≡ Some m → (k : Marks) × (get H.replicas q ≡ Some k)
+  unfolding without_unordered_excess without_expired
+  was_counted q m e = let was = get_revised H.replicas (λ _ m. if m.ordered then m else record m { excess = false }) q m e in (was.0, was.1)
+
+  was_marked : (q : ReplicaId) (m : Marks) → get G.replicas q ≡ Some m → (k : Marks) × (get H.replicas q ≡ Some k)
+  unfolding started_holdings marked
+  was_marked q m e =
+      let was = get_revised U.replicas (λ q m. if has (excess_in C U q.block) q.storage then record m { excess = true } else m) q m e in
+      was_counted q was.0 was.1
+
+  slot_of_replica : (q : ReplicaId) (m : Marks) → get H.replicas q ≡ Some m → (slot : ℕ) × (slot_of a q.block ≡ Some slot)
+  unfolding holdings_with
+  slot_of_replica q m e = let one = chained (λ slot. marks_at a slot q.storage) (slot_of a q.block) m (sym (get-replicas_of a q) ∙ e) in (one.0, one.1)
+
+  slot_of_block : (b : ℕ) (i : BlockInfo) → get G.blocks b ≡ Some i → (slot : ℕ) × (slot_of a b ≡ Some slot)
+  unfolding started_holdings marked without_unordered_excess without_expired holdings_with
+  slot_of_block b i e = let one = chained (λ slot. info_at a slot) (slot_of a b) i (sym (get-blocks_of a b) ∙ e) in (one.0, one.1)
+
+  -- Each list is of blocks at which a round looks.
+
+  covers_excess : (q : ReplicaId) → IsTooMany C U q → Among q.block ids
+  covers_excess q many =
+      let m = there (get U.replicas q) many.0 in
+      let k = was_counted q m.0 m.1 in
+      let slot = slot_of_replica q k.0 k.1 in
+      elim (settled_or q.block slot.0 slot.1) [
+        | inl settled ↦ absurd (false≢true (ap (λ ss. has ss q.storage) (sym (settled_is_left C pend r H q.block settled).0) ∙ many.1))
+        | inr visited ↦ visited
+      ]
+
+  covers_deletes : (d : Delete) → IsToDelete C G d → Among d.block ids
+  covers_deletes d gone =
+      let q : ReplicaId = replica_at d.block d.storage in
+      let k = was_marked q gone.1.0 gone.1.1 in
+      let slot = slot_of_replica q k.0 k.1 in
+      elim (settled_or d.block slot.0 slot.1) [
+        | inl settled ↦ absurd (false≢true (sym (settled_is_kept C pend r H q gone.1.0 settled gone.1.1) ∙ gone.1.2))
+        | inr visited ↦ visited
+      ]
+
+  -- nothing is wished of a block without a usable replica
+  none_unusable : (b : ℕ) (w : Wish) → wish_at C G NoUsableReplica b ≡ Some w → ⊥
+  unfolding wish_at
+  none_unusable b w e = never (is_at NoUsableReplica (level C G b)) (get G.blocks b) e
+    where
+      never : (t : Bool) (o : Option BlockInfo) → (if t then option_and_then (λ i. if nat_lt 0 0 then Some (wish_of C G NoUsableReplica b i) else None) o else None) ≡ Some w → ⊥
+      never true None f = false≢true (ap is_some f)
+      never true (Some i) f = false≢true (ap is_some f)
+      never false o f = false≢true (ap is_some f)
+
+  wish_usable : (l : Level) (b : ℕ) (w : Wish) → wish_at C G l b ≡ Some w → l ≢ NoUsableReplica
+  wish_usable l b w e same = none_unusable b w (ap (λ k. wish_at C G k b) (sym same) ∙ e)
+
+  covers_wishes : (w : Wish) → IsWished C G w → Among w.block ids
+  covers_wishes w wished =
+      let known = wish_is C G w.level w.block w wished in
+      let slot = slot_of_block w.block known.0 known.1 in
+      elim (settled_or w.block slot.0 slot.1) [
+        | inl settled ↦
+            let at : level_of_slot v.kept slot.0 ≡ Some w.level =
+            levels slot.0 ∙ sym (ap (option_and_then (λ s. level_in C (block_at a s))) slot.1) ∙ sym (level_is_at_slot C a pending w.block lawful) ∙ sym (settled_is_left C pend r H w.block settled).3 ∙ wish_level C pend r H w.level w.block w wished in
+            visited_id w.block slot.0 slot.1 (level_visited v.kept is w.level slot.0 (wish_usable w.level w.block w wished) at)
+        | inr visited ↦ visited
+      ]
+
+  known_storage : ((q : ReplicaId) → IsSome (get (replicas_of a) q) → IsTrue (contains_key C.storages q.storage)) → (q : ReplicaId) (m : Marks) → get G.replicas q ≡ Some m → contains_key C.storages q.storage ≡ true
+  unfolding holdings_with
+  known_storage stored q m e = let k = was_marked q m e in stored q (is_there (get H.replicas q) k.0 k.1)
+
+  same_expired : expired_of pend r pending ≡ (round_part C pend r H).expired
+  unfolding round_part expired holdings_with
+  same_expired = refl
+
+  pub all_found : ((q : ReplicaId) → IsSome (get (replicas_of a) q) → IsTrue (contains_key C.storages q.storage)) → (f : Found) → HasFound C pend r H ids f → (p : RoundPart) → p.expired ≡ expired_of pend r pending
+      → IsInOrder by_replica (λ (q : ReplicaId). q) f.excess.items p.excess → IsInOrder by_pair wish_key f.wishes.items p.wishes → IsInOrder by_pair delete_key f.deletes.items p.deletes → p ≡ round_part C pend r H
+  all_found stored f has p old excess wishes deletes =
+      let once = ids_once v lawful leveled is in
+      found_is_round_part C pend r H p (record {
+        expired = subst (IsGathered by_replica (λ (q : ReplicaId). q) (IsExpired pend r H)) (sym (old ∙ same_expired)) (round_part_is_found C pend r H).expired;
+        excess = gathered_of by_replica (λ (q : ReplicaId). q) (λ q. q.block) (IsTooMany C U) _ (excess_listed C pend r H) ids p.excess once covers_excess (subst (λ xs. IsInOrder by_replica (λ (q : ReplicaId). q) xs p.excess) has.excess excess);
+        wishes = gathered_of by_pair wish_key (λ (w : Wish). w.block) (IsWished C G) _ (wishes_listed C pend r H) ids p.wishes once covers_wishes (subst (λ xs. IsInOrder by_pair wish_key xs p.wishes) has.wishes wishes);
+        deletes = gathered_of by_pair delete_key (λ (d : Delete). d.block) (IsToDelete C G) _ (deletes_listed C pend r H (known_storage stored)) ids p.deletes once covers_deletes (subst (λ xs. IsInOrder by_pair delete_key xs p.deletes) has.deletes deletes);
+      })

@@ -1,0 +1,86 @@
+-- What is found of one block more.
+use Rattle.std.specs.Prelude.{◌≡◌, ℕ, Bool, true, false, nat_le, length, List, [], ◌∷◌, ◌++◌, Option, option_and_then, option_to_list}
+use Rattle.std.specs.Option.{option_map_or}
+use Rattle.std.specs.List.{flat_map}
+use Rattle.std.proofs.Common.{refl, sym, ap, ◌∙◌}
+use Rattle.std.proofs.lemmas.List.{flat_map_more}
+use Rattle.bm_base.specs.declared.replica.BlockInfo.{BlockInfo}
+use Rattle.bm_base.specs.declared.round.Wish.{Wish}
+use Rattle.bm_base.specs.Map.{get, entries}
+use Rattle.bm_base.specs.State.{Cluster, Holdings}
+use Rattle.bm_base.specs.Replicas.{is_live_on, is_drained_on, live, drained, storages_where, has_enough_live}
+use Rattle.bm_base.specs.Excess.{without_expired, without_unordered_excess, marked}
+use Rattle.bm_base.specs.Transfers.{pending_targets}
+use Rattle.bm_base.specs.RoundParts.{started_holdings}
+use Rattle.bm_arena.specs.Contents.{Contents}
+use Rattle.bm_levels.specs.Held.{holdings_with}
+use Rattle.bm_pending.specs.OnTheWay.{OnTheWay}
+use Rattle.bm_pending.specs.Remaining.{targets_left}
+use Rattle.bm_finding.specs.declared.look.Look.{Look}
+use Rattle.bm_finding.specs.declared.found.Found.{Found}
+use Rattle.bm_finding.specs.Marking.{storages_in}
+use Rattle.bm_finding.specs.Looked.{replicas_on, deletes_of, IsLook}
+use Rattle.bm_finding.specs.Wanting.{wish_in, wish_by}
+use Rattle.bm_finding.specs.Gathering.{excess_at, wishes_at, deletes_at, HasFound}
+use Rattle.bm_finding.proofs.Owning.{storages_own}
+use Rattle.bm_finding.proofs.OwnWish.{wish_known}
+
+-- what a look at a block came to
+pub record IsSeen (C : Cluster) (pend r : ℕ) (p : OnTheWay) (l : Look) (ls ts : List ℕ) (e : Bool) (w : Option Wish) : Type 0 where
+  pub lives : ls ≡ storages_in (is_live_on C) (entries l.replicas)
+  pub left : ts ≡ targets_left pend r p l.id
+  pub enough : e ≡ option_map_or (λ (i : BlockInfo). nat_le i.repl (length ls)) l.info false
+  pub wish : w ≡ option_and_then (λ i. wish_by C l.id i ls (storages_in (is_drained_on C) (entries l.replicas)) (storages_in (λ _ _. true) (entries l.replicas)) ts) l.info
+
+-- it was put behind what was found
+pub record IsPut (l : Look) (e : Bool) (w : Option Wish) (f g : Found) : Type 0 where
+  pub excess : g.excess.items ≡ f.excess.items ++ replicas_on l.excess.items (entries l.replicas)
+  pub wishes : g.wishes.items ≡ f.wishes.items ++ option_to_list w
+  pub deletes : g.deletes.items ≡ f.deletes.items ++ deletes_of e (entries l.replicas)
+
+module _ (C : Cluster) (pend r : ℕ) (a : Contents) (p : OnTheWay) (l : Look) (ls ts : List ℕ) (e : Bool) (w : Option Wish) (look : IsLook C pend r (holdings_with a p.map) l) (seen : IsSeen C pend r p l ls ts e w) where
+  abbrev H : Holdings
+  H = holdings_with a p.map
+
+  abbrev G : Holdings
+  G = started_holdings C pend r H
+
+  known_at_start : get G.blocks l.id ≡ get H.blocks l.id
+  unfolding started_holdings marked without_unordered_excess without_expired
+  known_at_start = refl
+
+  left_at_start : targets_left pend r p l.id ≡ pending_targets G l.id
+  unfolding started_holdings marked without_unordered_excess without_expired holdings_with pending_targets
+  left_at_start = refl
+
+  known : l.info ≡ get G.blocks l.id
+  known = look.info ∙ sym known_at_start
+
+  lives_are : ls ≡ live C G l.id
+  lives_are = seen.lives ∙ ap (λ m. storages_in (is_live_on C) (entries m)) look.replicas ∙ storages_own (is_live_on C) G l.id
+
+  drained_are : storages_in (is_drained_on C) (entries l.replicas) ≡ drained C G l.id
+  drained_are = ap (λ m. storages_in (is_drained_on C) (entries m)) look.replicas ∙ storages_own (is_drained_on C) G l.id
+
+  pairs_are : storages_in (λ _ _. true) (entries l.replicas) ≡ storages_where (λ _ _. true) G l.id
+  pairs_are = ap (λ m. storages_in (λ _ _. true) (entries m)) look.replicas ∙ storages_own (λ _ _. true) G l.id
+
+  left_is : ts ≡ pending_targets G l.id
+  left_is = seen.left ∙ left_at_start
+
+  enough_is : e ≡ has_enough_live C G l.id
+  unfolding has_enough_live
+  enough_is = seen.enough ∙ (λ j. option_map_or (λ (i : BlockInfo). nat_le i.repl (length (lives_are j))) (known j) false)
+
+  wish_is : w ≡ wish_in C G l.id
+  wish_is = seen.wish ∙ (λ j. option_and_then (λ (i : BlockInfo). wish_by C l.id i (lives_are j) (drained_are j) (pairs_are j) (left_is j)) (known j)) ∙ wish_known C G l.id
+
+  more : {X : Type 0} (f : ℕ → List X) (bs : List ℕ) (b : ℕ) → flat_map f bs ++ f b ≡ flat_map f (bs ++ b ∷ [])
+  more f bs b = flat_map_more f [] bs b
+
+  pub found_more : (f g : Found) → IsPut l e w f g → (bs : List ℕ) → HasFound C pend r H bs f → HasFound C pend r H (bs ++ l.id ∷ []) g
+  found_more f g put bs has = record {
+    excess = put.excess ∙ (λ j. has.excess j ++ replicas_on (look.excess j) (entries (look.replicas j))) ∙ more (excess_at C pend r H) bs l.id;
+    wishes = put.wishes ∙ (λ j. has.wishes j ++ option_to_list (wish_is j)) ∙ more (wishes_at C pend r H) bs l.id;
+    deletes = put.deletes ∙ (λ j. has.deletes j ++ deletes_of (enough_is j) (entries (look.replicas j))) ∙ more (deletes_at C pend r H) bs l.id;
+  }

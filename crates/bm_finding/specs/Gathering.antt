@@ -1,0 +1,44 @@
+-- What is found of several blocks as a round begins, one block after another.
+use Rattle.std.specs.Prelude.{◌≡◌, ℕ, List, option_to_list}
+use Rattle.std.specs.Option.{option_map_or}
+use Rattle.std.specs.List.{flat_map}
+use Rattle.std.specs.List.Sorted.{IsPermutation, IsSortedByKey}
+use Rattle.bm_base.specs.declared.replica.ReplicaId.{ReplicaId}
+use Rattle.bm_base.specs.declared.commands.Delete.{Delete}
+use Rattle.bm_base.specs.declared.round.Wish.{Wish}
+use Rattle.bm_base.specs.Map.{Order, entries}
+use Rattle.bm_base.specs.State.{Cluster, Holdings}
+use Rattle.bm_base.specs.Replicas.{has_enough_live}
+use Rattle.bm_base.specs.RoundParts.{started_holdings}
+use Rattle.bm_arena.specs.Triplets.{Block}
+use Rattle.bm_arena.specs.Contents.{Contents, block_at}
+use Rattle.bm_finding.specs.Looked.{own_replicas, too_many, replicas_on, deletes_of}
+use Rattle.bm_finding.specs.Wanting.{wish_in}
+use Rattle.bm_finding.specs.declared.found.Found.{Found}
+
+-- the number of the block at a slot
+abbrev pub id_at : Contents → ℕ → ℕ
+id_at a slot = option_map_or (λ (b : Block). b.id) (block_at a slot) 0
+
+-- the replicas of a block that are too many as round r begins
+abbrev pub excess_at : Cluster → ℕ → ℕ → Holdings → ℕ → List ReplicaId
+excess_at C pend r H b = replicas_on (too_many C pend r H b) (entries (own_replicas (started_holdings C pend r H) b))
+
+-- what a block wishes for then
+abbrev pub wishes_at : Cluster → ℕ → ℕ → Holdings → ℕ → List Wish
+wishes_at C pend r H b = option_to_list (wish_in C (started_holdings C pend r H) b)
+
+-- its replicas that are to be deleted then
+abbrev pub deletes_at : Cluster → ℕ → ℕ → Holdings → ℕ → List Delete
+deletes_at C pend r H b = let G = started_holdings C pend r H in deletes_of (has_enough_live C G b) (entries (own_replicas G b))
+
+-- what is found of these blocks
+pub record HasFound (C : Cluster) (pend r : ℕ) (H : Holdings) (bs : List ℕ) (f : Found) : Type 0 where
+  pub excess : f.excess.items ≡ flat_map (excess_at C pend r H) bs
+  pub wishes : f.wishes.items ≡ flat_map (wishes_at C pend r H) bs
+  pub deletes : f.deletes.items ≡ flat_map (deletes_at C pend r H) bs
+
+-- the same elements, in the order of their keys
+pub record IsInOrder {K X : Type 0} (o : Order K) (key : X → K) (xs ys : List X) : Type 0 where
+  pub permutation : IsPermutation xs ys
+  pub sorted : IsSortedByKey key o.cmp ys

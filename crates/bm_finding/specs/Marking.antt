@@ -1,0 +1,32 @@
+-- The replicas of one block, with their marks as a round begins.
+use Rattle.std.specs.Prelude.{ℕ, Bool, true, false, if◌then◌else◌, List, [], ◌∷◌, map, filter}
+use Rattle.bm_base.specs.declared.replica.ReplicaId.{ReplicaId}
+use Rattle.bm_base.specs.declared.replica.Marks.{Marks}
+use Rattle.bm_base.specs.Map.{Map, insert}
+use Rattle.bm_base.specs.State.{Cluster, by_replica, replica_at}
+use Rattle.bm_base.specs.Replicas.{is_live_on, is_drained_on}
+use Rattle.bm_finding.specs.declared.replicas.Which.{Which}
+use Rattle.bm_finding.specs.declared.replicas.Which.TheVariants.{Live, Drained, All}
+
+-- a replica in excess counts again where its deletion was not commanded
+abbrev pub counted_again : Marks → Marks
+counted_again m = if m.ordered then m else record m { excess = false }
+
+-- one that is too many is in excess
+abbrev pub marked_if : Bool → Marks → Marks
+marked_if t m = if t then record m { excess = true } else m
+
+-- the replicas of a block, counted again, put one after another to those that are there
+abbrev pub put_on : ℕ → Map by_replica Marks → List (ℕ × Marks) → Map by_replica Marks
+put_on b m [] = m
+put_on b m (r ∷ rs) = put_on b (insert m (replica_at b r.0) (counted_again r.1)) rs
+
+-- of these replicas, the storages of those that pass
+abbrev pub storages_in : (ℕ → Marks → Bool) → List (ReplicaId × Marks) → List ℕ
+storages_in p es = map (λ e. e.0.storage) (filter (λ e. p e.0.storage e.1) es)
+
+-- which replicas of a block are meant
+abbrev pub meant : Cluster → Which → ℕ → Marks → Bool
+meant C Live = is_live_on C
+meant C Drained = is_drained_on C
+meant C All = λ _ _. true

@@ -1,0 +1,61 @@
+// What a round finds in the blocks of a shard.
+ghost use Rattle.std.specs.Prelude.{◌≡◌, IsSome, IsTrue, IfOk, IfErr};
+ghost use Rattle.bm_base.specs.declared.refusal.Refusal.TheVariants.{Memory};
+ghost use Rattle.bm_base.specs.declared.replica.ReplicaId.{ReplicaId};
+ghost use Rattle.bm_base.specs.Map.{get, contains_key};
+ghost use Rattle.bm_base.specs.RoundParts.{round_part};
+ghost use Rattle.bm_arena.specs.Holding.{replicas_of};
+ghost use Rattle.bm_levels.specs.Leveled.{AreLevels};
+ghost use Rattle.bm_levels.specs.Held.{holdings_with};
+
+use crate::found::Start;
+use crate::slots::slots_to_visit;
+use crate::sorting::{sort_deletes, sort_excess, sort_wishes};
+use bm_base::{Items, Refusal, RoundPart};
+use bm_levels::LeveledBlocks;
+use bm_pending::PendingTransfers;
+use bm_topo::Topology;
+use std::alloc::Global;
+
+/// What a shard finds as round `round` begins, where transfers are given up that were commanded `pend` rounds ago or earlier, in a
+/// cluster by which the levels are kept and in which each replica's storage is known. An `Err` is want of memory.
+///
+/// It looks at the blocks that are not settled, and at those at a level at which copies are wished for, and goes over the transfers on
+/// their way once; so its cost does not grow with the number of the other blocks. Each block that it looks at costs a few looks at each
+/// of its replicas, and what is found is sorted.
+pub fn find_round(
+    alloc: Global,
+    blocks: &LeveledBlocks,
+    pending: &PendingTransfers,
+    topology: &Topology,
+    pend: u32,
+    round: u64,
+) -> Result<RoundPart, Refusal>
+    requires levels { AreLevels topology.now.cluster blocks.now }
+    requires stored { (q : ReplicaId) → IsSome (get (replicas_of blocks.now.arena) q) → IsTrue (contains_key topology.now.cluster.storages q.storage) }
+    ensures part { IfOk result (λ p. p ≡ round_part topology.now.cluster pend round (holdings_with blocks.now.arena pending.now.map)) }
+    ensures refused { IfErr result (λ e. e ≡ Memory) }
+{
+    blocks.lawful();
+    blocks.arena().lawful();
+    blocks.kept().lawful();
+    let start = Start {
+        arena: blocks.arena(),
+        pending,
+        topology,
+        pend,
+        round,
+    };
+    let slots = slots_to_visit(alloc, blocks.kept())?;
+    let mut found = start.visit_all(alloc, &slots)?;
+    sort_excess(&mut found.excess)?;
+    sort_wishes(&mut found.wishes)?;
+    sort_deletes(&mut found.deletes)?;
+    let expired = pending.expired(alloc, pend, round)?;
+    Ok(RoundPart {
+        expired: Items::from_vec(expired),
+        excess: Items::from_vec(found.excess),
+        wishes: Items::from_vec(found.wishes),
+        deletes: Items::from_vec(found.deletes),
+    })
+}

@@ -1,0 +1,94 @@
+// What is found of the blocks at which a round looks, one after another.
+ghost use Rattle.std.specs.Prelude.{◌≡◌, ◌++◌, ◌∷◌, [], ℕ, List, map, Some, nat_le, false, option_to_list, IfOk, IfErr, OnOk};
+ghost use Rattle.std.specs.Option.{option_map_or};
+ghost use Rattle.bm_base.specs.declared.refusal.Refusal.TheVariants.{Memory};
+ghost use Rattle.bm_base.specs.SlotLists.{Among};
+ghost use Rattle.bm_arena.specs.Contents.{slot_of};
+ghost use Rattle.bm_levels.specs.Held.{holdings_with};
+ghost use Rattle.bm_finding.specs.Gathering.{HasFound, id_at};
+
+use crate::look::Look;
+use crate::replicas::{Which, storages_of};
+use crate::wishing::wish_of;
+use bm_arena::{Arena, Slot};
+use bm_base::{BlockInfo, Delete, Refusal, ReplicaId, Wish};
+use bm_pending::PendingTransfers;
+use bm_topo::Topology;
+use std::alloc::{AllocError, Global};
+
+/// What was found so far, in the order in which it was come upon.
+#[derive(Drop)]
+pub(crate) struct Found {
+    pub excess: Vec<ReplicaId>,
+    pub wishes: Vec<Wish>,
+    pub deletes: Vec<Delete>,
+}
+
+/// A round as it begins, with all that it looks at.
+#[derive(Clone, Copy)]
+pub(crate) struct Start<'a> {
+    pub arena: &'a Arena,
+    pub pending: &'a PendingTransfers,
+    pub topology: &'a Topology,
+    pub pend: u32,
+    pub round: u64,
+}
+
+impl<'a> Start<'a> {
+    /// Looks at the blocks at these slots.
+    pub(crate) fn visit_all(&self, alloc: Global, slots: &[Slot]) -> Result<Found, Refusal>
+        requires { (slot : ℕ) → Among slot slots.now → (id : ℕ) × (slot_of self.now.arena.now id ≡ Some slot) }
+        ensures found { IfOk result (HasFound self.now.topology.now.cluster self.now.pend self.now.round (holdings_with self.now.arena.now self.now.pending.now.map) (map (id_at self.now.arena.now) slots.now)) }
+        ensures refused { IfErr result (λ e. e ≡ Memory) }
+    {
+        let mut found = Found {
+            excess: Vec::new(alloc),
+            wishes: Vec::new(alloc),
+            deletes: Vec::new(alloc),
+        };
+        for slot in slots {
+            self.visit(alloc, *slot, &mut found)?;
+        }
+        Ok(found)
+    }
+
+    /// Looks at the block at a slot, and puts what is found of it behind what was found.
+    fn visit(&self, alloc: Global, slot: Slot, found: &mut Found) -> Result<(), Refusal>
+        requires { (id : ℕ) × (slot_of self.now.arena.now id ≡ Some slot) }
+        ensures more { (bs : List ℕ) → HasFound self.now.topology.now.cluster self.now.pend self.now.round (holdings_with self.now.arena.now self.now.pending.now.map) bs found.old
+            → OnOk result (HasFound self.now.topology.now.cluster self.now.pend self.now.round (holdings_with self.now.arena.now self.now.pending.now.map) (bs ++ id_at self.now.arena.now slot ∷ []) found.new) }
+        ensures refused { IfErr result (λ e. e ≡ Memory) }
+    {
+        self.arena.lawful();
+        let id = self.arena.id_of(slot);
+        let look = Look::of(alloc, self.arena, self.topology, slot, id)?;
+        let live = storages_of(alloc, self.topology, Which::Live, look.replicas.entries())?;
+        let enough = has_enough(look.info, live.as_slice().len());
+        let left = self.pending.targets_left(alloc, id, self.pend, self.round)?;
+        let wish = wish_of(alloc, self.topology, &look, live, left)?;
+        look.push_excess(&mut found.excess)?;
+        look.push_deletes(enough, &mut found.deletes)?;
+        push_wish(wish, &mut found.wishes)?;
+        Ok(())
+    }
+}
+
+/// Puts a wish behind those that are there, if there is one.
+fn push_wish(wish: Option<Wish>, into: &mut Vec<Wish>) -> Result<(), AllocError>
+    ensures { OnOk result (into.new.items ≡ into.old.items ++ option_to_list wish) }
+{
+    if let Some(wish) = wish {
+        into.push(wish)?;
+    }
+    Ok(())
+}
+
+/// Whether as many replicas as are wanted are live; not of an unknown block.
+fn has_enough(info: Option<BlockInfo>, live: usize) -> bool
+    ensures { result ≡ option_map_or (λ i. nat_le i.repl live) info false }
+{
+    match info {
+        Some(info) => live >= info.repl as usize,
+        None => false,
+    }
+}

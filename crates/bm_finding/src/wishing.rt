@@ -1,0 +1,76 @@
+// What one block wishes for.
+ghost use Rattle.std.specs.Prelude.{◌≡◌, true, ◌==◌, not, length, map, filter, option_and_then, IfOk, IfErr, Some};
+ghost use Rattle.bm_base.specs.declared.refusal.Refusal.TheVariants.{Memory};
+ghost use Rattle.bm_base.specs.Map.{entries, keep};
+ghost use Rattle.bm_base.specs.Replicas as replicas;
+ghost use Rattle.bm_base.specs.Levels as levels;
+ghost use Rattle.bm_pending.specs.OnTheWay.{is_expired};
+ghost use Rattle.bm_finding.specs.Marking.{storages_in};
+ghost use Rattle.bm_finding.specs.Wanting.{count_at, wish_by};
+
+use crate::look::Look;
+use crate::replicas::{Which, spread_of, storages_of};
+use bm_base::{Level, Refusal, StorageId, StorageIds, Wish, level_of};
+use bm_pending::PendingTransfers;
+use bm_topo::Topology;
+use std::alloc::Global;
+
+/// What a block wishes for that has these live replicas: so many copies at its level, if it has one and wants any.
+pub(crate) fn wish_of(
+    alloc: Global,
+    topology: &Topology,
+    look: &Look,
+    live: StorageIds,
+    pending: StorageIds,
+) -> Result<Option<Wish>, Refusal>
+    ensures wish { IfOk result (λ w. w ≡ option_and_then (λ i. wish_by topology.now.cluster look.now.id i live
+        (storages_in (replicas.is_drained_on topology.now.cluster) (entries look.now.replicas)) (storages_in (λ _ _. true) (entries look.now.replicas)) pending) look.now.info) }
+    ensures refused { IfErr result (λ e. e ≡ Memory) }
+{
+    let info = look.info;
+    let Some(info) = info else {
+        return Ok(None);
+    };
+    let drained = storages_of(alloc, topology, Which::Drained, look.replicas.entries())?;
+    let drained_count = drained.as_slice().len();
+    let repl = info.repl;
+    let Some(level) = level_among(topology, repl, live.as_slice(), drained_count) else {
+        return Ok(None);
+    };
+    let live_count = live.as_slice().len();
+    let pending_count = pending.as_slice().len();
+    let count = count_at(level, repl, live_count, pending_count);
+    if count == 0 {
+        return Ok(None);
+    }
+    let pairs = storages_of(alloc, topology, Which::All, look.replicas.entries())?;
+    Ok(Some(Wish {
+        level,
+        block: look.id,
+        stamp: info.stamp,
+        count,
+        live,
+        drained,
+        pairs,
+        pending,
+    }))
+}
+
+/// The level of a block with live replicas on these storages.
+fn level_among(topology: &Topology, repl: u32, live: &[StorageId], drained: usize) -> Option<Level>
+    ensures { result ≡ levels.level_of (length live.now) drained repl (length (replicas.racks topology.now.cluster live.now)) (replicas.is_multi_rack topology.now.cluster) }
+{
+    let racks = spread_of(topology, live);
+    level_of(live.len(), drained, repl, racks, topology.multi_rack())
+}
+
+/// How many copies a block at a level wants.
+fn count_at(level: Level, repl: u32, live: usize, pending: usize) -> u32
+    ensures { result ≡ count_at level repl live pending }
+{
+    match level {
+        Level::BadlyDistributed => u32::from(pending == 0),
+        Level::NoUsableReplica => 0,
+        _ => (repl as usize).saturating_sub(live).saturating_sub(pending) as u32,
+    }
+}

@@ -1,0 +1,90 @@
+-- Shards that stay the same in all but room.
+use Rattle.std.specs.Prelude.{◌≡◌, ℕ, suc, List, [], ◌∷◌, length}
+use Rattle.std.specs.List.{AllZip}
+use Rattle.std.proofs.Common.{refl, sym, ap, subst, ◌∙◌}
+use Rattle.bm_base.specs.Map.{get}
+use Rattle.bm_base.specs.State.{Cluster}
+use Rattle.bm_base.specs.Levels.{level}
+use Rattle.bm_parts.specs.Whole.{whole_of, AreOwn}
+use Rattle.bm_parts.specs.PlacedLaws.{IsPlaced}
+use Rattle.bm_shard.specs.Seen.{Seen}
+use Rattle.bm_shard.specs.Standing.{StandsIn, IsSameButRoom}
+use Rattle.bm_fleet.specs.Whole.{parts_of, held_by, AreIndexed, AreShards, EachStandsIn, EachTook}
+use Rattle.bm_fleet.specs.Worked.{IsSame}
+
+pub stands_still : (C : Cluster) (S T : Seen) → IsSameButRoom S T → StandsIn C S → StandsIn C T
+stands_still C S T same h =
+    let held : T.holdings ≡ S.holdings = ap (λ s. s.holdings) same.rest in
+    record {
+      levels = λ b. ap (λ m. get m b) (same.levels C h) ∙ h.levels b ∙ ap (λ H. level C H b) (sym held);
+      placed = subst (IsPlaced C) (sym held) h.placed;
+    }
+
+-- so it is after another step that changes nothing but room
+pub same_again : (R S T : Seen) → IsSameButRoom R S → IsSameButRoom S T → IsSameButRoom R T
+same_again R S T first next =
+    let with_room : Seen → Seen = λ s. record s { levels = T.levels; room = T.room } in
+    record {
+      rest = next.rest ∙ ap with_room first.rest;
+      levels = λ C h. next.levels C (stands_still C R S first h) ∙ first.levels C h;
+    }
+
+pub all_same_again : (rs ss ts : List (ℕ × Seen)) → AllZip IsSame rs ss → AllZip IsSame ss ts → AllZip IsSame rs ts
+all_same_again [] [] [] first next = tt
+all_same_again [] [] (t ∷ ts) first next = absurd next
+all_same_again [] (s ∷ ss) ts first next = absurd first
+all_same_again (r ∷ rs) [] ts first next = absurd first
+all_same_again (r ∷ rs) (s ∷ ss) [] first next = absurd next
+all_same_again (r ∷ rs) (s ∷ ss) (t ∷ ts) first next = ((next.0.0 ∙ first.0.0, same_again r.1 s.1 t.1 first.0.1 next.0.1), all_same_again rs ss ts first.1 next.1)
+
+pub same_parts : (ss ts : List (ℕ × Seen)) → AllZip IsSame ss ts → parts_of ts ≡ parts_of ss
+same_parts [] [] each = refl
+same_parts [] (t ∷ ts) each = absurd each
+same_parts (s ∷ ss) [] each = absurd each
+same_parts (s ∷ ss) (t ∷ ts) each = λ j. (ap (λ S. S.holdings) each.0.1.rest) j ∷ same_parts ss ts each.1 j
+
+same_length : (ss ts : List (ℕ × Seen)) → AllZip IsSame ss ts → length ts ≡ length ss
+same_length [] [] each = refl
+same_length [] (t ∷ ts) each = absurd each
+same_length (s ∷ ss) [] each = absurd each
+same_length (s ∷ ss) (t ∷ ts) each = ap suc (same_length ss ts each.1)
+
+same_indexed : (shards index : ℕ) (ss ts : List (ℕ × Seen)) → AllZip IsSame ss ts → AreIndexed shards index ss → AreIndexed shards index ts
+same_indexed shards index [] [] each h = tt
+same_indexed shards index [] (t ∷ ts) each h = absurd each
+same_indexed shards index (s ∷ ss) [] each h = absurd each
+same_indexed shards index (s ∷ ss) (t ∷ ts) each h = (each.0.0 ∙ h.0, ap (λ S. S.part) each.0.1.rest ∙ h.1, same_indexed shards (suc index) ss ts each.1 h.2)
+
+pub same_stands : (C : Cluster) (ss ts : List (ℕ × Seen)) → AllZip IsSame ss ts → EachStandsIn C ss → EachStandsIn C ts
+same_stands C [] [] each h = tt
+same_stands C [] (t ∷ ts) each h = absurd each
+same_stands C (s ∷ ss) [] each h = absurd each
+same_stands C (s ∷ ss) (t ∷ ts) each h = (stands_still C s.1 t.1 each.0.1 h.0, same_stands C ss ts each.1 h.1)
+
+pub same_took : (round pend : ℕ) (ss ts : List (ℕ × Seen)) → AllZip IsSame ss ts → EachTook round pend ss → EachTook round pend ts
+same_took round pend [] [] each h = tt
+same_took round pend [] (t ∷ ts) each h = absurd each
+same_took round pend (s ∷ ss) [] each h = absurd each
+same_took round pend (s ∷ ss) (t ∷ ts) each h = (ap (λ S. S.round) each.0.1.rest ∙ h.0, ap (λ S. S.pend) each.0.1.rest ∙ h.1, same_took round pend ss ts each.1 h.2)
+
+pub same_held : (ss ts : List (ℕ × Seen)) → AllZip IsSame ss ts → held_by ts ≡ held_by ss
+same_held ss ts each = ap whole_of (same_parts ss ts each)
+
+pub same_shards : (shards : ℕ) (ss ts : List (ℕ × Seen)) → AllZip IsSame ss ts → AreShards shards ss → AreShards shards ts
+same_shards shards ss ts each h = record {
+  indexed = same_indexed shards 0 ss ts each h.indexed;
+  own = subst (AreOwn shards 0) (sym (same_parts ss ts each)) h.own;
+  long = h.long ∙ sym (same_length ss ts each);
+  some = h.some;
+  few = h.few;
+}
+
+pub are_shards : (shards : ℕ) (ss : List (ℕ × Seen)) → AreShards shards ss → AreShards (length ss) ss
+are_shards shards ss h = subst (λ n. AreShards n ss) h.long h
+
+pub still_shards : (ss ts : List (ℕ × Seen)) → AllZip IsSame ss ts → AreShards (length ss) ss → AreShards (length ts) ts
+still_shards ss ts each h = are_shards (length ss) ts (same_shards (length ss) ss ts each h)
+
+-- so it is where the shards were taken out first
+pub still_taken : (ss taken back : List (ℕ × Seen)) → taken ≡ ss → AllZip IsSame taken back → AllZip IsSame ss back
+still_taken ss taken back from each = subst (λ xs. AllZip IsSame xs back) from each

@@ -1,0 +1,32 @@
+-- What was gathered of shards that a crew worked.
+use Rattle.std.specs.Prelude.{ℕ, ◌+◌, ◌<◌, ◌^◌, List, [], ◌∷◌, Result, Ok, Err}
+use Rattle.bm_base.specs.declared.event.Done.{Done}
+use Rattle.bm_base.specs.declared.refusal.Refusal.{Refusal}
+use Rattle.bm_shard.specs.Seen.{Seen}
+use Rattle.bm_fleet.specs.declared.crewed.Prepared.{Prepared}
+use Rattle.bm_fleet.specs.declared.crewed.Committed.{Committed}
+
+abbrev pub shard_of_prepared : ℕ × Prepared → ℕ × Seen
+shard_of_prepared p = (p.0, p.1.shard)
+
+abbrev pub shard_of_committed : ℕ × Committed → ℕ × Seen
+shard_of_committed c = (c.0, c.1.shard)
+
+-- the first of two outcomes that is a refusal
+abbrev pub or_else : Result (Unit {0}) Refusal → Result (Unit {0}) Refusal → Result (Unit {0}) Refusal
+or_else (Err e) other = Err e
+or_else (Ok x) other = other
+
+-- the first refusal
+abbrev pub outcome_of : List (ℕ × Prepared) → Result (Unit {0}) Refusal
+outcome_of [] = Ok tt
+outcome_of (p ∷ ps) = or_else p.1.outcome (outcome_of ps)
+
+-- the answers, added up
+abbrev pub done_of : List (ℕ × Committed) → Done
+done_of [] = record { added = 0; removed = 0 }
+done_of (c ∷ cs) = record { added = c.1.done.added + (done_of cs).added; removed = c.1.done.removed + (done_of cs).removed }
+
+-- so few that the answers of 64 shards can be added up
+abbrev pub IsFew : ℕ × Committed → Type 0
+IsFew c = (c.1.done.added < 2 ^ 100) × (c.1.done.removed < 2 ^ 100)

@@ -1,0 +1,5 @@
+pub mod Whole
+pub mod Codes
+pub mod Worked
+pub mod Gathered
+pub mod OneShard

@@ -1,0 +1,64 @@
+// What all shards of a manager are together, and what a contract sees of them.
+ghost use Rattle.std.specs.Prelude.{◌≡◌, ℕ, None, length, vec_len, IfOk, IfErr};
+ghost use Rattle.bm_base.specs.declared.refusal.Refusal.TheVariants.{Memory};
+ghost use Rattle.bm_base.specs.Configuration.{config_refusal};
+ghost use Rattle.bm_base.specs.State.{Cluster, empty_holdings};
+ghost use Rattle.bm_fleet.specs.Whole.{StandsIn, HasTaken};
+ghost use Rattle.bm_fleet.specs.Worked.{AreNew};
+
+use bm_base::{Config, Refusal};
+use bm_shard::Shard;
+use std::alloc::Global;
+use std::marker::Model;
+
+/// All shards of a manager, each beside its index.
+///
+/// A contract sees what they hold together. That each is up to date in a cluster (`StandsIn`), and has taken all rounds (`HasTaken`), are
+/// facts about what is seen, which each call hands on to the next.
+#[derive(Drop)]
+pub struct Fleet {
+    pub(crate) alloc: Global,
+    pub(crate) shards: Vec<(u32, Shard)>,
+}
+
+impl Model for Fleet {
+    ghost use Rattle.std.specs.Prelude.{length};
+    ghost use Rattle.bm_fleet.specs.Whole.{Whole, held_by, AreShards};
+    ghost use Rattle.bm_fleet.specs.Codes.{coded_whole};
+
+    ghost Value = { Whole };
+
+    ghost coded = { coded_whole };
+
+    ghost view = { λ f. record { holdings = held_by f.shards.items; shards = f.shards.items } };
+
+    ghost invariant = { λ f. AreShards (length f.shards.items) f.shards.items };
+}
+
+impl Fleet {
+    /// As many empty shards as the configuration says. `Memory`.
+    #[tactic(auto, unfolding(crate::specs::Whole::StandsIn, crate::specs::Whole::HasTaken))]
+    pub fn new(alloc: Global, config: &Config) -> Result<Fleet, Refusal>
+        requires { config_refusal config.now ≡ None }
+        ensures empty { IfOk result (λ f. f.holdings ≡ empty_holdings) }
+        ensures standing { IfOk result (λ f. (C : Cluster) → StandsIn C f) }
+        ensures rounds { IfOk result (HasTaken config.now.first_round config.now.pend) }
+        ensures refused { IfErr result (λ e. e ≡ Memory) }
+    {
+        let shards = new_shards(alloc, config)?;
+        Ok(Fleet { alloc, shards })
+    }
+}
+
+fn new_shards(alloc: Global, config: &Config) -> Result<Vec<(u32, Shard)>, Refusal>
+    ensures each { IfOk result (λ v. AreNew config.now 0 v.items) }
+    ensures len { IfOk result (λ v. length v.items ≡ config.now.shards) }
+    ensures refused { IfErr result (λ e. e ≡ Memory) }
+{
+    let mut shards = Vec::new(alloc);
+    for index in 0..config.shards {
+        let shard = Shard::new(alloc, index, config)?;
+        shards.push((index, shard))?;
+    }
+    Ok(shards)
+}

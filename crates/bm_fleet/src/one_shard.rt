@@ -1,0 +1,156 @@
+// An event on one block, made on the block's shard alone.
+ghost use Rattle.std.specs.Prelude.{◌≡◌, ◌<◌, ℕ, None, Some, IfOk, IfErr, OnOk, OnErr, IsSome, length, slice_get};
+ghost use Rattle.bm_base.specs.Replicas.{is_multi_rack};
+ghost use Rattle.bm_base.specs.Shards.{shard_of};
+ghost use Rattle.bm_base.specs.Events.{change_cluster, change_holdings};
+ghost use Rattle.bm_base.specs.Calls.{done};
+ghost use Rattle.bm_base.specs.Refusals.{first_of, cluster_checks, block_checks};
+ghost use Rattle.bm_base.specs.Answering.{Refuses, takes_memory};
+ghost use Rattle.bm_parts.specs.Parts.{block_of};
+ghost use Rattle.bm_shard.specs.Seen.{Seen};
+ghost use Rattle.bm_shard.specs.Standing.{StandsIn, IsSameButRoom};
+ghost use Rattle.bm_fleet.specs.Whole as fleet;
+ghost use Rattle.bm_fleet.specs.Whole.{AreShards, EachStandsIn, EachTook, held_by};
+ghost use Rattle.bm_fleet.specs.Worked.{Accepts};
+ghost use Rattle.bm_fleet.specs.OneShard.{IsChanged, IsMadeAt};
+
+use crate::fleet::Fleet;
+use bm_base::{BlockId, Done, Event, Refusal};
+use bm_shard::Shard;
+use bm_topo::Topology;
+
+impl Fleet {
+    /// Changes the shard of a block alone by an event on the block that no check refuses; the other shards are not looked at. `topology` is
+    /// the cluster before the event, `multi` says whether the alive nodes stand on two racks or more after it. Answers how many replicas came
+    /// and went. `Memory`, but for an event that takes no memory, and then nothing that is seen has changed but room.
+    #[tactic(auto, unfolding(crate::specs::Whole::StandsIn, crate::specs::Whole::HasTaken))]
+    pub fn change_one(
+        &mut self,
+        event: &Event,
+        topology: &Topology,
+        multi: bool,
+    ) -> Result<Done, Refusal>
+        requires one { IsSome (block_of event.now) }
+        requires cluster { first_of (cluster_checks topology.now.cluster event.now) ≡ None }
+        requires blocks { first_of (block_checks self.old.holdings event.now) ≡ None }
+        requires multi { multi ≡ is_multi_rack (change_cluster topology.now.cluster event.now) }
+        requires standing { fleet.StandsIn topology.now.cluster self.old }
+        ensures done { IfOk result (λ d. d ≡ done self.old.holdings self.new.holdings) }
+        ensures changed { OnOk result (self.new.holdings ≡ change_holdings topology.now.cluster self.old.holdings event.now) }
+        ensures standing { OnOk result (fleet.StandsIn (change_cluster topology.now.cluster event.now) self.new) }
+        ensures rounds { (round pend : ℕ) → fleet.HasTaken round pend self.old → fleet.HasTaken round pend self.new }
+        ensures unchanged { OnErr result (self.new.holdings ≡ self.old.holdings) }
+        ensures still { OnErr result (fleet.StandsIn topology.now.cluster self.new) }
+        ensures refused { IfErr result (Refuses None (takes_memory event.now)) }
+    {
+        match block_of(event) {
+            Some(id) => change_own(&mut self.shards, id, event, topology, multi),
+            None => unreachable!(),
+        }
+    }
+}
+
+/// Changes the shard of a block alone by an event on the block, or leaves it as it was in all but room.
+fn change_own(
+    shards: &mut Vec<(u32, Shard)>,
+    id: BlockId,
+    event: &Event,
+    topology: &Topology,
+    multi: bool,
+) -> Result<Done, Refusal>
+    requires one { block_of event.now ≡ Some id }
+    requires cluster { first_of (cluster_checks topology.now.cluster event.now) ≡ None }
+    requires blocks { first_of (block_checks (held_by shards.old.items) event.now) ≡ None }
+    requires multi { multi ≡ is_multi_rack (change_cluster topology.now.cluster event.now) }
+    requires shards { AreShards (length shards.old.items) shards.old.items }
+    requires standing { EachStandsIn topology.now.cluster shards.old.items }
+    ensures done { IfOk result (λ d. d ≡ done (held_by shards.old.items) (held_by shards.new.items)) }
+    ensures changed { OnOk result (held_by shards.new.items ≡ change_holdings topology.now.cluster (held_by shards.old.items) event.now) }
+    ensures standing { OnOk result (EachStandsIn (change_cluster topology.now.cluster event.now) shards.new.items) }
+    ensures shards { AreShards (length shards.new.items) shards.new.items }
+    ensures rounds { (round pend : ℕ) → EachTook round pend shards.old.items → EachTook round pend shards.new.items }
+    ensures unchanged { OnErr result (held_by shards.new.items ≡ held_by shards.old.items) }
+    ensures still { OnErr result (EachStandsIn topology.now.cluster shards.new.items) }
+    ensures refused { IfErr result (Refuses None (takes_memory event.now)) }
+{
+    let place = place_of(id, shards.len());
+    change_at(shards, place, event, topology, multi)
+}
+
+/// Where the shard of a block stands, of so many.
+fn place_of(id: BlockId, count: usize) -> usize
+    requires { 0 < count }
+    ensures { result ≡ shard_of id count }
+{
+    (id.0 % count as u64) as usize
+}
+
+/// The block of an event on one block.
+#[tactic(auto, unfolding(bm_parts::specs::Parts::block_of))]
+fn block_of(event: &Event) -> Option<BlockId>
+    ensures { result ≡ block_of event.now }
+{
+    match event {
+        Event::AddBlock { id, .. }
+        | Event::DeleteBlock { id }
+        | Event::SetReplication { id, .. }
+        | Event::Restamp { id, .. }
+        | Event::Received { id, .. }
+        | Event::Deleted { id, .. }
+        | Event::Corrupt { id, .. } => Some(*id),
+        Event::Register { .. }
+        | Event::Dead { .. }
+        | Event::StorageFailed { .. }
+        | Event::Heartbeat { .. }
+        | Event::Drain { .. }
+        | Event::Undrain { .. }
+        | Event::FullReport { .. } => None,
+    }
+}
+
+/// Changes the shard at a place by an event, or leaves it as it was in all but room.
+fn change_at(
+    shards: &mut Vec<(u32, Shard)>,
+    place: usize,
+    event: &Event,
+    topology: &Topology,
+    multi: bool,
+) -> Result<Done, Refusal>
+    requires place { place < length shards.old.items }
+    requires cluster { first_of (cluster_checks topology.now.cluster event.now) ≡ None }
+    requires blocks { (s : ℕ × Seen) → slice_get shards.old.items place ≡ Some s → Accepts event.now s }
+    requires multi { multi ≡ is_multi_rack (change_cluster topology.now.cluster event.now) }
+    requires standing { (s : ℕ × Seen) → slice_get shards.old.items place ≡ Some s → StandsIn topology.now.cluster s.1 }
+    ensures changed { IfOk result (λ d. IsMadeAt (λ S T. IsChanged topology.now.cluster event.now S T d) place shards.old.items shards.new.items) }
+    ensures same { OnErr result (IsMadeAt IsSameButRoom place shards.old.items shards.new.items) }
+    ensures refused { IfErr result (Refuses None (takes_memory event.now)) }
+{
+    match shards.get_mut(place) {
+        Some(one) => change_shard(&mut one.1, event, topology, multi),
+        None => unreachable!(),
+    }
+}
+
+/// Changes a shard by an event, or leaves it as it was in all but room.
+fn change_shard(
+    shard: &mut Shard,
+    event: &Event,
+    topology: &Topology,
+    multi: bool,
+) -> Result<Done, Refusal>
+    requires cluster { first_of (cluster_checks topology.now.cluster event.now) ≡ None }
+    requires blocks { first_of (block_checks shard.old.holdings event.now) ≡ None }
+    requires multi { multi ≡ is_multi_rack (change_cluster topology.now.cluster event.now) }
+    requires standing { StandsIn topology.now.cluster shard.old }
+    ensures changed { IfOk result (IsChanged topology.now.cluster event.now shard.old shard.new) }
+    ensures same { OnErr result (IsSameButRoom shard.old shard.new) }
+    ensures refused { IfErr result (Refuses None (takes_memory event.now)) }
+{
+    match shard.prepare(event, topology) {
+        Ok(()) => Ok(shard.commit(event, topology, multi)),
+        Err(refusal) => {
+            shard.abort();
+            Err(refusal)
+        }
+    }
+}

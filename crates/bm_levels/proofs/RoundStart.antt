@@ -1,0 +1,108 @@
+-- As a round begins: what is held after its marks, and all that holds between calls once the unsettled slots are judged anew.
+use Rattle.std.specs.Prelude.{◌≡◌, ◌≢◌, ℕ, ◌+◌, true, false, if◌then◌else◌, List, Option, Some, None, IsSome, nat_eq, option_and_then}
+use Rattle.std.specs.Map.{lookup}
+use Rattle.std.proofs.Common.{refl, sym, ap, ◌∙◌, inl, inr, ◌⊎◌}
+use Rattle.std.proofs.lemmas.Bool.{cases_Bool, true≢false}
+use Rattle.bm_base.specs.declared.replica.ReplicaId.{ReplicaId}
+use Rattle.bm_base.proofs.SlotLists.{dec_among}
+use Rattle.bm_base.specs.Map.{revise}
+use Rattle.bm_base.specs.State.{Cluster, Holdings}
+use Rattle.bm_base.specs.Replicas.{rack_of, is_draining, is_multi_rack}
+use Rattle.bm_base.specs.Excess.{without_unordered_excess, marked}
+use Rattle.bm_base.specs.RoundParts.{surplus}
+use Rattle.bm_arena.specs.Triplets.{Block}
+use Rattle.bm_arena.specs.Contents.{Contents, block_at, slot_of, marks_at, find_marks, IsLawful, KeepsEntries}
+use Rattle.bm_arena.specs.Holding.{replicas_at, replicas_of, blocks_of, info_at, holdings_of}
+use Rattle.bm_arena.proofs.Held.{same_blocks, under}
+use Rattle.bm_arena.proofs.Staying.{entries-chain}
+use Rattle.bm_levels.specs.Judged.{is_settled_at}
+use Rattle.bm_levels.specs.Kept.{Kept, IsUnsettled, HasRoomFor, IsJudged, IsSameAt}
+use Rattle.bm_levels.specs.Leveled.{Leveled, IsLeveled, AreLevels}
+use Rattle.bm_levels.specs.Changes.{as_begun, as_excess, all_changed, has_replica, has_block}
+use Rattle.bm_levels.proofs.ManySlots.{known_info, marker_settled, leveled_reported, levels_reported}
+use Rattle.bm_levels.proofs.RoundMarks.{settled_block, begun_replicas, no_surplus, marked_replicas, none_marked}
+
+-- a slot that is not settled is held
+pub unsettled_held : (o : Option Block) → is_settled_at o ≡ false → IsSome o
+unfolding is_settled_at
+unsettled_held None e = absurd (true≢false e)
+unsettled_held (Some b) e = refl
+
+-- the known blocks are of the entries
+pub entries_blocks : (a c : Contents) → KeepsEntries a c → blocks_of c ≡ blocks_of a
+entries_blocks a c keeps =
+    same_blocks a c (λ b.
+    ap (λ l. option_and_then (λ x. info_at c x) (lookup (nat_eq b) l)) keeps.ids
+    ∙ under (λ x. info_at c x) (λ x. info_at a x) (slot_of a b) (λ x. known_info (block_at c x) (block_at a x) (keeps.known x)))
+
+-- there is room for each slot that is judged
+pub start_room : (old : Leveled) → IsLeveled old → (slot : ℕ) → IsUnsettled old.kept slot → HasRoomFor old.kept (slot + 1)
+start_room old h slot there = h.room slot (unsettled_held (block_at old.arena slot) ((h.unsettled slot).0 there))
+
+-- what a round's marks make of an arena: marks of excess anew, and no change at settled slots
+pub record IsStarted (C : Cluster) (old : Leveled) (c : Contents) : Type 0 where
+  pub replicas : replicas_of c ≡ (marked C (without_unordered_excess (holdings_of old.arena))).replicas
+  pub blocks : blocks_of c ≡ blocks_of old.arena
+  pub entries : KeepsEntries old.arena c
+  pub left : (slot : ℕ) → (IsUnsettled old.kept slot → ⊥) → block_at c slot ≡ block_at old.arena slot
+
+module _ (C : Cluster) (old : Leveled) (lawful : IsLawful old.arena) (h : IsLeveled old) (b c : Contents) (ps : List ReplicaId)
+    (begun : (slot : ℕ) → IsUnsettled old.kept slot → replicas_at b slot ≡ all_changed as_begun (replicas_at old.arena slot))
+    (left_begun : (slot : ℕ) → (IsUnsettled old.kept slot → ⊥) → block_at b slot ≡ block_at old.arena slot) (entries_begun : KeepsEntries old.arena b)
+    (excess : replicas_of c ≡ revise (replicas_of b) (λ q m. if has_replica ps q then as_excess m else m))
+    (left_marked : (slot : ℕ) → ((x : ℕ) → slot_of b x ≡ Some slot → has_block ps x ≡ false) → block_at c slot ≡ block_at b slot) (entries_marked : KeepsEntries b c)
+    (are : ps ≡ surplus C (without_unordered_excess (holdings_of old.arena))) where
+  abbrev a : Contents
+  a = old.arena
+
+  abbrev G : Holdings
+  G = without_unordered_excess (holdings_of a)
+
+  settled_slot : (slot : ℕ) → (IsUnsettled old.kept slot → ⊥) → is_settled_at (block_at a slot) ≡ true
+  settled_slot slot absent = elim (cases_Bool (is_settled_at (block_at a slot))) [ inl e ↦ e | inr e ↦ absurd (absent ((h.unsettled slot).1 e)) ]
+
+  start_replicas : replicas_of c ≡ (marked C G).replicas
+  start_replicas =
+      marked_replicas C G (replicas_of c)
+      (excess
+      ∙ ap (λ l. revise (replicas_of b) (λ q m. if has_replica l q then as_excess m else m)) are
+      ∙ ap (λ m. revise m (λ q m. if has_replica (surplus C G) q then as_excess m else m)) (begun_replicas a b old.kept.unsettled.slots lawful entries_begun.ids settled_slot begun left_begun))
+
+  entries : KeepsEntries a c
+  entries = entries-chain a b c entries_begun entries_marked
+
+  start_blocks : blocks_of c ≡ blocks_of a
+  start_blocks = entries_blocks a c entries
+
+  -- settled slots are as before
+  left : (slot : ℕ) → (IsUnsettled old.kept slot → ⊥) → block_at c slot ≡ block_at a slot
+  left slot absent =
+      left_marked slot (λ x led.
+      let here : slot_of a x ≡ Some slot = sym (ap (λ l. lookup (nat_eq x) l) entries_begun.ids) ∙ led in
+      ap (λ l. has_block l x) are ∙ no_surplus C G x (none_marked C (holdings_of a) x (settled_block a lawful x slot here (settled_slot slot absent))))
+      ∙ left_begun slot absent
+
+  pub started : IsStarted C old c
+  started = record { replicas = start_replicas; blocks = start_blocks; entries = entries; left = left }
+
+-- the unsettled slots are judged anew
+module _ (C : Cluster) (old : Leveled) (c : Contents) (h : IsLeveled old) (s : IsStarted C old c) (K : Kept)
+    (judged : (slot : ℕ) → IsUnsettled old.kept slot → IsJudged (rack_of C) (is_draining C) (is_multi_rack C) (block_at c slot) K slot)
+    (others : (slot : ℕ) → (IsUnsettled old.kept slot → ⊥) → IsSameAt old.kept K slot) where
+  abbrev marker : ℕ
+  marker = old.arena.delimiter
+
+  marker_absent : IsUnsettled old.kept marker → ⊥
+  marker_absent there = true≢false (sym (marker_settled (block_at old.arena marker) h.free h.blank) ∙ (h.unsettled marker).0 there)
+
+  free_left : (t : ℕ) → marks_at c c.delimiter t ≡ marks_at old.arena marker t
+  free_left t = ap (λ d. marks_at c d t) s.entries.delimiter ∙ ap (λ o. option_and_then (λ (k : Block). find_marks k.replicas t) o) (s.left marker marker_absent)
+
+  each : (slot : ℕ) → slot ≢ marker → (IsJudged (rack_of C) (is_draining C) (is_multi_rack C) (block_at c slot) K slot) ⊎ ((block_at c slot ≡ block_at old.arena slot) × IsSameAt old.kept K slot)
+  each slot ne = elim (dec_among slot old.kept.unsettled.slots) [ inl there ↦ inl (judged slot there) | inr absent ↦ inr (s.left slot absent, others slot absent) ]
+
+  pub start_leveled : ((bound : ℕ) → HasRoomFor old.kept bound → HasRoomFor K bound) → IsLeveled (record { arena = c; kept = K })
+  start_leveled room = leveled_reported C old c K s.entries.delimiter free_left s.entries.known each (others marker marker_absent) h room
+
+  pub start_levels : AreLevels C old → AreLevels C (record { arena = c; kept = K })
+  start_levels = levels_reported C old c K s.entries.delimiter free_left s.entries.known each (others marker marker_absent) h

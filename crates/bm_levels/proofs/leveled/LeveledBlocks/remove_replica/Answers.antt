@@ -1,0 +1,46 @@
+use Rattle.std.proofs.Common.{◌≡◌, ◌∙◌, Some, None, sym, ap, not}
+use Rattle.std.specs.Prelude.{is_some, nat_eq}
+use Rattle.std.specs.Map.{lookup}
+use Rattle.bm_base.specs.Map.{get}
+use Rattle.bm_base.specs.State.{replica_at}
+use Rattle.bm_arena.specs.Contents.{slot_of}
+use Rattle.bm_arena.specs.Holding.{replicas_of, blocks_of, info_at}
+use Rattle.bm_levels.proofs.Emptied.{no_value}
+use Rattle.bm_levels.proofs.Revising.{remove_absent, replica_absent, held_at, known_at, entry_left}
+use Rattle.bm_levels.proofs.leveled.LeveledBlocks.remove_replica.Goals as goal
+
+pub returns-in_default-clause-replicas : goal.returns-in_default-clause-replicas
+returns-in_default-clause-replicas c =
+    let a = c.args.self.now.arena in
+    remove_absent (replicas_of a) (replica_at c.args.id c.args.storage) (replica_absent a c.args.id c.args.storage (sym c.in_default.ensures))
+
+pub returns-in_default-clause-removed : goal.returns-in_default-clause-removed
+returns-in_default-clause-removed c = sym (ap is_some (replica_absent c.args.self.now.arena c.args.id c.args.storage (sym c.in_default.ensures)))
+
+-- the replica was not there
+gone : (c : goal.Then-is_none) → get (replicas_of c.args.self.now.arena) (replica_at c.args.id c.args.storage) ≡ None
+gone c =
+    held_at c.args.self.now.arena c.args.id c.in-Some.slot c.args.storage (sym c.in-Some.ensures)
+    ∙ sym c.marks_of.ensures ∙ no_value c.marks_of.result (c.is_none.ensures ∙ ap not c.if-is_none.true)
+
+pub returns-then-is_none-clause-replicas : goal.returns-then-is_none-clause-replicas
+returns-then-is_none-clause-replicas c = remove_absent (replicas_of c.args.self.now.arena) (replica_at c.args.id c.args.storage) (gone c)
+
+pub returns-then-is_none-clause-removed : goal.returns-then-is_none-clause-removed
+returns-then-is_none-clause-removed c = sym (ap is_some (gone c))
+
+pub returns-clause-removed : goal.returns-clause-removed
+returns-clause-removed c =
+    let held = held_at c.args.self.now.arena c.args.id c.in-Some.slot c.args.storage (sym c.in-Some.ensures) in
+    sym (ap is_some (held ∙ sym c.marks_of.ensures) ∙ c.is_none.ensures ∙ ap not c.if-is_none.false)
+
+pub returns-clause-entry : goal.returns-clause-entry
+returns-clause-entry c =
+    λ was absent.
+    let id = c.args.id in
+    let slot = c.in-Some.slot in
+    let a = c.args.self.now.arena in
+    let b = c.remove.new.self.arena in
+    let still : slot_of b id ≡ Some slot = ap (λ l. lookup (nat_eq id) l) c.remove.ensures.rest.ids ∙ sym c.in-Some.ensures in
+    let unknown : info_at b slot ≡ None = sym (known_at b id slot still) ∙ ap (λ m. get m id) c.remove.ensures.blocks ∙ no_value (get (blocks_of a) id) absent in
+    entry_left b c.drop_if_bare.new.self.arena id slot still c.drop_if_bare.ensures.replicas (λ none. c.drop_if_bare.ensures.gone id still none unknown)

@@ -1,0 +1,47 @@
+-- What becomes of the marks of replicas: of all of a block, or of those of a list.
+use Rattle.std.specs.Prelude.{ℕ, Bool, true, false, ◌&&◌, ◌==◌, if◌then◌else◌, List, map}
+use Rattle.std.specs.List.{list_any}
+use Rattle.bm_base.specs.declared.replica.ReplicaId.{ReplicaId}
+use Rattle.bm_base.specs.declared.replica.Marks.{Marks}
+use Rattle.bm_base.specs.declared.replica.Stamp.{Stamp}
+use Rattle.bm_base.specs.declared.replica.BlockInfo.{BlockInfo}
+use Rattle.bm_base.specs.Events.{as_stray, as_restamped}
+use Rattle.bm_levels.specs.declared.marking.MarkChange.{MarkChange}
+use Rattle.bm_levels.specs.declared.marking.MarkChange.TheVariants.{Deleted, Restamped, RoundBegun}
+
+-- a replica in excess counts again where its delete was not ordered
+abbrev pub as_begun : Marks → Marks
+as_begun m = if m.ordered then m else record m { excess = false }
+
+-- the marks of a replica after a change
+unfoldable pub changed : MarkChange → Marks → Marks
+changed Deleted m = as_stray m
+changed Restamped m = as_restamped m
+changed RoundBegun m = as_begun m
+
+-- the replicas at a slot, each with its marks changed
+abbrev pub all_changed : (Marks → Marks) → List (ℕ × Marks) → List (ℕ × Marks)
+all_changed f rs = map (λ r. (r.0, f r.1)) rs
+
+-- what is known of a block, with another stamp, or with so many replicas wanted
+abbrev pub with_stamp : Stamp → BlockInfo → BlockInfo
+with_stamp stamp i = record i { stamp = stamp }
+
+abbrev pub with_repl : ℕ → BlockInfo → BlockInfo
+with_repl repl i = record i { repl = repl }
+
+-- Replicas of a list.
+
+-- whether the list has this replica, and whether it has one of this block
+unfoldable pub has_replica : List ReplicaId → ReplicaId → Bool
+has_replica ps q = list_any (λ p. (p.storage == q.storage) && (p.block == q.block)) ps
+
+unfoldable pub has_block : List ReplicaId → ℕ → Bool
+has_block ps b = list_any (λ p. p.block == b) ps
+
+-- of a replica that is one too many, and of one that is to be deleted
+abbrev pub as_excess : Marks → Marks
+as_excess m = record m { excess = true }
+
+abbrev pub as_ordered : Marks → Marks
+as_ordered m = record m { ordered = true }

@@ -1,0 +1,15 @@
+-- Replicas that leave with their storages.
+use Rattle.std.specs.Prelude.{◌≡◌, ℕ, ◌+◌, Bool, false}
+use Rattle.bm_base.specs.declared.replica.ReplicaId.{ReplicaId}
+use Rattle.bm_base.specs.Map.{get, len}
+use Rattle.bm_arena.specs.Contents.{Contents, list_of}
+use Rattle.bm_arena.specs.Holding.{replicas_of, blocks_of}
+
+-- so many replicas left, all of storages that pass
+pub record IsLeaving (leaves : ℕ → Bool) (old new : Contents) (n : ℕ) : Type 0 where
+  -- the blocks stay
+  pub blocks : blocks_of new ≡ blocks_of old
+  -- and the lists of other storages, and the replicas on them
+  pub lists : (storage : ℕ) → leaves storage ≡ false → list_of new storage ≡ list_of old storage
+  pub others : (q : ReplicaId) → leaves q.storage ≡ false → get (replicas_of new) q ≡ get (replicas_of old) q
+  pub count : n + len (replicas_of new) ≡ len (replicas_of old)

@@ -1,0 +1,48 @@
+// Entries that nothing needs any more: those that a report found bare, and those that one left so.
+ghost use Rattle.std.specs.Prelude.{◌≡◌, []};
+ghost use Rattle.bm_base.specs.State.{Cluster};
+ghost use Rattle.bm_arena.specs.Holding.{replicas_of, blocks_of};
+ghost use Rattle.bm_report.specs.Ready.{told};
+ghost use Rattle.bm_levels.specs.Leveled.{AreLevels};
+
+use crate::leveled::LeveledBlocks;
+use bm_arena::Slot;
+use bm_report::Report;
+
+impl LeveledBlocks {
+    /// Gives up a report that was made ready: the entries of the numbers that it names which have neither a block nor a replica
+    /// go, and it names none any more. Nothing that is held changes. Takes no memory.
+    pub fn abort_report(&mut self, report: &mut Report)
+        ensures told { told report.new ≡ [] }
+        ensures blocks { blocks_of self.new.arena ≡ blocks_of self.old.arena }
+        ensures replicas { replicas_of self.new.arena ≡ replicas_of self.old.arena }
+        ensures levels { (C : Cluster) → AreLevels C self.old → AreLevels C self.new }
+    {
+        self.arena.lawful();
+        report.abort(&mut self.arena);
+        self.arena.lawful();
+    }
+
+    /// Drops the entries at these slots that have neither a block nor a replica. Nothing that is held changes. Takes no memory.
+    pub fn drop_bare(&mut self, slots: &[Slot])
+        ensures blocks { blocks_of self.new.arena ≡ blocks_of self.old.arena }
+        ensures replicas { replicas_of self.new.arena ≡ replicas_of self.old.arena }
+        ensures levels { (C : Cluster) → AreLevels C self.old → AreLevels C self.new }
+    {
+        for slot in slots {
+            self.drop_at(*slot);
+        }
+    }
+
+    /// Drops the entry at a slot, where there is one that has neither a block nor a replica.
+    fn drop_at(&mut self, slot: Slot)
+        ensures blocks { blocks_of self.new.arena ≡ blocks_of self.old.arena }
+        ensures replicas { replicas_of self.new.arena ≡ replicas_of self.old.arena }
+        ensures levels { (C : Cluster) → AreLevels C self.old → AreLevels C self.new }
+    {
+        self.arena.lawful();
+        if self.arena.has_entry(slot) && !self.arena.is_delimiter(slot) {
+            self.drop_if_bare(slot);
+        }
+    }
+}

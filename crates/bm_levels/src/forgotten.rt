@@ -1,0 +1,144 @@
+// Storages and nodes that leave with all their replicas.
+ghost use Rattle.std.specs.Prelude.{◌≡◌, ◌<◌, ◌^◌, ◌==◌, not, ℕ, [], ◌∷◌, Some, IsSome, true};
+ghost use Rattle.bm_base.specs.Map.{keep, remove};
+ghost use Rattle.bm_base.specs.State.{replica_at};
+ghost use Rattle.bm_base.specs.Replicas as replicas;
+ghost use Rattle.bm_base.specs.SlotLists as slots;
+ghost use Rattle.bm_base.specs.Events as events;
+ghost use Rattle.bm_base.specs.Calls as calls;
+ghost use Rattle.bm_arena.specs.Contents.{block_at, slot_of, list_of, marks_at, KeepsOthers};
+ghost use Rattle.bm_arena.specs.Holding.{replicas_of, blocks_of};
+ghost use Rattle.bm_levels.specs.Judged.{drains_then};
+ghost use Rattle.bm_levels.specs.Leveled.{AreLevels};
+ghost use Rattle.bm_levels.specs.LevelsBy.{AreLevelsBy};
+ghost use Rattle.bm_levels.specs.Leaving.{IsLeaving};
+
+use crate::around::Around;
+use crate::leveled::LeveledBlocks;
+use crate::turned::has_storage;
+use bm_arena::Slot;
+use bm_base::{NodeId, StorageId};
+use bm_topo::Topology;
+
+impl LeveledBlocks {
+    /// The replicas on a storage leave, and its list; answers how many. Entries with neither block nor replica go, and the blocks
+    /// that lose a replica are judged anew. Takes no memory. One step for each of the replicas.
+    pub fn forget_storage(&mut self, topology: &Topology, storage: StorageId) -> u128
+        ensures blocks { blocks_of self.new.arena ≡ blocks_of self.old.arena }
+        ensures replicas { replicas_of self.new.arena ≡ keep (replicas_of self.old.arena) (λ q _. not (q.storage == storage)) }
+        ensures removed { result ≡ calls.new_replicas (replicas_of self.new.arena) (replicas_of self.old.arena) }
+        ensures few { result < 2 ^ 100 }
+        ensures levels { AreLevels topology.now.cluster self.old → AreLevels (events.without_storage topology.now.cluster storage) self.new }
+    {
+        let removed = self.clear(&Around::still(topology), storage);
+        self.arena().lawful();
+        removed as u128
+    }
+
+    /// The replicas on all storages of a node leave, and their lists; answers how many. `multi` says whether the alive nodes stand on two
+    /// racks or more without it: where they did not before, or no longer do, all blocks are judged anew, else those that lose a replica.
+    /// Entries with neither block nor replica go. Takes no memory. A look at each storage of the cluster, and one step for each of the
+    /// replicas.
+    pub fn forget_node(&mut self, topology: &Topology, node: NodeId, multi: bool) -> u128
+        requires multi { multi ≡ replicas.is_multi_rack (events.without_node topology.now.cluster node) }
+        ensures blocks { blocks_of self.new.arena ≡ blocks_of self.old.arena }
+        ensures replicas { replicas_of self.new.arena ≡ keep (replicas_of self.old.arena) (λ q _. not (replicas.has_storage topology.now.cluster node q.storage)) }
+        ensures removed { result ≡ calls.new_replicas (replicas_of self.new.arena) (replicas_of self.old.arena) }
+        ensures few { result < 2 ^ 100 }
+        ensures levels { AreLevels topology.now.cluster self.old → AreLevels (events.without_node topology.now.cluster node) self.new }
+    {
+        self.judge_racks(topology, multi);
+        let around = Around {
+            topology,
+            turning: None,
+            multi,
+        };
+        let removed = self.clear_node(&around, node);
+        self.arena().lawful();
+        removed
+    }
+
+    /// The replicas on all storages of a node leave, and their lists; answers how many.
+    fn clear_node(&mut self, around: &Around<'_>, node: NodeId) -> u128
+        ensures left { IsLeaving (replicas.has_storage around.now.topology.now.cluster node) self.old.arena self.new.arena result }
+        ensures few { result < 2 ^ 100 }
+        ensures none { (s : ℕ) → replicas.has_storage around.now.topology.now.cluster node s ≡ true → list_of self.new.arena s ≡ [] }
+        ensures levels { AreLevelsBy (replicas.rack_of around.now.topology.now.cluster) (drains_then around.now.topology.now.cluster around.now.turning) around.now.multi self.old → AreLevelsBy (replicas.rack_of around.now.topology.now.cluster) (drains_then around.now.topology.now.cluster around.now.turning) around.now.multi self.new }
+    {
+        let mut removed = 0;
+        for place in 0..around.topology.storage_count() {
+            if let Some(storage) = around.topology.storage_at(place) {
+                if has_storage(around.topology, node, storage) {
+                    removed += self.clear(around, storage) as u128;
+                }
+            }
+        }
+        removed
+    }
+
+    /// The replicas on a storage leave, and its list; answers how many.
+    fn clear(&mut self, around: &Around<'_>, storage: StorageId) -> usize
+        ensures left { IsLeaving (λ s. s == storage) self.old.arena self.new.arena result }
+        ensures none { list_of self.new.arena storage ≡ [] }
+        ensures levels { AreLevelsBy (replicas.rack_of around.now.topology.now.cluster) (drains_then around.now.topology.now.cluster around.now.turning) around.now.multi self.old → AreLevelsBy (replicas.rack_of around.now.topology.now.cluster) (drains_then around.now.topology.now.cluster around.now.turning) around.now.multi self.new }
+    {
+        self.arena().lawful();
+        let bound = self.arena().slot_bound();
+        let mut removed = 0;
+        while let Some(slot) = self.first_on(storage) {
+            self.take_first(around, storage, slot);
+            prove!(removed < bound);
+            removed += 1;
+        }
+        self.drop_list(storage);
+        removed
+    }
+
+    /// The first slot in the list of a storage.
+    fn first_on(&self, storage: StorageId) -> Option<Slot>
+        ensures { result ≡ slots.first_of (list_of self.now.arena storage) }
+    {
+        self.arena().walk(storage).next()
+    }
+
+    /// Takes out the replica on a storage of the first slot in the storage's list, and drops the entry if it has neither a block nor
+    /// another replica.
+    fn take_first(&mut self, around: &Around<'_>, storage: StorageId, slot: Slot)
+        requires { slots.first_of (list_of self.old.arena storage) ≡ Some slot }
+        ensures left { IsLeaving (λ s. s == storage) self.old.arena self.new.arena 1 }
+        ensures list { list_of self.old.arena storage ≡ slot ∷ list_of self.new.arena storage }
+        ensures levels { AreLevelsBy (replicas.rack_of around.now.topology.now.cluster) (drains_then around.now.topology.now.cluster around.now.turning) around.now.multi self.old → AreLevelsBy (replicas.rack_of around.now.topology.now.cluster) (drains_then around.now.topology.now.cluster around.now.turning) around.now.multi self.new }
+    {
+        self.lawful();
+        self.arena().lawful();
+        self.take_out(around, slot, storage);
+        self.drop_if_bare(slot);
+    }
+
+    /// Takes out the replica on a storage of the block at the slot of a number, and judges the block anew.
+    fn take_out(&mut self, around: &Around<'_>, slot: Slot, storage: StorageId)
+        requires slot { (id : ℕ) × (slot_of self.old.arena id ≡ Some slot) }
+        requires replica { IsSome (marks_at self.old.arena slot storage) }
+        ensures list { list_of self.new.arena storage ≡ slots.without slot (list_of self.old.arena storage) }
+        ensures blocks { blocks_of self.new.arena ≡ blocks_of self.old.arena }
+        ensures replicas { (id : ℕ) → slot_of self.old.arena id ≡ Some slot → replicas_of self.new.arena ≡ remove (replicas_of self.old.arena) (replica_at id storage) }
+        ensures rest { KeepsOthers self.old.arena self.new.arena slot storage }
+        ensures levels { AreLevelsBy (replicas.rack_of around.now.topology.now.cluster) (drains_then around.now.topology.now.cluster around.now.turning) around.now.multi self.old → AreLevelsBy (replicas.rack_of around.now.topology.now.cluster) (drains_then around.now.topology.now.cluster around.now.turning) around.now.multi self.new }
+    {
+        self.arena.lawful();
+        self.arena.unlink(slot, storage);
+        self.kept.judge(&self.arena, slot, around);
+    }
+
+    /// Drops the list of a storage, which is empty.
+    fn drop_list(&mut self, storage: StorageId)
+        requires { list_of self.old.arena storage ≡ [] }
+        ensures kept { self.new.kept ≡ self.old.kept }
+        ensures entries { (slot : ℕ) → block_at self.new.arena slot ≡ block_at self.old.arena slot }
+        ensures blocks { blocks_of self.new.arena ≡ blocks_of self.old.arena }
+        ensures replicas { replicas_of self.new.arena ≡ replicas_of self.old.arena }
+        ensures lists { (other : ℕ) → list_of self.new.arena other ≡ list_of self.old.arena other }
+    {
+        self.arena.drop_head(storage);
+    }
+}

@@ -1,0 +1,73 @@
+// The marks of all replicas of one block, changed alike.
+ghost use Rattle.std.specs.Prelude.{◌≡◌, if◌then◌else◌};
+ghost use Rattle.bm_base.specs.declared.replica.Tag.TheVariants.{Stale};
+ghost use Rattle.bm_base.specs.Replicas.{is_good};
+ghost use Rattle.bm_arena.specs.Contents.{block_at, known_of, KeepsAllBut, IsLawful};
+ghost use Rattle.bm_arena.specs.Holding.{replicas_at};
+ghost use Rattle.bm_levels.specs.Changes.{changed, all_changed};
+
+use bm_arena::{Arena, Slot};
+use bm_base::{Marks, Tag};
+
+/// What becomes of the marks of a block's replicas.
+#[derive(Clone, Copy)]
+pub(crate) enum MarkChange {
+    /// The block is deleted: they are stray, and none is in excess.
+    Deleted,
+    /// The block has another stamp: the good ones are stale, and none is in excess.
+    Restamped,
+    /// A round begins: those in excess whose delete was not ordered count again.
+    RoundBegun,
+}
+
+impl MarkChange {
+    /// The marks of a replica after it.
+    #[tactic(auto, unfolding(crate::specs::Changes::changed))]
+    fn apply(self, marks: Marks) -> Marks
+        ensures { result ≡ changed self marks }
+    {
+        match self {
+            MarkChange::Deleted => Marks {
+                tag: Tag::Stray,
+                excess: false,
+                ordered: marks.ordered,
+            },
+            MarkChange::Restamped => Marks {
+                tag: restamped(marks.tag),
+                excess: false,
+                ordered: marks.ordered,
+            },
+            MarkChange::RoundBegun => Marks {
+                tag: marks.tag,
+                excess: marks.excess && marks.ordered,
+                ordered: marks.ordered,
+            },
+        }
+    }
+}
+
+/// A good replica is stale once its block has another stamp.
+fn restamped(tag: Tag) -> Tag
+    ensures { result ≡ (if is_good tag then Stale else tag) }
+{
+    match tag {
+        Tag::Good => Tag::Stale,
+        other => other,
+    }
+}
+
+/// Changes the marks of each replica of the block at a slot; nothing else changes. Takes no memory.
+pub(crate) fn change_marks(arena: &mut Arena, slot: Slot, change: MarkChange)
+    ensures replicas { replicas_at arena.new slot ≡ all_changed (changed change) (replicas_at arena.old slot) }
+    ensures known { known_of (block_at arena.new slot) ≡ known_of (block_at arena.old slot) }
+    ensures rest { KeepsAllBut slot arena.old arena.new }
+    ensures lawful { IsLawful arena.new }
+{
+    arena.lawful();
+    for place in 0..arena.triplet_count(slot) {
+        if let Some((storage, marks)) = arena.triplet_at(slot, place) {
+            arena.set_marks(slot, storage, change.apply(marks));
+        }
+    }
+    arena.lawful();
+}

@@ -1,0 +1,10 @@
+pub mod Apart
+pub mod Led
+pub mod Gathering
+pub mod Found
+pub mod Numbers
+pub mod Owned
+pub mod OnStorage
+pub mod AtSlot
+pub mod Waiting
+pub mod ByPlace

@@ -1,0 +1,17 @@
+//! What can be asked of a shard's blocks and replicas, whose arena is in no order: what is asked for is gathered, and then sorted.
+//!
+//! Only calls that answer with a list take memory. A call about one block or one storage looks at the replicas there alone; one about a node looks at
+//! the blocks on its storages.
+#![tactic(auto)]
+
+mod blocks;
+mod held_back;
+mod one_block;
+mod replicas;
+#[cfg(test)]
+mod tests;
+
+pub use blocks::{blocks_on, missing_blocks};
+pub use held_back::is_held_back;
+pub use one_block::{is_still_stored, knows_block, places};
+pub use replicas::{all_replicas, corrupt_replicas, excess_replicas};

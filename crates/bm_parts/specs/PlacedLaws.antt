@@ -1,0 +1,44 @@
+-- Where replicas stand, and which are in excess: what events and rounds keep of a part.
+use Rattle.std.specs.Prelude.{◌≡◌, ℕ, false, IsTrue, List, Some, None, IsSome}
+use Rattle.bm_base.specs.declared.commands.Transfer.{Transfer}
+use Rattle.bm_base.specs.declared.commands.Delete.{Delete}
+use Rattle.bm_base.specs.declared.event.Event.{Event}
+use Rattle.bm_base.specs.declared.replica.ReplicaId.{ReplicaId}
+use Rattle.bm_base.specs.declared.replica.Marks.{Marks}
+use Rattle.bm_base.specs.Map.{get, contains_key}
+use Rattle.bm_base.specs.State.{Cluster, Holdings}
+use Rattle.bm_base.specs.Replicas.{is_good, are_sisters}
+use Rattle.bm_base.specs.Entries.{Told}
+use Rattle.bm_base.specs.Events.{report, change_cluster}
+use Rattle.bm_base.specs.Refusals.{first_of, cluster_checks}
+use Rattle.bm_base.specs.RoundParts.{round_on_part}
+use Rattle.bm_base.specs.Lawful.{IsLawfulCluster, IsLawfulHoldings}
+use Rattle.bm_parts.specs.Parts.{change_part}
+
+-- replicas as they stand in a cluster
+pub record IsPlaced (C : Cluster) (H : Holdings) : Type 0 where
+  -- each replica is on a known storage
+  pub stored : (p : ReplicaId) → IsSome (get H.replicas p) → IsTrue (contains_key C.storages p.storage)
+  -- a node has at most one replica of a block
+  pub once : (p q : ReplicaId) → IsSome (get H.replicas p) → IsSome (get H.replicas q) → p.block ≡ q.block → are_sisters C p.storage q.storage ≡ false
+  -- only good replicas are in excess
+  pub excess_is_good : (p : ReplicaId) (m : Marks) → get H.replicas p ≡ Some m → IsTrue m.excess → IsTrue (is_good m.tag)
+
+-- those of lawful holdings stand so
+abbrev pub lawful_is_placed : Type 0
+lawful_is_placed = (C : Cluster) (H : Holdings) → IsLawfulHoldings C H → IsPlaced C H
+
+-- and those of a part, where an event that the cluster does not refuse comes
+abbrev pub event_keeps_placed : Type 0
+event_keeps_placed =
+    (C : Cluster) (P : Holdings) (e : Event) (index shards : ℕ) → IsLawfulCluster C → first_of (cluster_checks C e) ≡ None → IsPlaced C P
+    → IsPlaced (change_cluster C e) (change_part C P index shards e)
+
+-- where a known storage tells of any blocks
+abbrev pub report_keeps_placed : Type 0
+report_keeps_placed = (C : Cluster) (P : Holdings) (s : ℕ) (ts : List Told) → IsTrue (contains_key C.storages s) → IsPlaced C P → IsPlaced C (report C P s ts)
+
+-- and in a round
+abbrev pub round_keeps_placed : Type 0
+round_keeps_placed =
+    (C : Cluster) (pend r : ℕ) (P : Holdings) (index shards : ℕ) (ts : List Transfer) (ds : List Delete) → IsPlaced C P → IsPlaced C (round_on_part C pend r P index shards ts ds)

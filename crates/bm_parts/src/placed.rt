@@ -1,0 +1,24 @@
+// Where replicas stand, and which are in excess: what events and rounds keep of a part.
+#![tactic(auto)]
+
+ghost use Rattle.bm_parts.specs.PlacedLaws as law;
+
+/// Replicas of lawful holdings are on known storages, a node has at most one of a block, and only good ones are in excess.
+pub fn lawful_is_placed()
+    ensures { law.lawful_is_placed }
+{}
+
+/// An event that the cluster does not refuse leaves the replicas of a part so.
+pub fn event_keeps_placed()
+    ensures { law.event_keeps_placed }
+{}
+
+/// So does a report of a known storage, whatever it tells.
+pub fn report_keeps_placed()
+    ensures { law.report_keeps_placed }
+{}
+
+/// So does a round.
+pub fn round_keeps_placed()
+    ensures { law.round_keeps_placed }
+{}

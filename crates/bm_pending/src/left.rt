@@ -1,0 +1,25 @@
+// The targets of a block that a round leaves on their way.
+ghost use Rattle.std.specs.Prelude.{◌≡◌, not, map, filter, IfOk};
+ghost use Rattle.bm_pending.specs.OnTheWay.{is_expired};
+
+use crate::targets::is_expired;
+use bm_base::{StorageId, StorageIds};
+use std::alloc::{AllocError, Global};
+
+/// The targets whose transfers are not given up, rising.
+pub(crate) fn left_among(
+    alloc: Global,
+    targets: &[(u32, u64)],
+    pend: u32,
+    round: u64,
+) -> Result<StorageIds, AllocError>
+    ensures { IfOk result (λ v. v ≡ map (λ t. t.0) (filter (λ t. not (is_expired pend round t.1)) targets.now)) }
+{
+    let mut left = StorageIds::new(alloc);
+    for target in targets {
+        if !is_expired(target.1, pend, round) {
+            left.push(StorageId(target.0))?;
+        }
+    }
+    Ok(left)
+}

@@ -1,0 +1,25 @@
+use Rattle.std.proofs.Common.{◌≡◌, not, ap, subst, sym, ◌∙◌}
+use Rattle.std.specs.Prelude.{◌==◌}
+use Rattle.bm_base.specs.Events.{without_storage, without_storages}
+use Rattle.bm_base.specs.Calls.{done, new_replicas}
+use Rattle.bm_arena.specs.Contents.{IsLawful}
+use Rattle.bm_arena.specs.Holding.{replicas_of}
+use Rattle.bm_levels.specs.Held.{holdings_with}
+use Rattle.bm_shard.proofs.Changing.{changed_seen}
+use Rattle.bm_shard.proofs.Counts.{gone_by_keep}
+use Rattle.bm_shard.proofs.shard.Shard.forget_storage.Goals as goal
+
+pub returns-clause-changed : goal.returns-clause-changed
+unfolding holdings_with without_storages done
+returns-clause-changed c =
+    let C = c.args.topology.now.cluster in
+    let old = c.self.inside in
+    let left = c.forget_storage-removed.ensures in
+    let R = replicas_of old.blocks.arena in
+    let none = (gone_by_keep R (λ q. not (q.storage == c.args.storage))).0 in
+    let went = left.removed ∙ ap (λ m. new_replicas m R) left.replicas in
+    changed_seen C (without_storage C c.args.storage) old.blocks c.forget_storage-removed.new.self old.pending.map c.drop_transfers_on.new.pending.map
+    (subst (λ a. IsLawful a) c.arena.ensures c.lawful-2.ensures) c.lawful.ensures (subst (λ a. IsLawful a) c.arena-2.ensures c.lawful-3.ensures)
+    left.levels old.part old.round old.pend _ _ (λ H. without_storages H (λ t. t == c.args.storage)) _ c.args.self.now c.self.view_is
+    (λ i. record { blocks = left.blocks i; replicas = left.replicas i; pending = c.drop_transfers_on.ensures i })
+    (λ i. record { added = sym none i; removed = went i })

@@ -1,0 +1,20 @@
+use Rattle.std.proofs.Common.{◌≡◌, refl, subst, sym}
+use Rattle.bm_base.specs.Events.{heartbeat}
+use Rattle.bm_base.specs.Calls.{done}
+use Rattle.bm_arena.specs.Contents.{IsLawful}
+use Rattle.bm_levels.specs.Held.{holdings_with}
+use Rattle.bm_levels.proofs.Standing.{heartbeat_leaves}
+use Rattle.bm_shard.proofs.Changing.{changed_seen}
+use Rattle.bm_shard.proofs.Counts.{same_replicas}
+use Rattle.bm_shard.proofs.shard.Shard.hear.Goals as goal
+
+pub returns : goal.returns
+unfolding holdings_with done
+returns c =
+    let C = c.args.topology.now.cluster in
+    let old = c.self.inside in
+    let none = same_replicas (holdings_with old.blocks.arena old.pending.map).replicas in
+    let lawful = subst (λ a. IsLawful a) c.arena.ensures c.lawful-2.ensures in
+    changed_seen C (heartbeat C c.args.remaining.now) old.blocks old.blocks old.pending.map old.pending.map lawful c.lawful.ensures lawful
+    (heartbeat_leaves C c.args.remaining.now old.blocks) old.part old.round old.pend _ _ (λ H. H) _ c.args.self.now c.self.view_is refl
+    (λ i. record { added = sym none i; removed = sym none i })

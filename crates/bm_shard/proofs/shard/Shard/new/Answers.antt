@@ -1,0 +1,18 @@
+use Rattle.std.proofs.Common.{◌≡◌, subst}
+use Rattle.bm_base.specs.State.{Cluster, empty_holdings}
+use Rattle.bm_arena.specs.Contents.{IsLawful}
+use Rattle.bm_levels.specs.Held.{holdings_with}
+use Rattle.bm_shard.proofs.Levels.{right_by_number}
+use Rattle.bm_shard.proofs.Empty.{none_placed}
+use Rattle.bm_shard.proofs.shard.Shard.new.Goals as goal
+
+pub returns-clause-empty : goal.returns-clause-empty
+unfolding holdings_with empty_holdings
+returns-clause-empty c = λ i. record { blocks = c.in_ok-blocks.ensures.blocks i; replicas = c.in_ok-blocks.ensures.replicas i; pending = c.new-2.ensures.map i }
+
+pub returns-clause-standing : goal.returns-clause-standing
+unfolding holdings_with
+returns-clause-standing c C = record {
+  levels = right_by_number C c.in_ok-blocks.blocks c.new-2.result.map (subst (λ a. IsLawful a) c.arena.ensures c.lawful.ensures) (c.in_ok-blocks.ensures.levels C);
+  placed = none_placed C (holdings_with c.in_ok-blocks.blocks.arena c.new-2.result.map) c.in_ok-blocks.ensures.replicas;
+}

@@ -1,0 +1,36 @@
+use Rattle.std.proofs.Common.{subst, sym, ap, ◌∙◌}
+use Rattle.bm_base.specs.State.{replica_at}
+use Rattle.bm_base.specs.Events.{enter, entered, entered_tag, was_bad, was_excess}
+use Rattle.bm_base.specs.Calls.{done, new_replicas}
+use Rattle.bm_arena.specs.Contents.{IsLawful}
+use Rattle.bm_arena.specs.Holding.{replicas_of, holdings_of}
+use Rattle.bm_report.specs.Midway.{IsOncePerNode}
+use Rattle.bm_levels.specs.Held.{holdings_with}
+use Rattle.bm_shard.specs.Seen.{Seen}
+use Rattle.bm_shard.proofs.Changing.{changed_seen}
+use Rattle.bm_shard.proofs.LookedUp.{looked_up}
+use Rattle.bm_shard.proofs.shard.Shard.receive.Goals as goal
+
+pub receive-applied-requires-clause-ready : goal.receive-applied-requires-clause-ready
+receive-applied-requires-clause-ready c =
+    c.self.invariant.ready c.args.storage (looked_up c.self.inside.report c.self.inside.prepared c.args.storage _ (ap (λ (S : Seen). S.room.report) c.self.view_is ∙ c.requires.ready)).0
+
+pub receive-applied-requires-clause-once : goal.receive-applied-requires-clause-once
+unfolding holdings_with
+receive-applied-requires-clause-once c =
+    let P : Seen → Type 0 = λ S. IsOncePerNode c.args.topology.now.cluster S.holdings.replicas in
+    subst P (sym c.self.view_is) c.requires.placed.once
+
+pub returns : goal.returns
+unfolding holdings_with holdings_of enter entered entered_tag was_bad was_excess done
+returns c =
+    let C = c.args.topology.now.cluster in
+    let old = c.self.inside in
+    let received = c.receive-applied.ensures.received in
+    changed_seen C C old.blocks c.receive-applied.new.self old.pending.map c.remove.new.self.map (subst (λ a. IsLawful a) c.arena.ensures c.lawful-2.ensures) c.lawful.ensures (subst (λ a. IsLawful a) c.arena-2.ensures c.lawful-3.ensures)
+    c.receive-applied.ensures.levels old.part old.round old.pend _ _ (λ H. enter C H (replica_at c.args.id c.args.storage) c.args.stamp) _ c.args.self.now c.self.view_is
+    (λ i. record { blocks = received.blocks i; replicas = received.replicas i; pending = c.remove.ensures.map i })
+    (λ i. record {
+      added = (c.done.ensures.0 ∙ received.added ∙ ap (λ m. new_replicas (replicas_of old.blocks.arena) m) received.replicas) i;
+      removed = (c.done.ensures.1 ∙ received.removed ∙ ap (λ m. new_replicas m (replicas_of old.blocks.arena)) received.replicas) i;
+    })

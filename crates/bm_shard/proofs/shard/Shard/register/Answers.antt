@@ -1,0 +1,25 @@
+use Rattle.std.proofs.Common.{◌≡◌, ap, subst, sym}
+use Rattle.bm_base.specs.Events.{register}
+use Rattle.bm_base.specs.Calls.{done}
+use Rattle.bm_parts.specs.PlacedLaws.{IsPlaced}
+use Rattle.bm_arena.specs.Contents.{IsLawful}
+use Rattle.bm_levels.specs.Held.{holdings_with}
+use Rattle.bm_shard.specs.Seen.{Seen}
+use Rattle.bm_shard.proofs.Changing.{changed_seen}
+use Rattle.bm_shard.proofs.Counts.{same_replicas}
+use Rattle.bm_shard.proofs.Registering.{same_beside}
+use Rattle.bm_shard.proofs.shard.Shard.register.Goals as goal
+
+pub returns : goal.returns
+unfolding done holdings_with
+returns c =
+    let C = c.args.topology.now.cluster in
+    let D = register C c.args.node c.args.rack c.args.storages.now in
+    let old = c.self.inside in
+    let none = same_replicas (holdings_with old.blocks.arena old.pending.map).replicas in
+    let P : Seen → Type 0 = λ s. IsPlaced C s.holdings in
+    let placed = subst P (sym c.self.view_is) c.requires.placed in
+    let same = same_beside C old.blocks.arena old.pending.map c.args.node c.args.rack c.args.storages.now c.lawful.ensures placed c.requires.cluster in
+    changed_seen C D old.blocks c.see_racks.new.self old.pending.map old.pending.map (subst (λ a. IsLawful a) c.arena.ensures c.lawful-3.ensures) c.lawful-2.ensures (subst (λ a. IsLawful a) c.arena-2.ensures c.lawful-4.ensures)
+    (c.see_racks.ensures.levels D c.requires.multi same) old.part old.round old.pend _ _ (λ H. H) _ c.args.self.now c.self.view_is
+    (ap (λ a. holdings_with a old.pending.map) c.see_racks.ensures.arena) (λ i. record { added = sym none i; removed = sym none i })

@@ -1,0 +1,59 @@
+use Rattle.std.proofs.Common.{List, None, subst, sym, ap, ◌∙◌}
+use Rattle.bm_base.specs.Entries.{Told}
+use Rattle.bm_base.specs.Events.{report, entered, entered_tag, was_bad, was_excess}
+use Rattle.bm_base.specs.Calls.{done, new_replicas}
+use Rattle.bm_arena.specs.Contents.{Contents, IsLawful}
+use Rattle.bm_arena.specs.Holding.{replicas_of, holdings_of}
+use Rattle.bm_report.specs.Midway.{IsOncePerNode}
+use Rattle.bm_report.specs.Ready.{HasGoodExcess, told}
+use Rattle.bm_levels.specs.Held.{holdings_with}
+use Rattle.bm_shard.specs.Seen.{Seen}
+use Rattle.bm_shard.specs.Changed.{HasChanged}
+use Rattle.bm_shard.specs.Inside.{numbers_of}
+use Rattle.bm_shard.proofs.Arrivals.{arrived_named}
+use Rattle.bm_shard.proofs.Changing.{changed_seen}
+use Rattle.bm_shard.proofs.LookedUp.{looked_up, none_looked_up}
+use Rattle.bm_shard.proofs.Same.{seen_of}
+use Rattle.bm_shard.proofs.shard.Shard.report.Goals as goal
+
+pub apply_report-applied-requires-clause-ready : goal.apply_report-applied-requires-clause-ready
+apply_report-applied-requires-clause-ready c =
+    c.self.invariant.ready c.args.storage (looked_up c.self.inside.report c.self.inside.prepared c.args.storage c.requires.ready.0 (ap (λ (S : Seen). S.room.report) c.self.view_is ∙ c.requires.ready.1)).0
+
+pub apply_report-applied-requires-clause-once : goal.apply_report-applied-requires-clause-once
+unfolding holdings_with
+apply_report-applied-requires-clause-once c =
+    let P : Seen → Type 0 = λ S. IsOncePerNode c.args.topology.now.cluster S.holdings.replicas in
+    subst P (sym c.self.view_is) c.requires.placed.once
+
+pub apply_report-applied-requires-clause-good : goal.apply_report-applied-requires-clause-good
+unfolding holdings_with
+apply_report-applied-requires-clause-good c =
+    let P : Seen → Type 0 = λ S. HasGoodExcess S.holdings.replicas in
+    subst P (sym c.self.view_is) c.requires.placed.excess_is_good
+
+pub invariant_of-self : goal.invariant_of-self
+invariant_of-self c = record { index = c.self.invariant.index; ready = λ s e. absurd (none_looked_up s e); fresh = λ s e. absurd (none_looked_up s e) }
+
+pub returns-clause-changed : goal.returns-clause-changed
+unfolding holdings_with holdings_of report entered entered_tag was_bad was_excess done
+returns-clause-changed c ts seen =
+    let C = c.args.topology.now.cluster in
+    let s = c.args.storage in
+    let old = c.self.inside in
+    let new = c.drop_bare.new.self in
+    let reported = c.apply_report-applied.ensures in
+    let replicas = c.drop_bare.ensures.replicas ∙ reported.replicas in
+    let there = ap (λ (a : Contents). replicas_of a) c.arena-2.ensures ∙ reported.replicas in
+    let arrived = c.drop_arrived.ensures ∙ arrived_named C (holdings_of old.blocks.arena) s old.report.named c.arena-2.result.now there old.pending.map in
+    let P : List Told → Type 0 = λ l. HasChanged C C c.args.self.now
+    (seen_of new c.drop_arrived.new.pending.map old.part old.round old.pend (record { entries = numbers_of new.arena; report = None; transfers = c.drop_arrived.new.pending.rooms }))
+    (report C c.args.self.now.holdings s l) c.done.result in
+    subst P (looked_up old.report old.prepared s ts (ap (λ (S : Seen). S.room.report) c.self.view_is ∙ seen)).1
+    (changed_seen C C old.blocks new old.pending.map c.drop_arrived.new.pending.map (subst (λ a. IsLawful a) c.arena.ensures c.lawful-2.ensures) c.lawful.ensures (subst (λ a. IsLawful a) c.arena-3.ensures c.lawful-3.ensures)
+    (λ h. c.drop_bare.ensures.levels C (reported.levels h)) old.part old.round old.pend _ _ (λ H. report C H s (told old.report)) _ c.args.self.now c.self.view_is
+    (λ i. record { blocks = (c.drop_bare.ensures.blocks ∙ reported.blocks) i; replicas = replicas i; pending = arrived i })
+    (λ i. record {
+      added = (c.done.ensures.0 ∙ reported.added ∙ ap (λ m. new_replicas (replicas_of old.blocks.arena) m) reported.replicas) i;
+      removed = (c.done.ensures.1 ∙ reported.removed ∙ ap (λ m. new_replicas m (replicas_of old.blocks.arena)) reported.replicas) i;
+    }))

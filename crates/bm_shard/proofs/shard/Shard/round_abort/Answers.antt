@@ -1,0 +1,7 @@
+use Rattle.bm_shard.proofs.AfterRound.{same_without_room}
+use Rattle.bm_shard.proofs.shard.Shard.round_abort.Goals as goal
+
+pub returns : goal.returns
+returns c =
+    let v = c.self.inside in
+    same_without_room v.blocks v.pending.map c.shed.new.self.map c.shed.ensures.map v.part v.round v.pend _ _ c.args.self.now c.self.view_is

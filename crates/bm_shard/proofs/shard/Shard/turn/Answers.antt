@@ -1,0 +1,22 @@
+use Rattle.std.proofs.Common.{◌≡◌, subst}
+use Rattle.std.specs.Prelude.{if◌then◌else◌}
+use Rattle.bm_base.specs.Events.{drain, undrain, begun_to_drain}
+use Rattle.bm_arena.specs.Contents.{IsLawful}
+use Rattle.bm_levels.specs.Held.{holdings_with}
+use Rattle.bm_shard.proofs.Changing.{changed_seen}
+use Rattle.bm_shard.proofs.Transfers.{turned, nothing_came}
+use Rattle.bm_shard.proofs.shard.Shard.turn.Goals as goal
+
+pub returns-clause-changed : goal.returns-clause-changed
+returns-clause-changed c =
+    let C = c.args.topology.now.cluster in
+    let old = c.self.inside in
+    let n = c.args.node in
+    let d = c.args.drains in
+    let new = c.turn.new.self in
+    let Q = c.turn_transfers.new.pending.map in
+    changed_seen C (if d then drain C n else undrain C n) old.blocks new old.pending.map Q
+    (subst (λ a. IsLawful a) c.arena.ensures c.lawful-2.ensures) c.lawful.ensures (subst (λ a. IsLawful a) c.arena-2.ensures c.lawful-3.ensures)
+    c.turn.ensures.levels old.part old.round old.pend _ _ (λ H. if d then begun_to_drain C H n else H) _ c.args.self.now c.self.view_is
+    (turned C old.blocks.arena new.arena old.pending.map Q n d c.turn.ensures.arena c.turn_transfers.ensures)
+    (nothing_came C (holdings_with old.blocks.arena old.pending.map) n d)

@@ -1,0 +1,49 @@
+-- Codes, by which proofs tell what is seen of a shard apart.
+use Rattle.std.specs.Prelude.{◌≡◌, ℕ, zero, suc, refl, List, Option}
+use Rattle.std.specs.Coded.{Coded, code_by, coded×, coded_ℕ, coded_list, coded_option}
+use Rattle.bm_base.specs.declared.level.Level.{Level}
+use Rattle.bm_base.specs.declared.level.Level.TheVariants.{Highest, VeryUnderReplicated, UnderReplicated, BadlyDistributed, NoUsableReplica}
+use Rattle.bm_base.specs.declared.ids.Part.{Part}
+use Rattle.bm_base.specs.declared.replica.Stamp.{Stamp}
+use Rattle.bm_base.specs.Map.{Map, by_number, code}
+use Rattle.bm_base.specs.State.{Holdings}
+use Rattle.bm_base.specs.Codes.{coded_holdings, coded_stamp}
+use Rattle.bm_base.specs.Entries.{Told}
+use Rattle.bm_base.specs.Levels.{level_number}
+use Rattle.bm_shard.specs.Seen.{Seen, Room}
+
+abbrev pub level_of_number : ℕ → Level
+level_of_number zero = Highest
+level_of_number (suc zero) = VeryUnderReplicated
+level_of_number (suc (suc zero)) = UnderReplicated
+level_of_number (suc (suc (suc zero))) = BadlyDistributed
+level_of_number (suc (suc (suc (suc n)))) = NoUsableReplica
+
+pub level_again : (l : Level) → level_of_number (level_number l) ≡ l
+level_again Highest = refl
+level_again VeryUnderReplicated = refl
+level_again UnderReplicated = refl
+level_again BadlyDistributed = refl
+level_again NoUsableReplica = refl
+
+abbrev pub coded_level : Coded Level
+coded_level = code_by ℕ coded_ℕ level_number level_of_number level_again
+
+abbrev pub coded_part : Coded Part
+coded_part = code_by (ℕ × ℕ) (coded× coded_ℕ coded_ℕ) (λ p. (p.index, p.shards)) (λ t. record { index = t.0; shards = t.1 }) (λ _. refl)
+
+abbrev pub coded_told : Coded Told
+coded_told = code_by (ℕ × Stamp) (coded× coded_ℕ coded_stamp) (λ t. (t.id, t.stamp)) (λ t. record { id = t.0; stamp = t.1 }) (λ _. refl)
+
+abbrev pub coded_room : Coded Room
+coded_room =
+    code_by (List ℕ × (Option (ℕ × List Told) × List (ℕ × ℕ)))
+    (coded× (coded_list coded_ℕ) (coded× (coded_option (coded× coded_ℕ (coded_list coded_told))) (coded_list (coded× coded_ℕ coded_ℕ))))
+    (λ r. (r.entries, (r.report, r.transfers))) (λ t. record { entries = t.0; report = t.1.0; transfers = t.1.1 }) (λ _. refl)
+
+abbrev pub coded_seen : Coded Seen
+coded_seen =
+    code_by ((Holdings × Part) × ((ℕ × ℕ) × (Map by_number Level × Room)))
+    (coded× (coded× coded_holdings coded_part) (coded× (coded× coded_ℕ coded_ℕ) (coded× (code coded_ℕ coded_level) coded_room)))
+    (λ S. ((S.holdings, S.part), ((S.round, S.pend), (S.levels, S.room))))
+    (λ t. record { holdings = t.0.0; part = t.0.1; round = t.1.0.0; pend = t.1.0.1; levels = t.1.1.0; room = t.1.1.1 }) (λ _. refl)

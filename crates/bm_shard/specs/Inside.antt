@@ -1,0 +1,41 @@
+-- How the fields of a shard stand for what is seen of it.
+use Rattle.std.specs.Prelude.{◌≡◌, ℕ, ◌<◌, List, [], ◌∷◌, map, Option, Some, None}
+use Rattle.std.specs.Option.{option_map_or}
+use Rattle.bm_base.specs.declared.level.Level.{Level}
+use Rattle.bm_base.specs.declared.ids.Part.{Part}
+use Rattle.bm_base.specs.Map.{Map, by_number, empty, insert, remove}
+use Rattle.bm_base.specs.Entries.{Told}
+use Rattle.bm_arena.specs.Contents.{Contents}
+use Rattle.bm_report.specs.Ready.{Looked, IsReady, told}
+use Rattle.bm_levels.specs.Kept.{Kept, level_of_slot}
+use Rattle.bm_levels.specs.Leveled.{Leveled}
+use Rattle.bm_shard.specs.declared.shard.Prepared.{Prepared}
+use Rattle.bm_shard.specs.declared.shard.Prepared.TheVariants as prepared
+
+-- a map with the level of a block, where it has one
+abbrev pub with_level : Map by_number Level → ℕ → Option Level → Map by_number Level
+with_level m b l = option_map_or (λ x. insert m b x) l (remove m b)
+
+-- the levels of the blocks of these numbers and slots; the first slot of a number counts
+abbrev pub levels_among : Kept → List (ℕ × ℕ) → Map by_number Level
+levels_among K [] = empty
+levels_among K (p ∷ ps) = with_level (levels_among K ps) p.0 (level_of_slot K p.1)
+
+-- the levels of all blocks, by number
+unfoldable pub levels_of : Leveled → Map by_number Level
+levels_of v = levels_among v.kept v.arena.ids
+
+-- the numbers that have an entry
+abbrev pub numbers_of : Contents → List ℕ
+numbers_of a = map (λ (p : ℕ × ℕ). p.0) a.ids
+
+-- the report that was looked up
+abbrev pub report_of : Looked → Prepared → Option (ℕ × List Told)
+report_of r (prepared.Report s) = Some (s, told r)
+report_of r _ = None
+
+-- what holds between calls: where a report was looked up, all that its end needs is there
+pub record IsShard (part : Part) (v : Leveled) (r : Looked) (p : Prepared) : Type 0 where
+  pub index : part.index < part.shards
+  pub ready : (s : ℕ) → p ≡ prepared.Report s → IsReady r v.arena s
+  pub fresh : (s : ℕ) → p ≡ prepared.Report s → r.changed ≡ []

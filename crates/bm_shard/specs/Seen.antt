@@ -1,0 +1,54 @@
+-- What contracts see of a shard.
+use Rattle.std.specs.Prelude.{◌≡◌, ℕ, Bool, true, false, zero, suc, ◌≤◌, ◌==◌, refl, List, [], ◌∷◌, filter, length, Option, Some, nat_eq}
+use Rattle.std.specs.Option.{unwrap_or}
+use Rattle.std.specs.Map.{lookup}
+use Rattle.bm_base.specs.declared.level.Level.{Level}
+use Rattle.bm_base.specs.declared.ids.Part.{Part}
+use Rattle.bm_base.specs.declared.event.Event.{Event}
+use Rattle.bm_base.specs.declared.event.Event.TheVariants.{AddBlock, Received, FullReport}
+use Rattle.bm_base.specs.declared.round.Chosen.{Chosen}
+use Rattle.bm_base.specs.Map.{Map, by_number}
+use Rattle.bm_base.specs.State.{Holdings}
+use Rattle.bm_base.specs.Entries.{Told, expanded}
+use Rattle.bm_base.specs.SlotLists.{Among}
+use Rattle.bm_base.specs.RoundParts.{own_transfers}
+use Rattle.bm_parts.specs.Parts.{told_of}
+
+-- What was made ready. Only the calls that make it and the calls that need it read it.
+pub record Room : Type 0 where
+  -- the numbers that have an entry
+  pub entries : List ℕ
+  -- the storage, and what is told of it, where a report was looked up
+  pub report : Option (ℕ × List Told)
+  -- blocks with how many more of their transfers there is room for
+  pub transfers : List (ℕ × ℕ)
+
+pub record Seen : Type 0 where
+  pub holdings : Holdings
+  -- which shard it is, of how many
+  pub part : Part
+  -- the number of the last round, and after how many rounds a transfer is given up
+  pub round : ℕ
+  pub pend : ℕ
+  -- the level of each known block that has one, as it is kept
+  pub levels : Map by_number Level
+  pub room : Room
+
+-- what was made ready suffices for an event; what other events change takes no memory
+unfoldable pub IsReadyFor : Event → Seen → Type 0
+IsReadyFor (AddBlock b stamp repl) S = Among b S.room.entries
+IsReadyFor (Received s b stamp) S = S.room.report ≡ Some (s, record { id = b; stamp = stamp } ∷ [])
+IsReadyFor (FullReport s es) S = S.room.report ≡ Some (s, told_of S.part.index S.part.shards (expanded es))
+IsReadyFor _ S = Unit {0}
+
+-- whether an event needs something made ready, so that its preparation may be refused memory
+abbrev pub takes_room : Event → Bool
+takes_room (AddBlock b stamp repl) = true
+takes_room (Received s b stamp) = true
+takes_room (FullReport s es) = true
+takes_room _ = false
+
+-- and for what was chosen in a round: each block has room for its transfers
+unfoldable pub IsReadyForRound : Chosen → Seen → Type 0
+IsReadyForRound chosen S =
+    (b : ℕ) → length (filter (λ t. t.block == b) (own_transfers S.part.index S.part.shards chosen.transfers)) ≤ unwrap_or (lookup (nat_eq b) S.room.transfers) 0

@@ -1,0 +1,109 @@
+// Events as they change a shard.
+ghost use Rattle.std.specs.Prelude.{◌≡◌, ◌<◌, ◌^◌, None, true};
+ghost use Rattle.bm_base.specs.Replicas.{is_multi_rack};
+ghost use Rattle.bm_base.specs.Events.{change_cluster};
+ghost use Rattle.bm_base.specs.Refusals.{first_of, cluster_checks};
+ghost use Rattle.bm_base.specs.Calls.{done};
+ghost use Rattle.bm_parts.specs.Parts.{block_of, change_part};
+ghost use Rattle.bm_parts.specs.PlacedLaws.{IsPlaced};
+ghost use Rattle.bm_shard.specs.Seen.{IsReadyFor};
+ghost use Rattle.bm_shard.specs.Changed.{HasChanged, owns};
+ghost use Rattle.bm_shard.specs.Standing.{StandsIn};
+
+use crate::one_block::NOTHING;
+use crate::shard::Shard;
+use bm_base::{BlockId, Done, Event, shard_of};
+use bm_topo::Topology;
+
+impl Shard {
+    /// Changes the shard by an event that no check on the cluster refuses, in the room that [`Shard::prepare`] made. `topology` is the cluster
+    /// before the event, `multi` says whether the alive nodes stand on two racks or more after it. Answers how many replicas came and went.
+    /// An event on a block of another shard changes nothing. Takes no memory.
+    pub fn commit(&mut self, event: &Event, topology: &Topology, multi: bool) -> Done
+        requires cluster { first_of (cluster_checks topology.now.cluster event.now) ≡ None }
+        requires multi { multi ≡ is_multi_rack (change_cluster topology.now.cluster event.now) }
+        requires standing { StandsIn topology.now.cluster self.old }
+        requires ready { IsReadyFor event.now self.old }
+        ensures holdings { self.new.holdings ≡ change_part topology.now.cluster self.old.holdings self.old.part.index self.old.part.shards event.now }
+        ensures done { result ≡ done self.old.holdings self.new.holdings }
+        ensures few { block_of event.now ≡ None → (result.added < 2 ^ 100) × (result.removed < 2 ^ 100) }
+        ensures standing { StandsIn (change_cluster topology.now.cluster event.now) self.new }
+        ensures part { self.new.part ≡ self.old.part }
+        ensures rounds { (self.new.round ≡ self.old.round) × (self.new.pend ≡ self.old.pend) }
+    {
+        topology.lawful();
+        if !self.owns(event) {
+            self.abort();
+            return NOTHING;
+        }
+        self.change(event, topology, multi)
+    }
+
+    /// Whether an event is on a block of the shard's own numbers, or on no block.
+    #[tactic(auto, unfolding(crate::specs::Changed::owns))]
+    fn owns(&self, event: &Event) -> bool
+        ensures { result ≡ owns self.now.part event.now }
+    {
+        match block_of(event) {
+            Some(id) => shard_of(id, self.part.shards) == self.part.index,
+            None => true,
+        }
+    }
+
+    /// Changes the shard by an event that is its own.
+    fn change(&mut self, event: &Event, topology: &Topology, multi: bool) -> Done
+        requires cluster { first_of (cluster_checks topology.now.cluster event.now) ≡ None }
+        requires multi { multi ≡ is_multi_rack (change_cluster topology.now.cluster event.now) }
+        requires own { owns self.old.part event.now ≡ true }
+        requires placed { IsPlaced topology.now.cluster self.old.holdings }
+        requires ready { IsReadyFor event.now self.old }
+        ensures changed { HasChanged topology.now.cluster (change_cluster topology.now.cluster event.now) self.old self.new (change_part topology.now.cluster self.old.holdings self.old.part.index self.old.part.shards event.now) result }
+        ensures few { block_of event.now ≡ None → (result.added < 2 ^ 100) × (result.removed < 2 ^ 100) }
+    {
+        match event {
+            Event::Register {
+                node,
+                rack,
+                storages,
+            } => self.register(topology, *node, *rack, storages.as_slice(), multi),
+            Event::Dead { node } => self.forget_node(topology, *node, multi),
+            Event::StorageFailed { storage } => self.forget_storage(topology, *storage),
+            Event::Heartbeat { remaining, .. } => self.hear(topology, remaining.as_slice()),
+            Event::Drain { node } => self.turn(topology, *node, true),
+            Event::Undrain { node } => self.turn(topology, *node, false),
+            Event::AddBlock { id, stamp, repl } => self.add_block(topology, *id, *stamp, *repl),
+            Event::DeleteBlock { id } => self.delete_block(topology, *id),
+            Event::SetReplication { id, repl } => self.set_replication(topology, *id, *repl),
+            Event::Restamp { id, stamp } => self.restamp(topology, *id, *stamp),
+            Event::Received { storage, id, stamp } => {
+                self.receive(topology, *storage, *id, *stamp)
+            }
+            Event::Deleted { storage, id } => self.delete_replica(topology, *storage, *id),
+            Event::Corrupt { storage, id } => self.make_bad(topology, *storage, *id),
+            Event::FullReport { storage, .. } => self.report(topology, *storage),
+        }
+    }
+}
+
+/// The block of an event on one block.
+#[tactic(auto, unfolding(bm_parts::specs::Parts::block_of))]
+fn block_of(event: &Event) -> Option<BlockId>
+    ensures { result ≡ block_of event.now }
+{
+    match event {
+        Event::AddBlock { id, .. }
+        | Event::DeleteBlock { id }
+        | Event::SetReplication { id, .. }
+        | Event::Restamp { id, .. }
+        | Event::Received { id, .. }
+        | Event::Deleted { id, .. }
+        | Event::Corrupt { id, .. } => Some(*id),
+        Event::Register { .. }
+        | Event::Dead { .. }
+        | Event::StorageFailed { .. }
+        | Event::Heartbeat { .. }
+        | Event::Drain { .. }
+        | Event::Undrain { .. }
+        | Event::FullReport { .. } => None,
+    }
+}

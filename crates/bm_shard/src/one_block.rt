@@ -1,0 +1,115 @@
+// Events on one block, as they change a shard. None takes memory.
+ghost use Rattle.std.specs.Prelude.{◌≡◌, if◌then◌else◌};
+ghost use Rattle.bm_base.specs.State.{replica_at};
+ghost use Rattle.bm_base.specs.Events as events;
+ghost use Rattle.bm_base.specs.SlotLists.{Among};
+ghost use Rattle.bm_shard.specs.Changed.{HasChanged};
+
+use crate::shard::{Prepared, Shard};
+use bm_base::{BlockId, BlockInfo, Done, Stamp, StorageId};
+use bm_topo::Topology;
+
+/// No replica came, and none went.
+pub(crate) const NOTHING: Done = Done {
+    added: 0,
+    removed: 0,
+};
+
+impl Shard {
+    /// A file has a new block.
+    pub(crate) fn add_block(
+        &mut self,
+        topology: &Topology,
+        id: BlockId,
+        stamp: Stamp,
+        repl: u32,
+    ) -> Done
+        requires { Among id self.old.room.entries }
+        ensures { HasChanged topology.now.cluster topology.now.cluster self.old self.new (events.add_block self.old.holdings id stamp repl) result }
+    {
+        self.prepared = Prepared::Nothing;
+        self.blocks.lawful();
+        self.blocks.arena().lawful();
+        self.blocks
+            .add_block(topology, id, BlockInfo { stamp, repl });
+        self.blocks.arena().lawful();
+        NOTHING
+    }
+
+    /// A block is deleted: its replicas are stray, and its transfers leave. One look at each of its replicas.
+    pub(crate) fn delete_block(&mut self, topology: &Topology, id: BlockId) -> Done
+        ensures { HasChanged topology.now.cluster topology.now.cluster self.old self.new (events.delete_block self.old.holdings id) result }
+    {
+        self.prepared = Prepared::Nothing;
+        self.blocks.lawful();
+        self.blocks.arena().lawful();
+        self.blocks.delete_block(topology, id);
+        self.pending.remove_block(id);
+        self.blocks.arena().lawful();
+        NOTHING
+    }
+
+    /// So many replicas of a block are wanted from now on.
+    pub(crate) fn set_replication(&mut self, topology: &Topology, id: BlockId, repl: u32) -> Done
+        ensures { HasChanged topology.now.cluster topology.now.cluster self.old self.new (events.set_replication self.old.holdings id repl) result }
+    {
+        self.prepared = Prepared::Nothing;
+        self.blocks.lawful();
+        self.blocks.arena().lawful();
+        self.blocks.set_replication(topology, id, repl);
+        self.blocks.arena().lawful();
+        NOTHING
+    }
+
+    /// A block has another stamp: its good replicas are stale, and its transfers leave. One look at each of its replicas.
+    pub(crate) fn restamp(&mut self, topology: &Topology, id: BlockId, stamp: Stamp) -> Done
+        ensures { HasChanged topology.now.cluster topology.now.cluster self.old self.new (events.restamp self.old.holdings id stamp) result }
+    {
+        self.prepared = Prepared::Nothing;
+        self.blocks.lawful();
+        self.blocks.arena().lawful();
+        self.blocks.restamp(topology, id, stamp);
+        self.pending.remove_block(id);
+        self.blocks.arena().lawful();
+        NOTHING
+    }
+
+    /// A replica is bad, if it is there.
+    pub(crate) fn make_bad(&mut self, topology: &Topology, storage: StorageId, id: BlockId) -> Done
+        ensures { HasChanged topology.now.cluster topology.now.cluster self.old self.new (events.make_bad self.old.holdings (replica_at id storage)) result }
+    {
+        self.prepared = Prepared::Nothing;
+        self.blocks.lawful();
+        self.blocks.arena().lawful();
+        self.blocks.make_bad(topology, storage, id);
+        self.blocks.arena().lawful();
+        NOTHING
+    }
+
+    /// A replica leaves, if it is there.
+    pub(crate) fn delete_replica(
+        &mut self,
+        topology: &Topology,
+        storage: StorageId,
+        id: BlockId,
+    ) -> Done
+        ensures { HasChanged topology.now.cluster topology.now.cluster self.old self.new (events.remove_replica self.old.holdings (replica_at id storage)) result }
+    {
+        self.prepared = Prepared::Nothing;
+        self.blocks.lawful();
+        self.blocks.arena().lawful();
+        let is_removed = self.blocks.remove_replica(topology, storage, id);
+        self.blocks.arena().lawful();
+        Done {
+            added: 0,
+            removed: one_if(is_removed),
+        }
+    }
+}
+
+/// One where it is so, else none.
+fn one_if(is_so: bool) -> u128
+    ensures { result ≡ (if is_so then 1 else 0) }
+{
+    if is_so { 1 } else { 0 }
+}

@@ -1,0 +1,27 @@
+// Of the transfers that were chosen of all shards, those of a shard's own blocks.
+ghost use Rattle.std.specs.Prelude.{◌≡◌, ◌<◌, ◌≤◌, ℕ, ◌==◌, length, filter, map};
+ghost use Rattle.bm_base.specs.Map.{insert_all};
+ghost use Rattle.bm_base.specs.State.{replica_at};
+ghost use Rattle.bm_base.specs.RoundParts.{own_transfers};
+ghost use Rattle.bm_pending.specs.OnTheWay.{room};
+
+use bm_base::{Part, Transfer, shard_of};
+use bm_pending::PendingTransfers;
+
+/// The transfers of the part's own blocks are on their way since this round. Takes no memory.
+pub(crate) fn insert_own(
+    pending: &mut PendingTransfers,
+    transfers: &[Transfer],
+    part: Part,
+    round: u64,
+)
+    requires part { part.index < part.shards }
+    requires room { (b : ℕ) → length (filter (λ t. t.block == b) (own_transfers part.index part.shards transfers.now)) ≤ room pending.old b }
+    ensures { pending.new.map ≡ insert_all pending.old.map (map (λ t. (replica_at t.block t.target, round)) (own_transfers part.index part.shards transfers.now)) }
+{
+    for transfer in transfers {
+        if shard_of(transfer.block, part.shards) == part.index {
+            pending.insert_reserved(transfer.block, transfer.target, round);
+        }
+    }
+}

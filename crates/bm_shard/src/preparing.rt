@@ -1,0 +1,119 @@
+// The memory of an event, and giving it up.
+ghost use Rattle.std.specs.Prelude.{◌≡◌, ◌<◌, None, Some, IfErr, OnOk};
+ghost use Rattle.bm_base.specs.declared.refusal.Refusal.TheVariants.{Memory};
+ghost use Rattle.bm_base.specs.Answering.{Refuses};
+ghost use Rattle.bm_base.specs.SlotLists.{Among};
+ghost use Rattle.bm_report.specs.Expanded.{told_to};
+ghost use Rattle.bm_shard.specs.Seen.{IsReadyFor, takes_room};
+ghost use Rattle.bm_shard.specs.Standing.{IsSameButRoom};
+
+use crate::shard::{Prepared, Shard};
+use bm_base::{BlockId, Entry, Event, Part, Refusal, StorageId};
+use bm_topo::Topology;
+
+/// All numbers: a notice is handed to the shard of its number alone.
+const EVERY_NUMBER: Part = Part {
+    index: 0,
+    shards: 1,
+};
+
+impl Shard {
+    /// Takes the memory that [`Shard::commit`] of the event needs. Nothing else that is seen changes, whether it is refused or
+    /// not, where the shard stands in some cluster; and it may be called again: what was prepared before is given up. `Memory`, where a block
+    /// is added, a replica received or a storage reports; other events take none.
+    #[tactic(auto, unfolding(crate::specs::Seen::IsReadyFor))]
+    pub fn prepare(&mut self, event: &Event, topology: &Topology) -> Result<(), Refusal>
+        ensures ready { OnOk result (IsReadyFor event.now self.new) }
+        ensures same { IsSameButRoom self.old self.new }
+        ensures refused { IfErr result (Refuses None (takes_room event.now)) }
+    {
+        let _ = topology;
+        self.abort();
+        match event {
+            Event::AddBlock { id, .. } => self.ready_entry(*id),
+            Event::Received { storage, id, stamp } => {
+                let entries = [Entry::one(*id, *stamp)];
+                self.ready_report(*storage, entries.as_slice(), EVERY_NUMBER)
+            }
+            Event::FullReport { storage, entries } => {
+                let part = self.part;
+                self.ready_report(*storage, entries.as_slice(), part)
+            }
+            Event::Register { .. }
+            | Event::Dead { .. }
+            | Event::StorageFailed { .. }
+            | Event::Heartbeat { .. }
+            | Event::Drain { .. }
+            | Event::Undrain { .. }
+            | Event::DeleteBlock { .. }
+            | Event::SetReplication { .. }
+            | Event::Restamp { .. }
+            | Event::Deleted { .. }
+            | Event::Corrupt { .. } => Ok(()),
+        }
+    }
+
+    /// Gives a number an entry.
+    fn ready_entry(&mut self, id: BlockId) -> Result<(), Refusal>
+        ensures ready { OnOk result (Among id self.new.room.entries) }
+        ensures same { IsSameButRoom self.old self.new }
+        ensures refused { IfErr result (λ e. e ≡ Memory) }
+    {
+        self.prepared = Prepared::Nothing;
+        self.blocks.lawful();
+        self.blocks.arena().lawful();
+        let made = self.blocks.ready_block(id);
+        self.blocks.lawful();
+        self.blocks.arena().lawful();
+        made?;
+        self.prepared = Prepared::Entry(id);
+        Ok(())
+    }
+
+    /// Looks up what a report tells of a part.
+    fn ready_report(
+        &mut self,
+        storage: StorageId,
+        entries: &[Entry],
+        part: Part,
+    ) -> Result<(), Refusal>
+        requires part { part.index < part.shards }
+        ensures ready { OnOk result (self.new.room.report ≡ Some (storage, told_to part entries.now)) }
+        ensures same { IsSameButRoom self.old self.new }
+        ensures refused { IfErr result (λ e. e ≡ Memory) }
+    {
+        self.prepared = Prepared::Nothing;
+        self.blocks.lawful();
+        self.blocks.arena().lawful();
+        let made = self
+            .blocks
+            .ready_report(&mut self.report, storage, entries, part);
+        self.blocks.lawful();
+        self.blocks.arena().lawful();
+        made?;
+        self.prepared = Prepared::Report(storage);
+        Ok(())
+    }
+
+    /// Gives up what was prepared: entries that were made for it and have neither a block nor a replica go. Nothing that is seen changes
+    /// but room, where the shard stands in some cluster. Takes no memory.
+    pub fn abort(&mut self)
+        ensures { IsSameButRoom self.old self.new }
+    {
+        let prepared = self.prepared;
+        self.prepared = Prepared::Nothing;
+        self.blocks.lawful();
+        self.blocks.arena().lawful();
+        match prepared {
+            Prepared::Nothing => {}
+            Prepared::Entry(id) => {
+                if let Some(slot) = self.blocks.slot_of(id) {
+                    self.blocks.drop_if_bare(slot);
+                }
+            }
+            Prepared::Report(_) => self.blocks.abort_report(&mut self.report),
+        }
+        self.blocks.lawful();
+        self.blocks.arena().lawful();
+    }
+}

@@ -1,0 +1,69 @@
+// Reported replicas, as they change a shard. None takes memory.
+ghost use Rattle.std.specs.Prelude.{◌≡◌, ◌<◌, ◌^◌, ◌∷◌, [], List, Some};
+ghost use Rattle.bm_base.specs.Entries.{Told};
+ghost use Rattle.bm_base.specs.Events as events;
+ghost use Rattle.bm_base.specs.State.{replica_at};
+ghost use Rattle.bm_parts.specs.PlacedLaws.{IsPlaced};
+ghost use Rattle.bm_shard.specs.Changed.{HasChanged};
+
+use crate::arriving::drop_arrived;
+use crate::shard::{Prepared, Shard};
+use bm_base::{BlockId, Done, Stamp, StorageId};
+use bm_report::Applied;
+use bm_topo::Topology;
+
+/// How many replicas came and went.
+fn done(applied: Applied) -> Done
+    ensures { (result.added ≡ applied.added) × (result.removed ≡ applied.removed) }
+{
+    Done {
+        added: applied.added,
+        removed: applied.removed,
+    }
+}
+
+impl Shard {
+    /// A replica was received on a storage, as was looked up: it is there, those on the other storages of the node leave, and its
+    /// transfer has arrived.
+    pub(crate) fn receive(
+        &mut self,
+        topology: &Topology,
+        storage: StorageId,
+        id: BlockId,
+        stamp: Stamp,
+    ) -> Done
+        requires ready { self.old.room.report ≡ Some (storage, record { id = id; stamp = stamp } ∷ []) }
+        requires placed { IsPlaced topology.now.cluster self.old.holdings }
+        ensures { HasChanged topology.now.cluster topology.now.cluster self.old self.new (events.enter topology.now.cluster self.old.holdings (replica_at id storage) stamp) result }
+    {
+        self.prepared = Prepared::Nothing;
+        self.blocks.lawful();
+        self.blocks.arena().lawful();
+        let applied = self
+            .blocks
+            .receive(&self.report, topology, storage, id, stamp);
+        self.pending.remove(id, storage);
+        self.blocks.arena().lawful();
+        done(applied)
+    }
+
+    /// A storage reported all its replicas, as was looked up: they are there, others on it leave, and the transfers of those that
+    /// came have arrived. One step for each number that is named and each replica that leaves, and a look at each block with transfers.
+    pub(crate) fn report(&mut self, topology: &Topology, storage: StorageId) -> Done
+        requires ready { (ts : List Told) × (self.old.room.report ≡ Some (storage, ts)) }
+        requires placed { IsPlaced topology.now.cluster self.old.holdings }
+        ensures changed { (ts : List Told) → self.old.room.report ≡ Some (storage, ts) → HasChanged topology.now.cluster topology.now.cluster self.old self.new (events.report topology.now.cluster self.old.holdings storage ts) result }
+        ensures few { (result.added < 2 ^ 100) × (result.removed < 2 ^ 100) }
+    {
+        self.prepared = Prepared::Nothing;
+        self.blocks.lawful();
+        self.blocks.arena().lawful();
+        let applied = self
+            .blocks
+            .apply_report(&mut self.report, topology, storage);
+        drop_arrived(&mut self.pending, self.blocks.arena(), storage);
+        self.blocks.drop_bare(self.report.changed());
+        self.blocks.arena().lawful();
+        done(applied)
+    }
+}

@@ -1,0 +1,91 @@
+// The part of a shard in a round.
+ghost use Rattle.std.specs.Prelude.{◌≡◌, ◌<◌, ◌+◌, ◌^◌, IfOk, IfErr, OnOk};
+ghost use Rattle.bm_base.specs.declared.refusal.Refusal.TheVariants.{Memory};
+ghost use Rattle.bm_base.specs.RoundParts.{round_on_part};
+ghost use Rattle.bm_shard.specs.Seen.{IsReadyForRound};
+ghost use Rattle.bm_shard.specs.Standing.{StandsIn, IsSameButRoom, next_part};
+
+use crate::own_transfers::insert_own;
+use crate::shard::{Prepared, Shard};
+use bm_base::{Chosen, Refusal, RoundPart};
+use bm_finding::find_round;
+use bm_topo::Topology;
+
+impl Shard {
+    /// What the shard finds as its next round begins: the transfers that are given up, the replicas that are too many, what blocks
+    /// wish for, and the replicas that are to be deleted, each list in order. It looks at the transfers, at the blocks of levels 0 to 3 and
+    /// at those that are not settled, and at no others; blocks that wait for an ordered delete are looked at until it is reported. `Memory`.
+    pub fn round_part(&self, round: u64, topology: &Topology) -> Result<RoundPart, Refusal>
+        requires next { round ≡ self.now.round + 1 }
+        requires standing { StandsIn topology.now.cluster self.now }
+        ensures part { IfOk result (λ p. p ≡ next_part topology.now.cluster self.now) }
+        ensures refused { IfErr result (λ e. e ≡ Memory) }
+    {
+        self.blocks.lawful();
+        self.blocks.arena().lawful();
+        find_round(
+            self.alloc,
+            &self.blocks,
+            &self.pending,
+            topology,
+            self.pend,
+            round,
+        )
+    }
+
+    /// Takes the memory that [`Shard::round_commit`] needs. Nothing else that is seen changes. `Memory`.
+    pub fn round_ready(
+        &mut self,
+        part: &RoundPart,
+        chosen: &Chosen,
+        topology: &Topology,
+    ) -> Result<(), Refusal>
+        ensures ready { OnOk result (IsReadyForRound chosen.now self.new) }
+        ensures same { IsSameButRoom self.old self.new }
+        ensures refused { IfErr result (λ e. e ≡ Memory) }
+    {
+        let _ = part;
+        let _ = topology;
+        self.pending
+            .reserve_own(chosen.transfers.as_slice(), self.part)
+    }
+
+    /// Takes the shard's next round, of which this was chosen of all shards: transfers that are too old leave, excess is marked
+    /// anew, and of what was chosen the shard's own deletes are ordered and its own transfers are on their way. Every shard takes every
+    /// round, also one of which nothing was chosen. Takes no memory.
+    pub fn round_commit(&mut self, part: &RoundPart, chosen: &Chosen, topology: &Topology)
+        requires standing { StandsIn topology.now.cluster self.old }
+        requires part { part.now ≡ next_part topology.now.cluster self.old }
+        requires ready { IsReadyForRound chosen.now self.old }
+        requires counted { self.old.round + 1 < 2 ^ 64 }
+        ensures holdings { self.new.holdings ≡ round_on_part topology.now.cluster self.old.pend (self.old.round + 1) self.old.holdings self.old.part.index self.old.part.shards chosen.now.transfers chosen.now.deletes }
+        ensures standing { StandsIn topology.now.cluster self.new }
+        ensures part { self.new.part ≡ self.old.part }
+        ensures rounds { (self.new.round ≡ self.old.round + 1) × (self.new.pend ≡ self.old.pend) }
+    {
+        let round = self.round + 1;
+        self.prepared = Prepared::Nothing;
+        self.blocks.lawful();
+        self.blocks.arena().lawful();
+        self.pending.drop_expired(self.pend, round);
+        self.blocks.remark(topology, part.excess.as_slice());
+        self.blocks
+            .order(topology, chosen.deletes.as_slice(), self.part);
+        self.blocks.arena().lawful();
+        insert_own(
+            &mut self.pending,
+            chosen.transfers.as_slice(),
+            self.part,
+            round,
+        );
+        self.pending.shed();
+        self.round = round;
+    }
+
+    /// Gives up what was made ready for a round. Nothing that is seen changes but room. Takes no memory.
+    pub fn round_abort(&mut self)
+        ensures { IsSameButRoom self.old self.new }
+    {
+        self.pending.shed();
+    }
+}

@@ -1,0 +1,89 @@
+// What a shard has, and what a contract sees of it.
+ghost use Rattle.std.specs.Prelude.{◌≡◌, ◌<◌, ℕ, IfOk, IfErr};
+ghost use Rattle.bm_base.specs.declared.refusal.Refusal.TheVariants.{Memory};
+ghost use Rattle.bm_base.specs.State.{Cluster, empty_holdings};
+ghost use Rattle.bm_shard.specs.Standing.{StandsIn};
+
+use bm_base::{BlockId, Config, Part, Refusal, StorageId};
+use bm_levels::LeveledBlocks;
+use bm_pending::PendingTransfers;
+use bm_report::Report;
+use std::alloc::Global;
+use std::marker::Model;
+
+/// What the last `prepare` made ready.
+#[derive(Clone, Copy)]
+pub(crate) enum Prepared {
+    Nothing,
+    /// An entry of a number.
+    Entry(BlockId),
+    /// What was looked up in `report` is of a report of this storage.
+    Report(StorageId),
+}
+
+/// One shard: the blocks of the numbers `index` modulo `shards`, their replicas, their transfers, and the level of each block.
+///
+/// A contract sees the holdings of the definitions, cut to the shard, and the levels as they are kept. That the levels are those of a cluster is a fact
+/// about both (`StandsIn`), which each call hands on to the next.
+#[derive(Drop)]
+pub struct Shard {
+    pub(crate) alloc: Global,
+    pub(crate) blocks: LeveledBlocks,
+    pub(crate) pending: PendingTransfers,
+    pub(crate) report: Report,
+    pub(crate) prepared: Prepared,
+    pub(crate) part: Part,
+    pub(crate) round: u64,
+    pub(crate) pend: u32,
+}
+
+impl Model for Shard {
+    ghost use Rattle.bm_shard.specs.Seen.{Seen};
+    ghost use Rattle.bm_shard.specs.Codes.{coded_seen};
+    ghost use Rattle.bm_levels.specs.Held.{holdings_with};
+    ghost use Rattle.bm_shard.specs.Inside.{levels_of, numbers_of, report_of, IsShard};
+
+    ghost Value = { Seen };
+
+    ghost coded = { coded_seen };
+
+    ghost view = { λ s. record {
+      holdings = holdings_with s.blocks.arena s.pending.map;
+      part = s.part;
+      round = s.round;
+      pend = s.pend;
+      levels = levels_of s.blocks;
+      room = record { entries = numbers_of s.blocks.arena; report = report_of s.report s.prepared; transfers = s.pending.rooms };
+    } };
+
+    ghost invariant = { λ s. IsShard s.part s.blocks s.report s.prepared };
+}
+
+impl Shard {
+    /// An empty shard, of an index below the number of shards. `Memory`.
+    pub fn new(alloc: Global, index: u32, config: &Config) -> Result<Shard, Refusal>
+        requires { index < config.now.shards }
+        ensures empty { IfOk result (λ s. s.holdings ≡ empty_holdings) }
+        ensures part { IfOk result (λ s. s.part ≡ record { index = index; shards = config.now.shards }) }
+        ensures round { IfOk result (λ s. s.round ≡ config.now.first_round) }
+        ensures pend { IfOk result (λ s. s.pend ≡ config.now.pend) }
+        ensures standing { IfOk result (λ s. (C : Cluster) → StandsIn C s) }
+        ensures refused { IfErr result (λ e. e ≡ Memory) }
+    {
+        let blocks = LeveledBlocks::new(alloc)?;
+        blocks.arena().lawful();
+        Ok(Shard {
+            alloc,
+            blocks,
+            pending: PendingTransfers::new(alloc),
+            report: Report::new(alloc),
+            prepared: Prepared::Nothing,
+            part: Part {
+                index,
+                shards: config.shards,
+            },
+            round: config.first_round,
+            pend: config.pend,
+        })
+    }
+}

@@ -1,0 +1,12 @@
+pub mod Changing
+pub mod Counts
+pub mod Draining
+pub mod Entering
+pub mod OfBlock
+pub mod Ordering
+pub mod Piling
+pub mod Remarked
+pub mod Reporting
+pub mod Surplus
+pub mod Taken
+pub mod Wanting
