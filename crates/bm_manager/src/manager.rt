@@ -9,8 +9,8 @@ ghost use Rattle.bm_base.specs.Answering.{checked, Refuses, takes_memory};
 ghost use Rattle.bm_manager.specs.Growth.{needs_memory};
 
 use bm_base::{Config, Done, Event, Refusal};
-use plain_holdings::Holdings;
 use bm_topo::Topology;
+use plain_holdings::Holdings;
 use std::alloc::Global;
 use std::marker::Model;
 
