@@ -32,3 +32,5 @@ pub mod Drains
 pub mod Racked
 -- Where replicas stand.
 pub mod WellPlaced
+-- Sorted lists merged.
+pub mod MergedLists

@@ -9,3 +9,5 @@ pub mod RoundLaws
 pub mod QueryLaws
 pub mod LevelLaws
 pub mod PlacedLaws
+-- Sorted lists merged.
+pub mod Merging

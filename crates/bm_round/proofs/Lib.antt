@@ -1,5 +1,4 @@
 pub mod Copying
-pub mod MergedLists
 pub mod Keyed
 pub mod Placed
 pub mod Taken

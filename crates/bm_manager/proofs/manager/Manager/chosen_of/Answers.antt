@@ -6,7 +6,8 @@ use Rattle.bm_base.specs.Lists.{has_repeats}
 use Rattle.bm_base.specs.RoundParts.{round_part}
 use Rattle.bm_base.specs.Choices.{merged_wishes, chosen_transfers, chosen_deletes}
 use Rattle.bm_base.proofs.OnePart.{round_transfers, round_deletes, round_wishes_rise, round_deletes_rise, round_wishes_once}
-use Rattle.bm_round.specs.Merging.{AreSorted, keyed_wishes, keyed_deletes}
+use Rattle.bm_parts.specs.Merging.{AreSorted}
+use Rattle.bm_round.specs.Merging.{keyed_wishes, keyed_deletes}
 use Rattle.bm_manager.proofs.manager.Manager.chosen_of.Goals as goal
 
 -- the one part

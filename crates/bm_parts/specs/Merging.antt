@@ -1,0 +1,14 @@
+-- Sorted lists merged.
+use Rattle.std.specs.Prelude.{ℕ, List, [], ◌∷◌, T}
+use Rattle.std.specs.FinMap.{put, is_sorted}
+use Rattle.bm_base.specs.Ordered.{pair_cmp}
+
+-- the entries of the second list put into the first, one after another: each in its place, of equal keys the last counts
+abbrev pub put_all : {X : Type 0} → List ((ℕ × ℕ) × X) → List ((ℕ × ℕ) × X) → List ((ℕ × ℕ) × X)
+put_all es [] = es
+put_all es (f ∷ fs) = put_all (put pair_cmp f.0 f.1 es) fs
+
+-- the keys of each list rise
+abbrev pub AreSorted : {X : Type 0} → List (List ((ℕ × ℕ) × X)) → Type 0
+AreSorted [] = Unit {0}
+AreSorted (es ∷ lists) = T (is_sorted pair_cmp es) × AreSorted lists
