@@ -152,7 +152,7 @@ module _ (C : Cluster) (e : Event) where
   now_done ss last cs d each end told h = told ∙ (changed_shards (length ss) ss cs each h).2 ∙ ap (λ xs. done (held_by ss) (held_by xs)) (sym end)
 
 -- an event on no block has no check on the blocks
-no_block_checks : (H : Holdings) (e : Event) → block_of e ≡ None → first_of (block_checks H e) ≡ None
+pub no_block_checks : (H : Holdings) (e : Event) → block_of e ≡ None → first_of (block_checks H e) ≡ None
 unfolding block_checks
 no_block_checks H (AddBlock b stamp repl) is = cc
 no_block_checks H (DeleteBlock b) is = cc

@@ -5,3 +5,10 @@ pub mod Newly
 pub mod Staying
 pub mod Fleets
 pub mod OneOf
+pub mod Founds
+pub mod Chosen
+pub mod Finished
+pub mod Joins
+pub mod RoundEnd
+pub mod Asked
+pub mod Heartbeats

@@ -12,11 +12,11 @@ pub map_push : {X Y : Type 0} (f : X → Y) (xs : List X) (x : X) → map f (xs 
 map_push f [] x = refl
 map_push f (y ∷ xs) x = ap (λ ys. f y ∷ ys) (map_push f xs x)
 
-or_else_ok : (o : Result (Unit {0}) Refusal) → or_else o (Ok tt) ≡ o
+pub or_else_ok : (o : Result (Unit {0}) Refusal) → or_else o (Ok tt) ≡ o
 or_else_ok (Ok x) = refl
 or_else_ok (Err e) = refl
 
-or_else_again : (a b c : Result (Unit {0}) Refusal) → or_else a (or_else b c) ≡ or_else (or_else a b) c
+pub or_else_again : (a b c : Result (Unit {0}) Refusal) → or_else a (or_else b c) ≡ or_else (or_else a b) c
 or_else_again (Ok x) b c = refl
 or_else_again (Err e) b c = refl
 

@@ -101,6 +101,12 @@ own_at shards Ps k P own e =
     ap (λ n. cut (whole_of Ps) n shards) (sym zero_more)
     ∙ same_Some _ _ (sym (number_at (λ i. cut (whole_of Ps) i shards) 0 (length Ps) k (slice_get_within Ps k P e)) ∙ ap (λ Qs. slice_get Qs k) (parts_again shards Ps 0 own) ∙ e)
 
+-- the shard of a block holds what the whole has of the shard's numbers
+pub own_holdings : (b place : ℕ) (ss : List (ℕ × Seen)) (s : ℕ × Seen) → AreShards (length ss) ss → place ≡ shard_of b (length ss) → slice_get ss place ≡ Some s
+    → s.1.holdings ≡ cut (held_by ss) (shard_of b (length ss)) (length ss)
+own_holdings b place ss s h at there =
+    sym (own_at (length ss) (parts_of ss) place s.1.holdings h.own (get_part ss place s there)) ∙ ap (λ k. cut (held_by ss) k (length ss)) at
+
 -- the checks on the blocks are those of the block's own shard
 pub own_checks : (e : Event) (b : ℕ) (ss : List (ℕ × Seen)) (s : ℕ × Seen) → AreShards (length ss) ss → block_of e ≡ Some b → slice_get ss (shard_of b (length ss)) ≡ Some s
     → block_checks s.1.holdings e ≡ block_checks (held_by ss) e

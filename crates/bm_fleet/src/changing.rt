@@ -24,12 +24,10 @@ use std::sync::Wait;
 use std::thread::Threads;
 
 impl Fleet {
-    /// Changes all shards by an event on no block that no check refuses, or none of them: a crew of `workers`, the calling thread among
-    /// them, takes the memory of the event in each shard, and then changes each. `topology` is the cluster before the event, `multi` says
-    /// whether the alive nodes stand on two racks or more after it. Answers how many replicas came and went in all shards.
-    /// `Memory`, and then nothing that is seen has changed but room.
+    /// Changes all shards by an event on no block, or none of them: a crew of `workers`, the calling thread among them, takes the memory of
+    /// the event in each shard, and then changes each. `Memory`, and then nothing that is seen has changed but room.
     #[tactic(auto, unfolding(crate::specs::Whole::StandsIn, crate::specs::Whole::HasTaken))]
-    pub fn change<R: Threads + Wait + Sync, G: Gate + Sync>(
+    pub(crate) fn change_each<R: Threads + Wait + Sync, G: Gate + Sync>(
         &mut self,
         rt: &R,
         gate: &G,

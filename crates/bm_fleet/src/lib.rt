@@ -1,14 +1,22 @@
 //! All shards of a block manager, worked by a crew: what they hold together changes as the definitions change the whole.
 //!
-//! An event on no block is made on every shard, or on none ([`Fleet::change`]); one on a block is made on the block's shard alone
-//! ([`Fleet::change_one`]).
+//! An event on a block is made on the block's shard alone, any other on every shard or on none ([`Fleet::change`]); so is a round
+//! ([`Fleet::round`]). What is asked of all shards is joined by one merge of their answers.
 #![tactic(auto)]
 
+mod asking;
 mod changing;
 mod crewed;
+mod events;
 mod fleet;
 mod gathering;
+mod joining;
+mod listed;
 mod one_shard;
+mod round_crewed;
+mod round_gathering;
+mod round_running;
+mod rounding;
 mod running;
 
 pub use fleet::Fleet;

@@ -24,7 +24,7 @@ impl Fleet {
     /// the cluster before the event, `multi` says whether the alive nodes stand on two racks or more after it. Answers how many replicas came
     /// and went. `Memory`, but for an event that takes no memory, and then nothing that is seen has changed but room.
     #[tactic(auto, unfolding(crate::specs::Whole::StandsIn, crate::specs::Whole::HasTaken))]
-    pub fn change_one(
+    pub(crate) fn change_one(
         &mut self,
         event: &Event,
         topology: &Topology,
@@ -78,7 +78,7 @@ fn change_own(
 }
 
 /// Where the shard of a block stands, of so many.
-fn place_of(id: BlockId, count: usize) -> usize
+pub(crate) fn place_of(id: BlockId, count: usize) -> usize
     requires { 0 < count }
     ensures { result ≡ shard_of id count }
 {
@@ -87,7 +87,7 @@ fn place_of(id: BlockId, count: usize) -> usize
 
 /// The block of an event on one block.
 #[tactic(auto, unfolding(bm_parts::specs::Parts::block_of))]
-fn block_of(event: &Event) -> Option<BlockId>
+pub(crate) fn block_of(event: &Event) -> Option<BlockId>
     ensures { result ≡ block_of event.now }
 {
     match event {

@@ -9,14 +9,14 @@
 //! - `settled`: blocks at which a round need not look
 //! - `levels`: events on the cluster after which a shard need not judge its blocks anew
 //! - `placed`: where replicas stand, and which are in excess
-//! - `merging`: sorted lists merged into one
+//! - `merge`: sorted lists merged into one
 //!
-//! Only `merging` has a function that does something; the contract of each other is a law.
+//! Only `merge` has a function that does something; the contract of each other is a law.
 #![tactic(auto)]
 
 pub mod events;
 pub mod levels;
-pub mod merging;
+pub mod merge;
 pub mod placed;
 pub mod queries;
 pub mod rounds;

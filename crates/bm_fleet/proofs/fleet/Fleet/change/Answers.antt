@@ -1,15 +1,14 @@
-use Rattle.std.proofs.Common.{subst, sym}
-use Rattle.bm_fleet.specs.Whole.{Whole, EachStandsIn, EachTook, StandsIn, HasTaken}
-use Rattle.bm_fleet.proofs.Fleets.{all_accept}
+use Rattle.std.proofs.Common.{sym}
+use Rattle.bm_parts.proofs.OneShard.{nothing_done}
+use Rattle.bm_fleet.proofs.Heartbeats.{stands_heard, holdings_heard}
 use Rattle.bm_fleet.proofs.fleet.Fleet.change.Goals as goal
 
-pub change_all-requires-clause-blocks : goal.change_all-requires-clause-blocks
-change_all-requires-clause-blocks g c _ _ = all_accept _ _ c.requires.every
+pub returns-in-Heartbeat-clause-done : goal.returns-in-Heartbeat-clause-done
+returns-in-Heartbeat-clause-done g c = sym (nothing_done c.args.self.now.holdings)
 
-pub change_all-requires-clause-standing : goal.change_all-requires-clause-standing
-unfolding StandsIn
-change_all-requires-clause-standing g c _ _ = subst (λ (F : Whole). EachStandsIn c.args.topology.now.cluster F.shards) (sym c.self.view_is) c.requires.standing
+pub returns-in-Heartbeat-clause-changed : goal.returns-in-Heartbeat-clause-changed
+returns-in-Heartbeat-clause-changed g c = holdings_heard c.args.topology.now.cluster c.args.self.now.holdings c.args.event.now c.in-Heartbeat.node c.in-Heartbeat.remaining c.in-Heartbeat.is
 
-pub returns-clause-rounds : goal.returns-clause-rounds
-unfolding HasTaken
-returns-clause-rounds g c round pend took = c.change_all.ensures.rounds round pend (subst (λ (F : Whole). EachTook round pend F.shards) (sym c.self.view_is) took)
+pub returns-in-Heartbeat-clause-standing : goal.returns-in-Heartbeat-clause-standing
+returns-in-Heartbeat-clause-standing g c =
+    stands_heard c.args.topology.now.cluster c.args.event.now c.in-Heartbeat.node c.in-Heartbeat.remaining c.args.self.now c.in-Heartbeat.is c.lawful.ensures c.requires.cluster c.requires.standing

@@ -4,7 +4,7 @@ use Rattle.std.proofs.lemmas.Result.{IfOk-weaker}
 use Rattle.bm_base.specs.Ordered.{pair_cmp}
 use Rattle.bm_parts.specs.Merging.{put_all, AreSorted}
 use Rattle.bm_parts.proofs.MergedLists.{halves, first_of, sorted_front, sorted_back, sorted_put_all}
-use Rattle.bm_parts.proofs.merging.+merge_all.Goals as goal
+use Rattle.bm_parts.proofs.merge.+merge_all.Goals as goal
 
 pub returns-then-count-eq1-clause-merged : goal.returns-then-count-eq1-clause-merged
 returns-then-count-eq1-clause-merged g t c =

@@ -1,8 +1,8 @@
 use Rattle.std.proofs.Common.{ap, sym, ◌∙◌, ◌++◌, drop, arith}
 use Rattle.bm_parts.proofs.MergedLists.{went_less, went_equal, went_greater, low_ends, high_ends, slice_rest}
 use Rattle.bm_parts.specs.Merging.{put_all}
-use Rattle.bm_parts.proofs.merging.merge_two.Goals as goal
-use Rattle.bm_parts.proofs.merging.merge_two.Goals.{then-loop-i-test+else-j-high, else-loop-i-test}
+use Rattle.bm_parts.proofs.merge.merge_two.Goals as goal
+use Rattle.bm_parts.proofs.merge.merge_two.Goals.{then-loop-i-test+else-j-high, else-loop-i-test}
 
 pub loop-i-preserved-in-Less : goal.loop-i-preserved-in-Less
 loop-i-preserved-in-Less g c =

@@ -1,6 +1,6 @@
 use Rattle.std.proofs.Common.{◌≡◌, ◌≤◌, ◌+◌, ◌-◌, ◌++◌, drop, length}
 use Rattle.bm_parts.specs.Merging.{put_all}
-use Rattle.bm_parts.proofs.merging.merge_two.Given as goal
+use Rattle.bm_parts.proofs.merge.merge_two.Given as goal
 
 -- what is merged, and then what is left merged, is all merged
 abbrev pub invariant-loop-i : goal.invariant-loop-i

@@ -1,0 +1,57 @@
+// An event, made on all shards, on one of them, or on none.
+ghost use Rattle.std.specs.Prelude.{◌≡◌, ◌<◌, ℕ, None, IfOk, IfErr, OnOk, OnErr};
+ghost use Rattle.bm_base.specs.Replicas.{is_multi_rack};
+ghost use Rattle.bm_base.specs.Events.{change_cluster, change_holdings};
+ghost use Rattle.bm_base.specs.Calls.{done};
+ghost use Rattle.bm_base.specs.Refusals.{first_of, cluster_checks, block_checks};
+ghost use Rattle.bm_base.specs.Answering.{Refuses, takes_memory};
+ghost use Rattle.bm_fleet.specs.Whole.{StandsIn, HasTaken};
+
+use crate::fleet::Fleet;
+use crate::one_shard::block_of;
+use bm_base::{Done, Event, Refusal};
+use bm_crew::Gate;
+use bm_topo::Topology;
+use std::sync::Wait;
+use std::thread::Threads;
+
+impl Fleet {
+    /// Changes the shards by an event that no check refuses. A heartbeat touches none; an event on a block touches the block's shard alone;
+    /// any other is made by a crew of `workers`, the calling thread among them, on all shards or on none. `topology` is the cluster before
+    /// the event, `multi` says whether the alive nodes stand on two racks or more after it. Answers how many replicas came and went.
+    /// `Memory`, but for an event that takes no memory, and then nothing that is seen has changed but room.
+    pub fn change<R: Threads + Wait + Sync, G: Gate + Sync>(
+        &mut self,
+        rt: &R,
+        gate: &G,
+        workers: usize,
+        event: &Event,
+        topology: &Topology,
+        multi: bool,
+    ) -> Result<Done, Refusal>
+        requires workers { 0 < workers }
+        requires cluster { first_of (cluster_checks topology.now.cluster event.now) ≡ None }
+        requires blocks { first_of (block_checks self.old.holdings event.now) ≡ None }
+        requires multi { multi ≡ is_multi_rack (change_cluster topology.now.cluster event.now) }
+        requires standing { StandsIn topology.now.cluster self.old }
+        ensures done { IfOk result (λ d. d ≡ done self.old.holdings self.new.holdings) }
+        ensures changed { OnOk result (self.new.holdings ≡ change_holdings topology.now.cluster self.old.holdings event.now) }
+        ensures standing { OnOk result (StandsIn (change_cluster topology.now.cluster event.now) self.new) }
+        ensures rounds { (round pend : ℕ) → HasTaken round pend self.old → HasTaken round pend self.new }
+        ensures unchanged { OnErr result (self.new.holdings ≡ self.old.holdings) }
+        ensures still { OnErr result (StandsIn topology.now.cluster self.new) }
+        ensures refused { IfErr result (Refuses None (takes_memory event.now)) }
+    {
+        topology.lawful();
+        if let Event::Heartbeat { .. } = event {
+            return Ok(Done {
+                added: 0,
+                removed: 0,
+            });
+        }
+        match block_of(event) {
+            Some(_) => self.change_one(event, topology, multi),
+            None => self.change_each(rt, gate, workers, event, topology, multi),
+        }
+    }
+}

@@ -1,0 +1,65 @@
+// What a crew does with one shard for a round.
+ghost use Rattle.std.specs.Prelude.{◌≡◌, ◌<◌, ◌+◌, ◌^◌, IfOk, IfErr, OnOk};
+ghost use Rattle.bm_base.specs.declared.refusal.Refusal.TheVariants.{Memory};
+ghost use Rattle.bm_base.specs.RoundParts.{round_on_part};
+ghost use Rattle.bm_shard.specs.Seen.{IsReadyForRound};
+ghost use Rattle.bm_shard.specs.Standing.{StandsIn, IsSameButRoom, next_part};
+
+use crate::crewed::Prepared;
+use bm_base::{Chosen, Refusal, RoundPart};
+use bm_shard::Shard;
+use bm_topo::Topology;
+
+/// A shard, and what it found for its next round.
+#[derive(Drop)]
+pub(crate) struct Found {
+    pub shard: Shard,
+    pub part: Result<RoundPart, Refusal>,
+}
+
+/// Finds the part of one shard in its next round.
+pub(crate) fn find_one(shard: Shard, round: u64, topology: &Topology) -> Found
+    requires next { round ≡ shard.round + 1 }
+    requires standing { StandsIn topology.now.cluster shard }
+    ensures shard { result.shard ≡ shard }
+    ensures part { IfOk result.part (λ p. p ≡ next_part topology.now.cluster shard) }
+    ensures refused { IfErr result.part (λ e. e ≡ Memory) }
+{
+    let part = shard.round_part(round, topology);
+    Found { shard, part }
+}
+
+/// Takes the memory of a round in one shard.
+pub(crate) fn ready_one(
+    mut shard: Shard,
+    part: &RoundPart,
+    chosen: &Chosen,
+    topology: &Topology,
+) -> Prepared
+    ensures same { IsSameButRoom shard result.shard }
+    ensures ready { OnOk result.outcome (IsReadyForRound chosen.now result.shard) }
+    ensures refused { IfErr result.outcome (λ e. e ≡ Memory) }
+{
+    let outcome = shard.round_ready(part, chosen, topology);
+    Prepared { shard, outcome }
+}
+
+/// Takes the next round in one shard that is ready for it.
+pub(crate) fn finish_one(
+    mut shard: Shard,
+    part: &RoundPart,
+    chosen: &Chosen,
+    topology: &Topology,
+) -> Shard
+    requires standing { StandsIn topology.now.cluster shard }
+    requires part { part.now ≡ next_part topology.now.cluster shard }
+    requires ready { IsReadyForRound chosen.now shard }
+    requires counted { shard.round + 1 < 2 ^ 64 }
+    ensures holdings { result.holdings ≡ round_on_part topology.now.cluster shard.pend (shard.round + 1) shard.holdings shard.part.index shard.part.shards chosen.now.transfers chosen.now.deletes }
+    ensures standing { StandsIn topology.now.cluster result }
+    ensures part { result.part ≡ shard.part }
+    ensures rounds { (result.round ≡ shard.round + 1) × (result.pend ≡ shard.pend) }
+{
+    shard.round_commit(part, chosen, topology);
+    shard
+}

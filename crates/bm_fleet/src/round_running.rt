@@ -1,0 +1,91 @@
+// A round of all shards, worked by a crew.
+ghost use Rattle.std.specs.Prelude.{◌≡◌, ◌≤◌, vec_len};
+ghost use Rattle.std.specs.List.{All, AllZip};
+ghost use Rattle.bm_fleet.specs.RoundWorked.{CanFind, IsFound, HasPart, IsReadied, CanFinish, IsFinished};
+
+use crate::crewed::Prepared;
+use crate::round_crewed::{Found, find_one, finish_one, ready_one};
+use bm_base::{Chosen, RoundPart};
+use bm_crew::{Gate, Ready};
+use bm_shard::Shard;
+use bm_topo::Topology;
+use std::sync::Wait;
+use std::thread::Threads;
+
+/// Finds what each shard has for its next round. No shard changes.
+pub(crate) fn find_all<R: Threads + Wait + Sync, G: Gate + Sync>(
+    rt: &R,
+    gate: &G,
+    ready: Ready<Shard, Found>,
+    shards: Vec<(u32, Shard)>,
+    round: u64,
+    topology: &Topology,
+) -> Vec<(u32, Found)>
+    requires room { vec_len shards ≤ ready }
+    requires shards { All (CanFind topology.now.cluster round) shards.items }
+    ensures len { vec_len result ≡ vec_len shards }
+    ensures each { AllZip (IsFound topology.now.cluster) shards.items result.items }
+{
+    let work = |index: u32, shard: Shard| -> Found
+        requires { CanFind topology.now.cluster round (index, shard) }
+        ensures { IsFound topology.entry.now.cluster (index, shard) (index, result) }
+    {
+        let _ = index;
+        find_one(shard, round, topology)
+    };
+    ready.run(rt, shards, &work, gate)
+}
+
+/// Takes the memory of a round in each shard. Each is as it was but for room; it is ready for the round, or it was refused.
+pub(crate) fn ready_all<R: Threads + Wait + Sync, G: Gate + Sync>(
+    rt: &R,
+    gate: &G,
+    ready: Ready<Shard, Prepared>,
+    shards: Vec<(u32, Shard)>,
+    parts: &[RoundPart],
+    chosen: &Chosen,
+    topology: &Topology,
+) -> Vec<(u32, Prepared)>
+    requires room { vec_len shards ≤ ready }
+    requires shards { All (HasPart topology.now.cluster parts.now) shards.items }
+    ensures len { vec_len result ≡ vec_len shards }
+    ensures each { AllZip (IsReadied chosen.now) shards.items result.items }
+{
+    let work = |index: u32, shard: Shard| -> Prepared
+        requires { HasPart topology.now.cluster parts.now (index, shard) }
+        ensures { IsReadied chosen.entry.now (index, shard) (index, result) }
+    {
+        match parts.get(index as usize) {
+            Some(part) => ready_one(shard, part, chosen, topology),
+            None => unreachable!(),
+        }
+    };
+    ready.run(rt, shards, &work, gate)
+}
+
+/// Takes the next round in each shard, each of which is ready for it. Refuses nothing.
+pub(crate) fn finish_all<R: Threads + Wait + Sync, G: Gate + Sync>(
+    rt: &R,
+    gate: &G,
+    ready: Ready<Shard, Shard>,
+    shards: Vec<(u32, Shard)>,
+    parts: &[RoundPart],
+    chosen: &Chosen,
+    topology: &Topology,
+) -> Vec<(u32, Shard)>
+    requires room { vec_len shards ≤ ready }
+    requires shards { All (CanFinish topology.now.cluster parts.now chosen.now) shards.items }
+    ensures len { vec_len result ≡ vec_len shards }
+    ensures each { AllZip (IsFinished topology.now.cluster chosen.now) shards.items result.items }
+{
+    let work = |index: u32, shard: Shard| -> Shard
+        requires { CanFinish topology.now.cluster parts.now chosen.now (index, shard) }
+        ensures { IsFinished topology.entry.now.cluster chosen.entry.now (index, shard) (index, result) }
+    {
+        match parts.get(index as usize) {
+            Some(part) => finish_one(shard, part, chosen, topology),
+            None => unreachable!(),
+        }
+    };
+    ready.run(rt, shards, &work, gate)
+}

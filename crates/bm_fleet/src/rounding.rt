@@ -1,0 +1,300 @@
+// A round of all shards: taken in all of them, or in none.
+ghost use Rattle.std.specs.Prelude.{◌≡◌, ◌<◌, ◌≤◌, ◌+◌, ◌^◌, [], None, map, length, false, IfOk, IfErr, OnOk, OnErr, vec_len, vec_capacity};
+ghost use Rattle.std.specs.List.{All, AllZip};
+ghost use Rattle.bm_base.specs.declared.refusal.Refusal.TheVariants.{Memory};
+ghost use Rattle.bm_base.specs.State.{limits_of};
+ghost use Rattle.bm_base.specs.Lists.{has_repeats};
+ghost use Rattle.bm_base.specs.Configuration.{config_refusal};
+ghost use Rattle.bm_base.specs.Rounds.{commands_of};
+ghost use Rattle.bm_base.specs.Choices as choices;
+ghost use Rattle.bm_parts.specs.Merging.{AreSorted};
+ghost use Rattle.bm_round.specs.Merging.{keyed_wishes, keyed_deletes};
+ghost use Rattle.bm_shard.specs.Standing.{next_part};
+ghost use Rattle.bm_fleet.specs.Whole.{StandsIn, HasTaken, AreShards, EachStandsIn, EachTook, held_by};
+ghost use Rattle.bm_fleet.specs.Worked.{IsSame};
+ghost use Rattle.bm_fleet.specs.Rounds.{commands_in, left_by_round};
+ghost use Rattle.bm_fleet.specs.RoundWorked.{CanFind, HasPart, IsFinished};
+
+use crate::crewed::Prepared;
+use crate::fleet::Fleet;
+use crate::gathering::gather_prepared;
+use crate::round_crewed::Found;
+use crate::round_gathering::{abort_rounds, gather_found};
+use crate::round_running::{find_all, finish_all, ready_all};
+use bm_base::{Chosen, Commands, Config, Refusal, RoundPart};
+use bm_crew::{Crew, Gate, Ready};
+use bm_round::{choose, commands};
+use bm_shard::Shard;
+use bm_topo::Topology;
+use std::alloc::Global;
+use std::mem;
+use std::sync::Wait;
+use std::thread::Threads;
+
+impl Fleet {
+    /// Takes the round after `last` in all shards, or in none, and tells what it commands each DataNode: a crew of `config.workers`, the
+    /// calling thread among them, finds what each shard has for it; of all that is chosen what is copied and deleted; then each shard is
+    /// made ready, and changed. `Memory`, and then nothing that is seen has changed but room.
+    #[tactic(auto, unfolding(crate::specs::Whole::StandsIn, crate::specs::Whole::HasTaken))]
+    pub fn round<R: Threads + Wait + Sync, G: Gate + Sync>(
+        &mut self,
+        rt: &R,
+        gate: &G,
+        config: &Config,
+        last: u64,
+        topology: &Topology,
+    ) -> Result<Commands, Refusal>
+        requires config { config_refusal config.now ≡ None }
+        requires counted { last + 1 < 2 ^ 64 }
+        requires standing { StandsIn topology.now.cluster self.old }
+        requires rounds { HasTaken last config.now.pend self.old }
+        ensures commands { IfOk result (λ k. k ≡ commands_in (limits_of config.now) topology.now.cluster (last + 1) self.old.holdings) }
+        ensures changed { OnOk result (self.new.holdings ≡ left_by_round (limits_of config.now) topology.now.cluster (last + 1) self.old.holdings) }
+        ensures standing { StandsIn topology.now.cluster self.new }
+        ensures rounds { OnOk result (HasTaken (last + 1) config.now.pend self.new) }
+        ensures unchanged { OnErr result (self.new.holdings ≡ self.old.holdings) }
+        ensures kept { OnErr result (HasTaken last config.now.pend self.new) }
+        ensures refused { IfErr result (λ e. e ≡ Memory) }
+    {
+        round_all(
+            self.alloc,
+            rt,
+            gate,
+            &mut self.shards,
+            config,
+            last,
+            topology,
+        )
+    }
+}
+
+/// All memory that a round needs beside the shards' own and what is chosen.
+#[derive(Drop)]
+struct RoundRoom {
+    finding: Ready<Shard, Found>,
+    readying: Ready<Shard, Prepared>,
+    finishing: Ready<Shard, Shard>,
+    found: Vec<(u32, Shard)>,
+    parts: Vec<RoundPart>,
+    readied: Vec<(u32, Shard)>,
+    aborted: Vec<(u32, Shard)>,
+}
+
+fn round_room(alloc: Global, count: usize, workers: usize) -> Result<RoundRoom, Refusal>
+    requires { 0 < workers }
+    ensures finding { IfOk result (λ r. r.finding ≡ count) }
+    ensures readying { IfOk result (λ r. r.readying ≡ count) }
+    ensures finishing { IfOk result (λ r. r.finishing ≡ count) }
+    ensures found { IfOk result (λ r. (r.found.items ≡ []) × (count ≤ vec_capacity r.found)) }
+    ensures parts { IfOk result (λ r. (r.parts.items ≡ []) × (count ≤ vec_capacity r.parts)) }
+    ensures readied { IfOk result (λ r. (r.readied.items ≡ []) × (count ≤ vec_capacity r.readied)) }
+    ensures aborted { IfOk result (λ r. (r.aborted.items ≡ []) × (count ≤ vec_capacity r.aborted)) }
+    ensures refused { IfErr result (λ e. e ≡ Memory) }
+{
+    let finding = Crew::ready::<Shard, Found>(alloc, count, workers)?;
+    let readying = Crew::ready::<Shard, Prepared>(alloc, count, workers)?;
+    let finishing = Crew::ready::<Shard, Shard>(alloc, count, workers)?;
+    let found = Vec::with_capacity(alloc, count)?;
+    let parts = Vec::with_capacity(alloc, count)?;
+    let readied = Vec::with_capacity(alloc, count)?;
+    let aborted = Vec::with_capacity(alloc, count)?;
+    Ok(RoundRoom {
+        finding,
+        readying,
+        finishing,
+        found,
+        parts,
+        readied,
+        aborted,
+    })
+}
+
+/// Takes the round after `last` in all shards, or in none, and tells what it commands.
+fn round_all<R: Threads + Wait + Sync, G: Gate + Sync>(
+    alloc: Global,
+    rt: &R,
+    gate: &G,
+    shards: &mut Vec<(u32, Shard)>,
+    config: &Config,
+    last: u64,
+    topology: &Topology,
+) -> Result<Commands, Refusal>
+    requires config { config_refusal config.now ≡ None }
+    requires counted { last + 1 < 2 ^ 64 }
+    requires shards { AreShards (length shards.old.items) shards.old.items }
+    requires standing { EachStandsIn topology.now.cluster shards.old.items }
+    requires rounds { EachTook last config.now.pend shards.old.items }
+    ensures commands { IfOk result (λ k. k ≡ commands_in (limits_of config.now) topology.now.cluster (last + 1) (held_by shards.old.items)) }
+    ensures changed { OnOk result (held_by shards.new.items ≡ left_by_round (limits_of config.now) topology.now.cluster (last + 1) (held_by shards.old.items)) }
+    ensures shards { AreShards (length shards.new.items) shards.new.items }
+    ensures standing { EachStandsIn topology.now.cluster shards.new.items }
+    ensures rounds { OnOk result (EachTook (last + 1) config.now.pend shards.new.items) }
+    ensures unchanged { OnErr result (held_by shards.new.items ≡ held_by shards.old.items) }
+    ensures kept { OnErr result (EachTook last config.now.pend shards.new.items) }
+    ensures refused { IfErr result (λ e. e ≡ Memory) }
+{
+    let room = round_room(alloc, shards.len(), config.workers as usize)?;
+    let items = mem::replace(shards, Vec::new(alloc));
+    let (items, outcome) = round_of(alloc, rt, gate, room, items, config, last, topology);
+    *shards = items;
+    outcome
+}
+
+/// Takes the round after `last` in all these shards, or in none, and tells what it commands.
+fn round_of<R: Threads + Wait + Sync, G: Gate + Sync>(
+    alloc: Global,
+    rt: &R,
+    gate: &G,
+    room: RoundRoom,
+    shards: Vec<(u32, Shard)>,
+    config: &Config,
+    last: u64,
+    topology: &Topology,
+) -> (Vec<(u32, Shard)>, Result<Commands, Refusal>)
+    requires counted { last + 1 < 2 ^ 64 }
+    requires finding { vec_len shards ≤ room.finding }
+    requires readying { vec_len shards ≤ room.readying }
+    requires finishing { vec_len shards ≤ room.finishing }
+    requires found { (room.found.items ≡ []) × (vec_len shards ≤ vec_capacity room.found) }
+    requires parts { (room.parts.items ≡ []) × (vec_len shards ≤ vec_capacity room.parts) }
+    requires readied { (room.readied.items ≡ []) × (vec_len shards ≤ vec_capacity room.readied) }
+    requires aborted { (room.aborted.items ≡ []) × (vec_len shards ≤ vec_capacity room.aborted) }
+    requires shards { AreShards (length shards.items) shards.items }
+    requires standing { EachStandsIn topology.now.cluster shards.items }
+    requires rounds { EachTook last config.now.pend shards.items }
+    ensures commands { IfOk result.1 (λ k. k ≡ commands_in (limits_of config.now) topology.now.cluster (last + 1) (held_by shards.items)) }
+    ensures changed { OnOk result.1 (held_by result.0.items ≡ left_by_round (limits_of config.now) topology.now.cluster (last + 1) (held_by shards.items)) }
+    ensures shards { AreShards (length result.0.items) result.0.items }
+    ensures standing { EachStandsIn topology.now.cluster result.0.items }
+    ensures rounds { OnOk result.1 (EachTook (last + 1) config.now.pend result.0.items) }
+    ensures unchanged { OnErr result.1 (held_by result.0.items ≡ held_by shards.items) }
+    ensures kept { OnErr result.1 (EachTook last config.now.pend result.0.items) }
+    ensures refused { IfErr result.1 (λ e. e ≡ Memory) }
+{
+    let RoundRoom {
+        finding,
+        readying,
+        finishing,
+        found,
+        parts,
+        readied,
+        aborted,
+    } = room;
+    let round = last + 1;
+    let (items, found) = parts_of(rt, gate, finding, shards, found, parts, round, topology);
+    let parts = match found {
+        Ok(parts) => parts,
+        Err(refusal) => return (items, Err(refusal)),
+    };
+    let choice = match choice_of(alloc, parts.as_slice(), config, round, topology) {
+        Ok(choice) => choice,
+        Err(refusal) => return (items, Err(refusal)),
+    };
+    let Choice { chosen, commands } = choice;
+    let (items, outcome) = take_round(
+        rt,
+        gate,
+        readying,
+        finishing,
+        items,
+        readied,
+        aborted,
+        parts.as_slice(),
+        &chosen,
+        topology,
+    );
+    match outcome {
+        Ok(()) => (items, Ok(commands)),
+        Err(refusal) => (items, Err(refusal)),
+    }
+}
+
+/// The shards as they were, and what each has for its next round.
+fn parts_of<R: Threads + Wait + Sync, G: Gate + Sync>(
+    rt: &R,
+    gate: &G,
+    finding: Ready<Shard, Found>,
+    shards: Vec<(u32, Shard)>,
+    back: Vec<(u32, Shard)>,
+    parts: Vec<RoundPart>,
+    round: u64,
+    topology: &Topology,
+) -> (Vec<(u32, Shard)>, Result<Vec<RoundPart>, Refusal>)
+    requires room { vec_len shards ≤ finding }
+    requires back { (back.items ≡ []) × (vec_len shards ≤ vec_capacity back) }
+    requires parts { (parts.items ≡ []) × (vec_len shards ≤ vec_capacity parts) }
+    requires shards { All (CanFind topology.now.cluster round) shards.items }
+    ensures shards { result.0.items ≡ shards.items }
+    ensures parts { IfOk result.1 (λ v. v.items ≡ map (λ s. next_part topology.now.cluster s.1) shards.items) }
+    ensures refused { IfErr result.1 (λ e. e ≡ Memory) }
+{
+    let found = find_all(rt, gate, finding, shards, round, topology);
+    let (items, parts, outcome) = gather_found(found, back, parts);
+    match outcome {
+        Ok(()) => (items, Ok(parts)),
+        Err(refusal) => (items, Err(refusal)),
+    }
+}
+
+/// What was chosen for a round, and what it commands.
+#[derive(Drop)]
+struct Choice {
+    chosen: Chosen,
+    commands: Commands,
+}
+
+/// What is chosen of these parts for a round, and what it commands.
+fn choice_of(
+    alloc: Global,
+    parts: &[RoundPart],
+    config: &Config,
+    round: u64,
+    topology: &Topology,
+) -> Result<Choice, Refusal>
+    requires wishes { AreSorted (map keyed_wishes parts.now) }
+    requires deletes { AreSorted (map keyed_deletes parts.now) }
+    requires one_wish { has_repeats (map (λ w. w.block) (choices.merged_wishes parts.now)) ≡ false }
+    ensures transfers { IfOk result (λ c. c.chosen.transfers ≡ choices.chosen_transfers (limits_of config.now) topology.now.cluster parts.now) }
+    ensures deletes { IfOk result (λ c. c.chosen.deletes ≡ choices.chosen_deletes (limits_of config.now) topology.now.cluster parts.now) }
+    ensures commands { IfOk result (λ c. c.commands ≡ commands_of topology.now.cluster round c.chosen.transfers c.chosen.deletes) }
+    ensures refused { IfErr result (λ e. e ≡ Memory) }
+{
+    let chosen = choose(alloc, parts, topology, config)?;
+    let commands = commands(alloc, round, &chosen, topology)?;
+    Ok(Choice { chosen, commands })
+}
+
+/// Takes the next round in all these shards, or in none of them.
+fn take_round<R: Threads + Wait + Sync, G: Gate + Sync>(
+    rt: &R,
+    gate: &G,
+    readying: Ready<Shard, Prepared>,
+    finishing: Ready<Shard, Shard>,
+    shards: Vec<(u32, Shard)>,
+    readied: Vec<(u32, Shard)>,
+    aborted: Vec<(u32, Shard)>,
+    parts: &[RoundPart],
+    chosen: &Chosen,
+    topology: &Topology,
+) -> (Vec<(u32, Shard)>, Result<(), Refusal>)
+    requires readying { vec_len shards ≤ readying }
+    requires finishing { vec_len shards ≤ finishing }
+    requires readied { (readied.items ≡ []) × (vec_len shards ≤ vec_capacity readied) }
+    requires aborted { (aborted.items ≡ []) × (vec_len shards ≤ vec_capacity aborted) }
+    requires parts { All (HasPart topology.now.cluster parts.now) shards.items }
+    requires standing { EachStandsIn topology.now.cluster shards.items }
+    requires counted { All (λ s. s.1.round + 1 < 2 ^ 64) shards.items }
+    ensures finished { OnOk result.1 (AllZip (IsFinished topology.now.cluster chosen.now) shards.items result.0.items) }
+    ensures same { OnErr result.1 (AllZip IsSame shards.items result.0.items) }
+    ensures refused { IfErr result.1 (λ e. e ≡ Memory) }
+{
+    let made = ready_all(rt, gate, readying, shards, parts, chosen, topology);
+    let (items, outcome) = gather_prepared(made, readied);
+    match outcome {
+        Ok(()) => {
+            let items = finish_all(rt, gate, finishing, items, parts, chosen, topology);
+            (items, Ok(()))
+        }
+        Err(refusal) => (abort_rounds(items, aborted), Err(refusal)),
+    }
+}
