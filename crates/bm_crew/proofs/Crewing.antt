@@ -1,9 +1,10 @@
 -- The calling thread and its helpers, step by step.
-use Rattle.std.proofs.Common.{◌≡◌, ℕ, ◌+◌, ◌<◌, true, false, List, [], ◌∷◌, ◌++◌, length, arith, ap, ◌∙◌, sym, subst, set, vec_len, length-append, Global}
+use Rattle.std.proofs.Common.{◌≡◌, ℕ, ◌+◌, ◌<◌, ◌≤◌, true, false, List, [], ◌∷◌, ◌++◌, length, arith, ap, ◌∙◌, sym, subst, set, vec_len, vec_capacity, length-append, Global}
 use Rattle.std.specs.Prelude.{Option, Some, None, Vec}
 use Rattle.std.proofs.lemmas.List.{append-nil}
 use Rattle.std.proofs.lemmas.List.Elements.{All-nil, All-cons, All-push, All-head, All-weaker, All-contains}
 use Rattle.std.proofs.lemmas.List.FromFn.{length-enumerate_from}
+use Rattle.std.proofs.lemmas.Slice.Zip.{AllZip-long}
 use Rattle.std.specs.List.{All, AllZip, Contains, enumerate_from}
 use Rattle.std.specs.List.Sorted.{IsPermutation}
 use Rattle.bm_crew.specs.declared.pass_view.PassView.{PassView}
@@ -12,9 +13,9 @@ use Rattle.bm_crew.specs.declared.bag.BagPass.{BagPass}
 use Rattle.bm_crew.specs.declared.helper.Helper.{Helper}
 use Rattle.bm_crew.specs.declared.collector.Collector.{Collector}
 use Rattle.bm_crew.specs.Rule.{helper_view, with_given, after_put, after_take, after_join, after_tell}
-use Rattle.bm_crew.specs.Bags.{view_of, given_of, taken_of, IsCallerOf, IsHelperOf, AllJoined}
+use Rattle.bm_crew.specs.Bags.{view_of, given_of, taken_of, IsCallerOf, IsHelperOf, AllJoined, found_empty_of}
 use Rattle.bm_crew.specs.Work.{IsPlacedResultOf, AreFilled, slots_after}
-use Rattle.bm_crew.specs.Crews.{IsIdle, CanHelp, HasHelped, IsCollecting, JoinsSince}
+use Rattle.bm_crew.specs.Crews.{IsIdle, CanHelp, IsHelping, HasHelped, IsCollecting, JoinsSince}
 use Rattle.bm_crew.proofs.Moves.{enumerate_push}
 use Rattle.bm_crew.proofs.Zips.{zip_push}
 use Rattle.bm_crew.proofs.Appending.{all_left, all_right}
@@ -22,7 +23,7 @@ use Rattle.bm_crew.proofs.Filling.{filled_none, filled_more, filled_moved, made_
 
 module _ {T U : Type 0} (post : ℕ → T → U → Type 0) where
   -- a helper took and worked a piece
-  pub helped_one : (bag : Bag (ℕ × T)) (old new : Helper T U) (x : ℕ × (ℕ × T)) (m : ℕ × (ℕ × U)) → HasHelped post bag old → IsHelperOf bag new.pass → view_of new.pass ≡ after_take (view_of old.pass) x → IsPlacedResultOf post x m → new.done.items ≡ old.done.items ++ m ∷ [] → HasHelped post bag new
+  pub helped_one : (bag : Bag (ℕ × T)) (old new : Helper T U) (x : ℕ × (ℕ × T)) (m : ℕ × (ℕ × U)) → IsHelping post bag old → IsHelperOf bag new.pass → view_of new.pass ≡ after_take (view_of old.pass) x → IsPlacedResultOf post x m → new.done.items ≡ old.done.items ++ m ∷ [] → IsHelping post bag new
   helped_one bag old new x m was is took made done = record {
     of = is;
     done = subst (λ (y : List (ℕ × (ℕ × T)) × List (ℕ × (ℕ × U))). AllZip (IsPlacedResultOf post) y.0 y.1) (λ i. (ap (λ (v : PassView (ℕ × T)). v.taken) (sym took) i, sym done i)) (zip_push (IsPlacedResultOf post) (taken_of old.pass) old.done.items x m was.done made);
@@ -49,7 +50,7 @@ module _ {T U : Type 0} (post : ℕ → T → U → Type 0) where
         let known : All (Contains (given_of old.pass)) (taken_of old.pass ++ taken_of helper.pass) = subst (λ (v : PassView (ℕ × T)). All (Contains v.given) v.taken) joined given in
         let theirs : All (λ item. item.0 < vec_len old.slots) (taken_of helper.pass) =
         All-weaker (Contains (given_of old.pass)) (λ item. item.0 < vec_len old.slots) (λ x has. All-contains (λ item. item.0 < vec_len old.slots) (given_of old.pass) x was.places has) (taken_of helper.pass) (all_right (Contains (given_of old.pass)) (taken_of old.pass) (taken_of helper.pass) known) in
-        made_places post (vec_len old.slots) (taken_of helper.pass) helper.done.items helped.done theirs
+        made_places post (vec_len old.slots) (taken_of helper.pass) helper.done.items helped.helping.done theirs
 
     -- the calling thread took in what a helper has done
     pub collected_helper : (bag : Bag (ℕ × T)) (old : Collector T U) (helper : Helper T U) (new : Collector T U) → IsCollecting pre post bag old → HasHelped post bag helper → IsCallerOf bag new.pass → view_of new.pass ≡ after_join (view_of old.pass) (view_of helper.pass) → All (Contains (given_of new.pass)) (taken_of new.pass) → new.slots.items ≡ slots_after old.slots.items helper.done.items → vec_len new.slots ≡ vec_len old.slots → IsCollecting pre post bag new
@@ -57,7 +58,7 @@ module _ {T U : Type 0} (post : ℕ → T → U → Type 0) where
         let given : given_of new.pass ≡ given_of old.pass = ap (λ (v : PassView (ℕ × T)). v.given) joined in
         let places = helper_places bag old helper new.pass was helped joined among in
         let few : vec_len old.slots ≡ length old.slots.items = old.slots.ok.0 in
-        let more = filled_more post (taken_of old.pass) (taken_of helper.pass) helper.done.items old.slots.items was.filled helped.done (subst (λ n. All (λ m. m.0 < n) helper.done.items) few places) in
+        let more = filled_more post (taken_of old.pass) (taken_of helper.pass) helper.done.items old.slots.items was.filled helped.helping.done (subst (λ n. All (λ m. m.0 < n) helper.done.items) few places) in
         record {
           leads = leads;
           accepts = subst (λ l. All (λ item. pre item.1.0 item.1.1) l) (sym given) was.accepts;
@@ -74,13 +75,13 @@ joins_on {T} first old new x was took len = record {
 }
 
 -- the last helper is taken off
-pub idle_split : {T U : Type 0} (bag : Bag (ℕ × T)) (all others : List (Helper T U)) (last : Helper T U) → all ≡ others ++ last ∷ [] → All (IsIdle bag) all → All (IsIdle bag) others × IsIdle bag last
-idle_split bag all others last is each = let h : All (IsIdle bag) (others ++ last ∷ []) = subst (λ l. All (IsIdle bag) l) is each in (all_left (IsIdle bag) others (last ∷ []) h, All-head (IsIdle bag) last [] (all_right (IsIdle bag) others (last ∷ []) h))
+pub idle_split : {T U : Type 0} (n : ℕ) (bag : Bag (ℕ × T)) (all others : List (Helper T U)) (last : Helper T U) → all ≡ others ++ last ∷ [] → All (IsIdle n bag) all → All (IsIdle n bag) others × IsIdle n bag last
+idle_split n bag all others last is each = let h : All (IsIdle n bag) (others ++ last ∷ []) = subst (λ l. All (IsIdle n bag) l) is each in (all_left (IsIdle n bag) others (last ∷ []) h, All-head (IsIdle n bag) last [] (all_right (IsIdle n bag) others (last ∷ []) h))
 
 module _ {T U : Type 0} (pre : ℕ → T → Type 0) (post : ℕ → T → U → Type 0) (bag : Bag (ℕ × T)) (old : Collector T U) (helper : Helper T U) (new : BagPass (ℕ × T)) where
   -- the calling thread told an idle helper what was given
-  pub told_collects : IsCollecting pre post bag old → IsIdle bag helper → IsCallerOf bag new → view_of new ≡ after_tell (after_join (view_of old.pass) (view_of helper.pass)) → IsCollecting pre post bag (record { pass = new; slots = old.slots })
-  told_collects was idle leads told =
+  pub told_collects : (n : ℕ) → IsCollecting pre post bag old → IsIdle n bag helper → IsCallerOf bag new → view_of new ≡ after_tell (after_join (view_of old.pass) (view_of helper.pass)) → IsCollecting pre post bag (record { pass = new; slots = old.slots })
+  told_collects n was idle leads told =
       let given : given_of new ≡ given_of old.pass = ap (λ (v : PassView (ℕ × T)). v.given) told in
       let taken : taken_of new ≡ taken_of old.pass = ap (λ (v : PassView (ℕ × T)). v.taken) told ∙ ap (λ l. taken_of old.pass ++ l) idle.none_taken ∙ append-nil (taken_of old.pass) in
       record {
@@ -90,21 +91,44 @@ module _ {T U : Type 0} (pre : ℕ → T → Type 0) (post : ℕ → T → U →
         filled = subst (λ l. AreFilled post l old.slots.items) (sym taken) was.filled;
       }
 
-  pub told_helps : (other : BagPass (ℕ × T)) → IsCollecting pre post bag old → IsIdle bag helper → IsHelperOf bag other → view_of other ≡ helper_view true (given_of old.pass) → CanHelp pre bag (record { pass = other; done = helper.done })
+  pub told_helps : (other : BagPass (ℕ × T)) → IsCollecting pre post bag old → IsIdle (length (given_of old.pass)) bag helper → IsHelperOf bag other → view_of other ≡ helper_view true (given_of old.pass) → CanHelp pre bag (record { pass = other; done = helper.done })
   told_helps other was idle of told = record {
-    idle = record { of = of; none_taken = ap (λ (v : PassView (ℕ × T)). v.taken) told; none_done = idle.none_done };
+    idle = record {
+      of = of;
+      none_taken = ap (λ (v : PassView (ℕ × T)). v.taken) told;
+      none_done = idle.none_done;
+      not_ended = ap (λ (v : PassView (ℕ × T)). v.found_empty) told;
+      room = subst (λ (g : List (ℕ × (ℕ × T))). length g ≤ vec_capacity helper.done) (sym (ap (λ (v : PassView (ℕ × T)). v.given) told)) idle.room;
+    };
     told = ap (λ (v : PassView (ℕ × T)). v.told) told;
     accepts = subst (λ l. All (λ item. pre item.1.0 item.1.1) l) (sym (ap (λ (v : PassView (ℕ × T)). v.given) told)) was.accepts;
   }
 
+-- a worker that has room for more has it for less
+pub idle_for_less : {T U : Type 0} (n m : ℕ) (bag : Bag (ℕ × T)) (helpers : List (Helper T U)) → m ≤ n → All (IsIdle n bag) helpers → All (IsIdle m bag) helpers
+idle_for_less n m bag helpers few = All-weaker (IsIdle n bag) (IsIdle m bag) (λ h k. record { of = k.of; none_taken = k.none_taken; none_done = k.none_done; not_ended = k.not_ended; room = omega (arith, few, k.room) }) helpers
+
+-- a worker that took one more piece of those given still had room for its result
+pub still_room : {T U : Type 0} (post : ℕ → T → U → Type 0) (bag : Bag (ℕ × T)) (h : Helper T U) (next : BagPass (ℕ × T)) (x : ℕ × (ℕ × T)) → IsHelping post bag h → view_of next ≡ after_take (view_of h.pass) x → length (taken_of next) ≤ length (given_of h.pass) → length (given_of h.pass) ≤ vec_capacity h.done → vec_len h.done < vec_capacity h.done
+still_room {T} post bag h next x was took few room =
+    let same : length h.done.items ≡ length (taken_of h.pass) = AllZip-long (IsPlacedResultOf post) (taken_of h.pass) h.done.items was.done in
+    let one : length (taken_of next) ≡ length (taken_of h.pass) + 1 = ap (λ (v : PassView (ℕ × T)). length v.taken) took ∙ length-append (taken_of h.pass) (x ∷ []) in
+    omega (arith, same, one, few, room, h.done.ok.0)
+
 -- another pass gets its worker
-pub idles_more : {T U : Type 0} (bag : Bag (ℕ × T)) (all yielded left rest : List (BagPass (ℕ × T))) (pass : BagPass (ℕ × T)) (helpers : List (Helper T U)) (done : Vec (ℕ × (ℕ × U)) Global) → all ≡ yielded ++ left → left ≡ pass ∷ rest → All (λ p. IsHelperOf bag p × (view_of p ≡ helper_view false [])) all → All (IsIdle bag) helpers → done.items ≡ [] → All (IsIdle bag) (helpers ++ record { pass = pass; done = done } ∷ [])
-idles_more {T} {U} bag all yielded left rest pass helpers done is front each idle none =
+pub idles_more : {T U : Type 0} (n : ℕ) (bag : Bag (ℕ × T)) (all yielded left rest : List (BagPass (ℕ × T))) (pass : BagPass (ℕ × T)) (helpers : List (Helper T U)) (done : Vec (ℕ × (ℕ × U)) Global) → all ≡ yielded ++ left → left ≡ pass ∷ rest → All (λ p. IsHelperOf bag p × (view_of p ≡ helper_view false [])) all → All (IsIdle n bag) helpers → done.items ≡ [] → n ≤ vec_capacity done → All (IsIdle n bag) (helpers ++ record { pass = pass; done = done } ∷ [])
+idles_more {T} {U} n bag all yielded left rest pass helpers done is front each idle none room =
     let P : BagPass (ℕ × T) → Type 0 = λ p. IsHelperOf bag p × (view_of p ≡ helper_view false []) in
     let h : All P (yielded ++ (pass ∷ rest)) = subst (λ l. All P l) (is ∙ ap (λ l. yielded ++ l) front) each in
     let one : P pass = All-head P pass rest (all_right P yielded (pass ∷ rest) h) in
     let it : Helper T U = record { pass = pass; done = done } in
-    All-push (IsIdle bag) helpers it idle (record { of = one.0; none_taken = ap (λ (v : PassView (ℕ × T)). v.taken) one.1; none_done = none })
+    All-push (IsIdle n bag) helpers it idle (record {
+      of = one.0;
+      none_taken = ap (λ (v : PassView (ℕ × T)). v.taken) one.1;
+      none_done = none;
+      not_ended = ap (λ (v : PassView (ℕ × T)). v.found_empty) one.1;
+      room = room;
+    })
 
 -- one more item is put
 pub puts_more : {T : Type 0} (before : PassView (ℕ × T)) (now next : PassView (ℕ × T)) (items : List (ℕ × T)) (place : ℕ) (item : ℕ × T) → place ≡ length items → now ≡ with_given before (enumerate_from 0 items) → next ≡ after_put now (place, item) → next ≡ with_given before (enumerate_from 0 (items ++ item ∷ []))

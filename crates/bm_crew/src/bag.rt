@@ -1,12 +1,12 @@
 // A bag of pieces that threads take from.
-ghost use Rattle.std.specs.Prelude.{◌≡◌, ◌<◌, ◌+◌, ◌++◌, [], ◌∷◌, length, true, false, IfOk, IfErr, IfSome, IfNone};
+ghost use Rattle.std.specs.Prelude.{◌≡◌, ◌<◌, ◌≤◌, ◌+◌, ◌++◌, [], ◌∷◌, length, true, false, IfOk, IfErr, IfSome, IfNone};
 ghost use Rattle.std.specs.List.{All, Contains};
 ghost use Rattle.std.specs.List.Sorted.{IsPermutation};
 ghost use Rattle.bm_base.specs.declared.refusal.Refusal.TheVariants.{Memory};
-ghost use Rattle.bm_crew.specs.Rule.{Knows, helper_view, after_put, after_take, after_tell, after_join};
+ghost use Rattle.bm_crew.specs.Rule.{Knows, helper_view, after_put, after_take, after_none, after_tell, after_join};
 
 use crate::pass_view::PassView;
-use crate::rule::{JoinStep, PieceRule, PutStep, SplitStep, TakeStep, TellStep};
+use crate::rule::{JoinStep, NoneStep, PieceRule, PutStep, SplitStep, TakeStep, TellStep};
 use bm_base::Refusal;
 use crossbeam_queue::{Pass, RuledArrayQueue};
 use std::alloc::Global;
@@ -76,18 +76,26 @@ impl<T> Bag<T> {
 
     /// Takes the next piece out, with its place. `None` where the bag is empty at that moment.
     ///
-    /// A piece that comes out through a pass that knows what was put is one of those. A `None` on the caller's pass,
-    /// into which all other passes were joined, shows that all that was put was taken, each piece once.
+    /// A piece that comes out through a pass that knows what was put is one of those, and no more come out through it
+    /// than were put. A `None` is noted in the pass. On the caller's, into which all other passes were joined, it shows
+    /// that all that was put was taken, each piece once.
     pub fn take<R: Wait>(&self, rt: &R, pass: &mut BagPass<T>) -> Option<(usize, T)>
         requires { IsPassIn self.now pass.old }
         ensures caller { IsCallerOf self.now pass.old → IsCallerOf self.now pass.new }
         ensures helper { IsHelperOf self.now pass.old → IsHelperOf self.now pass.new }
         ensures taken { IfSome result (λ x. view_of pass.new ≡ after_take (view_of pass.old) x) }
         ensures given { IfSome result (λ x. Knows (view_of pass.old) → Contains (given_of pass.old) x) }
-        ensures none { IfNone result (view_of pass.new ≡ view_of pass.old) }
+        ensures few { IfSome result (λ _. Knows (view_of pass.old) → length (taken_of pass.new) ≤ length (given_of pass.old)) }
+        ensures none { IfNone result (view_of pass.new ≡ after_none (view_of pass.old)) }
         ensures all { IfNone result (IsCallerOf self.now pass.old → AllJoined pass.old → IsPermutation (given_of pass.old) (taken_of pass.old)) }
     {
-        self.queue.pop_as::<TakeStep, R>(rt, &mut pass.pass)
+        match self.queue.pop_as::<TakeStep, R>(rt, &mut pass.pass) {
+            Some(taken) => Some(taken),
+            None => {
+                let _spent = self.queue.another::<NoneStep>(&mut pass.pass);
+                None
+            }
+        }
     }
 
     /// Joins another pass into the caller's, which from then on counts as having taken what the other one took.

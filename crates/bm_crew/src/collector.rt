@@ -1,7 +1,7 @@
 // The calling thread, which collects the results.
-ghost use Rattle.std.specs.Prelude.{◌≡◌, [], true};
+ghost use Rattle.std.specs.Prelude.{◌≡◌, ◌+◌, [], true};
 ghost use Rattle.std.specs.List.Sorted.{IsPermutation};
-ghost use Rattle.bm_crew.specs.Bags.{given_of, taken_of, AllJoined};
+ghost use Rattle.bm_crew.specs.Bags.{given_of, taken_of, found_empty_of, AllJoined};
 ghost use Rattle.bm_crew.specs.Crews.{IsCollecting, HasHelped, JoinsSince};
 
 use crate::bag::{Bag, BagPass};
@@ -17,7 +17,7 @@ pub struct Collector<T, U> {
 }
 
 impl<T, U: Drop> Collector<T, U> {
-    /// Takes pieces until there are none, and works each.
+    /// Takes pieces and works each, until it finds the bag empty, and not before.
     pub fn work<R: Wait, J: Fn(u32, T) -> U>(
         self,
         rt: &R,
@@ -27,6 +27,7 @@ impl<T, U: Drop> Collector<T, U> {
         requires { IsCollecting (J.pre job.now) (J.post job.now) bag.now self }
         ensures collecting { IsCollecting (J.pre job.now) (J.post job.now) bag.now result }
         ensures joins { JoinsSince 0 self result }
+        ensures ended { found_empty_of result.pass ≡ found_empty_of self.pass + 1 }
         ensures all { AllJoined self.pass → IsPermutation (given_of result.pass) (taken_of result.pass) }
     {
         let Collector {
@@ -54,6 +55,7 @@ impl<T, U: Drop> Collector<T, U> {
         requires helped { HasHelped (J.post job.now) bag.now helper }
         ensures collecting { IsCollecting (J.pre job.now) (J.post job.now) bag.now result }
         ensures joins { JoinsSince 1 self result }
+        ensures same { found_empty_of result.pass ≡ found_empty_of self.pass }
     {
         let Helper { pass: other, done } = helper;
         let Collector {

@@ -1,9 +1,10 @@
 // A crew whose workers share a bag.
-ghost use Rattle.std.specs.Prelude.{◌≡◌, ◌<◌, ◌≤◌, ℕ, [], MatchOption, IfOk, IfErr, vec_len, vec_capacity};
+ghost use Rattle.std.specs.Prelude.{◌≡◌, ◌<◌, ◌≤◌, ◌+◌, [], MatchOption, IfOk, IfErr, vec_len, vec_capacity};
 ghost use Rattle.std.specs.List.{All, AllZip};
 ghost use Rattle.bm_base.specs.declared.refusal.Refusal.TheVariants.{Memory};
 ghost use Rattle.bm_crew.specs.Work.{IsResultOf};
-ghost use Rattle.bm_crew.specs.Teams.{IsTeamFor};
+ghost use Rattle.bm_crew.specs.Readiness.{Readiness};
+ghost use Rattle.bm_crew.specs.Teams.{IsTeamFor, helpers_in};
 
 use crate::gate::Gate;
 use crate::slots::filled;
@@ -20,7 +21,8 @@ pub struct Crew;
 
 /// A crew that is ready for one run of pieces `T` to results `U`, and has all memory that the run needs.
 ///
-/// Contracts see it as the number of items that it has room for.
+/// Contracts see it as the number of items that it has room for, and the number of workers beside the calling thread.
+/// Each of these has room for as many results.
 #[derive(Drop)]
 pub struct Ready<T, U> {
     room: usize,
@@ -30,23 +32,26 @@ pub struct Ready<T, U> {
 }
 
 impl<T, U> Model for Ready<T, U> {
-    ghost Value = { ℕ };
+    ghost Value = { Readiness };
 
-    ghost view = { λ r. r.room };
+    ghost view = { λ r. record { room = r.room; helpers = helpers_in r.team } };
 
     ghost invariant = { λ r. MatchOption r.team (r.room ≡ 0) (IsTeamFor r.room) × (r.slots.items ≡ []) × (r.room ≤ vec_capacity r.slots) × (r.results.items ≡ []) × (r.room ≤ vec_capacity r.results) };
 }
 
 impl Crew {
     /// Takes all memory that a run of at most `n` items needs, room for `n` results at each worker among it. `workers`,
-    /// at least 1, counts the calling thread. Refuses with `Memory` alone.
+    /// at least 1, counts the calling thread, so there is one helper less; none for a run of no items. Refuses with
+    /// `Memory` alone.
     pub fn ready<T: Drop, U: Drop>(
         alloc: Global,
         n: usize,
         workers: usize,
     ) -> Result<Ready<T, U>, Refusal>
         requires { 0 < workers }
-        ensures room { IfOk result (λ r. r ≡ n) }
+        ensures room { IfOk result (λ r. r.room ≡ n) }
+        ensures helpers { IfOk result (λ r. 0 < n → r.helpers + 1 ≡ workers) }
+        ensures none { IfOk result (λ r. n ≡ 0 → r.helpers ≡ 0) }
         ensures refused { IfErr result (λ e. e ≡ Memory) }
     {
         let slots = Vec::with_capacity(alloc, n)?;
@@ -83,7 +88,7 @@ impl<T: Send + Drop, U: Send + Drop> Ready<T, U> {
         work: &F,
         gate: &G,
     ) -> Vec<(u32, U)>
-        requires room { vec_len items ≤ self }
+        requires room { vec_len items ≤ self.room }
         requires accepts { All (λ item. F.pre work.now item.0 item.1) items.items }
         ensures len { vec_len result ≡ vec_len items }
         ensures each { AllZip (IsResultOf (F.post work.now)) items.items result.items }

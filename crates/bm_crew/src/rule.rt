@@ -2,7 +2,7 @@
 ghost use Rattle.std.specs.Prelude.{◌≡◌, ◌≤◌, ◌++◌, true, false, [], length};
 ghost use Rattle.std.specs.List.{All, Contains};
 ghost use Rattle.std.specs.List.Sorted.{IsPermutation};
-ghost use Rattle.bm_crew.specs.Rule.{KeepsPieces, Knows, caller_first, helper_view, spent, after_put, after_take, after_split, after_tell, after_join};
+ghost use Rattle.bm_crew.specs.Rule.{KeepsPieces, Knows, caller_first, helper_view, spent, after_put, after_take, after_none, after_split, after_tell, after_join};
 
 use crate::pass_view::PassView;
 use crossbeam_queue::protocol::{Join, Lesson, Outcome, Protocol, Split};
@@ -31,11 +31,20 @@ impl<T> Lesson<(usize, T), PassView<T>> for PutStep {
 pub struct TakeStep;
 
 impl<T> Outcome<(usize, T), PassView<T>> for TakeStep {
-    ghost then = { λ v x w. (w ≡ after_take v x) × (Knows v → Contains v.given x) };
+    ghost then = { λ v x w. (w ≡ after_take v x) × (Knows v → Contains v.given x × (length w.taken ≤ length v.given)) };
 }
 
 impl<T> Lesson<(usize, T), PassView<T>> for TakeStep {
     ghost fact = { λ v items. v.is_caller ≡ true → v.joined ≡ v.split → IsPermutation v.given (items ++ v.taken) };
+}
+
+/// A pass has found the bag empty. A view changes where a pass is split off, so one is, which is spent.
+pub struct NoneStep;
+
+impl<T> Split<PassView<T>> for NoneStep {
+    ghost left = { after_none };
+
+    ghost right = { λ v. spent };
 }
 
 /// A pass is split off the caller's, and knows nothing yet.

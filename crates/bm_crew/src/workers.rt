@@ -1,6 +1,7 @@
 // The workers, one started beside the others.
-ghost use Rattle.std.specs.Prelude.{◌≡◌, vec_len};
+ghost use Rattle.std.specs.Prelude.{◌≡◌, ◌+◌, length, vec_len};
 ghost use Rattle.std.specs.List.{All};
+ghost use Rattle.bm_crew.specs.Bags.{given_of, found_empty_of};
 ghost use Rattle.bm_crew.specs.Crews.{IsIdle, CanHelp, HasHelped, IsCollecting, JoinsSince};
 ghost use denote.Param.Send.{IsSync, IsSend};
 
@@ -10,7 +11,8 @@ use crate::helper::Helper;
 use std::sync::Wait;
 use std::thread::{Threads, join};
 
-/// Works what is in the bag, by the calling thread and by the helpers, each in a thread of its own where one can be made.
+/// Works what is in the bag, by the calling thread and by the helpers, each in a thread of its own where one can be made
+/// and until it finds the bag empty.
 ///
 /// An induction over the helpers: one is told what was put and started, the same is done with the others beside it, and
 /// then it is joined. So each step has two threads only.
@@ -28,9 +30,10 @@ pub fn work_all<
     job: &J,
 ) -> Collector<T, U>
     requires collecting { IsCollecting (J.pre job.now) (J.post job.now) bag.now collector }
-    requires helpers { All (IsIdle bag.now) helpers.items }
+    requires helpers { All (IsIdle (length (given_of collector.pass)) bag.now) helpers.items }
     ensures collecting { IsCollecting (J.pre job.now) (J.post job.now) bag.now result }
     ensures joins { JoinsSince (vec_len helpers) collector result }
+    ensures ended { found_empty_of result.pass ≡ found_empty_of collector.pass + 1 }
 {
     let Some(helper) = helpers.pop() else {
         return collector.work(rt, bag, job);
@@ -58,10 +61,11 @@ fn beside<T: Send + Drop, U: Send + Drop, R: Threads + Wait + Sync, J: Fn(u32, T
 ) -> (Helper<T, U>, Collector<T, U>)
     requires helper { CanHelp (J.pre job.now) bag.now helper }
     requires collecting { IsCollecting (J.pre job.now) (J.post job.now) bag.now collector }
-    requires others { All (IsIdle bag.now) others.items }
+    requires others { All (IsIdle (length (given_of collector.pass)) bag.now) others.items }
     ensures helped { HasHelped (J.post job.now) bag.now result.0 }
     ensures collecting { IsCollecting (J.pre job.now) (J.post job.now) bag.now result.1 }
     ensures joins { JoinsSince (vec_len others) collector result.1 }
+    ensures ended { found_empty_of result.1.pass ≡ found_empty_of collector.pass + 1 }
 {
     join(
         rt,
@@ -70,9 +74,10 @@ fn beside<T: Send + Drop, U: Send + Drop, R: Threads + Wait + Sync, J: Fn(u32, T
             ensures { HasHelped (J.post job.entry.now) bag.entry.now result }
         { helper.work(rt, bag, job) },
         move || -> Collector<T, U>
-            requires { IsSync R.row × IsSync J.row × IsSend T.row × IsSend U.row × IsCollecting (J.pre job.now) (J.post job.now) bag.now collector × All (IsIdle bag.now) others.items }
+            requires { IsSync R.row × IsSync J.row × IsSend T.row × IsSend U.row × IsCollecting (J.pre job.now) (J.post job.now) bag.now collector × All (IsIdle (length (given_of collector.pass)) bag.now) others.items }
             ensures collecting { IsCollecting (J.pre job.entry.now) (J.post job.entry.now) bag.entry.now result }
             ensures joins { JoinsSince (vec_len others) collector result }
+            ensures ended { found_empty_of result.pass ≡ found_empty_of collector.pass + 1 }
         { work_all(rt, bag, collector, others, job) },
     )
 }
