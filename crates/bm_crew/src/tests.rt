@@ -6,61 +6,73 @@ use std::process::Abort;
 use std::sync::Wait;
 use std::sync::atomic::{AtomicU64, Ordering};
 use std::test::Fail;
+use std::thread;
 use std::thread::Threads;
 
-/// Notes which pieces were entered, and whether one of them gave up waiting for another.
+/// Notes which pieces were entered, with one bit for each shard below 64, and what went wrong.
 #[derive(Drop)]
 struct Meeting {
-    entered: [AtomicU64; 4],
+    entered: AtomicU64,
+    entries: AtomicU64,
     gave_up: AtomicU64,
+    too_early: AtomicU64,
 }
 
 impl Meeting {
     fn new() -> Meeting {
         Meeting {
-            entered: [
-                AtomicU64::new(0),
-                AtomicU64::new(0),
-                AtomicU64::new(0),
-                AtomicU64::new(0),
-            ],
+            entered: AtomicU64::new(0),
+            entries: AtomicU64::new(0),
             gave_up: AtomicU64::new(0),
+            too_early: AtomicU64::new(0),
         }
     }
 
     fn enter(&self, shard: u32) {
-        if let Some(count) = self.entered.get(shard as usize) {
-            count.fetch_add(1, Ordering::SeqCst);
-        }
+        self.entered.fetch_or(bit(shard), Ordering::SeqCst);
+        self.entries.fetch_add(1, Ordering::SeqCst);
     }
 
-    /// Turns until the pieces of all shards below `count` were entered, and gives up in the end.
-    fn wait_for(&self, count: u32) {
-        for _ in 0..100_000_000u32 {
-            if (0..count).all(|shard| self.times_entered(shard) > 0) {
+    fn were_entered(&self, shards: u64) -> bool {
+        self.entered.load(Ordering::SeqCst) & shards == shards
+    }
+
+    /// Lets other threads go first until these shards were entered, and gives up in the end.
+    fn wait_for(&self, shards: u64) {
+        for _ in 0..20_000_000u32 {
+            if self.were_entered(shards) {
                 return;
             }
+            thread::yield_now();
         }
         self.gave_up.fetch_add(1, Ordering::SeqCst);
     }
 
-    fn times_entered(&self, shard: u32) -> u64 {
-        match self.entered.get(shard as usize) {
-            Some(count) => count.load(Ordering::SeqCst),
-            None => 0,
+    /// The piece of this shard is worked, which has to be after it was entered.
+    fn work(&self, shard: u32) {
+        if !self.were_entered(bit(shard)) {
+            self.too_early.fetch_add(1, Ordering::SeqCst);
         }
     }
 
-    fn times_given_up(&self) -> u64 {
-        self.gave_up.load(Ordering::SeqCst)
+    /// Whether each of these shards was entered, as many times in all, before its work, and no piece gave up.
+    fn was_held(&self, shards: u64, times: u64) -> bool {
+        self.entered.load(Ordering::SeqCst) == shards
+            && self.entries.load(Ordering::SeqCst) == times
+            && self.gave_up.load(Ordering::SeqCst) == 0
+            && self.too_early.load(Ordering::SeqCst) == 0
     }
 }
 
-/// A gate at which pieces wait until as many were entered.
+fn bit(shard: u32) -> u64 {
+    1u64.wrapping_shl(shard)
+}
+
+/// A gate at which pieces wait until these shards were entered.
 #[derive(Drop)]
 struct Held {
     meeting: Meeting,
-    count: u32,
+    shards: u64,
     /// The one piece that waits. `None` where each does.
     only: Option<u32>,
 }
@@ -73,7 +85,7 @@ impl Gate for Held {
             None => true,
         };
         if waits {
-            self.meeting.wait_for(self.count);
+            self.meeting.wait_for(self.shards);
         }
     }
 }
@@ -163,40 +175,92 @@ fn results_stand_in_the_order_of_items(rt: HostRuntime) {
     }
 }
 
-static PIECES: [(u32, u64); 4] = [(0, 5), (1, 6), (2, 7), (3, 8)];
+static PIECES: [(u32, u64); 16] = [
+    (0, 5),
+    (1, 6),
+    (2, 7),
+    (3, 8),
+    (4, 9),
+    (5, 10),
+    (6, 11),
+    (7, 12),
+    (8, 13),
+    (9, 14),
+    (10, 15),
+    (11, 16),
+    (12, 17),
+    (13, 18),
+    (14, 19),
+    (15, 20),
+];
 
-/// Whether no piece gave up, and each of so many was entered once.
-fn have_met(meeting: &Meeting, count: u32) -> bool {
-    let mut once = 0u32;
-    for shard in 0..count {
-        once = once.wrapping_add((meeting.times_entered(shard) == 1) as u32);
-    }
-    once == count && meeting.times_given_up() == 0
+/// So many workers at the first so many pieces, which wait for one another at a gate.
+#[derive(Clone, Copy)]
+struct Waiting {
+    workers: usize,
+    pieces: usize,
+    /// A bit for each of these pieces.
+    shards: u64,
+    only: Option<u32>,
 }
 
-/// Two workers, and pieces that wait for one another at a gate.
-fn check_meeting<R: Abort + Threads + Wait + Sync>(
-    rt: &R,
-    alloc: Global,
-    pieces: &[(u32, u64)],
-    only: Option<u32>,
-) {
-    assert!(rt; pieces.len() <= 4);
+/// Each piece waits for all of them, so there have to be as many workers at once.
+static ALL_AT_ONCE: [Waiting; 3] = [
+    Waiting {
+        workers: 2,
+        pieces: 2,
+        shards: 0b11,
+        only: None,
+    },
+    Waiting {
+        workers: 4,
+        pieces: 4,
+        shards: 0b1111,
+        only: None,
+    },
+    Waiting {
+        workers: 16,
+        pieces: 16,
+        shards: 0xffff,
+        only: None,
+    },
+];
+
+/// Two workers, of whom one is held up with this piece until the other has entered the other three.
+fn one_held_up(shard: u32) -> Waiting {
+    Waiting {
+        workers: 2,
+        pieces: 4,
+        shards: 0b1111,
+        only: Some(shard),
+    }
+}
+
+fn check_waiting<R: Abort + Threads + Wait + Sync>(rt: &R, alloc: Global, case: &Waiting) {
+    assert!(rt; 0 < case.workers && case.pieces <= 16);
+    let pieces = &PIECES[..case.pieces];
     let gate = Held {
         meeting: Meeting::new(),
-        count: pieces.len() as u32,
-        only,
+        shards: case.shards,
+        only: case.only,
     };
     let items = Vec::from_slice(alloc, pieces).expect(rt, "memory");
-    let ready = Crew::ready::<u64, u64>(alloc, pieces.len(), 2).expect(rt, "memory");
-    let made = ready.run(rt, items, &|_, piece: u64| piece, &gate);
+    let ready = Crew::ready::<u64, u64>(alloc, case.pieces, case.workers).expect(rt, "memory");
+    let work = |shard: u32, piece: u64| {
+        gate.meeting.work(shard);
+        piece
+    };
+    let made = ready.run(rt, items, &work, &gate);
     assert!(rt; made.as_slice() == pieces);
-    assert!(rt; have_met(&gate.meeting, gate.count));
+    assert!(rt; gate.meeting.was_held(case.shards, case.pieces as u64));
 }
 
+/// Sixteen workers are really sixteen: with one less the last piece would not be entered.
 #[test]
 fn workers_run_at_once(rt: HostRuntime) {
-    check_meeting(&rt, rt.alloc(), &PIECES[..2], None);
+    for case in &ALL_AT_ONCE {
+        check_waiting(&rt, rt.alloc(), case);
+    }
 }
 
 /// Whichever piece holds its worker up, the other worker works the other three. With fixed shares one of these would
@@ -204,7 +268,7 @@ fn workers_run_at_once(rt: HostRuntime) {
 #[test]
 fn pieces_are_not_shared_out_beforehand(rt: HostRuntime) {
     for shard in 0..4 {
-        check_meeting(&rt, rt.alloc(), PIECES.as_slice(), Some(shard));
+        check_waiting(&rt, rt.alloc(), &one_held_up(shard));
     }
 }
 
