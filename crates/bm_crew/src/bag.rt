@@ -23,8 +23,8 @@ pub struct Bag<T> {
 
 /// The right of one thread at a time to call a bag. It cannot be copied.
 ///
-/// For proofs it notes which pieces were put, as far as it was told, and which were taken through it. The caller's pass
-/// is the one that puts pieces and that the other passes are joined into.
+/// For proofs it notes which pieces were put, as far as it was told, which were taken through it, and how often the bag
+/// was found empty. The caller's pass is the one that puts pieces and that the other passes are joined into.
 #[derive(Drop)]
 pub struct BagPass<T> {
     pass: Pass<(usize, T), PassView<T>>,

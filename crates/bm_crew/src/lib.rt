@@ -3,9 +3,9 @@
 //! [`Crew::ready`] takes all memory, [`Ready::run`] then works every item and refuses nothing: one result for each
 //! item, in the order of items, whatever the threads do and however few of them can be started.
 //!
-//! Pieces lie in a [`Bag`], and a free worker takes the next one, so no worker waits while a piece lies there. Each
-//! worker has a [`BagPass`]: the right to take from the bag, and a note for proofs of what was put and taken through
-//! it. The rule of a bag (`specs/Rule.antt`) is that what lies in it and what was taken through all passes is what was
+//! Pieces lie in a [`Bag`], and a free worker takes the next one, so no worker waits while a piece lies there. It goes on
+//! until it finds the bag empty. Each worker has a [`BagPass`]: the right to take from the bag, and a note for proofs of
+//! what was put and taken through it, and of how often the bag was found empty. The rule of a bag (`specs/Rule.antt`) is that what lies in it and what was taken through all passes is what was
 //! put, in some order. Each call keeps the rule, so when every pass was joined into the caller's and the bag is empty,
 //! the caller's pass has taken just what was put.
 //!

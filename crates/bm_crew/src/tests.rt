@@ -39,7 +39,7 @@ impl Meeting {
 
     /// Lets other threads go first until these shards were entered, and gives up in the end.
     fn wait_for(&self, shards: u64) {
-        for _ in 0..20_000_000u32 {
+        for _ in 0..3_000_000u32 {
             if self.were_entered(shards) {
                 return;
             }
