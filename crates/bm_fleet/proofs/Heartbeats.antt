@@ -8,7 +8,6 @@ use Rattle.bm_base.specs.State.{Cluster, Holdings}
 use Rattle.bm_base.specs.Events.{change_cluster, change_holdings}
 use Rattle.bm_base.specs.Refusals.{first_of, cluster_checks}
 use Rattle.bm_base.specs.Lawful.{IsLawfulCluster}
-use Rattle.bm_parts.specs.Parts.{change_part}
 use Rattle.bm_parts.proofs.Leveling.{heartbeat_leaves_levels}
 use Rattle.bm_parts.proofs.WellPlaced.{event_keeps_placed}
 use Rattle.bm_shard.specs.Seen.{Seen}
@@ -17,7 +16,7 @@ use Rattle.bm_fleet.specs.Whole.{Whole, EachStandsIn, StandsIn}
 
 module _ (C : Cluster) (n : ℕ) (rs : List Remaining) (lawful : IsLawfulCluster C) (fine : first_of (cluster_checks C (Heartbeat n rs)) ≡ None) where
   one_stands : (S : Seen) → shard.StandsIn C S → shard.StandsIn (change_cluster C (Heartbeat n rs)) S
-  unfolding change_cluster change_part
+  unfolding change_cluster change_holdings
   one_stands S h = record {
     levels = λ b. h.levels b ∙ sym (heartbeat_leaves_levels C rs S.holdings b);
     placed = event_keeps_placed C S.holdings (Heartbeat n rs) 0 1 lawful fine h.placed;

@@ -74,8 +74,8 @@ struct EventRoom {
 
 fn event_room(alloc: Global, count: usize, workers: usize) -> Result<EventRoom, Refusal>
     requires { 0 < workers }
-    ensures preparing { IfOk result (λ r. r.preparing ≡ count) }
-    ensures committing { IfOk result (λ r. r.committing ≡ count) }
+    ensures preparing { IfOk result (λ r. r.preparing.room ≡ count) }
+    ensures committing { IfOk result (λ r. r.committing.room ≡ count) }
     ensures prepared { IfOk result (λ r. (r.prepared.items ≡ []) × (count ≤ vec_capacity r.prepared)) }
     ensures aborted { IfOk result (λ r. (r.aborted.items ≡ []) × (count ≤ vec_capacity r.aborted)) }
     ensures committed { IfOk result (λ r. (r.committed.items ≡ []) × (count ≤ vec_capacity r.committed)) }
@@ -159,7 +159,7 @@ fn prepare_or_abort<R: Threads + Wait + Sync, G: Gate + Sync>(
     event: &Event,
     topology: &Topology,
 ) -> (Vec<(u32, Shard)>, Result<(), Refusal>)
-    requires room { vec_len shards ≤ preparing }
+    requires room { vec_len shards ≤ preparing.room }
     requires prepared { (prepared.items ≡ []) × (vec_len shards ≤ vec_capacity prepared) }
     requires aborted { (aborted.items ≡ []) × (vec_len shards ≤ vec_capacity aborted) }
     requires cluster { first_of (cluster_checks topology.now.cluster event.now) ≡ None }
@@ -188,7 +188,7 @@ fn commit_and_gather<R: Threads + Wait + Sync, G: Gate + Sync>(
     topology: &Topology,
     multi: bool,
 ) -> (Vec<(u32, Shard)>, Done)
-    requires room { vec_len shards ≤ committing }
+    requires room { vec_len shards ≤ committing.room }
     requires committed { (committed.items ≡ []) × (vec_len shards ≤ vec_capacity committed) }
     requires cluster { first_of (cluster_checks topology.now.cluster event.now) ≡ None }
     requires every { block_of event.now ≡ None }

@@ -21,7 +21,7 @@ pub(crate) fn find_all<R: Threads + Wait + Sync, G: Gate + Sync>(
     round: u64,
     topology: &Topology,
 ) -> Vec<(u32, Found)>
-    requires room { vec_len shards ≤ ready }
+    requires room { vec_len shards ≤ ready.room }
     requires shards { All (CanFind topology.now.cluster round) shards.items }
     ensures len { vec_len result ≡ vec_len shards }
     ensures each { AllZip (IsFound topology.now.cluster) shards.items result.items }
@@ -46,7 +46,7 @@ pub(crate) fn ready_all<R: Threads + Wait + Sync, G: Gate + Sync>(
     chosen: &Chosen,
     topology: &Topology,
 ) -> Vec<(u32, Prepared)>
-    requires room { vec_len shards ≤ ready }
+    requires room { vec_len shards ≤ ready.room }
     requires shards { All (HasPart topology.now.cluster parts.now) shards.items }
     ensures len { vec_len result ≡ vec_len shards }
     ensures each { AllZip (IsReadied chosen.now) shards.items result.items }
@@ -73,7 +73,7 @@ pub(crate) fn finish_all<R: Threads + Wait + Sync, G: Gate + Sync>(
     chosen: &Chosen,
     topology: &Topology,
 ) -> Vec<(u32, Shard)>
-    requires room { vec_len shards ≤ ready }
+    requires room { vec_len shards ≤ ready.room }
     requires shards { All (CanFinish topology.now.cluster parts.now chosen.now) shards.items }
     ensures len { vec_len result ≡ vec_len shards }
     ensures each { AllZip (IsFinished topology.now.cluster chosen.now) shards.items result.items }

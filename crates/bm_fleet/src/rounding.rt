@@ -82,9 +82,9 @@ struct RoundRoom {
 
 fn round_room(alloc: Global, count: usize, workers: usize) -> Result<RoundRoom, Refusal>
     requires { 0 < workers }
-    ensures finding { IfOk result (λ r. r.finding ≡ count) }
-    ensures readying { IfOk result (λ r. r.readying ≡ count) }
-    ensures finishing { IfOk result (λ r. r.finishing ≡ count) }
+    ensures finding { IfOk result (λ r. r.finding.room ≡ count) }
+    ensures readying { IfOk result (λ r. r.readying.room ≡ count) }
+    ensures finishing { IfOk result (λ r. r.finishing.room ≡ count) }
     ensures found { IfOk result (λ r. (r.found.items ≡ []) × (count ≤ vec_capacity r.found)) }
     ensures parts { IfOk result (λ r. (r.parts.items ≡ []) × (count ≤ vec_capacity r.parts)) }
     ensures readied { IfOk result (λ r. (r.readied.items ≡ []) × (count ≤ vec_capacity r.readied)) }
@@ -152,9 +152,9 @@ fn round_of<R: Threads + Wait + Sync, G: Gate + Sync>(
     topology: &Topology,
 ) -> (Vec<(u32, Shard)>, Result<Commands, Refusal>)
     requires counted { last + 1 < 2 ^ 64 }
-    requires finding { vec_len shards ≤ room.finding }
-    requires readying { vec_len shards ≤ room.readying }
-    requires finishing { vec_len shards ≤ room.finishing }
+    requires finding { vec_len shards ≤ room.finding.room }
+    requires readying { vec_len shards ≤ room.readying.room }
+    requires finishing { vec_len shards ≤ room.finishing.room }
     requires found { (room.found.items ≡ []) × (vec_len shards ≤ vec_capacity room.found) }
     requires parts { (room.parts.items ≡ []) × (vec_len shards ≤ vec_capacity room.parts) }
     requires readied { (room.readied.items ≡ []) × (vec_len shards ≤ vec_capacity room.readied) }
@@ -220,7 +220,7 @@ fn parts_of<R: Threads + Wait + Sync, G: Gate + Sync>(
     round: u64,
     topology: &Topology,
 ) -> (Vec<(u32, Shard)>, Result<Vec<RoundPart>, Refusal>)
-    requires room { vec_len shards ≤ finding }
+    requires room { vec_len shards ≤ finding.room }
     requires back { (back.items ≡ []) × (vec_len shards ≤ vec_capacity back) }
     requires parts { (parts.items ≡ []) × (vec_len shards ≤ vec_capacity parts) }
     requires shards { All (CanFind topology.now.cluster round) shards.items }
@@ -277,8 +277,8 @@ fn take_round<R: Threads + Wait + Sync, G: Gate + Sync>(
     chosen: &Chosen,
     topology: &Topology,
 ) -> (Vec<(u32, Shard)>, Result<(), Refusal>)
-    requires readying { vec_len shards ≤ readying }
-    requires finishing { vec_len shards ≤ finishing }
+    requires readying { vec_len shards ≤ readying.room }
+    requires finishing { vec_len shards ≤ finishing.room }
     requires readied { (readied.items ≡ []) × (vec_len shards ≤ vec_capacity readied) }
     requires aborted { (aborted.items ≡ []) × (vec_len shards ≤ vec_capacity aborted) }
     requires parts { All (HasPart topology.now.cluster parts.now) shards.items }

@@ -24,7 +24,7 @@ pub(crate) fn prepare_all<R: Threads + Wait + Sync, G: Gate + Sync>(
     event: &Event,
     topology: &Topology,
 ) -> Vec<(u32, Prepared)>
-    requires room { vec_len shards ≤ ready }
+    requires room { vec_len shards ≤ ready.room }
     requires cluster { first_of (cluster_checks topology.now.cluster event.now) ≡ None }
     requires blocks { All (Accepts event.now) shards.items }
     ensures len { vec_len result ≡ vec_len shards }
@@ -51,7 +51,7 @@ pub(crate) fn commit_all<R: Threads + Wait + Sync, G: Gate + Sync>(
     topology: &Topology,
     multi: bool,
 ) -> Vec<(u32, Committed)>
-    requires room { vec_len shards ≤ ready }
+    requires room { vec_len shards ≤ ready.room }
     requires cluster { first_of (cluster_checks topology.now.cluster event.now) ≡ None }
     requires every { block_of event.now ≡ None }
     requires multi { multi ≡ is_multi_rack (change_cluster topology.now.cluster event.now) }
