@@ -1,28 +1,68 @@
 -- What a manager is made of is a lawful state.
-use Rattle.std.proofs.Common.{◌≡◌, ◌+◌, None, sym, ap, subst, ◌∙◌}
+use Rattle.std.proofs.Common.{◌≡◌, ℕ, ◌+◌, ◌<◌, None, sym, ap, subst, ◌∙◌}
 use Rattle.bm_base.specs.declared.config.Config.{Config}
 use Rattle.bm_base.specs.declared.event.Event.{Event}
 use Rattle.bm_base.specs.State.{Cluster, Holdings, State, limits_of, empty_cluster, empty_holdings}
 use Rattle.bm_base.specs.Events.{change_cluster, change_holdings}
-use Rattle.bm_base.specs.Refusals.{refusal_of}
+use Rattle.bm_base.specs.Refusals.{refusal_of, round_refusal, last_number}
+use Rattle.bm_base.specs.Configuration.{config_refusal}
 use Rattle.bm_base.specs.Calls.{after_event}
 use Rattle.bm_base.specs.Lawful.{IsLawful}
 use Rattle.bm_base.specs.Fitting.{FitsEvent, HasFittingStart}
 use Rattle.bm_base.proofs.First.{first_lawful}
 use Rattle.bm_base.proofs.Accepting.{event_lawful}
-
--- after an accepted event, of which the cluster and the holdings are made one after the other
-pub applied_lawful : (M : State) (e : Event) (C D : Cluster) (G : Holdings) → IsLawful M → FitsEvent e → refusal_of M e ≡ None
-    → C ≡ M.cluster → D ≡ change_cluster C e → G ≡ change_holdings C M.holdings e
-    → IsLawful (record { limits = M.limits; cluster = D; holdings = G; round = M.round; calls = M.calls + 1 })
-unfolding after_event
-applied_lawful M e C D G L fits none same after left =
-    let cluster : change_cluster M.cluster e ≡ D = sym (after ∙ ap (λ X. change_cluster X e) same) in
-    let holdings : change_holdings M.cluster M.holdings e ≡ G = sym (left ∙ ap (λ X. change_holdings X M.holdings e) same) in
-    subst IsLawful (λ i. record { limits = M.limits; cluster = cluster i; holdings = holdings i; round = M.round; calls = M.calls + 1 }) (event_lawful M e L fits none)
+use Rattle.bm_base.proofs.Rounding.{round_lawful}
+use Rattle.bm_fleet.specs.Whole.{Whole, StandsIn, HasTaken}
+use Rattle.bm_fleet.specs.Rounds.{left_by_round}
+use Rattle.bm_manager.specs.Managers.{IsManager, state_of}
+use Rattle.bm_manager.proofs.Rounding.{whole_state}
+use Rattle.bm_manager.proofs.Checks.{round_passed}
 
 -- at the beginning
-pub new_lawful : (c : Config) (C : Cluster) (G : Holdings) → HasFittingStart c → C ≡ empty_cluster → G ≡ empty_holdings
-    → IsLawful (record { limits = limits_of c; cluster = C; holdings = G; round = c.first_round; calls = c.first_call })
-new_lawful c C G fits none nothing =
-    subst IsLawful (λ i. record { limits = limits_of c; cluster = sym none i; holdings = sym nothing i; round = c.first_round; calls = c.first_call }) (first_lawful c fits)
+pub new_manager : (c : Config) (C : Cluster) (F : Whole) → config_refusal c ≡ None → HasFittingStart c → C ≡ empty_cluster → F.holdings ≡ empty_holdings
+    → StandsIn C F → HasTaken c.first_round c.pend F → IsManager c C F c.first_round c.first_call
+new_manager c C F allowed fits none nothing stands taken = record {
+  allowed = allowed;
+  standing = stands;
+  taken = taken;
+  lawful = subst IsLawful (λ i. state_of c (sym none i) (sym nothing i) c.first_round c.first_call) (first_lawful c fits);
+}
+
+module _ (c : Config) (C : Cluster) (F : Whole) (round calls : ℕ) (is : IsManager c C F round calls) where
+  -- where nothing that is seen changed: the cluster is the same, and the shards are still up to date
+  pub same_manager : (D : Cluster) (G : Whole) → D ≡ C → G.holdings ≡ F.holdings → StandsIn D G → HasTaken round c.pend G → IsManager c D G round calls
+  same_manager D G same nothing stands taken = record {
+    allowed = is.allowed;
+    standing = stands;
+    taken = taken;
+    lawful = subst IsLawful (λ i. state_of c (sym same i) (sym nothing i) round calls) is.lawful;
+  }
+
+  -- after an accepted event, by which the cluster and the shards were changed one after the other
+  pub changed_manager : (e : Event) (D E : Cluster) (G : Whole) → FitsEvent e → refusal_of (state_of c C F.holdings round calls) e ≡ None
+      → D ≡ C → E ≡ change_cluster D e → G.holdings ≡ change_holdings D F.holdings e → StandsIn (change_cluster D e) G → HasTaken round c.pend G
+      → IsManager c E G round (calls + 1)
+  unfolding after_event
+  changed_manager e D E G fits none same after left stands taken =
+      let M = state_of c C F.holdings round calls in
+      let cluster : change_cluster C e ≡ E = sym (after ∙ ap (λ X. change_cluster X e) same) in
+      let holdings : change_holdings C F.holdings e ≡ G.holdings = sym (left ∙ ap (λ X. change_holdings X F.holdings e) same) in
+      record {
+        allowed = is.allowed;
+        standing = subst (λ X. StandsIn X G) (sym after) stands;
+        taken = taken;
+        lawful = subst IsLawful (λ i. state_of c (cluster i) (holdings i) round (calls + 1)) (event_lawful M e is.lawful fits none);
+      }
+
+  -- after a round
+  pub next_manager : (G : Whole) → round < last_number → calls < last_number
+      → G.holdings ≡ left_by_round (limits_of c) C (round + 1) F.holdings → StandsIn C G → HasTaken (round + 1) c.pend G
+      → IsManager c C G (round + 1) (calls + 1)
+  next_manager G rounds_left calls_left left stands taken =
+      let M = state_of c C F.holdings round calls in
+      record {
+        allowed = is.allowed;
+        standing = stands;
+        taken = taken;
+        lawful = subst IsLawful (sym (whole_state M G.holdings left)) (round_lawful M is.lawful (round_passed M rounds_left calls_left));
+      }

@@ -30,7 +30,7 @@ impl Manager {
         ensures replicas { IfOk result (λ v. v ≡ queries.all_replicas self.now.holdings) }
         ensures refused { IfErr result (λ e. e ≡ Memory) }
     {
-        Ok(self.holdings.all_replicas(self.alloc)?)
+        self.fleet.replicas()
     }
 
     /// The stale and bad replicas, by block and storage. `Memory`.
@@ -38,7 +38,7 @@ impl Manager {
         ensures corrupt { IfOk result (λ v. v ≡ queries.corrupt_replicas self.now.holdings) }
         ensures refused { IfErr result (λ e. e ≡ Memory) }
     {
-        Ok(self.holdings.corrupt_replicas(self.alloc)?)
+        self.fleet.corrupt()
     }
 
     /// The replicas in excess, by block and storage. `Memory`.
@@ -46,7 +46,7 @@ impl Manager {
         ensures excess { IfOk result (λ v. v ≡ queries.excess_replicas self.now.holdings) }
         ensures refused { IfErr result (λ e. e ≡ Memory) }
     {
-        Ok(self.holdings.excess_replicas(self.alloc)?)
+        self.fleet.excess()
     }
 
     /// The blocks of all replicas on a storage, whatever their tags, rising. `UnknownStorage`; `Memory`.
@@ -59,7 +59,7 @@ impl Manager {
         if !knows_storage(&self.topology, storage) {
             return Err(Refusal::UnknownStorage);
         }
-        Ok(self.holdings.blocks_on(self.alloc, storage)?)
+        self.fleet.blocks_on(storage)
     }
 
     /// The known blocks of which no replica is usable, rising. `Memory`.
@@ -67,25 +67,21 @@ impl Manager {
         ensures missing { IfOk result (λ v. v ≡ queries.missing_blocks self.now.cluster self.now.holdings) }
         ensures refused { IfErr result (λ e. e ≡ Memory) }
     {
-        Ok(self.holdings.missing_blocks(self.alloc, &self.topology)?)
+        self.fleet.missing()
     }
 
     /// The storages of the block's good replicas, in excess or not, rising. `UnknownBlock`; `Memory`.
-    #[tactic(auto, unfolding(bm_base::specs::Refusals::block_refusal))]
     pub fn places(&self, id: BlockId) -> Result<Items<StorageId>, Refusal>
         ensures known { OnOk result (block_refusal self.now.holdings id ≡ None) }
         ensures places { IfOk result (λ v. v ≡ queries.places self.now.holdings id) }
         ensures refused { IfErr result (Refuses (block_refusal self.now.holdings id) true) }
     {
-        if !self.holdings.knows_block(id) {
-            return Err(Refusal::UnknownBlock);
-        }
-        Ok(self.holdings.places(self.alloc, id)?)
+        self.fleet.places(id)
     }
 
     /// Whether a node can be taken away: it drains, and each block with a drained replica on it has as many live ones as are
     /// wanted. `UnknownNode`. Takes no memory.
-    #[tactic(auto, unfolding(bm_base::specs::Refusals::node_refusal, bm_base::specs::Queries::is_retired))]
+    #[tactic(auto, unfolding(bm_base::specs::Refusals::node_refusal, bm_base::specs::Queries::is_retired, bm_parts::specs::QueryLaws::holds_back))]
     pub fn retired(&self, node: NodeId) -> Result<bool, Refusal>
         ensures known { OnOk result (node_refusal self.now.cluster node ≡ None) }
         ensures retired { IfOk result (λ b. b ≡ queries.is_retired self.now.cluster self.now.holdings node) }
@@ -93,21 +89,17 @@ impl Manager {
     {
         match self.topology.node_drains(node) {
             None => Err(Refusal::UnknownNode),
-            Some(drains) => Ok(drains && !self.holdings.is_held_back(&self.topology, node)),
+            Some(drains) => Ok(drains && !self.fleet.holds_back(node, &self.topology)),
         }
     }
 
     /// How urgently the block wants replicas; `None` where it wants none. `UnknownBlock`. Takes no memory.
-    #[tactic(auto, unfolding(bm_base::specs::Refusals::block_refusal))]
     pub fn level(&self, id: BlockId) -> Result<Option<Level>, Refusal>
         ensures known { OnOk result (block_refusal self.now.holdings id ≡ None) }
         ensures level { IfOk result (λ l. l ≡ levels.level self.now.cluster self.now.holdings id) }
         ensures refused { IfErr result (Refuses (block_refusal self.now.holdings id) false) }
     {
-        if !self.holdings.knows_block(id) {
-            return Err(Refusal::UnknownBlock);
-        }
-        Ok(self.holdings.level(&self.topology, id))
+        self.fleet.level(id)
     }
 }
 

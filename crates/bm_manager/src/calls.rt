@@ -6,21 +6,29 @@ ghost use Rattle.bm_base.specs.Lawful.{IsLawful};
 
 use crate::manager::Manager;
 use bm_base::{Answer, Call, Items};
+use bm_crew::Gate;
 use std::alloc::AllocError;
+use std::sync::Wait;
+use std::thread::Threads;
 
 impl Manager {
     /// Makes one call. Its answer is the definition's, or, where the definition refuses nothing and the call is one that
     /// takes memory, `Memory`; a call refused for want of memory leaves the state as it was.
-    pub fn answer(&mut self, call: &Call) -> Answer
+    pub fn answer<R: Threads + Wait + Sync, G: Gate + Sync>(
+        &mut self,
+        rt: &R,
+        gate: &G,
+        call: &Call,
+    ) -> Answer
         ensures answer { MayAnswer step self.old call.now result }
         ensures state { self.new ≡ state_left step self.old call.now result }
     {
         match call {
-            Call::Apply(event) => match self.apply(event) {
+            Call::Apply(event) => match self.apply(rt, gate, event) {
                 Ok(done) => Answer::Done(done),
                 Err(refusal) => Answer::Refused(refusal),
             },
-            Call::Round => match self.round() {
+            Call::Round => match self.round(rt, gate) {
                 Ok(commands) => Answer::Commanded(commands),
                 Err(refusal) => Answer::Refused(refusal),
             },
@@ -64,7 +72,12 @@ impl Manager {
     /// Makes the calls one after another, and gives the answer of each: a run of the definition, in which a call that was
     /// refused for want of memory is passed over. An `Err` comes before the first call, where there is no room for the answers.
     /// Whatever the calls and the answers are, the state that they leave is lawful.
-    pub fn answer_all(&mut self, calls: &[Call]) -> Result<Items<Answer>, AllocError>
+    pub fn answer_all<R: Threads + Wait + Sync, G: Gate + Sync>(
+        &mut self,
+        rt: &R,
+        gate: &G,
+        calls: &[Call],
+    ) -> Result<Items<Answer>, AllocError>
         ensures answers { IfOk result (λ answers. MayAnswerAll step self.old calls.now answers) }
         ensures state { IfOk result (λ answers. self.new ≡ state_left_by step self.old calls.now answers) }
         ensures unchanged { OnErr result (self.new ≡ self.old) }
@@ -73,7 +86,7 @@ impl Manager {
         self.lawful();
         let mut answers = Vec::with_capacity(self.alloc, calls.len())?;
         for call in calls {
-            let answer = self.answer(call);
+            let answer = self.answer(rt, gate, call);
             let _ = answers.push(answer);
         }
         self.lawful();

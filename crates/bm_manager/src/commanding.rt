@@ -1,19 +1,17 @@
 // The manager's rounds.
 ghost use Rattle.std.specs.Prelude.{◌≡◌, ◌<◌, true, None, IfOk, IfErr, OnOk, OnErr};
 ghost use Rattle.bm_base.specs.declared.refusal.Refusal.TheVariants.{Memory};
-ghost use Rattle.bm_base.specs.Transfers.{transfers};
-ghost use Rattle.bm_base.specs.Deletes.{deletes};
 ghost use Rattle.bm_base.specs.Rounds.{whole_round};
 ghost use Rattle.bm_base.specs.Sparing.{SparesLastGood, KeepsEnoughLive};
-ghost use Rattle.bm_base.specs.RoundParts.{round_part, started_holdings};
 ghost use Rattle.bm_base.specs.Refusals.{round_refusal, last_number};
 ghost use Rattle.bm_base.specs.Calls.{counted};
 ghost use Rattle.bm_base.specs.Answering.{checked, Refuses};
 
 use crate::manager::Manager;
-use bm_base::{Chosen, Commands, Refusal, RoundPart};
-use bm_round::{choose, commands};
-use plain_holdings::RoundStart;
+use bm_base::{Commands, Refusal};
+use bm_crew::Gate;
+use std::sync::Wait;
+use std::thread::Threads;
 
 impl Manager {
     /// Takes one round: the round number grows by one, transfers that are too old are given up, and the live replicas that are
@@ -25,7 +23,13 @@ impl Manager {
     /// No round commands the delete of a known block's last good replica. Where a round commands the delete of a replica of a known
     /// block, as many replicas of the block as are wanted, one at least, are live after the round, and the delete of none of them is
     /// commanded.
-    pub fn round(&mut self) -> Result<Commands, Refusal>
+    ///
+    /// A round is worked by the crew, so the call may wait for other threads. All memory is taken before the first change.
+    pub fn round<R: Threads + Wait + Sync, G: Gate + Sync>(
+        &mut self,
+        rt: &R,
+        gate: &G,
+    ) -> Result<Commands, Refusal>
         ensures accepted { OnOk result (round_refusal self.old ≡ None) }
         ensures commands { IfOk result (λ k. k ≡ (whole_round self.old).0) }
         ensures state { OnOk result (self.new ≡ counted (whole_round self.old).1) }
@@ -36,7 +40,7 @@ impl Manager {
     {
         self.lawful();
         self.check_round()?;
-        self.next_round()
+        self.next_round(rt, gate)
     }
 
     /// The first refusal of a round.
@@ -55,8 +59,12 @@ impl Manager {
         Ok(())
     }
 
-    /// All that may want memory comes before the first change: the round works on a copy.
-    fn next_round(&mut self) -> Result<Commands, Refusal>
+    /// The round of all shards, which then counts.
+    fn next_round<R: Threads + Wait + Sync, G: Gate + Sync>(
+        &mut self,
+        rt: &R,
+        gate: &G,
+    ) -> Result<Commands, Refusal>
         requires round { self.old.round < last_number }
         requires calls { self.old.calls < last_number }
         ensures commands { IfOk result (λ k. k ≡ (whole_round self.old).0) }
@@ -64,33 +72,11 @@ impl Manager {
         ensures refused { IfErr result (λ e. e ≡ Memory) }
         ensures unchanged { OnErr result (self.new ≡ self.old) }
     {
-        let round = self.round + 1;
-        let start = self
-            .holdings
-            .begin_round(self.alloc, &self.topology, &self.config, round)?;
-        let RoundStart { mut holdings, part } = start;
-        let chosen = self.chosen_of(round, part)?;
-        let commands = commands(self.alloc, round, &chosen, &self.topology)?;
-        holdings.finish_round(
-            round,
-            chosen.transfers.as_slice(),
-            chosen.deletes.as_slice(),
-        )?;
-        self.holdings = holdings;
-        self.round = round;
+        let commands = self
+            .fleet
+            .round(rt, gate, &self.config, self.round, &self.topology)?;
+        self.round += 1;
         self.calls += 1;
         Ok(commands)
-    }
-
-    /// What is chosen of what was found: the one part is all there is.
-    fn chosen_of(&self, round: u64, part: RoundPart) -> Result<Chosen, Refusal>
-        requires { part ≡ round_part self.now.cluster self.now.limits.pend round self.now.holdings }
-        ensures transfers { IfOk result (λ c. c.transfers ≡ transfers self.now.limits self.now.cluster (started_holdings self.now.cluster self.now.limits.pend round self.now.holdings)) }
-        ensures deletes { IfOk result (λ c. c.deletes ≡ deletes self.now.limits self.now.cluster (started_holdings self.now.cluster self.now.limits.pend round self.now.holdings)) }
-        ensures refused { IfErr result (λ e. e ≡ Memory) }
-    {
-        let mut parts = Vec::new(self.alloc);
-        parts.push(part)?;
-        choose(self.alloc, parts.as_slice(), &self.topology, &self.config)
     }
 }

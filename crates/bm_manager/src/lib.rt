@@ -1,11 +1,13 @@
 //! The block manager: takes events and answers queries by the definitions of `bm_base`.
 #![tactic(auto)]
 
+mod alike;
 mod asking;
 mod calls;
 mod commanding;
 mod manager;
 
+pub use alike::answers_alike;
 pub use manager::Manager;
 
 #[cfg(test)]

@@ -1,85 +1,75 @@
 // The manager: one call after another.
-ghost use Rattle.std.specs.Prelude.{◌≡◌, ◌<◌, true, false, None, IfOk, IfErr, IsOk, OnOk, OnErr};
+ghost use Rattle.std.specs.Prelude.{◌≡◌, ◌<◌, true, None, IfOk, IfErr, OnOk, OnErr};
 ghost use Rattle.bm_base.specs.State.{first_state};
-ghost use Rattle.bm_base.specs.Refusals.{refusal_of, first_of, cluster_checks, last_number};
+ghost use Rattle.bm_base.specs.Refusals.{refusal_of, first_of, cluster_checks, block_checks, last_number};
 ghost use Rattle.bm_base.specs.Configuration.{config_refusal};
 ghost use Rattle.bm_base.specs.Calls.{done_by, after_event};
 ghost use Rattle.bm_base.specs.Lawful.{IsLawful};
 ghost use Rattle.bm_base.specs.Answering.{checked, Refuses, takes_memory};
-ghost use Rattle.bm_manager.specs.Growth.{needs_memory};
 
 use bm_base::{Config, Done, Event, Refusal};
+use bm_crew::Gate;
+use bm_fleet::Fleet;
 use bm_topo::Topology;
-use plain_holdings::Holdings;
 use std::alloc::Global;
 use std::marker::Model;
+use std::sync::Wait;
+use std::thread::Threads;
 
 /// Knows on which storages every block lies, and decides about replication for a cluster.
 ///
 /// A contract sees it as the state of the definitions: the limits of its configuration, the cluster, the blocks and their
-/// replicas, the round and the number of accepted calls.
+/// replicas, the round and the number of accepted calls. The blocks are cut into shards, and a call that concerns all of them is
+/// worked by a crew of threads; neither shows in an answer.
 ///
 /// ```text
 /// let mut manager = Manager::new(alloc, Config::standard())?;
-/// manager.apply(&Event::AddBlock { id: BlockId(7), stamp, repl: 2 })?;
-/// manager.apply(&Event::Received { storage: StorageId(11), id: BlockId(7), stamp })?;
+/// manager.apply(&rt, &NoGate, &Event::AddBlock { id: BlockId(7), stamp, repl: 2 })?;
+/// manager.apply(&rt, &NoGate, &Event::Received { storage: StorageId(11), id: BlockId(7), stamp })?;
 /// let storages = manager.places(BlockId(7))?;
-/// let commands = manager.round()?;
+/// let commands = manager.round(&rt, &NoGate)?;
 /// ```
 ///
-/// A refused call has changed nothing; after `Err(Memory)` the same call may be made again.
+/// A refused call has changed nothing; after `Err(Memory)` the same call may be made again. The work of each shard in a call
+/// passes the gate that the call is given; `NoGate` lets it through at once.
 #[derive(Drop)]
 pub struct Manager {
     pub(crate) alloc: Global,
     pub(crate) config: Config,
     pub(crate) topology: Topology,
-    pub(crate) holdings: Holdings,
+    pub(crate) fleet: Fleet,
     pub(crate) round: u64,
     pub(crate) calls: u64,
 }
 
 impl Model for Manager {
-    ghost use Rattle.bm_base.specs.State.{State, limits_of};
+    ghost use Rattle.bm_base.specs.State.{State};
     ghost use Rattle.bm_base.specs.Codes.{coded_state};
+    ghost use Rattle.bm_manager.specs.Managers.{state_of, IsManager};
 
     ghost Value = { State };
 
     ghost coded = { coded_state };
 
-    ghost view = { λ m. record {
-      limits = limits_of m.config;
-      cluster = m.topology.cluster;
-      holdings = m.holdings;
-      round = m.round;
-      calls = m.calls;
-    } };
+    ghost view = { λ m. state_of m.config m.topology.cluster m.fleet.holdings m.round m.calls };
 
-    ghost use Rattle.bm_base.specs.Lawful.{IsLawful};
-
-    ghost invariant = { λ m. IsLawful (record {
-      limits = limits_of m.config;
-      cluster = m.topology.cluster;
-      holdings = m.holdings;
-      round = m.round;
-      calls = m.calls;
-    }) };
+    ghost invariant = { λ m. IsManager m.config m.topology.cluster m.fleet m.round m.calls };
 }
 
 impl Manager {
     /// An empty manager: no node, no block, and the numbers of the configuration. `BadConfig` where the configuration is
-    /// outside its ranges. Takes no memory yet, so it succeeds with any other.
+    /// outside its ranges; `Memory`.
     pub fn new(alloc: Global, config: Config) -> Result<Manager, Refusal>
         ensures allowed { OnOk result (config_refusal config ≡ None) }
         ensures state { IfOk result (λ m. m ≡ first_state config) }
         ensures refused { IfErr result (Refuses (config_refusal config) true) }
-        ensures succeeds { config_refusal config ≡ None → IsOk result }
     {
         config.check()?;
         Ok(Manager {
             alloc,
             config,
             topology: Topology::new(alloc)?,
-            holdings: Holdings::new(alloc),
+            fleet: Fleet::new(alloc, &config)?,
             round: config.first_round,
             calls: config.first_call,
         })
@@ -87,24 +77,42 @@ impl Manager {
 
     /// Takes one event. The refusals are those of its variant in their order, then `CallsSpent` where the number of accepted
     /// calls is at its last value, then `Memory`; a refused event changes nothing. Heartbeat, DeleteBlock, SetReplication,
-    /// Restamp, Deleted and Corrupt take no memory, and Dead, StorageFailed and Undrain take none so far, so they are accepted where
-    /// no check refuses them.
+    /// Restamp, Deleted and Corrupt take no memory, so they are accepted where no check refuses them.
+    ///
+    /// Register, Dead, StorageFailed, FullReport, Drain and Undrain are worked by the crew, as rounds are, so these calls may
+    /// wait for other threads; AddBlock and Received touch one shard. All memory is taken before the first change.
     #[tactic(auto, unfolding(bm_base::specs::Calls::after_event, bm_base::specs::Calls::done_by))]
-    pub fn apply(&mut self, event: &Event) -> Result<Done, Refusal>
+    pub fn apply<R: Threads + Wait + Sync, G: Gate + Sync>(
+        &mut self,
+        rt: &R,
+        gate: &G,
+        event: &Event,
+    ) -> Result<Done, Refusal>
         ensures accepted { OnOk result (refusal_of self.old event.now ≡ None) }
         ensures done { IfOk result (λ d. d ≡ done_by self.old event.now) }
         ensures state { OnOk result (self.new ≡ after_event self.old event.now) }
         ensures refused { IfErr result (Refuses (refusal_of self.old event.now) (takes_memory event.now)) }
-        ensures without_memory { refusal_of self.old event.now ≡ None → needs_memory event.now ≡ false → IsOk result }
         ensures unchanged { OnErr result (self.new ≡ self.old) }
     {
         self.check(event)?;
         event.fits();
+        let workers = self.config.workers as usize;
+        let multi = self.topology.multi_after(event);
         self.topology.prepare(event)?;
-        let done = self.holdings.change(&self.topology, event)?;
-        self.topology.commit(event);
-        self.calls += 1;
-        Ok(done)
+        match self
+            .fleet
+            .change(rt, gate, workers, event, &self.topology, multi)
+        {
+            Ok(done) => {
+                self.topology.commit(event);
+                self.calls += 1;
+                Ok(done)
+            }
+            Err(refusal) => {
+                self.topology.abort();
+                Err(refusal)
+            }
+        }
     }
 
     /// Does nothing when it runs: the state is lawful at all times, and this says so to the function that calls it.
@@ -125,9 +133,10 @@ impl Manager {
         ensures refusal { result ≡ checked (refusal_of self.now event.now) }
         ensures room { OnOk result (self.now.calls < last_number) }
         ensures cluster { OnOk result (first_of (cluster_checks self.now.cluster event.now) ≡ None) }
+        ensures blocks { OnOk result (first_of (block_checks self.now.holdings event.now) ≡ None) }
     {
         self.topology.check(event)?;
-        self.holdings.check(event)?;
+        self.fleet.check(event)?;
         if self.calls == u64::MAX {
             return Err(Refusal::CallsSpent);
         }

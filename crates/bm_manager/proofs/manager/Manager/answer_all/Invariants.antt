@@ -6,7 +6,7 @@ use Rattle.bm_manager.proofs.manager.Manager.answer_all.Given as goal
 
 -- the answers so far, and any that the calls left may give, are answers that all the calls may give, and leave what they leave
 abbrev pub invariant-loop-call : goal.invariant-loop-call
-invariant-loop-call l =
+invariant-loop-call g l =
     record {
       may : (rest : List Answer) → MayAnswerAll step l.self (drop l.call-index l.calls) rest → MayAnswerAll step l.fn.self l.calls (l.answers.items ++ rest);
       state : (rest : List Answer) → MayAnswerAll step l.self (drop l.call-index l.calls) rest → state_left_by step l.self (drop l.call-index l.calls) rest ≡ state_left_by step l.fn.self l.calls (l.answers.items ++ rest);

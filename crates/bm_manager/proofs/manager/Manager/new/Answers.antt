@@ -1,7 +1,11 @@
-use Rattle.std.proofs.Common.{arith}
-use Rattle.bm_manager.proofs.Lawfulness.{new_lawful}
+use Rattle.std.proofs.Common.{sym, ◌∙◌, arith}
+use Rattle.bm_manager.proofs.Checks.{nothing_refused}
+use Rattle.bm_manager.proofs.Lawfulness.{new_manager}
 use Rattle.bm_manager.proofs.manager.Manager.new.Goals as goal
 
 pub invariant_of-result : goal.invariant_of-result
 invariant_of-result c =
-    new_lawful c.args.config c.in_ok-new.field-0.cluster c.new-2.result (omega arith, omega arith) c.in_ok-new.ensures.empty c.new-2.ensures
+    let C = c.in_ok-new.field-0.cluster in
+    let allowed = nothing_refused _ _ (sym c.check.ensures ∙ c.in_ok-check.was) in
+    new_manager c.args.config C c.in_ok-new-2.field-0 allowed (omega arith, omega arith) c.in_ok-new.ensures.empty c.in_ok-new-2.ensures.empty
+    (c.in_ok-new-2.ensures.standing C) c.in_ok-new-2.ensures.rounds

@@ -1,0 +1,19 @@
+-- What holds of the parts of a manager: its configuration, its cluster, its shards and its two numbers.
+use Rattle.std.specs.Prelude.{◌≡◌, ℕ, None}
+use Rattle.bm_base.specs.declared.config.Config.{Config}
+use Rattle.bm_base.specs.State.{Cluster, Holdings, State, limits_of}
+use Rattle.bm_base.specs.Configuration.{config_refusal}
+use Rattle.bm_base.specs.Lawful.{IsLawful}
+use Rattle.bm_fleet.specs.Whole.{Whole, StandsIn, HasTaken}
+
+-- the state that they are
+abbrev pub state_of : Config → Cluster → Holdings → ℕ → ℕ → State
+state_of c C H round calls = record { limits = limits_of c; cluster = C; holdings = H; round = round; calls = calls }
+
+pub record IsManager (c : Config) (C : Cluster) (F : Whole) (round calls : ℕ) : Type 0 where
+  -- the configuration is within its ranges, so there is a worker
+  pub allowed : config_refusal c ≡ None
+  -- each shard is up to date in the cluster, and has taken the rounds
+  pub standing : StandsIn C F
+  pub taken : HasTaken round c.pend F
+  pub lawful : IsLawful (state_of c C F.holdings round calls)
