@@ -2,9 +2,9 @@
 use Rattle.std.proofs.Common.{◌≡◌, ℕ, ◌+◌, ◌<◌, None, sym, ap, subst, ◌∙◌}
 use Rattle.bm_base.specs.declared.config.Config.{Config}
 use Rattle.bm_base.specs.declared.event.Event.{Event}
-use Rattle.bm_base.specs.State.{Cluster, Holdings, State, limits_of, empty_cluster, empty_holdings}
+use Rattle.bm_base.specs.State.{Cluster, limits_of, empty_cluster, empty_holdings}
 use Rattle.bm_base.specs.Events.{change_cluster, change_holdings}
-use Rattle.bm_base.specs.Refusals.{refusal_of, round_refusal, last_number}
+use Rattle.bm_base.specs.Refusals.{refusal_of, last_number}
 use Rattle.bm_base.specs.Configuration.{config_refusal}
 use Rattle.bm_base.specs.Calls.{after_event}
 use Rattle.bm_base.specs.Lawful.{IsLawful}

@@ -1,10 +1,8 @@
 -- Any two lists of answers that a list of calls may give are alike.
-use Rattle.std.proofs.Common.{◌≡◌, Bool, true, false, List, [], ◌∷◌, refl, sym, ap, subst, ◌∙◌, inl, inr, ⊎_elim}
-use Rattle.std.specs.Prelude.{◌||◌, IsTrue, ◌⊎◌, if◌then◌else◌}
-use Rattle.bm_base.specs.declared.refusal.Refusal.TheVariants.{Memory}
+use Rattle.std.proofs.Common.{◌≡◌, Bool, true, false, List, [], ◌∷◌, refl, sym, ap, subst, ◌∙◌, inl, inr}
+use Rattle.std.specs.Prelude.{◌||◌, if◌then◌else◌}
 use Rattle.bm_base.specs.declared.call.Call.{Call}
 use Rattle.bm_base.specs.declared.call.Answer.{Answer}
-use Rattle.bm_base.specs.declared.call.Answer.TheVariants as answer
 use Rattle.bm_base.specs.State.{State}
 use Rattle.bm_base.specs.Answering.{MayAnswer, MayAnswerAll, state_left, wants_memory}
 use Rattle.bm_manager.specs.Alike.{AreAlike}
