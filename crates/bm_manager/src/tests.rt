@@ -3,8 +3,8 @@
 
 use crate::{Manager, answers_alike};
 use bm_base::{
-    Answer, BlockId, Call, Commands, Config, Entry, Event, Gen, Items, NodeId, Rack, Refusal,
-    Remaining, Stamp, StorageId,
+    Answer, BlockId, Call, Commands, Config, Delete, Entry, Event, Gen, Items, NodeId, Rack,
+    Refusal, Remaining, Stamp, StorageId, Transfer,
 };
 use bm_crew::{Gate, NoGate};
 use std::alloc::{AllocError, Global};
@@ -107,6 +107,25 @@ fn call_of(alloc: Global, told: Told<'_>) -> Result<Call, AllocError> {
     Ok(Call::Apply(event))
 }
 
+fn write_transfers(line: &mut String, transfers: &[Transfer]) -> Result<(), AllocError> {
+    for transfer in transfers {
+        let block = transfer.block.0;
+        let source = transfer.source.0;
+        let target = transfer.target.0;
+        write!(line, " copy {block} {source} {target}")?;
+    }
+    Ok(())
+}
+
+fn write_deletes(line: &mut String, deletes: &[Delete]) -> Result<(), AllocError> {
+    for delete in deletes {
+        let block = delete.block.0;
+        let storage = delete.storage.0;
+        write!(line, " delete {storage} {block}")?;
+    }
+    Ok(())
+}
+
 /// A round and what it commands, node by node.
 fn shown_round(alloc: Global, commands: &Commands) -> Result<String, AllocError> {
     let round = commands.round;
@@ -114,17 +133,8 @@ fn shown_round(alloc: Global, commands: &Commands) -> Result<String, AllocError>
     for node in commands.nodes.as_slice() {
         let number = node.node.0;
         write!(line, "; {number}")?;
-        for transfer in node.transfers.as_slice() {
-            let block = transfer.block.0;
-            let source = transfer.source.0;
-            let target = transfer.target.0;
-            write!(line, " copy {block} {source} {target}")?;
-        }
-        for delete in node.deletes.as_slice() {
-            let block = delete.block.0;
-            let storage = delete.storage.0;
-            write!(line, " delete {storage} {block}")?;
-        }
+        write_transfers(&mut line, node.transfers.as_slice())?;
+        write_deletes(&mut line, node.deletes.as_slice())?;
     }
     Ok(line)
 }
@@ -324,38 +334,25 @@ impl Gate for Meeting {
     }
 }
 
-/// Whether the crew works a call: it does where all shards are concerned.
-fn is_crewed(told: Told<'_>) -> bool {
-    matches!(
-        told,
-        Told::Register(..)
-            | Told::Report(..)
-            | Told::Drain(..)
-            | Told::Undrain(..)
-            | Told::Dead(..)
-            | Told::Failed(..)
-            | Told::Round
-    )
-}
-
-static CREWED: [(Told<'static>, &'static str); 17] = [
-    (Told::Register(1, 1, &[11]), "ok 0 0"),
-    (Told::Register(2, 2, &[21]), "ok 0 0"),
-    (Told::Add(4, 2), "ok 0 0"),
-    (Told::Add(5, 2), "ok 0 0"),
-    (Told::Add(6, 2), "ok 0 0"),
-    (Told::Add(7, 2), "ok 0 0"),
-    (Told::Report(11, 4, 7), "ok 4 0"),
-    (Told::Received(21, 5, 1), "ok 1 0"),
-    (Told::Received(21, 6, 1), "ok 1 0"),
-    (Told::Received(21, 7, 1), "ok 1 0"),
-    (Told::Drain(1), "ok 0 0"),
-    (Told::Undrain(1), "ok 0 0"),
-    (Told::Free(2, 21), "ok 0 0"),
-    (Told::Round, "round 1; 1 copy 4 11 21"),
-    (Told::Failed(21), "ok 0 3"),
-    (Told::Dead(1), "ok 0 4"),
-    (Told::Places(4), "places"),
+/// Calls with their answers, and whether the crew works them: it does where all shards are concerned.
+static MET: [(Told<'static>, &'static str, bool); 17] = [
+    (Told::Register(1, 1, &[11]), "ok 0 0", true),
+    (Told::Register(2, 2, &[21]), "ok 0 0", true),
+    (Told::Add(4, 2), "ok 0 0", false),
+    (Told::Add(5, 2), "ok 0 0", false),
+    (Told::Add(6, 2), "ok 0 0", false),
+    (Told::Add(7, 2), "ok 0 0", false),
+    (Told::Report(11, 4, 7), "ok 4 0", true),
+    (Told::Received(21, 5, 1), "ok 1 0", false),
+    (Told::Received(21, 6, 1), "ok 1 0", false),
+    (Told::Received(21, 7, 1), "ok 1 0", false),
+    (Told::Drain(1), "ok 0 0", true),
+    (Told::Undrain(1), "ok 0 0", true),
+    (Told::Free(2, 21), "ok 0 0", false),
+    (Told::Round, "round 1; 1 copy 4 11 21", true),
+    (Told::Failed(21), "ok 0 3", true),
+    (Told::Dead(1), "ok 0 4", true),
+    (Told::Places(4), "places", false),
 ];
 
 /// The answer to a call. Where the crew works it, the shards' pieces meet at a gate.
@@ -378,9 +375,9 @@ fn met_answer<R: Abort + Threads + Wait + Sync>(
 /// As many workers as shards.
 fn check_meetings<R: Abort + Threads + Wait + Sync>(rt: &R, alloc: Global, shards: u32) {
     let mut manager = Manager::new(alloc, config(shards, shards)).expect(rt, "memory");
-    for (told, want) in &CREWED {
+    for (told, want, crewed) in &MET {
         let call = call_of(alloc, *told).expect(rt, "memory");
-        let answer = met_answer(rt, &mut manager, shards, &call, is_crewed(*told));
+        let answer = met_answer(rt, &mut manager, shards, &call, *crewed);
         let line = shown(alloc, &answer).expect(rt, "memory");
         assert_eq!(rt; line.as_str(), *want);
     }
@@ -392,54 +389,42 @@ fn the_shards_of_a_call_are_worked_at_once(rt: HostRuntime) {
     check_meetings(&rt, rt.alloc(), 4);
 }
 
+/// Shards, workers, work, invalidate and pend, of which one is outside its range.
+static BAD: [(u32, u32, u32, u32, u32); 10] = [
+    (0, 1, 2, 1000, 100),
+    (65, 1, 2, 1000, 100),
+    (1, 0, 2, 1000, 100),
+    (1, 17, 2, 1000, 100),
+    (1, 1, 0, 1000, 100),
+    (1, 1, 1001, 1000, 100),
+    (1, 1, 2, 0, 100),
+    (1, 1, 2, 1_000_001, 100),
+    (1, 1, 2, 1000, 0),
+    (1, 1, 2, 1000, 1_000_001),
+];
+
+fn is_refused(alloc: Global, config: Config) -> bool {
+    matches!(Manager::new(alloc, config), Err(Refusal::BadConfig))
+}
+
 #[test]
 fn a_bad_configuration_is_refused(rt: HostRuntime) {
-    let alloc = rt.alloc();
-    let standard = Config::standard();
-    for config in [
-        Config {
-            shards: 0,
-            ..standard
-        },
-        Config {
-            shards: 65,
-            ..standard
-        },
-        Config {
-            workers: 0,
-            ..standard
-        },
-        Config {
-            workers: 17,
-            ..standard
-        },
-        Config {
-            work: 0,
-            ..standard
-        },
-        Config {
-            work: 1001,
-            ..standard
-        },
-        Config {
-            invalidate: 0,
-            ..standard
-        },
-        Config {
-            invalidate: 1_000_001,
-            ..standard
-        },
-        Config {
-            pend: 0,
-            ..standard
-        },
-        Config {
-            pend: 1_000_001,
-            ..standard
-        },
-    ] {
-        assert!(rt; matches!(Manager::new(alloc, config), Err(Refusal::BadConfig)));
+    for (shards, workers, work, invalidate, pend) in &BAD {
+        let config = Config {
+            shards: *shards,
+            workers: *workers,
+            work: *work,
+            invalidate: *invalidate,
+            pend: *pend,
+            first_round: 0,
+            first_call: 0,
+        };
+        assert!(rt; is_refused(rt.alloc(), config));
     }
+}
+
+#[test]
+fn the_greatest_configuration_is_accepted(rt: HostRuntime) {
     let most = Config {
         shards: 64,
         workers: 16,
@@ -449,5 +434,5 @@ fn a_bad_configuration_is_refused(rt: HostRuntime) {
         first_round: u64::MAX,
         first_call: u64::MAX,
     };
-    assert!(rt; Manager::new(alloc, most).is_ok());
+    assert!(rt; Manager::new(rt.alloc(), most).is_ok());
 }
