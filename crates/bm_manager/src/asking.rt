@@ -67,7 +67,7 @@ impl Manager {
         ensures missing { IfOk result (λ v. v ≡ queries.missing_blocks self.now.cluster self.now.holdings) }
         ensures refused { IfErr result (λ e. e ≡ Memory) }
     {
-        self.fleet.missing()
+        self.fleet.missing(&self.topology)
     }
 
     /// The storages of the block's good replicas, in excess or not, rising. `UnknownBlock`; `Memory`.
