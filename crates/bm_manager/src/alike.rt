@@ -37,9 +37,25 @@ pub fn answers_alike<R: Threads + Wait + Sync, G: Gate + Sync>(
         workers,
         ..config
     };
-    let mut manager = Manager::new(alloc, config)?;
-    let mut other_manager = Manager::new(alloc, other)?;
-    let answers = manager.answer_all(rt, gate, calls)?;
-    let other_answers = other_manager.answer_all(rt, gate, calls)?;
+    let answers = answers_of(alloc, rt, gate, config, calls)?;
+    let other_answers = answers_of(alloc, rt, gate, other, calls)?;
     Ok((answers, other_answers))
+}
+
+/// Makes the calls on a new manager of this configuration, and gives their answers.
+fn answers_of<R: Threads + Wait + Sync, G: Gate + Sync>(
+    alloc: Global,
+    rt: &R,
+    gate: &G,
+    config: Config,
+    calls: &[Call],
+) -> Result<Items<Answer>, Refusal>
+    ensures answers { IfOk result (λ r. MayAnswerAll step (first_state config) calls.now r) }
+    ensures refused { IfErr result (Refuses (config_refusal config) true) }
+{
+    let mut manager = Manager::new(alloc, config)?;
+    match manager.answer_all(rt, gate, calls) {
+        Ok(answers) => Ok(answers),
+        Err(_) => Err(Refusal::Memory),
+    }
 }
