@@ -32,6 +32,8 @@ use status::{End, fault_text, status_of};
 use std::env::Env;
 use std::io::{BufWriter, Write};
 use std::process::ExitCode;
+use std::sync::Wait;
+use std::thread::Threads;
 use std::{env, io};
 use whole_run::run;
 
@@ -40,7 +42,7 @@ fn main(rt: HostRuntime) -> ExitCode {
     ExitCode::from(status_of(ended(&rt)))
 }
 
-fn ended<R: Env + Input + Print + Eprint + AllocGlobal>(rt: &R) -> End {
+fn ended<R: Env + Input + Print + Eprint + AllocGlobal + Threads + Wait + Sync>(rt: &R) -> End {
     match words_of(rt) {
         Ok(words) => asked(rt, words.as_slice()),
         Err(error) if error.kind() == io::ErrorKind::OutOfMemory => faulted(rt, Fault::Memory),
@@ -62,7 +64,10 @@ fn words_of<R: Env + AllocGlobal>(rt: &R) -> io::Result<Vec<String>> {
     Ok(words)
 }
 
-fn asked<R: Input + Print + Eprint + AllocGlobal>(rt: &R, words: &[String]) -> End
+fn asked<R: Input + Print + Eprint + AllocGlobal + Threads + Wait + Sync>(
+    rt: &R,
+    words: &[String],
+) -> End
     ensures { EndsBy (refusals_of (map string_bytes words.now)) result }
 {
     match config_of(rt.alloc(), words) {
@@ -97,7 +102,10 @@ fn faulted<R: Eprint>(rt: &R, fault: Fault) -> End
 }
 
 /// The whole run, from standard input to standard output.
-fn answer_all<R: Input + Print + AllocGlobal>(rt: &R, config: &Config) -> Result<Summary, Fault> {
+fn answer_all<R: Input + Print + AllocGlobal + Threads + Wait + Sync>(
+    rt: &R,
+    config: &Config,
+) -> Result<Summary, Fault> {
     let mut reader = Counted::new(rt.reader());
     let Ok(buffered) = BufWriter::new(rt.alloc(), io::writer(rt)) else {
         return Err(Fault::Memory);

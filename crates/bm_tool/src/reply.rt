@@ -10,8 +10,11 @@ use crate::call::call_of;
 use crate::line::Line;
 use crate::print::line_of;
 use bm_base::{Answer, Call, Refusal};
+use bm_crew::NoGate;
 use bm_manager::Manager;
 use std::alloc::{AllocError, Global};
+use std::sync::Wait;
+use std::thread::Threads;
 
 /// What a line asks.
 #[derive(Drop)]
@@ -44,7 +47,12 @@ pub fn asked_by(alloc: Global, line: &Line) -> Result<Asked, AllocError>
 }
 
 /// Makes the call, if there is one. Where memory runs out, the manager took it or not.
-pub fn reply_to(alloc: Global, manager: &mut Manager, asked: &Asked) -> Result<Reply, AllocError>
+pub fn reply_to<H: Threads + Wait + Sync>(
+    rt: &H,
+    alloc: Global,
+    manager: &mut Manager,
+    asked: &Asked,
+) -> Result<Reply, AllocError>
     ensures text { IfOk result (λ r. string_bytes r.text ≡ ended (asked_text manager.old asked.now)) }
     ensures refused { IfOk result (λ r. r.is_refused ≡ asked_refused manager.old asked.now) }
     ensures next { IfOk result (λ _. manager.new ≡ asked_next manager.old asked.now) }
@@ -54,7 +62,7 @@ pub fn reply_to(alloc: Global, manager: &mut Manager, asked: &Asked) -> Result<R
         Asked::Long => refused(alloc, "refused 21 LongLine\n"),
         Asked::Bad => refused(alloc, "refused 20 BadLine\n"),
         Asked::Asks(call) => {
-            let answer = manager.answer(call);
+            let answer = manager.answer(rt, &NoGate, call);
             reply_of(alloc, call, &answer)
         }
     }

@@ -14,6 +14,8 @@ use crate::reply::{asked_by, reply_to};
 use bm_base::{Config, Refusal};
 use bm_manager::Manager;
 use std::alloc::Global;
+use std::sync::Wait;
+use std::thread::Threads;
 
 /// The manager, the line that is being read, and how many lines were answered and refused.
 #[derive(Drop)]
@@ -51,7 +53,11 @@ impl Session {
     }
 
     /// Answers the line that is held, and begins the next.
-    pub fn end_line<W: Sink>(&mut self, writer: &mut W) -> Result<(), Fault>
+    pub fn end_line<W: Sink, H: Threads + Wait + Sync>(
+        &mut self,
+        rt: &H,
+        writer: &mut W,
+    ) -> Result<(), Fault>
         requires sound { W.faults writer.old ≡ 0 }
         requires few { self.old.lines < MAX_LINES }
         ensures ok { OnOk result ((M : State) (start : Option (List ℕ)) (bytes : List ℕ)
@@ -64,7 +70,7 @@ impl Session {
             → MayBeWorked self.old.manager rest self.new.manager) }
     {
         let asked = asked_by(self.alloc, &self.line)?;
-        let reply = reply_to(self.alloc, &mut self.manager, &asked)?;
+        let reply = reply_to(rt, self.alloc, &mut self.manager, &asked)?;
         if writer.write_all(reply.text.as_bytes()).is_err() {
             return Err(Fault::Write);
         }
@@ -75,7 +81,12 @@ impl Session {
     }
 
     /// Takes the bytes up to the first line end, and gives back those behind it.
-    fn take_line<'p, W: Sink>(&mut self, piece: &'p [u8], writer: &mut W) -> Result<&'p [u8], Fault>
+    fn take_line<'p, W: Sink, H: Threads + Wait + Sync>(
+        &mut self,
+        rt: &H,
+        piece: &'p [u8],
+        writer: &mut W,
+    ) -> Result<&'p [u8], Fault>
         requires sound { W.faults writer.old ≡ 0 }
         requires few { self.old.lines < MAX_LINES }
         requires more { 0 < length piece.now }
@@ -93,7 +104,7 @@ impl Session {
         match line_end(piece) {
             Some(at) => {
                 self.line.add(&piece[..at])?;
-                self.end_line(writer)?;
+                self.end_line(rt, writer)?;
                 Ok(&piece[at + 1..])
             }
             None => {
@@ -104,7 +115,12 @@ impl Session {
     }
 
     /// Answers all lines whose end is in the piece, flushes, and keeps the rest.
-    pub fn take_piece<W: Sink>(&mut self, piece: &[u8], writer: &mut W) -> Result<(), Fault>
+    pub fn take_piece<W: Sink, H: Threads + Wait + Sync>(
+        &mut self,
+        rt: &H,
+        piece: &[u8],
+        writer: &mut W,
+    ) -> Result<(), Fault>
         requires sound { W.faults writer.old ≡ 0 }
         ensures ok { OnOk result ((M : State) (start : Option (List ℕ)) (bytes : List ℕ)
             → Progress M start (W.contents writer.old) self.old bytes
@@ -121,7 +137,7 @@ impl Session {
             if self.lines == MAX_LINES {
                 return Err(Fault::TooMuch);
             }
-            left = self.take_line(left, writer)?;
+            left = self.take_line(rt, left, writer)?;
         }
         match writer.flush() {
             Ok(()) => Ok(()),
@@ -130,7 +146,11 @@ impl Session {
     }
 
     /// Answers the rest, if there is one, and flushes.
-    pub fn finish<W: Sink>(&mut self, writer: &mut W) -> Result<Summary, Fault>
+    pub fn finish<W: Sink, H: Threads + Wait + Sync>(
+        &mut self,
+        rt: &H,
+        writer: &mut W,
+    ) -> Result<Summary, Fault>
         requires sound { W.faults writer.old ≡ 0 }
         ensures ok { IfOk result (λ summary. (M : State) (start : Option (List ℕ)) (bytes : List ℕ)
             → Progress M start (W.contents writer.old) self.old bytes
@@ -144,7 +164,7 @@ impl Session {
             (W.faults writer.old) (W.faults writer.new) f) }
     {
         if !self.line.is_empty() {
-            self.end_line(writer)?;
+            self.end_line(rt, writer)?;
         }
         if writer.flush().is_err() {
             return Err(Fault::Write);

@@ -10,10 +10,13 @@ use crate::limits::{MAX_BYTES, PIECE};
 use crate::session::Session;
 use bm_base::Config;
 use std::alloc::Global;
+use std::sync::Wait;
+use std::thread::Threads;
 
-/// Answers each line of the input by a line of the output.
-pub fn run<R: Source, W: Sink, H>(
-    _rt: &H,
+/// Answers each line of the input by a line of the output. A call on all shards is worked by a crew of as many threads as the
+/// configuration has workers, of which the calling one waits for the others: so the clauses say what holds where a run returns.
+pub fn run<R: Source, W: Sink, H: Threads + Wait + Sync>(
+    rt: &H,
     alloc: Global,
     reader: &mut R,
     writer: &mut W,
@@ -45,14 +48,14 @@ pub fn run<R: Source, W: Sink, H>(
             return Err(Fault::Read);
         };
         if n == 0 {
-            return session.finish(writer);
+            return session.finish(rt, writer);
         }
         let room = MAX_BYTES - count;
         if n > room {
-            session.take_piece(&buffer[..room], writer)?;
+            session.take_piece(rt, &buffer[..room], writer)?;
             return Err(Fault::TooMuch);
         }
-        session.take_piece(&buffer[..n], writer)?;
+        session.take_piece(rt, &buffer[..n], writer)?;
         count += n;
     }
 }

@@ -5,12 +5,18 @@ use crate::{Counted, Summary, run};
 use bm_base::Config;
 use std::alloc::{AllocError, Global};
 use std::process::Abort;
+use std::sync::Wait;
 use std::test::Fail;
+use std::thread::Threads;
 
 const BAD: &str = "refused 20 BadLine\n";
 
 /// Each line alone is answered so.
-fn each_is_answered<H: Abort>(rt: &H, alloc: Global, lines: &[(&str, &str)]) {
+fn each_is_answered<H: Abort + Threads + Wait + Sync>(
+    rt: &H,
+    alloc: Global,
+    lines: &[(&str, &str)],
+) {
     for (line, want) in lines {
         let (result, text) = run_over(rt, alloc, line.as_bytes());
         assert!(rt; result.is_ok(), "at {line}");

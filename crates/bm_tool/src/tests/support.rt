@@ -2,6 +2,8 @@
 use crate::{Counted, Fault, Summary, run};
 use bm_base::Config;
 use std::alloc::Global;
+use std::sync::Wait;
+use std::thread::Threads;
 
 /// What the worked examples run with.
 pub fn usual() -> Config {
@@ -19,7 +21,7 @@ pub const FIRST_PATH: &str =
 pub const FIRST_PATH_ANSWERS: &str = "ok 0 0\nok 0 0\nok 1 0\nplaces 7; 11\n";
 
 /// What `run` answers and writes for an input in memory.
-pub fn run_with<H>(
+pub fn run_with<H: Threads + Wait + Sync>(
     rt: &H,
     alloc: Global,
     config: &Config,
@@ -32,6 +34,10 @@ pub fn run_with<H>(
 }
 
 /// The same with the worked examples' configuration.
-pub fn run_over<H>(rt: &H, alloc: Global, input: &[u8]) -> (Result<Summary, Fault>, Vec<u8>) {
+pub fn run_over<H: Threads + Wait + Sync>(
+    rt: &H,
+    alloc: Global,
+    input: &[u8],
+) -> (Result<Summary, Fault>, Vec<u8>) {
     run_with(rt, alloc, &usual(), input)
 }
