@@ -65,14 +65,15 @@ def stored_output(crate):
     return (TOP / "crates" / crate / "stdout").read_bytes()
 
 
-class MemoryWatch:
-    """Runs programs with memory_watch.c before their allocator."""
+class Watch:
+    """Runs programs with a library of this folder before the C library. It writes to the file that the variable names."""
 
-    def __init__(self):
+    def __init__(self, name, variable):
         self.folder = tempfile.TemporaryDirectory()
-        self.library = os.path.join(self.folder.name, "memory_watch.so")
+        self.library = os.path.join(self.folder.name, f"{name}.so")
         self.log = os.path.join(self.folder.name, "log")
-        source = Path(__file__).with_name("memory_watch.c")
+        self.variable = variable
+        source = Path(__file__).with_name(f"{name}.c")
         subprocess.run(
             ["cc", "-shared", "-fPIC", "-O2", "-o", self.library, str(source)], check=True
         )
@@ -80,9 +81,23 @@ class MemoryWatch:
     def run(self, command, stdin=subprocess.DEVNULL, timeout=60, **settings):
         """The ended process, and the lines of the log, each a list of words."""
         Path(self.log).write_text("")
-        words = dict(os.environ, LD_PRELOAD=self.library, MEMORY_LOG=self.log)
+        words = {**os.environ, "LD_PRELOAD": self.library, self.variable: self.log}
         words.update((name, str(value)) for name, value in settings.items())
         ended = subprocess.run(
             command, stdin=stdin, capture_output=True, env=words, timeout=timeout
         )
         return ended, [line.split() for line in Path(self.log).read_text().splitlines()]
+
+
+class MemoryWatch(Watch):
+    """With memory_watch.c before the allocator."""
+
+    def __init__(self):
+        super().__init__("memory_watch", "MEMORY_LOG")
+
+
+class ThreadWatch(Watch):
+    """With thread_watch.c before what makes threads."""
+
+    def __init__(self):
+        super().__init__("thread_watch", "THREAD_LOG")

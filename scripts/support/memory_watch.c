@@ -6,7 +6,7 @@
 //     ended NAME     no longer; the log gets `window NAME` and how many allocations were tried since
 //     mark NAME      the log gets `mark NAME` and how many bytes are held
 // With REFUSE_AT=k the k-th allocation is refused, and that one alone; the log gets `refused k`. With PEAK=1 the log gets
-// `peak` at the end, and how many bytes were held at most.
+// `peak` at the end, and how many bytes were held at most; the end is `exit` or, in a program that may start threads, `_exit`.
 #define _GNU_SOURCE
 #include <errno.h>
 #include <fcntl.h>
@@ -51,7 +51,17 @@ __attribute__((constructor)) static void start(void) {
 }
 
 __attribute__((destructor)) static void end(void) {
-    if (getenv("PEAK")) tell("peak", "", atomic_load(&peak));
+    static atomic_int has_ended;
+    if (!atomic_exchange(&has_ended, 1) && getenv("PEAK")) tell("peak", "", atomic_load(&peak));
+}
+
+void _exit(int status) {
+    end();
+    for (;;) syscall(SYS_exit_group, status);
+}
+
+void _Exit(int status) {
+    _exit(status);
 }
 
 static int is_refused(void) {
