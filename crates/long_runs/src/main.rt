@@ -1,4 +1,4 @@
-//! Makes the same calls over and over, some 20,000 times each, so that a check can see that no memory is lost on the way: after
+//! Makes the same calls over and over, 2,000 to 20,000 times each, so that a check can see that no memory is lost on the way: after
 //! each tenth a line `mark` goes to standard error. Standard output has how many of the calls were answered as they must.
 #![tactic(auto)]
 
@@ -30,6 +30,11 @@ fn repeat_all<R: Print + Eprint + Threads + Wait + Sync>(
     alloc: Global,
 ) -> Result<(), Refusal> {
     tell(rt, "calls of the manager", managers::repeat(rt, alloc)?);
+    tell(
+        rt,
+        "calls of the crewed manager",
+        managers::repeat_crewed(rt, alloc)?,
+    );
     tell(rt, "steps of the arena", arenas::repeat(rt, alloc)?);
     tell(rt, "answers of the locator", views::repeat(rt, alloc)?);
     tell(rt, "pieces of runs", runs::repeat(rt, alloc)?);

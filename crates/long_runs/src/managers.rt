@@ -1,39 +1,76 @@
-// One manager, to which two nodes and a block come and go.
+// A manager to which two nodes and a block come and go: one of three shards that one thread works, and one of five that a crew of
+// threads works.
 
 use crate::CYCLES;
 use crate::marks::{MARKS, mark};
 use bm_base::{BlockId, Config, Entry, Event, Gen, Items, NodeId, Rack, Refusal, Stamp, StorageId};
+use bm_crew::NoGate;
 use bm_manager::Manager;
 use std::alloc::Global;
+use std::sync::Wait;
+use std::thread::Threads;
 
 const BLOCK: BlockId = BlockId(7);
 
 const STRAY: BlockId = BlockId(8);
 
-/// How many calls were accepted.
-pub fn repeat<R: Eprint>(rt: &R, alloc: Global) -> Result<u64, Refusal> {
-    let mut manager = Manager::new(alloc, Config::standard())?;
+/// A call on all shards starts threads twice, so a crew makes fewer calls.
+const CREWED_CYCLES: u32 = CYCLES / 10;
+
+/// How many calls were accepted by the manager that one thread works.
+pub fn repeat<R: Eprint + Threads + Wait + Sync>(rt: &R, alloc: Global) -> Result<u64, Refusal> {
+    cycles(rt, alloc, config(3, 1), CYCLES, "manager")
+}
+
+/// How many calls were accepted by the manager that a crew works.
+pub fn repeat_crewed<R: Eprint + Threads + Wait + Sync>(
+    rt: &R,
+    alloc: Global,
+) -> Result<u64, Refusal> {
+    cycles(rt, alloc, config(5, 4), CREWED_CYCLES, "crewed")
+}
+
+fn config(shards: u32, workers: u32) -> Config {
+    Config {
+        shards,
+        workers,
+        ..Config::standard()
+    }
+}
+
+fn cycles<R: Eprint + Threads + Wait + Sync>(
+    rt: &R,
+    alloc: Global,
+    config: Config,
+    count: u32,
+    name: &str,
+) -> Result<u64, Refusal> {
+    let mut manager = Manager::new(alloc, config)?;
     for _ in 0..MARKS {
-        for _ in 0..CYCLES {
-            come(&mut manager, alloc)?;
+        for _ in 0..count {
+            come(rt, &mut manager, alloc)?;
             ask(&manager)?;
-            go(&mut manager)?;
+            go(rt, &mut manager)?;
         }
-        mark(rt, "manager");
+        mark(rt, name);
     }
     Ok(manager.calls())
 }
 
 /// Two nodes come, and a block with a replica on each; one of these and a stray replica by a report.
-fn come(manager: &mut Manager, alloc: Global) -> Result<(), Refusal> {
+fn come<R: Threads + Wait + Sync>(
+    rt: &R,
+    manager: &mut Manager,
+    alloc: Global,
+) -> Result<(), Refusal> {
     let first = register(alloc, 1)?;
     let second = register(alloc, 2)?;
     let told = report(alloc)?;
-    manager.apply(&first)?;
-    manager.apply(&second)?;
-    manager.apply(&add_block())?;
-    manager.apply(&received())?;
-    manager.apply(&told)?;
+    manager.apply(rt, &NoGate, &first)?;
+    manager.apply(rt, &NoGate, &second)?;
+    manager.apply(rt, &NoGate, &add_block())?;
+    manager.apply(rt, &NoGate, &received())?;
+    manager.apply(rt, &NoGate, &told)?;
     Ok(())
 }
 
@@ -48,14 +85,14 @@ fn ask(manager: &Manager) -> Result<(), Refusal> {
 }
 
 /// A round, and then all goes: the stray replica, the block, a storage, and the nodes with the rest.
-fn go(manager: &mut Manager) -> Result<(), Refusal> {
-    let _ = manager.round()?;
+fn go<R: Threads + Wait + Sync>(rt: &R, manager: &mut Manager) -> Result<(), Refusal> {
+    let _ = manager.round(rt, &NoGate)?;
     let (storage, id) = (StorageId(21), STRAY);
-    manager.apply(&Event::Deleted { storage, id })?;
-    manager.apply(&Event::DeleteBlock { id: BLOCK })?;
-    manager.apply(&Event::StorageFailed { storage })?;
-    manager.apply(&Event::Dead { node: NodeId(1) })?;
-    manager.apply(&Event::Dead { node: NodeId(2) })?;
+    manager.apply(rt, &NoGate, &Event::Deleted { storage, id })?;
+    manager.apply(rt, &NoGate, &Event::DeleteBlock { id: BLOCK })?;
+    manager.apply(rt, &NoGate, &Event::StorageFailed { storage })?;
+    manager.apply(rt, &NoGate, &Event::Dead { node: NodeId(1) })?;
+    manager.apply(rt, &NoGate, &Event::Dead { node: NodeId(2) })?;
     Ok(())
 }
 
