@@ -45,7 +45,6 @@ fn go_over_tables<R: Print + Eprint>(rt: &R, alloc: Global) -> Result<(), Refusa
     tell(rt, "reports", reports::go_over(rt, alloc)?);
     tell(rt, "clusters", clusters::go_over(rt, alloc)?);
     tell(rt, "choices", choices::go_over(rt, alloc)?);
-    tell(rt, "managers", managers::go_over(rt, alloc)?);
     Ok(())
 }
 
@@ -53,6 +52,7 @@ fn go_over_threads<R: Print + Eprint + Threads + Wait + Sync>(
     rt: &R,
     alloc: Global,
 ) -> Result<(), Refusal> {
+    tell(rt, "managers", managers::go_over(rt, alloc)?);
     tell(rt, "bags", bags::go_over(rt, alloc)?);
     tell(rt, "runs", runs::go_over(rt, alloc)?);
     tell(rt, "views", views::go_over(rt, alloc)?);

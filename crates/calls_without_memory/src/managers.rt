@@ -1,4 +1,5 @@
-// Managers: one node with a storage for each block, and a replica of each block on the storage of its number.
+// Managers: one node with a storage for each block, and a replica of each block on the storage of its number. With one shard, where
+// all tables are of one size, and with five, where an event on a block goes to one of them.
 
 use crate::MOST;
 use crate::tally::Tally;
@@ -7,66 +8,99 @@ use bm_base::{
     BlockId, Config, Done, Event, Gen, Items, Level, NodeId, Rack, Refusal, Remaining, Stamp,
     StorageId,
 };
+use bm_crew::NoGate;
 use bm_manager::Manager;
 use std::alloc::Global;
+use std::sync::Wait;
+use std::thread::Threads;
 
-pub fn go_over<R: Eprint>(rt: &R, alloc: Global) -> Result<Tally, Refusal> {
+const NOTHING: Done = Done {
+    added: 0,
+    removed: 0,
+};
+
+const ONE_GONE: Done = Done {
+    added: 0,
+    removed: 1,
+};
+
+pub fn go_over<R: Eprint + Threads + Wait + Sync>(rt: &R, alloc: Global) -> Result<Tally, Refusal> {
     let mut tally = Tally::new();
     for size in 1..=MOST {
-        let mut manager = Manager::new(alloc, Config::standard())?;
-        fill(&mut manager, alloc, size)?;
-        let beats = heartbeat(alloc, size)?;
-        begun(rt, "control");
-        tally.control(manager.apply(&add_block(size)) == Err(Refusal::Memory));
-        ended(rt, "control");
-        let before = manager.calls();
-        begun(rt, "manager");
-        tally.note(manager.apply(&beats).is_ok());
-        tally.note(manager.apply(&stays()).is_ok());
-        for number in 0..size {
-            tell(&mut manager, number, &mut tally);
-        }
-        tally.note(manager.calls().saturating_sub(before) == 2 + 5 * u64::from(size));
-        tally.note(manager.rounds() == 0);
-        ended(rt, "manager");
+        go_over_one(rt, alloc, Config::standard(), size, &mut tally)?;
+        go_over_one(rt, alloc, of_five_shards(), size, &mut tally)?;
     }
     Ok(tally)
 }
 
-fn fill(manager: &mut Manager, alloc: Global, size: u32) -> Result<(), Refusal> {
-    let joins = register(alloc, size)?;
-    manager.apply(&joins)?;
+fn of_five_shards() -> Config {
+    Config {
+        shards: 5,
+        workers: 4,
+        ..Config::standard()
+    }
+}
+
+fn go_over_one<R: Eprint + Threads + Wait + Sync>(
+    rt: &R,
+    alloc: Global,
+    config: Config,
+    size: u32,
+    tally: &mut Tally,
+) -> Result<(), Refusal> {
+    let mut manager = Manager::new(alloc, config)?;
+    fill(rt, &mut manager, alloc, size)?;
+    let beats = heartbeat(alloc, size)?;
+    begun(rt, "control");
+    let is_refused = manager.apply(rt, &NoGate, &add_block(size)) == Err(Refusal::Memory);
+    tally.control(is_refused);
+    ended(rt, "control");
+    let before = manager.calls();
+    begun(rt, "manager");
+    tally.note(manager.apply(rt, &NoGate, &beats) == Ok(NOTHING));
     for number in 0..size {
-        manager.apply(&add_block(number))?;
-        manager.apply(&received(number))?;
+        tell(rt, &mut manager, number, tally);
+    }
+    tally.note(manager.calls().saturating_sub(before) == 1 + 5 * u64::from(size));
+    tally.note(manager.rounds() == 0);
+    ended(rt, "manager");
+    Ok(())
+}
+
+fn fill<R: Threads + Wait + Sync>(
+    rt: &R,
+    manager: &mut Manager,
+    alloc: Global,
+    size: u32,
+) -> Result<(), Refusal> {
+    let joins = register(alloc, size)?;
+    manager.apply(rt, &NoGate, &joins)?;
+    for number in 0..size {
+        manager.apply(rt, &NoGate, &add_block(number))?;
+        manager.apply(rt, &NoGate, &received(number))?;
     }
     Ok(())
 }
 
-fn stays() -> Event {
-    Event::Undrain { node: NodeId(1) }
-}
-
 /// The five events of a block that take no memory, and between them its level and whether its node is retired.
-fn tell(manager: &mut Manager, number: u32, tally: &mut Tally) {
+fn tell<R: Threads + Wait + Sync>(rt: &R, manager: &mut Manager, number: u32, tally: &mut Tally) {
     let id = block(number);
     let storage = StorageId(number);
-    tally.note(
-        manager
-            .apply(&Event::SetReplication { id, repl: 3 })
-            .is_ok(),
-    );
-    let stamp = stamp(2);
-    tally.note(manager.apply(&Event::Restamp { id, stamp }).is_ok());
+    let more = Event::SetReplication { id, repl: 3 };
+    tally.note(manager.apply(rt, &NoGate, &more) == Ok(NOTHING));
+    let newer = Event::Restamp {
+        id,
+        stamp: stamp(2),
+    };
+    tally.note(manager.apply(rt, &NoGate, &newer) == Ok(NOTHING));
     tally.note(manager.level(id) == Ok(Some(Level::NoUsableReplica)));
     tally.note(manager.retired(NodeId(1)) == Ok(false));
-    tally.note(manager.apply(&Event::Corrupt { storage, id }).is_ok());
-    let gone = Done {
-        added: 0,
-        removed: 1,
-    };
-    tally.note(manager.apply(&Event::Deleted { storage, id }) == Ok(gone));
-    tally.note(manager.apply(&Event::DeleteBlock { id }).is_ok());
+    let corrupt = Event::Corrupt { storage, id };
+    tally.note(manager.apply(rt, &NoGate, &corrupt) == Ok(NOTHING));
+    let deleted = Event::Deleted { storage, id };
+    tally.note(manager.apply(rt, &NoGate, &deleted) == Ok(ONE_GONE));
+    let delete = Event::DeleteBlock { id };
+    tally.note(manager.apply(rt, &NoGate, &delete) == Ok(NOTHING));
 }
 
 fn block(number: u32) -> BlockId {
