@@ -1,10 +1,14 @@
 // As many nodes and storages as a cluster may have, and more replicas than a block can want.
 
-use bm_base::{Config, Done, Event, Items, NodeId, Rack, Refusal, StorageId};
+use crate::crews::{SHARDS, WORKERS, config};
+use bm_base::{Done, Event, Items, NodeId, Rack, Refusal, StorageId};
+use bm_crew::NoGate;
 use bm_manager::Manager;
 use bm_place::excess_of;
 use bm_topo::Topology;
 use std::alloc::Global;
+use std::sync::Wait;
+use std::thread::Threads;
 
 const NODES: u32 = 256;
 
@@ -12,13 +16,16 @@ const STORAGES_OF_A_NODE: u32 = 16;
 
 /// 256 nodes come with sixteen storages each. Then neither a node without any may come, nor, in the place of a dead one, a node
 /// with seventeen.
-pub fn fill_cluster<R: Print>(rt: &R, alloc: Global) -> Result<(), Refusal> {
-    let mut manager = Manager::new(alloc, Config::standard())?;
-    let joined = join_all(&mut manager, alloc);
-    let late_node = join(&mut manager, alloc, NODES, 0);
-    let gone = manager.apply(&Event::Dead { node: NodeId(0) });
-    let late_storages = join(&mut manager, alloc, NODES, STORAGES_OF_A_NODE + 1);
-    let last = join(&mut manager, alloc, NODES, STORAGES_OF_A_NODE);
+pub fn fill_cluster<R: Print + Threads + Wait + Sync>(
+    rt: &R,
+    alloc: Global,
+) -> Result<(), Refusal> {
+    let mut manager = Manager::new(alloc, config(SHARDS, WORKERS))?;
+    let joined = join_all(rt, &mut manager, alloc);
+    let late_node = join(rt, &mut manager, alloc, NODES, 0);
+    let gone = manager.apply(rt, &NoGate, &Event::Dead { node: NodeId(0) });
+    let late_storages = join(rt, &mut manager, alloc, NODES, STORAGES_OF_A_NODE + 1);
+    let last = join(rt, &mut manager, alloc, NODES, STORAGES_OF_A_NODE);
     let nodes = joined?;
     gone?;
     last?;
@@ -28,16 +35,26 @@ pub fn fill_cluster<R: Print>(rt: &R, alloc: Global) -> Result<(), Refusal> {
 }
 
 /// How many have joined.
-fn join_all(manager: &mut Manager, alloc: Global) -> Result<u64, Refusal> {
+fn join_all<R: Threads + Wait + Sync>(
+    rt: &R,
+    manager: &mut Manager,
+    alloc: Global,
+) -> Result<u64, Refusal> {
     for node in 0..NODES {
-        join(manager, alloc, node, STORAGES_OF_A_NODE)?;
+        join(rt, manager, alloc, node, STORAGES_OF_A_NODE)?;
     }
     Ok(manager.calls())
 }
 
-fn join(manager: &mut Manager, alloc: Global, node: u32, count: u32) -> Result<Done, Refusal> {
+fn join<R: Threads + Wait + Sync>(
+    rt: &R,
+    manager: &mut Manager,
+    alloc: Global,
+    node: u32,
+    count: u32,
+) -> Result<Done, Refusal> {
     let event = register(alloc, node, count)?;
-    manager.apply(&event)
+    manager.apply(rt, &NoGate, &event)
 }
 
 /// A node with so many storages, which no other node has.

@@ -8,14 +8,14 @@ use std::alloc::{AllocError, Global};
 use std::sync::Wait;
 use std::thread::Threads;
 
-const SHARDS: u32 = 64;
+pub const SHARDS: u32 = 64;
 
-const WORKERS: u32 = 16;
+pub const WORKERS: u32 = 16;
 
 pub fn run_all<R: Print + Threads + Wait + Sync>(rt: &R, alloc: Global) -> Result<(), Refusal> {
     Manager::new(alloc, config(SHARDS, WORKERS))?;
-    let is_limit = Manager::new(alloc, config(SHARDS + 1, WORKERS)).is_err()
-        && Manager::new(alloc, config(SHARDS, WORKERS + 1)).is_err();
+    let is_limit = is_bad(alloc, config(SHARDS + 1, WORKERS))
+        && is_bad(alloc, config(SHARDS, WORKERS + 1));
     let items = pieces(alloc)?;
     let ready = Crew::ready::<u64, u64>(alloc, SHARDS as usize, WORKERS as usize)?;
     let results = ready.run(rt, items, &|_, x: u64| x.wrapping_mul(x), &NoGate);
@@ -27,7 +27,12 @@ pub fn run_all<R: Print + Threads + Wait + Sync>(rt: &R, alloc: Global) -> Resul
     Ok(())
 }
 
-fn config(shards: u32, workers: u32) -> Config {
+fn is_bad(alloc: Global, config: Config) -> bool {
+    matches!(Manager::new(alloc, config), Err(Refusal::BadConfig))
+}
+
+/// A manager with so many of both.
+pub fn config(shards: u32, workers: u32) -> Config {
     Config {
         shards,
         workers,

@@ -23,7 +23,7 @@ fn main(rt: HostRuntime) -> io::Result<()> {
     }
 }
 
-fn go_over_tables<R: Print>(rt: &R, alloc: Global) -> Result<(), Refusal> {
+fn go_over_tables<R: Print + Threads + Wait + Sync>(rt: &R, alloc: Global) -> Result<(), Refusal> {
     clusters::fill_cluster(rt, alloc)?;
     clusters::find_excess(rt, alloc)?;
     reports::report_all(rt, alloc)?;

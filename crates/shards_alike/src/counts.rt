@@ -17,7 +17,7 @@ const LEAST_LISTS: u32 = 30;
 const LEAST_REFUSALS: u32 = 100;
 
 /// How many calls were answered how.
-#[derive(Drop)]
+#[derive(Clone, Copy)]
 pub struct Counts {
     /// The accepted events of each kind.
     accepted: [u32; KINDS],

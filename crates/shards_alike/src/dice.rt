@@ -2,7 +2,7 @@
 ghost use Rattle.std.specs.Prelude.{◌<◌};
 
 /// A linear congruential generator, of which the upper bits are taken.
-#[derive(Drop)]
+#[derive(Clone, Copy)]
 pub struct Dice {
     state: u64,
 }

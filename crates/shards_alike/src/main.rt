@@ -41,25 +41,52 @@ fn main(rt: HostRuntime) -> ExitCode {
 
 /// Whether all calls were answered alike, and enough happened.
 fn compare<R: Eprint + Threads + Wait + Sync>(rt: &R, alloc: Global) -> Result<bool, Refusal> {
-    let mut one = Manager::new(alloc, config(1, 1))?;
-    let mut other = Manager::new(alloc, config(64, 4))?;
+    let mut pair = Pair {
+        one: Manager::new(alloc, config(1, 1))?,
+        other: Manager::new(alloc, config(64, 4))?,
+        counts: Counts::new(),
+    };
     let mut dice = Dice::new(SEED);
-    let mut counts = Counts::new();
     for number in 0..CALLS {
         let call = drawing::call(&mut dice, alloc)?;
-        let answer = one.answer(rt, &NoGate, &call);
-        let told = other.answer(rt, &NoGate, &call);
-        if !are_alike(&answer, &told) {
-            tell_apart(rt, number, &call, &answer, &told);
+        if !pair.answer_alike(rt, number, &call) {
             return Ok(false);
         }
-        if matches!(answer, Answer::Refused(Refusal::Memory)) {
-            return Err(Refusal::Memory);
-        }
-        counts.add(&call, &answer);
     }
-    counts.tell(rt);
-    Ok(counts.are_enough())
+    pair.counts.tell(rt);
+    Ok(pair.counts.are_enough())
+}
+
+/// The two managers, and what they have answered.
+#[derive(Drop)]
+struct Pair {
+    one: Manager,
+    other: Manager,
+    counts: Counts,
+}
+
+impl Pair {
+    /// Whether both answer the call alike, and not by want of memory.
+    fn answer_alike<R: Eprint + Threads + Wait + Sync>(
+        &mut self,
+        rt: &R,
+        number: u32,
+        call: &Call,
+    ) -> bool {
+        let answer = self.one.answer(rt, &NoGate, call);
+        let told = self.other.answer(rt, &NoGate, call);
+        let is_fine = are_alike(&answer, &told) && !wants_memory(&answer);
+        if is_fine {
+            self.counts.add(call, &answer);
+        } else {
+            tell_apart(rt, number, call, &answer, &told);
+        }
+        is_fine
+    }
+}
+
+fn wants_memory(answer: &Answer) -> bool {
+    matches!(answer, Answer::Refused(Refusal::Memory))
 }
 
 /// Rounds with few commands, and copies that are soon given up, so that the limits of both are met.
