@@ -10,7 +10,7 @@ use Rattle.bm_base.specs.Ordered.{ordered_by}
 use Rattle.bm_base.specs.State.{Cluster, Holdings, by_replica, empty_cluster}
 use Rattle.bm_base.specs.Shards.{shard_of, cut}
 use Rattle.bm_base.specs.Levels.{level}
-use Rattle.bm_base.specs.Queries.{all_replicas, corrupt_replicas, excess_replicas, missing_blocks, blocks_on, places}
+use Rattle.bm_base.specs.Queries.{all_replicas, places}
 use Rattle.bm_base.specs.Refusals.{first_of, block_checks, block_refusal}
 use Rattle.bm_base.specs.Answering.{checked}
 use Rattle.bm_parts.specs.Parts.{block_of}
@@ -18,8 +18,7 @@ use Rattle.bm_parts.specs.Whole.{parts}
 use Rattle.bm_parts.specs.Merging.{put_all, AreSorted}
 use Rattle.bm_parts.specs.QueryLaws.{holds_back, replica_key}
 use Rattle.bm_parts.proofs.HeldBack.{held_back_by_some_part}
-use Rattle.bm_parts.proofs.JoinedReplicas.{replicas_join, marked_replicas_join, blocks_on_join}
-use Rattle.bm_parts.proofs.JoinedBlocks.{missing_join}
+use Rattle.bm_parts.proofs.JoinedReplicas.{replicas_join}
 use Rattle.bm_parts.proofs.OwnShard.{own_shard_answers, own_shard_checks}
 use Rattle.bm_parts.proofs.Wholes.{whole_has_its_parts}
 use Rattle.bm_shard.specs.Seen.{Seen}

@@ -1,11 +1,9 @@
 -- What is chosen of the parts of all shards.
-use Rattle.std.specs.Prelude.{◌≡◌, ℕ, suc, ◌+◌, false, List, [], ◌∷◌, map, length, T}
-use Rattle.std.specs.FinMap.{is_sorted}
+use Rattle.std.specs.Prelude.{◌≡◌, ℕ, suc, ◌+◌, false, List, [], ◌∷◌, map, length}
 use Rattle.std.proofs.Common.{refl, sym, ap, subst, ◌∙◌}
 use Rattle.bm_base.specs.declared.round.RoundPart.{RoundPart}
 use Rattle.bm_base.specs.declared.round.Wish.{Wish}
 use Rattle.bm_base.specs.Lists.{has_repeats}
-use Rattle.bm_base.specs.Ordered.{pair_cmp}
 use Rattle.bm_base.specs.State.{RoundLimits, Cluster, Holdings}
 use Rattle.bm_base.specs.Transfers.{transfers}
 use Rattle.bm_base.specs.Deletes.{deletes}
@@ -13,7 +11,6 @@ use Rattle.bm_base.specs.RoundParts.{started_holdings, round_part}
 use Rattle.bm_base.specs.Choices.{merged_wishes, chosen_transfers, chosen_deletes}
 use Rattle.bm_base.proofs.OneWish.{one_wish}
 use Rattle.bm_base.proofs.OnePart.{round_wishes_rise, round_deletes_rise}
-use Rattle.bm_parts.specs.Whole.{whole_of}
 use Rattle.bm_parts.specs.RoundLaws.{round_parts}
 use Rattle.bm_parts.specs.Merging.{AreSorted}
 use Rattle.bm_parts.proofs.Merging.{wishes_join, parts_choose_transfers, parts_choose_deletes}

@@ -7,9 +7,7 @@ use Rattle.bm_base.specs.declared.refusal.Refusal.{Refusal}
 use Rattle.bm_base.specs.declared.refusal.Refusal.TheVariants.{Memory}
 use Rattle.bm_base.specs.declared.round.RoundPart.{RoundPart}
 use Rattle.bm_base.specs.declared.round.Chosen.{Chosen}
-use Rattle.bm_base.specs.declared.commands.Transfer.{Transfer}
-use Rattle.bm_base.specs.declared.commands.Delete.{Delete}
-use Rattle.bm_base.specs.State.{Cluster, Holdings}
+use Rattle.bm_base.specs.State.{Cluster}
 use Rattle.bm_base.specs.Rounds.{finished}
 use Rattle.bm_base.specs.RoundParts.{started_holdings, round_on_part}
 use Rattle.bm_parts.specs.Whole.{EachPart}

@@ -6,22 +6,17 @@ use Rattle.std.specs.Ordering.{nat_cmp, ordering_then}
 use Rattle.std.specs.FinMap.{put, is_sorted}
 use Rattle.std.specs.FinMap.Entries.{by_order}
 use Rattle.std.proofs.Common.{refl, sym, ap, subst, ◌∙◌, arith}
-use Rattle.bm_base.specs.declared.replica.Replica.{Replica}
 use Rattle.bm_base.specs.declared.replica.ReplicaId.{ReplicaId}
 use Rattle.bm_base.specs.Map.{Map, Order, by_number, insert, insert_all, empty, entries}
 use Rattle.bm_base.specs.Ordered.{pair_cmp, by_pair, ordered_by}
-use Rattle.bm_base.specs.State.{Cluster, Holdings, by_replica}
-use Rattle.bm_base.specs.Queries.{all_replicas, corrupt_replicas, excess_replicas, missing_blocks, blocks_on}
+use Rattle.bm_base.specs.State.{Holdings, by_replica}
 use Rattle.bm_parts.specs.Merging.{put_all, AreSorted}
-use Rattle.bm_parts.specs.QueryLaws.{replica_key}
 use Rattle.bm_parts.specs.Whole.{parts}
-use Rattle.bm_parts.proofs.JoinedReplicas.{replicas_join, marked_replicas_join, blocks_on_join}
-use Rattle.bm_parts.proofs.JoinedBlocks.{missing_join}
 use Rattle.bm_parts.proofs.Wholes.{whole_has_its_parts}
 use Rattle.bm_round.proofs.Keyed.{ordered_is, gathered, ordered_rises}
 use Rattle.bm_shard.specs.Seen.{Seen}
 use Rattle.bm_fleet.specs.Whole.{parts_of, held_by, AreShards}
-use Rattle.bm_fleet.specs.Listed.{pair_of, pair_of_number, keyed_replica, keyed_id, keyed_block}
+use Rattle.bm_fleet.specs.Listed.{pair_of, pair_of_number}
 
 -- Keys of another order, which pairs of numbers stand for.
 

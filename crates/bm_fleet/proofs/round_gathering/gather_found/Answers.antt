@@ -1,6 +1,5 @@
 use Rattle.std.specs.Prelude.{ℕ, Err}
 use Rattle.std.proofs.Common.{arith, ◌∙◌, ◌∷◌, [], ◌++◌, ap, sym, length-append}
-use Rattle.std.specs.List.{filter_map}
 use Rattle.bm_fleet.specs.declared.round_crewed.Found.{Found}
 use Rattle.bm_fleet.specs.Gathered.{or_else}
 use Rattle.bm_fleet.specs.RoundWorked.{shard_of_found}

@@ -1,4 +1,4 @@
-use Rattle.std.specs.Prelude.{true, false, None, OnOk, IfOk, IfErr, ◌≡◌}
+use Rattle.std.specs.Prelude.{false, None, OnOk, IfOk, IfErr, ◌≡◌}
 use Rattle.std.proofs.Common.{subst, sym}
 use Rattle.bm_base.specs.Answering.{Refuses}
 use Rattle.bm_fleet.proofs.Asked.{own_refusal, own_level, stands_inside}

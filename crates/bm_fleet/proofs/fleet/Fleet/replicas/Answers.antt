@@ -1,7 +1,6 @@
-use Rattle.std.specs.Prelude.{ℕ, map, flat_map}
-use Rattle.std.proofs.Common.{◌∙◌, ap, subst, sym}
+use Rattle.std.specs.Prelude.{ℕ, map}
+use Rattle.std.proofs.Common.{◌∙◌, ap}
 use Rattle.bm_base.specs.Queries.{all_replicas}
-use Rattle.bm_parts.specs.Merging.{AreSorted}
 use Rattle.bm_shard.specs.Seen.{Seen}
 use Rattle.bm_fleet.specs.Whole.{Whole}
 use Rattle.bm_fleet.specs.Listed.{keyed_replica}
