@@ -29,15 +29,6 @@ new_manager c C F allowed fits none nothing stands taken = record {
 }
 
 module _ (c : Config) (C : Cluster) (F : Whole) (round calls : ℕ) (is : IsManager c C F round calls) where
-  -- where nothing that is seen changed: the cluster is the same, and the shards are still up to date
-  pub same_manager : (D : Cluster) (G : Whole) → D ≡ C → G.holdings ≡ F.holdings → StandsIn D G → HasTaken round c.pend G → IsManager c D G round calls
-  same_manager D G same nothing stands taken = record {
-    allowed = is.allowed;
-    standing = stands;
-    taken = taken;
-    lawful = subst IsLawful (λ i. state_of c (sym same i) (sym nothing i) round calls) is.lawful;
-  }
-
   -- after an accepted event, by which the cluster and the shards were changed one after the other
   pub changed_manager : (e : Event) (D E : Cluster) (G : Whole) → FitsEvent e → refusal_of (state_of c C F.holdings round calls) e ≡ None
       → D ≡ C → E ≡ change_cluster D e → G.holdings ≡ change_holdings D F.holdings e → StandsIn (change_cluster D e) G → HasTaken round c.pend G
