@@ -1,5 +1,5 @@
 -- What is asked of all shards, of one of them or of each.
-use Rattle.std.specs.Prelude.{◌≡◌, ◌≤◌, ℕ, suc, ◌||◌, List, [], ◌∷◌, map, flat_map, length, Some, None}
+use Rattle.std.specs.Prelude.{◌≡◌, ◌≤◌, ℕ, ◌||◌, List, [], ◌∷◌, map, flat_map, length, Some, None}
 use Rattle.std.specs.List.{list_any}
 use Rattle.std.proofs.Common.{refl, sym, ap, subst, ◌∙◌}
 use Rattle.bm_base.specs.declared.event.Event.{Event}
@@ -26,6 +26,7 @@ use Rattle.bm_fleet.specs.Whole.{Whole, parts_of, held_by, AreShards, EachStands
 use Rattle.bm_fleet.specs.Listed.{pair_of, pair_of_number, keyed_replica, keyed_id, keyed_block}
 use Rattle.bm_fleet.proofs.Joins.{sorted_lists, joined_list, replicas_alike, numbers_alike}
 use Rattle.bm_fleet.proofs.Fleets.{no_block_checks}
+use Rattle.bm_fleet.proofs.Staying.{count_of}
 
 -- The shard of a block answers as all of them: `ss` is seen as F, and P is what the block's own shard holds.
 
@@ -57,10 +58,6 @@ unfolding StandsIn
 stands_inside C items F seen h = subst (λ (G : Whole). EachStandsIn C G.shards) (sym seen) h
 
 -- Some shard holds a node back.
-
-count_of : (ss : List (ℕ × Seen)) → length (parts_of ss) ≡ length ss
-count_of [] = refl
-count_of (s ∷ ss) = ap suc (count_of ss)
 
 any_part : (C : Cluster) (n : ℕ) (ss : List (ℕ × Seen)) → list_any (λ (s : ℕ × Seen). holds_back C n s.1.holdings) ss ≡ list_any (holds_back C n) (parts_of ss)
 any_part C n [] = refl

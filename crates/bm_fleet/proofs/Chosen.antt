@@ -1,5 +1,5 @@
 -- What is chosen of the parts of all shards.
-use Rattle.std.specs.Prelude.{◌≡◌, ℕ, suc, ◌+◌, false, List, [], ◌∷◌, map, length}
+use Rattle.std.specs.Prelude.{◌≡◌, ℕ, ◌+◌, false, List, [], ◌∷◌, map, length}
 use Rattle.std.proofs.Common.{refl, sym, ap, subst, ◌∙◌}
 use Rattle.bm_base.specs.declared.round.RoundPart.{RoundPart}
 use Rattle.bm_base.specs.declared.round.Wish.{Wish}
@@ -19,6 +19,7 @@ use Rattle.bm_round.specs.Merging.{keyed_wishes, keyed_deletes}
 use Rattle.bm_shard.specs.Seen.{Seen}
 use Rattle.bm_shard.specs.Standing.{next_part}
 use Rattle.bm_fleet.specs.Whole.{parts_of, held_by, AreShards, EachTook}
+use Rattle.bm_fleet.proofs.Staying.{count_of}
 
 module _ (C : Cluster) where
   abbrev next_parts : List (ℕ × Seen) → List RoundPart
@@ -41,10 +42,6 @@ module _ (C : Cluster) where
   are_deletes_sorted ss ps is = subst (λ (qs : List RoundPart). AreSorted (map keyed_deletes qs)) (sym is) (deletes_sorted ss)
 
   -- They are the parts of the whole.
-
-  count_of : (ss : List (ℕ × Seen)) → length (parts_of ss) ≡ length ss
-  count_of [] = refl
-  count_of (s ∷ ss) = ap suc (count_of ss)
 
   each_part : (last pend : ℕ) (ss : List (ℕ × Seen)) → EachTook last pend ss → next_parts ss ≡ map (round_part C pend (last + 1)) (parts_of ss)
   each_part last pend [] took = refl

@@ -19,10 +19,8 @@ use Rattle.bm_fleet.specs.Worked.{IsSame}
 use Rattle.bm_fleet.specs.Gathered.{or_else, outcome_of, shard_of_prepared}
 use Rattle.bm_fleet.specs.RoundWorked.{HasPart, IsReadied, CanFinish, IsFinished}
 use Rattle.bm_fleet.specs.declared.crewed.Prepared.{Prepared}
-use Rattle.bm_fleet.proofs.Staying.{stands_still, are_shards}
-
-same_err : (a b : Refusal) → ◌≡◌ {A = Result (Unit {0}) Refusal} (Err a) (Err b) → a ≡ b
-same_err a b e = cc
+use Rattle.bm_fleet.proofs.Staying.{count_of, stands_still, are_shards}
+use Rattle.bm_fleet.proofs.OneMore.{same_err}
 
 module _ (C : Cluster) (chosen : Chosen) where
   -- Made ready.
@@ -119,10 +117,6 @@ module _ (C : Cluster) (chosen : Chosen) where
   took_after last pend [] (t ∷ ts) each took = absurd each
   took_after last pend (s ∷ ss) [] each took = absurd each
   took_after last pend (s ∷ ss) (t ∷ ts) each took = (each.0.round ∙ ap (λ n. n + 1) took.0, each.0.pend ∙ took.1, took_after last pend ss ts each.1 took.2)
-
-  count_of : (ss : List (ℕ × Seen)) → length (parts_of ss) ≡ length ss
-  count_of [] = refl
-  count_of (s ∷ ss) = ap suc (count_of ss)
 
   finished_shards : (last pend : ℕ) (ss ts : List (ℕ × Seen)) → AllZip (IsFinished C chosen) ss ts → AreShards (length ss) ss → EachTook last pend ss
       → AreShards (length ss) ts × (held_by ts ≡ finished (last + 1) (started_holdings C pend (last + 1) (held_by ss)) chosen.transfers chosen.deletes)

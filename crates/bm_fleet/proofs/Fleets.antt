@@ -22,16 +22,14 @@ use Rattle.bm_fleet.specs.Gathered.{or_else, outcome_of, done_of, shard_of_prepa
 use Rattle.bm_fleet.specs.Whole.{parts_of, held_by, AreIndexed, AreShards, EachStandsIn, EachTook}
 use Rattle.bm_fleet.specs.declared.crewed.Prepared.{Prepared}
 use Rattle.bm_fleet.specs.declared.crewed.Committed.{Committed}
-use Rattle.bm_fleet.proofs.Staying.{stands_still, are_shards}
+use Rattle.bm_fleet.proofs.Staying.{count_of, stands_still, are_shards}
+use Rattle.bm_fleet.proofs.OneMore.{same_err}
 
 -- Prepared.
 
 memory_alone : (takes : Bool) (r : Refusal) → Refuses None takes r → r ≡ Memory
 memory_alone true r h = h
 memory_alone false r h = absurd h
-
-same_err : (x r : Refusal) → ◌≡◌ {A = Result (Unit {0}) Refusal} (Err x) (Err r) → x ≡ r
-same_err x r e = cc
 
 module _ (C : Cluster) (e : Event) where
   pub prepared_same : (ss : List (ℕ × Seen)) (ps : List (ℕ × Prepared)) → AllZip (IsPrepared e) ss ps → AllZip IsSame ss (map shard_of_prepared ps)
@@ -109,10 +107,6 @@ module _ (C : Cluster) (e : Event) where
   all_few [] (c ∷ cs) each = absurd each
   all_few (s ∷ ss) [] each = absurd each
   all_few (s ∷ ss) (c ∷ cs) each = All-cons IsFew c cs each.0.few (all_few ss cs each.1)
-
-  count_of : (ss : List (ℕ × Seen)) → length (parts_of ss) ≡ length ss
-  count_of [] = refl
-  count_of (s ∷ ss) = ap suc (count_of ss)
 
   -- they have changed as the whole changes, and what they answered adds up to what the definition answers
   pub changed_shards : (shards : ℕ) (ss : List (ℕ × Seen)) (cs : List (ℕ × Committed)) → AllZip (IsCommitted C e) ss cs → AreShards shards ss

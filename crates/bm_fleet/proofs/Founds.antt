@@ -13,7 +13,7 @@ use Rattle.bm_fleet.specs.Gathered.{or_else}
 use Rattle.bm_fleet.specs.Whole.{AreIndexed, EachStandsIn, EachTook}
 use Rattle.bm_fleet.specs.RoundWorked.{CanFind, IsFound, HasPart, shard_of_found, part_found, fault_found, fault_of}
 use Rattle.bm_fleet.specs.declared.round_crewed.Found.{Found}
-use Rattle.bm_fleet.proofs.OneMore.{or_else_ok, or_else_again}
+use Rattle.bm_fleet.proofs.OneMore.{same_err, or_else_ok, or_else_again}
 
 -- One more is gathered.
 
@@ -42,9 +42,6 @@ parts_push_err fs f r e =
 or_ok : (a b : Result (Unit {0}) Refusal) → or_else a b ≡ Ok tt → (a ≡ Ok tt) × (b ≡ Ok tt)
 or_ok (Ok x) b e = (refl, e)
 or_ok (Err r) b e = cc
-
-same_err : (a b : Refusal) → ◌≡◌ {A = Result (Unit {0}) Refusal} (Err a) (Err b) → a ≡ b
-same_err a b e = cc
 
 module _ (C : Cluster) where
   -- no shard has changed

@@ -1,5 +1,5 @@
 -- Lists of the shards, joined by one merge.
-use Rattle.std.specs.Prelude.{◌≡◌, ◌≤◌, ℕ, suc, List, [], ◌∷◌, ◌++◌, map, length, flat_map, T}
+use Rattle.std.specs.Prelude.{◌≡◌, ◌≤◌, ℕ, List, [], ◌∷◌, ◌++◌, map, length, flat_map, T}
 use Rattle.std.specs.declared.cmp.Ordering.{Ordering}
 use Rattle.std.specs.declared.cmp.Ordering.TheVariants.{Less, Equal, Greater}
 use Rattle.std.specs.Ordering.{nat_cmp, ordering_then}
@@ -17,6 +17,7 @@ use Rattle.bm_round.proofs.Keyed.{ordered_is, gathered, ordered_rises}
 use Rattle.bm_shard.specs.Seen.{Seen}
 use Rattle.bm_fleet.specs.Whole.{parts_of, held_by, AreShards}
 use Rattle.bm_fleet.specs.Listed.{pair_of, pair_of_number}
+use Rattle.bm_fleet.proofs.Staying.{count_of}
 
 -- Keys of another order, which pairs of numbers stand for.
 
@@ -86,10 +87,6 @@ module _ {K Y : Type 0} (o : Order K) (f : K → ℕ × ℕ) (alike : (a b : K) 
   of_parts : (ss : List (ℕ × Seen)) → flat_map (λ (s : ℕ × Seen). list s.1.holdings) ss ≡ flat_map list (parts_of ss)
   of_parts [] = refl
   of_parts (s ∷ ss) = ap (λ ys. list s.1.holdings ++ ys) (of_parts ss)
-
-  count_of : (ss : List (ℕ × Seen)) → length (parts_of ss) ≡ length ss
-  count_of [] = refl
-  count_of (s ∷ ss) = ap suc (count_of ss)
 
   pub joined_list : {L : Type 0} (items : L → List ((ℕ × ℕ) × Y)) (ls : List L) (ss : List (ℕ × Seen)) → map items ls ≡ map (λ (s : ℕ × Seen). map keyed (list s.1.holdings)) ss → AreShards (length ss) ss
       → map (λ (e : (ℕ × ℕ) × Y). e.1) (put_all [] (flat_map items ls)) ≡ list (held_by ss)

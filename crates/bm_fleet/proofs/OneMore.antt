@@ -12,6 +12,9 @@ pub map_push : {X Y : Type 0} (f : X → Y) (xs : List X) (x : X) → map f (xs 
 map_push f [] x = refl
 map_push f (y ∷ xs) x = ap (λ ys. f y ∷ ys) (map_push f xs x)
 
+pub same_err : (a b : Refusal) → ◌≡◌ {A = Result (Unit {0}) Refusal} (Err a) (Err b) → a ≡ b
+same_err a b e = cc
+
 pub or_else_ok : (o : Result (Unit {0}) Refusal) → or_else o (Ok tt) ≡ o
 or_else_ok (Ok x) = refl
 or_else_ok (Err e) = refl

@@ -21,7 +21,7 @@ use Rattle.bm_shard.specs.Seen.{Seen}
 use Rattle.bm_shard.specs.Standing.{StandsIn, IsSameButRoom}
 use Rattle.bm_fleet.specs.Whole.{parts_of, held_by, AreIndexed, AreShards, EachStandsIn, EachTook}
 use Rattle.bm_fleet.specs.OneShard.{IsChanged, IsMadeAt}
-use Rattle.bm_fleet.proofs.Staying.{stands_still, are_shards}
+use Rattle.bm_fleet.proofs.Staying.{count_of, stands_still, are_shards}
 
 -- an event on a block leaves the cluster
 same_cluster : (C : Cluster) (e : Event) (b : ℕ) → block_of e ≡ Some b → change_cluster C e ≡ C
@@ -49,10 +49,6 @@ set_long : (ss : List (ℕ × Seen)) (k : ℕ) (x : ℕ × Seen) → length (sli
 set_long [] k x = refl
 set_long (r ∷ ss) zero x = refl
 set_long (r ∷ ss) (suc k) x = ap suc (set_long ss k x)
-
-count_of : (ss : List (ℕ × Seen)) → length (parts_of ss) ≡ length ss
-count_of [] = refl
-count_of (s ∷ ss) = ap suc (count_of ss)
 
 indexed_at : (shards i : ℕ) (ss : List (ℕ × Seen)) (k : ℕ) (s : ℕ × Seen) → AreIndexed shards i ss → slice_get ss k ≡ Some s → s.1.part ≡ record { index = k + i; shards = shards }
 indexed_at shards i [] k s h e = cc

@@ -12,6 +12,11 @@ use Rattle.bm_shard.specs.Standing.{StandsIn, IsSameButRoom}
 use Rattle.bm_fleet.specs.Whole.{parts_of, held_by, AreIndexed, AreShards, EachStandsIn, EachTook}
 use Rattle.bm_fleet.specs.Worked.{IsSame}
 
+-- as many parts as shards
+pub count_of : (ss : List (ℕ × Seen)) → length (parts_of ss) ≡ length ss
+count_of [] = refl
+count_of (s ∷ ss) = ap suc (count_of ss)
+
 pub stands_still : (C : Cluster) (S T : Seen) → IsSameButRoom S T → StandsIn C S → StandsIn C T
 stands_still C S T same h =
     let held : T.holdings ≡ S.holdings = ap (λ s. s.holdings) same.rest in
