@@ -4,7 +4,8 @@ use Rattle.std.specs.List.Sorted.{IsSearchInRange, IsBinarySearchResult, IsNonDe
 use Rattle.std.specs.Ordering.{nat_cmp, ordering_index}
 use Rattle.std.proofs.lemmas.Cmp.{ranked}
 use Rattle.std.proofs.lemmas.Bool.Decides.{nat_tests}
-use Rattle.bm_view.specs.Version.{Row, RisesById, places_in}
+use Rattle.bm_base.specs.Versions.{Row}
+use Rattle.bm_view.specs.Version.{RisesById, places_in}
 
 -- the row at a place is the one that a look-up of its number finds
 pub places_in-at : (rows : List Row) (at : ℕ) (d : Row) (id : ℕ) → RisesById rows → at < length rows → (get_or rows at d).0 ≡ id → places_in rows id ≡ (get_or rows at d).1

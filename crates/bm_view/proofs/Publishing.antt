@@ -2,7 +2,7 @@
 use Rattle.std.proofs.Common.{◌≡◌, ◌≤◌, true, false, true≢false, List, [], ◌∷◌, ◌++◌, length, suc, Result, Ok, Err, is_err, MatchResult, refl, sym, ap, ◌∙◌, subst, arith, length-append}
 use Rattle.logbook.specs.Pages.{Book}
 use Rattle.bm_view.specs.declared.journal.Entry.{Entry}
-use Rattle.bm_view.specs.Version.{Version}
+use Rattle.bm_base.specs.Versions.{Version}
 use Rattle.bm_view.specs.Journal.{proposed, settled, IsClosed}
 use Rattle.bm_view.specs.History.{last_of, IsHistory, versions, shown_in, IsSettled}
 use Rattle.bm_view.specs.Rule.{Evidence, Extends}

@@ -3,7 +3,8 @@ use Rattle.std.specs.Prelude.{◌+◌, ◌-◌, ◌<◌, ◌≤◌, Bool, true, 
 use Rattle.std.specs.List.Sorted.{IsNonDecreasingBy}
 use mathlib.Core.List.{IsPrefix}
 use Rattle.bm_view.specs.declared.journal.Entry.{Entry}
-use Rattle.bm_view.specs.Version.{Version, opening}
+use Rattle.bm_base.specs.Versions.{Version}
+use Rattle.bm_view.specs.Version.{opening}
 
 -- the last version; no list of a contract is empty
 abbrev pub last_of : List Version → Version

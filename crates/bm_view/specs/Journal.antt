@@ -6,7 +6,8 @@
 use Rattle.std.specs.Prelude.{◌≡◌, ℕ, zero, suc, ◌+◌, ◌*◌, Bool, true, false, List, [], ◌∷◌, ◌++◌, length}
 use Rattle.logbook.specs.Pages.{Cell, Step, View, Book, Named, Nib, nib, may_make}
 use Rattle.bm_view.specs.declared.journal.Entry.{Entry}
-use Rattle.bm_view.specs.Version.{Version, opening}
+use Rattle.bm_base.specs.Versions.{Version}
+use Rattle.bm_view.specs.Version.{opening}
 
 -- what is to be shown; and, behind a proposal, that nothing was shown
 abbrev pub proposed : Version → Entry

@@ -8,7 +8,7 @@ use Rattle.logbook.specs.Pages.{Book}
 use Rattle.logbook.specs.declared.tokens.Seen.{Seen}
 use Rattle.bm_view.specs.declared.journal.Entry.{Entry}
 use Rattle.bm_view.specs.declared.journal.JournalRule.{JournalRule}
-use Rattle.bm_view.specs.Version.{Version}
+use Rattle.bm_base.specs.Versions.{Version}
 use Rattle.bm_view.specs.History.{shown_in}
 
 -- how a journal began

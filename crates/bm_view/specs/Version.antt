@@ -1,14 +1,6 @@
--- What a version says, and where its rows put a block.
+-- What is asked of a version, and where its rows put a block.
 use Rattle.std.specs.Prelude.{ℕ, ◌<◌, List, [], ◌∷◌, if◌then◌else◌, ◌==◌, AllPairs}
-
--- a block's number and its places
-abbrev pub Row : Type 0
-Row = ℕ × List ℕ
-
--- how many calls were accepted, and where each block was then
-pub record Version : Type 0 where
-  pub calls : ℕ
-  pub rows : List Row
+use Rattle.bm_base.specs.Versions.{Row, Version}
 
 -- the block numbers rise, so none comes twice
 abbrev pub RisesById : List Row → Type 0
