@@ -8,3 +8,4 @@ pub mod OnStorage
 pub mod AtSlot
 pub mod Waiting
 pub mod ByPlace
+pub mod KnownBlocks

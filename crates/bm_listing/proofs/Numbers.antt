@@ -71,7 +71,7 @@ each_has : (P : ℕ → Type 0) (xs : List ℕ) → ((x : ℕ) → has xs x ≡ 
 each_has P [] h = tt
 each_has P (x ∷ xs) h = (h x (or_left (x == x) (has xs x) (same_again x)), each_has P xs (λ y t. h y (or_right (x == y) (has xs y) t)))
 
-any_same : (x : ℕ) (xs : List ℕ) → list_any (λ y. eq_by_cmp nat_cmp x y) xs ≡ has xs x
+pub any_same : (x : ℕ) (xs : List ℕ) → list_any (λ y. eq_by_cmp nat_cmp x y) xs ≡ has xs x
 any_same x xs = any_agree (λ y. eq_by_cmp nat_cmp x y) (λ y. y == x) (λ y. number_tie x y ∙ eqb_turned x y) xs
 
 -- numbers each of which stands once, sorted, are the rising list in which just they stand

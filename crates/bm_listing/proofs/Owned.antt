@@ -46,7 +46,7 @@ module _ (a : Contents) where
   pub answered_id : (slot id : ℕ) → IsOwn a slot → ((b : Block) → block_at a slot ≡ Some b → id ≡ b.id) → id ≡ id_at a slot
   answered_id slot id own says = says own.block own.here ∙ sym (id_is slot own)
 
-  one_slot : (x y : ℕ) → IsOwn a x → IsOwn a y → id_at a x ≡ id_at a y → x ≡ y
+  pub one_slot : (x y : ℕ) → IsOwn a x → IsOwn a y → id_at a x ≡ id_at a y → x ≡ y
   one_slot x y own too same = one (sym (led_to x own) ∙ ap (slot_of a) same ∙ led_to y too)
     where
       one : {m n : ℕ} → Some m ≡ Some n → m ≡ n

@@ -1,6 +1,6 @@
 -- What is come upon at the slots of an arena, in their order, and the rising lists that are made of it.
-use Rattle.std.specs.Prelude.{◌≡◌, ℕ, Bool, true, false, ◌&&◌, nat_lt, List, [], length, map, filter, flat_map, Option, Some}
-use Rattle.std.specs.Option.{option_map_or}
+use Rattle.std.specs.Prelude.{◌≡◌, ℕ, Bool, true, false, ◌&&◌, nat_lt, List, [], length, map, filter, flat_map, Option, Some, is_some}
+use Rattle.std.specs.Option.{option_map_or, unwrap_or}
 use Rattle.std.specs.List.{list_any}
 use Rattle.bm_base.specs.declared.replica.Marks.{Marks}
 use Rattle.bm_base.specs.declared.replica.Replica.{Replica}
@@ -10,7 +10,7 @@ use Rattle.bm_base.specs.State.{Cluster, by_replica}
 use Rattle.bm_base.specs.Replicas.{is_corrupt, is_good, is_usable, is_live_on, has_storage, is_draining}
 use Rattle.bm_arena.specs.Triplets.{Block}
 use Rattle.bm_arena.specs.Contents.{Contents, block_at, slot_of, marks_at, list_of}
-use Rattle.bm_arena.specs.Holding.{replicas_at}
+use Rattle.bm_arena.specs.Holding.{replicas_at, info_at}
 use Rattle.bm_levels.specs.Judged.{storages_at}
 use Rattle.bm_parts.specs.QueryLaws.{replica_key}
 use Rattle.bm_listing.specs.declared.replicas.Wanted.{Wanted}
@@ -65,3 +65,11 @@ waits_on C a storage = list_any (waits_at C a storage) (list_of a storage)
 -- whether a block of a storage of a node that drains does
 abbrev pub waits_for : Cluster → Contents → ℕ → ℕ → Bool
 waits_for C a n storage = (has_storage C n storage && is_draining C storage) && waits_on C a storage
+
+-- of these slots, those of known blocks, each with the block's number
+abbrev pub known_on : Contents → List ℕ → List (ℕ × ℕ)
+known_on a slots = map (λ slot. (id_at a slot, slot)) (filter (λ slot. is_some (info_at a slot)) slots)
+
+-- a block's number, and its slot
+abbrev pub with_slot : Contents → ℕ → ℕ × ℕ
+with_slot a b = (b, unwrap_or (slot_of a b) 0)

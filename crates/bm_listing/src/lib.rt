@@ -8,6 +8,7 @@ mod blocks;
 mod held_back;
 mod one_block;
 mod replicas;
+mod rows;
 #[cfg(test)]
 mod tests;
 
@@ -15,3 +16,4 @@ pub use blocks::{blocks_on, missing_blocks};
 pub use held_back::is_held_back;
 pub use one_block::{is_still_stored, knows_block, places};
 pub use replicas::{all_replicas, corrupt_replicas, excess_replicas};
+pub use rows::table_rows;

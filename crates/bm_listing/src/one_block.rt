@@ -29,7 +29,7 @@ fn is_stray(tag: Tag) -> bool
 }
 
 /// Puts the storages of the good replicas at a slot behind those that are there.
-fn push_good(arena: &Arena, slot: Slot, into: &mut Vec<StorageId>) -> Result<(), Refusal>
+pub(crate) fn push_good(arena: &Arena, slot: Slot, into: &mut Vec<StorageId>) -> Result<(), Refusal>
     ensures items { OnOk result (into.new.items ≡ into.old.items ++ storages_at (λ _ m. replicas.is_good m.tag) (replicas_at arena.now slot)) }
     ensures refused { IfErr result (λ e. e ≡ Memory) }
 {

@@ -1,7 +1,9 @@
 // What each call that may be refused memory answers with ample memory.
 
-use crate::{all_replicas, blocks_on, corrupt_replicas, excess_replicas, missing_blocks, places};
-use bm_base::{BlockId, BlockInfo, Gen, Refusal, Stamp, StorageId};
+use crate::{
+    all_replicas, blocks_on, corrupt_replicas, excess_replicas, missing_blocks, places, table_rows,
+};
+use bm_base::{BlockId, BlockInfo, Gen, Places, Refusal, Stamp, StorageId};
 use bm_levels::LeveledBlocks;
 use bm_topo::Topology;
 use std::alloc::Global;
@@ -41,6 +43,9 @@ fn missing_blocks_are_sorted(rt: HostRuntime) {
     know(&topology, &mut blocks, BlockId(7)).expect(&rt, "memory");
     let missing = missing_blocks(alloc, &blocks).expect(&rt, "memory");
     assert!(rt; missing.as_slice() == [BlockId(7), BlockId(9)].as_slice());
+    let rows = table_rows(alloc, &blocks).expect(&rt, "memory");
+    let none = Places::none();
+    assert!(rt; rows.as_slice() == [(BlockId(7), none), (BlockId(9), none)].as_slice());
     let are_empty = are_empty(alloc, &blocks).expect(&rt, "memory");
     assert!(rt; are_empty);
 }

@@ -4,16 +4,17 @@ ghost use Rattle.bm_base.specs.declared.refusal.Refusal.TheVariants.{Memory};
 ghost use Rattle.bm_base.specs.State.{Cluster};
 ghost use Rattle.bm_base.specs.Queries as queries;
 ghost use Rattle.bm_base.specs.Levels as levels;
+ghost use Rattle.bm_base.specs.Versions as versions;
 ghost use Rattle.bm_base.specs.Refusals.{block_refusal};
 ghost use Rattle.bm_base.specs.Answering.{Refuses};
 ghost use Rattle.bm_parts.specs.QueryLaws.{holds_back};
 ghost use Rattle.bm_shard.specs.Standing.{StandsIn};
 
 use crate::shard::Shard;
-use bm_base::{BlockId, Items, Level, NodeId, Refusal, Replica, ReplicaId, StorageId};
+use bm_base::{BlockId, Items, Level, NodeId, Places, Refusal, Replica, ReplicaId, StorageId};
 use bm_listing::{
     all_replicas, blocks_on, corrupt_replicas, excess_replicas, is_held_back, knows_block,
-    missing_blocks, places,
+    missing_blocks, places, table_rows,
 };
 use bm_topo::Topology;
 
@@ -71,6 +72,14 @@ impl Shard {
             return Err(Refusal::UnknownBlock);
         }
         places(self.alloc, &self.blocks, id)
+    }
+
+    /// For each known block, rising, the first `MAX_PLACES` of its places: what readers see of it. `Memory`.
+    pub fn table_rows(&self) -> Result<Items<(BlockId, Places)>, Refusal>
+        ensures rows { IfOk result (λ v. v ≡ versions.table self.now.holdings) }
+        ensures refused { IfErr result (λ e. e ≡ Memory) }
+    {
+        table_rows(self.alloc, &self.blocks)
     }
 
     /// How urgently the block wants replicas; `None` where it wants none. `UnknownBlock`. Takes no memory.
