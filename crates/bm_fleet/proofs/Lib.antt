@@ -5,10 +5,12 @@ pub mod Newly
 pub mod Staying
 pub mod Fleets
 pub mod OneOf
+pub mod FromAll
 pub mod Founds
 pub mod Chosen
 pub mod Finished
 pub mod Joins
+pub mod RowPlaces
 pub mod RoundEnd
 pub mod Asked
 pub mod Heartbeats

@@ -4,12 +4,14 @@
 //! ([`Fleet::round`]). What is asked of all shards is joined by one merge of their answers.
 #![tactic(auto)]
 
+mod answered;
 mod asking;
 mod changing;
 mod crewed;
 mod events;
 mod fleet;
 mod gathering;
+mod joined_rows;
 mod joining;
 mod listed;
 mod one_shard;
@@ -18,5 +20,6 @@ mod round_gathering;
 mod round_running;
 mod rounding;
 mod running;
+mod table;
 
 pub use fleet::Fleet;

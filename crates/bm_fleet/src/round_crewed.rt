@@ -5,28 +5,22 @@ ghost use Rattle.bm_base.specs.RoundParts.{round_on_part};
 ghost use Rattle.bm_shard.specs.Seen.{IsReadyForRound};
 ghost use Rattle.bm_shard.specs.Standing.{StandsIn, IsSameButRoom, next_part};
 
+use crate::answered::Answered;
 use crate::crewed::Prepared;
-use bm_base::{Chosen, Refusal, RoundPart};
+use bm_base::{Chosen, RoundPart};
 use bm_shard::Shard;
 use bm_topo::Topology;
 
-/// A shard, and what it found for its next round.
-#[derive(Drop)]
-pub(crate) struct Found {
-    pub shard: Shard,
-    pub part: Result<RoundPart, Refusal>,
-}
-
 /// Finds the part of one shard in its next round.
-pub(crate) fn find_one(shard: Shard, round: u64, topology: &Topology) -> Found
+pub(crate) fn find_one(shard: Shard, round: u64, topology: &Topology) -> Answered<RoundPart>
     requires next { round ≡ shard.round + 1 }
     requires standing { StandsIn topology.now.cluster shard }
     ensures shard { result.shard ≡ shard }
-    ensures part { IfOk result.part (λ p. p ≡ next_part topology.now.cluster shard) }
-    ensures refused { IfErr result.part (λ e. e ≡ Memory) }
+    ensures part { IfOk result.answer (λ p. p ≡ next_part topology.now.cluster shard) }
+    ensures refused { IfErr result.answer (λ e. e ≡ Memory) }
 {
-    let part = shard.round_part(round, topology);
-    Found { shard, part }
+    let answer = shard.round_part(round, topology);
+    Answered { shard, answer }
 }
 
 /// Takes the memory of a round in one shard.

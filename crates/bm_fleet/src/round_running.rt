@@ -1,10 +1,13 @@
 // A round of all shards, worked by a crew.
 ghost use Rattle.std.specs.Prelude.{◌≡◌, ◌≤◌, vec_len};
 ghost use Rattle.std.specs.List.{All, AllZip};
-ghost use Rattle.bm_fleet.specs.RoundWorked.{CanFind, IsFound, HasPart, IsReadied, CanFinish, IsFinished};
+ghost use Rattle.bm_shard.specs.Standing.{next_part};
+ghost use Rattle.bm_fleet.specs.FromShards.{HasAnswered};
+ghost use Rattle.bm_fleet.specs.RoundWorked.{CanFind, HasPart, IsReadied, CanFinish, IsFinished};
 
+use crate::answered::Answered;
 use crate::crewed::Prepared;
-use crate::round_crewed::{Found, find_one, finish_one, ready_one};
+use crate::round_crewed::{find_one, finish_one, ready_one};
 use bm_base::{Chosen, RoundPart};
 use bm_crew::{Gate, Ready};
 use bm_shard::Shard;
@@ -16,19 +19,19 @@ use std::thread::Threads;
 pub(crate) fn find_all<R: Threads + Wait + Sync, G: Gate + Sync>(
     rt: &R,
     gate: &G,
-    ready: Ready<Shard, Found>,
+    ready: Ready<Shard, Answered<RoundPart>>,
     shards: Vec<(u32, Shard)>,
     round: u64,
     topology: &Topology,
-) -> Vec<(u32, Found)>
+) -> Vec<(u32, Answered<RoundPart>)>
     requires room { vec_len shards ≤ ready.room }
     requires shards { All (CanFind topology.now.cluster round) shards.items }
     ensures len { vec_len result ≡ vec_len shards }
-    ensures each { AllZip (IsFound topology.now.cluster) shards.items result.items }
+    ensures each { AllZip (HasAnswered (next_part topology.now.cluster)) shards.items result.items }
 {
-    let work = |index: u32, shard: Shard| -> Found
+    let work = |index: u32, shard: Shard| -> Answered<RoundPart>
         requires { CanFind topology.now.cluster round (index, shard) }
-        ensures { IsFound topology.entry.now.cluster (index, shard) (index, result) }
+        ensures { HasAnswered (next_part topology.entry.now.cluster) (index, shard) (index, result) }
     {
         let _ = index;
         find_one(shard, round, topology)

@@ -15,11 +15,11 @@ ghost use Rattle.bm_fleet.specs.Worked.{IsSame};
 ghost use Rattle.bm_fleet.specs.Rounds.{commands_in, left_by_round};
 ghost use Rattle.bm_fleet.specs.RoundWorked.{CanFind, HasPart, IsFinished};
 
+use crate::answered::{AskRoom, answers_of, ask_room};
 use crate::crewed::Prepared;
 use crate::fleet::Fleet;
 use crate::gathering::gather_prepared;
-use crate::round_crewed::Found;
-use crate::round_gathering::{abort_rounds, gather_found};
+use crate::round_gathering::abort_rounds;
 use crate::round_running::{find_all, finish_all, ready_all};
 use bm_base::{Chosen, Commands, Config, Refusal, RoundPart};
 use bm_crew::{Crew, Gate, Ready};
@@ -71,39 +71,33 @@ impl Fleet {
 /// All memory that a round needs beside the shards' own and what is chosen.
 #[derive(Drop)]
 struct RoundRoom {
-    finding: Ready<Shard, Found>,
+    finding: AskRoom<RoundPart>,
     readying: Ready<Shard, Prepared>,
     finishing: Ready<Shard, Shard>,
-    found: Vec<(u32, Shard)>,
-    parts: Vec<RoundPart>,
     readied: Vec<(u32, Shard)>,
     aborted: Vec<(u32, Shard)>,
 }
 
 fn round_room(alloc: Global, count: usize, workers: usize) -> Result<RoundRoom, Refusal>
     requires { 0 < workers }
-    ensures finding { IfOk result (λ r. r.finding.room ≡ count) }
+    ensures finding { IfOk result (λ r. r.finding.asking.room ≡ count) }
     ensures readying { IfOk result (λ r. r.readying.room ≡ count) }
     ensures finishing { IfOk result (λ r. r.finishing.room ≡ count) }
-    ensures found { IfOk result (λ r. (r.found.items ≡ []) × (count ≤ vec_capacity r.found)) }
-    ensures parts { IfOk result (λ r. (r.parts.items ≡ []) × (count ≤ vec_capacity r.parts)) }
+    ensures back { IfOk result (λ r. (r.finding.back.items ≡ []) × (count ≤ vec_capacity r.finding.back)) }
+    ensures parts { IfOk result (λ r. (r.finding.answers.items ≡ []) × (count ≤ vec_capacity r.finding.answers)) }
     ensures readied { IfOk result (λ r. (r.readied.items ≡ []) × (count ≤ vec_capacity r.readied)) }
     ensures aborted { IfOk result (λ r. (r.aborted.items ≡ []) × (count ≤ vec_capacity r.aborted)) }
     ensures refused { IfErr result (λ e. e ≡ Memory) }
 {
-    let finding = Crew::ready::<Shard, Found>(alloc, count, workers)?;
+    let finding = ask_room(alloc, count, workers)?;
     let readying = Crew::ready::<Shard, Prepared>(alloc, count, workers)?;
     let finishing = Crew::ready::<Shard, Shard>(alloc, count, workers)?;
-    let found = Vec::with_capacity(alloc, count)?;
-    let parts = Vec::with_capacity(alloc, count)?;
     let readied = Vec::with_capacity(alloc, count)?;
     let aborted = Vec::with_capacity(alloc, count)?;
     Ok(RoundRoom {
         finding,
         readying,
         finishing,
-        found,
-        parts,
         readied,
         aborted,
     })
@@ -152,11 +146,11 @@ fn round_of<R: Threads + Wait + Sync, G: Gate + Sync>(
     topology: &Topology,
 ) -> (Vec<(u32, Shard)>, Result<Commands, Refusal>)
     requires counted { last + 1 < 2 ^ 64 }
-    requires finding { vec_len shards ≤ room.finding.room }
+    requires finding { vec_len shards ≤ room.finding.asking.room }
     requires readying { vec_len shards ≤ room.readying.room }
     requires finishing { vec_len shards ≤ room.finishing.room }
-    requires found { (room.found.items ≡ []) × (vec_len shards ≤ vec_capacity room.found) }
-    requires parts { (room.parts.items ≡ []) × (vec_len shards ≤ vec_capacity room.parts) }
+    requires back { (room.finding.back.items ≡ []) × (vec_len shards ≤ vec_capacity room.finding.back) }
+    requires parts { (room.finding.answers.items ≡ []) × (vec_len shards ≤ vec_capacity room.finding.answers) }
     requires readied { (room.readied.items ≡ []) × (vec_len shards ≤ vec_capacity room.readied) }
     requires aborted { (room.aborted.items ≡ []) × (vec_len shards ≤ vec_capacity room.aborted) }
     requires shards { AreShards (length shards.items) shards.items }
@@ -175,13 +169,11 @@ fn round_of<R: Threads + Wait + Sync, G: Gate + Sync>(
         finding,
         readying,
         finishing,
-        found,
-        parts,
         readied,
         aborted,
     } = room;
     let round = last + 1;
-    let (items, found) = parts_of(rt, gate, finding, shards, found, parts, round, topology);
+    let (items, found) = parts_of(rt, gate, finding, shards, round, topology);
     let parts = match found {
         Ok(parts) => parts,
         Err(refusal) => return (items, Err(refusal)),
@@ -213,27 +205,26 @@ fn round_of<R: Threads + Wait + Sync, G: Gate + Sync>(
 fn parts_of<R: Threads + Wait + Sync, G: Gate + Sync>(
     rt: &R,
     gate: &G,
-    finding: Ready<Shard, Found>,
+    room: AskRoom<RoundPart>,
     shards: Vec<(u32, Shard)>,
-    back: Vec<(u32, Shard)>,
-    parts: Vec<RoundPart>,
     round: u64,
     topology: &Topology,
 ) -> (Vec<(u32, Shard)>, Result<Vec<RoundPart>, Refusal>)
-    requires room { vec_len shards ≤ finding.room }
-    requires back { (back.items ≡ []) × (vec_len shards ≤ vec_capacity back) }
-    requires parts { (parts.items ≡ []) × (vec_len shards ≤ vec_capacity parts) }
+    requires room { vec_len shards ≤ room.asking.room }
+    requires back { (room.back.items ≡ []) × (vec_len shards ≤ vec_capacity room.back) }
+    requires answers { (room.answers.items ≡ []) × (vec_len shards ≤ vec_capacity room.answers) }
     requires shards { All (CanFind topology.now.cluster round) shards.items }
     ensures shards { result.0.items ≡ shards.items }
     ensures parts { IfOk result.1 (λ v. v.items ≡ map (λ s. next_part topology.now.cluster s.1) shards.items) }
     ensures refused { IfErr result.1 (λ e. e ≡ Memory) }
 {
-    let found = find_all(rt, gate, finding, shards, round, topology);
-    let (items, parts, outcome) = gather_found(found, back, parts);
-    match outcome {
-        Ok(()) => (items, Ok(parts)),
-        Err(refusal) => (items, Err(refusal)),
-    }
+    let AskRoom {
+        asking,
+        back,
+        answers,
+    } = room;
+    let found = find_all(rt, gate, asking, shards, round, topology);
+    answers_of(found, back, answers)
 }
 
 /// What was chosen for a round, and what it commands.

@@ -1,16 +1,11 @@
-use Rattle.std.proofs.Common.{◌∙◌, sym}
-use Rattle.bm_fleet.proofs.Founds.{same_shards, all_parts, found_refused}
+use Rattle.bm_shard.specs.Standing.{next_part}
 use Rattle.bm_fleet.proofs.rounding.parts_of.Goals as goal
 
-pub returns-in-Ok-clause-shards : goal.returns-in-Ok-clause-shards
-returns-in-Ok-clause-shards g c = c.gather_found-items.ensures.shards ∙ same_shards c.args.topology.now.cluster _ _ c.find_all-found.ensures.each
+pub returns-clause-shards : goal.returns-clause-shards
+returns-clause-shards g c = c.answers_of.ensures.shards (next_part c.args.topology.now.cluster) c.args.shards.items c.find_all-found.ensures.each
 
-pub returns-in-Ok-clause-parts : goal.returns-in-Ok-clause-parts
-returns-in-Ok-clause-parts g c =
-    c.gather_found-items.ensures.parts ∙ all_parts c.args.topology.now.cluster _ _ c.find_all-found.ensures.each (sym c.gather_found-items.ensures.outcome ∙ c.in-Ok.is)
+pub returns-clause-parts : goal.returns-clause-parts
+returns-clause-parts g c = c.answers_of.ensures.answers (next_part c.args.topology.now.cluster) c.args.shards.items c.find_all-found.ensures.each
 
-pub returns-in-Err-clause-shards : goal.returns-in-Err-clause-shards
-returns-in-Err-clause-shards g c = c.gather_found-items.ensures.shards ∙ same_shards c.args.topology.now.cluster _ _ c.find_all-found.ensures.each
-
-pub returns-in-Err-clause-refused : goal.returns-in-Err-clause-refused
-returns-in-Err-clause-refused g c = found_refused c.args.topology.now.cluster _ _ _ c.find_all-found.ensures.each (sym c.gather_found-items.ensures.outcome ∙ c.in-Err.is)
+pub returns-clause-refused : goal.returns-clause-refused
+returns-clause-refused g c = c.answers_of.ensures.refused (next_part c.args.topology.now.cluster) c.args.shards.items c.find_all-found.ensures.each
