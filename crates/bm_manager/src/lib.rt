@@ -6,6 +6,7 @@ mod asking;
 mod calls;
 mod commanding;
 mod manager;
+mod publishing;
 
 pub use alike::answers_alike;
 pub use manager::Manager;

@@ -1,0 +1,37 @@
+-- The rows of a table rise by the numbers of their blocks.
+use Rattle.std.specs.Prelude.{◌≡◌, ◌<◌, ℕ, List, [], ◌∷◌, map, take, AllPairs, T}
+use Rattle.std.specs.List.{All}
+use Rattle.std.specs.FinMap.{is_sorted}
+use Rattle.std.specs.FinMap.Entries.{below_all}
+use Rattle.std.specs.Ordering.{nat_cmp, is_lt}
+use Rattle.std.proofs.Common.{subst, sym, arith, ap}
+use Rattle.std.proofs.lemmas.Bool.Decides.{nat_tests}
+use Rattle.std.proofs.lemmas.List.Elements.{All-nil, All-cons}
+use Rattle.std.proofs.lemmas.List.Kept.{AllPairs-cons}
+use Rattle.bm_base.specs.Conjunction.{first, second}
+use Rattle.bm_base.specs.declared.limits.TheConstants.{MAX_PLACES}
+use Rattle.bm_base.specs.declared.replica.BlockInfo.{BlockInfo}
+use Rattle.bm_base.specs.Map.{keys, entries}
+use Rattle.bm_base.specs.State.{Holdings}
+use Rattle.bm_base.specs.Queries.{places}
+use Rattle.bm_base.specs.Versions.{Row, table}
+use Rattle.bm_view.specs.Version.{RisesById}
+
+module _ (f : ℕ → List ℕ) where
+  abbrev rows : List (ℕ × BlockInfo) → List Row
+  rows es = map (λ (b : ℕ). (b, f b)) (map (λ (e : ℕ × BlockInfo). e.0) es)
+
+  below_rows : (b : ℕ) (es : List (ℕ × BlockInfo)) → T (below_all nat_cmp b es) → All (λ (r : Row). b < r.0) (rows es)
+  below_rows b [] h = All-nil (λ (r : Row). b < r.0)
+  below_rows b (e ∷ es) h = All-cons (λ (r : Row). b < r.0) (e.0, f e.0) (rows es) (less b e.0 (first _ _ h)) (below_rows b es (second _ _ h))
+    where
+      less : (x y : ℕ) → T (is_lt (nat_cmp x y)) → x < y
+      less x y h = grind (arith, nat_tests, h)
+
+  rows_rise : (es : List (ℕ × BlockInfo)) → T (is_sorted nat_cmp es) → RisesById (rows es)
+  rows_rise [] h = λ i j d lt within. absurd (omega (arith, within))
+  rows_rise (e ∷ es) h = AllPairs-cons (λ (r s : Row). r.0 < s.0) (e.0, f e.0) (rows es) (below_rows e.0 es (first _ _ h)) (rows_rise es (second _ _ h))
+
+pub table_rises : (H : Holdings) → RisesById (table H)
+unfolding table keys entries
+table_rises H = rows_rise (λ b. take MAX_PLACES (places H b)) H.blocks.list H.blocks.sorted
