@@ -13,12 +13,14 @@ use std::sync::Wait;
 use std::sync::atomic::{AtomicU64, Ordering};
 use std::thread::Threads;
 
+mod readers;
+
 /// A call, as the lists below tell it.
 #[derive(Clone, Copy)]
 enum Told<'a> {
     /// A node, its rack and its storages.
     Register(u32, u32, &'a [u32]),
-    /// A node, and a storage of it on which a hundred bytes are free.
+    /// A node, and a storage of it on which a thousand bytes are free.
     Free(u32, u32),
     /// A block, and how many replicas of it are wanted.
     Add(u64, u32),
@@ -58,7 +60,7 @@ fn free(alloc: Global, node: u32, storage: u32) -> Result<Event, AllocError> {
     let mut remaining = Vec::new(alloc);
     remaining.push(Remaining {
         storage: StorageId(storage),
-        remaining: 100,
+        remaining: 1000,
     })?;
     Ok(Event::Heartbeat {
         node: NodeId(node),
