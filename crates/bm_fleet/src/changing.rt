@@ -8,10 +8,9 @@ ghost use Rattle.bm_base.specs.Refusals.{first_of, cluster_checks};
 ghost use Rattle.bm_base.specs.Calls.{done};
 ghost use Rattle.bm_parts.specs.Parts.{block_of};
 ghost use Rattle.bm_fleet.specs.Worked.{Accepts, CanCommit, IsSame};
-ghost use Rattle.bm_fleet.specs.Whole.{AreShards, EachStandsIn, EachTook, StandsIn, HasTaken, held_by};
+ghost use Rattle.bm_fleet.specs.Whole.{AreShards, EachStandsIn, EachTook, held_by};
 
 use crate::crewed::{Committed, Prepared};
-use crate::fleet::Fleet;
 use crate::gathering::{abort_all, gather_committed, gather_prepared};
 use crate::running::{commit_all, prepare_all};
 use bm_base::{Done, Event, Refusal};
@@ -22,45 +21,6 @@ use std::alloc::Global;
 use std::mem;
 use std::sync::Wait;
 use std::thread::Threads;
-
-impl Fleet {
-    /// Changes all shards by an event on no block, or none of them: a crew of `workers`, the calling thread among them, takes the memory of
-    /// the event in each shard, and then changes each. `Memory`, and then nothing that is seen has changed but room.
-    #[tactic(auto, unfolding(crate::specs::Whole::StandsIn, crate::specs::Whole::HasTaken))]
-    pub(crate) fn change_each<R: Threads + Wait + Sync, G: Gate + Sync>(
-        &mut self,
-        rt: &R,
-        gate: &G,
-        workers: usize,
-        event: &Event,
-        topology: &Topology,
-        multi: bool,
-    ) -> Result<Done, Refusal>
-        requires workers { 0 < workers }
-        requires cluster { first_of (cluster_checks topology.now.cluster event.now) ≡ None }
-        requires every { block_of event.now ≡ None }
-        requires multi { multi ≡ is_multi_rack (change_cluster topology.now.cluster event.now) }
-        requires standing { StandsIn topology.now.cluster self.old }
-        ensures done { IfOk result (λ d. d ≡ done self.old.holdings self.new.holdings) }
-        ensures changed { OnOk result (self.new.holdings ≡ change_holdings topology.now.cluster self.old.holdings event.now) }
-        ensures standing { OnOk result (StandsIn (change_cluster topology.now.cluster event.now) self.new) }
-        ensures rounds { (round pend : ℕ) → HasTaken round pend self.old → HasTaken round pend self.new }
-        ensures unchanged { OnErr result (self.new.holdings ≡ self.old.holdings) }
-        ensures still { OnErr result (StandsIn topology.now.cluster self.new) }
-        ensures refused { IfErr result (λ e. e ≡ Memory) }
-    {
-        change_all(
-            self.alloc,
-            rt,
-            gate,
-            workers,
-            &mut self.shards,
-            event,
-            topology,
-            multi,
-        )
-    }
-}
 
 /// All memory that an event on all shards needs beside the shards' own.
 #[derive(Drop)]
@@ -95,8 +55,9 @@ fn event_room(alloc: Global, count: usize, workers: usize) -> Result<EventRoom, 
     })
 }
 
-/// Changes all shards by an event, or none. Refused for want of memory alone, and then nothing that is seen has changed but room.
-fn change_all<R: Threads + Wait + Sync, G: Gate + Sync>(
+/// Changes all shards by an event on no block, or none of them: a crew of `workers`, the calling thread among them, takes the memory of the
+/// event in each shard, and then changes each. `Memory`, and then nothing that is seen has changed but room.
+pub(crate) fn change_all<R: Threads + Wait + Sync, G: Gate + Sync>(
     alloc: Global,
     rt: &R,
     gate: &G,

@@ -7,8 +7,9 @@ ghost use Rattle.bm_base.specs.Refusals.{first_of, cluster_checks, block_checks}
 ghost use Rattle.bm_base.specs.Answering.{Refuses, takes_memory};
 ghost use Rattle.bm_fleet.specs.Whole.{StandsIn, HasTaken};
 
+use crate::changing::change_all;
 use crate::fleet::Fleet;
-use crate::one_shard::block_of;
+use crate::one_shard::{block_of, change_own};
 use bm_base::{Done, Event, Refusal};
 use bm_crew::Gate;
 use bm_topo::Topology;
@@ -20,6 +21,7 @@ impl Fleet {
     /// any other is made by a crew of `workers`, the calling thread among them, on all shards or on none. `topology` is the cluster before
     /// the event, `multi` says whether the alive nodes stand on two racks or more after it. Answers how many replicas came and went.
     /// `Memory`, but for an event that takes no memory, and then nothing that is seen has changed but room.
+    #[tactic(auto, unfolding(crate::specs::Whole::StandsIn, crate::specs::Whole::HasTaken))]
     pub fn change<R: Threads + Wait + Sync, G: Gate + Sync>(
         &mut self,
         rt: &R,
@@ -50,8 +52,17 @@ impl Fleet {
             });
         }
         match block_of(event) {
-            Some(_) => self.change_one(event, topology, multi),
-            None => self.change_each(rt, gate, workers, event, topology, multi),
+            Some(id) => change_own(&mut self.shards, id, event, topology, multi),
+            None => change_all(
+                self.alloc,
+                rt,
+                gate,
+                workers,
+                &mut self.shards,
+                event,
+                topology,
+                multi,
+            ),
         }
     }
 }

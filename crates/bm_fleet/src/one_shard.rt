@@ -1,5 +1,5 @@
 // An event on one block, made on the block's shard alone.
-ghost use Rattle.std.specs.Prelude.{◌≡◌, ◌<◌, ℕ, None, Some, IfOk, IfErr, OnOk, OnErr, IsSome, length, slice_get};
+ghost use Rattle.std.specs.Prelude.{◌≡◌, ◌<◌, ℕ, None, Some, IfOk, IfErr, OnOk, OnErr, length, slice_get};
 ghost use Rattle.bm_base.specs.Replicas.{is_multi_rack};
 ghost use Rattle.bm_base.specs.Shards.{shard_of};
 ghost use Rattle.bm_base.specs.Events.{change_cluster, change_holdings};
@@ -9,49 +9,17 @@ ghost use Rattle.bm_base.specs.Answering.{Refuses, takes_memory};
 ghost use Rattle.bm_parts.specs.Parts.{block_of};
 ghost use Rattle.bm_shard.specs.Seen.{Seen};
 ghost use Rattle.bm_shard.specs.Standing.{StandsIn, IsSameButRoom};
-ghost use Rattle.bm_fleet.specs.Whole as fleet;
 ghost use Rattle.bm_fleet.specs.Whole.{AreShards, EachStandsIn, EachTook, held_by};
 ghost use Rattle.bm_fleet.specs.Worked.{Accepts};
 ghost use Rattle.bm_fleet.specs.OneShard.{IsChanged, IsMadeAt};
 
-use crate::fleet::Fleet;
 use bm_base::{BlockId, Done, Event, Refusal};
 use bm_shard::Shard;
 use bm_topo::Topology;
 
-impl Fleet {
-    /// Changes the shard of a block alone by an event on the block that no check refuses; the other shards are not looked at. `topology` is
-    /// the cluster before the event, `multi` says whether the alive nodes stand on two racks or more after it. Answers how many replicas came
-    /// and went. `Memory`, but for an event that takes no memory, and then nothing that is seen has changed but room.
-    #[tactic(auto, unfolding(crate::specs::Whole::StandsIn, crate::specs::Whole::HasTaken))]
-    pub(crate) fn change_one(
-        &mut self,
-        event: &Event,
-        topology: &Topology,
-        multi: bool,
-    ) -> Result<Done, Refusal>
-        requires one { IsSome (block_of event.now) }
-        requires cluster { first_of (cluster_checks topology.now.cluster event.now) ≡ None }
-        requires blocks { first_of (block_checks self.old.holdings event.now) ≡ None }
-        requires multi { multi ≡ is_multi_rack (change_cluster topology.now.cluster event.now) }
-        requires standing { fleet.StandsIn topology.now.cluster self.old }
-        ensures done { IfOk result (λ d. d ≡ done self.old.holdings self.new.holdings) }
-        ensures changed { OnOk result (self.new.holdings ≡ change_holdings topology.now.cluster self.old.holdings event.now) }
-        ensures standing { OnOk result (fleet.StandsIn (change_cluster topology.now.cluster event.now) self.new) }
-        ensures rounds { (round pend : ℕ) → fleet.HasTaken round pend self.old → fleet.HasTaken round pend self.new }
-        ensures unchanged { OnErr result (self.new.holdings ≡ self.old.holdings) }
-        ensures still { OnErr result (fleet.StandsIn topology.now.cluster self.new) }
-        ensures refused { IfErr result (Refuses None (takes_memory event.now)) }
-    {
-        match block_of(event) {
-            Some(id) => change_own(&mut self.shards, id, event, topology, multi),
-            None => unreachable!(),
-        }
-    }
-}
-
-/// Changes the shard of a block alone by an event on the block, or leaves it as it was in all but room.
-fn change_own(
+/// Changes the shard of a block alone by an event on the block; the other shards are not looked at. `Memory`, but for an event that takes no
+/// memory, and then nothing that is seen has changed but room.
+pub(crate) fn change_own(
     shards: &mut Vec<(u32, Shard)>,
     id: BlockId,
     event: &Event,
