@@ -39,7 +39,7 @@ pub(crate) fn first_refusal(
     }
 }
 
-/// The shards, each of which gave up what was prepared, moved into the room of `back`.
+/// The shards, each of which gave up what was made ready for an event or a round, moved into the room of `back`.
 pub(crate) fn abort_all(shards: Vec<(u32, Shard)>, mut back: Vec<(u32, Shard)>) -> Vec<(u32, Shard)>
     requires room { (back.items ≡ []) × (vec_len shards ≤ vec_capacity back) }
     ensures each { AllZip IsSame shards.items result.items }
@@ -50,11 +50,12 @@ pub(crate) fn abort_all(shards: Vec<(u32, Shard)>, mut back: Vec<(u32, Shard)>) 
     back
 }
 
-/// A shard that gave up what was prepared.
+/// A shard that gave up what was made ready for an event or a round.
 fn abort_one(mut shard: Shard) -> Shard
     ensures { IsSameButRoom shard result }
 {
     shard.abort();
+    shard.round_abort();
     shard
 }
 

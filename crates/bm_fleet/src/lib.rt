@@ -16,7 +16,6 @@ mod joining;
 mod listed;
 mod one_shard;
 mod round_crewed;
-mod round_gathering;
 mod round_running;
 mod rounding;
 mod running;

@@ -18,8 +18,7 @@ ghost use Rattle.bm_fleet.specs.RoundWorked.{CanFind, HasPart, IsFinished};
 use crate::answered::{AskRoom, answers_of, ask_room};
 use crate::crewed::Prepared;
 use crate::fleet::Fleet;
-use crate::gathering::gather_prepared;
-use crate::round_gathering::abort_rounds;
+use crate::gathering::{abort_all, gather_prepared};
 use crate::round_running::{find_all, finish_all, ready_all};
 use bm_base::{Chosen, Commands, Config, Refusal, RoundPart};
 use bm_crew::{Crew, Gate, Ready};
@@ -286,6 +285,6 @@ fn take_round<R: Threads + Wait + Sync, G: Gate + Sync>(
             let items = finish_all(rt, gate, finishing, items, parts, chosen, topology);
             (items, Ok(()))
         }
-        Err(refusal) => (abort_rounds(items, aborted), Err(refusal)),
+        Err(refusal) => (abort_all(items, aborted), Err(refusal)),
     }
 }

@@ -22,7 +22,7 @@ pub returns-in-Err-clause-same : goal.returns-in-Err-clause-same
 returns-in-Err-clause-same g c =
     all_same_again _ _ _
     (subst (AllZip IsSame c.args.shards.items) (sym c.gather_prepared-items.ensures.shards) (readied_same c.args.topology.now.cluster c.args.chosen.now _ _ c.ready_all-made.ensures.each))
-    c.abort_rounds.ensures.each
+    c.abort_all.ensures.each
 
 pub returns-in-Err-clause-refused : goal.returns-in-Err-clause-refused
 returns-in-Err-clause-refused g c =
