@@ -1,8 +1,12 @@
 // Entries that nothing needs any more: those that a report found bare, and those that one left so.
-ghost use Rattle.std.specs.Prelude.{◌≡◌, []};
+ghost use Rattle.std.specs.Prelude.{◌≡◌, ℕ, [], Some, IsSome, IsTrue};
 ghost use Rattle.bm_base.specs.State.{Cluster};
+ghost use Rattle.bm_base.specs.Events.{is_named};
+ghost use Rattle.bm_base.specs.SlotLists.{Among};
+ghost use Rattle.bm_arena.specs.Contents.{slot_of};
 ghost use Rattle.bm_arena.specs.Holding.{replicas_of, blocks_of};
 ghost use Rattle.bm_report.specs.Ready.{told};
+ghost use Rattle.bm_levels.specs.Bare.{IsBare, MakesNoneBare};
 ghost use Rattle.bm_levels.specs.Leveled.{AreLevels};
 
 use crate::leveled::LeveledBlocks;
@@ -16,6 +20,8 @@ impl LeveledBlocks {
         ensures told { told report.new ≡ [] }
         ensures blocks { blocks_of self.new.arena ≡ blocks_of self.old.arena }
         ensures replicas { replicas_of self.new.arena ≡ replicas_of self.old.arena }
+        ensures bare { MakesNoneBare self.old.arena self.new.arena }
+        ensures left { (b : ℕ) → IsTrue (is_named (told report.old) b) → IsBare self.new.arena b → ⊥ }
         ensures levels { (C : Cluster) → AreLevels C self.old → AreLevels C self.new }
     {
         self.arena.lawful();
@@ -27,6 +33,8 @@ impl LeveledBlocks {
     pub fn drop_bare(&mut self, slots: &[Slot])
         ensures blocks { blocks_of self.new.arena ≡ blocks_of self.old.arena }
         ensures replicas { replicas_of self.new.arena ≡ replicas_of self.old.arena }
+        ensures bare { MakesNoneBare self.old.arena self.new.arena }
+        ensures left { (b slot : ℕ) → Among slot slots.now → slot_of self.old.arena b ≡ Some slot → IsBare self.new.arena b → ⊥ }
         ensures levels { (C : Cluster) → AreLevels C self.old → AreLevels C self.new }
     {
         for slot in slots {
@@ -38,6 +46,8 @@ impl LeveledBlocks {
     fn drop_at(&mut self, slot: Slot)
         ensures blocks { blocks_of self.new.arena ≡ blocks_of self.old.arena }
         ensures replicas { replicas_of self.new.arena ≡ replicas_of self.old.arena }
+        ensures numbers { (b : ℕ) → IsSome (slot_of self.new.arena b) → slot_of self.new.arena b ≡ slot_of self.old.arena b }
+        ensures left { (b : ℕ) → slot_of self.old.arena b ≡ Some slot → IsBare self.new.arena b → ⊥ }
         ensures levels { (C : Cluster) → AreLevels C self.old → AreLevels C self.new }
     {
         self.arena.lawful();
