@@ -13,3 +13,4 @@ mod Arrivals
 mod LookedUp
 mod OwnTransfers
 mod AfterRound
+mod Bare

@@ -2,6 +2,7 @@
 ghost use Rattle.std.specs.Prelude.{◌≡◌, ◌<◌, ℕ, IfOk, IfErr};
 ghost use Rattle.bm_base.specs.declared.refusal.Refusal.TheVariants.{Memory};
 ghost use Rattle.bm_base.specs.State.{Cluster, empty_holdings};
+ghost use Rattle.bm_shard.specs.Bare.{HasNoneBare};
 ghost use Rattle.bm_shard.specs.Standing.{StandsIn};
 
 use bm_base::{BlockId, Config, Part, Refusal, StorageId};
@@ -68,6 +69,7 @@ impl Shard {
         ensures round { IfOk result (λ s. s.round ≡ config.now.first_round) }
         ensures pend { IfOk result (λ s. s.pend ≡ config.now.pend) }
         ensures standing { IfOk result (λ s. (C : Cluster) → StandsIn C s) }
+        ensures bare { IfOk result (λ s. HasNoneBare s) }
         ensures refused { IfErr result (λ e. e ≡ Memory) }
     {
         let blocks = LeveledBlocks::new(alloc)?;
