@@ -14,7 +14,7 @@ use Rattle.bm_arena.specs.Triplets.{Block}
 use Rattle.bm_arena.specs.Contents.{Contents, block_at, slot_of, find_marks, list_of, HasHead, unlinked, IsLawful}
 use Rattle.bm_arena.specs.Holding.{replicas_at, replicas_of, blocks_of, info_at}
 use Rattle.bm_report.specs.Aborted.{is_bare_number}
-use Rattle.bm_levels.specs.Bare.{IsBare, HasNoneBare, MakesNoneBare, MakesBareOnly}
+use Rattle.bm_levels.specs.Bare.{IsBare, HasNoneBare, MakesNoneBare, MakesBareOnly, KeepsSlots}
 use Rattle.bm_levels.proofs.Revising.{known_at, held_at}
 
 none_some : {X : Type 0} {x : X} → None ≡ Some x → ⊥
@@ -145,8 +145,7 @@ pub none_bare : (a : Contents) → a.ids ≡ [] → HasNoneBare a
 none_bare a none b bare = let P : List (ℕ × ℕ) → Type 0 = λ l. IsSome (lookup (nat_eq b) l) in false≢true (subst P none bare.entry)
 
 -- A number that keeps an entry, where one is dropped, keeps its own.
-pub slots_kept : (a c : Contents) (slot : ℕ) → ((id : ℕ) → slot_of a id ≢ Some slot → slot_of c id ≡ slot_of a id) → ((id : ℕ) → slot_of a id ≡ Some slot → slot_of c id ≡ None)
-    → (b : ℕ) → IsSome (slot_of c b) → slot_of c b ≡ slot_of a b
+pub slots_kept : (a c : Contents) (slot : ℕ) → ((id : ℕ) → slot_of a id ≢ Some slot → slot_of c id ≡ slot_of a id) → ((id : ℕ) → slot_of a id ≡ Some slot → slot_of c id ≡ None) → KeepsSlots a c
 slots_kept a c slot numbers gone b some = by (slot_of a b) refl
   where
     by : (o : Option ℕ) → slot_of a b ≡ o → slot_of c b ≡ slot_of a b

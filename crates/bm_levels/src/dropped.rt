@@ -1,12 +1,11 @@
 // Entries that nothing needs any more: those that a report found bare, and those that one left so.
-ghost use Rattle.std.specs.Prelude.{◌≡◌, ℕ, [], Some, IsSome, IsTrue};
+ghost use Rattle.std.specs.Prelude.{◌≡◌, ℕ, [], Some};
 ghost use Rattle.bm_base.specs.State.{Cluster};
 ghost use Rattle.bm_base.specs.Events.{is_named};
-ghost use Rattle.bm_base.specs.SlotLists.{Among};
 ghost use Rattle.bm_arena.specs.Contents.{slot_of};
 ghost use Rattle.bm_arena.specs.Holding.{replicas_of, blocks_of};
 ghost use Rattle.bm_report.specs.Ready.{told};
-ghost use Rattle.bm_levels.specs.Bare.{IsBare, MakesNoneBare};
+ghost use Rattle.bm_levels.specs.Bare.{IsBare, HasNoneBareOf, HasNoneBareAt, MakesNoneBare, KeepsSlots};
 ghost use Rattle.bm_levels.specs.Leveled.{AreLevels};
 
 use crate::leveled::LeveledBlocks;
@@ -21,7 +20,7 @@ impl LeveledBlocks {
         ensures blocks { blocks_of self.new.arena ≡ blocks_of self.old.arena }
         ensures replicas { replicas_of self.new.arena ≡ replicas_of self.old.arena }
         ensures bare { MakesNoneBare self.old.arena self.new.arena }
-        ensures left { (b : ℕ) → IsTrue (is_named (told report.old) b) → IsBare self.new.arena b → ⊥ }
+        ensures left { HasNoneBareOf (is_named (told report.old)) self.new.arena }
         ensures levels { (C : Cluster) → AreLevels C self.old → AreLevels C self.new }
     {
         self.arena.lawful();
@@ -34,7 +33,8 @@ impl LeveledBlocks {
         ensures blocks { blocks_of self.new.arena ≡ blocks_of self.old.arena }
         ensures replicas { replicas_of self.new.arena ≡ replicas_of self.old.arena }
         ensures bare { MakesNoneBare self.old.arena self.new.arena }
-        ensures left { (b slot : ℕ) → Among slot slots.now → slot_of self.old.arena b ≡ Some slot → IsBare self.new.arena b → ⊥ }
+        ensures left { HasNoneBareAt slots.now self.old.arena self.new.arena }
+        ensures slots { KeepsSlots self.old.arena self.new.arena }
         ensures levels { (C : Cluster) → AreLevels C self.old → AreLevels C self.new }
     {
         for slot in slots {
@@ -46,7 +46,7 @@ impl LeveledBlocks {
     fn drop_at(&mut self, slot: Slot)
         ensures blocks { blocks_of self.new.arena ≡ blocks_of self.old.arena }
         ensures replicas { replicas_of self.new.arena ≡ replicas_of self.old.arena }
-        ensures numbers { (b : ℕ) → IsSome (slot_of self.new.arena b) → slot_of self.new.arena b ≡ slot_of self.old.arena b }
+        ensures slots { KeepsSlots self.old.arena self.new.arena }
         ensures left { (b : ℕ) → slot_of self.old.arena b ≡ Some slot → IsBare self.new.arena b → ⊥ }
         ensures levels { (C : Cluster) → AreLevels C self.old → AreLevels C self.new }
     {

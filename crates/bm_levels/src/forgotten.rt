@@ -12,7 +12,7 @@ ghost use Rattle.bm_levels.specs.Bare.{MakesNoneBare};
 ghost use Rattle.bm_levels.specs.Judged.{drains_then};
 ghost use Rattle.bm_levels.specs.Leveled.{AreLevels};
 ghost use Rattle.bm_levels.specs.LevelsBy.{AreLevelsBy};
-ghost use Rattle.bm_levels.specs.Leaving.{IsLeaving};
+ghost use Rattle.bm_levels.specs.Leaving.{IsLeaving, HasNoHeads, MakesNoHead};
 
 use crate::around::Around;
 use crate::leveled::LeveledBlocks;
@@ -31,7 +31,7 @@ impl LeveledBlocks {
         ensures few { result < 2 ^ 100 }
         ensures bare { MakesNoneBare self.old.arena self.new.arena }
         ensures head { HasHead self.new.arena storage → ⊥ }
-        ensures fewer { (other : ℕ) → HasHead self.new.arena other → HasHead self.old.arena other }
+        ensures fewer { MakesNoHead self.old.arena self.new.arena }
         ensures levels { AreLevels topology.now.cluster self.old → AreLevels (events.without_storage topology.now.cluster storage) self.new }
     {
         let removed = self.clear(&Around::still(topology), storage);
@@ -50,8 +50,8 @@ impl LeveledBlocks {
         ensures removed { result ≡ calls.new_replicas (replicas_of self.new.arena) (replicas_of self.old.arena) }
         ensures few { result < 2 ^ 100 }
         ensures bare { MakesNoneBare self.old.arena self.new.arena }
-        ensures heads { (s : ℕ) → replicas.has_storage topology.now.cluster node s ≡ true → HasHead self.new.arena s → ⊥ }
-        ensures fewer { (other : ℕ) → HasHead self.new.arena other → HasHead self.old.arena other }
+        ensures heads { HasNoHeads (replicas.has_storage topology.now.cluster node) self.new.arena }
+        ensures fewer { MakesNoHead self.old.arena self.new.arena }
         ensures levels { AreLevels topology.now.cluster self.old → AreLevels (events.without_node topology.now.cluster node) self.new }
     {
         self.judge_racks(topology, multi);
@@ -71,8 +71,8 @@ impl LeveledBlocks {
         ensures few { result < 2 ^ 100 }
         ensures none { (s : ℕ) → replicas.has_storage around.now.topology.now.cluster node s ≡ true → list_of self.new.arena s ≡ [] }
         ensures bare { MakesNoneBare self.old.arena self.new.arena }
-        ensures heads { (s : ℕ) → replicas.has_storage around.now.topology.now.cluster node s ≡ true → HasHead self.new.arena s → ⊥ }
-        ensures fewer { (other : ℕ) → HasHead self.new.arena other → HasHead self.old.arena other }
+        ensures heads { HasNoHeads (replicas.has_storage around.now.topology.now.cluster node) self.new.arena }
+        ensures fewer { MakesNoHead self.old.arena self.new.arena }
         ensures levels { AreLevelsBy (replicas.rack_of around.now.topology.now.cluster) (drains_then around.now.topology.now.cluster around.now.turning) around.now.multi self.old → AreLevelsBy (replicas.rack_of around.now.topology.now.cluster) (drains_then around.now.topology.now.cluster around.now.turning) around.now.multi self.new }
     {
         let mut removed = 0;
@@ -92,7 +92,7 @@ impl LeveledBlocks {
         ensures none { list_of self.new.arena storage ≡ [] }
         ensures bare { MakesNoneBare self.old.arena self.new.arena }
         ensures head { HasHead self.new.arena storage → ⊥ }
-        ensures fewer { (other : ℕ) → HasHead self.new.arena other → HasHead self.old.arena other }
+        ensures fewer { MakesNoHead self.old.arena self.new.arena }
         ensures levels { AreLevelsBy (replicas.rack_of around.now.topology.now.cluster) (drains_then around.now.topology.now.cluster around.now.turning) around.now.multi self.old → AreLevelsBy (replicas.rack_of around.now.topology.now.cluster) (drains_then around.now.topology.now.cluster around.now.turning) around.now.multi self.new }
     {
         self.arena().lawful();
@@ -121,7 +121,7 @@ impl LeveledBlocks {
         ensures left { IsLeaving (λ s. s == storage) self.old.arena self.new.arena 1 }
         ensures list { list_of self.old.arena storage ≡ slot ∷ list_of self.new.arena storage }
         ensures bare { MakesNoneBare self.old.arena self.new.arena }
-        ensures fewer { (other : ℕ) → HasHead self.new.arena other → HasHead self.old.arena other }
+        ensures fewer { MakesNoHead self.old.arena self.new.arena }
         ensures levels { AreLevelsBy (replicas.rack_of around.now.topology.now.cluster) (drains_then around.now.topology.now.cluster around.now.turning) around.now.multi self.old → AreLevelsBy (replicas.rack_of around.now.topology.now.cluster) (drains_then around.now.topology.now.cluster around.now.turning) around.now.multi self.new }
     {
         self.lawful();
@@ -138,7 +138,7 @@ impl LeveledBlocks {
         ensures blocks { blocks_of self.new.arena ≡ blocks_of self.old.arena }
         ensures replicas { (id : ℕ) → slot_of self.old.arena id ≡ Some slot → replicas_of self.new.arena ≡ remove (replicas_of self.old.arena) (replica_at id storage) }
         ensures rest { KeepsOthers self.old.arena self.new.arena slot storage }
-        ensures fewer { (other : ℕ) → HasHead self.new.arena other → HasHead self.old.arena other }
+        ensures fewer { MakesNoHead self.old.arena self.new.arena }
         ensures levels { AreLevelsBy (replicas.rack_of around.now.topology.now.cluster) (drains_then around.now.topology.now.cluster around.now.turning) around.now.multi self.old → AreLevelsBy (replicas.rack_of around.now.topology.now.cluster) (drains_then around.now.topology.now.cluster around.now.turning) around.now.multi self.new }
     {
         self.arena.lawful();
@@ -156,7 +156,7 @@ impl LeveledBlocks {
         ensures lists { (other : ℕ) → list_of self.new.arena other ≡ list_of self.old.arena other }
         ensures numbers { self.new.arena.ids ≡ self.old.arena.ids }
         ensures head { HasHead self.new.arena storage → ⊥ }
-        ensures fewer { (other : ℕ) → HasHead self.new.arena other → HasHead self.old.arena other }
+        ensures fewer { MakesNoHead self.old.arena self.new.arena }
     {
         self.arena.drop_head(storage);
     }

@@ -6,7 +6,7 @@ ghost use Rattle.bm_base.specs.Levels.{level};
 ghost use Rattle.bm_base.specs.State.{Cluster, by_replica, replica_at};
 ghost use Rattle.bm_arena.specs.Contents.{block_at, slot_of, marks_at, KeepsAllBut, KeepsOthers};
 ghost use Rattle.bm_arena.specs.Holding.{replicas_at, replicas_of, blocks_of, info_at, with_known};
-ghost use Rattle.bm_levels.specs.Bare.{HasNoneBare, MakesNoneBare};
+ghost use Rattle.bm_levels.specs.Bare.{HasNoneBare, MakesNoneBare, KeepsSlots};
 ghost use Rattle.bm_levels.specs.Held.{holdings_with};
 ghost use Rattle.bm_levels.specs.Leveled.{AreLevels, IsLeveled};
 ghost use Rattle.bm_levels.specs.LevelsBy.{AreLevelsBy};
@@ -125,7 +125,7 @@ impl LeveledBlocks {
         ensures numbers { (id : ℕ) → slot_of self.old.arena id ≢ Some slot → slot_of self.new.arena id ≡ slot_of self.old.arena id }
         ensures dropped { IsSomeAnd (block_at self.old.arena slot) (λ b. b.replicas ≡ []) → info_at self.old.arena slot ≡ None → block_at self.new.arena slot ≡ None }
         ensures gone { (id : ℕ) → slot_of self.old.arena id ≡ Some slot → replicas_at self.old.arena slot ≡ [] → info_at self.old.arena slot ≡ None → slot_of self.new.arena id ≡ None }
-        ensures kept { (id : ℕ) → IsSome (slot_of self.new.arena id) → slot_of self.new.arena id ≡ slot_of self.old.arena id }
+        ensures slots { KeepsSlots self.old.arena self.new.arena }
         ensures others { (other : ℕ) → other ≢ slot → block_at self.new.arena other ≡ block_at self.old.arena other }
         ensures lists { self.new.arena.lists ≡ self.old.arena.lists }
         ensures levels { (C : Cluster) → AreLevels C self.old → AreLevels C self.new }

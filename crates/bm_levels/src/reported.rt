@@ -1,17 +1,16 @@
 // Notices of received replicas and full reports, with the levels of the blocks that they change.
-ghost use Rattle.std.specs.Prelude.{◌≡◌, ◌<◌, ◌^◌, ◌∷◌, [], ℕ, IfErr, OnOk, OnErr, ◌≢◌};
+ghost use Rattle.std.specs.Prelude.{◌≡◌, ◌<◌, ◌^◌, ◌∷◌, [], ℕ, IfErr, OnOk, OnErr};
 ghost use Rattle.bm_base.specs.declared.refusal.Refusal.TheVariants.{Memory};
 ghost use Rattle.bm_base.specs.State.{Cluster};
 ghost use Rattle.bm_base.specs.Events as events;
 ghost use Rattle.bm_base.specs.Calls as calls;
-ghost use Rattle.bm_base.specs.SlotLists.{Among};
-ghost use Rattle.bm_arena.specs.Contents.{block_at, KeepsEntries};
+ghost use Rattle.bm_arena.specs.Contents.{KeepsEntries};
 ghost use Rattle.bm_arena.specs.Holding.{replicas_of, blocks_of, holdings_of};
 ghost use Rattle.bm_report.specs.Expanded.{told_to};
 ghost use Rattle.bm_report.specs.Midway.{IsOncePerNode};
 ghost use Rattle.bm_report.specs.Ready.{told, IsReady, HasGoodExcess};
 ghost use Rattle.bm_report.specs.Received.{HasReceived};
-ghost use Rattle.bm_levels.specs.Bare.{MakesNoneBare, MakesBareOnly};
+ghost use Rattle.bm_levels.specs.Bare.{MakesNoneBare, MakesBareOnly, IsSameBeside};
 ghost use Rattle.bm_levels.specs.Leveled.{AreLevels};
 
 use crate::leveled::LeveledBlocks;
@@ -98,7 +97,7 @@ impl LeveledBlocks {
         ensures entries { KeepsEntries self.old.arena self.new.arena }
         ensures once { IsOncePerNode topology.now.cluster (replicas_of self.new.arena) }
         ensures good { HasGoodExcess (replicas_of self.new.arena) }
-        ensures changed { (slot : ℕ) → slot ≢ self.old.arena.delimiter → (Among slot report.new.changed → ⊥) → block_at self.new.arena slot ≡ block_at self.old.arena slot }
+        ensures changed { IsSameBeside report.new.changed self.old.arena self.new.arena }
         ensures told { told report.new ≡ told report.old }
         ensures added { result.added ≡ calls.new_replicas (replicas_of self.old.arena) (replicas_of self.new.arena) }
         ensures removed { result.removed ≡ calls.new_replicas (replicas_of self.new.arena) (replicas_of self.old.arena) }

@@ -1,5 +1,5 @@
 // The memory of an event, and giving it up.
-ghost use Rattle.std.specs.Prelude.{◌≡◌, ◌==◌, ◌<◌, ℕ, None, Some, IsTrue, IfErr, OnOk, OnErr};
+ghost use Rattle.std.specs.Prelude.{◌≡◌, ◌==◌, ◌<◌, ℕ, None, Some, IfErr, OnOk, OnErr};
 ghost use Rattle.bm_base.specs.declared.refusal.Refusal.TheVariants.{Memory};
 ghost use Rattle.bm_base.specs.Answering.{Refuses};
 ghost use Rattle.bm_base.specs.State.{Cluster};
@@ -7,7 +7,7 @@ ghost use Rattle.bm_base.specs.Events.{is_named};
 ghost use Rattle.bm_base.specs.SlotLists.{Among};
 ghost use Rattle.bm_arena.specs.Holding.{replicas_of, blocks_of};
 ghost use Rattle.bm_report.specs.Expanded.{told_to};
-ghost use Rattle.bm_levels.specs.Bare.{IsBare, MakesNoneBare};
+ghost use Rattle.bm_levels.specs.Bare.{HasNoneBareOf, MakesNoneBare};
 ghost use Rattle.bm_levels.specs.Leveled.{AreLevels};
 ghost use Rattle.bm_shard.specs.Seen.{IsReadyFor, takes_room};
 ghost use Rattle.bm_shard.specs.Bare.{HasNoneBare, HasBareOnly, may_enter};
@@ -134,7 +134,7 @@ pub(crate) fn drop_prepared(blocks: &mut LeveledBlocks, report: &mut Report, pre
     ensures blocks { blocks_of blocks.new.arena ≡ blocks_of blocks.old.arena }
     ensures replicas { replicas_of blocks.new.arena ≡ replicas_of blocks.old.arena }
     ensures bare { MakesNoneBare blocks.old.arena blocks.new.arena }
-    ensures left { (b : ℕ) → IsTrue (is_prepared prepared report.old b) → IsBare blocks.new.arena b → ⊥ }
+    ensures left { HasNoneBareOf (is_prepared prepared report.old) blocks.new.arena }
     ensures levels { (C : Cluster) → AreLevels C blocks.old → AreLevels C blocks.new }
 {
     blocks.arena().lawful();

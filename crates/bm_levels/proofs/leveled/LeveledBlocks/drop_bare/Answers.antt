@@ -17,12 +17,12 @@ loop-slot-preserved c =
     record {
       blocks = d.blocks ∙ h.blocks;
       replicas = d.replicas ∙ h.replicas;
-      numbers = λ b some. d.numbers b some ∙ h.numbers b (some_before (d.numbers b some) some);
+      slots = λ b some. d.slots b some ∙ h.slots b (some_before (d.slots b some) some);
       left = λ b slot there at bare.
-          let was : IsBare now b = bare_held now new b (some_before (d.numbers b bare.entry) bare.entry) d.blocks d.replicas bare in
+          let was : IsBare now b = bare_held now new b (some_before (d.slots b bare.entry) bare.entry) d.blocks d.replicas bare in
           let P : List ℕ → Type 0 = λ l. Among slot l in
           elim (subst P next (h.left b slot there at was)) [
-            | inl same ↦ absurd (d.left b (h.numbers b was.entry ∙ at ∙ ap (λ x. Some x) same) bare)
+            | inl same ↦ absurd (d.left b (h.slots b was.entry ∙ at ∙ ap (λ x. Some x) same) bare)
             | inr later ↦ later
           ];
       levels = λ C were. d.levels C (h.levels C were);

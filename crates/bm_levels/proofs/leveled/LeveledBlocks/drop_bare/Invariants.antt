@@ -1,9 +1,9 @@
-use Rattle.std.proofs.Common.{◌≡◌, ℕ, Some, IsSome, drop}
+use Rattle.std.proofs.Common.{◌≡◌, ℕ, Some, drop}
 use Rattle.bm_base.specs.State.{Cluster}
 use Rattle.bm_base.specs.SlotLists.{Among}
 use Rattle.bm_arena.specs.Contents.{slot_of}
 use Rattle.bm_arena.specs.Holding.{replicas_of, blocks_of}
-use Rattle.bm_levels.specs.Bare.{IsBare}
+use Rattle.bm_levels.specs.Bare.{IsBare, KeepsSlots}
 use Rattle.bm_levels.specs.Leveled.{AreLevels}
 use Rattle.bm_levels.proofs.leveled.LeveledBlocks.drop_bare.Given as goal
 
@@ -11,7 +11,7 @@ use Rattle.bm_levels.proofs.leveled.LeveledBlocks.drop_bare.Given as goal
 pub record AreDroppedSoFar (l : goal.Live-loop-slot) : Type 0 where
   pub blocks : blocks_of l.self.arena ≡ blocks_of l.fn.self.arena
   pub replicas : replicas_of l.self.arena ≡ replicas_of l.fn.self.arena
-  pub numbers : (b : ℕ) → IsSome (slot_of l.self.arena b) → slot_of l.self.arena b ≡ slot_of l.fn.self.arena b
+  pub slots : KeepsSlots l.fn.self.arena l.self.arena
   pub left : (b slot : ℕ) → Among slot l.slots → slot_of l.fn.self.arena b ≡ Some slot → IsBare l.self.arena b → Among slot (drop l.slot-index l.slots)
   pub levels : (C : Cluster) → AreLevels C l.fn.self → AreLevels C l.self
 

@@ -47,7 +47,7 @@ returns-then-is_none-clause-gone c =
     let gone = subst P c.self.view_is (done c).gone in
     λ id led none unknown. gone id led
 
-pub returns-then-is_none-clause-kept : goal.returns-then-is_none-clause-kept
-returns-then-is_none-clause-kept c =
+pub returns-then-is_none-clause-slots : goal.returns-then-is_none-clause-slots
+returns-then-is_none-clause-slots c =
     let P : Leveled → Type 0 = λ v. (id : ℕ) → IsSome (slot_of c.drop_entry.new.self id) → slot_of c.drop_entry.new.self id ≡ slot_of v.arena id in
     subst P c.self.view_is (slots_kept c.self.inside.arena c.drop_entry.new.self c.args.slot (done c).numbers (done c).gone)
