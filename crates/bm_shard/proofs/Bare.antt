@@ -33,7 +33,7 @@ use Rattle.bm_shard.specs.declared.shard.Prepared.{Prepared}
 use Rattle.bm_shard.specs.declared.shard.Prepared.TheVariants as prepared
 use Rattle.bm_shard.specs.Seen.{Seen}
 use Rattle.bm_shard.specs.Bare.{IsBare, HasNoneBare, HasBareOnly, may_enter}
-use Rattle.bm_shard.specs.Inside.{numbers_of, is_prepared}
+use Rattle.bm_shard.specs.Inside.{numbers_of, heads_of, is_prepared}
 use Rattle.bm_shard.proofs.Arrivals.{named_there}
 use Rattle.bm_shard.proofs.Numbers.{entered, has_entry}
 use Rattle.bm_base.specs.Excess.{marked, without_unordered_excess}
@@ -42,7 +42,7 @@ use Rattle.bm_shard.proofs.Same.{seen_of}
 -- What is seen of these fields.
 module _ (v : Leveled) (P : Map by_replica ℕ) (part : Part) (round pend : ℕ) (report : Option (ℕ × List Told)) (transfers : List (ℕ × ℕ)) where
   abbrev seen : Seen
-  seen = seen_of v P part round pend (record { entries = numbers_of v.arena; report = report; transfers = transfers })
+  seen = seen_of v P part round pend (record { entries = numbers_of v.arena; lists = heads_of v.arena; report = report; transfers = transfers })
 
   pub bare_inside : (b : ℕ) → IsBare seen b → levels.IsBare v.arena b
   unfolding holdings_with

@@ -14,3 +14,4 @@ mod LookedUp
 mod OwnTransfers
 mod AfterRound
 mod Bare
+mod Left

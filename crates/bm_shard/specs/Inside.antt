@@ -31,6 +31,10 @@ levels_of v = levels_among v.kept v.arena.ids
 abbrev pub numbers_of : Contents → List ℕ
 numbers_of a = map (λ (p : ℕ × ℕ). p.0) a.ids
 
+-- the storages that have a list
+abbrev pub heads_of : Contents → List ℕ
+heads_of a = map (λ (p : ℕ × List ℕ). p.0) a.lists
+
 -- the report that was looked up
 abbrev pub report_of : Looked → Prepared → Option (ℕ × List Told)
 report_of r (prepared.Report s) = Some (s, told r)

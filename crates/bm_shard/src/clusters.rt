@@ -7,6 +7,7 @@ ghost use Rattle.bm_base.specs.Refusals.{first_of, cluster_checks};
 ghost use Rattle.bm_base.specs.declared.event.Event.TheVariants as event_of;
 ghost use Rattle.bm_parts.specs.PlacedLaws.{IsPlaced};
 ghost use Rattle.bm_shard.specs.Bare.{HasNoneBare};
+ghost use Rattle.bm_shard.specs.Left.{HasNoLists};
 ghost use Rattle.bm_shard.specs.Changed.{HasChanged};
 
 use crate::one_block::NOTHING;
@@ -24,6 +25,7 @@ impl Shard {
         requires none { HasNoneBare self.old }
         ensures changed { HasChanged topology.now.cluster (events.without_node topology.now.cluster node) self.old self.new (events.without_storages self.old.holdings (replicas.has_storage topology.now.cluster node)) result }
         ensures few { (result.added < 2 ^ 100) × (result.removed < 2 ^ 100) }
+        ensures lists { HasNoLists (replicas.has_storage topology.now.cluster node) self.new }
         ensures bare { HasNoneBare self.new }
     {
         self.prepared = Prepared::Nothing;
@@ -40,6 +42,7 @@ impl Shard {
         requires none { HasNoneBare self.old }
         ensures changed { HasChanged topology.now.cluster (events.without_storage topology.now.cluster storage) self.old self.new (events.without_storages self.old.holdings (λ t. t == storage)) result }
         ensures few { (result.added < 2 ^ 100) × (result.removed < 2 ^ 100) }
+        ensures lists { HasNoLists (λ s. s == storage) self.new }
         ensures bare { HasNoneBare self.new }
     {
         self.prepared = Prepared::Nothing;

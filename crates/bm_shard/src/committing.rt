@@ -8,6 +8,7 @@ ghost use Rattle.bm_parts.specs.Parts.{block_of, change_part};
 ghost use Rattle.bm_parts.specs.PlacedLaws.{IsPlaced};
 ghost use Rattle.bm_shard.specs.Seen.{IsReadyFor, takes_room};
 ghost use Rattle.bm_shard.specs.Bare.{HasNoneBare};
+ghost use Rattle.bm_shard.specs.Left.{leaves, HasNoLists};
 ghost use Rattle.bm_shard.specs.Changed.{HasChanged, owns};
 ghost use Rattle.bm_shard.specs.Standing.{StandsIn};
 
@@ -30,6 +31,7 @@ impl Shard {
         ensures few { block_of event.now ≡ None → (result.added < 2 ^ 100) × (result.removed < 2 ^ 100) }
         ensures standing { StandsIn (change_cluster topology.now.cluster event.now) self.new }
         ensures bare { HasNoneBare self.new }
+        ensures lists { HasNoLists (leaves topology.now.cluster event.now) self.new }
         ensures part { self.new.part ≡ self.old.part }
         ensures rounds { (self.new.round ≡ self.old.round) × (self.new.pend ≡ self.old.pend) }
     {
@@ -67,6 +69,7 @@ impl Shard {
         ensures changed { HasChanged topology.now.cluster (change_cluster topology.now.cluster event.now) self.old self.new (change_part topology.now.cluster self.old.holdings self.old.part.index self.old.part.shards event.now) result }
         ensures few { block_of event.now ≡ None → (result.added < 2 ^ 100) × (result.removed < 2 ^ 100) }
         ensures bare { HasNoneBare self.new }
+        ensures lists { HasNoLists (leaves topology.now.cluster event.now) self.new }
     {
         match event {
             Event::Register {

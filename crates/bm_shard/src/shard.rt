@@ -42,7 +42,7 @@ impl Model for Shard {
     ghost use Rattle.bm_shard.specs.Seen.{Seen};
     ghost use Rattle.bm_shard.specs.Codes.{coded_seen};
     ghost use Rattle.bm_levels.specs.Held.{holdings_with};
-    ghost use Rattle.bm_shard.specs.Inside.{levels_of, numbers_of, report_of, IsShard};
+    ghost use Rattle.bm_shard.specs.Inside.{levels_of, numbers_of, heads_of, report_of, IsShard};
 
     ghost Value = { Seen };
 
@@ -54,7 +54,7 @@ impl Model for Shard {
       round = s.round;
       pend = s.pend;
       levels = levels_of s.blocks;
-      room = record { entries = numbers_of s.blocks.arena; report = report_of s.report s.prepared; transfers = s.pending.rooms };
+      room = record { entries = numbers_of s.blocks.arena; lists = heads_of s.blocks.arena; report = report_of s.report s.prepared; transfers = s.pending.rooms };
     } };
 
     ghost invariant = { λ s. IsShard s.part s.blocks s.report s.prepared };

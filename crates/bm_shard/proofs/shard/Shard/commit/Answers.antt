@@ -9,8 +9,9 @@ use Rattle.bm_parts.proofs.WellPlaced.{event_keeps_placed}
 use Rattle.bm_shard.specs.Seen.{Seen}
 use Rattle.bm_shard.specs.Changed.{HasChanged, owns}
 use Rattle.bm_shard.proofs.Changing.{changed_after, stands_still}
-use Rattle.bm_shard.proofs.Own.{left_alone}
+use Rattle.bm_shard.proofs.Own.{left_alone, not_owned}
 use Rattle.bm_shard.proofs.Ready.{ready_without}
+use Rattle.bm_shard.proofs.Left.{none_leaves}
 use Rattle.bm_shard.proofs.shard.Shard.commit.Goals as goal
 
 pub returns-then-not-owns-clause-holdings : goal.returns-then-not-owns-clause-holdings
@@ -78,3 +79,8 @@ returns-clause-part c = (changed c).part
 
 pub returns-clause-rounds : goal.returns-clause-rounds
 returns-clause-rounds c = ((changed c).round, (changed c).pend)
+
+pub returns-then-not-owns-clause-lists : goal.returns-then-not-owns-clause-lists
+returns-then-not-owns-clause-lists c s leaving there =
+    let b = not_owned c.args.self.now.part c.args.event.now (sym c.owns.ensures ∙ c.if-not-owns.true) in
+    none_leaves c.args.topology.now.cluster c.args.event.now b.0 b.1 s leaving

@@ -10,6 +10,7 @@ use Rattle.bm_shard.proofs.Counts.{gone_by_keep}
 use Rattle.bm_levels.specs.Bare.{HasNoneBare}
 use Rattle.bm_shard.proofs.Bare.{none_kept, none_outside}
 use Rattle.bm_shard.proofs.LookedUp.{none_looked_up}
+use Rattle.bm_shard.proofs.Left.{none_listed}
 use Rattle.bm_shard.proofs.shard.Shard.forget_node.Goals as goal
 
 pub returns-clause-changed : goal.returns-clause-changed
@@ -36,3 +37,6 @@ pub returns-clause-bare : goal.returns-clause-bare
 returns-clause-bare c =
     none_outside c.forget_node-removed.new.self c.drop_transfers_to.new.pending.map c.self.inside.part c.self.inside.round c.self.inside.pend _ _
     (none_kept c.self.inside.blocks c.self.inside.pending.map c.self.inside.part c.self.inside.round c.self.inside.pend _ _ c.forget_node-removed.new.self c.args.self.now c.self.view_is c.requires.none (c.forget_node-removed.ensures.bare))
+
+pub returns-clause-lists : goal.returns-clause-lists
+returns-clause-lists c = none_listed c.forget_node-removed.new.self.arena (has_storage c.args.topology.now.cluster c.args.node) c.forget_node-removed.ensures.heads

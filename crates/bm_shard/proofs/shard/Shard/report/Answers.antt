@@ -11,7 +11,7 @@ use Rattle.bm_report.specs.Ready.{HasGoodExcess, told}
 use Rattle.bm_levels.specs.Held.{holdings_with}
 use Rattle.bm_shard.specs.Seen.{Seen}
 use Rattle.bm_shard.specs.Changed.{HasChanged}
-use Rattle.bm_shard.specs.Inside.{numbers_of}
+use Rattle.bm_shard.specs.Inside.{numbers_of, heads_of}
 use Rattle.bm_shard.proofs.Arrivals.{arrived_named}
 use Rattle.bm_shard.proofs.Changing.{changed_seen}
 use Rattle.bm_shard.proofs.LookedUp.{looked_up, none_looked_up}
@@ -48,7 +48,7 @@ returns-clause-changed c ts seen =
     let there = ap (λ (a : Contents). replicas_of a) c.arena-2.ensures ∙ reported.replicas in
     let arrived = c.drop_arrived.ensures ∙ arrived_named C (holdings_of old.blocks.arena) s old.report.named c.arena-2.result.now there old.pending.map in
     let P : List Told → Type 0 = λ l. HasChanged C C c.args.self.now
-    (seen_of new c.drop_arrived.new.pending.map old.part old.round old.pend (record { entries = numbers_of new.arena; report = None; transfers = c.drop_arrived.new.pending.rooms }))
+    (seen_of new c.drop_arrived.new.pending.map old.part old.round old.pend (record { entries = numbers_of new.arena; lists = heads_of new.arena; report = None; transfers = c.drop_arrived.new.pending.rooms }))
     (report C c.args.self.now.holdings s l) c.done.result in
     subst P (looked_up old.report old.prepared s ts (ap (λ (S : Seen). S.room.report) c.self.view_is ∙ seen)).1
     (changed_seen C C old.blocks new old.pending.map c.drop_arrived.new.pending.map (subst (λ a. IsLawful a) c.arena.ensures c.lawful-2.ensures) c.lawful.ensures (subst (λ a. IsLawful a) c.arena-3.ensures c.lawful-3.ensures)
