@@ -13,7 +13,6 @@ use Rattle.bm_base.specs.Map.{Map, Order, by_number, contains_key, get, insert, 
 use Rattle.bm_base.specs.State.{Cluster, Holdings, by_replica, replica_at}
 use Rattle.bm_base.specs.Entries.{Told}
 use Rattle.bm_base.specs.Events.{enter, is_named, report}
-use Rattle.bm_base.specs.SlotLists.{Among}
 use Rattle.bm_base.proofs.SlotLists.{dec_among}
 use Rattle.bm_base.proofs.Options.{there}
 use Rattle.bm_base.proofs.MapLaws.{get-insert, get-revise}
@@ -130,9 +129,9 @@ none_received C H a c s b stamp lawful ids others is only n bare =
 
 -- Where none but the numbers of a report were bare, and the slots that it changed have no bare entry any more, none is.
 pub none_reported : (C : Cluster) (H : Holdings) (s : ℕ) (ns : List Named) (a m c : Contents) (changed : List ℕ) → IsLawful a → m.ids ≡ a.ids
-    → ((slot : ℕ) → slot ≢ a.delimiter → (Among slot changed → ⊥) → block_at m slot ≡ block_at a slot) → replicas_of m ≡ (report C H s (map told_of ns)).replicas
+    → levels.IsSameBeside changed a m → replicas_of m ≡ (report C H s (map told_of ns)).replicas
     → ((n : ℕ) → levels.IsBare a n → IsTrue (is_named (map told_of ns) n)) → levels.MakesNoneBare m c
-    → ((n slot : ℕ) → Among slot changed → slot_of m n ≡ Some slot → levels.IsBare c n → ⊥) → levels.HasNoneBare c
+    → levels.HasNoneBareAt changed m c → levels.HasNoneBare c
 none_reported C H s ns a m c changed lawful ids others is only keeps left n bare =
     let mid = keeps n bare in
     let led = there (slot_of m n) mid.entry in

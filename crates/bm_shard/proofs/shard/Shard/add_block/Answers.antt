@@ -33,12 +33,11 @@ returns-clause-changed c =
     (λ i. record { blocks = (dropped.blocks ∙ added.blocks) i; replicas = (dropped.replicas ∙ added.replicas) i; pending = old.pending.map })
     (λ i. record { added = sym none i; removed = sym none i })
 
+none : (c : goal.After-lawful-3) → HasNoneBare c.drop_prepared.new.blocks.arena
+none c = λ b bare. c.drop_prepared.ensures.left b (c.self.invariant.bare b (bare_by c.self.inside.blocks.arena c.add_block.new.self.arena c.add_block.ensures.numbers (none_put _ _ c.args.id _ c.add_block.ensures.blocks) (same_none _ _ c.add_block.ensures.replicas) b (c.drop_prepared.ensures.bare b bare))) bare
+
 pub invariant_of-self : goal.invariant_of-self
-invariant_of-self c =
-    let none : HasNoneBare c.drop_prepared.new.blocks.arena = λ b bare. c.drop_prepared.ensures.left b (c.self.invariant.bare b (bare_by c.self.inside.blocks.arena c.add_block.new.self.arena c.add_block.ensures.numbers (none_put _ _ c.args.id _ c.add_block.ensures.blocks) (same_none _ _ c.add_block.ensures.replicas) b (c.drop_prepared.ensures.bare b bare))) bare in
-    record { index = c.self.invariant.index; ready = λ s e. absurd (none_looked_up s e); fresh = λ s e. absurd (none_looked_up s e); bare = λ b h. absurd (none b h) }
+invariant_of-self c = record { index = c.self.invariant.index; ready = λ s e. absurd (none_looked_up s e); fresh = λ s e. absurd (none_looked_up s e); bare = λ b h. absurd (none c b h) }
 
 pub returns-clause-bare : goal.returns-clause-bare
-returns-clause-bare c =
-    none_outside c.drop_prepared.new.blocks c.self.inside.pending.map c.self.inside.part c.self.inside.round c.self.inside.pend _ _
-    (λ b bare. c.drop_prepared.ensures.left b (c.self.invariant.bare b (bare_by c.self.inside.blocks.arena c.add_block.new.self.arena c.add_block.ensures.numbers (none_put _ _ c.args.id _ c.add_block.ensures.blocks) (same_none _ _ c.add_block.ensures.replicas) b (c.drop_prepared.ensures.bare b bare))) bare)
+returns-clause-bare c = none_outside c.drop_prepared.new.blocks c.self.inside.pending.map c.self.inside.part c.self.inside.round c.self.inside.pend _ _ (none c)

@@ -23,12 +23,11 @@ returns-clause-changed c =
     (λ i. record { blocks = changed.blocks i; replicas = changed.replicas i; pending = c.remove_block.ensures.map i })
     (λ i. record { added = sym none.0 i; removed = sym none.1 i })
 
+none : (c : goal.After-lawful-3) → HasNoneBare c.delete_block.new.self.arena
+none c = none_kept c.self.inside.blocks c.self.inside.pending.map c.self.inside.part c.self.inside.round c.self.inside.pend _ _ c.delete_block.new.self c.args.self.now c.self.view_is c.requires.none (c.delete_block.ensures.bare)
+
 pub invariant_of-self : goal.invariant_of-self
-invariant_of-self c =
-    let none : HasNoneBare c.delete_block.new.self.arena = none_kept c.self.inside.blocks c.self.inside.pending.map c.self.inside.part c.self.inside.round c.self.inside.pend _ _ c.delete_block.new.self c.args.self.now c.self.view_is c.requires.none (c.delete_block.ensures.bare) in
-    record { index = c.self.invariant.index; ready = λ s e. absurd (none_looked_up s e); fresh = λ s e. absurd (none_looked_up s e); bare = λ b h. absurd (none b h) }
+invariant_of-self c = record { index = c.self.invariant.index; ready = λ s e. absurd (none_looked_up s e); fresh = λ s e. absurd (none_looked_up s e); bare = λ b h. absurd (none c b h) }
 
 pub returns-clause-bare : goal.returns-clause-bare
-returns-clause-bare c =
-    none_outside c.delete_block.new.self c.remove_block.new.self.map c.self.inside.part c.self.inside.round c.self.inside.pend _ _
-    (none_kept c.self.inside.blocks c.self.inside.pending.map c.self.inside.part c.self.inside.round c.self.inside.pend _ _ c.delete_block.new.self c.args.self.now c.self.view_is c.requires.none (c.delete_block.ensures.bare))
+returns-clause-bare c = none_outside c.delete_block.new.self c.remove_block.new.self.map c.self.inside.part c.self.inside.round c.self.inside.pend _ _ (none c)

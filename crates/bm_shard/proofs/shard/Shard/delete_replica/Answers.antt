@@ -26,12 +26,11 @@ returns-clause-changed c =
     (λ i. record { blocks = changed.blocks i; replicas = changed.replicas i; pending = old.pending.map })
     (λ i. record { added = sym none.0 i; removed = removed i })
 
+none : (c : goal.After-one_if) → HasNoneBare c.remove_replica-is_removed.new.self.arena
+none c = none_kept c.self.inside.blocks c.self.inside.pending.map c.self.inside.part c.self.inside.round c.self.inside.pend _ _ c.remove_replica-is_removed.new.self c.args.self.now c.self.view_is c.requires.none (c.remove_replica-is_removed.ensures.bare)
+
 pub invariant_of-self : goal.invariant_of-self
-invariant_of-self c =
-    let none : HasNoneBare c.remove_replica-is_removed.new.self.arena = none_kept c.self.inside.blocks c.self.inside.pending.map c.self.inside.part c.self.inside.round c.self.inside.pend _ _ c.remove_replica-is_removed.new.self c.args.self.now c.self.view_is c.requires.none (c.remove_replica-is_removed.ensures.bare) in
-    record { index = c.self.invariant.index; ready = λ s e. absurd (none_looked_up s e); fresh = λ s e. absurd (none_looked_up s e); bare = λ b h. absurd (none b h) }
+invariant_of-self c = record { index = c.self.invariant.index; ready = λ s e. absurd (none_looked_up s e); fresh = λ s e. absurd (none_looked_up s e); bare = λ b h. absurd (none c b h) }
 
 pub returns-clause-bare : goal.returns-clause-bare
-returns-clause-bare c =
-    none_outside c.remove_replica-is_removed.new.self c.self.inside.pending.map c.self.inside.part c.self.inside.round c.self.inside.pend _ _
-    (none_kept c.self.inside.blocks c.self.inside.pending.map c.self.inside.part c.self.inside.round c.self.inside.pend _ _ c.remove_replica-is_removed.new.self c.args.self.now c.self.view_is c.requires.none (c.remove_replica-is_removed.ensures.bare))
+returns-clause-bare c = none_outside c.remove_replica-is_removed.new.self c.self.inside.pending.map c.self.inside.part c.self.inside.round c.self.inside.pend _ _ (none c)

@@ -28,15 +28,14 @@ returns-clause-changed c =
     (λ i. record { blocks = left.blocks i; replicas = left.replicas i; pending = c.drop_transfers_to.ensures i })
     (λ i. record { added = sym none i; removed = went i })
 
+none : (c : goal.After-drop_transfers_to) → HasNoneBare c.forget_node-removed.new.self.arena
+none c = none_kept c.self.inside.blocks c.self.inside.pending.map c.self.inside.part c.self.inside.round c.self.inside.pend _ _ c.forget_node-removed.new.self c.args.self.now c.self.view_is c.requires.none (c.forget_node-removed.ensures.bare)
+
 pub invariant_of-self : goal.invariant_of-self
-invariant_of-self c =
-    let none : HasNoneBare c.forget_node-removed.new.self.arena = none_kept c.self.inside.blocks c.self.inside.pending.map c.self.inside.part c.self.inside.round c.self.inside.pend _ _ c.forget_node-removed.new.self c.args.self.now c.self.view_is c.requires.none (c.forget_node-removed.ensures.bare) in
-    record { index = c.self.invariant.index; ready = λ s e. absurd (none_looked_up s e); fresh = λ s e. absurd (none_looked_up s e); bare = λ b h. absurd (none b h) }
+invariant_of-self c = record { index = c.self.invariant.index; ready = λ s e. absurd (none_looked_up s e); fresh = λ s e. absurd (none_looked_up s e); bare = λ b h. absurd (none c b h) }
 
 pub returns-clause-bare : goal.returns-clause-bare
-returns-clause-bare c =
-    none_outside c.forget_node-removed.new.self c.drop_transfers_to.new.pending.map c.self.inside.part c.self.inside.round c.self.inside.pend _ _
-    (none_kept c.self.inside.blocks c.self.inside.pending.map c.self.inside.part c.self.inside.round c.self.inside.pend _ _ c.forget_node-removed.new.self c.args.self.now c.self.view_is c.requires.none (c.forget_node-removed.ensures.bare))
+returns-clause-bare c = none_outside c.forget_node-removed.new.self c.drop_transfers_to.new.pending.map c.self.inside.part c.self.inside.round c.self.inside.pend _ _ (none c)
 
 pub returns-clause-lists : goal.returns-clause-lists
 returns-clause-lists c = none_listed c.forget_node-removed.new.self.arena (has_storage c.args.topology.now.cluster c.args.node) c.forget_node-removed.ensures.heads

@@ -22,12 +22,11 @@ returns-clause-changed c =
     (heartbeat_leaves C c.args.remaining.now old.blocks) old.part old.round old.pend _ _ (λ H. H) _ c.args.self.now c.self.view_is refl
     (λ i. record { added = sym none i; removed = sym none i })
 
+none : (c : goal.After-lawful-2) → HasNoneBare c.self.inside.blocks.arena
+none c = none_kept c.self.inside.blocks c.self.inside.pending.map c.self.inside.part c.self.inside.round c.self.inside.pend _ _ c.self.inside.blocks c.args.self.now c.self.view_is c.requires.none (λ b h. h)
+
 pub invariant_of-self : goal.invariant_of-self
-invariant_of-self c =
-    let none : HasNoneBare c.self.inside.blocks.arena = none_kept c.self.inside.blocks c.self.inside.pending.map c.self.inside.part c.self.inside.round c.self.inside.pend _ _ c.self.inside.blocks c.args.self.now c.self.view_is c.requires.none (λ b h. h) in
-    record { index = c.self.invariant.index; ready = λ s e. absurd (none_looked_up s e); fresh = λ s e. absurd (none_looked_up s e); bare = λ b h. absurd (none b h) }
+invariant_of-self c = record { index = c.self.invariant.index; ready = λ s e. absurd (none_looked_up s e); fresh = λ s e. absurd (none_looked_up s e); bare = λ b h. absurd (none c b h) }
 
 pub returns-clause-bare : goal.returns-clause-bare
-returns-clause-bare c =
-    none_outside c.self.inside.blocks c.self.inside.pending.map c.self.inside.part c.self.inside.round c.self.inside.pend _ _
-    (none_kept c.self.inside.blocks c.self.inside.pending.map c.self.inside.part c.self.inside.round c.self.inside.pend _ _ c.self.inside.blocks c.args.self.now c.self.view_is c.requires.none (λ b h. h))
+returns-clause-bare c = none_outside c.self.inside.blocks c.self.inside.pending.map c.self.inside.part c.self.inside.round c.self.inside.pend _ _ (none c)

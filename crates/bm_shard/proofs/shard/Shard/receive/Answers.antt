@@ -38,12 +38,11 @@ returns-clause-changed c =
       removed = (c.done.ensures.1 ∙ received.removed ∙ ap (λ m. new_replicas m (replicas_of old.blocks.arena)) received.replicas) i;
     })
 
+none : (c : goal.After-done) → HasNoneBare c.receive-applied.new.self.arena
+none c = none_received c.args.topology.now.cluster (holdings_of c.self.inside.blocks.arena) c.self.inside.blocks.arena c.receive-applied.new.self.arena c.args.storage c.args.id c.args.stamp (subst (λ a. IsLawful a) c.arena.ensures c.lawful-2.ensures) c.receive-applied.ensures.received.entries.ids c.receive-applied.ensures.received.others c.receive-applied.ensures.received.replicas (λ n h. prepared_one c.self.inside.prepared c.self.inside.report c.args.storage c.args.id c.args.stamp n (looked_up c.self.inside.report c.self.inside.prepared c.args.storage _ (ap (λ (S : Seen). S.room.report) c.self.view_is ∙ c.requires.ready)).0 (looked_up c.self.inside.report c.self.inside.prepared c.args.storage _ (ap (λ (S : Seen). S.room.report) c.self.view_is ∙ c.requires.ready)).1 (c.self.invariant.bare n h))
+
 pub invariant_of-self : goal.invariant_of-self
-invariant_of-self c =
-    let none : HasNoneBare c.receive-applied.new.self.arena = none_received c.args.topology.now.cluster (holdings_of c.self.inside.blocks.arena) c.self.inside.blocks.arena c.receive-applied.new.self.arena c.args.storage c.args.id c.args.stamp (subst (λ a. IsLawful a) c.arena.ensures c.lawful-2.ensures) c.receive-applied.ensures.received.entries.ids c.receive-applied.ensures.received.others c.receive-applied.ensures.received.replicas (λ n h. prepared_one c.self.inside.prepared c.self.inside.report c.args.storage c.args.id c.args.stamp n (looked_up c.self.inside.report c.self.inside.prepared c.args.storage _ (ap (λ (S : Seen). S.room.report) c.self.view_is ∙ c.requires.ready)).0 (looked_up c.self.inside.report c.self.inside.prepared c.args.storage _ (ap (λ (S : Seen). S.room.report) c.self.view_is ∙ c.requires.ready)).1 (c.self.invariant.bare n h)) in
-    record { index = c.self.invariant.index; ready = λ s e. absurd (none_looked_up s e); fresh = λ s e. absurd (none_looked_up s e); bare = λ b h. absurd (none b h) }
+invariant_of-self c = record { index = c.self.invariant.index; ready = λ s e. absurd (none_looked_up s e); fresh = λ s e. absurd (none_looked_up s e); bare = λ b h. absurd (none c b h) }
 
 pub returns-clause-bare : goal.returns-clause-bare
-returns-clause-bare c =
-    none_outside c.receive-applied.new.self c.remove.new.self.map c.self.inside.part c.self.inside.round c.self.inside.pend _ _
-    (none_received c.args.topology.now.cluster (holdings_of c.self.inside.blocks.arena) c.self.inside.blocks.arena c.receive-applied.new.self.arena c.args.storage c.args.id c.args.stamp (subst (λ a. IsLawful a) c.arena.ensures c.lawful-2.ensures) c.receive-applied.ensures.received.entries.ids c.receive-applied.ensures.received.others c.receive-applied.ensures.received.replicas (λ n h. prepared_one c.self.inside.prepared c.self.inside.report c.args.storage c.args.id c.args.stamp n (looked_up c.self.inside.report c.self.inside.prepared c.args.storage _ (ap (λ (S : Seen). S.room.report) c.self.view_is ∙ c.requires.ready)).0 (looked_up c.self.inside.report c.self.inside.prepared c.args.storage _ (ap (λ (S : Seen). S.room.report) c.self.view_is ∙ c.requires.ready)).1 (c.self.invariant.bare n h)))
+returns-clause-bare c = none_outside c.receive-applied.new.self c.remove.new.self.map c.self.inside.part c.self.inside.round c.self.inside.pend _ _ (none c)

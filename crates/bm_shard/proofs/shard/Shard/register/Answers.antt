@@ -27,12 +27,11 @@ returns-clause-changed c =
     (c.see_racks.ensures.levels D c.requires.multi same) old.part old.round old.pend _ _ (λ H. H) _ c.args.self.now c.self.view_is
     (ap (λ a. holdings_with a old.pending.map) c.see_racks.ensures.arena) (λ i. record { added = sym none i; removed = sym none i })
 
+none : (c : goal.After-lawful-4) → HasNoneBare c.see_racks.new.self.arena
+none c = none_kept c.self.inside.blocks c.self.inside.pending.map c.self.inside.part c.self.inside.round c.self.inside.pend _ _ c.see_racks.new.self c.args.self.now c.self.view_is c.requires.none (same_bare c.self.inside.blocks.arena c.see_racks.new.self.arena c.see_racks.ensures.arena)
+
 pub invariant_of-self : goal.invariant_of-self
-invariant_of-self c =
-    let none : HasNoneBare c.see_racks.new.self.arena = none_kept c.self.inside.blocks c.self.inside.pending.map c.self.inside.part c.self.inside.round c.self.inside.pend _ _ c.see_racks.new.self c.args.self.now c.self.view_is c.requires.none (same_bare c.self.inside.blocks.arena c.see_racks.new.self.arena c.see_racks.ensures.arena) in
-    record { index = c.self.invariant.index; ready = λ s e. absurd (none_looked_up s e); fresh = λ s e. absurd (none_looked_up s e); bare = λ b h. absurd (none b h) }
+invariant_of-self c = record { index = c.self.invariant.index; ready = λ s e. absurd (none_looked_up s e); fresh = λ s e. absurd (none_looked_up s e); bare = λ b h. absurd (none c b h) }
 
 pub returns-clause-bare : goal.returns-clause-bare
-returns-clause-bare c =
-    none_outside c.see_racks.new.self c.self.inside.pending.map c.self.inside.part c.self.inside.round c.self.inside.pend _ _
-    (none_kept c.self.inside.blocks c.self.inside.pending.map c.self.inside.part c.self.inside.round c.self.inside.pend _ _ c.see_racks.new.self c.args.self.now c.self.view_is c.requires.none (same_bare c.self.inside.blocks.arena c.see_racks.new.self.arena c.see_racks.ensures.arena))
+returns-clause-bare c = none_outside c.see_racks.new.self c.self.inside.pending.map c.self.inside.part c.self.inside.round c.self.inside.pend _ _ (none c)

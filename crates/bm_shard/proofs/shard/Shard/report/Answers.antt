@@ -1,10 +1,8 @@
-use Rattle.std.proofs.Common.{◌≡◌, ℕ, List, None, subst, sym, ap, ◌∙◌}
-use Rattle.std.specs.Prelude.{◌≢◌}
-use Rattle.bm_base.specs.SlotLists.{Among}
+use Rattle.std.proofs.Common.{ℕ, List, None, subst, sym, ap, ◌∙◌}
 use Rattle.bm_base.specs.Entries.{Told}
 use Rattle.bm_base.specs.Events.{report, entered, entered_tag, was_bad, was_excess}
 use Rattle.bm_base.specs.Calls.{done, new_replicas}
-use Rattle.bm_arena.specs.Contents.{Contents, block_at, IsLawful}
+use Rattle.bm_arena.specs.Contents.{Contents, IsLawful}
 use Rattle.bm_arena.specs.Holding.{replicas_of, holdings_of}
 use Rattle.bm_report.specs.Midway.{IsOncePerNode}
 use Rattle.bm_report.specs.Ready.{HasGoodExcess, told}
@@ -59,24 +57,18 @@ returns-clause-changed c ts seen =
       removed = (c.done.ensures.1 ∙ reported.removed ∙ ap (λ m. new_replicas m (replicas_of old.blocks.arena)) reported.replicas) i;
     }))
 
-pub invariant_of-self : goal.invariant_of-self
-invariant_of-self c =
-    let none : levels.HasNoneBare c.drop_bare.new.self.arena = (let a = c.self.inside.blocks.arena in
+none : (c : goal.After-done) → levels.HasNoneBare c.drop_bare.new.self.arena
+none c =
+    let a = c.self.inside.blocks.arena in
     let m = c.apply_report-applied.new.self.arena in
     let reported = c.apply_report-applied.ensures in
-    let P : List ℕ → Type 0 = λ l. (slot : ℕ) → slot ≢ a.delimiter → (Among slot l → ⊥) → block_at m slot ≡ block_at a slot in
+    let P : List ℕ → Type 0 = λ l. levels.IsSameBeside l a m in
     let is_looked = looked_up c.self.inside.report c.self.inside.prepared c.args.storage c.requires.ready.0 (ap (λ (S : Seen). S.room.report) c.self.view_is ∙ c.requires.ready.1) in
     none_reported c.args.topology.now.cluster (holdings_of a) c.args.storage c.self.inside.report.named a m c.drop_bare.new.self.arena c.changed.result.now (subst (λ x. IsLawful x) c.arena.ensures c.lawful-2.ensures) reported.entries.ids
-    (subst P (sym c.changed.ensures) reported.changed) reported.replicas (λ n h. prepared_report c.self.inside.prepared c.self.inside.report c.args.storage n is_looked.0 (c.self.invariant.bare n h)) c.drop_bare.ensures.bare c.drop_bare.ensures.left) in
-    record { index = c.self.invariant.index; ready = λ s e. absurd (none_looked_up s e); fresh = λ s e. absurd (none_looked_up s e); bare = λ b h. absurd (none b h) }
+    (subst P (sym c.changed.ensures) reported.changed) reported.replicas (λ n h. prepared_report c.self.inside.prepared c.self.inside.report c.args.storage n is_looked.0 (c.self.invariant.bare n h)) c.drop_bare.ensures.bare c.drop_bare.ensures.left
+
+pub invariant_of-self : goal.invariant_of-self
+invariant_of-self c = record { index = c.self.invariant.index; ready = λ s e. absurd (none_looked_up s e); fresh = λ s e. absurd (none_looked_up s e); bare = λ b h. absurd (none c b h) }
 
 pub returns-clause-bare : goal.returns-clause-bare
-returns-clause-bare c =
-    let none : levels.HasNoneBare c.drop_bare.new.self.arena = (let a = c.self.inside.blocks.arena in
-    let m = c.apply_report-applied.new.self.arena in
-    let reported = c.apply_report-applied.ensures in
-    let P : List ℕ → Type 0 = λ l. (slot : ℕ) → slot ≢ a.delimiter → (Among slot l → ⊥) → block_at m slot ≡ block_at a slot in
-    let is_looked = looked_up c.self.inside.report c.self.inside.prepared c.args.storage c.requires.ready.0 (ap (λ (S : Seen). S.room.report) c.self.view_is ∙ c.requires.ready.1) in
-    none_reported c.args.topology.now.cluster (holdings_of a) c.args.storage c.self.inside.report.named a m c.drop_bare.new.self.arena c.changed.result.now (subst (λ x. IsLawful x) c.arena.ensures c.lawful-2.ensures) reported.entries.ids
-    (subst P (sym c.changed.ensures) reported.changed) reported.replicas (λ n h. prepared_report c.self.inside.prepared c.self.inside.report c.args.storage n is_looked.0 (c.self.invariant.bare n h)) c.drop_bare.ensures.bare c.drop_bare.ensures.left) in
-    none_outside c.drop_bare.new.self c.drop_arrived.new.pending.map c.self.inside.part c.self.inside.round c.self.inside.pend _ _ none
+returns-clause-bare c = none_outside c.drop_bare.new.self c.drop_arrived.new.pending.map c.self.inside.part c.self.inside.round c.self.inside.pend _ _ (none c)

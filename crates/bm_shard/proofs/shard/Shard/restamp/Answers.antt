@@ -23,12 +23,11 @@ returns-clause-changed c =
     (λ i. record { blocks = changed.blocks i; replicas = changed.replicas i; pending = c.remove_block.ensures.map i })
     (λ i. record { added = sym none.0 i; removed = sym none.1 i })
 
+none : (c : goal.After-lawful-3) → HasNoneBare c.restamp.new.self.arena
+none c = none_kept c.self.inside.blocks c.self.inside.pending.map c.self.inside.part c.self.inside.round c.self.inside.pend _ _ c.restamp.new.self c.args.self.now c.self.view_is c.requires.none (bare_by c.self.inside.blocks.arena c.restamp.new.self.arena c.restamp.ensures.numbers (none_revised_at _ _ c.args.id _ c.restamp.ensures.blocks) (none_revised _ _ _ c.restamp.ensures.replicas))
+
 pub invariant_of-self : goal.invariant_of-self
-invariant_of-self c =
-    let none : HasNoneBare c.restamp.new.self.arena = none_kept c.self.inside.blocks c.self.inside.pending.map c.self.inside.part c.self.inside.round c.self.inside.pend _ _ c.restamp.new.self c.args.self.now c.self.view_is c.requires.none (bare_by c.self.inside.blocks.arena c.restamp.new.self.arena c.restamp.ensures.numbers (none_revised_at _ _ c.args.id _ c.restamp.ensures.blocks) (none_revised _ _ _ c.restamp.ensures.replicas)) in
-    record { index = c.self.invariant.index; ready = λ s e. absurd (none_looked_up s e); fresh = λ s e. absurd (none_looked_up s e); bare = λ b h. absurd (none b h) }
+invariant_of-self c = record { index = c.self.invariant.index; ready = λ s e. absurd (none_looked_up s e); fresh = λ s e. absurd (none_looked_up s e); bare = λ b h. absurd (none c b h) }
 
 pub returns-clause-bare : goal.returns-clause-bare
-returns-clause-bare c =
-    none_outside c.restamp.new.self c.remove_block.new.self.map c.self.inside.part c.self.inside.round c.self.inside.pend _ _
-    (none_kept c.self.inside.blocks c.self.inside.pending.map c.self.inside.part c.self.inside.round c.self.inside.pend _ _ c.restamp.new.self c.args.self.now c.self.view_is c.requires.none (bare_by c.self.inside.blocks.arena c.restamp.new.self.arena c.restamp.ensures.numbers (none_revised_at _ _ c.args.id _ c.restamp.ensures.blocks) (none_revised _ _ _ c.restamp.ensures.replicas)))
+returns-clause-bare c = none_outside c.restamp.new.self c.remove_block.new.self.map c.self.inside.part c.self.inside.round c.self.inside.pend _ _ (none c)

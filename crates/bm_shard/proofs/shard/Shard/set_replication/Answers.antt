@@ -23,12 +23,11 @@ returns-clause-changed c =
     (λ i. record { blocks = changed.blocks i; replicas = changed.replicas i; pending = old.pending.map })
     (λ i. record { added = sym none i; removed = sym none i })
 
+none : (c : goal.After-lawful-3) → HasNoneBare c.set_replication.new.self.arena
+none c = none_kept c.self.inside.blocks c.self.inside.pending.map c.self.inside.part c.self.inside.round c.self.inside.pend _ _ c.set_replication.new.self c.args.self.now c.self.view_is c.requires.none (bare_by c.self.inside.blocks.arena c.set_replication.new.self.arena c.set_replication.ensures.numbers (none_revised_at _ _ c.args.id _ c.set_replication.ensures.blocks) (same_none _ _ c.set_replication.ensures.replicas))
+
 pub invariant_of-self : goal.invariant_of-self
-invariant_of-self c =
-    let none : HasNoneBare c.set_replication.new.self.arena = none_kept c.self.inside.blocks c.self.inside.pending.map c.self.inside.part c.self.inside.round c.self.inside.pend _ _ c.set_replication.new.self c.args.self.now c.self.view_is c.requires.none (bare_by c.self.inside.blocks.arena c.set_replication.new.self.arena c.set_replication.ensures.numbers (none_revised_at _ _ c.args.id _ c.set_replication.ensures.blocks) (same_none _ _ c.set_replication.ensures.replicas)) in
-    record { index = c.self.invariant.index; ready = λ s e. absurd (none_looked_up s e); fresh = λ s e. absurd (none_looked_up s e); bare = λ b h. absurd (none b h) }
+invariant_of-self c = record { index = c.self.invariant.index; ready = λ s e. absurd (none_looked_up s e); fresh = λ s e. absurd (none_looked_up s e); bare = λ b h. absurd (none c b h) }
 
 pub returns-clause-bare : goal.returns-clause-bare
-returns-clause-bare c =
-    none_outside c.set_replication.new.self c.self.inside.pending.map c.self.inside.part c.self.inside.round c.self.inside.pend _ _
-    (none_kept c.self.inside.blocks c.self.inside.pending.map c.self.inside.part c.self.inside.round c.self.inside.pend _ _ c.set_replication.new.self c.args.self.now c.self.view_is c.requires.none (bare_by c.self.inside.blocks.arena c.set_replication.new.self.arena c.set_replication.ensures.numbers (none_revised_at _ _ c.args.id _ c.set_replication.ensures.blocks) (same_none _ _ c.set_replication.ensures.replicas)))
+returns-clause-bare c = none_outside c.set_replication.new.self c.self.inside.pending.map c.self.inside.part c.self.inside.round c.self.inside.pend _ _ (none c)

@@ -66,14 +66,12 @@ returns-clause-standing c =
           (round_keeps_placed C S.pend (S.round + 1) S.holdings S.part.index S.part.shards c.args.chosen.now.transfers c.args.chosen.now.deletes c.requires.standing.placed);
     }
 
-pub invariant_of-self : goal.invariant_of-self
+none : (c : goal.After-self-2-1) → HasNoneBare c.order.new.self.arena
 unfolding holdings_of
-invariant_of-self c =
-    let none : HasNoneBare c.order.new.self.arena = none_kept c.self.inside.blocks c.self.inside.pending.map c.self.inside.part c.self.inside.round c.self.inside.pend _ _ c.order.new.self c.args.self.now c.self.view_is c.requires.none (λ b bare. bare_by c.self.inside.blocks.arena c.remark.new.self.arena c.remark.ensures.numbers (same_none _ _ c.remark.ensures.blocks) (none_marked c.args.topology.now.cluster (holdings_of c.self.inside.blocks.arena) _ c.remark.ensures.replicas) b (bare_by c.remark.new.self.arena c.order.new.self.arena c.order.ensures.numbers (same_none _ _ c.order.ensures.blocks) (none_revised _ _ _ c.order.ensures.replicas) b bare)) in
-    record { index = c.self.invariant.index; ready = λ s e. absurd (none_looked_up s e); fresh = λ s e. absurd (none_looked_up s e); bare = λ b h. absurd (none b h) }
+none c = none_kept c.self.inside.blocks c.self.inside.pending.map c.self.inside.part c.self.inside.round c.self.inside.pend _ _ c.order.new.self c.args.self.now c.self.view_is c.requires.none (λ b bare. bare_by c.self.inside.blocks.arena c.remark.new.self.arena c.remark.ensures.numbers (same_none _ _ c.remark.ensures.blocks) (none_marked c.args.topology.now.cluster (holdings_of c.self.inside.blocks.arena) _ c.remark.ensures.replicas) b (bare_by c.remark.new.self.arena c.order.new.self.arena c.order.ensures.numbers (same_none _ _ c.order.ensures.blocks) (none_revised _ _ _ c.order.ensures.replicas) b bare))
+
+pub invariant_of-self : goal.invariant_of-self
+invariant_of-self c = record { index = c.self.invariant.index; ready = λ s e. absurd (none_looked_up s e); fresh = λ s e. absurd (none_looked_up s e); bare = λ b h. absurd (none c b h) }
 
 pub returns-clause-bare : goal.returns-clause-bare
-unfolding holdings_of
-returns-clause-bare c =
-    none_outside c.order.new.self c.shed.new.self.map c.self.inside.part _ c.self.inside.pend _ _
-    (none_kept c.self.inside.blocks c.self.inside.pending.map c.self.inside.part c.self.inside.round c.self.inside.pend _ _ c.order.new.self c.args.self.now c.self.view_is c.requires.none (λ b bare. bare_by c.self.inside.blocks.arena c.remark.new.self.arena c.remark.ensures.numbers (same_none _ _ c.remark.ensures.blocks) (none_marked c.args.topology.now.cluster (holdings_of c.self.inside.blocks.arena) _ c.remark.ensures.replicas) b (bare_by c.remark.new.self.arena c.order.new.self.arena c.order.ensures.numbers (same_none _ _ c.order.ensures.blocks) (none_revised _ _ _ c.order.ensures.replicas) b bare)))
+returns-clause-bare c = none_outside c.order.new.self c.shed.new.self.map c.self.inside.part _ c.self.inside.pend _ _ (none c)

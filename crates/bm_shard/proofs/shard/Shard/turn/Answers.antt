@@ -24,12 +24,11 @@ returns-clause-changed c =
     (turned C old.blocks.arena new.arena old.pending.map Q n d c.turn.ensures.arena c.turn_transfers.ensures)
     (nothing_came C (holdings_with old.blocks.arena old.pending.map) n d)
 
+none : (c : goal.After-turn_transfers) → HasNoneBare c.turn.new.self.arena
+none c = none_kept c.self.inside.blocks c.self.inside.pending.map c.self.inside.part c.self.inside.round c.self.inside.pend _ _ c.turn.new.self c.args.self.now c.self.view_is c.requires.none (same_bare c.self.inside.blocks.arena c.turn.new.self.arena c.turn.ensures.arena)
+
 pub invariant_of-self : goal.invariant_of-self
-invariant_of-self c =
-    let none : HasNoneBare c.turn.new.self.arena = none_kept c.self.inside.blocks c.self.inside.pending.map c.self.inside.part c.self.inside.round c.self.inside.pend _ _ c.turn.new.self c.args.self.now c.self.view_is c.requires.none (same_bare c.self.inside.blocks.arena c.turn.new.self.arena c.turn.ensures.arena) in
-    record { index = c.self.invariant.index; ready = λ s e. absurd (none_looked_up s e); fresh = λ s e. absurd (none_looked_up s e); bare = λ b h. absurd (none b h) }
+invariant_of-self c = record { index = c.self.invariant.index; ready = λ s e. absurd (none_looked_up s e); fresh = λ s e. absurd (none_looked_up s e); bare = λ b h. absurd (none c b h) }
 
 pub returns-clause-bare : goal.returns-clause-bare
-returns-clause-bare c =
-    none_outside c.turn.new.self c.turn_transfers.new.pending.map c.self.inside.part c.self.inside.round c.self.inside.pend _ _
-    (none_kept c.self.inside.blocks c.self.inside.pending.map c.self.inside.part c.self.inside.round c.self.inside.pend _ _ c.turn.new.self c.args.self.now c.self.view_is c.requires.none (same_bare c.self.inside.blocks.arena c.turn.new.self.arena c.turn.ensures.arena))
+returns-clause-bare c = none_outside c.turn.new.self c.turn_transfers.new.pending.map c.self.inside.part c.self.inside.round c.self.inside.pend _ _ (none c)
