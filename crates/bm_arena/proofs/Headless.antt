@@ -1,10 +1,10 @@
 -- What dropping the head of an empty list leaves of an arena's invariant.
-use Rattle.std.proofs.Common.{◌≡◌, ◌≢◌, ℕ, ◌≤◌, ◌-◌, List, [], ◌∷◌, map, length, get_or, set, take, swap_remove, position, Bool, cond, eqb, Option, Some, None, IsSome, refl, subst, inl, inr, sym, ap, ◌∙◌, arith}
+use Rattle.std.proofs.Common.{◌≡◌, ◌≢◌, ℕ, ◌≤◌, ◌-◌, List, [], ◌∷◌, map, length, get_or, set, take, swap_remove, position, Bool, true, false, cond, eqb, Option, Some, None, IsSome, refl, subst, inl, inr, sym, ap, ◌∙◌, arith}
 use Rattle.std.specs.Option.{option_map, option_map_or, unwrap_or}
 use Rattle.std.specs.Map.{lookup, keys_of}
 use Rattle.std.specs.List.{IsDistinct}
 use Rattle.std.specs.Prelude.{nat_eq}
-use Rattle.std.proofs.lemmas.Bool.{cases_Bool, eqb-true, cond-false, ne_eqb}
+use Rattle.std.proofs.lemmas.Bool.{cases_Bool, eqb-true, eq-eqb, cond-false, ne_eqb, false≢true}
 use Rattle.std.proofs.lemmas.Option.{none-some}
 use Rattle.std.proofs.lemmas.List.{length-map, take-map, map-set}
 use Rattle.std.proofs.Math.ListN.{get_or-map}
@@ -90,3 +90,20 @@ module _ (slots : Slab Entry) (ids : List (ℕ × ℕ)) (heads after : List (ℕ
   drop_head-head q differs some =
       let there = rw (lookup-lists_from slots q heads) at some in
       rw (lookup-lists_from slots q after, updates q, ne_eqb s q (λ e. differs (sym e))) there
+
+  pub drop_head-gone : IsSome (lookup (nat_eq s) (lists_from slots after)) → ⊥
+  drop_head-gone some =
+      let there = rw (lookup-lists_from slots s after) at some in
+      let none : lookup (nat_eq s) after ≡ None = updates s ∙ ap (λ t. cond t None (lookup (nat_eq s) heads)) (eq-eqb s s refl) in
+      let P : Option (Option ℕ) → Type 0 = λ o. IsSome (option_map (list_from slots s) o) in
+      false≢true (subst P none there)
+
+  pub drop_head-fewer : (q : ℕ) → IsSome (lookup (nat_eq q) (lists_from slots after)) → IsSome (lookup (nat_eq q) (lists_from slots heads))
+  drop_head-fewer q some =
+      let there = rw (lookup-lists_from slots q after) at some in
+      let P : Option (Option ℕ) → Type 0 = λ o. IsSome (option_map (list_from slots q) o) in
+      rw (lookup-lists_from slots q heads) (by (eqb s q) (lookup (nat_eq q) heads) (subst P (updates q) there))
+    where
+      by : (t : Bool) (o : Option (Option ℕ)) → IsSome (option_map (list_from slots q) (cond t None o)) → IsSome (option_map (list_from slots q) o)
+      by true o h = absurd (false≢true h)
+      by false o h = h

@@ -59,6 +59,8 @@ impl Arena {
         ensures after { self.new ≡ record self.old { lists = swap_remove_entry (nat_eq storage) self.old.lists } }
         ensures lists { (other : ℕ) → list_of self.new other ≡ list_of self.old other }
         ensures heads { (other : ℕ) → other ≢ storage → HasHead self.old other → HasHead self.new other }
+        ensures gone { HasHead self.new storage → ⊥ }
+        ensures fewer { (other : ℕ) → HasHead self.new other → HasHead self.old other }
         ensures lawful { IsLawful self.new }
     {
         self.heads.swap_remove(&storage.0);

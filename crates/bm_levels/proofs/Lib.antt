@@ -24,3 +24,4 @@ pub mod RoundMarks
 pub mod Going
 pub mod Beginning
 pub mod RoundStart
+pub mod Bare

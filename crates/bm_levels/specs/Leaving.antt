@@ -1,8 +1,8 @@
 -- Replicas that leave with their storages.
-use Rattle.std.specs.Prelude.{◌≡◌, ℕ, ◌+◌, Bool, false}
+use Rattle.std.specs.Prelude.{◌≡◌, ℕ, ◌+◌, Bool, true, false}
 use Rattle.bm_base.specs.declared.replica.ReplicaId.{ReplicaId}
 use Rattle.bm_base.specs.Map.{get, len}
-use Rattle.bm_arena.specs.Contents.{Contents, list_of}
+use Rattle.bm_arena.specs.Contents.{Contents, HasHead, list_of}
 use Rattle.bm_arena.specs.Holding.{replicas_of, blocks_of}
 
 -- so many replicas left, all of storages that pass
@@ -13,3 +13,11 @@ pub record IsLeaving (leaves : ℕ → Bool) (old new : Contents) (n : ℕ) : Ty
   pub lists : (storage : ℕ) → leaves storage ≡ false → list_of new storage ≡ list_of old storage
   pub others : (q : ReplicaId) → leaves q.storage ≡ false → get (replicas_of new) q ≡ get (replicas_of old) q
   pub count : n + len (replicas_of new) ≡ len (replicas_of old)
+
+-- no storage that passes has a head
+abbrev pub HasNoHeads : (ℕ → Bool) → Contents → Type 0
+HasNoHeads leaves a = (storage : ℕ) → leaves storage ≡ true → HasHead a storage → ⊥
+
+-- no storage has a head that had none
+abbrev pub MakesNoHead : Contents → Contents → Type 0
+MakesNoHead old new = (storage : ℕ) → HasHead new storage → HasHead old storage

@@ -6,3 +6,4 @@ pub mod Leveled
 pub mod LevelsBy
 pub mod Leaving
 pub mod Changes
+pub mod Bare

@@ -1,8 +1,11 @@
 // Entries that nothing needs any more: those that a report found bare, and those that one left so.
-ghost use Rattle.std.specs.Prelude.{◌≡◌, []};
+ghost use Rattle.std.specs.Prelude.{◌≡◌, ℕ, [], Some};
 ghost use Rattle.bm_base.specs.State.{Cluster};
+ghost use Rattle.bm_base.specs.Events.{is_named};
+ghost use Rattle.bm_arena.specs.Contents.{slot_of};
 ghost use Rattle.bm_arena.specs.Holding.{replicas_of, blocks_of};
 ghost use Rattle.bm_report.specs.Ready.{told};
+ghost use Rattle.bm_levels.specs.Bare.{IsBare, HasNoneBareOf, HasNoneBareAt, MakesNoneBare, KeepsSlots};
 ghost use Rattle.bm_levels.specs.Leveled.{AreLevels};
 
 use crate::leveled::LeveledBlocks;
@@ -16,6 +19,8 @@ impl LeveledBlocks {
         ensures told { told report.new ≡ [] }
         ensures blocks { blocks_of self.new.arena ≡ blocks_of self.old.arena }
         ensures replicas { replicas_of self.new.arena ≡ replicas_of self.old.arena }
+        ensures bare { MakesNoneBare self.old.arena self.new.arena }
+        ensures left { HasNoneBareOf (is_named (told report.old)) self.new.arena }
         ensures levels { (C : Cluster) → AreLevels C self.old → AreLevels C self.new }
     {
         self.arena.lawful();
@@ -27,6 +32,9 @@ impl LeveledBlocks {
     pub fn drop_bare(&mut self, slots: &[Slot])
         ensures blocks { blocks_of self.new.arena ≡ blocks_of self.old.arena }
         ensures replicas { replicas_of self.new.arena ≡ replicas_of self.old.arena }
+        ensures bare { MakesNoneBare self.old.arena self.new.arena }
+        ensures left { HasNoneBareAt slots.now self.old.arena self.new.arena }
+        ensures slots { KeepsSlots self.old.arena self.new.arena }
         ensures levels { (C : Cluster) → AreLevels C self.old → AreLevels C self.new }
     {
         for slot in slots {
@@ -38,6 +46,8 @@ impl LeveledBlocks {
     fn drop_at(&mut self, slot: Slot)
         ensures blocks { blocks_of self.new.arena ≡ blocks_of self.old.arena }
         ensures replicas { replicas_of self.new.arena ≡ replicas_of self.old.arena }
+        ensures slots { KeepsSlots self.old.arena self.new.arena }
+        ensures left { (b : ℕ) → slot_of self.old.arena b ≡ Some slot → IsBare self.new.arena b → ⊥ }
         ensures levels { (C : Cluster) → AreLevels C self.old → AreLevels C self.new }
     {
         self.arena.lawful();

@@ -6,12 +6,13 @@ ghost use Rattle.bm_base.specs.Replicas as replicas;
 ghost use Rattle.bm_base.specs.SlotLists as slots;
 ghost use Rattle.bm_base.specs.Events as events;
 ghost use Rattle.bm_base.specs.Calls as calls;
-ghost use Rattle.bm_arena.specs.Contents.{block_at, slot_of, list_of, marks_at, KeepsOthers};
+ghost use Rattle.bm_arena.specs.Contents.{block_at, slot_of, list_of, marks_at, HasHead, KeepsOthers};
 ghost use Rattle.bm_arena.specs.Holding.{replicas_of, blocks_of};
+ghost use Rattle.bm_levels.specs.Bare.{MakesNoneBare};
 ghost use Rattle.bm_levels.specs.Judged.{drains_then};
 ghost use Rattle.bm_levels.specs.Leveled.{AreLevels};
 ghost use Rattle.bm_levels.specs.LevelsBy.{AreLevelsBy};
-ghost use Rattle.bm_levels.specs.Leaving.{IsLeaving};
+ghost use Rattle.bm_levels.specs.Leaving.{IsLeaving, HasNoHeads, MakesNoHead};
 
 use crate::around::Around;
 use crate::leveled::LeveledBlocks;
@@ -28,6 +29,9 @@ impl LeveledBlocks {
         ensures replicas { replicas_of self.new.arena ≡ keep (replicas_of self.old.arena) (λ q _. not (q.storage == storage)) }
         ensures removed { result ≡ calls.new_replicas (replicas_of self.new.arena) (replicas_of self.old.arena) }
         ensures few { result < 2 ^ 100 }
+        ensures bare { MakesNoneBare self.old.arena self.new.arena }
+        ensures head { HasHead self.new.arena storage → ⊥ }
+        ensures fewer { MakesNoHead self.old.arena self.new.arena }
         ensures levels { AreLevels topology.now.cluster self.old → AreLevels (events.without_storage topology.now.cluster storage) self.new }
     {
         let removed = self.clear(&Around::still(topology), storage);
@@ -45,6 +49,9 @@ impl LeveledBlocks {
         ensures replicas { replicas_of self.new.arena ≡ keep (replicas_of self.old.arena) (λ q _. not (replicas.has_storage topology.now.cluster node q.storage)) }
         ensures removed { result ≡ calls.new_replicas (replicas_of self.new.arena) (replicas_of self.old.arena) }
         ensures few { result < 2 ^ 100 }
+        ensures bare { MakesNoneBare self.old.arena self.new.arena }
+        ensures heads { HasNoHeads (replicas.has_storage topology.now.cluster node) self.new.arena }
+        ensures fewer { MakesNoHead self.old.arena self.new.arena }
         ensures levels { AreLevels topology.now.cluster self.old → AreLevels (events.without_node topology.now.cluster node) self.new }
     {
         self.judge_racks(topology, multi);
@@ -63,6 +70,9 @@ impl LeveledBlocks {
         ensures left { IsLeaving (replicas.has_storage around.now.topology.now.cluster node) self.old.arena self.new.arena result }
         ensures few { result < 2 ^ 100 }
         ensures none { (s : ℕ) → replicas.has_storage around.now.topology.now.cluster node s ≡ true → list_of self.new.arena s ≡ [] }
+        ensures bare { MakesNoneBare self.old.arena self.new.arena }
+        ensures heads { HasNoHeads (replicas.has_storage around.now.topology.now.cluster node) self.new.arena }
+        ensures fewer { MakesNoHead self.old.arena self.new.arena }
         ensures levels { AreLevelsBy (replicas.rack_of around.now.topology.now.cluster) (drains_then around.now.topology.now.cluster around.now.turning) around.now.multi self.old → AreLevelsBy (replicas.rack_of around.now.topology.now.cluster) (drains_then around.now.topology.now.cluster around.now.turning) around.now.multi self.new }
     {
         let mut removed = 0;
@@ -80,6 +90,9 @@ impl LeveledBlocks {
     fn clear(&mut self, around: &Around<'_>, storage: StorageId) -> usize
         ensures left { IsLeaving (λ s. s == storage) self.old.arena self.new.arena result }
         ensures none { list_of self.new.arena storage ≡ [] }
+        ensures bare { MakesNoneBare self.old.arena self.new.arena }
+        ensures head { HasHead self.new.arena storage → ⊥ }
+        ensures fewer { MakesNoHead self.old.arena self.new.arena }
         ensures levels { AreLevelsBy (replicas.rack_of around.now.topology.now.cluster) (drains_then around.now.topology.now.cluster around.now.turning) around.now.multi self.old → AreLevelsBy (replicas.rack_of around.now.topology.now.cluster) (drains_then around.now.topology.now.cluster around.now.turning) around.now.multi self.new }
     {
         self.arena().lawful();
@@ -107,6 +120,8 @@ impl LeveledBlocks {
         requires { slots.first_of (list_of self.old.arena storage) ≡ Some slot }
         ensures left { IsLeaving (λ s. s == storage) self.old.arena self.new.arena 1 }
         ensures list { list_of self.old.arena storage ≡ slot ∷ list_of self.new.arena storage }
+        ensures bare { MakesNoneBare self.old.arena self.new.arena }
+        ensures fewer { MakesNoHead self.old.arena self.new.arena }
         ensures levels { AreLevelsBy (replicas.rack_of around.now.topology.now.cluster) (drains_then around.now.topology.now.cluster around.now.turning) around.now.multi self.old → AreLevelsBy (replicas.rack_of around.now.topology.now.cluster) (drains_then around.now.topology.now.cluster around.now.turning) around.now.multi self.new }
     {
         self.lawful();
@@ -123,6 +138,7 @@ impl LeveledBlocks {
         ensures blocks { blocks_of self.new.arena ≡ blocks_of self.old.arena }
         ensures replicas { (id : ℕ) → slot_of self.old.arena id ≡ Some slot → replicas_of self.new.arena ≡ remove (replicas_of self.old.arena) (replica_at id storage) }
         ensures rest { KeepsOthers self.old.arena self.new.arena slot storage }
+        ensures fewer { MakesNoHead self.old.arena self.new.arena }
         ensures levels { AreLevelsBy (replicas.rack_of around.now.topology.now.cluster) (drains_then around.now.topology.now.cluster around.now.turning) around.now.multi self.old → AreLevelsBy (replicas.rack_of around.now.topology.now.cluster) (drains_then around.now.topology.now.cluster around.now.turning) around.now.multi self.new }
     {
         self.arena.lawful();
@@ -138,6 +154,9 @@ impl LeveledBlocks {
         ensures blocks { blocks_of self.new.arena ≡ blocks_of self.old.arena }
         ensures replicas { replicas_of self.new.arena ≡ replicas_of self.old.arena }
         ensures lists { (other : ℕ) → list_of self.new.arena other ≡ list_of self.old.arena other }
+        ensures numbers { self.new.arena.ids ≡ self.old.arena.ids }
+        ensures head { HasHead self.new.arena storage → ⊥ }
+        ensures fewer { MakesNoHead self.old.arena self.new.arena }
     {
         self.arena.drop_head(storage);
     }

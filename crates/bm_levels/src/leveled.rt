@@ -1,11 +1,12 @@
 // The blocks and replicas of a shard, each block with its level.
-ghost use Rattle.std.specs.Prelude.{◌≡◌, ◌≢◌, ℕ, Bool, Option, IsSome, IsSomeAnd, None, Some, [], IfOk, IfErr, OnOk};
+ghost use Rattle.std.specs.Prelude.{◌≡◌, ◌≢◌, ℕ, Bool, Option, IsSome, IsSomeAnd, None, Some, [], IfOk, IfErr, OnOk, OnErr};
 ghost use Rattle.bm_base.specs.declared.refusal.Refusal.TheVariants.{Memory};
 ghost use Rattle.bm_base.specs.Map.{Map, empty, insert, remove};
 ghost use Rattle.bm_base.specs.Levels.{level};
 ghost use Rattle.bm_base.specs.State.{Cluster, by_replica, replica_at};
 ghost use Rattle.bm_arena.specs.Contents.{block_at, slot_of, marks_at, KeepsAllBut, KeepsOthers};
 ghost use Rattle.bm_arena.specs.Holding.{replicas_at, replicas_of, blocks_of, info_at, with_known};
+ghost use Rattle.bm_levels.specs.Bare.{HasNoneBare, MakesNoneBare, KeepsSlots};
 ghost use Rattle.bm_levels.specs.Held.{holdings_with};
 ghost use Rattle.bm_levels.specs.Leveled.{AreLevels, IsLeveled};
 ghost use Rattle.bm_levels.specs.LevelsBy.{AreLevelsBy};
@@ -41,6 +42,7 @@ impl LeveledBlocks {
         ensures blocks { IfOk result (λ b. blocks_of b.arena ≡ empty) }
         ensures replicas { IfOk result (λ b. replicas_of b.arena ≡ empty) }
         ensures levels { IfOk result (λ b. (C : Cluster) → AreLevels C b) }
+        ensures bare { IfOk result (λ b. HasNoneBare b.arena) }
         ensures refused { IfErr result (λ e. e ≡ Memory) }
     {
         let arena = Arena::new(alloc)?;
@@ -57,6 +59,7 @@ impl LeveledBlocks {
         ensures numbers { (other slot : ℕ) → slot_of self.old.arena other ≡ Some slot → slot_of self.new.arena other ≡ Some slot }
         ensures others { (other : ℕ) → other ≢ id → slot_of self.new.arena other ≡ slot_of self.old.arena other }
         ensures lists { self.new.arena.lists ≡ self.old.arena.lists }
+        ensures given_up { OnErr result (MakesNoneBare self.old.arena self.new.arena) }
         ensures levels { (C : Cluster) → AreLevels C self.old → AreLevels C self.new }
         ensures refused { IfErr result (λ e. e ≡ Memory) }
     {
@@ -122,6 +125,7 @@ impl LeveledBlocks {
         ensures numbers { (id : ℕ) → slot_of self.old.arena id ≢ Some slot → slot_of self.new.arena id ≡ slot_of self.old.arena id }
         ensures dropped { IsSomeAnd (block_at self.old.arena slot) (λ b. b.replicas ≡ []) → info_at self.old.arena slot ≡ None → block_at self.new.arena slot ≡ None }
         ensures gone { (id : ℕ) → slot_of self.old.arena id ≡ Some slot → replicas_at self.old.arena slot ≡ [] → info_at self.old.arena slot ≡ None → slot_of self.new.arena id ≡ None }
+        ensures slots { KeepsSlots self.old.arena self.new.arena }
         ensures others { (other : ℕ) → other ≢ slot → block_at self.new.arena other ≡ block_at self.old.arena other }
         ensures lists { self.new.arena.lists ≡ self.old.arena.lists }
         ensures levels { (C : Cluster) → AreLevels C self.old → AreLevels C self.new }

@@ -25,6 +25,7 @@ impl LeveledBlocks {
         requires part { part.index < part.shards }
         ensures replicas { replicas_of self.new.arena ≡ revise (replicas_of self.old.arena) (λ q m. if is_commanded (parts.own_deletes part.index part.shards deletes.now) q then record m { ordered = true } else m) }
         ensures blocks { blocks_of self.new.arena ≡ blocks_of self.old.arena }
+        ensures numbers { self.new.arena.ids ≡ self.old.arena.ids }
         ensures levels { AreLevels topology.now.cluster self.old → AreLevels topology.now.cluster self.new }
     {
         for delete in deletes {
@@ -38,6 +39,7 @@ impl LeveledBlocks {
     fn order_one(&mut self, topology: &Topology, storage: StorageId, id: BlockId)
         ensures replicas { replicas_of self.new.arena ≡ revise_at (replicas_of self.old.arena) (replica_at id storage) as_ordered }
         ensures blocks { blocks_of self.new.arena ≡ blocks_of self.old.arena }
+        ensures numbers { self.new.arena.ids ≡ self.old.arena.ids }
         ensures levels { AreLevels topology.now.cluster self.old → AreLevels topology.now.cluster self.new }
     {
         let Some(slot) = self.slot_of(id) else {
@@ -60,6 +62,7 @@ impl LeveledBlocks {
         requires surplus { surplus.now ≡ parts.surplus topology.now.cluster (excess.without_unordered_excess (holdings_of self.old.arena)) }
         ensures replicas { replicas_of self.new.arena ≡ (excess.marked topology.now.cluster (excess.without_unordered_excess (holdings_of self.old.arena))).replicas }
         ensures blocks { blocks_of self.new.arena ≡ blocks_of self.old.arena }
+        ensures numbers { self.new.arena.ids ≡ self.old.arena.ids }
         ensures levels { AreLevels topology.now.cluster self.old → AreLevels topology.now.cluster self.new }
     {
         self.arena.lawful();

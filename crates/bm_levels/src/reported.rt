@@ -1,5 +1,5 @@
 // Notices of received replicas and full reports, with the levels of the blocks that they change.
-ghost use Rattle.std.specs.Prelude.{◌≡◌, ◌<◌, ◌^◌, ◌∷◌, [], ℕ, IfErr, OnOk};
+ghost use Rattle.std.specs.Prelude.{◌≡◌, ◌<◌, ◌^◌, ◌∷◌, [], ℕ, IfErr, OnOk, OnErr};
 ghost use Rattle.bm_base.specs.declared.refusal.Refusal.TheVariants.{Memory};
 ghost use Rattle.bm_base.specs.State.{Cluster};
 ghost use Rattle.bm_base.specs.Events as events;
@@ -10,6 +10,7 @@ ghost use Rattle.bm_report.specs.Expanded.{told_to};
 ghost use Rattle.bm_report.specs.Midway.{IsOncePerNode};
 ghost use Rattle.bm_report.specs.Ready.{told, IsReady, HasGoodExcess};
 ghost use Rattle.bm_report.specs.Received.{HasReceived};
+ghost use Rattle.bm_levels.specs.Bare.{MakesNoneBare, MakesBareOnly, IsSameBeside};
 ghost use Rattle.bm_levels.specs.Leveled.{AreLevels};
 
 use crate::leveled::LeveledBlocks;
@@ -33,6 +34,8 @@ impl LeveledBlocks {
         ensures fresh { OnOk result (report.new.changed ≡ []) }
         ensures blocks { blocks_of self.new.arena ≡ blocks_of self.old.arena }
         ensures replicas { replicas_of self.new.arena ≡ replicas_of self.old.arena }
+        ensures bare { MakesBareOnly (events.is_named (told_to part entries.now)) self.old.arena self.new.arena }
+        ensures given_up { OnErr result (MakesNoneBare self.old.arena self.new.arena) }
         ensures levels { (C : Cluster) → AreLevels C self.old → AreLevels C self.new }
         ensures refused { IfErr result (λ e. e ≡ Memory) }
     {
@@ -94,6 +97,7 @@ impl LeveledBlocks {
         ensures entries { KeepsEntries self.old.arena self.new.arena }
         ensures once { IsOncePerNode topology.now.cluster (replicas_of self.new.arena) }
         ensures good { HasGoodExcess (replicas_of self.new.arena) }
+        ensures changed { IsSameBeside report.new.changed self.old.arena self.new.arena }
         ensures told { told report.new ≡ told report.old }
         ensures added { result.added ≡ calls.new_replicas (replicas_of self.old.arena) (replicas_of self.new.arena) }
         ensures removed { result.removed ≡ calls.new_replicas (replicas_of self.new.arena) (replicas_of self.old.arena) }

@@ -6,6 +6,7 @@ ghost use Rattle.bm_base.specs.State.{replica_at};
 ghost use Rattle.bm_base.specs.Events.{as_stray, as_bad, as_restamped};
 ghost use Rattle.bm_arena.specs.Contents.{slot_of, marks_at, KeepsAllBut};
 ghost use Rattle.bm_arena.specs.Holding.{replicas_at, replicas_of, blocks_of, info_at, with_known};
+ghost use Rattle.bm_levels.specs.Bare.{MakesNoneBare};
 ghost use Rattle.bm_levels.specs.Changes.{changed, with_stamp, with_repl};
 ghost use Rattle.bm_levels.specs.Leveled.{AreLevels};
 
@@ -21,6 +22,7 @@ impl LeveledBlocks {
         requires entry { IsSome (slot_of self.old.arena id) }
         ensures blocks { blocks_of self.new.arena ≡ insert (blocks_of self.old.arena) id info }
         ensures replicas { replicas_of self.new.arena ≡ replicas_of self.old.arena }
+        ensures numbers { self.new.arena.ids ≡ self.old.arena.ids }
         ensures levels { AreLevels topology.now.cluster self.old → AreLevels topology.now.cluster self.new }
     {
         if let Some(slot) = self.slot_of(id) {
@@ -35,6 +37,7 @@ impl LeveledBlocks {
         ensures blocks { blocks_of self.new.arena ≡ remove (blocks_of self.old.arena) id }
         ensures replicas { replicas_of self.new.arena ≡ revise (replicas_of self.old.arena) (λ q m. if q.block == id then as_stray m else m) }
         ensures entry { (slot : ℕ) → slot_of self.new.arena id ≡ Some slot → replicas_at self.new.arena slot ≢ [] }
+        ensures bare { MakesNoneBare self.old.arena self.new.arena }
         ensures levels { AreLevels topology.now.cluster self.old → AreLevels topology.now.cluster self.new }
     {
         if let Some(slot) = self.slot_of(id) {
@@ -47,6 +50,7 @@ impl LeveledBlocks {
     pub fn set_replication(&mut self, topology: &Topology, id: BlockId, repl: u32)
         ensures blocks { blocks_of self.new.arena ≡ revise_at (blocks_of self.old.arena) id (λ i. record i { repl = repl }) }
         ensures replicas { replicas_of self.new.arena ≡ replicas_of self.old.arena }
+        ensures numbers { self.new.arena.ids ≡ self.old.arena.ids }
         ensures levels { AreLevels topology.now.cluster self.old → AreLevels topology.now.cluster self.new }
     {
         if let Some(slot) = self.slot_of(id) {
@@ -61,6 +65,7 @@ impl LeveledBlocks {
     pub fn restamp(&mut self, topology: &Topology, id: BlockId, stamp: Stamp)
         ensures blocks { blocks_of self.new.arena ≡ revise_at (blocks_of self.old.arena) id (λ i. record i { stamp = stamp }) }
         ensures replicas { replicas_of self.new.arena ≡ revise (replicas_of self.old.arena) (λ q m. if q.block == id then as_restamped m else m) }
+        ensures numbers { self.new.arena.ids ≡ self.old.arena.ids }
         ensures levels { AreLevels topology.now.cluster self.old → AreLevels topology.now.cluster self.new }
     {
         if let Some(slot) = self.slot_of(id) {
@@ -73,6 +78,7 @@ impl LeveledBlocks {
     pub fn make_bad(&mut self, topology: &Topology, storage: StorageId, id: BlockId)
         ensures replicas { replicas_of self.new.arena ≡ revise_at (replicas_of self.old.arena) (replica_at id storage) as_bad }
         ensures blocks { blocks_of self.new.arena ≡ blocks_of self.old.arena }
+        ensures numbers { self.new.arena.ids ≡ self.old.arena.ids }
         ensures levels { AreLevels topology.now.cluster self.old → AreLevels topology.now.cluster self.new }
     {
         let Some(slot) = self.slot_of(id) else {
@@ -95,6 +101,7 @@ impl LeveledBlocks {
         ensures blocks { blocks_of self.new.arena ≡ blocks_of self.old.arena }
         ensures removed { result ≡ contains_key (replicas_of self.old.arena) (replica_at id storage) }
         ensures entry { result ≡ true → contains_key (blocks_of self.old.arena) id ≡ false → (slot : ℕ) → slot_of self.new.arena id ≡ Some slot → replicas_at self.new.arena slot ≢ [] }
+        ensures bare { MakesNoneBare self.old.arena self.new.arena }
         ensures levels { AreLevels topology.now.cluster self.old → AreLevels topology.now.cluster self.new }
     {
         let Some(slot) = self.slot_of(id) else {

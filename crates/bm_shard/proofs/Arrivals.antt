@@ -139,14 +139,19 @@ named_last (n ∷ ns) b = ap (λ t. (n.id == b) || t) (named_last ns b) ∙ join
     joined (Some x) true = refl
     joined (Some x) false = refl
 
+-- a named block has a replica there, and no other block
+pub named_there : (C : Cluster) (H : Holdings) (s : ℕ) (ns : List Named) (a : Contents) → replicas_of a ≡ (report C H s (map told_of ns)).replicas
+    → (q : ReplicaId) → (q.storage == s) ≡ true → contains_key (replicas_of a) q ≡ is_named (map told_of ns) q.block
+named_there C H s ns a is q own = ap (λ k. contains_key k q) is ∙ ap is_some (report_own C H s ns q own) ∙ there (last_stamp ns q.block) ∙ sym (named_last ns q.block)
+  where
+    there : (l : Option Stamp) → is_some (option_map (entered H q) l) ≡ is_some l
+    there None = refl
+    there (Some x) = refl
+
 pub arrived_named : (C : Cluster) (H : Holdings) (s : ℕ) (ns : List Named) (a : Contents) → replicas_of a ≡ (report C H s (map told_of ns)).replicas
     → (m : Map by_replica ℕ) → keep m (λ q _. not (has_arrived a s q)) ≡ keep m (λ q _. not ((q.storage == s) && is_named (map told_of ns) q.block))
 arrived_named C H s ns a is m = λ i. keep m (λ q _. not (each q (q.storage == s) refl i))
   where
-    there : (l : Option Stamp) (q : ReplicaId) → is_some (option_map (entered H q) l) ≡ is_some l
-    there None q = refl
-    there (Some x) q = refl
-
     each : (q : ReplicaId) (t : Bool) → (q.storage == s) ≡ t → (t && contains_key (replicas_of a) q) ≡ (t && is_named (map told_of ns) q.block)
-    each q true own = ap (λ k. contains_key k q) is ∙ ap is_some (report_own C H s ns q own) ∙ there (last_stamp ns q.block) q ∙ sym (named_last ns q.block)
+    each q true own = named_there C H s ns a is q own
     each q false other = refl

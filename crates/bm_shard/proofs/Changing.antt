@@ -4,12 +4,15 @@ use Rattle.bm_base.specs.declared.ids.Part.{Part}
 use Rattle.bm_base.specs.declared.event.Done.{Done}
 use Rattle.bm_base.specs.Map.{Map, get}
 use Rattle.bm_base.specs.State.{Cluster, Holdings, by_replica}
+use Rattle.bm_base.specs.Levels.{level}
 use Rattle.bm_base.specs.Calls.{done}
+use Rattle.bm_parts.specs.PlacedLaws.{IsPlaced}
 use Rattle.bm_arena.specs.Contents.{IsLawful}
 use Rattle.bm_levels.specs.Leveled.{Leveled, AreLevels, IsLeveled}
 use Rattle.bm_levels.specs.Held.{holdings_with}
 use Rattle.bm_shard.specs.Seen.{Seen, Room}
 use Rattle.bm_shard.specs.Changed.{HasChanged}
+use Rattle.bm_shard.specs.Standing.{StandsIn, IsSameButRoom}
 use Rattle.bm_shard.proofs.Levels.{right_by_number, right_by_slot}
 use Rattle.bm_shard.proofs.Same.{seen_of}
 
@@ -31,3 +34,27 @@ module _ (C D : Cluster) (v w : Leveled) (P Q : Map by_replica ℕ) (lawful_v : 
       → HasChanged C D before (seen_of w Q part round pend room') (to before.holdings) answer
   changed_seen to answer before seen is answers =
       subst (λ s. HasChanged C D s (seen_of w Q part round pend room') (to s.holdings) answer) seen (has_changed (to (holdings_with v.arena P)) answer is answers)
+
+-- A shard that stands in a cluster does so still where only room changed; and so what an event makes of it then, it makes of what was.
+
+pub stands_still : (C : Cluster) (old mid : Seen) → StandsIn C old → IsSameButRoom old mid → StandsIn C mid
+stands_still C old mid stands same =
+    let held : mid.holdings ≡ old.holdings = ap (λ (s : Seen). s.holdings) same.rest in
+    record {
+      levels = λ n. ap (λ m. get m n) (same.levels C stands) ∙ stands.levels n ∙ ap (λ H. level C H n) (sym held);
+      placed = subst (λ H. IsPlaced C H) (sym held) stands.placed;
+    }
+
+pub changed_after : (C D : Cluster) (old mid new : Seen) (to : Holdings → Part → Holdings) (answer : Done) → StandsIn C old → IsSameButRoom old mid
+    → HasChanged C D mid new (to mid.holdings mid.part) answer → HasChanged C D old new (to old.holdings old.part) answer
+changed_after C D old mid new to answer stands same changed =
+    let P : Seen → Type 0 = λ S. HasChanged C D S new (to S.holdings S.part) answer in
+    let h = subst P same.rest changed in
+    record {
+      holdings = h.holdings;
+      done = h.done;
+      levels = λ right. h.levels (λ b. ap (λ m. get m b) (same.levels C stands) ∙ right b);
+      part = h.part;
+      round = h.round;
+      pend = h.pend;
+    }

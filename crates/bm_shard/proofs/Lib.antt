@@ -13,3 +13,5 @@ mod Arrivals
 mod LookedUp
 mod OwnTransfers
 mod AfterRound
+mod Bare
+mod Left

@@ -15,3 +15,9 @@ looked_up r (prepared.Report t) s ts e = let p : (t, told r) ≡ (s, ts) = same_
 
 pub none_looked_up : (s : ℕ) → prepared.Nothing ≡ prepared.Report s → ⊥
 none_looked_up s e = cc
+
+pub none_entered : {b : ℕ} (s : ℕ) → prepared.Entry b ≡ prepared.Report s → ⊥
+none_entered s e = cc
+
+pub same_report : {t : ℕ} (s : ℕ) → prepared.Report t ≡ prepared.Report s → t ≡ s
+same_report s e = cc

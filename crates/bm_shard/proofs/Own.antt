@@ -41,6 +41,9 @@ module _ (part : Part) (e : Event) where
       let b = on_block (block_of e) refl not_own in
       one_block_changes_one_part C P e b.0 part.index part.shards b.1 ∙ ap (λ t. if t then change_holdings C P e else P) (sym (own b.0 b.1) ∙ not_own)
 
+pub not_owned : (part : Part) (e : Event) → owns part e ≡ false → (b : ℕ) × (block_of e ≡ Some b)
+not_owned part e = on_block part e (block_of e) refl
+
 -- so what it makes of the shard's holdings is what it makes of any
 pub by_own : (C : Cluster) (old new : Seen) (answer : Done) (e : Event) (b : ℕ) → block_of e ≡ Some b → owns old.part e ≡ true
     → HasChanged C (change_cluster C e) old new (change_holdings C old.holdings e) answer

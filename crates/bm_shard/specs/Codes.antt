@@ -37,9 +37,9 @@ coded_told = code_by (ℕ × Stamp) (coded× coded_ℕ coded_stamp) (λ t. (t.id
 
 abbrev pub coded_room : Coded Room
 coded_room =
-    code_by (List ℕ × (Option (ℕ × List Told) × List (ℕ × ℕ)))
-    (coded× (coded_list coded_ℕ) (coded× (coded_option (coded× coded_ℕ (coded_list coded_told))) (coded_list (coded× coded_ℕ coded_ℕ))))
-    (λ r. (r.entries, (r.report, r.transfers))) (λ t. record { entries = t.0; report = t.1.0; transfers = t.1.1 }) (λ _. refl)
+    code_by ((List ℕ × List ℕ) × (Option (ℕ × List Told) × List (ℕ × ℕ)))
+    (coded× (coded× (coded_list coded_ℕ) (coded_list coded_ℕ)) (coded× (coded_option (coded× coded_ℕ (coded_list coded_told))) (coded_list (coded× coded_ℕ coded_ℕ))))
+    (λ r. ((r.entries, r.lists), (r.report, r.transfers))) (λ t. record { entries = t.0.0; lists = t.0.1; report = t.1.0; transfers = t.1.1 }) (λ _. refl)
 
 abbrev pub coded_seen : Coded Seen
 coded_seen =

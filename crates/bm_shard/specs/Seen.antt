@@ -1,5 +1,5 @@
 -- What contracts see of a shard.
-use Rattle.std.specs.Prelude.{◌≡◌, ℕ, Bool, true, false, zero, suc, ◌≤◌, ◌==◌, refl, List, [], ◌∷◌, filter, length, Option, Some, nat_eq}
+use Rattle.std.specs.Prelude.{◌≡◌, ℕ, Bool, true, false, ◌≤◌, ◌==◌, List, [], ◌∷◌, filter, length, Option, Some, nat_eq}
 use Rattle.std.specs.Option.{unwrap_or}
 use Rattle.std.specs.Map.{lookup}
 use Rattle.bm_base.specs.declared.level.Level.{Level}
@@ -18,6 +18,8 @@ use Rattle.bm_parts.specs.Parts.{told_of}
 pub record Room : Type 0 where
   -- the numbers that have an entry
   pub entries : List ℕ
+  -- the storages that have a list
+  pub lists : List ℕ
   -- the storage, and what is told of it, where a report was looked up
   pub report : Option (ℕ × List Told)
   -- blocks with how many more of their transfers there is room for

@@ -6,6 +6,8 @@ ghost use Rattle.bm_base.specs.Events as events;
 ghost use Rattle.bm_base.specs.Refusals.{first_of, cluster_checks};
 ghost use Rattle.bm_base.specs.declared.event.Event.TheVariants as event_of;
 ghost use Rattle.bm_parts.specs.PlacedLaws.{IsPlaced};
+ghost use Rattle.bm_shard.specs.Bare.{HasNoneBare};
+ghost use Rattle.bm_shard.specs.Left.{HasNoLists};
 ghost use Rattle.bm_shard.specs.Changed.{HasChanged};
 
 use crate::one_block::NOTHING;
@@ -20,8 +22,11 @@ impl Shard {
     /// transfers for each storage of the node.
     pub(crate) fn forget_node(&mut self, topology: &Topology, node: NodeId, multi: bool) -> Done
         requires multi { multi ≡ replicas.is_multi_rack (events.without_node topology.now.cluster node) }
+        requires none { HasNoneBare self.old }
         ensures changed { HasChanged topology.now.cluster (events.without_node topology.now.cluster node) self.old self.new (events.without_storages self.old.holdings (replicas.has_storage topology.now.cluster node)) result }
         ensures few { (result.added < 2 ^ 100) × (result.removed < 2 ^ 100) }
+        ensures lists { HasNoLists (replicas.has_storage topology.now.cluster node) self.new }
+        ensures bare { HasNoneBare self.new }
     {
         self.prepared = Prepared::Nothing;
         self.blocks.lawful();
@@ -34,8 +39,11 @@ impl Shard {
 
     /// A storage fails: its replicas and the transfers to it leave. One step for each of the replicas, and one pass over the transfers.
     pub(crate) fn forget_storage(&mut self, topology: &Topology, storage: StorageId) -> Done
+        requires none { HasNoneBare self.old }
         ensures changed { HasChanged topology.now.cluster (events.without_storage topology.now.cluster storage) self.old self.new (events.without_storages self.old.holdings (λ t. t == storage)) result }
         ensures few { (result.added < 2 ^ 100) × (result.removed < 2 ^ 100) }
+        ensures lists { HasNoLists (λ s. s == storage) self.new }
+        ensures bare { HasNoneBare self.new }
     {
         self.prepared = Prepared::Nothing;
         self.blocks.lawful();
@@ -48,8 +56,10 @@ impl Shard {
 
     /// A node begins or ceases to drain. Where it begins to, the transfers to its storages leave.
     pub(crate) fn turn(&mut self, topology: &Topology, node: NodeId, drains: bool) -> Done
+        requires none { HasNoneBare self.old }
         ensures changed { HasChanged topology.now.cluster (if drains then events.drain topology.now.cluster node else events.undrain topology.now.cluster node) self.old self.new (if drains then events.begun_to_drain topology.now.cluster self.old.holdings node else self.old.holdings) result }
         ensures nothing { (result.added ≡ 0) × (result.removed ≡ 0) }
+        ensures bare { HasNoneBare self.new }
     {
         self.prepared = Prepared::Nothing;
         self.blocks.lawful();
@@ -72,7 +82,9 @@ impl Shard {
         requires cluster { first_of (cluster_checks topology.now.cluster (event_of.Register node rack storages.now)) ≡ None }
         requires multi { multi ≡ replicas.is_multi_rack (events.register topology.now.cluster node rack storages.now) }
         requires placed { IsPlaced topology.now.cluster self.old.holdings }
-        ensures { HasChanged topology.now.cluster (events.register topology.now.cluster node rack storages.now) self.old self.new self.old.holdings result }
+        requires none { HasNoneBare self.old }
+        ensures changed { HasChanged topology.now.cluster (events.register topology.now.cluster node rack storages.now) self.old self.new self.old.holdings result }
+        ensures bare { HasNoneBare self.new }
     {
         let _ = node;
         let _ = rack;
@@ -88,7 +100,9 @@ impl Shard {
 
     /// A node tells how many bytes remain on its storages: nothing changes.
     pub(crate) fn hear(&mut self, topology: &Topology, remaining: &[Remaining]) -> Done
-        ensures { HasChanged topology.now.cluster (events.heartbeat topology.now.cluster remaining.now) self.old self.new self.old.holdings result }
+        requires none { HasNoneBare self.old }
+        ensures changed { HasChanged topology.now.cluster (events.heartbeat topology.now.cluster remaining.now) self.old self.new self.old.holdings result }
+        ensures bare { HasNoneBare self.new }
     {
         let _ = topology;
         let _ = remaining;

@@ -1,12 +1,14 @@
 // Events as they change a shard.
-ghost use Rattle.std.specs.Prelude.{◌≡◌, ◌<◌, ◌^◌, None, true};
+ghost use Rattle.std.specs.Prelude.{◌≡◌, ◌<◌, ◌^◌, None, true, false};
 ghost use Rattle.bm_base.specs.Replicas.{is_multi_rack};
 ghost use Rattle.bm_base.specs.Events.{change_cluster};
 ghost use Rattle.bm_base.specs.Refusals.{first_of, cluster_checks};
 ghost use Rattle.bm_base.specs.Calls.{done};
 ghost use Rattle.bm_parts.specs.Parts.{block_of, change_part};
 ghost use Rattle.bm_parts.specs.PlacedLaws.{IsPlaced};
-ghost use Rattle.bm_shard.specs.Seen.{IsReadyFor};
+ghost use Rattle.bm_shard.specs.Seen.{IsReadyFor, takes_room};
+ghost use Rattle.bm_shard.specs.Bare.{HasNoneBare};
+ghost use Rattle.bm_shard.specs.Left.{leaves, HasNoLists};
 ghost use Rattle.bm_shard.specs.Changed.{HasChanged, owns};
 ghost use Rattle.bm_shard.specs.Standing.{StandsIn};
 
@@ -18,7 +20,7 @@ use bm_topo::Topology;
 impl Shard {
     /// Changes the shard by an event that no check on the cluster refuses, in the room that [`Shard::prepare`] made. `topology` is the cluster
     /// before the event, `multi` says whether the alive nodes stand on two racks or more after it. Answers how many replicas came and went.
-    /// An event on a block of another shard changes nothing. Takes no memory.
+    /// An event on a block of another shard changes nothing. What was prepared for another event is given up. Takes no memory.
     pub fn commit(&mut self, event: &Event, topology: &Topology, multi: bool) -> Done
         requires cluster { first_of (cluster_checks topology.now.cluster event.now) ≡ None }
         requires multi { multi ≡ is_multi_rack (change_cluster topology.now.cluster event.now) }
@@ -28,6 +30,8 @@ impl Shard {
         ensures done { result ≡ done self.old.holdings self.new.holdings }
         ensures few { block_of event.now ≡ None → (result.added < 2 ^ 100) × (result.removed < 2 ^ 100) }
         ensures standing { StandsIn (change_cluster topology.now.cluster event.now) self.new }
+        ensures bare { HasNoneBare self.new }
+        ensures lists { HasNoLists (leaves topology.now.cluster event.now) self.new }
         ensures part { self.new.part ≡ self.old.part }
         ensures rounds { (self.new.round ≡ self.old.round) × (self.new.pend ≡ self.old.pend) }
     {
@@ -36,6 +40,10 @@ impl Shard {
             self.abort();
             return NOTHING;
         }
+        if takes_room(event) {
+            return self.change(event, topology, multi);
+        }
+        self.abort();
         self.change(event, topology, multi)
     }
 
@@ -57,8 +65,11 @@ impl Shard {
         requires own { owns self.old.part event.now ≡ true }
         requires placed { IsPlaced topology.now.cluster self.old.holdings }
         requires ready { IsReadyFor event.now self.old }
+        requires none { takes_room event.now ≡ false → HasNoneBare self.old }
         ensures changed { HasChanged topology.now.cluster (change_cluster topology.now.cluster event.now) self.old self.new (change_part topology.now.cluster self.old.holdings self.old.part.index self.old.part.shards event.now) result }
         ensures few { block_of event.now ≡ None → (result.added < 2 ^ 100) × (result.removed < 2 ^ 100) }
+        ensures bare { HasNoneBare self.new }
+        ensures lists { HasNoLists (leaves topology.now.cluster event.now) self.new }
     {
         match event {
             Event::Register {
@@ -82,6 +93,26 @@ impl Shard {
             Event::Corrupt { storage, id } => self.make_bad(topology, *storage, *id),
             Event::FullReport { storage, .. } => self.report(topology, *storage),
         }
+    }
+}
+
+/// Whether an event needs what was made ready for it. Before any other, what was prepared is given up.
+fn takes_room(event: &Event) -> bool
+    ensures { result ≡ takes_room event.now }
+{
+    match event {
+        Event::AddBlock { .. } | Event::Received { .. } | Event::FullReport { .. } => true,
+        Event::Register { .. }
+        | Event::Dead { .. }
+        | Event::StorageFailed { .. }
+        | Event::Heartbeat { .. }
+        | Event::Drain { .. }
+        | Event::Undrain { .. }
+        | Event::DeleteBlock { .. }
+        | Event::SetReplication { .. }
+        | Event::Restamp { .. }
+        | Event::Deleted { .. }
+        | Event::Corrupt { .. } => false,
     }
 }
 

@@ -3,8 +3,10 @@ ghost use Rattle.std.specs.Prelude.{◌≡◌, if◌then◌else◌};
 ghost use Rattle.bm_base.specs.State.{replica_at};
 ghost use Rattle.bm_base.specs.Events as events;
 ghost use Rattle.bm_base.specs.SlotLists.{Among};
+ghost use Rattle.bm_shard.specs.Bare.{HasNoneBare};
 ghost use Rattle.bm_shard.specs.Changed.{HasChanged};
 
+use crate::preparing::drop_prepared;
 use crate::shard::{Prepared, Shard};
 use bm_base::{BlockId, BlockInfo, Done, Stamp, StorageId};
 use bm_topo::Topology;
@@ -16,7 +18,7 @@ pub(crate) const NOTHING: Done = Done {
 };
 
 impl Shard {
-    /// A file has a new block.
+    /// A file has a new block. Its number has its entry, whatever was prepared; what was prepared besides is given up.
     pub(crate) fn add_block(
         &mut self,
         topology: &Topology,
@@ -24,21 +26,26 @@ impl Shard {
         stamp: Stamp,
         repl: u32,
     ) -> Done
-        requires { Among id self.old.room.entries }
-        ensures { HasChanged topology.now.cluster topology.now.cluster self.old self.new (events.add_block self.old.holdings id stamp repl) result }
+        requires entry { Among id self.old.room.entries }
+        ensures changed { HasChanged topology.now.cluster topology.now.cluster self.old self.new (events.add_block self.old.holdings id stamp repl) result }
+        ensures bare { HasNoneBare self.new }
     {
+        let prepared = self.prepared;
         self.prepared = Prepared::Nothing;
         self.blocks.lawful();
         self.blocks.arena().lawful();
         self.blocks
             .add_block(topology, id, BlockInfo { stamp, repl });
+        drop_prepared(&mut self.blocks, &mut self.report, prepared);
         self.blocks.arena().lawful();
         NOTHING
     }
 
     /// A block is deleted: its replicas are stray, and its transfers leave. One look at each of its replicas.
     pub(crate) fn delete_block(&mut self, topology: &Topology, id: BlockId) -> Done
-        ensures { HasChanged topology.now.cluster topology.now.cluster self.old self.new (events.delete_block self.old.holdings id) result }
+        requires none { HasNoneBare self.old }
+        ensures changed { HasChanged topology.now.cluster topology.now.cluster self.old self.new (events.delete_block self.old.holdings id) result }
+        ensures bare { HasNoneBare self.new }
     {
         self.prepared = Prepared::Nothing;
         self.blocks.lawful();
@@ -51,7 +58,9 @@ impl Shard {
 
     /// So many replicas of a block are wanted from now on.
     pub(crate) fn set_replication(&mut self, topology: &Topology, id: BlockId, repl: u32) -> Done
-        ensures { HasChanged topology.now.cluster topology.now.cluster self.old self.new (events.set_replication self.old.holdings id repl) result }
+        requires none { HasNoneBare self.old }
+        ensures changed { HasChanged topology.now.cluster topology.now.cluster self.old self.new (events.set_replication self.old.holdings id repl) result }
+        ensures bare { HasNoneBare self.new }
     {
         self.prepared = Prepared::Nothing;
         self.blocks.lawful();
@@ -63,7 +72,9 @@ impl Shard {
 
     /// A block has another stamp: its good replicas are stale, and its transfers leave. One look at each of its replicas.
     pub(crate) fn restamp(&mut self, topology: &Topology, id: BlockId, stamp: Stamp) -> Done
-        ensures { HasChanged topology.now.cluster topology.now.cluster self.old self.new (events.restamp self.old.holdings id stamp) result }
+        requires none { HasNoneBare self.old }
+        ensures changed { HasChanged topology.now.cluster topology.now.cluster self.old self.new (events.restamp self.old.holdings id stamp) result }
+        ensures bare { HasNoneBare self.new }
     {
         self.prepared = Prepared::Nothing;
         self.blocks.lawful();
@@ -76,7 +87,9 @@ impl Shard {
 
     /// A replica is bad, if it is there.
     pub(crate) fn make_bad(&mut self, topology: &Topology, storage: StorageId, id: BlockId) -> Done
-        ensures { HasChanged topology.now.cluster topology.now.cluster self.old self.new (events.make_bad self.old.holdings (replica_at id storage)) result }
+        requires none { HasNoneBare self.old }
+        ensures changed { HasChanged topology.now.cluster topology.now.cluster self.old self.new (events.make_bad self.old.holdings (replica_at id storage)) result }
+        ensures bare { HasNoneBare self.new }
     {
         self.prepared = Prepared::Nothing;
         self.blocks.lawful();
@@ -93,7 +106,9 @@ impl Shard {
         storage: StorageId,
         id: BlockId,
     ) -> Done
-        ensures { HasChanged topology.now.cluster topology.now.cluster self.old self.new (events.remove_replica self.old.holdings (replica_at id storage)) result }
+        requires none { HasNoneBare self.old }
+        ensures changed { HasChanged topology.now.cluster topology.now.cluster self.old self.new (events.remove_replica self.old.holdings (replica_at id storage)) result }
+        ensures bare { HasNoneBare self.new }
     {
         self.prepared = Prepared::Nothing;
         self.blocks.lawful();

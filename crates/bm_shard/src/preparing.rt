@@ -1,14 +1,23 @@
 // The memory of an event, and giving it up.
-ghost use Rattle.std.specs.Prelude.{◌≡◌, ◌<◌, None, Some, IfErr, OnOk};
+ghost use Rattle.std.specs.Prelude.{◌≡◌, ◌==◌, ◌<◌, ℕ, None, Some, IfErr, OnOk, OnErr};
 ghost use Rattle.bm_base.specs.declared.refusal.Refusal.TheVariants.{Memory};
 ghost use Rattle.bm_base.specs.Answering.{Refuses};
+ghost use Rattle.bm_base.specs.State.{Cluster};
+ghost use Rattle.bm_base.specs.Events.{is_named};
 ghost use Rattle.bm_base.specs.SlotLists.{Among};
+ghost use Rattle.bm_arena.specs.Holding.{replicas_of, blocks_of};
 ghost use Rattle.bm_report.specs.Expanded.{told_to};
+ghost use Rattle.bm_levels.specs.Bare.{HasNoneBareOf, MakesNoneBare};
+ghost use Rattle.bm_levels.specs.Leveled.{AreLevels};
 ghost use Rattle.bm_shard.specs.Seen.{IsReadyFor, takes_room};
+ghost use Rattle.bm_shard.specs.Bare.{HasNoneBare, HasBareOnly, may_enter};
+ghost use Rattle.bm_shard.specs.Inside.{is_prepared};
 ghost use Rattle.bm_shard.specs.Standing.{IsSameButRoom};
 
 use crate::shard::{Prepared, Shard};
 use bm_base::{BlockId, Entry, Event, Part, Refusal, StorageId};
+use bm_levels::LeveledBlocks;
+use bm_report::Report;
 use bm_topo::Topology;
 
 /// All numbers: a notice is handed to the shard of its number alone.
@@ -25,6 +34,8 @@ impl Shard {
     pub fn prepare(&mut self, event: &Event, topology: &Topology) -> Result<(), Refusal>
         ensures ready { OnOk result (IsReadyFor event.now self.new) }
         ensures same { IsSameButRoom self.old self.new }
+        ensures bare { HasBareOnly (may_enter self.old.part event.now) self.new }
+        ensures given_up { OnErr result (HasNoneBare self.new) }
         ensures refused { IfErr result (Refuses None (takes_room event.now)) }
     {
         let _ = topology;
@@ -55,8 +66,11 @@ impl Shard {
 
     /// Gives a number an entry.
     fn ready_entry(&mut self, id: BlockId) -> Result<(), Refusal>
+        requires none { HasNoneBare self.old }
         ensures ready { OnOk result (Among id self.new.room.entries) }
         ensures same { IsSameButRoom self.old self.new }
+        ensures bare { HasBareOnly (λ b. id == b) self.new }
+        ensures given_up { OnErr result (HasNoneBare self.new) }
         ensures refused { IfErr result (λ e. e ≡ Memory) }
     {
         self.prepared = Prepared::Nothing;
@@ -78,8 +92,11 @@ impl Shard {
         part: Part,
     ) -> Result<(), Refusal>
         requires part { part.index < part.shards }
+        requires none { HasNoneBare self.old }
         ensures ready { OnOk result (self.new.room.report ≡ Some (storage, told_to part entries.now)) }
         ensures same { IsSameButRoom self.old self.new }
+        ensures bare { HasBareOnly (is_named (told_to part entries.now)) self.new }
+        ensures given_up { OnErr result (HasNoneBare self.new) }
         ensures refused { IfErr result (λ e. e ≡ Memory) }
     {
         self.prepared = Prepared::Nothing;
@@ -98,22 +115,36 @@ impl Shard {
     /// Gives up what was prepared: entries that were made for it and have neither a block nor a replica go. Nothing that is seen changes
     /// but room, where the shard stands in some cluster. Takes no memory.
     pub fn abort(&mut self)
-        ensures { IsSameButRoom self.old self.new }
+        ensures same { IsSameButRoom self.old self.new }
+        ensures bare { HasNoneBare self.new }
+        ensures transfers { self.new.room.transfers ≡ self.old.room.transfers }
     {
         let prepared = self.prepared;
         self.prepared = Prepared::Nothing;
         self.blocks.lawful();
         self.blocks.arena().lawful();
-        match prepared {
-            Prepared::Nothing => {}
-            Prepared::Entry(id) => {
-                if let Some(slot) = self.blocks.slot_of(id) {
-                    self.blocks.drop_if_bare(slot);
-                }
-            }
-            Prepared::Report(_) => self.blocks.abort_report(&mut self.report),
-        }
-        self.blocks.lawful();
+        drop_prepared(&mut self.blocks, &mut self.report, prepared);
         self.blocks.arena().lawful();
+    }
+}
+
+/// Drops the entries that were made for what was prepared and have neither a block nor a replica. Nothing that is held changes. Takes no
+/// memory.
+pub(crate) fn drop_prepared(blocks: &mut LeveledBlocks, report: &mut Report, prepared: Prepared)
+    ensures blocks { blocks_of blocks.new.arena ≡ blocks_of blocks.old.arena }
+    ensures replicas { replicas_of blocks.new.arena ≡ replicas_of blocks.old.arena }
+    ensures bare { MakesNoneBare blocks.old.arena blocks.new.arena }
+    ensures left { HasNoneBareOf (is_prepared prepared report.old) blocks.new.arena }
+    ensures levels { (C : Cluster) → AreLevels C blocks.old → AreLevels C blocks.new }
+{
+    blocks.arena().lawful();
+    match prepared {
+        Prepared::Nothing => {}
+        Prepared::Entry(id) => {
+            if let Some(slot) = blocks.slot_of(id) {
+                blocks.drop_if_bare(slot);
+            }
+        }
+        Prepared::Report(_) => blocks.abort_report(report),
     }
 }

@@ -4,6 +4,7 @@ ghost use Rattle.bm_base.specs.Entries.{Told};
 ghost use Rattle.bm_base.specs.Events as events;
 ghost use Rattle.bm_base.specs.State.{replica_at};
 ghost use Rattle.bm_parts.specs.PlacedLaws.{IsPlaced};
+ghost use Rattle.bm_shard.specs.Bare.{HasNoneBare};
 ghost use Rattle.bm_shard.specs.Changed.{HasChanged};
 
 use crate::arriving::drop_arrived;
@@ -34,7 +35,8 @@ impl Shard {
     ) -> Done
         requires ready { self.old.room.report ≡ Some (storage, record { id = id; stamp = stamp } ∷ []) }
         requires placed { IsPlaced topology.now.cluster self.old.holdings }
-        ensures { HasChanged topology.now.cluster topology.now.cluster self.old self.new (events.enter topology.now.cluster self.old.holdings (replica_at id storage) stamp) result }
+        ensures changed { HasChanged topology.now.cluster topology.now.cluster self.old self.new (events.enter topology.now.cluster self.old.holdings (replica_at id storage) stamp) result }
+        ensures bare { HasNoneBare self.new }
     {
         self.prepared = Prepared::Nothing;
         self.blocks.lawful();
@@ -54,6 +56,7 @@ impl Shard {
         requires placed { IsPlaced topology.now.cluster self.old.holdings }
         ensures changed { (ts : List Told) → self.old.room.report ≡ Some (storage, ts) → HasChanged topology.now.cluster topology.now.cluster self.old self.new (events.report topology.now.cluster self.old.holdings storage ts) result }
         ensures few { (result.added < 2 ^ 100) × (result.removed < 2 ^ 100) }
+        ensures bare { HasNoneBare self.new }
     {
         self.prepared = Prepared::Nothing;
         self.blocks.lawful();

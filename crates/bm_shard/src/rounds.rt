@@ -3,6 +3,7 @@ ghost use Rattle.std.specs.Prelude.{◌≡◌, ◌<◌, ◌+◌, ◌^◌, IfOk, 
 ghost use Rattle.bm_base.specs.declared.refusal.Refusal.TheVariants.{Memory};
 ghost use Rattle.bm_base.specs.RoundParts.{round_on_part};
 ghost use Rattle.bm_shard.specs.Seen.{IsReadyForRound};
+ghost use Rattle.bm_shard.specs.Bare.{HasNoneBare};
 ghost use Rattle.bm_shard.specs.Standing.{StandsIn, IsSameButRoom, next_part};
 
 use crate::own_transfers::insert_own;
@@ -42,6 +43,7 @@ impl Shard {
     ) -> Result<(), Refusal>
         ensures ready { OnOk result (IsReadyForRound chosen.now self.new) }
         ensures same { IsSameButRoom self.old self.new }
+        ensures entries { self.new.room.entries ≡ self.old.room.entries }
         ensures refused { IfErr result (λ e. e ≡ Memory) }
     {
         let _ = part;
@@ -52,7 +54,7 @@ impl Shard {
 
     /// Takes the shard's next round, of which this was chosen of all shards: transfers that are too old leave, excess is marked
     /// anew, and of what was chosen the shard's own deletes are ordered and its own transfers are on their way. Every shard takes every
-    /// round, also one of which nothing was chosen. Takes no memory.
+    /// round, also one of which nothing was chosen. What was prepared for an event is given up. Takes no memory.
     pub fn round_commit(&mut self, part: &RoundPart, chosen: &Chosen, topology: &Topology)
         requires standing { StandsIn topology.now.cluster self.old }
         requires part { part.now ≡ next_part topology.now.cluster self.old }
@@ -62,6 +64,24 @@ impl Shard {
         ensures standing { StandsIn topology.now.cluster self.new }
         ensures part { self.new.part ≡ self.old.part }
         ensures rounds { (self.new.round ≡ self.old.round + 1) × (self.new.pend ≡ self.old.pend) }
+        ensures bare { HasNoneBare self.new }
+    {
+        self.abort();
+        self.take_round(part, chosen, topology);
+    }
+
+    /// Takes the shard's next round, with nothing prepared.
+    fn take_round(&mut self, part: &RoundPart, chosen: &Chosen, topology: &Topology)
+        requires standing { StandsIn topology.now.cluster self.old }
+        requires part { part.now ≡ next_part topology.now.cluster self.old }
+        requires ready { IsReadyForRound chosen.now self.old }
+        requires counted { self.old.round + 1 < 2 ^ 64 }
+        requires none { HasNoneBare self.old }
+        ensures holdings { self.new.holdings ≡ round_on_part topology.now.cluster self.old.pend (self.old.round + 1) self.old.holdings self.old.part.index self.old.part.shards chosen.now.transfers chosen.now.deletes }
+        ensures standing { StandsIn topology.now.cluster self.new }
+        ensures part { self.new.part ≡ self.old.part }
+        ensures rounds { (self.new.round ≡ self.old.round + 1) × (self.new.pend ≡ self.old.pend) }
+        ensures bare { HasNoneBare self.new }
     {
         let round = self.round + 1;
         self.prepared = Prepared::Nothing;
@@ -84,7 +104,8 @@ impl Shard {
 
     /// Gives up what was made ready for a round. Nothing that is seen changes but room. Takes no memory.
     pub fn round_abort(&mut self)
-        ensures { IsSameButRoom self.old self.new }
+        ensures same { IsSameButRoom self.old self.new }
+        ensures entries { self.new.room.entries ≡ self.old.room.entries }
     {
         self.pending.shed();
     }

@@ -2,6 +2,7 @@
 ghost use Rattle.std.specs.Prelude.{◌≡◌, ◌<◌, ℕ, IfOk, IfErr};
 ghost use Rattle.bm_base.specs.declared.refusal.Refusal.TheVariants.{Memory};
 ghost use Rattle.bm_base.specs.State.{Cluster, empty_holdings};
+ghost use Rattle.bm_shard.specs.Bare.{HasNoneBare};
 ghost use Rattle.bm_shard.specs.Standing.{StandsIn};
 
 use bm_base::{BlockId, Config, Part, Refusal, StorageId};
@@ -41,7 +42,7 @@ impl Model for Shard {
     ghost use Rattle.bm_shard.specs.Seen.{Seen};
     ghost use Rattle.bm_shard.specs.Codes.{coded_seen};
     ghost use Rattle.bm_levels.specs.Held.{holdings_with};
-    ghost use Rattle.bm_shard.specs.Inside.{levels_of, numbers_of, report_of, IsShard};
+    ghost use Rattle.bm_shard.specs.Inside.{levels_of, numbers_of, heads_of, report_of, IsShard};
 
     ghost Value = { Seen };
 
@@ -53,7 +54,7 @@ impl Model for Shard {
       round = s.round;
       pend = s.pend;
       levels = levels_of s.blocks;
-      room = record { entries = numbers_of s.blocks.arena; report = report_of s.report s.prepared; transfers = s.pending.rooms };
+      room = record { entries = numbers_of s.blocks.arena; lists = heads_of s.blocks.arena; report = report_of s.report s.prepared; transfers = s.pending.rooms };
     } };
 
     ghost invariant = { λ s. IsShard s.part s.blocks s.report s.prepared };
@@ -68,6 +69,7 @@ impl Shard {
         ensures round { IfOk result (λ s. s.round ≡ config.now.first_round) }
         ensures pend { IfOk result (λ s. s.pend ≡ config.now.pend) }
         ensures standing { IfOk result (λ s. (C : Cluster) → StandsIn C s) }
+        ensures bare { IfOk result (λ s. HasNoneBare s) }
         ensures refused { IfErr result (λ e. e ≡ Memory) }
     {
         let blocks = LeveledBlocks::new(alloc)?;

@@ -1,6 +1,6 @@
 use Rattle.bm_arena.proofs.Lawfulness.{IsLawful-arena}
 use Rattle.std.proofs.Common.{arith, refl}
-use Rattle.bm_arena.proofs.Headless.{drop_head-arena, drop_head-lists, drop_head-list, drop_head-head}
+use Rattle.bm_arena.proofs.Headless.{drop_head-arena, drop_head-lists, drop_head-list, drop_head-head, drop_head-gone, drop_head-fewer}
 use Rattle.bm_arena.proofs.arena.Arena.drop_head.Goals as goal
 
 pub invariant_of-self : goal.invariant_of-self
@@ -38,3 +38,15 @@ returns-clause-heads c q differs head =
     let other = rw (← c.storage.view_is) at differs in
     let some = rw (← c.self.view_is) at head in
     drop_head-head c.self.inside.slots c.self.inside.ids.entries c.self.inside.heads.entries c.swap_remove.new.self.entries c.self.inside.delimiter c.storage.inside.0 c.self.invariant.arena empty c.swap_remove.ensures.updates.0 q other some
+
+pub returns-clause-gone : goal.returns-clause-gone
+returns-clause-gone c head =
+    let empty = rw (← c.self.view_is, ← c.storage.view_is) at c.requires in
+    let some = rw (← c.storage.view_is) at head in
+    drop_head-gone c.self.inside.slots c.self.inside.ids.entries c.self.inside.heads.entries c.swap_remove.new.self.entries c.self.inside.delimiter c.storage.inside.0 c.self.invariant.arena empty c.swap_remove.ensures.updates.0 some
+
+pub returns-clause-fewer : goal.returns-clause-fewer
+returns-clause-fewer c q head =
+    let empty = rw (← c.self.view_is, ← c.storage.view_is) at c.requires in
+    rw (← c.self.view_is)
+    (drop_head-fewer c.self.inside.slots c.self.inside.ids.entries c.self.inside.heads.entries c.swap_remove.new.self.entries c.self.inside.delimiter c.storage.inside.0 c.self.invariant.arena empty c.swap_remove.ensures.updates.0 q head)

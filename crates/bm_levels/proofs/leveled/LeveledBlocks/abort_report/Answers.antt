@@ -7,6 +7,7 @@ use Rattle.bm_report.specs.Ready.{told}
 use Rattle.bm_levels.specs.Leveled.{Leveled, AreLevels}
 use Rattle.bm_levels.proofs.Keeping.{same_itself}
 use Rattle.bm_levels.proofs.Readied.{AreAlike, alike_again, held_before, leveled_alike, levels_alike, as_prepared, none_fresh}
+use Rattle.bm_levels.proofs.Bare.{bare_unnamed}
 use Rattle.bm_levels.proofs.leveled.LeveledBlocks.abort_report.Goals as goal
 
 abbrev start : goal.After-lawful-2 → Leveled
@@ -33,3 +34,8 @@ pub returns-clause-levels : goal.returns-clause-levels
 returns-clause-levels c =
     let P : Leveled → Type 0 = λ v. (C : Cluster) → AreLevels C v → AreLevels C (record { arena = c.abort.new.arena; kept = c.self.inside.kept }) in
     subst P c.self.view_is (levels_alike (start c) c.abort.new.arena c.self.inside.kept (alike c) c.abort.ensures.delimiter (λ z. same_itself c.self.inside.kept z))
+
+pub returns-clause-left : goal.returns-clause-left
+returns-clause-left c =
+    let r = c.abort.ensures in
+    bare_unnamed c.self.inside.arena c.abort.new.arena (is_named (told c.args.report.now)) c.lawful.ensures r.blocks r.replicas r.numbers

@@ -1,9 +1,10 @@
 use Rattle.std.proofs.Common.{◌≡◌, ◌≤◌, ◌*◌, ◌^◌, []}
 use Rattle.bm_base.specs.Replicas.{rack_of, has_storage}
-use Rattle.bm_arena.specs.Contents.{list_of}
+use Rattle.bm_arena.specs.Contents.{list_of, HasHead}
+use Rattle.bm_levels.specs.Bare.{MakesNoneBare}
 use Rattle.bm_levels.specs.Judged.{drains_then}
 use Rattle.bm_levels.specs.LevelsBy.{AreLevelsBy}
-use Rattle.bm_levels.specs.Leaving.{IsLeaving}
+use Rattle.bm_levels.specs.Leaving.{IsLeaving, MakesNoHead}
 use Rattle.bm_levels.proofs.Places.{HaveGone}
 use Rattle.bm_levels.proofs.leveled.LeveledBlocks.clear_node.Given as goal
 
@@ -11,6 +12,9 @@ use Rattle.bm_levels.proofs.leveled.LeveledBlocks.clear_node.Given as goal
 pub record AreLeaving (l : goal.Live-loop-place) : Type 0 where
   pub left : IsLeaving (has_storage l.around.topology.now.cluster l.node) l.initial.self.arena l.self.arena l.removed
   pub none : HaveGone l.around.topology.now.cluster l.node (λ s. list_of l.self.arena s ≡ []) l.place
+  pub heads : HaveGone l.around.topology.now.cluster l.node (λ s. HasHead l.self.arena s → ⊥) l.place
+  pub bare : MakesNoneBare l.initial.self.arena l.self.arena
+  pub fewer : MakesNoHead l.initial.self.arena l.self.arena
   pub few : l.removed ≤ l.place * 2 ^ 64
   pub levels : AreLevelsBy (rack_of l.around.topology.now.cluster) (drains_then l.around.topology.now.cluster l.around.turning) l.around.multi l.initial.self
       → AreLevelsBy (rack_of l.around.topology.now.cluster) (drains_then l.around.topology.now.cluster l.around.turning) l.around.multi l.self

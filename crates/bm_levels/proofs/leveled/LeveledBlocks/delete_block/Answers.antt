@@ -7,6 +7,7 @@ use Rattle.bm_base.specs.Events.{as_stray}
 use Rattle.bm_arena.specs.Contents.{slot_of}
 use Rattle.bm_arena.specs.Holding.{blocks_of, info_at}
 use Rattle.bm_levels.proofs.Revising.{remove_absent, block_absent, replicas_absent, known_at, entry_left}
+use Rattle.bm_levels.proofs.Bare.{bare_changed}
 use Rattle.bm_levels.proofs.leveled.LeveledBlocks.delete_block.Goals as goal
 
 pub returns-in_default-clause-blocks : goal.returns-in_default-clause-blocks
@@ -25,3 +26,8 @@ returns-in-Some-clause-entry c =
     let still : slot_of b id ≡ Some slot = ap (λ l. lookup (nat_eq id) l) c.change_block.ensures.rest.ids ∙ here in
     let unknown : info_at b slot ≡ None = sym (known_at b id slot still) ∙ ap (λ m. get m id) (c.change_block.ensures.blocks id here) ∙ get_taken (blocks_of a) id in
     entry_left b c.drop_if_bare.new.self.arena id slot still c.drop_if_bare.ensures.replicas (λ none. c.drop_if_bare.ensures.gone id still none unknown)
+
+pub returns-in-Some-clause-bare : goal.returns-in-Some-clause-bare
+returns-in-Some-clause-bare c =
+    let d = c.drop_if_bare.ensures in
+    bare_changed c.args.self.now.arena c.change_block.new.self.arena c.drop_if_bare.new.self.arena c.in-Some.slot c.change_block.ensures.rest.ids c.change_block.ensures.rest.blocks d.blocks d.replicas d.numbers d.gone

@@ -1,11 +1,19 @@
-use Rattle.std.proofs.Common.{◌≡◌}
+use Rattle.std.proofs.Common.{◌≡◌, ℕ, Some, drop}
 use Rattle.bm_base.specs.State.{Cluster}
+use Rattle.bm_base.specs.SlotLists.{Among}
+use Rattle.bm_arena.specs.Contents.{slot_of}
 use Rattle.bm_arena.specs.Holding.{replicas_of, blocks_of}
+use Rattle.bm_levels.specs.Bare.{IsBare, KeepsSlots}
 use Rattle.bm_levels.specs.Leveled.{AreLevels}
 use Rattle.bm_levels.proofs.leveled.LeveledBlocks.drop_bare.Given as goal
 
+-- numbers keep their entries or lose them, and of those at the slots so far none is bare
+pub record AreDroppedSoFar (l : goal.Live-loop-slot) : Type 0 where
+  pub blocks : blocks_of l.self.arena ≡ blocks_of l.fn.self.arena
+  pub replicas : replicas_of l.self.arena ≡ replicas_of l.fn.self.arena
+  pub slots : KeepsSlots l.fn.self.arena l.self.arena
+  pub left : (b slot : ℕ) → Among slot l.slots → slot_of l.fn.self.arena b ≡ Some slot → IsBare l.self.arena b → Among slot (drop l.slot-index l.slots)
+  pub levels : (C : Cluster) → AreLevels C l.fn.self → AreLevels C l.self
+
 abbrev pub invariant-loop-slot : goal.invariant-loop-slot
-invariant-loop-slot l =
-    (blocks_of l.self.arena ≡ blocks_of l.fn.self.arena)
-    × (replicas_of l.self.arena ≡ replicas_of l.fn.self.arena)
-    × ((C : Cluster) → AreLevels C l.fn.self → AreLevels C l.self)
+invariant-loop-slot l = AreDroppedSoFar l

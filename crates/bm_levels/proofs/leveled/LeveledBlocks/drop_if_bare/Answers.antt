@@ -1,5 +1,5 @@
 use Rattle.std.proofs.Common.{◌≡◌, ℕ, Bool, Option, Some, None, not, subst, sym, ap, ◌∙◌}
-use Rattle.std.specs.Prelude.{◌≢◌}
+use Rattle.std.specs.Prelude.{◌≢◌, IsSome}
 use Rattle.bm_base.specs.State.{Cluster}
 use Rattle.bm_base.specs.Replicas.{rack_of, is_draining, is_multi_rack}
 use Rattle.bm_arena.specs.Contents.{slot_of}
@@ -7,6 +7,7 @@ use Rattle.bm_arena.specs.Holding.{blocks_of, replicas_of}
 use Rattle.bm_levels.specs.Leveled.{Leveled, AreLevels}
 use Rattle.bm_levels.specs.LevelsBy.{AreLevelsBy}
 use Rattle.bm_levels.proofs.Emptied.{IsEmptied, emptied, no_value}
+use Rattle.bm_levels.proofs.Bare.{slots_kept}
 use Rattle.bm_levels.proofs.leveled.LeveledBlocks.drop_if_bare.Goals as goal
 
 done : (c : goal.After-drop_entry) → IsEmptied (record { arena = c.self.inside.arena; kept = c.self.inside.kept }) c.drop_entry.new.self c.args.slot
@@ -45,3 +46,8 @@ returns-then-is_none-clause-gone c =
     let P : Leveled → Type 0 = λ v. (id : ℕ) → slot_of v.arena id ≡ Some c.args.slot → slot_of c.drop_entry.new.self id ≡ None in
     let gone = subst P c.self.view_is (done c).gone in
     λ id led none unknown. gone id led
+
+pub returns-then-is_none-clause-slots : goal.returns-then-is_none-clause-slots
+returns-then-is_none-clause-slots c =
+    let P : Leveled → Type 0 = λ v. (id : ℕ) → IsSome (slot_of c.drop_entry.new.self id) → slot_of c.drop_entry.new.self id ≡ slot_of v.arena id in
+    subst P c.self.view_is (slots_kept c.self.inside.arena c.drop_entry.new.self c.args.slot (done c).numbers (done c).gone)

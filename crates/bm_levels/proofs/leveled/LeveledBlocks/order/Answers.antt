@@ -9,7 +9,7 @@ use Rattle.bm_levels.proofs.leveled.LeveledBlocks.order.Goals as goal
 use Rattle.bm_levels.proofs.leveled.LeveledBlocks.order.Goals.{then-shard_of-part, else-shard_of-part}
 
 pub loop-delete-init : goal.loop-delete-init
-loop-delete-init c = record { replicas = refl; blocks = refl; levels = λ h. h }
+loop-delete-init c = record { replicas = refl; blocks = refl; numbers = refl; levels = λ h. h }
 
 pub loop-delete-preserved : goal.loop-delete-preserved
 loop-delete-preserved c =
@@ -30,6 +30,7 @@ loop-delete-preserved c =
             replicas = ap (λ (v : Leveled). revise (replicas_of v.arena) (ordered_by index shards (drop (i + 1) ds))) w.self-is
                 ∙ ap (λ m. revise m (ordered_by index shards (drop (i + 1) ds))) g.replicas ∙ order_own (replicas_of c.loop-delete.self.arena) index shards d (drop (i + 1) ds) own ∙ before;
             blocks = ap (λ (v : Leveled). blocks_of v.arena) w.self-is ∙ g.blocks ∙ h.blocks;
+            numbers = ap (λ (v : Leveled). v.arena.ids) w.self-is ∙ g.numbers ∙ h.numbers;
             levels = subst P (sym w.self-is) (λ were. g.levels (h.levels were));
           }
       | else-shard_of-part w ↦
@@ -39,6 +40,7 @@ loop-delete-preserved c =
             replicas = ap (λ (v : Leveled). revise (replicas_of v.arena) (ordered_by index shards (drop (i + 1) ds))) w.self-is
                 ∙ order_other (replicas_of c.loop-delete.self.arena) index shards d (drop (i + 1) ds) other ∙ before;
             blocks = ap (λ (v : Leveled). blocks_of v.arena) w.self-is ∙ h.blocks;
+            numbers = ap (λ (v : Leveled). v.arena.ids) w.self-is ∙ h.numbers;
             levels = subst P (sym w.self-is) h.levels;
           }
     ]
@@ -55,3 +57,6 @@ returns-clause-blocks c = c.loop-delete.invariant.blocks
 
 pub returns-clause-levels : goal.returns-clause-levels
 returns-clause-levels c = c.loop-delete.invariant.levels
+
+pub returns-clause-numbers : goal.returns-clause-numbers
+returns-clause-numbers c = c.loop-delete.invariant.numbers

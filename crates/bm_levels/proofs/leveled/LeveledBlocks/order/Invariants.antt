@@ -9,6 +9,7 @@ use Rattle.bm_levels.proofs.leveled.LeveledBlocks.order.Given as goal
 pub record AreOrderedSoFar (l : goal.Live-loop-delete) : Type 0 where
   pub replicas : revise (replicas_of l.self.arena) (ordered_by l.part.index l.part.shards (drop l.delete-index l.deletes)) ≡ revise (replicas_of l.initial.self.arena) (ordered_by l.part.index l.part.shards l.deletes)
   pub blocks : blocks_of l.self.arena ≡ blocks_of l.initial.self.arena
+  pub numbers : l.self.arena.ids ≡ l.initial.self.arena.ids
   pub levels : AreLevels l.topology.cluster l.initial.self → AreLevels l.topology.cluster l.self
 
 abbrev pub invariant-loop-delete : goal.invariant-loop-delete

@@ -6,6 +6,8 @@ use Rattle.bm_levels.specs.Leveled.{Leveled, AreLevels}
 use Rattle.bm_report.proofs.Simple.{ok_then}
 use Rattle.bm_levels.proofs.Emptied.{no_value}
 use Rattle.bm_levels.proofs.Added.{room_below, leveled_same, levels_same, leveled_added, levels_added, dropped_again, blocks_again, replicas_again, numbers_again}
+use Rattle.bm_levels.proofs.Bare.{bare_held, some_before}
+use Rattle.bm_levels.specs.Bare.{MakesNoneBare}
 use Rattle.bm_levels.proofs.leveled.LeveledBlocks.ready_block.Goals as goal
 
 abbrev first : goal.Else-is_err → Leveled
@@ -63,3 +65,8 @@ pub returns-then-is_err-clause-others : goal.returns-then-is_err-clause-others
 returns-then-is_err-clause-others c =
     let P : Leveled → Type 0 = λ v. (other : ℕ) → other ≢ c.args.id → slot_of c.drop_entry.new.self other ≡ slot_of v.arena other in
     subst P c.self.view_is (λ other _. numbers c other)
+
+pub returns-then-is_err-clause-given_up : goal.returns-then-is_err-clause-given_up
+returns-then-is_err-clause-given_up c =
+    let P : Leveled → Type 0 = λ v. MakesNoneBare v.arena c.drop_entry.new.self in
+    subst P c.self.view_is (λ b bare. bare_held c.self.inside.arena c.drop_entry.new.self b (some_before (numbers c b) bare.entry) (blocks_again c.self.inside.arena c.drop_entry.new.self (again c) (numbers c)) (replicas_again c.self.inside.arena c.drop_entry.new.self (again c) (numbers c)) bare)

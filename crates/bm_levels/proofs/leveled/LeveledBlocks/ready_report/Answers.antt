@@ -9,6 +9,8 @@ use Rattle.bm_levels.specs.Leveled.{Leveled, AreLevels}
 use Rattle.bm_levels.proofs.Keeping.{same_itself}
 use Rattle.bm_levels.proofs.Added.{room_below}
 use Rattle.bm_levels.proofs.Readied.{AreAlike, alike_ready, alike_again, held_before, leveled_alike, levels_alike}
+use Rattle.bm_levels.proofs.Bare.{bare_again}
+use Rattle.bm_levels.specs.Bare.{MakesNoneBare}
 use Rattle.bm_levels.proofs.leveled.LeveledBlocks.ready_report.Goals as goal
 
 -- the look-up was refused
@@ -82,3 +84,17 @@ returns-clause-levels c =
     let P : Leveled → Type 0 = λ v. (C : Cluster) → AreLevels C v → AreLevels C (record { arena = c.ready-found.new.arena; kept = c.grow_to.new.self }) in
     subst P c.self.view_is
     (levels_alike (start3 c) c.ready-found.new.arena c.grow_to.new.self (alike_ready c.self.inside.arena c.ready-found.new.arena c.lawful.ensures c.lawful-2.ensures c.ready-found.ensures.kept) c.ready-found.ensures.kept.delimiter c.grow_to.ensures.same)
+
+pub returns-then-is_err-clause-given_up : goal.returns-then-is_err-clause-given_up
+returns-then-is_err-clause-given_up c =
+    let k = c.ready-found.ensures in
+    let r = c.abort.ensures in
+    let P : Leveled → Type 0 = λ v. MakesNoneBare v.arena c.abort.new.arena in
+    subst P c.self.view_is (bare_again c.self.inside.arena c.ready-found.new.arena c.abort.new.arena (is_named (told c.ready-found.new.self)) c.lawful-2.ensures k.kept.blocks k.kept.replicas k.fresh r.blocks r.replicas r.numbers)
+
+pub returns-then-is_err-2-clause-given_up : goal.returns-then-is_err-2-clause-given_up
+returns-then-is_err-2-clause-given_up c =
+    let k = c.ready-found.ensures in
+    let r = c.abort-then-is_err-2.ensures in
+    let P : Leveled → Type 0 = λ v. MakesNoneBare v.arena c.abort-then-is_err-2.new.arena in
+    subst P c.self.view_is (bare_again c.self.inside.arena c.ready-found.new.arena c.abort-then-is_err-2.new.arena (is_named (told c.ready-found.new.self)) c.lawful-2.ensures k.kept.blocks k.kept.replicas k.fresh r.blocks r.replicas r.numbers)

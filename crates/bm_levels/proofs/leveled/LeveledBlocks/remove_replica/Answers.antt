@@ -7,6 +7,7 @@ use Rattle.bm_arena.specs.Contents.{slot_of}
 use Rattle.bm_arena.specs.Holding.{replicas_of, blocks_of, info_at}
 use Rattle.bm_levels.proofs.Emptied.{no_value}
 use Rattle.bm_levels.proofs.Revising.{remove_absent, replica_absent, held_at, known_at, entry_left}
+use Rattle.bm_levels.proofs.Bare.{bare_changed}
 use Rattle.bm_levels.proofs.leveled.LeveledBlocks.remove_replica.Goals as goal
 
 pub returns-in_default-clause-replicas : goal.returns-in_default-clause-replicas
@@ -44,3 +45,8 @@ returns-clause-entry c =
     let still : slot_of b id ≡ Some slot = ap (λ l. lookup (nat_eq id) l) c.remove.ensures.rest.ids ∙ sym c.in-Some.ensures in
     let unknown : info_at b slot ≡ None = sym (known_at b id slot still) ∙ ap (λ m. get m id) c.remove.ensures.blocks ∙ no_value (get (blocks_of a) id) absent in
     entry_left b c.drop_if_bare.new.self.arena id slot still c.drop_if_bare.ensures.replicas (λ none. c.drop_if_bare.ensures.gone id still none unknown)
+
+pub returns-clause-bare : goal.returns-clause-bare
+returns-clause-bare c =
+    let d = c.drop_if_bare.ensures in
+    bare_changed c.args.self.now.arena c.remove.new.self.arena c.drop_if_bare.new.self.arena c.in-Some.slot c.remove.ensures.rest.ids c.remove.ensures.rest.blocks d.blocks d.replicas d.numbers d.gone

@@ -8,6 +8,7 @@ use Rattle.bm_levels.specs.Judged.{drains_then}
 use Rattle.bm_levels.specs.Leveled.{Leveled, IsLeveled}
 use Rattle.bm_levels.proofs.Standing.{led_to}
 use Rattle.bm_levels.proofs.Leaving.{first_among, first_then, leaving_one, leaving_same, leaving_more}
+use Rattle.bm_levels.proofs.Bare.{bare_changed, heads_same}
 use Rattle.bm_levels.proofs.leveled.LeveledBlocks.take_first.Goals as goal
 
 -- the first slot of a list, before a replica is taken out
@@ -55,3 +56,11 @@ returns-clause-list c =
 pub returns-clause-levels : goal.returns-clause-levels
 returns-clause-levels c h =
     c.drop_if_bare.ensures.levels_by (rack_of c.args.around.now.topology.now.cluster) (drains_then c.args.around.now.topology.now.cluster c.args.around.now.turning) c.args.around.now.multi (c.take_out.ensures.levels h)
+
+pub returns-clause-bare : goal.returns-clause-bare
+returns-clause-bare c =
+    let d = c.drop_if_bare.ensures in
+    bare_changed c.args.self.now.arena c.take_out.new.self.arena c.drop_if_bare.new.self.arena c.args.slot c.take_out.ensures.rest.ids c.take_out.ensures.rest.blocks d.blocks d.replicas d.numbers d.gone
+
+pub returns-clause-fewer : goal.returns-clause-fewer
+returns-clause-fewer c s head = c.take_out.ensures.fewer s (heads_same c.take_out.new.self.arena c.drop_if_bare.new.self.arena c.drop_if_bare.ensures.lists s head)

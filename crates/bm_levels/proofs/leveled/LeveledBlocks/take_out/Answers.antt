@@ -1,10 +1,11 @@
 use Rattle.std.proofs.Common.{◌≡◌, ℕ, Some, subst, sym}
 use Rattle.bm_base.specs.Replicas.{rack_of}
-use Rattle.bm_arena.specs.Contents.{Contents, slot_of, IsLawful, KeepsOthers}
+use Rattle.bm_arena.specs.Contents.{Contents, slot_of, HasHead, IsLawful, KeepsOthers}
 use Rattle.bm_levels.specs.Judged.{drains_then}
 use Rattle.bm_levels.specs.Leveled.{Leveled}
 use Rattle.bm_levels.specs.LevelsBy.{AreLevelsBy}
 use Rattle.bm_levels.proofs.OneSlot.{IsChangedAt, held_by, leveled_where, levels_where}
+use Rattle.bm_levels.proofs.Bare.{heads_unlinked}
 use Rattle.bm_levels.proofs.leveled.LeveledBlocks.take_out.Goals as goal
 
 changed : (old v : Leveled) (a : Contents) (slot storage id : ℕ) → old ≡ v → IsLawful old.arena → slot_of v.arena id ≡ Some slot → KeepsOthers old.arena a slot storage → IsChangedAt old.arena a slot
@@ -31,3 +32,8 @@ returns-clause-levels c =
     (levels_where rack draining c.args.around.now.multi old c.unlink.new.self c.judge.new.self c.args.slot
     (changed old c.args.self.now c.unlink.new.self c.args.slot c.args.storage c.requires.slot.0 c.self.view_is c.lawful.ensures c.requires.slot.1 c.unlink.ensures.others)
     c.judge.ensures.judged c.judge.ensures.others)
+
+pub returns-clause-fewer : goal.returns-clause-fewer
+returns-clause-fewer c =
+    let P : Leveled → Type 0 = λ v. (q : ℕ) → HasHead c.unlink.new.self q → HasHead v.arena q in
+    subst P c.self.view_is (heads_unlinked c.self.inside.arena c.unlink.new.self c.args.slot c.args.storage c.unlink.ensures.after)

@@ -1,13 +1,10 @@
-use Rattle.std.proofs.Common.{◌≡◌, None, Some, ap, subst, sym, ◌∙◌}
+use Rattle.std.proofs.Common.{ap, subst, sym, ◌∙◌}
 use Rattle.bm_base.specs.declared.event.Done.{Done}
 use Rattle.bm_base.specs.declared.event.Event.{Event}
-use Rattle.bm_base.specs.declared.event.Event.TheVariants.{Register, Dead}
 use Rattle.bm_base.specs.State.{Cluster}
 use Rattle.bm_base.specs.Replicas.{is_multi_rack}
 use Rattle.bm_base.specs.Events.{register, heartbeat, change_cluster, change_holdings}
-use Rattle.bm_base.specs.Entries.{Told, expanded}
-use Rattle.bm_base.specs.Refusals.{first_of, cluster_checks}
-use Rattle.bm_parts.specs.Parts.{told_of, block_of, change_part}
+use Rattle.bm_parts.specs.Parts.{block_of, change_part}
 use Rattle.bm_shard.specs.Seen.{Seen, IsReadyFor}
 use Rattle.bm_shard.specs.Changed.{HasChanged}
 use Rattle.bm_shard.proofs.Own.{by_own, none_few}
@@ -25,13 +22,13 @@ unfolding change_cluster
 register-requires-clause-multi c =
     c.requires.multi ∙ ap (λ e. is_multi_rack (change_cluster c.args.topology.now.cluster e)) c.in-Register.is ∙ ap (λ ss. is_multi_rack (register c.args.topology.now.cluster c.in-Register.node c.in-Register.rack ss)) (sym c.as_slice.ensures)
 
-pub forget_node-requires : goal.forget_node-requires
+pub forget_node-requires-clause-multi : goal.forget_node-requires-clause-multi
 unfolding change_cluster
-forget_node-requires c = record { multi = c.requires.multi ∙ ap (λ e. is_multi_rack (change_cluster c.args.topology.now.cluster e)) c.in-Dead.is }
+forget_node-requires-clause-multi c = c.requires.multi ∙ ap (λ e. is_multi_rack (change_cluster c.args.topology.now.cluster e)) c.in-Dead.is
 
 pub add_block-requires : goal.add_block-requires
 unfolding IsReadyFor
-add_block-requires c = subst (λ e. IsReadyFor e c.args.self.now) c.in-AddBlock.is c.requires.ready
+add_block-requires c = record { entry = subst (λ e. IsReadyFor e c.args.self.now) c.in-AddBlock.is c.requires.ready }
 
 pub receive-requires-clause-ready : goal.receive-requires-clause-ready
 unfolding IsReadyFor
@@ -43,7 +40,7 @@ report-requires-clause-ready c = (_, subst (λ e. IsReadyFor e c.args.self.now) 
 
 pub returns-in-Register-clause-changed : goal.returns-in-Register-clause-changed
 unfolding change_cluster change_holdings
-returns-in-Register-clause-changed c = subst (λ e. Changes c.args.topology.now.cluster c.args.self.now c.register.new.self c.register.result e) (sym c.in-Register.is) (let P : _ → Type 0 = λ ss. HasChanged c.args.topology.now.cluster (register c.args.topology.now.cluster c.in-Register.node c.in-Register.rack ss) c.args.self.now c.register.new.self c.args.self.now.holdings c.register.result in subst P c.as_slice.ensures c.register.ensures)
+returns-in-Register-clause-changed c = subst (λ e. Changes c.args.topology.now.cluster c.args.self.now c.register.new.self c.register.result e) (sym c.in-Register.is) (let P : _ → Type 0 = λ ss. HasChanged c.args.topology.now.cluster (register c.args.topology.now.cluster c.in-Register.node c.in-Register.rack ss) c.args.self.now c.register.new.self c.args.self.now.holdings c.register.result in subst P c.as_slice.ensures c.register.ensures.changed)
 
 pub returns-in-Dead-clause-changed : goal.returns-in-Dead-clause-changed
 unfolding change_cluster change_holdings
@@ -55,7 +52,7 @@ returns-in-StorageFailed-clause-changed c = subst (λ e. Changes c.args.topology
 
 pub returns-in-Heartbeat-clause-changed : goal.returns-in-Heartbeat-clause-changed
 unfolding change_cluster change_holdings
-returns-in-Heartbeat-clause-changed c = subst (λ e. Changes c.args.topology.now.cluster c.args.self.now c.hear.new.self c.hear.result e) (sym c.in-Heartbeat.is) (let P : _ → Type 0 = λ rs. HasChanged c.args.topology.now.cluster (heartbeat c.args.topology.now.cluster rs) c.args.self.now c.hear.new.self c.args.self.now.holdings c.hear.result in subst P c.as_slice-in-Heartbeat.ensures c.hear.ensures)
+returns-in-Heartbeat-clause-changed c = subst (λ e. Changes c.args.topology.now.cluster c.args.self.now c.hear.new.self c.hear.result e) (sym c.in-Heartbeat.is) (let P : _ → Type 0 = λ rs. HasChanged c.args.topology.now.cluster (heartbeat c.args.topology.now.cluster rs) c.args.self.now c.hear.new.self c.args.self.now.holdings c.hear.result in subst P c.as_slice-in-Heartbeat.ensures c.hear.ensures.changed)
 
 pub returns-in-Drain-clause-changed : goal.returns-in-Drain-clause-changed
 unfolding change_cluster change_holdings
@@ -70,56 +67,56 @@ unfolding change_cluster change_holdings
 returns-in-AddBlock-clause-changed c =
     let on = ap block_of c.in-AddBlock.is in
     by_own c.args.topology.now.cluster c.args.self.now c.add_block.new.self c.add_block.result c.args.event.now c.in-AddBlock.id on c.requires.own
-    (subst (λ e. ChangesAny c.args.topology.now.cluster c.args.self.now c.add_block.new.self c.add_block.result e) (sym c.in-AddBlock.is) c.add_block.ensures)
+    (subst (λ e. ChangesAny c.args.topology.now.cluster c.args.self.now c.add_block.new.self c.add_block.result e) (sym c.in-AddBlock.is) c.add_block.ensures.changed)
 
 pub returns-in-DeleteBlock-clause-changed : goal.returns-in-DeleteBlock-clause-changed
 unfolding change_cluster change_holdings
 returns-in-DeleteBlock-clause-changed c =
     let on = ap block_of c.in-DeleteBlock.is in
     by_own c.args.topology.now.cluster c.args.self.now c.delete_block.new.self c.delete_block.result c.args.event.now c.in-DeleteBlock.id on c.requires.own
-    (subst (λ e. ChangesAny c.args.topology.now.cluster c.args.self.now c.delete_block.new.self c.delete_block.result e) (sym c.in-DeleteBlock.is) c.delete_block.ensures)
+    (subst (λ e. ChangesAny c.args.topology.now.cluster c.args.self.now c.delete_block.new.self c.delete_block.result e) (sym c.in-DeleteBlock.is) c.delete_block.ensures.changed)
 
 pub returns-in-SetReplication-clause-changed : goal.returns-in-SetReplication-clause-changed
 unfolding change_cluster change_holdings
 returns-in-SetReplication-clause-changed c =
     let on = ap block_of c.in-SetReplication.is in
     by_own c.args.topology.now.cluster c.args.self.now c.set_replication.new.self c.set_replication.result c.args.event.now c.in-SetReplication.id on c.requires.own
-    (subst (λ e. ChangesAny c.args.topology.now.cluster c.args.self.now c.set_replication.new.self c.set_replication.result e) (sym c.in-SetReplication.is) c.set_replication.ensures)
+    (subst (λ e. ChangesAny c.args.topology.now.cluster c.args.self.now c.set_replication.new.self c.set_replication.result e) (sym c.in-SetReplication.is) c.set_replication.ensures.changed)
 
 pub returns-in-Restamp-clause-changed : goal.returns-in-Restamp-clause-changed
 unfolding change_cluster change_holdings
 returns-in-Restamp-clause-changed c =
     let on = ap block_of c.in-Restamp.is in
     by_own c.args.topology.now.cluster c.args.self.now c.restamp.new.self c.restamp.result c.args.event.now c.in-Restamp.id on c.requires.own
-    (subst (λ e. ChangesAny c.args.topology.now.cluster c.args.self.now c.restamp.new.self c.restamp.result e) (sym c.in-Restamp.is) c.restamp.ensures)
+    (subst (λ e. ChangesAny c.args.topology.now.cluster c.args.self.now c.restamp.new.self c.restamp.result e) (sym c.in-Restamp.is) c.restamp.ensures.changed)
 
 pub returns-in-Received-clause-changed : goal.returns-in-Received-clause-changed
 unfolding change_cluster change_holdings
 returns-in-Received-clause-changed c =
     let on = ap block_of c.in-Received.is in
     by_own c.args.topology.now.cluster c.args.self.now c.receive.new.self c.receive.result c.args.event.now c.in-Received.id on c.requires.own
-    (subst (λ e. ChangesAny c.args.topology.now.cluster c.args.self.now c.receive.new.self c.receive.result e) (sym c.in-Received.is) c.receive.ensures)
+    (subst (λ e. ChangesAny c.args.topology.now.cluster c.args.self.now c.receive.new.self c.receive.result e) (sym c.in-Received.is) c.receive.ensures.changed)
 
 pub returns-in-Deleted-clause-changed : goal.returns-in-Deleted-clause-changed
 unfolding change_cluster change_holdings
 returns-in-Deleted-clause-changed c =
     let on = ap block_of c.in-Deleted.is in
     by_own c.args.topology.now.cluster c.args.self.now c.delete_replica.new.self c.delete_replica.result c.args.event.now c.in-Deleted.id on c.requires.own
-    (subst (λ e. ChangesAny c.args.topology.now.cluster c.args.self.now c.delete_replica.new.self c.delete_replica.result e) (sym c.in-Deleted.is) c.delete_replica.ensures)
+    (subst (λ e. ChangesAny c.args.topology.now.cluster c.args.self.now c.delete_replica.new.self c.delete_replica.result e) (sym c.in-Deleted.is) c.delete_replica.ensures.changed)
 
 pub returns-in-Corrupt-clause-changed : goal.returns-in-Corrupt-clause-changed
 unfolding change_cluster change_holdings
 returns-in-Corrupt-clause-changed c =
     let on = ap block_of c.in-Corrupt.is in
     by_own c.args.topology.now.cluster c.args.self.now c.make_bad.new.self c.make_bad.result c.args.event.now c.in-Corrupt.id on c.requires.own
-    (subst (λ e. ChangesAny c.args.topology.now.cluster c.args.self.now c.make_bad.new.self c.make_bad.result e) (sym c.in-Corrupt.is) c.make_bad.ensures)
+    (subst (λ e. ChangesAny c.args.topology.now.cluster c.args.self.now c.make_bad.new.self c.make_bad.result e) (sym c.in-Corrupt.is) c.make_bad.ensures.changed)
 
 pub returns-in-FullReport-clause-changed : goal.returns-in-FullReport-clause-changed
 unfolding change_cluster change_holdings IsReadyFor
 returns-in-FullReport-clause-changed c = subst (λ e. Changes c.args.topology.now.cluster c.args.self.now c.report.new.self c.report.result e) (sym c.in-FullReport.is) (c.report.ensures.changed _ (subst (λ e. IsReadyFor e c.args.self.now) c.in-FullReport.is c.requires.ready))
 
 pub returns-in-Register-clause-few : goal.returns-in-Register-clause-few
-returns-in-Register-clause-few c none = none_few c.args.self.now.holdings c.register.result c.register.ensures.done
+returns-in-Register-clause-few c none = none_few c.args.self.now.holdings c.register.result c.register.ensures.changed.done
 
 pub returns-in-Heartbeat-clause-few : goal.returns-in-Heartbeat-clause-few
-returns-in-Heartbeat-clause-few c none = none_few c.args.self.now.holdings c.hear.result c.hear.ensures.done
+returns-in-Heartbeat-clause-few c none = none_few c.args.self.now.holdings c.hear.result c.hear.ensures.changed.done

@@ -1,21 +1,32 @@
-use Rattle.std.proofs.Common.{subst, sym, ◌∙◌}
+use Rattle.std.proofs.Common.{subst, sym, ap, ◌∙◌}
+use Rattle.bm_base.specs.declared.ids.Part.{Part}
+use Rattle.bm_base.specs.State.{Holdings}
+use Rattle.bm_base.specs.Calls.{done}
 use Rattle.bm_base.specs.Events.{change_cluster}
+use Rattle.bm_parts.specs.Parts.{change_part}
 use Rattle.bm_parts.specs.PlacedLaws.{IsPlaced}
 use Rattle.bm_parts.proofs.WellPlaced.{event_keeps_placed}
-use Rattle.bm_shard.proofs.Own.{left_alone}
+use Rattle.bm_shard.specs.Seen.{Seen}
+use Rattle.bm_shard.specs.Changed.{HasChanged, owns}
+use Rattle.bm_shard.proofs.Changing.{changed_after, stands_still}
+use Rattle.bm_shard.proofs.Own.{left_alone, not_owned}
+use Rattle.bm_shard.proofs.Ready.{ready_without}
+use Rattle.bm_shard.proofs.Left.{none_leaves}
 use Rattle.bm_shard.proofs.shard.Shard.commit.Goals as goal
 
 pub returns-then-not-owns-clause-holdings : goal.returns-then-not-owns-clause-holdings
-returns-then-not-owns-clause-holdings c = (left_alone c.args.topology.now.cluster c.args.event.now c.args.self.now c.abort.new.self (sym c.owns.ensures ∙ c.if-not-owns.true) c.requires.standing c.abort.ensures).0
+returns-then-not-owns-clause-holdings c = (left_alone c.args.topology.now.cluster c.args.event.now c.args.self.now c.abort.new.self (sym c.owns.ensures ∙ c.if-not-owns.true) c.requires.standing c.abort.ensures.same).0
 
 pub returns-then-not-owns-clause-done : goal.returns-then-not-owns-clause-done
-returns-then-not-owns-clause-done c = (left_alone c.args.topology.now.cluster c.args.event.now c.args.self.now c.abort.new.self (sym c.owns.ensures ∙ c.if-not-owns.true) c.requires.standing c.abort.ensures).1
+returns-then-not-owns-clause-done c = (left_alone c.args.topology.now.cluster c.args.event.now c.args.self.now c.abort.new.self (sym c.owns.ensures ∙ c.if-not-owns.true) c.requires.standing c.abort.ensures.same).1
 
 pub returns-then-not-owns-clause-standing : goal.returns-then-not-owns-clause-standing
-returns-then-not-owns-clause-standing c = (left_alone c.args.topology.now.cluster c.args.event.now c.args.self.now c.abort.new.self (sym c.owns.ensures ∙ c.if-not-owns.true) c.requires.standing c.abort.ensures).2
+returns-then-not-owns-clause-standing c = (left_alone c.args.topology.now.cluster c.args.event.now c.args.self.now c.abort.new.self (sym c.owns.ensures ∙ c.if-not-owns.true) c.requires.standing c.abort.ensures.same).2
 
-pub returns-clause-standing : goal.returns-clause-standing
-returns-clause-standing c =
+-- an event for which something was made ready
+
+pub returns-then-takes_room-clause-standing : goal.returns-then-takes_room-clause-standing
+returns-then-takes_room-clause-standing c =
     let C = c.args.topology.now.cluster in
     let old = c.args.self.now in
     let D = change_cluster C c.args.event.now in
@@ -23,3 +34,53 @@ returns-clause-standing c =
       levels = c.change.ensures.changed.levels c.requires.standing.levels;
       placed = subst (λ H. IsPlaced D H) (sym c.change.ensures.changed.holdings) (event_keeps_placed C old.holdings c.args.event.now old.part.index old.part.shards c.lawful.ensures c.requires.cluster c.requires.standing.placed);
     }
+
+-- another one, after what was prepared is given up
+
+pub change-requires-2 : goal.change-requires-2
+change-requires-2 c =
+    let same = c.abort-2.ensures.same in
+    let still = stands_still c.args.topology.now.cluster c.args.self.now c.abort-2.new.self c.requires.standing same in
+    record {
+      cluster = c.requires.cluster;
+      multi = c.requires.multi;
+      own = ap (λ (S : Seen). owns S.part c.args.event.now) same.rest ∙ sym c.owns.ensures ∙ c.if-not-owns.false;
+      placed = still.placed;
+      ready = ready_without c.args.event.now c.abort-2.new.self (sym c.takes_room.ensures ∙ c.if-takes_room.false);
+      none = λ _. c.abort-2.ensures.bare;
+    }
+
+abbrev to_part : goal.After-change-2 → Holdings → Part → Holdings
+to_part c H part = change_part c.args.topology.now.cluster H part.index part.shards c.args.event.now
+
+changed : (c : goal.After-change-2) → HasChanged c.args.topology.now.cluster (change_cluster c.args.topology.now.cluster c.args.event.now) c.args.self.now c.change-2.new.self (to_part c c.args.self.now.holdings c.args.self.now.part) c.change-2.result
+changed c =
+    changed_after c.args.topology.now.cluster (change_cluster c.args.topology.now.cluster c.args.event.now) c.args.self.now c.abort-2.new.self c.change-2.new.self (to_part c) c.change-2.result c.requires.standing c.abort-2.ensures.same
+    c.change-2.ensures.changed
+
+pub returns-clause-holdings : goal.returns-clause-holdings
+returns-clause-holdings c = (changed c).holdings
+
+pub returns-clause-done : goal.returns-clause-done
+returns-clause-done c = (changed c).done ∙ ap (done c.args.self.now.holdings) (sym (changed c).holdings)
+
+pub returns-clause-standing : goal.returns-clause-standing
+returns-clause-standing c =
+    let C = c.args.topology.now.cluster in
+    let old = c.args.self.now in
+    let D = change_cluster C c.args.event.now in
+    record {
+      levels = (changed c).levels c.requires.standing.levels;
+      placed = subst (λ H. IsPlaced D H) (sym (changed c).holdings) (event_keeps_placed C old.holdings c.args.event.now old.part.index old.part.shards c.lawful.ensures c.requires.cluster c.requires.standing.placed);
+    }
+
+pub returns-clause-part : goal.returns-clause-part
+returns-clause-part c = (changed c).part
+
+pub returns-clause-rounds : goal.returns-clause-rounds
+returns-clause-rounds c = ((changed c).round, (changed c).pend)
+
+pub returns-then-not-owns-clause-lists : goal.returns-then-not-owns-clause-lists
+returns-then-not-owns-clause-lists c s leaving there =
+    let b = not_owned c.args.self.now.part c.args.event.now (sym c.owns.ensures ∙ c.if-not-owns.true) in
+    none_leaves c.args.topology.now.cluster c.args.event.now b.0 b.1 s leaving

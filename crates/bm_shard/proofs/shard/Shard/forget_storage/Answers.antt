@@ -1,12 +1,17 @@
-use Rattle.std.proofs.Common.{◌≡◌, not, ap, subst, sym, ◌∙◌}
+use Rattle.std.proofs.Common.{ℕ, not, ap, subst, sym, ◌∙◌}
 use Rattle.std.specs.Prelude.{◌==◌}
 use Rattle.bm_base.specs.Events.{without_storage, without_storages}
 use Rattle.bm_base.specs.Calls.{done, new_replicas}
-use Rattle.bm_arena.specs.Contents.{IsLawful}
+use Rattle.bm_arena.specs.Contents.{HasHead, IsLawful}
 use Rattle.bm_arena.specs.Holding.{replicas_of}
 use Rattle.bm_levels.specs.Held.{holdings_with}
 use Rattle.bm_shard.proofs.Changing.{changed_seen}
 use Rattle.bm_shard.proofs.Counts.{gone_by_keep}
+use Rattle.bm_levels.specs.Bare.{HasNoneBare}
+use Rattle.bm_shard.proofs.Bare.{none_kept, none_outside}
+use Rattle.bm_shard.proofs.LookedUp.{none_looked_up}
+use Rattle.bm_shard.proofs.Left.{none_listed}
+use Rattle.std.proofs.lemmas.Bool.{eqb-true}
 use Rattle.bm_shard.proofs.shard.Shard.forget_storage.Goals as goal
 
 pub returns-clause-changed : goal.returns-clause-changed
@@ -23,3 +28,18 @@ returns-clause-changed c =
     left.levels old.part old.round old.pend _ _ (λ H. without_storages H (λ t. t == c.args.storage)) _ c.args.self.now c.self.view_is
     (λ i. record { blocks = left.blocks i; replicas = left.replicas i; pending = c.drop_transfers_on.ensures i })
     (λ i. record { added = sym none i; removed = went i })
+
+none : (c : goal.After-drop_transfers_on) → HasNoneBare c.forget_storage-removed.new.self.arena
+none c = none_kept c.self.inside.blocks c.self.inside.pending.map c.self.inside.part c.self.inside.round c.self.inside.pend _ _ c.forget_storage-removed.new.self c.args.self.now c.self.view_is c.requires.none (c.forget_storage-removed.ensures.bare)
+
+pub invariant_of-self : goal.invariant_of-self
+invariant_of-self c = record { index = c.self.invariant.index; ready = λ s e. absurd (none_looked_up s e); fresh = λ s e. absurd (none_looked_up s e); bare = λ b h. absurd (none c b h) }
+
+pub returns-clause-bare : goal.returns-clause-bare
+returns-clause-bare c = none_outside c.forget_storage-removed.new.self c.drop_transfers_on.new.pending.map c.self.inside.part c.self.inside.round c.self.inside.pend _ _ (none c)
+
+pub returns-clause-lists : goal.returns-clause-lists
+returns-clause-lists c =
+    let a = c.forget_storage-removed.new.self.arena in
+    let P : ℕ → Type 0 = λ s. HasHead a s in
+    none_listed a (λ s. s == c.args.storage) (λ s e head. c.forget_storage-removed.ensures.head (subst P (eqb-true s c.args.storage e) head))

@@ -1,4 +1,4 @@
-use Rattle.std.proofs.Common.{◌≡◌, refl, subst, sym}
+use Rattle.std.proofs.Common.{refl, subst, sym}
 use Rattle.bm_base.specs.Events.{heartbeat}
 use Rattle.bm_base.specs.Calls.{done}
 use Rattle.bm_arena.specs.Contents.{IsLawful}
@@ -6,11 +6,14 @@ use Rattle.bm_levels.specs.Held.{holdings_with}
 use Rattle.bm_levels.proofs.Standing.{heartbeat_leaves}
 use Rattle.bm_shard.proofs.Changing.{changed_seen}
 use Rattle.bm_shard.proofs.Counts.{same_replicas}
+use Rattle.bm_levels.specs.Bare.{HasNoneBare}
+use Rattle.bm_shard.proofs.Bare.{none_kept, none_outside}
+use Rattle.bm_shard.proofs.LookedUp.{none_looked_up}
 use Rattle.bm_shard.proofs.shard.Shard.hear.Goals as goal
 
-pub returns : goal.returns
+pub returns-clause-changed : goal.returns-clause-changed
 unfolding holdings_with done
-returns c =
+returns-clause-changed c =
     let C = c.args.topology.now.cluster in
     let old = c.self.inside in
     let none = same_replicas (holdings_with old.blocks.arena old.pending.map).replicas in
@@ -18,3 +21,12 @@ returns c =
     changed_seen C (heartbeat C c.args.remaining.now) old.blocks old.blocks old.pending.map old.pending.map lawful c.lawful.ensures lawful
     (heartbeat_leaves C c.args.remaining.now old.blocks) old.part old.round old.pend _ _ (λ H. H) _ c.args.self.now c.self.view_is refl
     (λ i. record { added = sym none i; removed = sym none i })
+
+none : (c : goal.After-lawful-2) → HasNoneBare c.self.inside.blocks.arena
+none c = none_kept c.self.inside.blocks c.self.inside.pending.map c.self.inside.part c.self.inside.round c.self.inside.pend _ _ c.self.inside.blocks c.args.self.now c.self.view_is c.requires.none (λ b h. h)
+
+pub invariant_of-self : goal.invariant_of-self
+invariant_of-self c = record { index = c.self.invariant.index; ready = λ s e. absurd (none_looked_up s e); fresh = λ s e. absurd (none_looked_up s e); bare = λ b h. absurd (none c b h) }
+
+pub returns-clause-bare : goal.returns-clause-bare
+returns-clause-bare c = none_outside c.self.inside.blocks c.self.inside.pending.map c.self.inside.part c.self.inside.round c.self.inside.pend _ _ (none c)

@@ -7,11 +7,14 @@ use Rattle.bm_arena.specs.Contents.{IsLawful}
 use Rattle.bm_levels.specs.Held.{holdings_with}
 use Rattle.bm_shard.proofs.Changing.{changed_seen}
 use Rattle.bm_shard.proofs.Counts.{none_by_revise}
+use Rattle.bm_levels.specs.Bare.{HasNoneBare}
+use Rattle.bm_shard.proofs.Bare.{none_kept, none_outside, bare_by, none_revised_at, same_none}
+use Rattle.bm_shard.proofs.LookedUp.{none_looked_up}
 use Rattle.bm_shard.proofs.shard.Shard.make_bad.Goals as goal
 
-pub returns : goal.returns
+pub returns-clause-changed : goal.returns-clause-changed
 unfolding holdings_with events.make_bad revise_at done
-returns c =
+returns-clause-changed c =
     let C = c.args.topology.now.cluster in
     let old = c.self.inside in
     let held = holdings_with old.blocks.arena old.pending.map in
@@ -21,3 +24,12 @@ returns c =
     changed.levels old.part old.round old.pend _ _ (λ H. events.make_bad H (replica_at c.args.id c.args.storage)) _ c.args.self.now c.self.view_is
     (λ i. record { blocks = changed.blocks i; replicas = changed.replicas i; pending = old.pending.map })
     (λ i. record { added = sym none.0 i; removed = sym none.1 i })
+
+none : (c : goal.After-lawful-3) → HasNoneBare c.make_bad.new.self.arena
+none c = none_kept c.self.inside.blocks c.self.inside.pending.map c.self.inside.part c.self.inside.round c.self.inside.pend _ _ c.make_bad.new.self c.args.self.now c.self.view_is c.requires.none (bare_by c.self.inside.blocks.arena c.make_bad.new.self.arena c.make_bad.ensures.numbers (same_none _ _ c.make_bad.ensures.blocks) (none_revised_at _ _ _ _ c.make_bad.ensures.replicas))
+
+pub invariant_of-self : goal.invariant_of-self
+invariant_of-self c = record { index = c.self.invariant.index; ready = λ s e. absurd (none_looked_up s e); fresh = λ s e. absurd (none_looked_up s e); bare = λ b h. absurd (none c b h) }
+
+pub returns-clause-bare : goal.returns-clause-bare
+returns-clause-bare c = none_outside c.make_bad.new.self c.self.inside.pending.map c.self.inside.part c.self.inside.round c.self.inside.pend _ _ (none c)

@@ -1,9 +1,10 @@
-use Rattle.std.proofs.Common.{◌≡◌, subst}
-use Rattle.bm_base.specs.State.{Cluster, empty_holdings}
+use Rattle.std.proofs.Common.{subst}
+use Rattle.bm_base.specs.State.{empty_holdings}
 use Rattle.bm_arena.specs.Contents.{IsLawful}
 use Rattle.bm_levels.specs.Held.{holdings_with}
 use Rattle.bm_shard.proofs.Levels.{right_by_number}
 use Rattle.bm_shard.proofs.Empty.{none_placed}
+use Rattle.bm_shard.proofs.Bare.{none_outside}
 use Rattle.bm_shard.proofs.shard.Shard.new.Goals as goal
 
 pub returns-clause-empty : goal.returns-clause-empty
@@ -16,3 +17,6 @@ returns-clause-standing c C = record {
   levels = right_by_number C c.in_ok-blocks.blocks c.new-2.result.map (subst (λ a. IsLawful a) c.arena.ensures c.lawful.ensures) (c.in_ok-blocks.ensures.levels C);
   placed = none_placed C (holdings_with c.in_ok-blocks.blocks.arena c.new-2.result.map) c.in_ok-blocks.ensures.replicas;
 }
+
+pub returns-clause-bare : goal.returns-clause-bare
+returns-clause-bare c = none_outside c.in_ok-blocks.blocks c.new-2.result.map _ _ _ _ _ c.in_ok-blocks.ensures.bare

@@ -9,6 +9,9 @@ use Rattle.bm_levels.specs.Held.{holdings_with}
 use Rattle.bm_shard.specs.Seen.{Seen}
 use Rattle.bm_shard.proofs.Changing.{changed_seen}
 use Rattle.bm_shard.proofs.LookedUp.{looked_up}
+use Rattle.bm_levels.specs.Bare.{HasNoneBare}
+use Rattle.bm_shard.proofs.Bare.{none_outside, none_received, prepared_one}
+use Rattle.bm_shard.proofs.LookedUp.{none_looked_up}
 use Rattle.bm_shard.proofs.shard.Shard.receive.Goals as goal
 
 pub receive-applied-requires-clause-ready : goal.receive-applied-requires-clause-ready
@@ -21,9 +24,9 @@ receive-applied-requires-clause-once c =
     let P : Seen → Type 0 = λ S. IsOncePerNode c.args.topology.now.cluster S.holdings.replicas in
     subst P (sym c.self.view_is) c.requires.placed.once
 
-pub returns : goal.returns
+pub returns-clause-changed : goal.returns-clause-changed
 unfolding holdings_with holdings_of enter entered entered_tag was_bad was_excess done
-returns c =
+returns-clause-changed c =
     let C = c.args.topology.now.cluster in
     let old = c.self.inside in
     let received = c.receive-applied.ensures.received in
@@ -34,3 +37,12 @@ returns c =
       added = (c.done.ensures.0 ∙ received.added ∙ ap (λ m. new_replicas (replicas_of old.blocks.arena) m) received.replicas) i;
       removed = (c.done.ensures.1 ∙ received.removed ∙ ap (λ m. new_replicas m (replicas_of old.blocks.arena)) received.replicas) i;
     })
+
+none : (c : goal.After-done) → HasNoneBare c.receive-applied.new.self.arena
+none c = none_received c.args.topology.now.cluster (holdings_of c.self.inside.blocks.arena) c.self.inside.blocks.arena c.receive-applied.new.self.arena c.args.storage c.args.id c.args.stamp (subst (λ a. IsLawful a) c.arena.ensures c.lawful-2.ensures) c.receive-applied.ensures.received.entries.ids c.receive-applied.ensures.received.others c.receive-applied.ensures.received.replicas (λ n h. prepared_one c.self.inside.prepared c.self.inside.report c.args.storage c.args.id c.args.stamp n (looked_up c.self.inside.report c.self.inside.prepared c.args.storage _ (ap (λ (S : Seen). S.room.report) c.self.view_is ∙ c.requires.ready)).0 (looked_up c.self.inside.report c.self.inside.prepared c.args.storage _ (ap (λ (S : Seen). S.room.report) c.self.view_is ∙ c.requires.ready)).1 (c.self.invariant.bare n h))
+
+pub invariant_of-self : goal.invariant_of-self
+invariant_of-self c = record { index = c.self.invariant.index; ready = λ s e. absurd (none_looked_up s e); fresh = λ s e. absurd (none_looked_up s e); bare = λ b h. absurd (none c b h) }
+
+pub returns-clause-bare : goal.returns-clause-bare
+returns-clause-bare c = none_outside c.receive-applied.new.self c.remove.new.self.map c.self.inside.part c.self.inside.round c.self.inside.pend _ _ (none c)

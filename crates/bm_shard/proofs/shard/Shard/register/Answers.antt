@@ -1,4 +1,4 @@
-use Rattle.std.proofs.Common.{◌≡◌, ap, subst, sym}
+use Rattle.std.proofs.Common.{ap, subst, sym}
 use Rattle.bm_base.specs.Events.{register}
 use Rattle.bm_base.specs.Calls.{done}
 use Rattle.bm_parts.specs.PlacedLaws.{IsPlaced}
@@ -8,11 +8,14 @@ use Rattle.bm_shard.specs.Seen.{Seen}
 use Rattle.bm_shard.proofs.Changing.{changed_seen}
 use Rattle.bm_shard.proofs.Counts.{same_replicas}
 use Rattle.bm_shard.proofs.Registering.{same_beside}
+use Rattle.bm_levels.specs.Bare.{HasNoneBare}
+use Rattle.bm_shard.proofs.Bare.{none_kept, none_outside, same_bare}
+use Rattle.bm_shard.proofs.LookedUp.{none_looked_up}
 use Rattle.bm_shard.proofs.shard.Shard.register.Goals as goal
 
-pub returns : goal.returns
+pub returns-clause-changed : goal.returns-clause-changed
 unfolding done holdings_with
-returns c =
+returns-clause-changed c =
     let C = c.args.topology.now.cluster in
     let D = register C c.args.node c.args.rack c.args.storages.now in
     let old = c.self.inside in
@@ -23,3 +26,12 @@ returns c =
     changed_seen C D old.blocks c.see_racks.new.self old.pending.map old.pending.map (subst (λ a. IsLawful a) c.arena.ensures c.lawful-3.ensures) c.lawful-2.ensures (subst (λ a. IsLawful a) c.arena-2.ensures c.lawful-4.ensures)
     (c.see_racks.ensures.levels D c.requires.multi same) old.part old.round old.pend _ _ (λ H. H) _ c.args.self.now c.self.view_is
     (ap (λ a. holdings_with a old.pending.map) c.see_racks.ensures.arena) (λ i. record { added = sym none i; removed = sym none i })
+
+none : (c : goal.After-lawful-4) → HasNoneBare c.see_racks.new.self.arena
+none c = none_kept c.self.inside.blocks c.self.inside.pending.map c.self.inside.part c.self.inside.round c.self.inside.pend _ _ c.see_racks.new.self c.args.self.now c.self.view_is c.requires.none (same_bare c.self.inside.blocks.arena c.see_racks.new.self.arena c.see_racks.ensures.arena)
+
+pub invariant_of-self : goal.invariant_of-self
+invariant_of-self c = record { index = c.self.invariant.index; ready = λ s e. absurd (none_looked_up s e); fresh = λ s e. absurd (none_looked_up s e); bare = λ b h. absurd (none c b h) }
+
+pub returns-clause-bare : goal.returns-clause-bare
+returns-clause-bare c = none_outside c.see_racks.new.self c.self.inside.pending.map c.self.inside.part c.self.inside.round c.self.inside.pend _ _ (none c)

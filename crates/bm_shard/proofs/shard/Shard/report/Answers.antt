@@ -1,4 +1,4 @@
-use Rattle.std.proofs.Common.{List, None, subst, sym, ap, ◌∙◌}
+use Rattle.std.proofs.Common.{ℕ, List, None, subst, sym, ap, ◌∙◌}
 use Rattle.bm_base.specs.Entries.{Told}
 use Rattle.bm_base.specs.Events.{report, entered, entered_tag, was_bad, was_excess}
 use Rattle.bm_base.specs.Calls.{done, new_replicas}
@@ -9,11 +9,13 @@ use Rattle.bm_report.specs.Ready.{HasGoodExcess, told}
 use Rattle.bm_levels.specs.Held.{holdings_with}
 use Rattle.bm_shard.specs.Seen.{Seen}
 use Rattle.bm_shard.specs.Changed.{HasChanged}
-use Rattle.bm_shard.specs.Inside.{numbers_of}
+use Rattle.bm_shard.specs.Inside.{numbers_of, heads_of}
 use Rattle.bm_shard.proofs.Arrivals.{arrived_named}
 use Rattle.bm_shard.proofs.Changing.{changed_seen}
 use Rattle.bm_shard.proofs.LookedUp.{looked_up, none_looked_up}
 use Rattle.bm_shard.proofs.Same.{seen_of}
+use Rattle.bm_levels.specs.Bare as levels
+use Rattle.bm_shard.proofs.Bare.{none_outside, none_reported, prepared_report}
 use Rattle.bm_shard.proofs.shard.Shard.report.Goals as goal
 
 pub apply_report-applied-requires-clause-ready : goal.apply_report-applied-requires-clause-ready
@@ -32,9 +34,6 @@ apply_report-applied-requires-clause-good c =
     let P : Seen → Type 0 = λ S. HasGoodExcess S.holdings.replicas in
     subst P (sym c.self.view_is) c.requires.placed.excess_is_good
 
-pub invariant_of-self : goal.invariant_of-self
-invariant_of-self c = record { index = c.self.invariant.index; ready = λ s e. absurd (none_looked_up s e); fresh = λ s e. absurd (none_looked_up s e) }
-
 pub returns-clause-changed : goal.returns-clause-changed
 unfolding holdings_with holdings_of report entered entered_tag was_bad was_excess done
 returns-clause-changed c ts seen =
@@ -47,7 +46,7 @@ returns-clause-changed c ts seen =
     let there = ap (λ (a : Contents). replicas_of a) c.arena-2.ensures ∙ reported.replicas in
     let arrived = c.drop_arrived.ensures ∙ arrived_named C (holdings_of old.blocks.arena) s old.report.named c.arena-2.result.now there old.pending.map in
     let P : List Told → Type 0 = λ l. HasChanged C C c.args.self.now
-    (seen_of new c.drop_arrived.new.pending.map old.part old.round old.pend (record { entries = numbers_of new.arena; report = None; transfers = c.drop_arrived.new.pending.rooms }))
+    (seen_of new c.drop_arrived.new.pending.map old.part old.round old.pend (record { entries = numbers_of new.arena; lists = heads_of new.arena; report = None; transfers = c.drop_arrived.new.pending.rooms }))
     (report C c.args.self.now.holdings s l) c.done.result in
     subst P (looked_up old.report old.prepared s ts (ap (λ (S : Seen). S.room.report) c.self.view_is ∙ seen)).1
     (changed_seen C C old.blocks new old.pending.map c.drop_arrived.new.pending.map (subst (λ a. IsLawful a) c.arena.ensures c.lawful-2.ensures) c.lawful.ensures (subst (λ a. IsLawful a) c.arena-3.ensures c.lawful-3.ensures)
@@ -57,3 +56,19 @@ returns-clause-changed c ts seen =
       added = (c.done.ensures.0 ∙ reported.added ∙ ap (λ m. new_replicas (replicas_of old.blocks.arena) m) reported.replicas) i;
       removed = (c.done.ensures.1 ∙ reported.removed ∙ ap (λ m. new_replicas m (replicas_of old.blocks.arena)) reported.replicas) i;
     }))
+
+none : (c : goal.After-done) → levels.HasNoneBare c.drop_bare.new.self.arena
+none c =
+    let a = c.self.inside.blocks.arena in
+    let m = c.apply_report-applied.new.self.arena in
+    let reported = c.apply_report-applied.ensures in
+    let P : List ℕ → Type 0 = λ l. levels.IsSameBeside l a m in
+    let is_looked = looked_up c.self.inside.report c.self.inside.prepared c.args.storage c.requires.ready.0 (ap (λ (S : Seen). S.room.report) c.self.view_is ∙ c.requires.ready.1) in
+    none_reported c.args.topology.now.cluster (holdings_of a) c.args.storage c.self.inside.report.named a m c.drop_bare.new.self.arena c.changed.result.now (subst (λ x. IsLawful x) c.arena.ensures c.lawful-2.ensures) reported.entries.ids
+    (subst P (sym c.changed.ensures) reported.changed) reported.replicas (λ n h. prepared_report c.self.inside.prepared c.self.inside.report c.args.storage n is_looked.0 (c.self.invariant.bare n h)) c.drop_bare.ensures.bare c.drop_bare.ensures.left
+
+pub invariant_of-self : goal.invariant_of-self
+invariant_of-self c = record { index = c.self.invariant.index; ready = λ s e. absurd (none_looked_up s e); fresh = λ s e. absurd (none_looked_up s e); bare = λ b h. absurd (none c b h) }
+
+pub returns-clause-bare : goal.returns-clause-bare
+returns-clause-bare c = none_outside c.drop_bare.new.self c.drop_arrived.new.pending.map c.self.inside.part c.self.inside.round c.self.inside.pend _ _ (none c)

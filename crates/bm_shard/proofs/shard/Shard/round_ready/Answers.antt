@@ -3,10 +3,8 @@ use Rattle.std.specs.Prelude.{OnOk}
 use Rattle.bm_base.specs.declared.commands.Transfer.{Transfer}
 use Rattle.bm_base.specs.RoundParts.{own_transfers}
 use Rattle.bm_pending.specs.OnTheWay.{room}
-use Rattle.bm_shard.specs.Seen.{Seen, IsReadyForRound}
+use Rattle.bm_shard.specs.Seen.{IsReadyForRound}
 use Rattle.bm_shard.proofs.AfterRound.{same_without_room}
-use Rattle.std.proofs.Common.{sym, ap}
-use Rattle.bm_base.specs.declared.ids.Part.{Part}
 use Rattle.bm_shard.proofs.shard.Shard.round_ready.Goals as goal
 
 pub returns-clause-ready : goal.returns-clause-ready

@@ -1,0 +1,40 @@
+-- Entries with neither a block nor a replica: a number has such a one only while an event that is prepared may need it.
+use Rattle.std.specs.Prelude.{◌≡◌, ◌≢◌, ℕ, Bool, false, List, None, Some, IsSome, IsTrue}
+use Rattle.bm_base.specs.Map.{get}
+use Rattle.bm_base.specs.State.{replica_at}
+use Rattle.bm_base.specs.SlotLists.{Among}
+use Rattle.bm_arena.specs.Contents.{Contents, block_at, slot_of}
+use Rattle.bm_arena.specs.Holding.{replicas_of, blocks_of}
+
+-- the number has an entry, and neither a known block nor a replica
+pub record IsBare (a : Contents) (b : ℕ) : Type 0 where
+  pub entry : IsSome (slot_of a b)
+  pub unknown : get (blocks_of a) b ≡ None
+  pub empty : (s : ℕ) → get (replicas_of a) (replica_at b s) ≡ None
+
+abbrev pub HasNoneBare : Contents → Type 0
+HasNoneBare a = (b : ℕ) → IsBare a b → ⊥
+
+-- none of these numbers is bare
+abbrev pub HasNoneBareOf : (ℕ → Bool) → Contents → Type 0
+HasNoneBareOf these a = (b : ℕ) → IsTrue (these b) → IsBare a b → ⊥
+
+-- none of the numbers that had their entries at these slots is bare
+abbrev pub HasNoneBareAt : List ℕ → Contents → Contents → Type 0
+HasNoneBareAt slots old new = (b slot : ℕ) → Among slot slots → slot_of old b ≡ Some slot → IsBare new b → ⊥
+
+-- no number is bare that was not
+abbrev pub MakesNoneBare : Contents → Contents → Type 0
+MakesNoneBare old new = (b : ℕ) → IsBare new b → IsBare old b
+
+-- none but these
+abbrev pub MakesBareOnly : (ℕ → Bool) → Contents → Contents → Type 0
+MakesBareOnly these old new = (b : ℕ) → these b ≡ false → IsBare new b → IsBare old b
+
+-- a number that has an entry has the one that it had
+abbrev pub KeepsSlots : Contents → Contents → Type 0
+KeepsSlots old new = (b : ℕ) → IsSome (slot_of new b) → slot_of new b ≡ slot_of old b
+
+-- the blocks at other slots are as they were; the delimiter is none
+abbrev pub IsSameBeside : List ℕ → Contents → Contents → Type 0
+IsSameBeside slots old new = (slot : ℕ) → slot ≢ old.delimiter → (Among slot slots → ⊥) → block_at new slot ≡ block_at old slot

@@ -1,0 +1,32 @@
+-- Numbers that have an entry while nothing is held of them: only an event that is prepared may need such entries.
+use Rattle.std.specs.Prelude.{◌≡◌, ◌==◌, ℕ, Bool, false, IsTrue, None}
+use Rattle.bm_base.specs.declared.ids.Part.{Part}
+use Rattle.bm_base.specs.declared.event.Event.{Event}
+use Rattle.bm_base.specs.declared.event.Event.TheVariants.{AddBlock, Received, FullReport}
+use Rattle.bm_base.specs.Map.{get}
+use Rattle.bm_base.specs.State.{replica_at}
+use Rattle.bm_base.specs.Entries.{expanded}
+use Rattle.bm_base.specs.Events.{is_named}
+use Rattle.bm_base.specs.SlotLists.{Among}
+use Rattle.bm_parts.specs.Parts.{told_of}
+use Rattle.bm_shard.specs.Seen.{Seen}
+
+-- the number has an entry, and neither a known block nor a replica
+pub record IsBare (S : Seen) (b : ℕ) : Type 0 where
+  pub entry : Among b S.room.entries
+  pub unknown : get S.holdings.blocks b ≡ None
+  pub empty : (s : ℕ) → get S.holdings.replicas (replica_at b s) ≡ None
+
+abbrev pub HasNoneBare : Seen → Type 0
+HasNoneBare S = (b : ℕ) → IsBare S b → ⊥
+
+-- only these numbers are bare
+abbrev pub HasBareOnly : (ℕ → Bool) → Seen → Type 0
+HasBareOnly these S = (b : ℕ) → IsBare S b → IsTrue (these b)
+
+-- whether an event, at a shard, may give a number an entry
+abbrev pub may_enter : Part → Event → ℕ → Bool
+may_enter part (AddBlock b stamp repl) n = b == n
+may_enter part (Received s b stamp) n = b == n
+may_enter part (FullReport s es) n = is_named (told_of part.index part.shards (expanded es)) n
+may_enter part _ n = false
