@@ -16,6 +16,7 @@
 //!   (`left_right`).
 #![tactic(auto)]
 
+mod count;
 mod journal;
 mod locator;
 mod open;
