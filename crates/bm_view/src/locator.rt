@@ -158,9 +158,10 @@ impl Locator {
 
     /// Where the block is in the version that is shown. A block without a row there has no places.
     ///
-    /// It is `None` where the publisher has ended, and then the list stays. (It would be `None` too if what is shown were
-    /// older than a receipt that was learnt. That does not happen, since a receipt is made after its version is shown; no
-    /// clause of `left_right` and `logbook` together says so.)
+    /// It is `None` where the publisher has ended, and then the list stays. (It would be `None` too if what is shown were of
+    /// an earlier proposal than the last version of a receipt that was learnt. That does not happen, since a receipt is made
+    /// after its version is shown. But the contracts of `left_right` do not say of which table a reader is once it has
+    /// entered, so no proof ties what it finds to what was entered into the journal by then.)
     pub fn locate(&mut self, id: BlockId) -> Option<Located>
         ensures same { (self.new.home ≡ self.old.home) × (self.new.told ≡ self.old.told) }
         ensures none { IfNone result (self.new.list ≡ self.old.list) }
