@@ -1,5 +1,5 @@
 //! A reader of the versions.
-ghost use Rattle.std.specs.Prelude.{◌≡◌, ◌≤◌, ◌<◌, ◌+◌, ◌*◌, false, [], ◌∷◌, ◌++◌, length, All, IfSome, IfNone, OnSome, MatchOption};
+ghost use Rattle.std.specs.Prelude.{◌≡◌, ◌≤◌, ◌<◌, ◌+◌, ◌*◌, false, [], ◌∷◌, ◌++◌, length, All, IfSome, IfNone, OnSome, MatchOption, MatchResult};
 ghost use mathlib.Core.List.{IsPrefix};
 ghost use Rattle.left_right.specs.Sides.{view as sight};
 ghost use Rattle.bm_view.specs.Version.{places_in, opening};
@@ -10,7 +10,7 @@ ghost use Rattle.bm_view.specs.Rule.{Sees, HasSeen};
 use crate::count::Count;
 use crate::journal::Evidence;
 use crate::receipt::Receipt;
-use crate::rule::{See, VersionReader};
+use crate::rule::{See, VersionReader, VersionReading};
 use crate::told::Told;
 use bm_base::{BlockId, Places};
 use core::mem::replace_with;
@@ -76,6 +76,15 @@ struct Glimpse {
     is_older: bool,
 }
 
+// Takes what is shown. The reader comes back where `left_right` refuses to enter.
+fn enter(reader: VersionReader) -> Result<VersionReading, VersionReader>
+    ensures { MatchResult result
+        (λ r. Sees (sight reader.place) r.part.value (sight r.place))
+        (λ r. sight r.place ≡ sight reader.place) }
+{
+    reader.enter_as::<See>()
+}
+
 // Reads the version that is shown. It is `None` where `left_right` refuses to enter.
 fn read(seat: Seat, id: BlockId) -> (Seat, Option<Glimpse>)
     ensures number { result.0.heard_number ≡ seat.heard_number }
@@ -93,7 +102,7 @@ fn read(seat: Seat, id: BlockId) -> (Seat, Option<Glimpse>)
         reader,
         heard_number,
     } = seat;
-    match reader.enter_as::<See>() {
+    match enter(reader) {
         Ok(reading) => {
             let shown = reading.get();
             let seen = Glimpse {
