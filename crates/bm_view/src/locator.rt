@@ -102,7 +102,7 @@ fn read(seat: Seat, id: BlockId) -> (Seat, Option<Glimpse>)
         reader,
         heard_number,
     } = seat;
-    match enter(reader) {
+    let (reader, seen) = match enter(reader) {
         Ok(reading) => {
             let shown = reading.get();
             let seen = Glimpse {
@@ -113,23 +113,15 @@ fn read(seat: Seat, id: BlockId) -> (Seat, Option<Glimpse>)
                 evidence: shown.evidence(),
                 is_older: shown.number().is_below(&heard_number),
             };
-            let reader = reading.leave();
-            (
-                Seat {
-                    reader,
-                    heard_number,
-                },
-                Some(seen),
-            )
+            (reading.leave(), Some(seen))
         }
-        Err(reader) => (
-            Seat {
-                reader,
-                heard_number,
-            },
-            None,
-        ),
-    }
+        Err(reader) => (reader, None),
+    };
+    let seat = Seat {
+        reader,
+        heard_number,
+    };
+    (seat, seen)
 }
 
 impl Locator {
