@@ -12,10 +12,10 @@ abbrev Holds : Evidence → List (Option Evidence) → Type 0
 Holds = Kept
 
 pub goes_self : (s : Evidence) → Extends s s
-goes_self s = record { book = refl; list = prefix_self (shown_in s.log) }
+goes_self s = record { home = refl; list = prefix_self (shown_in s.log) }
 
 pub goes_trans : (s t u : Evidence) → Extends s t → Extends t u → Extends s u
-goes_trans s t u a b = record { book = a.book ∙ b.book; list = prefix_trans (shown_in s.log) (shown_in t.log) (shown_in u.log) a.list b.list }
+goes_trans s t u a b = record { home = a.home ∙ b.home; list = prefix_trans (shown_in s.log) (shown_in t.log) (shown_in u.log) a.list b.list }
 
 pub fits_later : (v : Option Evidence) (s t : Evidence) → BeginsShown v s → Extends s t → BeginsShown v t
 fits_later None s t f g = tt

@@ -2,7 +2,7 @@
 use Rattle.std.proofs.Math.Seq.{get_or-append_seam}
 use Rattle.std.proofs.Common.{ℕ, IfSome, length, arith, length-append, ◌≤◌, [], ◌∷◌, ◌++◌, All, ◌≡◌, List, Option, Some, None, sym, ◌∙◌, subst, refl}
 use mathlib.Core.List.{IsPrefix}
-use Rattle.logbook.specs.Pages.{Book}
+use Rattle.bm_view.specs.Holders.{Home}
 use Rattle.bm_base.specs.Versions.{Version}
 use Rattle.std.proofs.lemmas.List.Elements.{All-push}
 use Rattle.bm_view.specs.History.{shown_in, last_of, IsHistory}
@@ -10,22 +10,22 @@ use Rattle.bm_view.specs.Rule.{Evidence, Sees, HasSeen}
 use Rattle.bm_view.proofs.Prefixes.{prefix_self, prefix_trans}
 use Rattle.bm_view.proofs.Histories.{last_of-prefix}
 
-pub record Later (b : Book) (l : List Version) (x : Evidence) (w : Option Evidence) : Type 0 where
-  pub book : x.book ≡ b
+pub record Later (b : Home) (l : List Version) (x : Evidence) (w : Option Evidence) : Type 0 where
+  pub home : x.home ≡ b
   pub list : IsPrefix l (shown_in x.log)
   pub before : HasSeen w b l
-  pub now : HasSeen w x.book (shown_in x.log)
+  pub now : HasSeen w x.home (shown_in x.log)
 
-pub later : (v : Option Evidence) (x : Evidence) (w : Option Evidence) (book : Book) (list : List Version) → HasSeen v book list → Sees v x w → Later book list x w
-later None x w book list saw sees = absurd saw
-later (Some s) x w book list saw sees =
-    let is : x.book ≡ book = sym sees.0.book ∙ saw.0 in
+pub later : (v : Option Evidence) (x : Evidence) (w : Option Evidence) (home : Home) (list : List Version) → HasSeen v home list → Sees v x w → Later home list x w
+later None x w home list saw sees = absurd saw
+later (Some s) x w home list saw sees =
+    let is : x.home ≡ home = sym sees.0.home ∙ saw.0 in
     let on : IsPrefix list (shown_in x.log) = prefix_trans list (shown_in s.log) (shown_in x.log) saw.1 sees.0.list in
     record {
-      book = is;
+      home = is;
       list = on;
-      before = subst (λ w. HasSeen w book list) (sym sees.1) (is, on);
-      now = subst (λ w. HasSeen w x.book (shown_in x.log)) (sym sees.1) (refl, prefix_self (shown_in x.log));
+      before = subst (λ w. HasSeen w home list) (sym sees.1) (is, on);
+      now = subst (λ w. HasSeen w x.home (shown_in x.log)) (sym sees.1) (refl, prefix_self (shown_in x.log));
     }
 
 -- all that was told begins a longer list

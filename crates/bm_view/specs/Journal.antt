@@ -1,13 +1,15 @@
--- The journal of proposals, as a log of the crate `logbook`: a list of entries, and cells beside it.
+-- The journal of proposals, as lines in a log of the crate `logbook`, with cells beside it.
 --
--- The first two cells are there from the start; of these the first is the word with the number of entries. Each proposal adds
--- one cell more. It is away until its proposal is settled, and only the holder of its pen can bring it home: so where there is
--- a pen, nobody else has added an entry.
-use Rattle.std.specs.Prelude.{◌≡◌, ℕ, zero, suc, ◌+◌, ◌*◌, Bool, true, false, List, [], ◌∷◌, ◌++◌, length}
-use Rattle.logbook.specs.Pages.{Cell, Step, View, Book, Named, Nib, nib, may_make}
+-- Anyone may have a pen of a cell that is away. A line is written with a pen, which brings its cell home; so each pen writes
+-- one line. A line names the pen of the next line of its journal. So only the owner of a journal's last pen can go on with it,
+-- and while that pen's cell is away, the owner knows the whole journal.
+use Rattle.std.specs.Prelude.{◌≡◌, ℕ, ◌<◌, ◌==◌, Bool, true, false, List, [], ◌∷◌, ◌++◌, length}
+use Rattle.logbook.specs.Pages.{Cell, cell, Step, View, Book, Named, nib, may_make}
 use Rattle.bm_view.specs.declared.journal.Entry.{Entry}
+use Rattle.bm_view.specs.declared.journal.Line.{Line}
 use Rattle.bm_base.specs.Versions.{Version}
 use Rattle.bm_view.specs.Version.{opening}
+use Rattle.bm_view.specs.Holders.{Home}
 
 -- what is to be shown; and, behind a proposal, that nothing was shown
 abbrev pub proposed : Version → Entry
@@ -21,45 +23,56 @@ settled v = record { done = true; table = v }
 abbrev pub opening_log : List Entry
 opening_log = proposed opening ∷ settled opening ∷ []
 
--- what contracts see of a `Journal`
+-- what contracts see of a `Journal`, and of a token that says how it began
 pub record Known : Type 0 where
-  pub book : Book
+  pub home : Home
   pub log : List Entry
 
--- the word with the number of entries
-abbrev pub head_of : Book → Named
-head_of b = record { tracked = true; key = 0; book = b }
+-- the entry of a line, and those that go on from it, where the pen was the one that had its turn
+abbrev pub chain_if : Bool → Entry → List Entry → List Entry → List Entry
+chain_if true e on off = e ∷ on
+chain_if false e on off = off
 
--- the cells of k proposals that are settled, and of one that is not
-abbrev pub row : ℕ → Bool → List Cell
-row zero true = (0, false) ∷ []
-row zero false = []
-row (suc k) due = (0, true) ∷ row k due
+-- the entries from that pen on
+abbrev pub chain : ℕ → List Line → List Entry
+chain pen [] = []
+chain pen (l ∷ ls) = chain_if (l.by == pen) l.entry (chain l.next ls) (chain pen ls)
 
-abbrev pub one_if : Bool → ℕ
-one_if true = 1
-one_if false = 0
+abbrev pub either_pen : Bool → ℕ → ℕ → ℕ
+either_pen true on off = on
+either_pen false on off = off
 
--- The rule: the word is the number of entries. There are two for each proposal that is settled, and one for the one that may
--- not be.
-pub record IsKept (cells : List Cell) (log : List Entry) : Type 0 where
-  pub count : ℕ
-  pub due : Bool
-  pub words : cells ≡ (length log, true) ∷ (0, true) ∷ row count due
-  pub long : length log ≡ 2 + 2 * count + one_if due
+-- the pen that has its turn after these lines
+abbrev pub tip : ℕ → List Line → ℕ
+tip pen [] = pen
+tip pen (l ∷ ls) = either_pen (l.by == pen) (tip l.next ls) (tip pen ls)
 
--- each proposal is settled
-abbrev pub IsClosed : List Entry → Type 0
-IsClosed log = (k : ℕ) × (length log ≡ 2 + 2 * k)
+-- the first pen of the journal that the last line belongs to; without a line the one given
+abbrev pub named : ℕ → List Line → ℕ
+named pen [] = pen
+named pen (l ∷ ls) = named l.first ls
 
--- the pen belongs to the one proposal that is not settled
-abbrev pub Opens : List Entry → Nib → Type 0
-Opens log p = (k : ℕ) × (length log ≡ 3 + 2 * k) × (p ≡ nib may_make (suc (suc k)) 0)
+-- the word that steps are taken on
+abbrev pub word_of : Book → Named
+word_of b = record { tracked = true; key = 0; book = b }
 
--- where the number found is the one expected, the proposal was added to all that had been seen
-abbrev pub Proposes : Step Entry → View Entry ℕ → ℕ → View Entry ℕ → Type 0
-Proposes s v found w = found ≡ s.old → (w.0 ≡ v.0 ++ s.ask ∷ []) × Opens w.0 w.1.0
+abbrev pub IsHome : List Cell → ℕ → Type 0
+IsHome cells k = (cell cells k).1 ≡ true
 
--- the entry was added to all that had been seen
-abbrev pub Settles : Step Entry → View Entry ℕ → ℕ → View Entry ℕ → Type 0
-Settles s v found w = w.0 ≡ v.0 ++ s.ask ∷ []
+-- the pens of these lines are used up
+abbrev pub AreUsed : List Cell → List Line → Type 0
+AreUsed cells [] = Unit {0}
+AreUsed cells (l ∷ ls) = IsHome cells l.by × AreUsed cells ls
+
+pub record IsKept (cells : List Cell) (lines : List Line) : Type 0 where
+  pub word : (0 < length cells) × IsHome cells 0
+  pub used : AreUsed cells lines
+
+-- there is a new pen
+abbrev pub Reserves : Step Line → View Line ℕ → ℕ → View Line ℕ → Type 0
+Reserves s v found w = (key : ℕ) × (w.1.0 ≡ nib may_make key 0)
+
+-- The line was written behind all that had been seen; what came between is of other journals.
+abbrev pub Enters : Step Line → View Line ℕ → ℕ → View Line ℕ → Type 0
+Enters s v found w =
+    (between : List Line) × (w.0 ≡ (v.0 ++ between) ++ s.ask ∷ []) × (chain s.ask.by between ≡ []) × (tip s.ask.by between ≡ s.ask.by)

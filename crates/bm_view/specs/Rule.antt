@@ -4,20 +4,18 @@ use Rattle.std.specs.Prelude.{◌≡◌, ℕ, List, Option, Some, None}
 use mathlib.Core.Option.{some}
 use mathlib.Core.List.{IsPrefix}
 use lib.ListN.{get_elem?}
-use Rattle.logbook.specs.Pages.{Book}
-use Rattle.logbook.specs.declared.tokens.Seen.{Seen}
-use Rattle.bm_view.specs.declared.journal.Entry.{Entry}
-use Rattle.bm_view.specs.declared.journal.JournalRule.{JournalRule}
 use Rattle.bm_base.specs.Versions.{Version}
+use Rattle.bm_view.specs.Journal.{Known}
+use Rattle.bm_view.specs.Holders.{Home}
 use Rattle.bm_view.specs.History.{shown_in}
 
 -- how a journal began
 abbrev pub Evidence : Type 0
-Evidence = Seen Entry ℕ JournalRule
+Evidence = Known
 
 -- of the same journal, and the early list begins the late one
 pub record Extends (early late : Evidence) : Type 0 where
-  pub book : early.book ≡ late.book
+  pub home : early.home ≡ late.home
   pub list : IsPrefix (shown_in early.log) (shown_in late.log)
 
 -- what a seat saw begins what is shown, if it saw anything
@@ -34,6 +32,6 @@ abbrev pub Sees : Option Evidence → Evidence → Option Evidence → Type 0
 Sees v shown w = BeginsShown v shown × (w ≡ Some shown)
 
 -- a seat with this view saw that list at least, of this journal
-abbrev pub HasSeen : Option Evidence → Book → List Version → Type 0
-HasSeen None book list = ⊥
-HasSeen (Some seen) book list = (seen.book ≡ book) × IsPrefix list (shown_in seen.log)
+abbrev pub HasSeen : Option Evidence → Home → List Version → Type 0
+HasSeen None home list = ⊥
+HasSeen (Some seen) home list = (seen.home ≡ home) × IsPrefix list (shown_in seen.log)

@@ -1,16 +1,23 @@
-//! The journal of proposals. At run time it is a number that nobody else reads; its entries exist in proofs alone.
+//! The journal of proposals. It has no bytes that anyone reads; its entries exist in proofs alone.
 //!
 //! Each publish adds two entries: the version that is about to be shown (proposed), and then what became of it: the
 //! version again, as done, or an entry that is not done, where it could not be shown. The versions of the entries that
 //! are done are the one list of which publisher, receipts and locators hold beginnings.
-ghost use Rattle.std.specs.Prelude.{◌≡◌, ◌+◌, ◌<◌, ◌^◌, ◌++◌, ◌∷◌, [], length, MatchOption};
-ghost use Rattle.std.specs.Arc.{arc_value};
-ghost use Rattle.bm_view.specs.Journal.{proposed, opening_log, IsClosed, Opens};
+//!
+//! An entry is written with a pen of the crate `logbook`, which one owner has and which is used up by it. Each line names
+//! the pen of the next one. So the lines from one pen on are written by one owner: these are a journal, and what its owner
+//! knows of it is all that there is. No step has to look whether someone else wrote.
+ghost use Rattle.std.specs.Prelude.{◌≡◌, ◌<◌, ◌++◌, ◌∷◌, [], List, length};
+ghost use mathlib.Core.List.{IsPrefix};
+ghost use Rattle.logbook.specs.Pages.{nib, may_write};
+ghost use Rattle.bm_view.specs.declared.journal.Entry.{Entry};
+ghost use Rattle.bm_view.specs.Version.{opening};
+ghost use Rattle.bm_view.specs.Journal.{opening_log, word_of};
 
 use crate::table::Table;
+use core::snapshot::Snapshot;
 use logbook::{Gain, Offer, Pen, Plain, Play, Rule, Seen, Start, Word};
 use std::marker::Model;
-use std::sync::Arc;
 
 /// An entry of the journal. No value of it is made.
 pub struct Entry {
@@ -19,23 +26,35 @@ pub struct Entry {
     pub table: Table,
 }
 
-/// The rule of the journal: the word is the number of entries, and only the proposal that the last entry may be is open.
+/// An entry, and what it was written with. No value of it is made. A number is the key of a cell of `logbook`, which a
+/// pen of that key writes.
+pub struct Line {
+    /// The pen of the first line of this journal.
+    pub first: u64,
+    /// The pen that wrote this line. It is used up.
+    pub by: u64,
+    /// The pen that writes the next line of this journal.
+    pub next: u64,
+    pub entry: Entry,
+}
+
+/// The rule of `logbook`: a pen that wrote a line is used up.
 pub struct JournalRule;
 
-impl Rule<Entry, u64> for JournalRule {
+impl Rule<Line, u64> for JournalRule {
     ghost use base.Fml.{ftrue};
     ghost use Rattle.std.specs.Prelude.{[]};
-    ghost use Rattle.bm_view.specs.Journal.{IsKept, opening_log};
+    ghost use Rattle.bm_view.specs.Journal.{IsKept};
 
-    ghost holds = { λ cells log. IsKept cells log };
+    ghost holds = { λ cells lines. IsKept cells lines };
 
-    ghost first = { opening_log };
+    ghost first = { [] };
 
-    ghost hinted = { λ n log. Unit {0} };
+    ghost hinted = { λ n lines. Unit {0} };
 
-    ghost shows = { λ log. [] };
+    ghost shows = { λ lines. [] };
 
-    ghost keeps = { λ names log. ftrue };
+    ghost keeps = { λ names lines. ftrue };
 
     ghost moves = { λ ask before after answer. Unit {0} };
 }
@@ -43,160 +62,199 @@ impl Rule<Entry, u64> for JournalRule {
 /// A step hands nothing over.
 pub struct NoGain;
 
-impl Gain<Entry, u64> for NoGain {
+impl Gain<Line, u64> for NoGain {
     ghost use base.Fml.{ftrue};
 
     ghost after = { λ names about answer. ftrue };
 }
 
-/// The step that proposes: where the word was as expected, the journal is what was known of it and the proposal, and the
-/// pen to settle it is there.
-pub struct Propose;
+/// The step that gives a pen.
+pub struct Reserve;
 
-impl Play<Entry, u64> for Propose {
-    ghost use Rattle.bm_view.specs.Journal.{Proposes};
+impl Play<Line, u64> for Reserve {
+    ghost use Rattle.bm_view.specs.Journal.{Reserves};
 
-    ghost then = { Proposes };
+    ghost then = { Reserves };
 }
 
-/// The step that settles: the journal is what was known of it and one entry more.
-pub struct Settle;
+/// The step that writes a line, and uses its pen up.
+pub struct Enter;
 
-impl Play<Entry, u64> for Settle {
-    ghost use Rattle.bm_view.specs.Journal.{Settles};
+impl Play<Line, u64> for Enter {
+    ghost use Rattle.bm_view.specs.Journal.{Enters};
 
-    ghost then = { Settles };
+    ghost then = { Enters };
 }
 
-/// Enters a table as not done: as proposed, or as withdrawn.
-pub struct AsProposed;
+/// What a line is to say. It has one byte, for proofs alone.
+#[derive(Drop)]
+pub struct Wanted {
+    first: Snapshot<Word<Line, u64, JournalRule>>,
+    by: Snapshot<Pen>,
+    next: Snapshot<Pen>,
+    done: bool,
+    table: Snapshot<Table>,
+}
 
-impl Plain<Arc<Table>, Entry, u64> for AsProposed {
+/// A step asks for the line that is wanted.
+pub struct AsWanted;
+
+impl Plain<Wanted, Line, u64> for AsWanted {
     ghost use Rattle.std.specs.Prelude.{None};
-    ghost use Rattle.std.specs.Arc.{arc_value};
+
+    ghost ask = { λ w. record {
+      first = w.first.value.key;
+      by = w.by.value.nib.key;
+      next = w.next.value.nib.key;
+      entry = record { done = w.done; table = w.table.value };
+    } };
+
+    ghost state = { λ w. None };
+}
+
+/// A step that writes nothing asks for nothing in particular.
+pub struct AsNothing;
+
+impl Plain<(), Line, u64> for AsNothing {
+    ghost use Rattle.std.specs.Prelude.{None};
+    ghost use Rattle.bm_view.specs.Version.{opening};
     ghost use Rattle.bm_view.specs.Journal.{proposed};
 
-    ghost ask = { λ table. proposed (arc_value table) };
+    ghost ask = { λ _. record { first = 0; by = 0; next = 0; entry = proposed opening } };
 
-    ghost state = { λ table. None };
+    ghost state = { λ _. None };
 }
 
-/// Enters a table as done.
-pub struct AsSettled;
-
-impl Plain<Arc<Table>, Entry, u64> for AsSettled {
-    ghost use Rattle.std.specs.Prelude.{None};
-    ghost use Rattle.std.specs.Arc.{arc_value};
-    ghost use Rattle.bm_view.specs.Journal.{settled};
-
-    ghost ask = { λ table. settled (arc_value table) };
-
-    ghost state = { λ table. None };
+/// How a journal began: a token that takes no bytes. Of two of one journal, one begins the other.
+#[derive(Drop)]
+pub struct Evidence {
+    seen: Seen<Line, u64, JournalRule>,
 }
 
-/// How a journal began: a token that may be copied (`again`) and takes no bytes. Of two of one journal, one begins the other.
-pub type Evidence = Seen<Entry, u64, JournalRule>;
+impl Model for Evidence {
+    ghost use Rattle.bm_view.specs.Journal.{Known, chain, named};
+
+    ghost Value = { Known };
+
+    ghost view = { λ e.
+        let first = named 0 e.seen.log in
+        record { home = record { book = e.seen.book; first = first }; log = chain first e.seen.log } };
+}
+
+impl Evidence {
+    /// A copy.
+    pub fn again(&self) -> Evidence
+        ensures { result ≡ self.now }
+    {
+        Evidence {
+            seen: self.seen.again(),
+        }
+    }
+
+    /// For proofs alone: both begin one journal.
+    pub fn meet(&self, other: &Evidence)
+        requires { other.now.home ≡ self.now.home }
+        ensures { (both : List Entry) × IsPrefix self.now.log both × IsPrefix other.now.log both }
+    {
+        let mut both = self.seen.again();
+        both.learn(&other.seen);
+    }
+}
 
 /// The right to write a journal. A contract sees the whole journal.
 #[derive(Drop)]
 pub struct Journal {
-    /// The word that the rule of `logbook` stands on: the number of entries. It lies here alone, so no thread shares it.
-    head: Word<Entry, u64, JournalRule>,
-    evidence: Evidence,
-    entries: u64,
+    /// The word that steps of `logbook` are taken on. Its value says nothing. It lies here alone, so no thread shares it.
+    head: Word<Line, u64, JournalRule>,
+    /// The word of the first pen: it names the journal.
+    first: Word<Line, u64, JournalRule>,
+    seen: Seen<Line, u64, JournalRule>,
+    /// What writes the next line.
+    pen: Pen,
 }
 
 impl Model for Journal {
-    ghost use Rattle.std.specs.Prelude.{◌≡◌, length};
-    ghost use Rattle.bm_view.specs.Journal.{Known, head_of};
+    ghost use Rattle.std.specs.Prelude.{◌≡◌};
+    ghost use Rattle.logbook.specs.Pages.{nib, may_write};
+    ghost use Rattle.bm_view.specs.Journal.{Known, chain, named, tip, word_of};
 
     ghost Value = { Known };
 
-    ghost view = { λ j. record { book = j.evidence.book; log = j.evidence.log } };
+    ghost view = { λ j. record {
+      home = record { book = j.seen.book; first = j.first.key };
+      log = chain j.first.key j.seen.log;
+    } };
 
-    ghost invariant = { λ j. (j.entries ≡ length j.evidence.log) × (j.head ≡ head_of j.evidence.book) };
+    ghost invariant = { λ j.
+        (j.head ≡ word_of j.seen.book)
+        × (named j.first.key j.seen.log ≡ j.first.key)
+        × (j.pen.book ≡ j.seen.book)
+        × (j.pen.nib ≡ nib may_write (tip j.first.key j.seen.log) 0) };
+}
+
+// A new pen, and the word that it may write. Whoever asks gets one.
+fn new_pen(
+    head: &Word<Line, u64, JournalRule>,
+    seen: &Seen<Line, u64, JournalRule>,
+) -> (Pen, Word<Line, u64, JournalRule>)
+    requires { head.now ≡ word_of seen.now.book }
+    ensures pen { (result.0.book ≡ seen.now.book) × (result.0.nib ≡ nib may_write result.1.key 0) }
+{
+    let mut seen = seen.again();
+    let mut offer: Offer<Line, u64, JournalRule, NoGain> = seen.plain::<NoGain, (), AsNothing>(&());
+    let mut pen = seen.no_pen();
+    head.compare_exchange::<Reserve, NoGain>(0, 0, &mut seen, &mut offer, &mut pen);
+    let word = Word::tracked(0, &mut pen);
+    (pen, word)
 }
 
 impl Journal {
     /// A new journal, in which the opening version is settled.
-    pub fn open() -> Journal
+    pub fn open(table: &Table) -> Journal
+        requires { table.now ≡ opening }
         ensures { result.log ≡ opening_log }
     {
-        let (evidence, mut first, _second) = Seen::open(Start::alone(), 2, 0);
-        Journal {
-            head: Word::tracked(2, &mut first),
-            evidence,
-            entries: 2,
-        }
-    }
-
-    pub fn entries(&self) -> u64
-        ensures { result ≡ length self.now.log }
-    {
-        self.entries
+        let (seen, mut head, _second) = Seen::open(Start::alone(), 0, 0);
+        let head = Word::tracked(0, &mut head);
+        let (pen, first) = new_pen(&head, &seen);
+        let mut journal = Journal {
+            head,
+            first,
+            seen,
+            pen,
+        };
+        journal.enter(false, table);
+        journal.enter(true, table);
+        journal
     }
 
     pub fn evidence(&self) -> Evidence
-        ensures { (result.book ≡ self.now.book) × (result.log ≡ self.now.log) }
+        requires { 0 < length self.now.log }
+        ensures { (result.home ≡ self.now.home) × (result.log ≡ self.now.log) }
     {
-        self.evidence.again()
-    }
-
-    /// Proposes a version. The pen is the right to settle it, and until then there is no other proposal. `None`, with
-    /// nothing changed, is for a word that someone else has changed; no one else has it.
-    pub fn propose(&mut self, table: &Arc<Table>) -> Option<Pen>
-        requires room { length self.old.log < 2 ^ 63 }
-        requires closed { IsClosed self.old.log }
-        ensures book { self.new.book ≡ self.old.book }
-        ensures added { MatchOption result
-            (self.new ≡ self.old)
-            (λ pen. (pen.book ≡ self.old.book) × (self.new.log ≡ self.old.log ++ proposed (arc_value table.now) ∷ []) × Opens self.new.log pen.nib) }
-    {
-        let mut evidence = self.evidence.again();
-        let mut offer: Offer<Entry, u64, JournalRule, NoGain> = evidence.plain::<
-            NoGain,
-            Arc<Table>,
-            AsProposed,
-        >(table);
-        let mut pen = evidence.no_pen();
-        let entries = self.entries;
-        let found = self
-            .head
-            .compare_exchange::<Propose, NoGain>(
-                entries,
-                entries + 1,
-                &mut evidence,
-                &mut offer,
-                &mut pen,
-            );
-        if found != entries {
-            return None;
+        Evidence {
+            seen: self.seen.again(),
         }
-        self.evidence = evidence;
-        self.entries = entries + 1;
-        Some(pen)
     }
 
-    /// Enters what became of the proposal, and uses its pen up. By the pen, the journal is as the proposal left it.
-    pub fn settle<M: Plain<Arc<Table>, Entry, u64>>(&mut self, mut pen: Pen, table: &Arc<Table>)
-        requires room { length self.old.log < 2 ^ 63 + 1 }
-        requires pen { (pen.book ≡ self.old.book) × Opens self.old.log pen.nib }
-        ensures book { self.new.book ≡ self.old.book }
-        ensures log { self.new.log ≡ self.old.log ++ M.ask table.now ∷ [] }
+    /// Enters a table: as done, or as proposed or withdrawn.
+    pub fn enter(&mut self, done: bool, table: &Table)
+        ensures home { self.new.home ≡ self.old.home }
+        ensures log { self.new.log ≡ self.old.log ++ record { done = done; table = table.now } ∷ [] }
     {
-        // The word that the pen allows: the step below brings it home.
-        let _cell: Word<Entry, u64, JournalRule> = Word::tracked(0, &mut pen);
-        let mut offer: Offer<Entry, u64, JournalRule, NoGain> = self
-            .evidence
-            .plain::<NoGain, Arc<Table>, M>(table);
-        let entries = self.entries;
-        self.head.compare_exchange::<Settle, NoGain>(
-            entries,
-            entries + 1,
-            &mut self.evidence,
-            &mut offer,
-            &mut pen,
-        );
-        self.entries = entries + 1;
+        let (next, _word) = new_pen(&self.head, &self.seen);
+        let wanted = Wanted {
+            first: Snapshot::of(&self.first),
+            by: Snapshot::of(&self.pen),
+            next: Snapshot::of(&next),
+            done,
+            table: Snapshot::of(table),
+        };
+        let mut offer: Offer<Line, u64, JournalRule, NoGain> = self
+            .seen
+            .plain::<NoGain, Wanted, AsWanted>(&wanted);
+        self.head
+            .compare_exchange::<Enter, NoGain>(0, 0, &mut self.seen, &mut offer, &mut self.pen);
+        self.pen = next;
     }
 }

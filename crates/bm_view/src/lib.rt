@@ -10,12 +10,13 @@
 //!
 //! **How a proof knows that it is one list.** Two rules, and a token that has no bytes:
 //! - `journal.rt`: before a version is shown it is entered into a journal as proposed, and afterwards as settled, or as
-//!   withdrawn. At run time the journal is one number; its entries exist in proofs. An `Evidence` is a token that says how
-//!   the journal began. Of any two tokens of one journal one begins the other (`logbook`).
+//!   withdrawn. At run time the journal is two words that no one reads; its entries exist in proofs. An `Evidence` is a token
+//!   that says how the journal began. Of any two tokens of one journal one begins the other (`logbook`).
 //! - `rule.rt`: what is shown carries its `Evidence`, and what a seat has seen once stays a beginning of what is shown
 //!   (`left_right`).
 #![tactic(auto)]
 
+mod count;
 mod journal;
 mod locator;
 mod open;

@@ -1,5 +1,5 @@
 //! A reader of the versions.
-ghost use Rattle.std.specs.Prelude.{◌≡◌, ◌≤◌, ◌<◌, [], ◌∷◌, ◌++◌, length, All, IfSome, IfNone, OnSome, MatchOption};
+ghost use Rattle.std.specs.Prelude.{◌≡◌, ◌≤◌, ◌<◌, ◌+◌, ◌*◌, false, [], ◌∷◌, ◌++◌, length, All, IfSome, IfNone, OnSome, MatchOption, MatchResult};
 ghost use mathlib.Core.List.{IsPrefix};
 ghost use Rattle.left_right.specs.Sides.{view as sight};
 ghost use Rattle.bm_view.specs.Version.{places_in, opening};
@@ -7,12 +7,14 @@ ghost use Rattle.bm_view.specs.Journal.{opening_log};
 ghost use Rattle.bm_view.specs.History.{last_of, shown_in, IsHistory};
 ghost use Rattle.bm_view.specs.Rule.{Sees, HasSeen};
 
+use crate::count::Count;
 use crate::journal::Evidence;
 use crate::receipt::Receipt;
-use crate::rule::{See, VersionReader};
+use crate::rule::{See, VersionReader, VersionReading};
 use crate::told::Told;
 use bm_base::{BlockId, Places};
 use core::mem::replace_with;
+use std::alloc::Global;
 use std::marker::Model;
 
 /// Where a block was after so many calls.
@@ -30,18 +32,16 @@ pub struct Located {
 /// receipts, and the call of `open_view`. All of these are beginnings of one list.
 #[derive(Drop)]
 pub struct Locator {
-    reader: VersionReader,
+    seat: Seat,
     /// The journal that what it answered from last came with. It has no bytes.
     answered: Evidence,
     /// The longest journal that it was told of. It has no bytes.
     heard: Evidence,
-    /// How many entries that has.
-    heard_entries: u64,
     told: Told,
 }
 
 impl Model for Locator {
-    ghost use Rattle.std.specs.Prelude.{◌≡◌, length, All};
+    ghost use Rattle.std.specs.Prelude.{◌≡◌, ◌*◌, length, All};
     ghost use mathlib.Core.List.{IsPrefix};
     ghost use Rattle.left_right.specs.Sides.{view as sight};
     ghost use Rattle.bm_view.specs.History.{versions, shown_in, IsSettled, IsHistory};
@@ -50,36 +50,59 @@ impl Model for Locator {
 
     ghost Value = { Learnt };
 
-    ghost view = { λ l. record { home = l.answered.book; list = shown_in l.answered.log; told = l.told } };
+    ghost view = { λ l. record { home = l.answered.home; list = shown_in l.answered.log; told = l.told } };
 
     ghost invariant = { λ l.
-        (l.heard.book ≡ l.answered.book)
-        × (l.heard_entries ≡ length l.heard.log)
+        (l.heard.home ≡ l.answered.home)
+        × (length l.heard.log ≡ 2 * l.seat.heard_number)
         × IsSettled l.heard.log
-        × HasSeen (sight l.reader.place) l.answered.book (shown_in l.answered.log)
+        × HasSeen (sight l.seat.reader.place) l.answered.home (shown_in l.answered.log)
         × IsHistory (versions l.heard.log)
         × All (λ known. IsPrefix known (versions l.heard.log)) l.told };
+}
+
+// A reader, and how many proposals the longest journal has that it was told of.
+#[derive(Drop)]
+struct Seat {
+    reader: VersionReader,
+    heard_number: Count,
 }
 
 // What a reader found, and the journal that it came with.
 struct Glimpse {
     found: Located,
     evidence: Evidence,
-    entries: u64,
+    // Whether it is of a proposal before one that was told of.
+    is_older: bool,
+}
+
+// Takes what is shown. The reader comes back where `left_right` refuses to enter.
+fn enter(reader: VersionReader) -> Result<VersionReading, VersionReader>
+    ensures { MatchResult result
+        (λ r. Sees (sight reader.place) r.part.value (sight r.place))
+        (λ r. sight r.place ≡ sight reader.place) }
+{
+    reader.enter_as::<See>()
 }
 
 // Reads the version that is shown. It is `None` where `left_right` refuses to enter.
-fn read(reader: VersionReader, id: BlockId) -> (VersionReader, Option<Glimpse>)
+fn read(seat: Seat, id: BlockId) -> (Seat, Option<Glimpse>)
+    ensures number { result.0.heard_number ≡ seat.heard_number }
     ensures seen { MatchOption result.1
-        (sight result.0.place ≡ sight reader.place)
-        (λ g. Sees (sight reader.place) g.evidence (sight result.0.place)) }
+        (sight result.0.reader.place ≡ sight seat.reader.place)
+        (λ g. Sees (sight seat.reader.place) g.evidence (sight result.0.reader.place)) }
     ensures found { IfSome result.1 (λ g.
         let shown = last_of (shown_in g.evidence.log) in
         (g.found.calls ≡ shown.calls) × (g.found.places ≡ places_in shown.rows id)) }
-    ensures entries { IfSome result.1 (λ g. (g.entries ≡ length g.evidence.log) × (0 < g.entries)) }
+    ensures close { IfSome result.1 (λ g. (0 < length g.evidence.log)
+        × (g.is_older ≡ false → 2 * seat.heard_number ≤ length g.evidence.log + 1)) }
     ensures history { IfSome result.1 (λ g. IsHistory (shown_in g.evidence.log)) }
 {
-    match reader.enter_as::<See>() {
+    let Seat {
+        reader,
+        heard_number,
+    } = seat;
+    let (reader, seen) = match enter(reader) {
         Ok(reading) => {
             let shown = reading.get();
             let seen = Glimpse {
@@ -88,25 +111,32 @@ fn read(reader: VersionReader, id: BlockId) -> (VersionReader, Option<Glimpse>)
                     places: shown.table().places(id),
                 },
                 evidence: shown.evidence(),
-                entries: shown.entries(),
+                is_older: shown.number().is_below(&heard_number),
             };
             (reading.leave(), Some(seen))
         }
         Err(reader) => (reader, None),
-    }
+    };
+    let seat = Seat {
+        reader,
+        heard_number,
+    };
+    (seat, seen)
 }
 
 impl Locator {
-    pub(crate) fn new(reader: VersionReader, first: Evidence) -> Locator
+    pub(crate) fn new(alloc: Global, reader: VersionReader, first: Evidence) -> Locator
         requires log { first.log ≡ opening_log }
-        requires seen { HasSeen (sight reader.place) first.book (opening ∷ []) }
-        ensures { result ≡ record { home = first.book; list = opening ∷ []; told = [] } }
+        requires seen { HasSeen (sight reader.place) first.home (opening ∷ []) }
+        ensures { result ≡ record { home = first.home; list = opening ∷ []; told = [] } }
     {
         Locator {
-            reader,
+            seat: Seat {
+                reader,
+                heard_number: Count::one(alloc),
+            },
             answered: first.again(),
             heard: first,
-            heard_entries: 2,
             told: Told::nothing(),
         }
     }
@@ -118,22 +148,21 @@ impl Locator {
         ensures same { (self.new.home ≡ self.old.home) × (self.new.list ≡ self.old.list) }
         ensures told { self.new.told ≡ self.old.told ++ receipt.list ∷ [] }
     {
-        let (evidence, entries) = receipt.into_parts();
-        // For the proof alone: both are of one journal, so one begins the other.
-        let mut both = self.heard.again();
-        both.learn(&evidence);
+        let (evidence, number) = receipt.into_parts();
+        self.heard.meet(&evidence);
         self.told.add(&evidence);
-        if self.heard_entries < entries {
+        if self.seat.heard_number.is_below(&number) {
             self.heard = evidence;
-            self.heard_entries = entries;
+            self.seat.heard_number = number;
         }
     }
 
     /// Where the block is in the version that is shown. A block without a row there has no places.
     ///
-    /// It is `None` where the publisher has ended, and then the list stays. (It would be `None` too if what is shown were
-    /// older than a receipt that was learnt. That does not happen, since a receipt is made after its version is shown; no
-    /// clause of `left_right` and `logbook` together says so.)
+    /// It is `None` where the publisher has ended, and then the list stays. (It would be `None` too if what is shown were of
+    /// an earlier proposal than the last version of a receipt that was learnt. That does not happen, since a receipt is made
+    /// after its version is shown. But the contracts of `left_right` do not say of which table a reader is once it has
+    /// entered, so no proof ties what it finds to what was entered into the journal by then.)
     pub fn locate(&mut self, id: BlockId) -> Option<Located>
         ensures same { (self.new.home ≡ self.old.home) × (self.new.told ≡ self.old.told) }
         ensures none { IfNone result (self.new.list ≡ self.old.list) }
@@ -145,21 +174,18 @@ impl Locator {
         ensures told { OnSome result (All (λ known. IsPrefix known self.new.list) self.old.told) }
         ensures no_older { IfSome result (λ found. All (λ known. (last_of known).calls ≤ found.calls) self.old.told) }
     {
-        let Some(seen) = replace_with(&mut self.reader, id, read) else {
+        let Some(seen) = replace_with(&mut self.seat, id, read) else {
             return None;
         };
         let Glimpse {
             found,
             evidence,
-            entries,
+            is_older,
         } = seen;
-        // For the proof alone: what is shown and what was heard are of one journal.
-        let mut both = self.heard.again();
-        both.learn(&evidence);
-        // A receipt's journal has one entry more than what was shown came with: the settlement.
-        if self.heard_entries.saturating_sub(entries) > 1 {
+        if is_older {
             return None;
         }
+        self.heard.meet(&evidence);
         self.answered = evidence;
         Some(found)
     }

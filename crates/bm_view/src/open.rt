@@ -1,10 +1,12 @@
 //! What makes a publisher with its locators.
 ghost use Rattle.std.specs.Prelude.{◌≡◌, ◌^◌, ◌<◌, ◌↔◌, ◌⊎◌, [], ◌∷◌, All, IfOk, IfErr, vec_len};
+ghost use Rattle.std.specs.Arc.{arc_value};
 ghost use Rattle.left_right.specs.Sides.{view as sight};
 ghost use Rattle.bm_view.specs.Version.{opening};
 ghost use Rattle.bm_view.specs.Journal.{opening_log};
 ghost use Rattle.bm_view.specs.Rule.{HasSeen};
 
+use crate::count::Count;
 use crate::journal::Journal;
 use crate::locator::Locator;
 use crate::publisher::{Publisher, show};
@@ -17,13 +19,11 @@ use std::sync::{Arc, Wait};
 
 const MAX_READERS: usize = 16;
 
-// What is shown at first: no calls and no rows.
-fn first_shown(alloc: Global, journal: &Journal) -> Result<Shown, AllocError>
-    requires { journal.now.log ≡ opening_log }
-    ensures { IfOk result (λ s. (s.book ≡ journal.now.book) × (s.log ≡ opening_log)) }
+// The opening version: no calls and no rows.
+fn first_table(alloc: Global) -> Result<Arc<Table>, AllocError>
+    ensures { IfOk result (λ table. arc_value table ≡ opening) }
 {
-    let table = Arc::new(alloc, Table::new(0, Vec::new(alloc)))?;
-    Ok(Shown::new(table, journal.evidence(), journal.entries()))
+    Ok(Arc::new(alloc, Table::new(0, Vec::new(alloc)))?)
 }
 
 // Makes a writer with room for so many readers, and shows the opening version by it: so its own view says what is shown,
@@ -31,15 +31,17 @@ fn first_shown(alloc: Global, journal: &Journal) -> Result<Shown, AllocError>
 fn open_writer<R: Wait>(
     rt: &R,
     alloc: Global,
+    table: Arc<Table>,
     journal: &Journal,
     readers: usize,
 ) -> Result<VersionWriter, AllocError>
+    requires table { arc_value table ≡ opening }
     requires log { journal.now.log ≡ opening_log }
     requires readers { (0 < readers) × (readers < 2 ^ 32) }
-    ensures shown { IfOk result (λ w. (w.desk.shown.value.book ≡ journal.now.book) × (w.desk.shown.value.log ≡ opening_log)) }
-    ensures seen { IfOk result (λ w. HasSeen (sight w.desk.place) journal.now.book (opening ∷ [])) }
+    ensures shown { IfOk result (λ w. (w.desk.shown.value.home ≡ journal.now.home) × (w.desk.shown.value.log ≡ opening_log)) }
+    ensures seen { IfOk result (λ w. HasSeen (sight w.desk.place) journal.now.home (opening ∷ [])) }
 {
-    let first = first_shown(alloc, journal)?;
+    let first = Shown::new(table, journal.evidence(), Count::one(alloc));
     let second = first.again()?;
     let third = first.again()?;
     let writer = VersionWriter::new(alloc, first, second, readers)?;
@@ -61,16 +63,16 @@ fn make_locators(
     readers: usize,
 ) -> Result<Vec<Locator>, AllocError>
     requires log { journal.now.log ≡ opening_log }
-    requires seen { HasSeen (sight writer.old.desk.place) journal.now.book (opening ∷ []) }
+    requires seen { HasSeen (sight writer.old.desk.place) journal.now.home (opening ∷ []) }
     ensures shown { writer.new.desk.shown.value ≡ writer.old.desk.shown.value }
     ensures count { IfOk result (λ made. vec_len made ≡ readers) }
-    ensures each { IfOk result (λ made. All (λ l. l ≡ record { home = journal.now.book; list = opening ∷ []; told = [] }) made.items) }
+    ensures each { IfOk result (λ made. All (λ l. l ≡ record { home = journal.now.home; list = opening ∷ []; told = [] }) made.items) }
 {
     let mut locators = Vec::new(alloc);
     for _ in 0..readers {
         let mut reader = writer.factory().reader()?;
         reader.learn::<Note>(writer.tell::<Note>());
-        locators.push(Locator::new(reader, journal.evidence()))?;
+        locators.push(Locator::new(alloc, reader, journal.evidence()))?;
     }
     Ok(locators)
 }
@@ -94,10 +96,11 @@ pub fn open_view<R: Wait>(
     if readers > MAX_READERS {
         return Err(Refusal::BadConfig);
     }
-    let journal = Journal::open();
-    let mut writer = open_writer(rt, alloc, &journal, readers.max(1))?;
+    let table = first_table(alloc)?;
+    let journal = Journal::open(&table);
+    let mut writer = open_writer(rt, alloc, table, &journal, readers.max(1))?;
     match make_locators(alloc, &mut writer, &journal, readers) {
-        Ok(locators) => Ok((Publisher::new(writer, journal), locators)),
+        Ok(locators) => Ok((Publisher::new(alloc, writer, journal), locators)),
         Err(error) => {
             drop(writer.take(rt));
             Err(Refusal::from(error))

@@ -1,5 +1,5 @@
 //! The one that publishes versions.
-ghost use Rattle.std.specs.Prelude.{◌≡◌, ◌≤◌, ◌^◌, ◌↔◌, IsTrue, length, [], ◌∷◌, ◌++◌, IfOk, IfErr, OnOk, OnErr, MatchResult, Some};
+ghost use Rattle.std.specs.Prelude.{◌≡◌, ◌≤◌, [], ◌∷◌, ◌++◌, IfOk, IfErr, OnOk, OnErr, MatchResult, Some};
 ghost use Rattle.std.specs.Arc.{arc_value};
 ghost use Rattle.left_right.specs.Sides.{view as sight};
 ghost use Rattle.bm_view.specs.Version.{opening};
@@ -7,19 +7,17 @@ ghost use Rattle.bm_view.specs.Journal.{opening_log};
 ghost use Rattle.bm_view.specs.History.{last_of, IsHistory};
 ghost use Rattle.bm_view.specs.Rule.{Extends};
 
-use crate::journal::{AsProposed, AsSettled, Journal};
+use crate::count::Count;
+use crate::journal::Journal;
 use crate::receipt::Receipt;
 use crate::rule::{Show, VersionWriter};
 use crate::shown::Shown;
 use crate::table::Table;
 use bm_base::Refusal;
 use core::mem::replace_with;
-use std::alloc::AllocError;
+use std::alloc::{AllocError, Global};
 use std::marker::Model;
 use std::sync::{Arc, Wait};
-
-// The journal counts its entries in a u64, so after so many of them nothing is published any more.
-const MOST_ENTRIES: u64 = 1 << 62;
 
 /// Publishes versions to the locators that `open_view` made with it. A contract sees the list of the versions that were
 /// published, the opening version first, and the call of `open_view`.
@@ -28,33 +26,27 @@ const MOST_ENTRIES: u64 = 1 << 62;
 pub struct Publisher {
     writer: VersionWriter,
     journal: Journal,
+    /// How many proposals there were.
+    number: Count,
     /// The calls of the version that was published last.
     calls: u64,
 }
 
 impl Model for Publisher {
-    ghost use Rattle.std.specs.Prelude.{◌≡◌};
-    ghost use Rattle.bm_view.specs.Journal.{IsClosed};
+    ghost use Rattle.std.specs.Prelude.{◌≡◌, ◌*◌, length};
     ghost use Rattle.bm_view.specs.History.{last_of, versions, shown_in, IsHistory};
     ghost use Rattle.bm_view.specs.Holders.{Listed};
 
     ghost Value = { Listed };
 
-    ghost view = { λ p. record { home = p.journal.book; list = versions p.journal.log } };
+    ghost view = { λ p. record { home = p.journal.home; list = versions p.journal.log } };
 
     ghost invariant = { λ p.
-        IsClosed p.journal.log
+        (length p.journal.log ≡ 2 * p.number)
         × (p.calls ≡ (last_of (versions p.journal.log)).calls)
-        × (p.writer.desk.shown.value.book ≡ p.journal.book)
+        × (p.writer.desk.shown.value.home ≡ p.journal.home)
         × (shown_in p.writer.desk.shown.value.log ≡ versions p.journal.log)
         × IsHistory (versions p.journal.log) };
-}
-
-// Whether the journal has so many entries, two for each call of `publish`, that nothing is published any more.
-fn is_spent(journal: &Journal) -> bool
-    ensures { IsTrue result ↔ (2 ^ 62 ≤ length journal.now.log) }
-{
-    journal.entries() >= MOST_ENTRIES
 }
 
 // Shows what goes on from what is shown. At `Err` the value before is shown.
@@ -75,13 +67,14 @@ pub(crate) fn show<R: Wait>(
 }
 
 impl Publisher {
-    pub(crate) fn new(writer: VersionWriter, journal: Journal) -> Publisher
-        requires { (journal.log ≡ opening_log) × (writer.desk.shown.value.book ≡ journal.book) × (writer.desk.shown.value.log ≡ opening_log) }
-        ensures { result ≡ record { home = journal.book; list = opening ∷ [] } }
+    pub(crate) fn new(alloc: Global, writer: VersionWriter, journal: Journal) -> Publisher
+        requires { (journal.log ≡ opening_log) × (writer.desk.shown.value.home ≡ journal.home) × (writer.desk.shown.value.log ≡ opening_log) }
+        ensures { result ≡ record { home = journal.home; list = opening ∷ [] } }
     {
         Publisher {
             writer,
             journal,
+            number: Count::one(alloc),
             calls: 0,
         }
     }
@@ -98,7 +91,7 @@ impl Publisher {
     ///
     /// # Errors
     /// `Memory`, also where the count of the `Arc` is full. Then no list changes, no locator ever reads the table, and it
-    /// is not handed back. (So it is from the 2^62nd entry of the journal on, two for each call.)
+    /// is not handed back.
     pub fn publish<R: Wait>(&mut self, rt: &R, table: Arc<Table>) -> Result<Receipt, Refusal>
         requires { (last_of self.old.list).calls ≤ (arc_value table).calls }
         ensures home { self.new.home ≡ self.old.home }
@@ -110,22 +103,20 @@ impl Publisher {
         ensures memory { IfErr result (λ refusal. refusal ≡ Refusal.Memory) }
     {
         let calls = table.calls();
-        if is_spent(&self.journal) {
-            return Err(Refusal::Memory);
-        }
-        let Some(pen) = self.journal.propose(&table) else {
-            return Err(Refusal::Memory);
-        };
-        let next = Shown::new(table, self.journal.evidence(), self.journal.entries());
+        // All that may be refused comes before the version is shown.
+        let number = self.number.next()?;
+        let receipt = number.again()?;
+        let shown = number.again()?;
+        self.number = number;
+        self.journal.enter(false, &table);
+        let next = Shown::new(table, self.journal.evidence(), shown);
         if replace_with(&mut self.writer, (rt, next), show::<R>).is_err() {
-            self.journal
-                .settle::<AsProposed>(pen, self.writer.published().table());
+            self.journal.enter(false, self.writer.published().table());
             return Err(Refusal::Memory);
         }
-        self.journal
-            .settle::<AsSettled>(pen, self.writer.published().table());
+        self.journal.enter(true, self.writer.published().table());
         self.calls = calls;
-        Ok(Receipt::new(self.journal.evidence(), self.journal.entries(), calls))
+        Ok(Receipt::new(self.journal.evidence(), receipt, calls))
     }
 
     /// Ends it. From now on its locators answer `None`. It waits for those that are reading, takes no memory and refuses
@@ -134,6 +125,7 @@ impl Publisher {
         let Publisher {
             writer,
             journal: _journal,
+            number: _number,
             calls: _,
         } = self;
         drop(writer.take(rt));

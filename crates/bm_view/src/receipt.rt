@@ -1,7 +1,8 @@
 //! What a publish tells: up to where the list of versions goes by now.
-ghost use Rattle.std.specs.Prelude.{◌≡◌, length};
+ghost use Rattle.std.specs.Prelude.{◌≡◌, ◌*◌, length};
 ghost use Rattle.bm_view.specs.History.{last_of, versions, IsHistory, IsSettled};
 
+use crate::count::Count;
 use crate::journal::Evidence;
 use std::marker::Model;
 
@@ -11,39 +12,39 @@ use std::marker::Model;
 pub struct Receipt {
     /// The journal as it was once the last version was settled. It has no bytes.
     evidence: Evidence,
-    /// How many entries that journal has.
-    entries: u64,
+    /// How many proposals there were, that of the last version among them.
+    number: Count,
     /// The calls of the last version.
     calls: u64,
 }
 
 impl Model for Receipt {
-    ghost use Rattle.std.specs.Prelude.{◌≡◌, length};
+    ghost use Rattle.std.specs.Prelude.{◌≡◌, ◌*◌, length};
     ghost use Rattle.bm_view.specs.History.{last_of, versions, IsSettled, IsHistory};
     ghost use Rattle.bm_view.specs.Holders.{Listed};
 
     ghost Value = { Listed };
 
-    ghost view = { λ r. record { home = r.evidence.book; list = versions r.evidence.log } };
+    ghost view = { λ r. record { home = r.evidence.home; list = versions r.evidence.log } };
 
     ghost invariant = { λ r.
-        (r.entries ≡ length r.evidence.log)
+        (length r.evidence.log ≡ 2 * r.number)
         × (r.calls ≡ (last_of (versions r.evidence.log)).calls)
         × IsSettled r.evidence.log
         × IsHistory (versions r.evidence.log) };
 }
 
 impl Receipt {
-    pub(crate) fn new(evidence: Evidence, entries: u64, calls: u64) -> Receipt
-        requires entries { entries ≡ length evidence.log }
+    pub(crate) fn new(evidence: Evidence, number: Count, calls: u64) -> Receipt
+        requires number { length evidence.log ≡ 2 * number }
         requires calls { calls ≡ (last_of (versions evidence.log)).calls }
         requires settled { IsSettled evidence.log }
         requires history { IsHistory (versions evidence.log) }
-        ensures { result ≡ record { home = evidence.book; list = versions evidence.log } }
+        ensures { result ≡ record { home = evidence.home; list = versions evidence.log } }
     {
         Receipt {
             evidence,
-            entries,
+            number,
             calls,
         }
     }
@@ -55,18 +56,18 @@ impl Receipt {
         self.calls
     }
 
-    // The journal and how many entries it has.
-    pub(crate) fn into_parts(self) -> (Evidence, u64)
-        ensures seen { (result.0.book ≡ self.home) × (versions result.0.log ≡ self.list) }
-        ensures entries { result.1 ≡ length result.0.log }
+    // The journal and how many proposals it has.
+    pub(crate) fn into_parts(self) -> (Evidence, Count)
+        ensures seen { (result.0.home ≡ self.home) × (versions result.0.log ≡ self.list) }
+        ensures number { length result.0.log ≡ 2 * result.1 }
         ensures settled { IsSettled result.0.log }
         ensures history { IsHistory (versions result.0.log) }
     {
         let Receipt {
             evidence,
-            entries,
+            number,
             calls: _,
         } = self;
-        (evidence, entries)
+        (evidence, number)
     }
 }

@@ -7,7 +7,7 @@ use crate::journal::Evidence;
 use crate::shown::Shown;
 use atomic_table::{Join, Split};
 use crossbeam_utils::rule::{Outcome, Protocol};
-use left_right::reader::Reader;
+use left_right::reader::{Reader, Reading};
 use left_right::writer::Writer;
 
 /// A seat's view is what it saw last, if anything.
@@ -49,5 +49,7 @@ impl Join<Option<Evidence>> for Note {
 }
 
 pub type VersionReader = Reader<Shown, Option<Evidence>, GrowingList>;
+
+pub type VersionReading = Reading<Shown, Option<Evidence>, GrowingList>;
 
 pub type VersionWriter = Writer<Shown, Shown, Option<Evidence>, GrowingList>;

@@ -1,8 +1,9 @@
 //! The value that is shown: a table, and what the journal was when it was proposed.
-ghost use Rattle.std.specs.Prelude.{◌≡◌, ◌<◌, length, IfOk};
+ghost use Rattle.std.specs.Prelude.{◌≡◌, ◌≤◌, ◌<◌, ◌+◌, ◌*◌, length, IfOk};
 ghost use Rattle.std.specs.Arc.{arc_value};
 ghost use Rattle.bm_view.specs.History.{last_of, shown_in, IsHistory};
 
+use crate::count::Count;
 use crate::journal::Evidence;
 use crate::table::Table;
 use left_right::Absorb;
@@ -16,12 +17,12 @@ pub struct Shown {
     table: Arc<Table>,
     /// The journal up to the proposal of the table. It has no bytes.
     evidence: Evidence,
-    /// How many entries that journal has.
-    entries: u64,
+    /// How many proposals there were, this one among them.
+    number: Count,
 }
 
 impl Model for Shown {
-    ghost use Rattle.std.specs.Prelude.{◌≡◌, ◌<◌, length};
+    ghost use Rattle.std.specs.Prelude.{◌≡◌, ◌≤◌, ◌<◌, ◌+◌, ◌*◌, length};
     ghost use Rattle.std.specs.Arc.{arc_value};
     ghost use Rattle.bm_view.specs.Rule.{Evidence};
     ghost use Rattle.bm_view.specs.History.{last_of, shown_in, IsHistory};
@@ -31,15 +32,15 @@ impl Model for Shown {
     ghost view = { λ s. s.evidence };
 
     ghost invariant = { λ s.
-        (s.entries ≡ length s.evidence.log)
-        × (0 < s.entries)
+        (2 * s.number ≤ length s.evidence.log + 1)
+        × (0 < length s.evidence.log)
         × (last_of (shown_in s.evidence.log) ≡ arc_value s.table)
         × IsHistory (shown_in s.evidence.log) };
 }
 
 impl Shown {
-    pub fn new(table: Arc<Table>, evidence: Evidence, entries: u64) -> Shown
-        requires entries { (entries ≡ length evidence.log) × (0 < entries) }
+    pub fn new(table: Arc<Table>, evidence: Evidence, number: Count) -> Shown
+        requires number { (2 * number ≤ length evidence.log + 1) × (0 < length evidence.log) }
         requires table { last_of (shown_in evidence.log) ≡ arc_value table }
         requires history { IsHistory (shown_in evidence.log) }
         ensures { result ≡ evidence }
@@ -47,7 +48,7 @@ impl Shown {
         Shown {
             table,
             evidence,
-            entries,
+            number,
         }
     }
 
@@ -58,7 +59,7 @@ impl Shown {
         Ok(Shown {
             table: Arc::try_clone(&self.table)?,
             evidence: self.evidence.again(),
-            entries: self.entries,
+            number: self.number.again()?,
         })
     }
 
@@ -75,10 +76,10 @@ impl Shown {
         self.evidence.again()
     }
 
-    pub fn entries(&self) -> u64
-        ensures { (result ≡ length self.now.log) × (0 < result) }
+    pub fn number(&self) -> &Count
+        ensures { (2 * result.now ≤ length self.now.log + 1) × (0 < length self.now.log) }
     {
-        self.entries
+        &self.number
     }
 }
 

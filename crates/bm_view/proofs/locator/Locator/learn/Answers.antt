@@ -1,7 +1,7 @@
-use Rattle.std.proofs.Common.{◌≤◌, All, length, sym, ap, ◌∙◌, subst, arith}
+use Rattle.std.proofs.Common.{◌≤◌, ◌<◌, All, length, sym, ap, ◌∙◌, subst, arith}
+use Rattle.std.proofs.lemmas.Bool.Decides.{nat_tests}
 use mathlib.Core.List.{IsPrefix}
 use Rattle.bm_view.specs.History.{versions}
-use Rattle.bm_view.specs.Rule.{Evidence}
 use Rattle.bm_view.specs.Holders.{Learnt}
 use Rattle.bm_view.proofs.Prefixes.{prefix_self, prefix_shorter}
 use Rattle.bm_view.proofs.Histories.{versions_prefix}
@@ -12,28 +12,27 @@ pub invariant_of-self : goal.invariant_of-self
 invariant_of-self c =
     let mine = c.self.inside.heard.log in
     let theirs = c.into_parts-evidence.result.0.log in
-    let both = c.learn.new.self.log in
     let seen = c.into_parts-evidence.ensures in
-    let known : IsPrefix mine both = subst (λ (s : Evidence). IsPrefix s.log both) c.again-both.ensures c.learn.ensures.2 in
-    let less : length mine ≤ length theirs = omega (arith, c.self.invariant.1, seen.entries, c.if-self-entries.true) in
-    let begins = versions_prefix mine theirs (prefix_shorter mine theirs both known c.learn.ensures.3 less) in (
+    let both = c.meet.ensures in
+    let below : c.self.inside.seat.heard_number < c.into_parts-evidence.result.1 = c.is_below.ensures.0 c.if-is_below.true in
+    let less : length mine ≤ length theirs = omega (arith, c.self.invariant.1, seen.number, below) in
+    let begins = versions_prefix mine theirs (prefix_shorter mine theirs both.0 both.1 both.2 less) in (
       seen.seen.0 ∙ (c.requires ∙ ap (λ (l : Learnt). l.home) (sym c.self.view_is)),
-      seen.entries,
+      seen.number,
       seen.settled,
       c.self.invariant.3,
       seen.history,
       subst (λ told. All (λ known. IsPrefix known (versions theirs)) told) (sym c.add.ensures) (all_told c.self.inside.told (versions mine) (versions theirs) (versions theirs) c.self.invariant.5 begins (prefix_self (versions theirs))),
     )
 
-pub invariant_of-self-else-self-entries : goal.invariant_of-self-else-self-entries
-invariant_of-self-else-self-entries c =
+pub invariant_of-self-else-is_below : goal.invariant_of-self-else-is_below
+invariant_of-self-else-is_below c =
     let mine = c.self.inside.heard.log in
     let theirs = c.into_parts-evidence.result.0.log in
-    let both = c.learn.new.self.log in
     let seen = c.into_parts-evidence.ensures in
-    let known : IsPrefix mine both = subst (λ (s : Evidence). IsPrefix s.log both) c.again-both.ensures c.learn.ensures.2 in
-    let less : length theirs ≤ length mine = omega (arith, c.self.invariant.1, seen.entries, c.if-self-entries.false) in
-    let begins = versions_prefix theirs mine (prefix_shorter theirs mine both c.learn.ensures.3 known less) in (
+    let both = c.meet.ensures in
+    let less : length theirs ≤ length mine = grind (arith, nat_tests, c.self.invariant.1, seen.number, c.is_below.ensures, c.if-is_below.false) in
+    let begins = versions_prefix theirs mine (prefix_shorter theirs mine both.0 both.2 both.1 less) in (
       c.self.invariant.0,
       c.self.invariant.1,
       c.self.invariant.2,

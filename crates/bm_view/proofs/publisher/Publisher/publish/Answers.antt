@@ -1,104 +1,118 @@
-use Rattle.std.proofs.Common.{◌≡◌, ◌≤◌, [], ◌∷◌, ◌++◌, sym, ap, ◌∙◌, subst}
+use Rattle.std.proofs.Common.{◌≡◌, ◌≤◌, ◌*◌, [], ◌∷◌, ◌++◌, sym, ap, ◌∙◌, subst}
 use Rattle.std.specs.Arc.{arc_value}
 use Rattle.bm_base.specs.Versions.{Version}
 use Rattle.bm_view.specs.History.{last_of, versions, shown_in, IsSettled, IsHistory}
 use Rattle.bm_view.specs.Rule.{Evidence}
+use Rattle.bm_view.specs.Journal.{proposed}
 use Rattle.bm_view.specs.Holders.{Listed}
-use Rattle.bm_view.proofs.Publishing.{was_ok, was_err, listed, last_next, history_next, goes_next, closed_next, refused, published}
+use Rattle.bm_view.proofs.Publishing.{was_ok, was_err, listed, last_next, history_next, goes_next, longer, refused, published}
 use Rattle.bm_view.proofs.publisher.Publisher.publish.Goals as goal
 
 pub new-next-requires-clause-table : goal.new-next-requires-clause-table
-new-next-requires-clause-table g c = last_next c.self.inside.journal.log c.evidence.result.log _ (c.evidence.ensures.1 ∙ c.in-Some.ensures.added.1)
+new-next-requires-clause-table g c =
+    let one = c.enter.ensures.log ∙ ap (λ (v : Version). c.self.inside.journal.log ++ proposed v ∷ []) c.deref-2.ensures in
+    last_next c.self.inside.journal.log c.evidence.result.log _ (c.evidence.ensures.1 ∙ one)
 
 pub new-next-requires-clause-history : goal.new-next-requires-clause-history
 new-next-requires-clause-history g c =
-    history_next c.self.inside.journal.log c.evidence.result.log (arc_value c.args.table) (c.evidence.ensures.1 ∙ c.in-Some.ensures.added.1) c.self.invariant.4 (subst (λ (v : Listed). (last_of v.list).calls ≤ (arc_value c.args.table).calls) (sym c.self.view_is) c.requires)
+    let one = c.enter.ensures.log ∙ ap (λ (v : Version). c.self.inside.journal.log ++ proposed v ∷ []) c.deref-2.ensures in
+    history_next c.self.inside.journal.log c.evidence.result.log (arc_value c.args.table) (c.evidence.ensures.1 ∙ one) c.self.invariant.4 (subst (λ (v : Listed). (last_of v.list).calls ≤ (arc_value c.args.table).calls) (sym c.self.view_is) c.requires)
 
 pub replace_with-requires : goal.replace_with-requires
 replace_with-requires g c =
-    goes_next c.self.inside.writer.desk.shown.value c.new-next.result c.evidence.result c.self.inside.journal.book c.self.inside.journal.log _ c.self.invariant.2 c.self.invariant.3 c.new-next.ensures (c.evidence.ensures.0 ∙ c.in-Some.ensures.book) (c.evidence.ensures.1 ∙ c.in-Some.ensures.added.1)
+    let one = c.enter.ensures.log ∙ ap (λ (v : Version). c.self.inside.journal.log ++ proposed v ∷ []) c.deref-2.ensures in
+    goes_next c.self.inside.writer.desk.shown.value c.new-next.result c.evidence.result c.self.inside.journal.home c.self.inside.journal.log _ c.self.invariant.2 c.self.invariant.3 c.new-next.ensures (c.evidence.ensures.0 ∙ c.enter.ensures.home) (c.evidence.ensures.1 ∙ one)
 
-pub invariant_of-self-then-is_err : goal.invariant_of-self-then-is_err
-invariant_of-self-then-is_err g c =
+pub invariant_of-self : goal.invariant_of-self
+invariant_of-self g c =
+    let one = c.enter.ensures.log ∙ ap (λ (v : Version). c.self.inside.journal.log ++ proposed v ∷ []) c.deref-2.ensures in
     let old = c.self.inside.journal in
     let kept = was_err c.replace_with.result _ _ (sym c.is_err.ensures.value ∙ c.if-is_err.true) c.replace_with.ensures in
-    let same : versions c.settle.new.self.log ≡ versions old.log = refused old.log c.propose.new.self.log c.settle.new.self.log _ _ c.in-Some.ensures.added.1 c.settle.ensures.log in (
-      closed_next old.log c.propose.new.self.log c.settle.new.self.log _ _ c.self.invariant.0 c.in-Some.ensures.added.1 c.settle.ensures.log,
+    let same : versions c.enter-then-is_err.new.self.log ≡ versions old.log = refused old.log c.enter.new.self.log c.enter-then-is_err.new.self.log _ _ one c.enter-then-is_err.ensures.log in (
+      longer old.log c.enter.new.self.log c.enter-then-is_err.new.self.log _ _ c.self.inside.number c.self.invariant.0 one c.enter-then-is_err.ensures.log ∙ ap (λ n. 2 * n) (sym c.in_ok-number.ensures),
       c.self.invariant.1 ∙ ap (λ l. (last_of l).calls) (sym same),
-      ap (λ (s : Evidence). s.book) kept.2 ∙ (c.self.invariant.2 ∙ sym (c.settle.ensures.book ∙ c.in-Some.ensures.book)),
+      ap (λ (s : Evidence). s.home) kept.2 ∙ (c.self.invariant.2 ∙ sym (c.enter-then-is_err.ensures.home ∙ c.enter.ensures.home)),
       ap (λ (s : Evidence). shown_in s.log) kept.2 ∙ (c.self.invariant.3 ∙ sym same),
       subst IsHistory (sym same) c.self.invariant.4,
     )
 
 pub returns-then-is_err-clause-refused : goal.returns-then-is_err-clause-refused
 returns-then-is_err-clause-refused g c =
+    let one = c.enter.ensures.log ∙ ap (λ (v : Version). c.self.inside.journal.log ++ proposed v ∷ []) c.deref-2.ensures in
     let old = c.self.inside.journal in
-    let same : versions c.settle.new.self.log ≡ versions old.log = refused old.log c.propose.new.self.log c.settle.new.self.log _ _ c.in-Some.ensures.added.1 c.settle.ensures.log in
-    listed c.settle.new.self.book old.book (versions c.settle.new.self.log) (versions old.log) (c.settle.ensures.book ∙ c.in-Some.ensures.book) same ∙ c.self.view_is
+    let same : versions c.enter-then-is_err.new.self.log ≡ versions old.log = refused old.log c.enter.new.self.log c.enter-then-is_err.new.self.log _ _ one c.enter-then-is_err.ensures.log in
+    listed c.enter-then-is_err.new.self.home old.home (versions c.enter-then-is_err.new.self.log) (versions old.log) (c.enter-then-is_err.ensures.home ∙ c.enter.ensures.home) same ∙ c.self.view_is
 
 pub new-requires-clause-calls : goal.new-requires-clause-calls
 new-requires-clause-calls g c =
+    let one = c.enter.ensures.log ∙ ap (λ (v : Version). c.self.inside.journal.log ++ proposed v ∷ []) c.deref-2.ensures in
     let old = c.self.inside.journal in
     let ok = was_ok c.replace_with.result _ _ (sym c.is_err.ensures.value ∙ c.if-is_err.false) c.replace_with.ensures in
     let t = arc_value c.args.table in
-    let is = c.table-2.ensures ∙ (ap (λ (s : Evidence). last_of (shown_in s.log)) (c.published-2.ensures ∙ (ok.2.0 ∙ c.new-next.ensures)) ∙ last_next old.log c.evidence.result.log t (c.evidence.ensures.1 ∙ c.in-Some.ensures.added.1)) in
-    let now = published old.log c.propose.new.self.log c.settle-2.new.self.log t _ c.self.invariant.0 c.self.invariant.4 (subst (λ (v : Listed). (last_of v.list).calls ≤ t.calls) (sym c.self.view_is) c.requires) c.in-Some.ensures.added.1 c.settle-2.ensures.log is in
+    let is = c.deref-3.ensures ∙ (c.table-2.ensures ∙ (ap (λ (s : Evidence). last_of (shown_in s.log)) (c.published-2.ensures ∙ (ok.2.0 ∙ c.new-next.ensures)) ∙ last_next old.log c.evidence.result.log t (c.evidence.ensures.1 ∙ one))) in
+    let now = published old.log c.enter.new.self.log c.enter-2.new.self.log t _ c.self.invariant.4 (subst (λ (v : Listed). (last_of v.list).calls ≤ t.calls) (sym c.self.view_is) c.requires) one c.enter-2.ensures.log is in
     c.calls-calls.ensures ∙ ap (λ (v : Version). v.calls) (c.deref.ensures ∙ (sym now.last ∙ ap (λ l. last_of (versions l)) (sym c.evidence-2.ensures.1)))
 
 pub new-requires-clause-settled : goal.new-requires-clause-settled
 new-requires-clause-settled g c =
+    let one = c.enter.ensures.log ∙ ap (λ (v : Version). c.self.inside.journal.log ++ proposed v ∷ []) c.deref-2.ensures in
     let old = c.self.inside.journal in
     let ok = was_ok c.replace_with.result _ _ (sym c.is_err.ensures.value ∙ c.if-is_err.false) c.replace_with.ensures in
     let t = arc_value c.args.table in
-    let is = c.table-2.ensures ∙ (ap (λ (s : Evidence). last_of (shown_in s.log)) (c.published-2.ensures ∙ (ok.2.0 ∙ c.new-next.ensures)) ∙ last_next old.log c.evidence.result.log t (c.evidence.ensures.1 ∙ c.in-Some.ensures.added.1)) in
-    let now = published old.log c.propose.new.self.log c.settle-2.new.self.log t _ c.self.invariant.0 c.self.invariant.4 (subst (λ (v : Listed). (last_of v.list).calls ≤ t.calls) (sym c.self.view_is) c.requires) c.in-Some.ensures.added.1 c.settle-2.ensures.log is in
+    let is = c.deref-3.ensures ∙ (c.table-2.ensures ∙ (ap (λ (s : Evidence). last_of (shown_in s.log)) (c.published-2.ensures ∙ (ok.2.0 ∙ c.new-next.ensures)) ∙ last_next old.log c.evidence.result.log t (c.evidence.ensures.1 ∙ one))) in
+    let now = published old.log c.enter.new.self.log c.enter-2.new.self.log t _ c.self.invariant.4 (subst (λ (v : Listed). (last_of v.list).calls ≤ t.calls) (sym c.self.view_is) c.requires) one c.enter-2.ensures.log is in
     subst IsSettled (sym c.evidence-2.ensures.1) now.whole
 
 pub new-requires-clause-history : goal.new-requires-clause-history
 new-requires-clause-history g c =
+    let one = c.enter.ensures.log ∙ ap (λ (v : Version). c.self.inside.journal.log ++ proposed v ∷ []) c.deref-2.ensures in
     let old = c.self.inside.journal in
     let ok = was_ok c.replace_with.result _ _ (sym c.is_err.ensures.value ∙ c.if-is_err.false) c.replace_with.ensures in
     let t = arc_value c.args.table in
-    let is = c.table-2.ensures ∙ (ap (λ (s : Evidence). last_of (shown_in s.log)) (c.published-2.ensures ∙ (ok.2.0 ∙ c.new-next.ensures)) ∙ last_next old.log c.evidence.result.log t (c.evidence.ensures.1 ∙ c.in-Some.ensures.added.1)) in
-    let now = published old.log c.propose.new.self.log c.settle-2.new.self.log t _ c.self.invariant.0 c.self.invariant.4 (subst (λ (v : Listed). (last_of v.list).calls ≤ t.calls) (sym c.self.view_is) c.requires) c.in-Some.ensures.added.1 c.settle-2.ensures.log is in
+    let is = c.deref-3.ensures ∙ (c.table-2.ensures ∙ (ap (λ (s : Evidence). last_of (shown_in s.log)) (c.published-2.ensures ∙ (ok.2.0 ∙ c.new-next.ensures)) ∙ last_next old.log c.evidence.result.log t (c.evidence.ensures.1 ∙ one))) in
+    let now = published old.log c.enter.new.self.log c.enter-2.new.self.log t _ c.self.invariant.4 (subst (λ (v : Listed). (last_of v.list).calls ≤ t.calls) (sym c.self.view_is) c.requires) one c.enter-2.ensures.log is in
     subst (λ l. IsHistory (versions l)) (sym c.evidence-2.ensures.1) now.history
 
 pub invariant_of-self-2 : goal.invariant_of-self-2
 invariant_of-self-2 g c =
+    let one = c.enter.ensures.log ∙ ap (λ (v : Version). c.self.inside.journal.log ++ proposed v ∷ []) c.deref-2.ensures in
     let old = c.self.inside.journal in
     let ok = was_ok c.replace_with.result _ _ (sym c.is_err.ensures.value ∙ c.if-is_err.false) c.replace_with.ensures in
     let t = arc_value c.args.table in
     let shown = ok.2.0 ∙ c.new-next.ensures in
-    let is = c.table-2.ensures ∙ (ap (λ (s : Evidence). last_of (shown_in s.log)) (c.published-2.ensures ∙ shown) ∙ last_next old.log c.evidence.result.log t (c.evidence.ensures.1 ∙ c.in-Some.ensures.added.1)) in
-    let now = published old.log c.propose.new.self.log c.settle-2.new.self.log t _ c.self.invariant.0 c.self.invariant.4 (subst (λ (v : Listed). (last_of v.list).calls ≤ t.calls) (sym c.self.view_is) c.requires) c.in-Some.ensures.added.1 c.settle-2.ensures.log is in (
-      now.closed,
+    let is = c.deref-3.ensures ∙ (c.table-2.ensures ∙ (ap (λ (s : Evidence). last_of (shown_in s.log)) (c.published-2.ensures ∙ shown) ∙ last_next old.log c.evidence.result.log t (c.evidence.ensures.1 ∙ one))) in
+    let now = published old.log c.enter.new.self.log c.enter-2.new.self.log t _ c.self.invariant.4 (subst (λ (v : Listed). (last_of v.list).calls ≤ t.calls) (sym c.self.view_is) c.requires) one c.enter-2.ensures.log is in (
+      longer old.log c.enter.new.self.log c.enter-2.new.self.log _ _ c.self.inside.number c.self.invariant.0 one c.enter-2.ensures.log ∙ ap (λ n. 2 * n) (sym c.in_ok-number.ensures),
       c.calls-calls.ensures ∙ ap (λ (v : Version). v.calls) (c.deref.ensures ∙ sym now.last),
-      ap (λ (s : Evidence). s.book) shown ∙ (c.evidence.ensures.0 ∙ sym c.settle-2.ensures.book),
+      ap (λ (s : Evidence). s.home) shown ∙ (c.evidence.ensures.0 ∙ sym c.enter-2.ensures.home),
       ap (λ (s : Evidence). shown_in s.log) shown ∙ (ap shown_in c.evidence.ensures.1 ∙ now.same),
       now.history,
     )
 
 pub returns-clause-added : goal.returns-clause-added
 returns-clause-added g c =
+    let one = c.enter.ensures.log ∙ ap (λ (v : Version). c.self.inside.journal.log ++ proposed v ∷ []) c.deref-2.ensures in
     let old = c.self.inside.journal in
     let ok = was_ok c.replace_with.result _ _ (sym c.is_err.ensures.value ∙ c.if-is_err.false) c.replace_with.ensures in
     let t = arc_value c.args.table in
-    let is = c.table-2.ensures ∙ (ap (λ (s : Evidence). last_of (shown_in s.log)) (c.published-2.ensures ∙ (ok.2.0 ∙ c.new-next.ensures)) ∙ last_next old.log c.evidence.result.log t (c.evidence.ensures.1 ∙ c.in-Some.ensures.added.1)) in
-    let now = published old.log c.propose.new.self.log c.settle-2.new.self.log t _ c.self.invariant.0 c.self.invariant.4 (subst (λ (v : Listed). (last_of v.list).calls ≤ t.calls) (sym c.self.view_is) c.requires) c.in-Some.ensures.added.1 c.settle-2.ensures.log is in
+    let is = c.deref-3.ensures ∙ (c.table-2.ensures ∙ (ap (λ (s : Evidence). last_of (shown_in s.log)) (c.published-2.ensures ∙ (ok.2.0 ∙ c.new-next.ensures)) ∙ last_next old.log c.evidence.result.log t (c.evidence.ensures.1 ∙ one))) in
+    let now = published old.log c.enter.new.self.log c.enter-2.new.self.log t _ c.self.invariant.4 (subst (λ (v : Listed). (last_of v.list).calls ≤ t.calls) (sym c.self.view_is) c.requires) one c.enter-2.ensures.log is in
     now.list ∙ ap (λ (v : Listed). v.list ++ t ∷ []) c.self.view_is
 
 pub returns-clause-last : goal.returns-clause-last
 returns-clause-last g c =
+    let one = c.enter.ensures.log ∙ ap (λ (v : Version). c.self.inside.journal.log ++ proposed v ∷ []) c.deref-2.ensures in
     let old = c.self.inside.journal in
     let ok = was_ok c.replace_with.result _ _ (sym c.is_err.ensures.value ∙ c.if-is_err.false) c.replace_with.ensures in
     let t = arc_value c.args.table in
-    let is = c.table-2.ensures ∙ (ap (λ (s : Evidence). last_of (shown_in s.log)) (c.published-2.ensures ∙ (ok.2.0 ∙ c.new-next.ensures)) ∙ last_next old.log c.evidence.result.log t (c.evidence.ensures.1 ∙ c.in-Some.ensures.added.1)) in
-    (published old.log c.propose.new.self.log c.settle-2.new.self.log t _ c.self.invariant.0 c.self.invariant.4 (subst (λ (v : Listed). (last_of v.list).calls ≤ t.calls) (sym c.self.view_is) c.requires) c.in-Some.ensures.added.1 c.settle-2.ensures.log is).last
+    let is = c.deref-3.ensures ∙ (c.table-2.ensures ∙ (ap (λ (s : Evidence). last_of (shown_in s.log)) (c.published-2.ensures ∙ (ok.2.0 ∙ c.new-next.ensures)) ∙ last_next old.log c.evidence.result.log t (c.evidence.ensures.1 ∙ one))) in
+    (published old.log c.enter.new.self.log c.enter-2.new.self.log t _ c.self.invariant.4 (subst (λ (v : Listed). (last_of v.list).calls ≤ t.calls) (sym c.self.view_is) c.requires) one c.enter-2.ensures.log is).last
 
 pub returns-clause-history : goal.returns-clause-history
 returns-clause-history g c =
+    let one = c.enter.ensures.log ∙ ap (λ (v : Version). c.self.inside.journal.log ++ proposed v ∷ []) c.deref-2.ensures in
     let old = c.self.inside.journal in
     let ok = was_ok c.replace_with.result _ _ (sym c.is_err.ensures.value ∙ c.if-is_err.false) c.replace_with.ensures in
     let t = arc_value c.args.table in
-    let is = c.table-2.ensures ∙ (ap (λ (s : Evidence). last_of (shown_in s.log)) (c.published-2.ensures ∙ (ok.2.0 ∙ c.new-next.ensures)) ∙ last_next old.log c.evidence.result.log t (c.evidence.ensures.1 ∙ c.in-Some.ensures.added.1)) in
-    (published old.log c.propose.new.self.log c.settle-2.new.self.log t _ c.self.invariant.0 c.self.invariant.4 (subst (λ (v : Listed). (last_of v.list).calls ≤ t.calls) (sym c.self.view_is) c.requires) c.in-Some.ensures.added.1 c.settle-2.ensures.log is).history
+    let is = c.deref-3.ensures ∙ (c.table-2.ensures ∙ (ap (λ (s : Evidence). last_of (shown_in s.log)) (c.published-2.ensures ∙ (ok.2.0 ∙ c.new-next.ensures)) ∙ last_next old.log c.evidence.result.log t (c.evidence.ensures.1 ∙ one))) in
+    (published old.log c.enter.new.self.log c.enter-2.new.self.log t _ c.self.invariant.4 (subst (λ (v : Listed). (last_of v.list).calls ≤ t.calls) (sym c.self.view_is) c.requires) one c.enter-2.ensures.log is).history
