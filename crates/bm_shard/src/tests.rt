@@ -4,7 +4,7 @@ ghost use Rattle.bm_shard.specs.Standing.{StandsIn, next_part};
 
 use crate::Shard;
 use bm_base::{
-    BlockId, Chosen, Config, Delete, Done, Event, Gen, Items, Level, NodeId, Rack, Refusal,
+    BlockId, Chosen, Config, Delete, Done, Event, Gen, Items, Level, NodeId, Places, Rack, Refusal,
     Remaining, Replica, ReplicaId, RoundPart, Stamp, StorageId, Tag, Transfer,
 };
 use bm_topo::Topology;
@@ -137,6 +137,9 @@ fn look(rt: &impl Abort, shard: &Shard) {
     let places = shard.places(SEVEN).expect(rt, "memory");
     assert!(rt; places.as_slice() == [StorageId(11)].as_slice());
     assert!(rt; matches!(shard.places(BlockId(8)), Err(Refusal::UnknownBlock)));
+    let rows = shard.table_rows().expect(rt, "memory");
+    let row = (SEVEN, Places::first_of([StorageId(11)].as_slice()));
+    assert!(rt; rows.as_slice() == [row].as_slice());
     assert!(rt; shard.level(SEVEN) == Ok(Some(Level::Highest)));
 }
 
