@@ -6,14 +6,14 @@ use Rattle.std.specs.Map.{lookup}
 use Rattle.std.specs.Ordering.{eq_by_cmp}
 use Rattle.std.proofs.lemmas.Bool.{cases_eq}
 use Rattle.bm_base.specs.declared.level.Level.{Level}
-use Rattle.bm_base.specs.Map.{Map, by_number, empty, get, insert, remove}
+use Rattle.bm_base.specs.Map.{Map, by_number, get, insert, remove}
 use Rattle.bm_base.specs.State.{Cluster, by_replica}
 use Rattle.bm_base.specs.Replicas.{rack_of, is_draining, is_multi_rack}
 use Rattle.bm_base.specs.Levels.{level}
 use Rattle.bm_base.proofs.MapLaws.{get-empty, get-insert, get-remove}
 use Rattle.bm_base.proofs.Ties.{number_tie}
 use Rattle.bm_arena.specs.Triplets.{Block}
-use Rattle.bm_arena.specs.Contents.{Contents, block_at, slot_of, IsLawful}
+use Rattle.bm_arena.specs.Contents.{block_at, slot_of, IsLawful}
 use Rattle.bm_arena.specs.Holding.{info_at}
 use Rattle.bm_levels.specs.Kept.{Kept, level_of_slot}
 use Rattle.bm_levels.specs.Leveled.{Leveled, AreLevels, IsLeveled}
@@ -21,7 +21,7 @@ use Rattle.bm_levels.specs.Judged.{level_in}
 use Rattle.bm_levels.specs.Held.{holdings_with}
 use Rattle.bm_levels.proofs.Judgement.{level_unknown}
 use Rattle.bm_levels.proofs.Levels.{level_is_at_slot}
-use Rattle.bm_shard.specs.Inside.{with_level, levels_among, levels_of}
+use Rattle.bm_shard.specs.Inside.{levels_among, levels_of}
 
 set_out : (t : Bool) (o : Option Level) (z : Option Level) → option_map_or (λ i. cond t (Some i) z) o (cond t None z) ≡ cond t o z
 set_out true None z = refl

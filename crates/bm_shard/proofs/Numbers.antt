@@ -1,5 +1,5 @@
 -- The numbers that have an entry.
-use Rattle.std.proofs.Common.{◌≡◌, ℕ, Bool, true, false, cond, List, [], ◌∷◌, map, Option, Some, None, refl, inl, inr, sym, ap, ◌∙◌, subst}
+use Rattle.std.proofs.Common.{◌≡◌, ℕ, Bool, true, false, cond, List, [], ◌∷◌, map, Some, refl, inl, inr, sym, ◌∙◌}
 use Rattle.std.specs.Prelude.{nat_eq, IsSome, ◌==◌}
 use Rattle.std.specs.Map.{lookup}
 use Rattle.std.proofs.lemmas.Bool.{false≢true, eqb-true, eq-eqb}

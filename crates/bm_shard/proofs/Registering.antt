@@ -1,5 +1,5 @@
 -- A new node stands beside the replicas that are held.
-use Rattle.std.proofs.Common.{◌≡◌, ℕ, Bool, false, None, Some, List, is_some, sym, ap, subst, ◌∙◌}
+use Rattle.std.proofs.Common.{◌≡◌, ℕ, false, None, List, is_some, ap, ◌∙◌}
 use Rattle.std.specs.Prelude.{◌||◌, IsSome, option_map, option_and_then}
 use Rattle.std.specs.List.{list_any}
 use Rattle.std.proofs.lemmas.Bool.{or_parts}

@@ -1,5 +1,5 @@
 -- What holds of a shard beside the cluster in which it stands.
-use Rattle.std.specs.Prelude.{◌≡◌, ℕ, ◌+◌}
+use Rattle.std.specs.Prelude.{◌≡◌, ◌+◌}
 use Rattle.bm_base.specs.declared.round.RoundPart.{RoundPart}
 use Rattle.bm_base.specs.State.{Cluster}
 use Rattle.bm_base.specs.RoundParts.{round_part}

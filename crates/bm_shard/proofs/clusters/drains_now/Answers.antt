@@ -1,4 +1,4 @@
-use Rattle.std.proofs.Common.{◌≡◌, false, ap, ◌∙◌}
+use Rattle.std.proofs.Common.{false, ap, ◌∙◌}
 use Rattle.std.specs.Option.{unwrap_or}
 use Rattle.bm_shard.proofs.Transfers.{drains_known}
 use Rattle.bm_shard.proofs.clusters.drains_now.Goals as goal

@@ -1,4 +1,4 @@
-use Rattle.std.proofs.Common.{◌≡◌, ℕ, ◌+◌, ◌≤◌, arith, sym, subst, ◌∙◌}
+use Rattle.std.proofs.Common.{◌≡◌, ◌+◌, ◌≤◌, arith, sym, subst, ◌∙◌}
 use Rattle.bm_base.specs.Map.{len}
 use Rattle.bm_pending.specs.OnTheWay.{OnTheWay}
 use Rattle.bm_shard.proofs.Transfers.{AreGone, gone_at_first, gone_one, gone_other, gone_past, all_gone}

@@ -1,6 +1,5 @@
 use Rattle.std.proofs.Common.{◌≡◌, subst, sym}
 use Rattle.std.specs.Prelude.{IfOk}
-use Rattle.bm_base.specs.State.{Cluster}
 use Rattle.bm_base.specs.Queries.{missing_blocks}
 use Rattle.bm_arena.specs.Contents.{IsLawful}
 use Rattle.bm_shard.specs.Seen.{Seen}

@@ -1,8 +1,8 @@
-use Rattle.std.proofs.Common.{◌≡◌, ap, subst, sym}
+use Rattle.std.proofs.Common.{subst, sym}
 use Rattle.bm_arena.specs.Contents.{IsLawful}
 use Rattle.bm_levels.specs.Held.{holdings_with}
 use Rattle.bm_shard.specs.Seen.{Seen}
-use Rattle.bm_shard.specs.Standing.{StandsIn, next_part}
+use Rattle.bm_shard.specs.Standing.{StandsIn}
 use Rattle.bm_shard.proofs.Levels.{right_by_slot}
 use Rattle.bm_shard.proofs.shard.Shard.round_part.Goals as goal
 

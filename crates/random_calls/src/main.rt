@@ -1,0 +1,177 @@
+//! Makes the same calls, drawn by a seed, on a manager with one shard and one worker and on another one, whose numbers of shards
+//! and workers are drawn too, and compares each answer: `random_calls [CALLS [SEED]]`. The calls come in lists of 2,000, each on
+//! two new managers. Standard output has how many calls were answered alike.
+//!
+//! Ends with status 1 where two answers differ, where memory is refused, where an argument is no number, and where the run was
+//! too poor to show much: fewer than so many events of each kind accepted, rounds that command something, lists that are not
+//! empty, and refusals. (Fewer calls than a list has show little, and are not judged so.)
+#![tactic(auto)]
+
+mod alike;
+mod counts;
+mod dice;
+mod drawing;
+
+use alike::are_alike;
+use bm_base::{Answer, Call, Config, Refusal};
+use bm_crew::NoGate;
+use bm_manager::Manager;
+use counts::Counts;
+use dice::Dice;
+use std::alloc::Global;
+use std::env;
+use std::process::ExitCode;
+use std::rt::Runtime;
+use std::sync::Wait;
+use std::thread::Threads;
+
+/// How many calls are made on two managers before two new ones are.
+const LIST: u32 = 2000;
+
+const SEED: u64 = 20_260_123;
+
+fn main(rt: HostRuntime) -> ExitCode {
+    let Some((calls, seed)) = asked(&rt) else {
+        return ExitCode::FAILURE;
+    };
+    match compare(&rt, rt.alloc(), calls, seed) {
+        Ok(true) => {
+            let _ = println!(rt; "{calls} calls alike");
+            ExitCode::SUCCESS
+        }
+        Ok(false) => ExitCode::FAILURE,
+        Err(refusal) => {
+            let _ = eprintln!(rt; "refused: {refusal}");
+            ExitCode::FAILURE
+        }
+    }
+}
+
+/// How many calls are asked for, and by which seed. `None` where a word is no number.
+fn asked<R: Runtime + AllocGlobal>(rt: &R) -> Option<(u32, u64)> {
+    let mut words = env::args(rt).ok()?.skip(1);
+    let calls = match words.next() {
+        Some(word) => word.as_str().parse::<u32>().ok()?,
+        None => LIST,
+    };
+    let seed = match words.next() {
+        Some(word) => word.as_str().parse::<u64>().ok()?,
+        None => SEED,
+    };
+    Some((calls, seed))
+}
+
+/// Whether all calls were answered alike, and enough happened.
+fn compare<R: Eprint + Threads + Wait + Sync>(
+    rt: &R,
+    alloc: Global,
+    calls: u32,
+    seed: u64,
+) -> Result<bool, Refusal> {
+    let mut dice = Dice::new(seed);
+    let mut counts = Counts::new();
+    for list in 0..calls.div_ceil(LIST) {
+        let before = list.saturating_mul(LIST);
+        let count = calls.saturating_sub(before).min(LIST);
+        if !list_alike(rt, alloc, &mut dice, &mut counts, count)? {
+            return Ok(false);
+        }
+    }
+    counts.tell(rt);
+    Ok(calls < LIST || counts.are_enough())
+}
+
+/// Whether two new managers answer so many calls alike.
+fn list_alike<R: Eprint + Threads + Wait + Sync>(
+    rt: &R,
+    alloc: Global,
+    dice: &mut Dice,
+    counts: &mut Counts,
+    count: u32,
+) -> Result<bool, Refusal> {
+    let other = drawn(dice);
+    let one = Config {
+        shards: 1,
+        workers: 1,
+        ..other
+    };
+    let mut pair = Pair {
+        one: Manager::new(alloc, one)?,
+        other: Manager::new(alloc, other)?,
+        config: other,
+    };
+    for number in 0..count {
+        let call = drawing::call(dice, alloc)?;
+        if !pair.answer_alike(rt, counts, number, &call) {
+            return Ok(false);
+        }
+    }
+    Ok(true)
+}
+
+/// Two managers that differ in shards and workers.
+#[derive(Drop)]
+struct Pair {
+    one: Manager,
+    other: Manager,
+    /// That of the other.
+    config: Config,
+}
+
+impl Pair {
+    /// Whether both answer the call alike, and not by want of memory.
+    fn answer_alike<R: Eprint + Threads + Wait + Sync>(
+        &mut self,
+        rt: &R,
+        counts: &mut Counts,
+        number: u32,
+        call: &Call,
+    ) -> bool {
+        let answer = self.one.answer(rt, &NoGate, call);
+        let told = self.other.answer(rt, &NoGate, call);
+        let is_fine = are_alike(&answer, &told) && !wants_memory(&answer);
+        if is_fine {
+            counts.add(call, &answer);
+        } else {
+            tell_apart(rt, &self.config, number, call, &answer, &told);
+        }
+        is_fine
+    }
+}
+
+fn wants_memory(answer: &Answer) -> bool {
+    matches!(answer, Answer::Refused(Refusal::Memory))
+}
+
+/// Any numbers of shards and workers; rounds with few commands, and copies that are soon given up, so that the limits of both
+/// are met.
+fn drawn(dice: &mut Dice) -> Config {
+    let shards = 1 + dice.below(64);
+    let workers = 1 + dice.below(16);
+    let work = 1 + dice.below(3);
+    let invalidate = 1 + dice.below(5);
+    let pend = 1 + dice.below(5);
+    Config {
+        shards,
+        workers,
+        work,
+        invalidate,
+        pend,
+        ..Config::standard()
+    }
+}
+
+/// Says where two answers differ. A line that can't be printed is left out.
+fn tell_apart<R: Eprint>(
+    rt: &R,
+    config: &Config,
+    number: u32,
+    call: &Call,
+    answer: &Answer,
+    told: &Answer,
+) {
+    let _ = eprintln!(rt; "{config:?}");
+    let _ = eprintln!(rt; "call {number}: {call:?}");
+    let _ = eprintln!(rt; "one shard, one worker: {answer:?}");
+    let _ = eprintln!(rt; "so many: {told:?}");
+}
