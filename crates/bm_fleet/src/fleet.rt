@@ -40,6 +40,7 @@ impl Fleet {
     #[tactic(auto, unfolding(crate::specs::Whole::StandsIn, crate::specs::Whole::HasTaken))]
     pub fn new(alloc: Global, config: &Config) -> Result<Fleet, Refusal>
         requires { config_refusal config.now ≡ None }
+        ensures count { IfOk result (λ f. length f.shards ≡ config.now.shards) }
         ensures empty { IfOk result (λ f. f.holdings ≡ empty_holdings) }
         ensures standing { IfOk result (λ f. (C : Cluster) → StandsIn C f) }
         ensures rounds { IfOk result (HasTaken config.now.first_round config.now.pend) }

@@ -20,7 +20,7 @@ impl Manager {
     /// threads; no reader waits for it. The cost grows with the known blocks and their replicas.
     ///
     /// # Errors
-    /// `Memory`, also where the count of an `Arc` is full. Then no list of versions changes, and no reader ever sees this version.
+    /// `Memory`, also where the count of an `Arc` is full. Then the publisher's list of versions stays.
     pub fn publish<R: Threads + Wait + Sync>(
         &mut self,
         rt: &R,

@@ -34,7 +34,7 @@ impl Shard {
         )
     }
 
-    /// Takes the memory that [`Shard::round_commit`] needs. Nothing else that is seen changes. `Memory`.
+    /// Takes the memory that [`Shard::round_commit`] needs. Where the shard stands in some cluster, nothing else that is seen changes. `Memory`.
     pub fn round_ready(
         &mut self,
         part: &RoundPart,
@@ -102,7 +102,7 @@ impl Shard {
         self.round = round;
     }
 
-    /// Gives up what was made ready for a round. Nothing that is seen changes but room. Takes no memory.
+    /// Gives up what was made ready for a round. Where the shard stands in some cluster, nothing that is seen changes but room. Takes no memory.
     pub fn round_abort(&mut self)
         ensures same { IsSameButRoom self.old self.new }
         ensures entries { self.new.room.entries ≡ self.old.room.entries }

@@ -22,7 +22,7 @@ use std::marker::Model;
 pub struct Located {
     /// The calls of the version that this was read from.
     pub calls: u64,
-    /// Where that version has the block; no places where it has no row of it.
+    /// Where that version has the block, at most `MAX_PLACES` storages; none where it has no row of it.
     pub places: Places,
 }
 
@@ -159,7 +159,7 @@ impl Locator {
 
     /// Where the block is in the version that is shown. A block without a row there has no places.
     ///
-    /// It is `None` where the publisher has ended, and then the list stays. (It would be `None` too if what is shown were of
+    /// It is `None` where the publisher has ended, which is tested and no clause says, and then the list stays. (It would be `None` too if what is shown were of
     /// an earlier proposal than the last version of a receipt that was learnt. That does not happen, since a receipt is made
     /// after its version is shown. But the contracts of `left_right` do not say of which table a reader is once it has
     /// entered, so no proof ties what it finds to what was entered into the journal by then.)

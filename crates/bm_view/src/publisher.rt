@@ -90,8 +90,7 @@ impl Publisher {
     /// what was shown before that one.
     ///
     /// # Errors
-    /// `Memory`, also where the count of the `Arc` is full. Then no list changes, no locator ever reads the table, and it
-    /// is not handed back.
+    /// `Memory`, also where the count of the `Arc` is full. Then the list stays, and the table is not handed back.
     pub fn publish<R: Wait>(&mut self, rt: &R, table: Arc<Table>) -> Result<Receipt, Refusal>
         requires { (last_of self.old.list).calls ≤ (arc_value table).calls }
         ensures home { self.new.home ≡ self.old.home }
@@ -119,7 +118,7 @@ impl Publisher {
         Ok(Receipt::new(self.journal.evidence(), receipt, calls))
     }
 
-    /// Ends it. From now on its locators answer `None`. It waits for those that are reading, takes no memory and refuses
+    /// Ends it. From now on its locators answer `None`, which is tested and no clause says. It waits for those that are reading, takes no memory and refuses
     /// nothing.
     pub fn end<R: Wait>(self, rt: &R) {
         let Publisher {

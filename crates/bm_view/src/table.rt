@@ -25,8 +25,8 @@ impl Model for Table {
 }
 
 impl Table {
-    /// The version after so many accepted calls, any u64, with one row for each block that has places. The rows stand by
-    /// rising block number. Takes no memory.
+    /// The version after so many accepted calls, any u64, with these rows, which stand by rising block number. A row without
+    /// places says as much of a block as no row. Takes no memory.
     pub fn new(calls: u64, rows: Vec<(BlockId, Places)>) -> Table
         requires { RisesById rows.items }
         ensures { result ≡ record { calls = calls; rows = rows.items } }
