@@ -50,6 +50,6 @@ fn tell_run(rt: &impl Runtime, run: Run, sheet: Sheet) {
         ..
     } = run;
     let time = sheet.timer.name();
-    let _ = println!(rt; "manager of {shards} shards, {workers} workers: {blocks} blocks");
-    let _ = eprintln!(rt; "manager of {shards} shards, {workers} workers, {time}");
+    let _ = println!(rt; "manager: {blocks} blocks, shards {shards}, workers {workers}");
+    let _ = eprintln!(rt; "manager: {blocks} blocks, shards {shards}, workers {workers}; {time}");
 }
