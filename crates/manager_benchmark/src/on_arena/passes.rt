@@ -1,21 +1,14 @@
 // The phases of the reports, with the processor time of each.
 ghost use Rattle.std.specs.Prelude.{◌≡◌};
-ghost use Rattle.arena_benchmark.specs.Orderly.{IsOrderly};
+ghost use Rattle.manager_benchmark.specs.Orderly.{IsOrderly};
 
-use crate::figures::print_rate;
-use crate::reporting::{Counts, NOTHING, Shard};
+use super::reporting::{Counts, NOTHING, Shard};
+use crate::figures::{Timer, median, print_rate};
+use crate::repeats::passes_over;
 use crate::workload::{order_of_storages, rising_reports, shuffle_each};
 use bm_base::{Entry, Refusal, StorageId};
-use std::rt::Runtime;
+use std::rt::{Clock, Runtime};
 use std::time::CpuClock;
-
-// Each phase is passed through so many times where there are few blocks, and so many where there are many; the first pass is not
-// measured.
-const PASSES: u64 = 9;
-
-const PASSES_OF_MANY: u64 = 4;
-
-const MANY: u64 = 500_000;
 
 // A phase: its name, the order of the storages, and the reports of its passes, of which two take turns.
 #[derive(Clone, Copy)]
@@ -26,16 +19,8 @@ struct Phase<'a> {
     odd: &'a [Vec<Entry>],
 }
 
-// The processor time of the thread in nanoseconds, or 0 where the system does not tell.
-fn used(rt: &impl CpuClock) -> u128 {
-    match rt.thread_cpu_time() {
-        Ok(time) => time.as_nanos(),
-        Err(_) => 0,
-    }
-}
-
 // One pass: what it did, and how long it took.
-fn pass<R: CpuClock>(
+fn pass<R: Clock + CpuClock>(
     rt: &R,
     shard: &mut Shard,
     order: &[StorageId],
@@ -44,24 +29,9 @@ fn pass<R: CpuClock>(
     requires { IsOrderly shard.old.topology.cluster shard.old.arena }
     ensures { IsOrderly shard.new.topology.cluster shard.new.arena }
 {
-    let start = used(rt);
+    let start = Timer::Processor.now(rt);
     let counts = shard.take_all(order, reports)?;
-    Ok((counts, used(rt).saturating_sub(start)))
-}
-
-// The one in the middle of some times.
-fn median(mut times: Vec<u128>) -> Result<u128, Refusal> {
-    times.sort()?;
-    let middle = times.len() / 2;
-    Ok(times.get(middle).copied().unwrap_or(0))
-}
-
-fn passes_over(blocks: u64) -> u64 {
-    if blocks < MANY {
-        PASSES
-    } else {
-        PASSES_OF_MANY
-    }
+    Ok((counts, Timer::Processor.since(rt, start)))
 }
 
 // All passes of a phase, and the median of the times of all but the first.

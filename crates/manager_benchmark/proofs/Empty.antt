@@ -10,7 +10,7 @@ use Rattle.bm_arena.specs.Contents.{Contents}
 use Rattle.bm_arena.specs.Holding.{replicas_of}
 use Rattle.bm_report.specs.Midway.{IsOncePerNode}
 use Rattle.bm_report.specs.Ready.{HasGoodExcess}
-use Rattle.arena_benchmark.specs.Orderly.{IsOrderly}
+use Rattle.manager_benchmark.specs.Orderly.{IsOrderly}
 
 once-empty : (C : Cluster) → IsOncePerNode C empty
 once-empty C p q some some_too same = absurd (false≢true (sym (ap is_some (get-empty by_replica p)) ∙ some))

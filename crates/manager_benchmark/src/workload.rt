@@ -1,17 +1,24 @@
-// Which storages hold a block, and in which order reports name their blocks: by formulas, so that the same can be measured elsewhere.
+// Which storages hold a block, in which order reports name their blocks, and which blocks are drawn: by formulas, so that the same
+// can be measured elsewhere.
 ghost use Rattle.std.specs.Prelude.{◌<◌, ◌≤◌, length};
 
-use bm_base::{BlockId, Entry, Gen, Refusal, Stamp, StorageId};
+use bm_base::{
+    BlockId, Entry, Event, Gen, Items, NodeId, Rack, Refusal, Remaining, ReplicaId, Stamp,
+    StorageId,
+};
 use std::alloc::Global;
 
 pub const NODES: u32 = 256;
 
 pub const STORAGES: u32 = 1024;
 
-/// How many nodes stand in one of the 16 racks.
-pub const NODES_IN_RACK: u32 = 16;
+// How many nodes stand in one of the 16 racks.
+const NODES_IN_RACK: u32 = 16;
 
 const STORAGES_OF_NODE: u64 = 4;
+
+// The same of the node: the numbers 0 to 3.
+const PLACES_OF_NODE: u32 = 4;
 
 const FIRST_BLOCK: u64 = 1 << 30;
 
@@ -102,4 +109,76 @@ pub fn shuffle_each(reports: &mut [Vec<Entry>]) {
         seed = seed.wrapping_add(1);
         shuffle(report.as_mut_slice(), seed);
     }
+}
+
+/// The storage of a node with this place, 0 to 3.
+pub fn storage_at(node: u32, place: u32) -> StorageId {
+    StorageId(node.wrapping_mul(PLACES_OF_NODE).wrapping_add(place))
+}
+
+/// A node comes with its four storages.
+pub fn register(alloc: Global, node: u32) -> Result<Event, Refusal> {
+    let mut storages = Vec::new(alloc);
+    for place in 0..PLACES_OF_NODE {
+        storages.push(storage_at(node, place))?;
+    }
+    Ok(Event::Register {
+        node: NodeId(node),
+        rack: Rack(node / NODES_IN_RACK),
+        storages: Items::from_vec(storages),
+    })
+}
+
+/// A node tells what is free on its four storages.
+pub fn heartbeat(alloc: Global, node: u32, free: [u64; 4]) -> Result<Event, Refusal> {
+    let mut told = Vec::with_capacity(alloc, free.len())?;
+    let mut place = 0u32;
+    for remaining in free {
+        told.push(Remaining {
+            storage: storage_at(node, place),
+            remaining,
+        })?;
+        place = place.wrapping_add(1);
+    }
+    Ok(Event::Heartbeat {
+        node: NodeId(node),
+        remaining: Items::from_vec(told),
+    })
+}
+
+/// Bytes that are free on a storage: 4 TiB and some more, which its number draws.
+pub fn drawn_free(storage: StorageId) -> u64 {
+    let drawn = mixed((u64::from(storage.0) << 32) | 1);
+    (1u64 << 42).wrapping_add(drawn >> 24)
+}
+
+/// So many different replicas: of blocks at equal distances one replica each, in an order that is drawn.
+pub fn drawn_replicas(alloc: Global, blocks: u64, count: u64) -> Result<Vec<ReplicaId>, Refusal> {
+    let distance = blocks.checked_div(count).unwrap_or(0);
+    let mut drawn = Vec::new(alloc);
+    for k in 0..count {
+        let i = k.wrapping_mul(distance);
+        let [first, second, third] = storages_of(i);
+        let storage = match mixed(k.wrapping_add(77)) % 3 {
+            0 => first,
+            1 => second,
+            _ => third,
+        };
+        drawn.push(ReplicaId {
+            block: block_number(i),
+            storage,
+        })?;
+    }
+    shuffle(drawn.as_mut_slice(), 4242);
+    Ok(drawn)
+}
+
+/// A block that is drawn as the `k`th; of no blocks the first.
+pub fn drawn_block(k: u64, blocks: u64) -> BlockId {
+    block_number(mixed(k).checked_rem(blocks).unwrap_or(0))
+}
+
+/// A node that is drawn as the `k`th.
+pub fn drawn_node(k: u64) -> u32 {
+    (mixed(k) % u64::from(NODES)) as u32
 }

@@ -2,11 +2,11 @@
 ghost use Rattle.std.specs.Prelude.{◌≡◌, OnOk, IfOk};
 ghost use Rattle.bm_base.specs.Map.{empty};
 ghost use Rattle.bm_arena.specs.Holding.{replicas_of};
-ghost use Rattle.arena_benchmark.specs.Orderly.{IsOrderly};
+ghost use Rattle.manager_benchmark.specs.Orderly.{IsOrderly};
 
-use crate::workload::{NODES, NODES_IN_RACK, STAMP, block_number};
+use crate::workload::{NODES, STAMP, block_number, register};
 use bm_arena::Arena;
-use bm_base::{BlockId, BlockInfo, Entry, Event, Items, NodeId, Part, Rack, Refusal, StorageId};
+use bm_base::{BlockId, BlockInfo, Entry, Event, Part, Refusal, StorageId};
 use bm_report::{Applied, Report};
 use bm_topo::Topology;
 use std::alloc::Global;
@@ -59,24 +59,15 @@ impl Counts {
 fn cluster(alloc: Global) -> Result<Topology, Refusal> {
     let mut topology = Topology::new(alloc)?;
     for node in 0..NODES {
-        register(&mut topology, alloc, node)?;
+        come(&mut topology, &register(alloc, node)?)?;
     }
     Ok(topology)
 }
 
-fn register(topology: &mut Topology, alloc: Global, node: u32) -> Result<(), Refusal> {
-    let mut storages = Vec::new(alloc);
-    for k in 0..4u32 {
-        storages.push(StorageId(node.wrapping_mul(4).wrapping_add(k)))?;
-    }
-    let event = Event::Register {
-        node: NodeId(node),
-        rack: Rack(node / NODES_IN_RACK),
-        storages: Items::from_vec(storages),
-    };
-    topology.check(&event)?;
-    topology.prepare(&event)?;
-    topology.commit(&event);
+fn come(topology: &mut Topology, event: &Event) -> Result<(), Refusal> {
+    topology.check(event)?;
+    topology.prepare(event)?;
+    topology.commit(event);
     Ok(())
 }
 

@@ -1,5 +1,0 @@
-use Rattle.arena_benchmark.proofs.Empty.{orderly-empty}
-use Rattle.arena_benchmark.proofs.reporting.Shard.new.Goals as goal
-
-pub returns : goal.returns
-returns c = orderly-empty _ _ c.in_ok-known_blocks.ensures

@@ -1,0 +1,85 @@
+// The runs that the words of a command line ask for.
+
+use bm_base::Refusal;
+use std::alloc::Global;
+
+/// What is measured.
+#[derive(Clone, Copy)]
+pub enum Subject {
+    /// The arena alone.
+    Arena,
+    /// A manager.
+    Manager,
+    /// How much memory a manager takes.
+    Memory,
+}
+
+/// One run.
+#[derive(Clone, Copy)]
+pub struct Run {
+    pub subject: Subject,
+    pub blocks: u64,
+    pub shards: u32,
+    pub workers: u32,
+    // How many of the three numbers were said.
+    said: u32,
+}
+
+impl Run {
+    fn new(subject: Subject) -> Run {
+        Run {
+            subject,
+            blocks: 0,
+            shards: 1,
+            workers: 1,
+            said: 0,
+        }
+    }
+
+    // The next of its numbers. None where it is out of its range, or one too many.
+    fn say(&mut self, number: u64) -> Option<()> {
+        match self.said {
+            0 => self.blocks = number,
+            1 => self.shards = u32::try_from(number).ok()?,
+            2 => self.workers = u32::try_from(number).ok()?,
+            _ => return None,
+        }
+        self.said = self.said.wrapping_add(1);
+        Some(())
+    }
+}
+
+fn subject_of(word: &str) -> Option<Subject> {
+    match word {
+        "arena" => Some(Subject::Arena),
+        "manager" => Some(Subject::Manager),
+        "memory" => Some(Subject::Memory),
+        _ => None,
+    }
+}
+
+// A number of the last run.
+fn say_last(runs: &mut Vec<Run>, word: &str) -> Option<()> {
+    let number = word.parse::<u64>().ok()?;
+    runs.last_mut()?.say(number)
+}
+
+/// The runs, in their order: each a subject, the number of blocks, and then, where they are not one, the number of shards and that
+/// of workers. None where the words are anything else. `Memory`.
+pub fn runs_of(alloc: Global, words: &[String]) -> Result<Option<Vec<Run>>, Refusal> {
+    let mut runs = Vec::new(alloc);
+    for word in words {
+        match subject_of(word.as_str()) {
+            Some(subject) => runs.push(Run::new(subject))?,
+            None => {
+                if say_last(&mut runs, word.as_str()).is_none() {
+                    return Ok(None);
+                }
+            }
+        }
+    }
+    if runs.is_empty() || runs.iter().any(|run| run.said == 0) {
+        return Ok(None);
+    }
+    Ok(Some(runs))
+}

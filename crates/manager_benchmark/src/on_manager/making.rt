@@ -1,0 +1,67 @@
+// A manager of the workload's cluster, and its blocks.
+
+use crate::asked::Run;
+use crate::figures::Sheet;
+use crate::workload::{NODES, STAMP, block_number, register};
+use bm_base::{Config, Done, Event, Refusal};
+use bm_crew::NoGate;
+use bm_manager::Manager;
+use std::alloc::Global;
+use std::rt::Runtime;
+use std::sync::Wait;
+use std::thread::Threads;
+use std::time::CpuClock;
+
+/// Counts what a call did too.
+pub fn count(sum: &mut Done, done: Done) {
+    sum.added = sum.added.saturating_add(done.added);
+    sum.removed = sum.removed.saturating_add(done.removed);
+}
+
+/// With all nodes, and no block.
+pub fn new_manager<R: Threads + Wait + Sync>(
+    rt: &R,
+    alloc: Global,
+    run: Run,
+) -> Result<Manager, Refusal> {
+    let config = Config {
+        shards: run.shards,
+        workers: run.workers,
+        ..Config::standard()
+    };
+    let mut manager = Manager::new(alloc, config)?;
+    for node in 0..NODES {
+        let event = register(alloc, node)?;
+        manager.apply(rt, &NoGate, &event)?;
+    }
+    Ok(manager)
+}
+
+/// The block `i` is known, and has no replica.
+pub fn add_block<R: Threads + Wait + Sync>(
+    rt: &R,
+    manager: &mut Manager,
+    i: u64,
+) -> Result<(), Refusal> {
+    let event = Event::AddBlock {
+        id: block_number(i),
+        stamp: STAMP,
+        repl: 3,
+    };
+    manager.apply(rt, &NoGate, &event)?;
+    Ok(())
+}
+
+/// All blocks are known.
+pub fn add_all<R: Runtime + CpuClock + Threads + Wait + Sync>(
+    rt: &R,
+    manager: &mut Manager,
+    sheet: Sheet,
+) -> Result<(), Refusal> {
+    let start = sheet.timer.now(rt);
+    for i in 0..sheet.blocks {
+        add_block(rt, manager, i)?;
+    }
+    sheet.put_rate(rt, "add_per_s", sheet.blocks, sheet.timer.since(rt, start));
+    Ok(())
+}

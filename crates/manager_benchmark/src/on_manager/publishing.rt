@@ -1,0 +1,80 @@
+// Versions that a manager publishes.
+
+use crate::figures::{Sheet, median};
+use crate::repeats::versions_over;
+use bm_base::Refusal;
+use bm_manager::Manager;
+use bm_view::Publisher;
+use std::alloc::Global;
+use std::rt::Runtime;
+use std::sync::Wait;
+use std::sync::atomic::{AtomicBool, Ordering};
+use std::thread::Threads;
+use std::time::CpuClock;
+
+/// Publishes once. A publisher that has shown more calls is another manager's: nothing is published.
+pub fn publish<R: Threads + Wait + Sync>(
+    rt: &R,
+    manager: &mut Manager,
+    publisher: &mut Publisher,
+) -> Result<(), Refusal> {
+    if publisher.calls() <= manager.calls() {
+        manager.publish(rt, publisher)?;
+    }
+    Ok(())
+}
+
+/// Publishes so many times.
+pub fn publish_times<R: Threads + Wait + Sync>(
+    rt: &R,
+    manager: &mut Manager,
+    publisher: &mut Publisher,
+    times: u64,
+) -> Result<(), Refusal> {
+    for _ in 0..times {
+        publish(rt, manager, publisher)?;
+    }
+    Ok(())
+}
+
+/// Publishes on until it is told to end.
+pub fn publish_until<R: Threads + Wait + Sync>(
+    rt: &R,
+    manager: &mut Manager,
+    publisher: &mut Publisher,
+    is_over: &AtomicBool,
+) -> Result<(), Refusal> {
+    for _ in 0..u64::MAX {
+        if is_over.load(Ordering::SeqCst) {
+            break;
+        }
+        publish(rt, manager, publisher)?;
+    }
+    Ok(())
+}
+
+/// Measures versions published while nobody reads.
+pub fn measure<R: Runtime + CpuClock + Threads + Wait + Sync>(
+    rt: &R,
+    alloc: Global,
+    manager: &mut Manager,
+    publisher: &mut Publisher,
+    sheet: Sheet,
+) -> Result<(), Refusal> {
+    let mut times = Vec::new(alloc);
+    for number in 0..versions_over(sheet.blocks) {
+        let start = sheet.timer.now(rt);
+        publish(rt, manager, publisher)?;
+        if number > 0 {
+            times.push(sheet.timer.since(rt, start))?;
+        }
+    }
+    let nanos = median(times)?;
+    if let Some(rate) = 1_000_000_000_000u128.checked_div(nanos) {
+        sheet.put_thousandths(rt, "publish_versions_per_s", rate);
+    }
+    if let Some(each) = nanos.checked_div(u128::from(sheet.blocks)) {
+        sheet.put(rt, "publish_ns_per_block", each);
+    }
+    Ok(())
+}
