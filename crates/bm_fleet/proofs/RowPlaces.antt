@@ -5,8 +5,10 @@ use Rattle.std.specs.declared.cmp.Ordering.TheVariants.{Less, Equal, Greater}
 use Rattle.std.specs.FinMap.{put, is_sorted}
 use Rattle.std.specs.FinMap.Entries.{by_order, below_all}
 use Rattle.std.specs.Ordering.{is_lt}
-use Rattle.std.proofs.Common.{refl, sym, ap, subst, ◌∙◌, ◌&&◌, zero, suc, arith, append-nil, append_assoc}
+use Rattle.std.proofs.Common.{refl, sym, ap, subst, ◌∙◌, ◌&&◌, arith, append-nil, append_assoc, length-append}
 use Rattle.std.proofs.lemmas.List.{map-append}
+use Rattle.std.proofs.lemmas.Simd.{map-map}
+use Rattle.std.proofs.Math.Seq.{get_or-append_seam}
 use Rattle.bm_base.specs.Ordered.{pair_cmp}
 use Rattle.bm_base.specs.Versions.{Row, table}
 use Rattle.bm_base.specs.Map.{by_number}
@@ -64,29 +66,23 @@ flat_items items (l ∷ ls) = ap (λ zs. items l ++ zs) (flat_items items ls)
 
 -- The row at each place.
 
-at_length : {X : Type 0} (xs : List X) (x d : X) (rest : List X) (n : ℕ) → n ≡ length xs → slice_index_or (xs ++ x ∷ rest) n d ≡ x
-at_length [] x d rest zero e = refl
-at_length [] x d rest (suc n) e = absurd (omega (arith, e))
-at_length (y ∷ ys) x d rest zero e = absurd (omega (arith, e))
-at_length (y ∷ ys) x d rest (suc n) e = at_length ys x d rest n (omega (arith, e))
-
-long_push : {X : Type 0} (xs : List X) (x : X) → length (xs ++ x ∷ []) ≡ length xs + 1
-long_push [] x = refl
-long_push (y ∷ ys) x = let rest = long_push ys x in omega (arith, rest)
+-- the element behind these
+behind : {X : Type 0} (xs : List X) (x d : X) (rest : List X) (n : ℕ) → n ≡ length xs → slice_index_or (xs ++ x ∷ rest) n d ≡ x
+behind xs x d rest n e = ap (λ k. slice_index_or (xs ++ x ∷ rest) k d) e ∙ get_or-append_seam xs x rest d
 
 module _ (tables : List (List Row)) where
   rows_from : (list place : ℕ) (t done rs : List Row) → slice_index_or tables list [] ≡ t → t ≡ done ++ rs → place ≡ length done → map (on (row_at tables)) (places_from list place rs) ≡ keyed_rows rs
   rows_from list place t done [] there is long = refl
   rows_from list place t done (r ∷ rs) there is long =
-      let here : row_at tables (list, place) ≡ r = ap (λ l. slice_index_or l place (0, [])) (there ∙ is) ∙ at_length done r (0, []) rs place long in
-      let next = long_push done r in
+      let here : row_at tables (list, place) ≡ r = ap (λ l. slice_index_or l place (0, [])) (there ∙ is) ∙ behind done r (0, []) rs place long in
+      let next = length-append done (r ∷ []) in
       λ i. (pair_of_number r.0, here i) ∷ rows_from list (place + 1) t (done ++ r ∷ []) rs there (is ∙ sym (append_assoc done (r ∷ []) rs)) (omega (arith, long, next)) i
 
   all_from : (list : ℕ) (before ts : List (List Row)) → tables ≡ before ++ ts → list ≡ length before → map (map (on (row_at tables))) (places_of_all list ts) ≡ map keyed_rows ts
   all_from list before [] is long = refl
   all_from list before (t ∷ ts) is long =
-      let there : slice_index_or tables list [] ≡ t = ap (λ l. slice_index_or l list []) is ∙ at_length before t [] ts list long in
-      let next = long_push before t in
+      let there : slice_index_or tables list [] ≡ t = ap (λ l. slice_index_or l list []) is ∙ behind before t [] ts list long in
+      let next = length-append before (t ∷ []) in
       λ i. rows_from list 0 t [] t there refl refl i ∷ all_from (list + 1) (before ++ t ∷ []) ts (is ∙ sym (append_assoc before (t ∷ []) ts)) (omega (arith, long, next)) i
 
   pub all_rows : map (map (on (row_at tables))) (places_of_all 0 tables) ≡ map keyed_rows tables
@@ -117,12 +113,8 @@ only_rows ts t is h =
 
 -- The rows of shards.
 
-mapped : {X Y Z : Type 0} (f : Y → Z) (g : X → Y) (xs : List X) → map f (map g xs) ≡ map (λ x. f (g x)) xs
-mapped f g [] = refl
-mapped f g (x ∷ xs) = ap (λ zs. f (g x) ∷ zs) (mapped f g xs)
-
 keyed_tables : (ss : List (ℕ × Seen)) (ts : List (List Row)) → ts ≡ map (λ (s : ℕ × Seen). rows_of s.1) ss → map keyed_rows ts ≡ map (λ (s : ℕ × Seen). keyed_rows (rows_of s.1)) ss
-keyed_tables ss ts is = ap (map keyed_rows) is ∙ mapped keyed_rows (λ (s : ℕ × Seen). rows_of s.1) ss
+keyed_tables ss ts is = ap (map keyed_rows) is ∙ map-map keyed_rows (λ (s : ℕ × Seen). rows_of s.1) ss
 
 pub tables_sorted : (ss : List (ℕ × Seen)) (ts : List (List Row)) → ts ≡ map (λ (s : ℕ × Seen). rows_of s.1) ss → AreSorted (map keyed_rows ts)
 tables_sorted ss ts is = sorted_lists by_number pair_of_number numbers_alike (λ (r : Row). r.0) table tables_join ss (map keyed_rows ts) (keyed_tables ss ts is)
