@@ -101,3 +101,10 @@ class ThreadWatch(Watch):
 
     def __init__(self):
         super().__init__("thread_watch", "THREAD_LOG")
+
+
+class StreamWatch(Watch):
+    """With stream_watch.c before the reads and writes of the standard streams."""
+
+    def __init__(self):
+        super().__init__("stream_watch", "STREAM_LOG")

@@ -3,7 +3,9 @@
 //
 // The program tells it where it is by lines on standard error:
 //     begun NAME     from here on every allocation is refused
-//     ended NAME     no longer; the log gets `window NAME` and how many allocations were tried since
+//     refuse K NAME  from here on the K-th allocation is refused, and that one alone
+//     ended NAME     no longer; the log gets `window NAME` or, after `refuse`, `turn NAME`, and how many allocations were tried since;
+//                    with threads the K-th may be that of any of them
 //     mark NAME      the log gets `mark NAME` and how many bytes are held
 // With REFUSE_AT=k the k-th allocation is refused, and that one alone; the log gets `refused k`. With PEAK=1 the log gets
 // `peak` at the end, and how many bytes were held at most; the end is `exit` or, in a program that may start threads, `_exit`.
@@ -26,9 +28,12 @@ extern void *__libc_realloc(void *, size_t);
 extern void *__libc_memalign(size_t, size_t);
 extern void __libc_free(void *);
 
+enum window { NONE, REFUSES_ALL, REFUSES_ONE };
+
 static atomic_int is_watching;
-static atomic_int is_in_window;
+static atomic_int window;
 static atomic_long tried_in_window;
+static atomic_long refused_in_window;
 static atomic_long held;
 static atomic_long peak;
 static atomic_long made;
@@ -66,9 +71,10 @@ void _Exit(int status) {
 
 static int is_refused(void) {
     if (!atomic_load(&is_watching)) return 0;
-    if (atomic_load(&is_in_window)) {
-        atomic_fetch_add(&tried_in_window, 1);
-        return 1;
+    int kind = atomic_load(&window);
+    if (kind != NONE) {
+        long tried = atomic_fetch_add(&tried_in_window, 1) + 1;
+        return kind == REFUSES_ALL || tried == atomic_load(&refused_in_window);
     }
     long number = atomic_fetch_add(&made, 1) + 1;
     if (number != refuse_at) return 0;
@@ -131,10 +137,14 @@ void free(void *block) {
 static void take_line(const char *line) {
     if (!strncmp(line, "begun ", 6)) {
         atomic_store(&tried_in_window, 0);
-        atomic_store(&is_in_window, 1);
+        atomic_store(&window, REFUSES_ALL);
+    } else if (!strncmp(line, "refuse ", 7)) {
+        atomic_store(&tried_in_window, 0);
+        atomic_store(&refused_in_window, atol(line + 7));
+        atomic_store(&window, REFUSES_ONE);
     } else if (!strncmp(line, "ended ", 6)) {
-        atomic_store(&is_in_window, 0);
-        tell("window", line + 6, atomic_load(&tried_in_window));
+        int kind = atomic_exchange(&window, NONE);
+        tell(kind == REFUSES_ONE ? "turn" : "window", line + 6, atomic_load(&tried_in_window));
     } else if (!strncmp(line, "mark ", 5)) {
         tell("mark", line + 5, atomic_load(&held));
     }

@@ -6,6 +6,7 @@ ghost use Rattle.bm_arena.specs.Contents.{block_at, empty_block, count_up, IsLaw
 ghost use Rattle.bm_arena.specs.Holding.{replicas_of, blocks_of};
 
 use crate::types::Entry;
+use crate::usual_slots::UsualSlots;
 use bm_base::{Refusal, SlotLink};
 use indexmap::IndexMap;
 use slab::Slab;
@@ -22,7 +23,8 @@ pub type Slot = usize;
 /// of the delimiter, the number of steps and a bound of the slots. Only `new`, `reserve_heads`, `reserve_triplet` and `add_entry` take memory; every
 /// other call takes none and succeeds under its conditions. A refused call leaves what is seen as it was, but that a refused
 /// `reserve_heads` may leave heads with empty lists. A list operation takes a constant number of steps beside a look along the few
-/// replicas of the blocks that it touches. A look-up, a list operation and `add_entry` hash a number once at most.
+/// replicas of the blocks that it touches. A look-up, a list operation and `add_entry` hash a number once at most, and a look-up of a
+/// number whose slot is as usual not at all.
 #[derive(Drop)]
 pub struct Arena {
     pub(crate) slots: Slab<Entry>,
@@ -36,6 +38,8 @@ pub struct Arena {
     // One above the greatest slot that was ever held.
     pub(crate) bound: usize,
     pub(crate) alloc: Global,
+    // Where the slots of most block numbers are.
+    pub(crate) usual: UsualSlots,
 }
 
 impl Model for Arena {
@@ -94,6 +98,7 @@ impl Arena {
             steps: 0,
             bound: delimiter + 1,
             alloc,
+            usual: UsualSlots::new(),
         })
     }
 

@@ -27,6 +27,10 @@ impl Arena {
         ensures unchanged { OnErr result (self.new ≡ self.old) }
         ensures lawful { IsLawful self.new }
     {
+        self.lawful();
+        if let Some(slot) = self.find_usual(id) {
+            return Ok(slot);
+        }
         let (slot, is_new) = numbers::slot_for(&mut self.ids, &mut self.slots, id.0)?;
         if is_new {
             self.slots.insert_reserved(Entry {
@@ -35,6 +39,7 @@ impl Arena {
                 triplets: SmallVec::new(self.alloc),
             });
             self.bound = self.bound.max(slot + 1);
+            self.usual.add(id.0, slot);
         }
         Ok(slot)
     }
@@ -52,6 +57,7 @@ impl Arena {
     {
         if let Some(id) = links::remove_entry(&mut self.slots, slot) {
             self.ids.swap_remove(&id);
+            self.usual.drop(id, slot);
         }
     }
 

@@ -14,6 +14,7 @@ mod storage_lists;
 #[cfg(test)]
 mod tests;
 mod types;
+mod usual_slots;
 mod walk;
 
 pub use arena::{Arena, Slot};

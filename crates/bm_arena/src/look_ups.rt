@@ -1,5 +1,5 @@
 // What can be asked of an arena. No question changes anything, and none takes memory.
-ghost use Rattle.std.specs.Prelude.{◌≡◌, ◌<◌, ℕ, IsTrue, ◌↔◌, is_some, length, slice_get, IsSome, IsSomeAnd, Some, []};
+ghost use Rattle.std.specs.Prelude.{◌≡◌, ◌<◌, ℕ, IsTrue, ◌↔◌, is_some, length, slice_get, IsSome, IfSome, IsSomeAnd, Some, []};
 ghost use Rattle.std.specs.Option.{option_map, option_map_or, option_and_then};
 ghost use Rattle.bm_arena.specs.Triplets.{Block};
 ghost use Rattle.bm_arena.specs.Contents.{block_at, slot_of, HasHead, HasRoom, marks_at, list_of};
@@ -13,7 +13,41 @@ impl Arena {
     pub fn find(&self, id: BlockId) -> Option<Slot>
         ensures { result ≡ slot_of self.now id }
     {
-        self.ids.get(&id.0).copied()
+        match self.find_usual(id) {
+            Some(slot) => Some(slot),
+            None => self.ids.get(&id.0).copied(),
+        }
+    }
+
+    /// The slot of a block number where it is as usual, with no look at the index; else None.
+    pub(crate) fn find_usual(&self, id: BlockId) -> Option<Slot>
+        ensures { IfSome result (λ slot. slot_of self.now id ≡ Some slot) }
+    {
+        match self.usual.guess(id.0, self.ids.len()) {
+            Some(slot) if self.is_slot_of(slot, id) => Some(slot),
+            _ => None,
+        }
+    }
+
+    /// Whether a slot, which may be any number, is that of a block number.
+    fn is_slot_of(&self, slot: Slot, id: BlockId) -> bool
+        ensures { IsTrue result → slot_of self.now id ≡ Some slot }
+    {
+        self.lawful();
+        match self.number_at(slot) {
+            Some(number) => number.0 == id.0 && slot != self.delimiter,
+            None => false,
+        }
+    }
+
+    /// The block number of the entry in a slot, if it is held.
+    fn number_at(&self, slot: Slot) -> Option<BlockId>
+        ensures { result ≡ option_map (λ b. b.id) (block_at self.now slot) }
+    {
+        match self.slots.get(slot) {
+            Some(entry) => Some(BlockId(entry.id)),
+            None => None,
+        }
     }
 
     /// The block number of the entry in `slot`, which is held.

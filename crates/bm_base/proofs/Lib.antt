@@ -4,6 +4,7 @@ pub mod SortedLaws
 pub mod Replacing
 pub mod Placing
 pub mod Searching
+pub mod Dense
 pub mod Ties
 pub mod Keeping
 pub mod Differences

@@ -13,6 +13,7 @@ mod items;
 mod level;
 mod limits;
 mod number_map;
+mod number_places;
 mod places;
 mod refusal;
 mod replica;

@@ -5,11 +5,13 @@ ghost use Rattle.bm_base.specs.Table.{capacity};
 ghost use Rattle.std.specs.List.Retain.{IsFiltered};
 ghost use Rattle.std.specs.Fn.{CalledAt};
 
-use crate::sorted::{find, put, replace, reserve};
+use crate::number_places::place_of_number;
+use crate::sorted::{find_at, put, replace, reserve};
 use std::alloc::{AllocError, Global};
 use std::marker::Model;
 
-/// A map from numbers. A look-up is a binary search; an insertion or a removal moves what stands behind it.
+/// A map from numbers. A look-up is direct where the numbers are dense, and else a binary search; an insertion or a removal moves
+/// what stands behind it.
 ///
 /// A contract sees the map, and for how many further entries it has room.
 #[derive(Drop)]
@@ -55,7 +57,7 @@ impl<V: Copy> NumberMap<V> {
     pub fn get(&self, key: u64) -> Option<V>
         ensures { result ≡ map.get self.now.map key }
     {
-        find(&self.entries, &key)
+        find_at(&self.entries, &key, place_of_number(&self.entries, key))
     }
 
     /// Sets the value at a key. Takes memory only for a key that is not there and has no room; an `Err` changes nothing.
@@ -69,7 +71,8 @@ impl<V: Copy> NumberMap<V> {
         ensures reserved_no_growth { 1 ≤ self.old.room → capacity self.new ≡ capacity self.old }
         ensures no_less { capacity self.old ≤ capacity self.new }
     {
-        put(&mut self.entries, key, value)?;
+        let at = place_of_number(&self.entries, key);
+        put(&mut self.entries, at, key, value)?;
         Ok(())
     }
 
@@ -93,7 +96,8 @@ impl<V: Copy> NumberMap<V> {
         ensures room { self.old.room ≤ self.new.room + 1 }
         ensures no_growth { capacity self.new ≡ capacity self.old }
     {
-        match put(&mut self.entries, key, value) {
+        let at = place_of_number(&self.entries, key);
+        match put(&mut self.entries, at, key, value) {
             Ok(()) => {}
             Err(_) => unreachable!(),
         }
@@ -105,7 +109,8 @@ impl<V: Copy> NumberMap<V> {
         ensures room { self.new.room ≡ self.old.room }
         ensures no_growth { capacity self.new ≡ capacity self.old }
     {
-        replace(&mut self.entries, &key, value);
+        let at = place_of_number(&self.entries, key);
+        replace(&mut self.entries, at, &key, value);
     }
 
     /// The entries, by rising key.

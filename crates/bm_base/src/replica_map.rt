@@ -75,7 +75,8 @@ impl<V: Copy> ReplicaMap<V> {
         ensures ok { OnOk result (self.new ≡ map.insert self.old key value) }
         ensures err { OnErr result (self.new ≡ self.old) }
     {
-        put(&mut self.entries, key, value)?;
+        let at = place(&self.entries, &key);
+        put(&mut self.entries, at, key, value)?;
         Ok(())
     }
 
@@ -83,7 +84,8 @@ impl<V: Copy> ReplicaMap<V> {
     pub fn replace(&mut self, key: ReplicaId, value: V)
         ensures { self.new ≡ map.revise_at self.old key (λ _. value) }
     {
-        replace(&mut self.entries, &key, value);
+        let at = place(&self.entries, &key);
+        replace(&mut self.entries, at, &key, value);
     }
 
     /// The entry at a place of the rising order, from 0 on; `None` past the last.

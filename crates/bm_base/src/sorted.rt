@@ -1,5 +1,5 @@
 // Entries in a vector whose keys strictly rise: the ground of the maps. Each look-up is a binary search.
-ghost use Rattle.std.specs.Prelude.{◌≡◌, ◌<◌, ◌≤◌, ◌+◌, if◌then◌else◌, is_some, OnOk, OnErr, IsOk, IsTrue, T, vec_len, vec_capacity};
+ghost use Rattle.std.specs.Prelude.{◌≡◌, ◌<◌, ◌≤◌, ◌+◌, if◌then◌else◌, is_some, OnOk, OnErr, IsOk, IsTrue, T, vec_len, vec_capacity, length};
 ghost use Rattle.std.specs.FinMap as list;
 ghost use Rattle.bm_base.specs.Place.{place};
 
@@ -11,8 +11,24 @@ pub fn place<K: Ord + Copy, V: Copy>(entries: &[(K, V)], key: &K) -> usize
     requires { T (list.is_sorted K.cmp entries.now) }
     ensures { result ≡ place K.cmp key.now entries.now }
 {
-    let mut low = 0;
-    let mut high = entries.len();
+    place_between(entries, key, 0, entries.len())
+}
+
+/// How many entries stand before the key's place, of which they are at least `least` and at most `most`.
+pub(crate) fn place_between<K: Ord + Copy, V: Copy>(
+    entries: &[(K, V)],
+    key: &K,
+    least: usize,
+    most: usize,
+) -> usize
+    requires sorted { T (list.is_sorted K.cmp entries.now) }
+    requires from { least ≤ place K.cmp key.now entries.now }
+    requires upto { place K.cmp key.now entries.now ≤ most }
+    requires inside { most ≤ length entries.now }
+    ensures { result ≡ place K.cmp key.now entries.now }
+{
+    let mut low = least;
+    let mut high = most;
     while low < high {
         let middle = low + (high - low) / 2;
         match key.cmp(&entries[middle].0) {
@@ -28,7 +44,15 @@ pub fn find<K: Ord + Copy, V: Copy>(entries: &[(K, V)], key: &K) -> Option<V>
     requires { T (list.is_sorted K.cmp entries.now) }
     ensures { result ≡ list.find K.cmp key.now entries.now }
 {
-    let at = place(entries, key);
+    find_at(entries, key, place(entries, key))
+}
+
+/// The value at a key with this place.
+pub(crate) fn find_at<K: Ord + Copy, V: Copy>(entries: &[(K, V)], key: &K, at: usize) -> Option<V>
+    requires sorted { T (list.is_sorted K.cmp entries.now) }
+    requires at { at ≡ place K.cmp key.now entries.now }
+    ensures { result ≡ list.find K.cmp key.now entries.now }
+{
     if at < entries.len() {
         match key.cmp(&entries[at].0) {
             Ordering::Equal => return Some(entries[at].1),
@@ -58,13 +82,15 @@ pub(crate) fn reserve<K: Copy, V: Copy>(
     entries.reserve(additional)
 }
 
-/// Sets the value at a key. Takes memory only for a key that is not there and has no room; an `Err` changes nothing.
+/// Sets the value at a key with this place. Takes memory only for a key that is not there and has no room; an `Err` changes nothing.
 pub(crate) fn put<K: Ord + Copy, V: Copy>(
     entries: &mut Vec<(K, V)>,
+    at: usize,
     key: K,
     value: V,
 ) -> Result<(), AllocError>
-    requires { T (list.is_sorted K.cmp entries.old.items) }
+    requires sorted { T (list.is_sorted K.cmp entries.old.items) }
+    requires at { at ≡ place K.cmp key entries.old.items }
     ensures ok { OnOk result (entries.new.items ≡ list.put K.cmp key value entries.old.items) }
     ensures err { OnErr result (entries.new.items ≡ entries.old.items) }
     ensures succeeds { vec_len entries.old < vec_capacity entries.old → IsOk result }
@@ -78,7 +104,6 @@ pub(crate) fn put<K: Ord + Copy, V: Copy>(
     ensures err_len { OnErr result (vec_len entries.new ≡ vec_len entries.old) }
     ensures err_capacity { OnErr result (vec_capacity entries.new ≡ vec_capacity entries.old) }
 {
-    let at = place(entries, &key);
     if at < entries.len() {
         match key.cmp(&entries[at].0) {
             Ordering::Equal => {
@@ -92,14 +117,19 @@ pub(crate) fn put<K: Ord + Copy, V: Copy>(
     Ok(entries.insert(at, (key, value))?)
 }
 
-/// Sets the value at a key that is there; else nothing changes. Takes no memory.
-pub(crate) fn replace<K: Ord + Copy, V: Copy>(entries: &mut Vec<(K, V)>, key: &K, value: V)
-    requires { T (list.is_sorted K.cmp entries.old.items) }
+/// Sets the value at a key with this place if it is there; else nothing changes. Takes no memory.
+pub(crate) fn replace<K: Ord + Copy, V: Copy>(
+    entries: &mut Vec<(K, V)>,
+    at: usize,
+    key: &K,
+    value: V,
+)
+    requires sorted { T (list.is_sorted K.cmp entries.old.items) }
+    requires at { at ≡ place K.cmp key.now entries.old.items }
     ensures after { entries.new.items ≡ (if is_some (list.find K.cmp key.now entries.old.items) then list.put K.cmp key.now value entries.old.items else entries.old.items) }
     ensures capacity { vec_capacity entries.new ≡ vec_capacity entries.old }
     ensures len { vec_len entries.new ≡ vec_len entries.old }
 {
-    let at = place(entries, key);
     if at < entries.len() {
         match key.cmp(&entries[at].0) {
             Ordering::Equal => entries[at].1 = value,

@@ -3,6 +3,8 @@ pub mod OwnWish
 pub mod InOrder
 pub mod Collecting
 pub mod Listing
+pub mod Passing
+pub mod Permuted
 pub mod Further
 pub mod Visited
 pub mod Covering

@@ -38,7 +38,7 @@ among_right x [] ys h = h
 among_right x (z ∷ zs) ys h = inr (among_right x zs ys h)
 
 module _ (p : ℕ → Bool) where
-  among_filtered : (x : ℕ) (xs : List ℕ) → Among x (filter p xs) → Among x xs × (p x ≡ true)
+  pub among_filtered : (x : ℕ) (xs : List ℕ) → Among x (filter p xs) → Among x xs × (p x ≡ true)
   among_filtered x [] h = absurd h
   among_filtered x (y ∷ ys) h = by (p y) refl h (among_filtered x ys)
     where
@@ -46,7 +46,7 @@ module _ (p : ℕ → Bool) where
       by true e g rest = elim g [ inl same ↦ (inl same, ap p same ∙ e) | inr later ↦ (inr (rest later).0, (rest later).1) ]
       by false e g rest = (inr (rest g).0, (rest g).1)
 
-  among_passing : (x : ℕ) (xs : List ℕ) → Among x xs → p x ≡ true → Among x (filter p xs)
+  pub among_passing : (x : ℕ) (xs : List ℕ) → Among x xs → p x ≡ true → Among x (filter p xs)
   among_passing x [] h e = absurd h
   among_passing x (y ∷ ys) h e = by (p y) refl h (λ later. among_passing x ys later e)
     where
@@ -54,7 +54,7 @@ module _ (p : ℕ → Bool) where
       by true is g rest = elim g [ inl same ↦ inl same | inr later ↦ inr (rest later) ]
       by false is g rest = elim g [ inl same ↦ absurd (true≢false (sym e ∙ ap p same ∙ is)) | inr later ↦ rest later ]
 
-  distinct_filtered : (xs : List ℕ) → Distinct xs → Distinct (filter p xs)
+  pub distinct_filtered : (xs : List ℕ) → Distinct xs → Distinct (filter p xs)
   distinct_filtered [] d = d
   distinct_filtered (y ∷ ys) d = by (p y) (distinct_filtered ys d.1)
     where
@@ -71,7 +71,7 @@ module _ (f : ℕ → ℕ) where
   mapped_among x [] h = absurd h
   mapped_among x (y ∷ ys) h = elim h [ inl same ↦ inl (ap f same) | inr later ↦ inr (mapped_among x ys later) ]
 
-  distinct_mapped : (g : ℕ → Option ℕ) (xs : List ℕ) → Distinct xs → ((x : ℕ) → Among x xs → g (f x) ≡ Some x) → Distinct (map f xs)
+  pub distinct_mapped : (g : ℕ → Option ℕ) (xs : List ℕ) → Distinct xs → ((x : ℕ) → Among x xs → g (f x) ≡ Some x) → Distinct (map f xs)
   distinct_mapped g [] d back = tt
   distinct_mapped g (x ∷ xs) d back = (
     λ h. let one = among_mapped (f x) xs h in

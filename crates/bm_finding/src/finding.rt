@@ -4,25 +4,28 @@ ghost use Rattle.bm_base.specs.declared.refusal.Refusal.TheVariants.{Memory};
 ghost use Rattle.bm_base.specs.declared.replica.ReplicaId.{ReplicaId};
 ghost use Rattle.bm_base.specs.Map.{get, contains_key};
 ghost use Rattle.bm_base.specs.RoundParts.{round_part};
+ghost use Rattle.bm_parts.specs.Before.{part_before};
 ghost use Rattle.bm_arena.specs.Holding.{replicas_of};
 ghost use Rattle.bm_levels.specs.Leveled.{AreLevels};
 ghost use Rattle.bm_levels.specs.Held.{holdings_with};
 
 use crate::found::Start;
-use crate::slots::slots_to_visit;
-use crate::sorting::{sort_deletes, sort_excess, sort_wishes};
+use crate::slots::{keyed_before, slots_to_visit, sort_slots};
+use crate::sorting::{keep_before, sort_deletes, sort_excess, sort_wishes};
 use bm_base::{Items, Refusal, RoundPart};
 use bm_levels::LeveledBlocks;
+use bm_parts::merge::Key;
 use bm_pending::PendingTransfers;
 use bm_topo::Topology;
 use std::alloc::Global;
 
 /// What a shard finds as round `round` begins, where transfers are given up that were commanded `pend` rounds ago or earlier, in a
-/// cluster by which the levels are kept and in which each replica's storage is known. An `Err` is want of memory.
+/// cluster by which the levels are kept and in which each replica's storage is known. Of the wishes those before the bound are told, if
+/// there is one. An `Err` is want of memory.
 ///
-/// It looks at the blocks that are not settled, and at those at a level at which copies are wished for, and goes over the transfers on
-/// their way once; so its cost does not grow with the number of the other blocks. Each block that it looks at costs a few looks at each
-/// of its replicas, and what is found is sorted.
+/// It looks at the blocks that are not settled, and at those before the bound at a level at which copies are wished for, and goes over
+/// the transfers on their way once; so its cost does not grow with the number of the other blocks, but for a step for each that is at
+/// such a level. Each block that it looks at costs a few looks at each of its replicas, and what is found is sorted.
 pub fn find_round(
     alloc: Global,
     blocks: &LeveledBlocks,
@@ -30,10 +33,11 @@ pub fn find_round(
     topology: &Topology,
     pend: u32,
     round: u64,
+    bound: Option<Key>,
 ) -> Result<RoundPart, Refusal>
     requires levels { AreLevels topology.now.cluster blocks.now }
     requires stored { (q : ReplicaId) → IsSome (get (replicas_of blocks.now.arena) q) → IsTrue (contains_key topology.now.cluster.storages q.storage) }
-    ensures part { IfOk result (λ p. p ≡ round_part topology.now.cluster pend round (holdings_with blocks.now.arena pending.now.map)) }
+    ensures part { IfOk result (λ p. p ≡ part_before bound (round_part topology.now.cluster pend round (holdings_with blocks.now.arena pending.now.map))) }
     ensures refused { IfErr result (λ e. e ≡ Memory) }
 {
     blocks.lawful();
@@ -47,7 +51,10 @@ pub fn find_round(
         round,
     };
     let slots = slots_to_visit(alloc, blocks.kept())?;
-    let mut found = start.visit_all(alloc, &slots)?;
+    let mut keyed = keyed_before(alloc, blocks.kept(), blocks.arena(), &slots, bound)?;
+    sort_slots(&mut keyed)?;
+    let mut found = start.visit_all(alloc, &keyed)?;
+    keep_before(&mut found.wishes, bound);
     sort_excess(&mut found.excess)?;
     sort_wishes(&mut found.wishes)?;
     sort_deletes(&mut found.deletes)?;

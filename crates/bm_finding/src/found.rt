@@ -12,6 +12,7 @@ use crate::replicas::{Which, storages_of};
 use crate::wishing::wish_of;
 use bm_arena::{Arena, Slot};
 use bm_base::{BlockInfo, Delete, Refusal, ReplicaId, Wish};
+use bm_parts::merge::Key;
 use bm_pending::PendingTransfers;
 use bm_topo::Topology;
 use std::alloc::{AllocError, Global};
@@ -35,10 +36,10 @@ pub(crate) struct Start<'a> {
 }
 
 impl<'a> Start<'a> {
-    /// Looks at the blocks at these slots.
-    pub(crate) fn visit_all(&self, alloc: Global, slots: &[Slot]) -> Result<Found, Refusal>
-        requires { (slot : ℕ) → Among slot slots.now → (id : ℕ) × (slot_of self.now.arena.now id ≡ Some slot) }
-        ensures found { IfOk result (HasFound self.now.topology.now.cluster self.now.pend self.now.round (holdings_with self.now.arena.now self.now.pending.now.map) (map (id_at self.now.arena.now) slots.now)) }
+    /// Looks at the blocks at these slots, each beside its key.
+    pub(crate) fn visit_all(&self, alloc: Global, slots: &[(Key, Slot)]) -> Result<Found, Refusal>
+        requires { (slot : ℕ) → Among slot (map (λ e. e.1) slots.now) → (id : ℕ) × (slot_of self.now.arena.now id ≡ Some slot) }
+        ensures found { IfOk result (HasFound self.now.topology.now.cluster self.now.pend self.now.round (holdings_with self.now.arena.now self.now.pending.now.map) (map (λ e. id_at self.now.arena.now e.1) slots.now)) }
         ensures refused { IfErr result (λ e. e ≡ Memory) }
     {
         let mut found = Found {
@@ -46,8 +47,8 @@ impl<'a> Start<'a> {
             wishes: Vec::new(alloc),
             deletes: Vec::new(alloc),
         };
-        for slot in slots {
-            self.visit(alloc, *slot, &mut found)?;
+        for keyed in slots {
+            self.visit(alloc, keyed.1, &mut found)?;
         }
         Ok(found)
     }

@@ -8,6 +8,8 @@
 
 mod finding;
 mod found;
+mod guess;
+mod keys;
 mod look;
 mod replicas;
 mod slots;
@@ -17,3 +19,4 @@ mod tests;
 mod wishing;
 
 pub use finding::find_round;
+pub use guess::likely_bound;

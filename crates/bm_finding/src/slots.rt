@@ -1,10 +1,13 @@
 // The slots at which a round looks.
-ghost use Rattle.std.specs.Prelude.{◌≡◌, ◌++◌, IfOk, OnOk};
-ghost use Rattle.bm_finding.specs.Visits.{settled_at, visits};
+ghost use Rattle.std.specs.Prelude.{◌≡◌, ◌++◌, filter, map, IfOk, OnOk};
+ghost use Rattle.std.specs.List.Sorted.{IsPermutation};
+ghost use Rattle.bm_finding.specs.Visits.{settled_at, visits, key_at, is_told};
 
-use bm_arena::Slot;
+use crate::keys::{is_before, key_of};
+use bm_arena::{Arena, Slot};
 use bm_base::Level;
 use bm_levels::KeptLevels;
+use bm_parts::merge::Key;
 use std::alloc::{AllocError, Global};
 
 /// The slots that are not settled, and those of the levels at which copies are wished for; each of them once.
@@ -32,4 +35,31 @@ fn push_settled(kept: &KeptLevels, level: Level, into: &mut Vec<Slot>) -> Result
         }
     }
     Ok(())
+}
+
+/// Of these slots those that are not settled, and of the others those before a bound, each beside its key.
+pub(crate) fn keyed_before(
+    alloc: Global,
+    kept: &KeptLevels,
+    arena: &Arena,
+    slots: &[Slot],
+    bound: Option<Key>,
+) -> Result<Vec<(Key, Slot)>, AllocError>
+    ensures { IfOk result (λ v. v.items ≡ map (λ s. (key_at kept.now arena.now s, s)) (filter (is_told kept.now arena.now bound) slots.now)) }
+{
+    let mut keyed = Vec::new(alloc);
+    for slot in slots {
+        let key = key_of(kept, arena, *slot);
+        if is_before(bound, key) || kept.is_unsettled(*slot) {
+            keyed.push((key, *slot))?;
+        }
+    }
+    Ok(keyed)
+}
+
+/// Puts slots in the order of their keys, in which what they wish for is told.
+pub(crate) fn sort_slots(slots: &mut Vec<(Key, Slot)>) -> Result<(), AllocError>
+    ensures { OnOk result (IsPermutation slots.old.items slots.new.items) }
+{
+    slots.sort()
 }

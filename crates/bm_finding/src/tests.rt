@@ -135,7 +135,7 @@ fn copies_are_wished_for(rt: HostRuntime) {
     let topology = four_nodes(&rt, alloc);
     let blocks = block_with_one(&rt, alloc, &topology);
     let pending = PendingTransfers::new(alloc);
-    let part = find_round(alloc, &blocks, &pending, &topology, 5, 1).expect(&rt, "memory");
+    let part = find_round(alloc, &blocks, &pending, &topology, 5, 1, None).expect(&rt, "memory");
     assert!(rt; told(&part) == Some((2, 0, 0)));
 }
 
@@ -146,8 +146,8 @@ fn a_transfer_counts_until_it_is_too_old(rt: HostRuntime) {
     let topology = four_nodes(&rt, alloc);
     let blocks = block_with_one(&rt, alloc, &topology);
     let pending = one_on_its_way(&rt, alloc);
-    let young = find_round(alloc, &blocks, &pending, &topology, 5, 5).expect(&rt, "memory");
+    let young = find_round(alloc, &blocks, &pending, &topology, 5, 5, None).expect(&rt, "memory");
     assert!(rt; told(&young) == Some((1, 1, 0)));
-    let old = find_round(alloc, &blocks, &pending, &topology, 5, 6).expect(&rt, "memory");
+    let old = find_round(alloc, &blocks, &pending, &topology, 5, 6, None).expect(&rt, "memory");
     assert!(rt; told(&old) == Some((2, 0, 1)));
 }

@@ -1,5 +1,5 @@
 -- Shards that took a round.
-use Rattle.std.specs.Prelude.{◌≡◌, ℕ, suc, ◌+◌, ◌<◌, ◌^◌, List, [], ◌∷◌, map, length, Some, Result, Ok, Err, IfErr, OnOk, slice_get}
+use Rattle.std.specs.Prelude.{◌≡◌, ℕ, suc, ◌+◌, ◌<◌, ◌^◌, List, [], ◌∷◌, map, length, Some, Result, Ok, Err, IfErr, OnOk, option_map, slice_get}
 use Rattle.std.specs.List.{All, AllZip}
 use Rattle.std.proofs.Common.{refl, sym, ap, subst, ◌∙◌}
 use Rattle.std.proofs.lemmas.List.Elements.{All-nil, All-cons, All-head, All-tail}
@@ -61,7 +61,7 @@ module _ (C : Cluster) (chosen : Chosen) where
           All-cons (CanFinish C all chosen) (shard_of_prepared p) (map shard_of_prepared ps)
           (record {
             stands = stands_still C s.1 p.1.shard each.0.same.1 stands.0;
-            part = ap (slice_get all) each.0.same.0 ∙ All-head (HasPart C all) s ss has ∙ ap (λ S. Some (next_part C S)) (sym same);
+            part = ap (λ i. option_map (λ (p : RoundPart). p.excess) (slice_get all i)) each.0.same.0 ∙ All-head (HasPart C all) s ss has ∙ ap (λ S. Some (next_part C S).excess) (sym same);
             ready = subst (λ o. OnOk o (IsReadyForRound chosen p.1.shard)) is each.0.ready;
             counted = subst (λ n. n + 1 < 2 ^ 64) (sym (ap (λ S. S.round) same)) (All-head (λ (s : ℕ × Seen). s.1.round + 1 < 2 ^ 64) s ss few);
           }) (rest g)

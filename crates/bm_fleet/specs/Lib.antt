@@ -6,4 +6,5 @@ pub mod FromShards
 pub mod OneShard
 pub mod Rounds
 pub mod RoundWorked
+pub mod RoundChosen
 pub mod Listed

@@ -1,5 +1,5 @@
 -- What is made of shards one by one in a round, each beside its index.
-use Rattle.std.specs.Prelude.{◌≡◌, ◌<◌, ◌+◌, ◌^◌, ℕ, List, Some, IfErr, OnOk, slice_get}
+use Rattle.std.specs.Prelude.{◌≡◌, ◌<◌, ◌+◌, ◌^◌, ℕ, List, Some, IfErr, OnOk, option_map, slice_get}
 use Rattle.bm_base.specs.declared.refusal.Refusal.TheVariants.{Memory}
 use Rattle.bm_base.specs.declared.round.RoundPart.{RoundPart}
 use Rattle.bm_base.specs.declared.round.Chosen.{Chosen}
@@ -21,9 +21,9 @@ pub record IsReadied (chosen : Chosen) (s : ℕ × Seen) (made : ℕ × Prepared
   pub ready : OnOk made.1.outcome (IsReadyForRound chosen made.1.shard)
   pub refused : IfErr made.1.outcome (λ e. e ≡ Memory)
 
--- what the shard found stands at its index
+-- what the shard found stands at its index, as far as it is needed to take the round
 abbrev pub HasPart : Cluster → List RoundPart → ℕ × Seen → Type 0
-HasPart C parts s = slice_get parts s.0 ≡ Some (next_part C s.1)
+HasPart C parts s = option_map (λ (p : RoundPart). p.excess) (slice_get parts s.0) ≡ Some (next_part C s.1).excess
 
 -- a shard that may take its next round, whose number is still one of 64 bits
 pub record CanFinish (C : Cluster) (parts : List RoundPart) (chosen : Chosen) (s : ℕ × Seen) : Type 0 where

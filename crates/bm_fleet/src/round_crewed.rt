@@ -2,24 +2,31 @@
 ghost use Rattle.std.specs.Prelude.{◌≡◌, ◌<◌, ◌+◌, ◌^◌, IfOk, IfErr, OnOk};
 ghost use Rattle.bm_base.specs.declared.refusal.Refusal.TheVariants.{Memory};
 ghost use Rattle.bm_base.specs.RoundParts.{round_on_part};
+ghost use Rattle.bm_parts.specs.Before.{part_before};
 ghost use Rattle.bm_shard.specs.Seen.{IsReadyForRound};
 ghost use Rattle.bm_shard.specs.Standing.{StandsIn, IsSameButRoom, next_part};
 
 use crate::answered::Answered;
 use crate::crewed::Prepared;
 use bm_base::{Chosen, RoundPart};
+use bm_parts::merge::Key;
 use bm_shard::Shard;
 use bm_topo::Topology;
 
-/// Finds the part of one shard in its next round.
-pub(crate) fn find_one(shard: Shard, round: u64, topology: &Topology) -> Answered<RoundPart>
+/// Finds the part of one shard in its next round, with the wishes before a bound.
+pub(crate) fn find_one(
+    shard: Shard,
+    round: u64,
+    topology: &Topology,
+    bound: Option<Key>,
+) -> Answered<RoundPart>
     requires next { round ≡ shard.round + 1 }
     requires standing { StandsIn topology.now.cluster shard }
     ensures shard { result.shard ≡ shard }
-    ensures part { IfOk result.answer (λ p. p ≡ next_part topology.now.cluster shard) }
+    ensures part { IfOk result.answer (λ p. p ≡ part_before bound (next_part topology.now.cluster shard)) }
     ensures refused { IfErr result.answer (λ e. e ≡ Memory) }
 {
-    let answer = shard.round_part(round, topology);
+    let answer = shard.round_part_before(round, topology, bound);
     Answered { shard, answer }
 }
 
@@ -46,7 +53,7 @@ pub(crate) fn finish_one(
     topology: &Topology,
 ) -> Shard
     requires standing { StandsIn topology.now.cluster shard }
-    requires part { part.now ≡ next_part topology.now.cluster shard }
+    requires part { part.now.excess ≡ (next_part topology.now.cluster shard).excess }
     requires ready { IsReadyForRound chosen.now shard }
     requires counted { shard.round + 1 < 2 ^ 64 }
     ensures holdings { result.holdings ≡ round_on_part topology.now.cluster shard.pend (shard.round + 1) shard.holdings shard.part.index shard.part.shards chosen.now.transfers chosen.now.deletes }

@@ -1,6 +1,7 @@
 // A round of all shards, worked by a crew.
 ghost use Rattle.std.specs.Prelude.{◌≡◌, ◌≤◌, vec_len};
 ghost use Rattle.std.specs.List.{All, AllZip};
+ghost use Rattle.bm_parts.specs.Before.{part_before};
 ghost use Rattle.bm_shard.specs.Standing.{next_part};
 ghost use Rattle.bm_fleet.specs.FromShards.{HasAnswered};
 ghost use Rattle.bm_fleet.specs.RoundWorked.{CanFind, HasPart, IsReadied, CanFinish, IsFinished};
@@ -10,12 +11,13 @@ use crate::crewed::Prepared;
 use crate::round_crewed::{find_one, finish_one, ready_one};
 use bm_base::{Chosen, RoundPart};
 use bm_crew::{Gate, Ready};
+use bm_parts::merge::Key;
 use bm_shard::Shard;
 use bm_topo::Topology;
 use std::sync::Wait;
 use std::thread::Threads;
 
-/// Finds what each shard has for its next round. No shard changes.
+/// Finds what each shard has for its next round, with the wishes before a bound. No shard changes.
 pub(crate) fn find_all<R: Threads + Wait + Sync, G: Gate + Sync>(
     rt: &R,
     gate: &G,
@@ -23,18 +25,19 @@ pub(crate) fn find_all<R: Threads + Wait + Sync, G: Gate + Sync>(
     shards: Vec<(u32, Shard)>,
     round: u64,
     topology: &Topology,
+    bound: Option<Key>,
 ) -> Vec<(u32, Answered<RoundPart>)>
     requires room { vec_len shards ≤ ready.room }
     requires shards { All (CanFind topology.now.cluster round) shards.items }
     ensures len { vec_len result ≡ vec_len shards }
-    ensures each { AllZip (HasAnswered (next_part topology.now.cluster)) shards.items result.items }
+    ensures each { AllZip (HasAnswered (λ S. part_before bound (next_part topology.now.cluster S))) shards.items result.items }
 {
     let work = |index: u32, shard: Shard| -> Answered<RoundPart>
         requires { CanFind topology.now.cluster round (index, shard) }
-        ensures { HasAnswered (next_part topology.entry.now.cluster) (index, shard) (index, result) }
+        ensures { HasAnswered (λ S. part_before bound (next_part topology.entry.now.cluster S)) (index, shard) (index, result) }
     {
         let _ = index;
-        find_one(shard, round, topology)
+        find_one(shard, round, topology, bound)
     };
     ready.run(rt, shards, &work, gate)
 }

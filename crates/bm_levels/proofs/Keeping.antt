@@ -1,11 +1,14 @@
 -- Judging one slot after another.
-use Rattle.std.specs.Prelude.{◌≡◌, ◌≢◌, ℕ, zero, suc, Bool, List, [], ◌∷◌, drop, Option}
-use Rattle.std.proofs.Common.{refl, sym, subst, ◌∙◌, inl, inr, ◌⊎◌}
+use Rattle.std.specs.Prelude.{◌≡◌, ◌≢◌, ℕ, zero, suc, Bool, List, [], ◌∷◌, ◌++◌, drop, slice_get, Option, Some}
+use Rattle.std.proofs.Common.{refl, sym, ap, subst, ◌∙◌, inl, inr, ◌⊎◌}
 use Rattle.std.proofs.lemmas.Bool.{cases_eq}
+use Rattle.std.proofs.lemmas.Option.{same_Some}
 use Rattle.bm_base.specs.SlotLists.{Among}
+use Rattle.bm_base.proofs.SlotLists.{dec_among}
 use Rattle.bm_arena.specs.Triplets.{Block}
 use Rattle.bm_arena.specs.Contents.{Contents, block_at}
-use Rattle.bm_levels.specs.Kept.{Kept, IsJudged, IsSameAt}
+use Rattle.bm_levels.specs.declared.judging.Judged.{Judged}
+use Rattle.bm_levels.specs.Kept.{Kept, IsJudged, IsJudgedAs, IsKeptAs, IsSameAt}
 
 pub same_itself : (K : Kept) (slot : ℕ) → IsSameAt K K slot
 same_itself K slot = record { level = refl; unsettled = (λ h. h, λ h. h) }
@@ -13,9 +16,36 @@ same_itself K slot = record { level = refl; unsettled = (λ h. h, λ h. h) }
 pub same_chain : (K L M : Kept) (slot : ℕ) → IsSameAt K L slot → IsSameAt L M slot → IsSameAt K M slot
 same_chain K L M slot h g = record { level = g.level ∙ h.level; unsettled = (λ u. h.unsettled.0 (g.unsettled.0 u), λ u. g.unsettled.1 (h.unsettled.1 u)) }
 
+pub among_behind : (slot : ℕ) (xs ys : List ℕ) → Among slot (xs ++ ys) → (Among slot xs → ⊥) → Among slot ys
+among_behind slot [] ys h absent = h
+among_behind slot (x ∷ xs) ys (inl here) absent = absurd (absent (inl here))
+among_behind slot (x ∷ xs) ys (inr later) absent = among_behind slot xs ys later (λ there. absent (inr there))
+
+pub among_at : (slot : ℕ) (xs : List ℕ) → Among slot xs → (i : ℕ) × (slice_get xs i ≡ Some slot)
+among_at slot [] h = absurd h
+among_at slot (x ∷ xs) (inl here) = (0, ap Some (sym here))
+among_at slot (x ∷ xs) (inr later) = let there = among_at slot xs later in (suc there.0, there.1)
+
+pub among_in : (slot : ℕ) (xs : List ℕ) (i : ℕ) → slice_get xs i ≡ Some slot → Among slot xs
+among_in slot [] i e = cc
+among_in slot (x ∷ xs) zero e = inl (same_Some slot x (sym e))
+among_in slot (x ∷ xs) (suc i) e = inr (among_in slot xs i e)
+
+pub among_front : (slot : ℕ) (xs ys : List ℕ) → Among slot xs → Among slot (xs ++ ys)
+among_front slot [] ys h = absurd h
+among_front slot (x ∷ xs) ys (inl here) = inl here
+among_front slot (x ∷ xs) ys (inr later) = inr (among_front slot xs ys later)
+
+pub among_back : (slot : ℕ) (xs ys : List ℕ) → Among slot ys → Among slot (xs ++ ys)
+among_back slot [] ys h = h
+among_back slot (x ∷ xs) ys h = inr (among_back slot xs ys h)
+
 module _ (rack : ℕ → Option ℕ) (draining : ℕ → Bool) (multi : Bool) where
   pub judged_still : (o : Option Block) (K L : Kept) (slot : ℕ) → IsJudged rack draining multi o K slot → IsSameAt K L slot → IsJudged rack draining multi o L slot
   judged_still o K L slot h g = record { level = g.level ∙ h.level; unsettled = (λ u. h.unsettled.0 (g.unsettled.0 u), λ s. g.unsettled.1 (h.unsettled.1 s)) }
+
+  pub judged_as : (o : Option Block) (K : Kept) (slot : ℕ) (j : Judged) → IsKeptAs K slot j → IsJudgedAs rack draining multi o j → IsJudged rack draining multi o K slot
+  judged_as o K slot j h g = record { level = h.level ∙ g.level; unsettled = (λ u. sym g.settled ∙ h.unsettled.0 u, λ s. h.unsettled.1 (g.settled ∙ s)) }
 
   -- where these slots are still to go, of all of them each that has gone is judged, and each other slot is as before
   pub IsUnderway : Contents → List ℕ → List ℕ → Kept → Kept → Type 0
@@ -35,6 +65,19 @@ module _ (rack : ℕ → Option ℕ) (draining : ℕ → Bool) (multi : Bool) wh
             elim (h slot) [
               | inl g ↦ inl (g.0, judged_still (block_at a slot) L M slot g.1 (others slot differs))
               | inr g ↦ inr (λ k. elim (g.0 k) [ inl here ↦ absurd (differs here) | inr later ↦ later ], same_chain K L M slot g.1 (others slot differs))
+            ]
+      ]
+
+  pub underway_chunk : (a : Contents) (all xs left : List ℕ) (K L M : Kept) → ((slot : ℕ) → Among slot xs → Among slot all) → IsUnderway a all (xs ++ left) K L
+      → ((slot : ℕ) → Among slot xs → IsJudged rack draining multi (block_at a slot) M slot) → ((slot : ℕ) → (Among slot xs → ⊥) → IsSameAt L M slot) → IsUnderway a all left K M
+  unfolding IsUnderway
+  underway_chunk a all xs left K L M there h judged others = λ slot.
+      elim (dec_among slot xs) [
+        | inl here ↦ inl (there slot here, judged slot here)
+        | inr absent ↦
+            elim (h slot) [
+              | inl g ↦ inl (g.0, judged_still (block_at a slot) L M slot g.1 (others slot absent))
+              | inr g ↦ inr (λ k. among_behind slot xs left (g.0 k) absent, same_chain K L M slot g.1 (others slot absent))
             ]
       ]
 

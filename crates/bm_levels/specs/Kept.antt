@@ -7,6 +7,7 @@ use Rattle.bm_queues.specs.Members.{Members}
 use Rattle.bm_queues.specs.Walks.{slots_from, IsOn, IsPast}
 use Rattle.bm_arena.specs.Triplets.{Block}
 use Rattle.bm_arena.specs.Contents.{Contents}
+use Rattle.bm_levels.specs.declared.judging.Judged.{Judged}
 use Rattle.bm_levels.specs.Judged.{level_by, is_settled_at}
 
 -- the levels of the slots, and the slots at which a round has to look
@@ -28,6 +29,16 @@ HasRoomFor K bound = (bound ≤ length K.levels.levels) × (bound ≤ K.unsettle
 pub record IsJudged (rack : ℕ → Option ℕ) (draining : ℕ → Bool) (multi : Bool) (o : Option Block) (K : Kept) (slot : ℕ) : Type 0 where
   pub level : level_of_slot K slot ≡ level_by rack draining multi o
   pub unsettled : IsUnsettled K slot ↔ (is_settled_at o ≡ false)
+
+-- what a block is judged
+pub record IsJudgedAs (rack : ℕ → Option ℕ) (draining : ℕ → Bool) (multi : Bool) (o : Option Block) (j : Judged) : Type 0 where
+  pub level : j.level ≡ level_by rack draining multi o
+  pub settled : j.is_settled ≡ is_settled_at o
+
+-- a slot is kept as its block was judged
+pub record IsKeptAs (K : Kept) (slot : ℕ) (j : Judged) : Type 0 where
+  pub level : level_of_slot K slot ≡ j.level
+  pub unsettled : IsUnsettled K slot ↔ (j.is_settled ≡ false)
 
 -- a slot is kept as before
 pub record IsSameAt (old new : Kept) (slot : ℕ) : Type 0 where

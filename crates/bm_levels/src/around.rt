@@ -3,8 +3,8 @@ ghost use Rattle.std.specs.Prelude.{◌≡◌, None};
 ghost use Rattle.bm_base.specs.Replicas as replicas;
 ghost use Rattle.bm_levels.specs.Judged.{drains_then};
 
-use bm_base::{NodeId, Rack, StorageId};
-use bm_topo::Topology;
+use bm_base::{NodeId, StorageId};
+use bm_topo::{Location, Topology};
 
 /// A node that begins or ceases to drain.
 #[derive(Clone, Copy)]
@@ -39,23 +39,22 @@ impl<'a> Around<'a> {
         }
     }
 
-    pub(crate) fn rack_of(&self, storage: StorageId) -> Option<Rack>
-        ensures { result ≡ replicas.rack_of self.now.topology.now.cluster storage }
-    {
-        self.topology.rack_of(storage)
-    }
-
-    /// Whether the node of a storage drains.
+    /// Where a storage is.
     #[tactic(auto, unfolding(crate::specs::Judged::drains_then, bm_base::specs::Replicas::is_draining))]
-    pub(crate) fn is_draining(&self, storage: StorageId) -> bool
-        ensures { result ≡ drains_then self.now.topology.now.cluster self.now.turning storage }
+    pub(crate) fn location_of(&self, storage: StorageId) -> Location
+        ensures rack { result.rack ≡ replicas.rack_of self.now.topology.now.cluster storage }
+        ensures drains { result.drains ≡ drains_then self.now.topology.now.cluster self.now.turning storage }
     {
+        let location = self.topology.location_of(storage);
         let Some(turning) = self.turning else {
-            return self.topology.is_draining(storage);
+            return location;
         };
-        match self.topology.node_of(storage) {
-            Some(node) if node == turning.node => turning.drains,
-            _ => self.topology.is_draining(storage),
+        match location.node {
+            Some(node) if node == turning.node => Location {
+                drains: turning.drains,
+                ..location
+            },
+            _ => location,
         }
     }
 }

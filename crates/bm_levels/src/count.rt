@@ -44,12 +44,13 @@ impl Count {
         if !matches!(marks.tag, Tag::Good) || marks.excess {
             return;
         }
-        if around.is_draining(storage) {
+        let location = around.location_of(storage);
+        if location.drains {
             self.drained += 1;
             return;
         }
         self.live += 1;
-        if let Some(rack) = around.rack_of(storage) {
+        if let Some(rack) = location.rack {
             self.see(rack);
         }
     }

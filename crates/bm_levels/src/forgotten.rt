@@ -142,8 +142,9 @@ impl LeveledBlocks {
         ensures levels { AreLevelsBy (replicas.rack_of around.now.topology.now.cluster) (drains_then around.now.topology.now.cluster around.now.turning) around.now.multi self.old → AreLevelsBy (replicas.rack_of around.now.topology.now.cluster) (drains_then around.now.topology.now.cluster around.now.turning) around.now.multi self.new }
     {
         self.arena.lawful();
+        let was = self.kept.kept_at(slot);
         self.arena.unlink(slot, storage);
-        self.kept.judge(&self.arena, slot, around);
+        self.kept.judge_from(&self.arena, slot, around, was);
     }
 
     /// Drops the list of a storage, which is empty.

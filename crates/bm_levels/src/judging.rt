@@ -1,5 +1,5 @@
 // The judgement of one block.
-ghost use Rattle.std.specs.Prelude.{◌≡◌};
+ghost use Rattle.std.specs.Prelude.{◌≡◌, true};
 ghost use Rattle.bm_base.specs.Replicas as replicas;
 ghost use Rattle.bm_arena.specs.Contents.{block_at};
 ghost use Rattle.bm_levels.specs.Judged as judged;
@@ -12,12 +12,19 @@ use bm_arena::{Arena, Slot};
 use bm_base::{Level, level_of};
 
 /// What is kept of a block beside its replicas.
-#[derive(Clone, Copy)]
+#[derive(Clone, Copy, Debug, PartialEq, Eq)]
 pub(crate) struct Judged {
     /// How urgently it wants replicas.
     pub level: Option<Level>,
     /// Whether a round need not look at it.
     pub is_settled: bool,
+}
+
+/// Whether two are judged alike.
+pub(crate) fn are_alike(a: Judged, b: Judged) -> bool
+    ensures { result ≡ true → a ≡ b }
+{
+    a == b
 }
 
 /// Judges the block at a slot. One look at each of its replicas.

@@ -1,5 +1,5 @@
 // What is kept of the blocks of a shard beside their replicas.
-ghost use Rattle.std.specs.Prelude.{◌≡◌, ◌≢◌, ◌↔◌, ℕ, ◌+◌, ◌<◌, ◌∷◌, length, Some, None, IfOk, IfErr, OnOk, IsOk};
+ghost use Rattle.std.specs.Prelude.{◌≡◌, true, ◌≢◌, ◌↔◌, ℕ, ◌+◌, ◌<◌, ◌≤◌, ◌∷◌, length, Some, None, IfOk, IfErr, OnOk, IsOk};
 ghost use Rattle.bm_base.specs.declared.refusal.Refusal.TheVariants.{Memory};
 ghost use Rattle.bm_base.specs.declared.level.Level.{Level};
 ghost use Rattle.bm_base.specs.Lists.{has};
@@ -9,16 +9,29 @@ ghost use Rattle.bm_arena.specs.Contents.{block_at};
 ghost use Rattle.bm_queues.specs.Levels as queues;
 ghost use Rattle.bm_queues.specs.Walks.{slots_from, IsOn, IsPast};
 ghost use Rattle.bm_levels.specs.Judged.{drains_then};
-ghost use Rattle.bm_levels.specs.Kept.{level_of_slot, IsUnsettled, HasRoomFor, IsJudged, IsSameAt, KeepsAhead, slots_led};
+ghost use Rattle.bm_levels.specs.Kept.{level_of_slot, IsUnsettled, HasRoomFor, IsJudged, IsKeptAs, IsSameAt, KeepsAhead, slots_led};
 
 use crate::around::Around;
-use crate::judging::judge;
+use crate::judging::{Judged, are_alike, judge};
 use bm_arena::{Arena, Slot};
 use bm_base::{Level, Refusal};
 use bm_queues::{LevelLists, SlotSet, Walk};
 use bm_topo::Topology;
 use std::alloc::Global;
 use std::marker::Model;
+
+/// Room is made for so many slots more than are asked for.
+const AHEAD: usize = 255;
+
+/// From here on room is made for just the slots that are asked for: what links can name is near.
+const FAR: usize = 1 << 31;
+
+/// Below which bound room is made, where it is asked for below this one.
+fn ahead_of(bound: usize) -> usize
+    ensures { bound ≤ result }
+{
+    if bound < FAR { bound + AHEAD } else { bound }
+}
 
 /// The level of each block, and the set of the blocks that are not settled, both by the slots of an arena.
 ///
@@ -51,11 +64,33 @@ impl KeptLevels {
         })
     }
 
-    /// Makes room for all slots below a bound; no call but this takes memory.
+    /// Makes room for all slots below a bound, and for some more, so that it is not made for each slot alone; no call but this takes
+    /// memory.
     pub fn grow_to(&mut self, bound: usize) -> Result<(), Refusal>
         ensures room { OnOk result (HasRoomFor self.new bound) }
         ensures kept { (other : ℕ) → HasRoomFor self.old other → HasRoomFor self.new other }
         ensures there { HasRoomFor self.old bound → IsOk result }
+        ensures same { (slot : ℕ) → IsSameAt self.old self.new slot }
+        ensures refused { IfErr result (λ e. e ≡ Memory) }
+    {
+        if self.has_room_for(bound) {
+            return Ok(());
+        }
+        self.grow(ahead_of(bound))
+    }
+
+    /// Whether there is room for all slots below a bound.
+    fn has_room_for(&self, bound: usize) -> bool
+        ensures there { result ≡ true → HasRoomFor self.now bound }
+        ensures lacking { HasRoomFor self.now bound → result ≡ true }
+    {
+        bound <= self.levels.room() && bound <= self.unsettled.room()
+    }
+
+    /// Makes room for all slots below a bound, and no more.
+    fn grow(&mut self, bound: usize) -> Result<(), Refusal>
+        ensures room { OnOk result (HasRoomFor self.new bound) }
+        ensures kept { (other : ℕ) → HasRoomFor self.old other → HasRoomFor self.new other }
         ensures same { (slot : ℕ) → IsSameAt self.old self.new slot }
         ensures refused { IfErr result (λ e. e ≡ Memory) }
     {
@@ -71,13 +106,50 @@ impl KeptLevels {
         ensures ahead { KeepsAhead slot self.old.unsettled.slots self.new.unsettled.slots }
         ensures room { (bound : ℕ) → HasRoomFor self.old bound → HasRoomFor self.new bound }
     {
-        let judged = judge(arena, slot, around);
+        self.keep(slot, judge(arena, slot, around));
+    }
+
+    /// Keeps what the block at a slot was judged.
+    pub(crate) fn keep(&mut self, slot: Slot, judged: Judged)
+        requires room { (bound : ℕ) × (slot < bound) × HasRoomFor self.old bound }
+        ensures kept { IsKeptAs self.new slot judged }
+        ensures others { (other : ℕ) → other ≢ slot → IsSameAt self.old self.new other }
+        ensures ahead { KeepsAhead slot self.old.unsettled.slots self.new.unsettled.slots }
+        ensures room { (bound : ℕ) → HasRoomFor self.old bound → HasRoomFor self.new bound }
+    {
         self.levels.set(slot, judged.level);
         if judged.is_settled {
             self.unsettled.remove(slot);
         } else {
             self.unsettled.insert(slot);
         }
+    }
+
+    /// What is kept of the block at a slot.
+    pub(crate) fn kept_at(&self, slot: Slot) -> Judged
+        requires room { (bound : ℕ) × (slot < bound) × HasRoomFor self.now bound }
+        ensures { IsKeptAs self.now slot result }
+    {
+        Judged {
+            level: self.levels.level(slot),
+            is_settled: !self.unsettled.contains(slot),
+        }
+    }
+
+    /// Judges the block at a slot anew, of which it is known what was kept. To look at that before the block changes lets reads of
+    /// memory not wait for one another.
+    pub(crate) fn judge_from(&mut self, arena: &Arena, slot: Slot, around: &Around<'_>, was: Judged)
+        requires room { (bound : ℕ) × (slot < bound) × HasRoomFor self.old bound }
+        requires was { IsKeptAs self.old slot was }
+        ensures judged { IsJudged (replicas.rack_of around.now.topology.now.cluster) (drains_then around.now.topology.now.cluster around.now.turning) around.now.multi (block_at arena.now slot) self.new slot }
+        ensures others { (other : ℕ) → other ≢ slot → IsSameAt self.old self.new other }
+        ensures room { (bound : ℕ) → HasRoomFor self.old bound → HasRoomFor self.new bound }
+    {
+        let judged = judge(arena, slot, around);
+        if are_alike(judged, was) {
+            return;
+        }
+        self.keep(slot, judged);
     }
 
     /// Judges the block at a slot anew, in a cluster that stays as it is.
@@ -92,16 +164,22 @@ impl KeptLevels {
         self.judge(arena, slot, &Around::still(topology));
     }
 
-    /// Judges the blocks at these slots anew.
-    pub fn judge_all(&mut self, arena: &Arena, slots: &[Slot], around: &Around<'_>)
-        requires room { (slot : ℕ) → Among slot slots.now → HasRoomFor self.old (slot + 1) }
-        ensures judged { (slot : ℕ) → Among slot slots.now → IsJudged (replicas.rack_of around.now.topology.now.cluster) (drains_then around.now.topology.now.cluster around.now.turning) around.now.multi (block_at arena.now slot) self.new slot }
-        ensures others { (slot : ℕ) → (Among slot slots.now → ⊥) → IsSameAt self.old self.new slot }
+    /// Judges the block at a slot anew, of which it is known what was kept, in a cluster that stays as it is.
+    #[tactic(auto, unfolding(crate::specs::Judged::drains_then))]
+    pub(crate) fn judge_from_in(
+        &mut self,
+        topology: &Topology,
+        arena: &Arena,
+        slot: Slot,
+        was: Judged,
+    )
+        requires room { (bound : ℕ) × (slot < bound) × HasRoomFor self.old bound }
+        requires was { IsKeptAs self.old slot was }
+        ensures judged { IsJudged (replicas.rack_of topology.now.cluster) (replicas.is_draining topology.now.cluster) (replicas.is_multi_rack topology.now.cluster) (block_at arena.now slot) self.new slot }
+        ensures others { (other : ℕ) → other ≢ slot → IsSameAt self.old self.new other }
         ensures room { (bound : ℕ) → HasRoomFor self.old bound → HasRoomFor self.new bound }
     {
-        for slot in slots {
-            self.judge(arena, *slot, around);
-        }
+        self.judge_from(arena, slot, &Around::still(topology), was);
     }
 
     /// Judges the blocks at these slots anew, in a cluster that stays as it is.

@@ -113,8 +113,9 @@ impl LeveledBlocks {
         ensures levels { AreLevels topology.now.cluster self.old → AreLevels topology.now.cluster self.new }
     {
         self.arena.lawful();
+        let was = self.kept.kept_at(slot);
         self.arena.unlink(slot, storage);
-        self.kept.judge_in(topology, &self.arena, slot);
+        self.kept.judge_from_in(topology, &self.arena, slot, was);
     }
 
     /// Drops the entry of a number that has neither a block nor a replica; others stay. Takes no memory.

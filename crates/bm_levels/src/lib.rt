@@ -7,6 +7,7 @@
 #![tactic(auto)]
 
 mod around;
+mod chunks;
 mod count;
 mod dropped;
 mod forgotten;

@@ -72,11 +72,12 @@ impl LeveledBlocks {
         ensures levels { AreLevels topology.now.cluster self.old → AreLevels topology.now.cluster self.new }
     {
         self.arena.lawful();
-        let found = self.arena.find(id);
+        let Some(slot) = self.arena.find(id) else {
+            unreachable!();
+        };
+        let was = self.kept.kept_at(slot);
         let applied = report.apply_received(&mut self.arena, topology, storage, id, stamp);
-        if let Some(slot) = found {
-            self.kept.judge_in(topology, &self.arena, slot);
-        }
+        self.kept.judge_from_in(topology, &self.arena, slot, was);
         applied
     }
 

@@ -147,7 +147,7 @@ module _ (C : Cluster) (H : Holdings) where
   wished_at : (l : Level) (b : ℕ) (w : Wish) → wish_at C H l b ≡ Some w → IsWished C H w
   wished_at l b w e = let is = wish_is C H l b w e in ap (λ (v : Wish). wish_at C H v.level v.block) (sym is.2) ∙ e
 
-  one_wish : (v w : Wish) → IsWished C H v → IsWished C H w → wish_key v ≡ wish_key w → v ≡ w
+  pub one_wish : (v w : Wish) → IsWished C H v → IsWished C H w → wish_key v ≡ wish_key w → v ≡ w
   one_wish v w is too same =
       let levels : v.level ≡ w.level = sym (level_again v.level) ∙ ap (λ k. level_from k.0) same ∙ level_again w.level in
       let blocks : v.block ≡ w.block = ap (λ k. k.1) same in

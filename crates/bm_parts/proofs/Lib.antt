@@ -34,3 +34,4 @@ pub mod Racked
 pub mod WellPlaced
 -- Sorted lists merged.
 pub mod MergedLists
+pub mod Before

@@ -11,3 +11,5 @@ pub mod LevelLaws
 pub mod PlacedLaws
 -- Sorted lists merged.
 pub mod Merging
+-- The first wishes of a part.
+pub mod Before

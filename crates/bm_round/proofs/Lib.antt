@@ -7,3 +7,5 @@ pub mod Bounds
 pub mod Copied
 pub mod Told
 pub mod Tested
+pub mod Nothing
+pub mod First

@@ -51,8 +51,7 @@ impl Choice {
     pub fn is_full(&self, config: &Config, topology: &Topology) -> bool
         ensures { result ≡ nat_le (config.now.work * map.len topology.now.cluster.nodes) (length self.now.transfers.items) }
     {
-        let most = u64::from(config.work) * u64::from(topology.alive_nodes());
-        most <= self.transfers.len() as u64
+        are_all(self.transfers.len(), config, topology)
     }
 
     /// Turns to a wish, for whose block nothing was chosen yet.
@@ -98,4 +97,12 @@ impl Choice {
         self.scheduled.add(target, len);
         Ok(())
     }
+}
+
+/// Whether so many transfers are as many as a round may have.
+pub(crate) fn are_all(count: usize, config: &Config, topology: &Topology) -> bool
+    ensures { result ≡ nat_le (config.now.work * map.len topology.now.cluster.nodes) count }
+{
+    let most = u64::from(config.work) * u64::from(topology.alive_nodes());
+    most <= count as u64
 }

@@ -18,7 +18,7 @@ use bm_topo::Topology;
 use std::alloc::Global;
 
 /// The transfers for wishes, wish by wish, each as often as copies are wished for. Ends as soon as the round has as many as it
-/// may.
+/// may; makes no table of the cluster where nothing is wished for.
 pub(crate) fn choose_transfers(
     alloc: Global,
     wishes: &[&Wish],
@@ -29,6 +29,9 @@ pub(crate) fn choose_transfers(
     ensures transfers { IfOk result (λ v. v.items ≡ choices.transfers_over (limits_of config.now) topology.now.cluster [] (choices.one_by_one (map (λ w. w.now) wishes.now))) }
     ensures refused { IfErr result (λ e. e ≡ Memory) }
 {
+    if wishes.is_empty() {
+        return Ok(Vec::new(alloc));
+    }
     let mut choice = Choice::new(alloc, topology)?;
     for wish in wishes {
         if choice.is_full(config, topology) {

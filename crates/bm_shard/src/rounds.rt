@@ -2,6 +2,7 @@
 ghost use Rattle.std.specs.Prelude.{◌≡◌, ◌<◌, ◌+◌, ◌^◌, IfOk, IfErr, OnOk};
 ghost use Rattle.bm_base.specs.declared.refusal.Refusal.TheVariants.{Memory};
 ghost use Rattle.bm_base.specs.RoundParts.{round_on_part};
+ghost use Rattle.bm_parts.specs.Before.{part_before};
 ghost use Rattle.bm_shard.specs.Seen.{IsReadyForRound};
 ghost use Rattle.bm_shard.specs.Bare.{HasNoneBare};
 ghost use Rattle.bm_shard.specs.Standing.{StandsIn, IsSameButRoom, next_part};
@@ -9,7 +10,8 @@ ghost use Rattle.bm_shard.specs.Standing.{StandsIn, IsSameButRoom, next_part};
 use crate::own_transfers::insert_own;
 use crate::shard::{Prepared, Shard};
 use bm_base::{Chosen, Refusal, RoundPart};
-use bm_finding::find_round;
+use bm_finding::{find_round, likely_bound};
+use bm_parts::merge::Key;
 use bm_topo::Topology;
 
 impl Shard {
@@ -22,6 +24,22 @@ impl Shard {
         ensures part { IfOk result (λ p. p ≡ next_part topology.now.cluster self.now) }
         ensures refused { IfErr result (λ e. e ≡ Memory) }
     {
+        self.round_part_before(round, topology, None)
+    }
+
+    /// The same, but of the wishes those alone that come before a bound, if there is one, by level and block. Of the settled blocks no
+    /// other is looked at.
+    pub fn round_part_before(
+        &self,
+        round: u64,
+        topology: &Topology,
+        bound: Option<Key>,
+    ) -> Result<RoundPart, Refusal>
+        requires next { round ≡ self.now.round + 1 }
+        requires standing { StandsIn topology.now.cluster self.now }
+        ensures part { IfOk result (λ p. p ≡ part_before bound (next_part topology.now.cluster self.now)) }
+        ensures refused { IfErr result (λ e. e ≡ Memory) }
+    {
         self.blocks.lawful();
         self.blocks.arena().lawful();
         find_round(
@@ -31,7 +49,16 @@ impl Shard {
             topology,
             self.pend,
             round,
+            bound,
         )
+    }
+
+    /// A bound before which about so many blocks wish for copies; `None` where not so many do. Only a guess: nothing but the time of a
+    /// round may depend on it. `Memory`.
+    pub fn likely_bound(&self, most: usize) -> Result<Option<Key>, Refusal>
+        ensures refused { IfErr result (λ e. e ≡ Memory) }
+    {
+        Ok(likely_bound(self.alloc, &self.blocks, &self.pending, most)?)
     }
 
     /// Takes the memory that [`Shard::round_commit`] needs. Where the shard stands in some cluster, nothing else that is seen changes. `Memory`.
@@ -57,7 +84,7 @@ impl Shard {
     /// round, also one of which nothing was chosen. What was prepared for an event is given up. Takes no memory.
     pub fn round_commit(&mut self, part: &RoundPart, chosen: &Chosen, topology: &Topology)
         requires standing { StandsIn topology.now.cluster self.old }
-        requires part { part.now ≡ next_part topology.now.cluster self.old }
+        requires part { part.now.excess ≡ (next_part topology.now.cluster self.old).excess }
         requires ready { IsReadyForRound chosen.now self.old }
         requires counted { self.old.round + 1 < 2 ^ 64 }
         ensures holdings { self.new.holdings ≡ round_on_part topology.now.cluster self.old.pend (self.old.round + 1) self.old.holdings self.old.part.index self.old.part.shards chosen.now.transfers chosen.now.deletes }
@@ -73,7 +100,7 @@ impl Shard {
     /// Takes the shard's next round, with nothing prepared.
     fn take_round(&mut self, part: &RoundPart, chosen: &Chosen, topology: &Topology)
         requires standing { StandsIn topology.now.cluster self.old }
-        requires part { part.now ≡ next_part topology.now.cluster self.old }
+        requires part { part.now.excess ≡ (next_part topology.now.cluster self.old).excess }
         requires ready { IsReadyForRound chosen.now self.old }
         requires counted { self.old.round + 1 < 2 ^ 64 }
         requires none { HasNoneBare self.old }

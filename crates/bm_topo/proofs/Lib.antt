@@ -6,3 +6,5 @@ pub mod Lengths
 pub mod Sounding
 pub mod RackCount
 pub mod Capacity
+pub mod OwnStorages
+pub mod Repeats

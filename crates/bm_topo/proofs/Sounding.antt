@@ -2,7 +2,6 @@
 use Rattle.std.proofs.Common.{◌≡◌, ℕ, ◌+◌, ◌<◌, ◌≤◌, ◌^◌, Bool, true, false, cond, ◌||◌, List, [], ◌∷◌, length, Option, Some, None, refl, sym, ap, subst, ◌∙◌, ◌≢◌, true≢false, arith}
 use Rattle.std.specs.Prelude.{◌==◌, not, option_and_then, option_map, is_some}
 use Rattle.std.specs.Option.{option_map_or}
-use Rattle.std.proofs.lemmas.List.{length-map}
 use Rattle.std.proofs.lemmas.Bool.{leb-false, ltb-false, eq-eqb}
 use Rattle.bm_base.specs.declared.storage.StorageInfo.{StorageInfo}
 use Rattle.bm_base.specs.declared.event.Event.TheVariants.{Register}
@@ -24,7 +23,7 @@ use Rattle.bm_topo.specs.Named.{named}
 use Rattle.bm_topo.specs.Racks.{on_rack, CountsRacks, without_one}
 use Rattle.bm_topo.specs.Sound.{IsSound, cluster_of}
 use Rattle.bm_topo.proofs.Keys.{small_keys_insert, small_keys-empty, small_keys-remove, small_keys-keep, small_keys-revise_at}
-use Rattle.bm_topo.proofs.Lengths.{len-insert_most, len-insert_all, len-remove, len-revise_at}
+use Rattle.bm_topo.proofs.Lengths.{len-remove, len-revise_at}
 use Rattle.bm_topo.proofs.Counting.{counts-insert, counts-remove}
 
 counts-empty : CountsRacks empty empty

@@ -1,6 +1,7 @@
 // The checks of an event on the cluster, in their order.
 ghost use Rattle.std.specs.Prelude.{◌≡◌, ◌≤◌, ◌^◌, ◌+◌, ◌||◌, not, nat_le, nat_lt, length, None, OnOk, if◌then◌else◌};
 ghost use Rattle.std.specs.List.{list_any};
+ghost use Rattle.std.specs.List.Sorted.{IsNonDecreasing};
 ghost use Rattle.bm_base.specs.Map as map;
 ghost use Rattle.bm_base.specs.Lists as lists;
 ghost use Rattle.bm_base.specs.Replicas as replicas;
@@ -15,6 +16,12 @@ use bm_base::{
     Entry, Event, MAX_ENTRIES, MAX_NODES, MAX_NUMBERS, MAX_STORAGES, NodeId, Rack, Refusal,
     Remaining, StorageId,
 };
+
+/// Of a list up to this length each storage is compared with those behind it.
+const FEW: usize = 256;
+
+/// How many storages of a longer list are put in order at a time, on the stack.
+const ORDERED: usize = 32_768;
 
 impl Topology {
     /// Whether a storage is named twice, or known.
@@ -49,6 +56,7 @@ impl Topology {
         remaining.iter().any(|r| !self.knows_storage(r.storage))
     }
 
+    /// Whether a storage is not one of the node's; one that is not known is not.
     fn has_stranger(&self, node: NodeId, remaining: &[Remaining]) -> bool
         ensures { result ≡ list_any (λ r. not (replicas.has_storage self.now.cluster node r.storage)) remaining.now }
     {
@@ -83,13 +91,13 @@ impl Topology {
         if !self.knows_node(node) {
             return Err(Refusal::UnknownNode);
         }
+        if !self.has_stranger(node, remaining) {
+            return Ok(());
+        }
         if self.lacks_one(remaining) {
             return Err(Refusal::UnknownStorage);
         }
-        if self.has_stranger(node, remaining) {
-            return Err(Refusal::NotItsStorage);
-        }
-        Ok(())
+        Err(Refusal::NotItsStorage)
     }
 
     fn check_node(&self, node: NodeId) -> Result<(), Refusal>
@@ -177,8 +185,19 @@ impl Topology {
     }
 }
 
-/// Whether a storage stands twice in a list.
+/// Whether a storage stands twice in a list. A long one is not compared storage by storage, which would take as many steps as its
+/// length times itself; no memory is taken.
 fn has_repeats(storages: &[StorageId]) -> bool
+    ensures { result ≡ lists.has_repeats storages.now }
+{
+    if storages.len() <= FEW {
+        has_repeats_among_few(storages)
+    } else {
+        has_repeats_among_many(storages)
+    }
+}
+
+fn has_repeats_among_few(storages: &[StorageId]) -> bool
     ensures { result ≡ lists.has_repeats storages.now }
 {
     let mut rest = storages;
@@ -189,6 +208,58 @@ fn has_repeats(storages: &[StorageId]) -> bool
         rest = others;
     }
     false
+}
+
+/// Puts one part of the list after another in order, and looks for all that follows it there.
+fn has_repeats_among_many(storages: &[StorageId]) -> bool
+    ensures { result ≡ lists.has_repeats storages.now }
+{
+    let mut ordered = [StorageId(0); ORDERED];
+    let mut rest = storages;
+    while !rest.is_empty() {
+        let (part, others) = rest.split_at(rest.len().min(ORDERED));
+        if stands_twice(part, others, &mut ordered[..part.len()]) {
+            return true;
+        }
+        rest = others;
+    }
+    false
+}
+
+/// Whether a storage stands twice in a part of a list, or in it and in what follows.
+fn stands_twice(part: &[StorageId], others: &[StorageId], ordered: &mut [StorageId]) -> bool
+    requires { length ordered.old ≡ length part.now }
+    ensures { result ≡ (lists.has_repeats part.now || list_any (lists.has part.now) others.now) }
+{
+    ordered.copy_from_slice(part);
+    ordered.sort_unstable();
+    has_neighbours_alike(ordered) || has_one_of(ordered, others)
+}
+
+fn has_neighbours_alike(ordered: &[StorageId]) -> bool
+    requires { IsNonDecreasing ordered.now }
+    ensures { result ≡ lists.has_repeats ordered.now }
+{
+    for later in 1..ordered.len() {
+        if ordered[later - 1] == ordered[later] {
+            return true;
+        }
+    }
+    false
+}
+
+fn has_one_of(ordered: &[StorageId], others: &[StorageId]) -> bool
+    requires { IsNonDecreasing ordered.now }
+    ensures { result ≡ list_any (lists.has ordered.now) others.now }
+{
+    others.iter().any(|storage| stands_in(ordered, *storage))
+}
+
+fn stands_in(ordered: &[StorageId], storage: StorageId) -> bool
+    requires { IsNonDecreasing ordered.now }
+    ensures { result ≡ lists.has ordered.now storage }
+{
+    ordered.binary_search(&storage).is_ok()
 }
 
 /// How many numbers an entry of a report names.

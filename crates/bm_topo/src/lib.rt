@@ -7,7 +7,7 @@ mod racks;
 mod tables;
 mod topology;
 
-pub use topology::Topology;
+pub use topology::{Location, Topology};
 
 #[cfg(test)]
 mod tests;

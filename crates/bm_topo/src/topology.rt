@@ -12,6 +12,17 @@ use bm_base::{NodeId, NumberMap, Rack, Refusal, StorageId, StorageInfo};
 use std::alloc::Global;
 use std::marker::Model;
 
+/// Where a storage is.
+#[derive(Clone, Copy)]
+pub struct Location {
+    /// Its node; `None` where the storage is not known.
+    pub node: Option<NodeId>,
+    /// The rack on which its node stands.
+    pub rack: Option<Rack>,
+    /// Whether its node drains.
+    pub drains: bool,
+}
+
 /// The alive DataNodes with their racks, those of them that drain, and their storages with what is free there.
 ///
 /// A contract sees the cluster of the definitions, and for how many further nodes, racks, storages and nodes that drain there is
@@ -97,6 +108,28 @@ impl Topology {
         match self.node_of(storage) {
             Some(node) => self.draining.get(u64::from(node.0)).is_some(),
             None => false,
+        }
+    }
+
+    /// Where a storage is, with one look-up of the storage.
+    #[tactic(auto, unfolding(bm_base::specs::Replicas::node_of, bm_base::specs::Replicas::rack_of, bm_base::specs::Replicas::is_draining, bm_base::specs::Replicas::drains))]
+    pub fn location_of(&self, storage: StorageId) -> Location
+        ensures node { result.node ≡ replicas.node_of self.now.cluster storage }
+        ensures rack { result.rack ≡ replicas.rack_of self.now.cluster storage }
+        ensures drains { result.drains ≡ replicas.is_draining self.now.cluster storage }
+    {
+        let Some(info) = self.storages.get(u64::from(storage.0)) else {
+            return Location {
+                node: None,
+                rack: None,
+                drains: false,
+            };
+        };
+        let number = u64::from(info.node.0);
+        Location {
+            node: Some(info.node),
+            rack: self.nodes.get(number),
+            drains: self.draining.get(number).is_some(),
         }
     }
 

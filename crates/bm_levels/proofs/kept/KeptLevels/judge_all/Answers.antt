@@ -1,45 +1,54 @@
-use Rattle.std.proofs.Common.{◌≡◌, ◌≤◌, ◌+◌, ℕ, List, [], ◌∷◌, length, drop, drop_of_length-le, slice_index_or, subst, arith}
-use Rattle.std.proofs.lemmas.Grind.{common_steps}
+use Rattle.std.proofs.Common.{◌≡◌, ◌++◌, ◌+◌, ℕ, List, [], ◌∷◌, length, true, refl, subst, sym, ◌∙◌, arith}
+use Rattle.std.specs.Prelude.{◌==◌}
+use Rattle.std.proofs.lemmas.Bool.{eqb-true}
+use Rattle.std.proofs.lemmas.List.{take-append-drop}
 use Rattle.bm_base.specs.Replicas.{rack_of}
+use Rattle.bm_base.specs.SlotLists.{Among}
 use Rattle.bm_levels.specs.Judged.{drains_then}
-use Rattle.bm_levels.proofs.Keeping.{IsUnderway, underway_none, underway_more, underway_judged, underway_others, among_next}
+use Rattle.bm_levels.proofs.Keeping.{IsUnderway, underway_none, underway_chunk, underway_judged, underway_others, among_front, among_back}
 use Rattle.bm_levels.proofs.kept.KeptLevels.judge_all.Goals as goal
 
-pub loop-slot-init : goal.loop-slot-init
-loop-slot-init c =
-    let C = c.args.around.now.topology.now.cluster in
-    record { underway = underway_none (rack_of C) (drains_then C c.args.around.now.turning) c.args.around.now.multi c.args.arena.now c.args.slots.now c.args.self.now; room = λ bound h. h }
+empty_of : (xs : List ℕ) → (length xs == 0) ≡ true → xs ≡ []
+empty_of [] e = refl
+empty_of (x ∷ xs) e = let none = eqb-true (length (x ∷ xs)) 0 e in absurd (omega (arith, none))
 
-pub judge-requires : goal.judge-requires
-judge-requires c =
-    let x = slice_index_or c.args.slots.now c.loop-slot.slot-index 0 in
-    let next : drop c.loop-slot.slot-index c.args.slots.now ≡ x ∷ drop (c.loop-slot.slot-index + 1) c.args.slots.now = grind (arith, common_steps) in
-    let there = among_next c.args.slots.now (drop (c.loop-slot.slot-index + 1) c.args.slots.now) c.loop-slot.slot-index x next in
-    record { room = (x + 1, omega arith, c.loop-slot.invariant.room (x + 1) (c.requires.room x there)) }
-
-pub loop-slot-preserved : goal.loop-slot-preserved
-loop-slot-preserved c =
+pub loop-rest-init : goal.loop-rest-init
+loop-rest-init c =
     let C = c.args.around.now.topology.now.cluster in
-    let x = slice_index_or c.args.slots.now c.loop-slot.slot-index 0 in
-    let rest = drop (c.loop-slot.slot-index + 1) c.args.slots.now in
-    let next : drop c.loop-slot.slot-index c.args.slots.now ≡ x ∷ rest = grind (arith, common_steps) in
-    let there = among_next c.args.slots.now rest c.loop-slot.slot-index x next in
-    let P : List ℕ → Type 0 = λ l. IsUnderway (rack_of C) (drains_then C c.args.around.now.turning) c.args.around.now.multi c.args.arena.now c.args.slots.now l c.args.self.now c.loop-slot.self in
+    record { underway = underway_none (rack_of C) (drains_then C c.args.around.now.turning) c.args.around.now.multi c.args.arena.now c.args.slots.now c.args.self.now; listed = λ slot h. h; room = λ bound h. h }
+
+pub judge_chunk-requires-clause-room : goal.judge_chunk-requires-clause-room
+judge_chunk-requires-clause-room c slot there =
+    let P : List ℕ → Type 0 = λ l. Among slot l in
+    let whole : c.split_at.result.0.now ++ c.split_at.result.1.now ≡ c.loop-rest.rest.now = (λ i. c.split_at.ensures.front i ++ c.split_at.ensures.back i) ∙ take-append-drop c.chunk_len.result c.loop-rest.rest.now in
+    c.loop-rest.invariant.room (slot + 1) (c.requires.room slot (c.loop-rest.invariant.listed slot (subst P whole (among_front slot c.split_at.result.0.now c.split_at.result.1.now there))))
+
+pub loop-rest-preserved : goal.loop-rest-preserved
+loop-rest-preserved c =
+    let C = c.args.around.now.topology.now.cluster in
+    let D = drains_then C c.args.around.now.turning in
+    let multi = c.args.around.now.multi in
+    let a = c.args.arena.now in
+    let all = c.args.slots.now in
+    let xs = c.split_at.result.0.now in
+    let ys = c.split_at.result.1.now in
+    let whole : xs ++ ys ≡ c.loop-rest.rest.now = (λ i. c.split_at.ensures.front i ++ c.split_at.ensures.back i) ∙ take-append-drop c.chunk_len.result c.loop-rest.rest.now in
+    let P : List ℕ → Type 0 = λ l. IsUnderway (rack_of C) D multi a all l c.args.self.now c.loop-rest.self in
+    let listed : (slot : ℕ) → Among slot (xs ++ ys) → Among slot all = λ slot h. c.loop-rest.invariant.listed slot (let Q : List ℕ → Type 0 = λ l. Among slot l in subst Q whole h) in
     record {
-      underway = underway_more (rack_of C) (drains_then C c.args.around.now.turning) c.args.around.now.multi c.args.arena.now c.args.slots.now rest x c.args.self.now c.loop-slot.self c.judge.new.self there
-          (subst P next c.loop-slot.invariant.underway) c.judge.ensures.judged c.judge.ensures.others;
-      room = λ bound h. c.judge.ensures.room bound (c.loop-slot.invariant.room bound h);
+      underway = underway_chunk (rack_of C) D multi a all xs ys c.args.self.now c.loop-rest.self c.judge_chunk.new.self (λ slot h. listed slot (among_front slot xs ys h)) (subst P (sym whole) c.loop-rest.invariant.underway) c.judge_chunk.ensures.judged c.judge_chunk.ensures.others;
+      listed = λ slot h. listed slot (among_back slot xs ys h);
+      room = λ bound h. c.judge_chunk.ensures.room bound (c.loop-rest.invariant.room bound h);
     }
 
 pub returns-clause-judged : goal.returns-clause-judged
 returns-clause-judged c =
     let C = c.args.around.now.topology.now.cluster in
-    let past : length c.args.slots.now ≤ c.loop-slot.slot-index = omega arith in
-    let none : drop c.loop-slot.slot-index c.args.slots.now ≡ [] = drop_of_length-le _ past in
-    let P : List ℕ → Type 0 = λ l. IsUnderway (rack_of C) (drains_then C c.args.around.now.turning) c.args.around.now.multi c.args.arena.now c.args.slots.now l c.args.self.now c.loop-slot.self in
-    underway_judged (rack_of C) (drains_then C c.args.around.now.turning) c.args.around.now.multi c.args.arena.now c.args.slots.now c.args.self.now c.loop-slot.self (subst P none c.loop-slot.invariant.underway)
+    let none : c.loop-rest.rest.now ≡ [] = empty_of c.loop-rest.rest.now (sym c.is_empty.ensures ∙ c.loop-rest-test.false) in
+    let P : List ℕ → Type 0 = λ l. IsUnderway (rack_of C) (drains_then C c.args.around.now.turning) c.args.around.now.multi c.args.arena.now c.args.slots.now l c.args.self.now c.loop-rest.self in
+    underway_judged (rack_of C) (drains_then C c.args.around.now.turning) c.args.around.now.multi c.args.arena.now c.args.slots.now c.args.self.now c.loop-rest.self (subst P none c.loop-rest.invariant.underway)
 
 pub returns-clause-others : goal.returns-clause-others
 returns-clause-others c =
     let C = c.args.around.now.topology.now.cluster in
-    underway_others (rack_of C) (drains_then C c.args.around.now.turning) c.args.around.now.multi c.args.arena.now c.args.slots.now (drop c.loop-slot.slot-index c.args.slots.now) c.args.self.now c.loop-slot.self c.loop-slot.invariant.underway
+    underway_others (rack_of C) (drains_then C c.args.around.now.turning) c.args.around.now.multi c.args.arena.now c.args.slots.now c.loop-rest.rest.now c.args.self.now c.loop-rest.self c.loop-rest.invariant.underway

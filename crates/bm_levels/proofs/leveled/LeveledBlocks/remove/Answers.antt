@@ -9,16 +9,16 @@ invariant_of-self c =
     let r = c.unlink.ensures.others in
     let P : Leveled → Type 0 = λ v. slot_of v.arena c.requires.slot.0 ≡ Some c.args.slot in
     let here = subst P (sym c.self.view_is) c.requires.slot.1 in
-    leveled_after c.args.topology.now.cluster (record { arena = c.self.inside.arena; kept = c.self.inside.kept }) c.unlink.new.self c.judge_in.new.self c.args.slot
+    leveled_after c.args.topology.now.cluster (record { arena = c.self.inside.arena; kept = c.self.inside.kept }) c.unlink.new.self c.judge_from_in.new.self c.args.slot
     (record { blocks = r.blocks; delimiter = r.delimiter; apart = (c.lawful.ensures.found c.requires.slot.0 c.args.slot here).0; held = held_by c.self.inside.arena c.args.slot (c.lawful.ensures.found c.requires.slot.0 c.args.slot here) })
-    c.judge_in.ensures.judged c.judge_in.ensures.others c.self.invariant c.judge_in.ensures.room
+    c.judge_from_in.ensures.judged c.judge_from_in.ensures.others c.self.invariant c.judge_from_in.ensures.room
 
 pub returns-clause-levels : goal.returns-clause-levels
 returns-clause-levels c =
     let r = c.unlink.ensures.others in
     let P : Leveled → Type 0 = λ v. slot_of v.arena c.requires.slot.0 ≡ Some c.args.slot in
     let here = subst P (sym c.self.view_is) c.requires.slot.1 in
-    let Q : Leveled → Type 0 = λ v. AreLevels c.args.topology.now.cluster v → AreLevels c.args.topology.now.cluster (record { arena = c.unlink.new.self; kept = c.judge_in.new.self }) in
-    subst Q c.self.view_is (levels_after c.args.topology.now.cluster (record { arena = c.self.inside.arena; kept = c.self.inside.kept }) c.unlink.new.self c.judge_in.new.self c.args.slot
+    let Q : Leveled → Type 0 = λ v. AreLevels c.args.topology.now.cluster v → AreLevels c.args.topology.now.cluster (record { arena = c.unlink.new.self; kept = c.judge_from_in.new.self }) in
+    subst Q c.self.view_is (levels_after c.args.topology.now.cluster (record { arena = c.self.inside.arena; kept = c.self.inside.kept }) c.unlink.new.self c.judge_from_in.new.self c.args.slot
     (record { blocks = r.blocks; delimiter = r.delimiter; apart = (c.lawful.ensures.found c.requires.slot.0 c.args.slot here).0; held = held_by c.self.inside.arena c.args.slot (c.lawful.ensures.found c.requires.slot.0 c.args.slot here) })
-    c.judge_in.ensures.judged c.judge_in.ensures.others)
+    c.judge_from_in.ensures.judged c.judge_from_in.ensures.others)

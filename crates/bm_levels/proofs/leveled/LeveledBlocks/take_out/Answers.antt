@@ -18,20 +18,20 @@ pub invariant_of-self : goal.invariant_of-self
 invariant_of-self c =
     let old : Leveled = record { arena = c.self.inside.arena; kept = c.self.inside.kept } in
     leveled_where (rack_of c.args.around.now.topology.now.cluster) (drains_then c.args.around.now.topology.now.cluster c.args.around.now.turning) c.args.around.now.multi
-    old c.unlink.new.self c.judge.new.self c.args.slot
+    old c.unlink.new.self c.judge_from.new.self c.args.slot
     (changed old c.args.self.now c.unlink.new.self c.args.slot c.args.storage c.requires.slot.0 c.self.view_is c.lawful.ensures c.requires.slot.1 c.unlink.ensures.others)
-    c.judge.ensures.judged c.judge.ensures.others c.self.invariant c.judge.ensures.room
+    c.judge_from.ensures.judged c.judge_from.ensures.others c.self.invariant c.judge_from.ensures.room
 
 pub returns-clause-levels : goal.returns-clause-levels
 returns-clause-levels c =
     let rack = rack_of c.args.around.now.topology.now.cluster in
     let draining = drains_then c.args.around.now.topology.now.cluster c.args.around.now.turning in
     let old : Leveled = record { arena = c.self.inside.arena; kept = c.self.inside.kept } in
-    let P : Leveled → Type 0 = λ v. AreLevelsBy rack draining c.args.around.now.multi v → AreLevelsBy rack draining c.args.around.now.multi (record { arena = c.unlink.new.self; kept = c.judge.new.self }) in
+    let P : Leveled → Type 0 = λ v. AreLevelsBy rack draining c.args.around.now.multi v → AreLevelsBy rack draining c.args.around.now.multi (record { arena = c.unlink.new.self; kept = c.judge_from.new.self }) in
     subst P c.self.view_is
-    (levels_where rack draining c.args.around.now.multi old c.unlink.new.self c.judge.new.self c.args.slot
+    (levels_where rack draining c.args.around.now.multi old c.unlink.new.self c.judge_from.new.self c.args.slot
     (changed old c.args.self.now c.unlink.new.self c.args.slot c.args.storage c.requires.slot.0 c.self.view_is c.lawful.ensures c.requires.slot.1 c.unlink.ensures.others)
-    c.judge.ensures.judged c.judge.ensures.others)
+    c.judge_from.ensures.judged c.judge_from.ensures.others)
 
 pub returns-clause-fewer : goal.returns-clause-fewer
 returns-clause-fewer c =

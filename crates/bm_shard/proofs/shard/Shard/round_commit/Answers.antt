@@ -11,7 +11,7 @@ pub take_round-requires : goal.take_round-requires
 take_round-requires c =
     let C = c.args.topology.now.cluster in
     let same = c.abort.ensures.same in
-    let P : Seen → Type 0 = λ S. c.args.part.now ≡ next_part C S in
+    let P : Seen → Type 0 = λ S. c.args.part.now.excess ≡ (next_part C S).excess in
     let Q : Seen → Type 0 = λ S. S.round + 1 < 2 ^ 64 in
     record {
       standing = stands_still C c.args.self.now c.abort.new.self c.requires.standing same;

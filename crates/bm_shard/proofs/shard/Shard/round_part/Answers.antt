@@ -1,20 +1,10 @@
-use Rattle.std.proofs.Common.{subst, sym}
-use Rattle.bm_arena.specs.Contents.{IsLawful}
-use Rattle.bm_levels.specs.Held.{holdings_with}
-use Rattle.bm_shard.specs.Seen.{Seen}
-use Rattle.bm_shard.specs.Standing.{StandsIn}
-use Rattle.bm_shard.proofs.Levels.{right_by_slot}
+use Rattle.std.proofs.Common.{◌∙◌}
+use Rattle.std.proofs.lemmas.Result.{IfOk-weaker}
+use Rattle.bm_parts.proofs.Filters.{filter_all}
+use Rattle.bm_shard.specs.Standing.{next_part}
 use Rattle.bm_shard.proofs.shard.Shard.round_part.Goals as goal
 
-pub find_round-requires-clause-levels : goal.find_round-requires-clause-levels
-find_round-requires-clause-levels c =
-    let v = c.self.inside in
-    let C = c.args.topology.now.cluster in
-    let P : Seen → Type 0 = λ s. StandsIn C s in
-    right_by_slot C v.blocks v.pending.map (subst (λ a. IsLawful a) c.arena.ensures c.lawful-2.ensures) c.lawful.ensures (subst P (sym c.self.view_is) c.requires.standing).levels
-
-pub find_round-requires-clause-stored : goal.find_round-requires-clause-stored
-unfolding holdings_with
-find_round-requires-clause-stored c =
-    let P : Seen → Type 0 = λ s. StandsIn c.args.topology.now.cluster s in
-    (subst P (sym c.self.view_is) c.requires.standing).placed.stored
+pub returns-clause-part : goal.returns-clause-part
+returns-clause-part c =
+    let p = next_part c.args.topology.now.cluster c.args.self.now in
+    IfOk-weaker c.round_part_before.result _ _ (λ r is. is ∙ (λ j. record p { wishes = filter_all p.wishes j })) c.round_part_before.ensures.part

@@ -23,7 +23,7 @@ remark-requires c = record {
   surplus =
       let v = c.self.inside in
       let C = c.args.topology.now.cluster in
-      c.as_slice.ensures ∙ ap (λ p. p.excess) c.requires.part ∙ ap (λ (S : Seen). (next_part C S).excess) (sym c.self.view_is) ∙ same_surplus C v.pend (v.round + 1) v.blocks.arena v.pending.map;
+      c.as_slice.ensures ∙ c.requires.part ∙ ap (λ (S : Seen). (next_part C S).excess) (sym c.self.view_is) ∙ same_surplus C v.pend (v.round + 1) v.blocks.arena v.pending.map;
 }
 
 pub insert_own-requires-clause-room : goal.insert_own-requires-clause-room

@@ -3,18 +3,18 @@ use Rattle.std.specs.Prelude.{if◌then◌else◌}
 use Rattle.std.proofs.lemmas.Bool.{ne_eqb}
 use Rattle.bm_queues.specs.Levels.{level_at}
 use Rattle.bm_levels.specs.Kept.{Kept, IsSameAt}
-use Rattle.bm_levels.proofs.kept.KeptLevels.judge.Goals as goal
+use Rattle.bm_levels.proofs.kept.KeptLevels.keep.Goals as goal
 
 pub returns-then-judged-clause-others : goal.returns-then-judged-clause-others
 returns-then-judged-clause-others c =
     λ other ne.
-    let level = c.set.ensures.levels other ∙ ap (λ b. if b then c.judge-judged.result.level else level_at c.self.inside.levels other) (ne_eqb other c.args.slot ne) in
+    let level = c.set.ensures.levels other ∙ ap (λ b. if b then c.args.judged.level else level_at c.self.inside.levels other) (ne_eqb other c.args.slot ne) in
     let P : Kept → Type 0 = λ K. IsSameAt K (record { levels = c.set.new.self; unsettled = c.remove.new.self }) other in
     subst P c.self.view_is (record { level = level; unsettled = c.remove.ensures.others other ne })
 
 pub returns-else-judged-clause-others : goal.returns-else-judged-clause-others
 returns-else-judged-clause-others c =
     λ other ne.
-    let level = c.set.ensures.levels other ∙ ap (λ b. if b then c.judge-judged.result.level else level_at c.self.inside.levels other) (ne_eqb other c.args.slot ne) in
+    let level = c.set.ensures.levels other ∙ ap (λ b. if b then c.args.judged.level else level_at c.self.inside.levels other) (ne_eqb other c.args.slot ne) in
     let P : Kept → Type 0 = λ K. IsSameAt K (record { levels = c.set.new.self; unsettled = c.insert.new.self }) other in
     subst P c.self.view_is (record { level = level; unsettled = c.insert.ensures.others other ne })

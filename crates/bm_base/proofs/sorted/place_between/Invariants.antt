@@ -1,6 +1,6 @@
 use Rattle.std.proofs.Common.{◌≤◌, ◌-◌, length}
 use Rattle.bm_base.specs.Place.{place}
-use Rattle.bm_base.proofs.sorted.place.Given as goal
+use Rattle.bm_base.proofs.sorted.place_between.Given as goal
 
 -- the place is not before what is left, nor behind it
 abbrev pub invariant-loop-low : goal.invariant-loop-low

@@ -1,0 +1,44 @@
+// By what slots are put in order: the level of their block, and its number.
+ghost use Rattle.std.specs.Prelude.{◌≡◌};
+ghost use Rattle.bm_parts.specs.Before as before;
+ghost use Rattle.bm_finding.specs.Gathering as gathering;
+ghost use Rattle.bm_finding.specs.Visits as visits;
+
+use bm_arena::{Arena, Slot};
+use bm_levels::KeptLevels;
+use bm_parts::merge::Key;
+
+/// Stands for the level of a block that has none: one more than the greatest.
+const NO_LEVEL: u32 = 5;
+
+/// The level and the number of the block at a slot: what it may wish for stands at this key, if the slot is settled.
+pub(crate) fn key_of(kept: &KeptLevels, arena: &Arena, slot: Slot) -> Key
+    ensures { result ≡ visits.key_at kept.now arena.now slot }
+{
+    let level = match kept.level(slot) {
+        Some(level) => level.number(),
+        None => NO_LEVEL,
+    };
+    (level as u64, number_of(arena, slot))
+}
+
+/// The number of the block at a slot; 0 where no block stands.
+fn number_of(arena: &Arena, slot: Slot) -> u64
+    ensures { result ≡ gathering.id_at arena.now slot }
+{
+    if arena.has_entry(slot) {
+        arena.id_of(slot).0
+    } else {
+        0
+    }
+}
+
+/// Whether a key comes before a bound, if there is one.
+pub(crate) fn is_before(bound: Option<Key>, key: Key) -> bool
+    ensures { result ≡ before.is_before bound key }
+{
+    match bound {
+        Some(bound) => key.0.cmp(&bound.0).then(key.1.cmp(&bound.1)).is_lt(),
+        None => true,
+    }
+}
