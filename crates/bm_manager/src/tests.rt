@@ -14,7 +14,6 @@ use std::sync::atomic::{AtomicU64, Ordering};
 use std::thread::Threads;
 
 mod readers;
-mod schedules;
 
 /// A call, as the lists below tell it.
 #[derive(Clone, Copy)]

@@ -158,7 +158,8 @@ fn storage_of(node: NodeId, place: u32) -> StorageId {
     StorageId(node.0.wrapping_mul(10).wrapping_add(place).wrapping_add(1))
 }
 
-fn block(dice: &mut Dice) -> BlockId {
+/// Any of the blocks.
+pub fn block(dice: &mut Dice) -> BlockId {
     BlockId(u64::from(dice.below(BLOCKS)))
 }
 

@@ -2,15 +2,21 @@
 //! and workers are drawn too, and compares each answer: `random_calls [CALLS [SEED]]`. The calls come in lists of 2,000, each on
 //! two new managers. Standard output has how many calls were answered alike.
 //!
-//! Ends with status 1 where two answers differ, where memory is refused, where an argument is no number, and where the run was
-//! too poor to show much: fewer than so many events of each kind accepted, rounds that command something, lists that are not
-//! empty, and refusals. (Fewer calls than a list has show little, and are not judged so.)
+//! `random_calls beside [TIMES [SEED]]` makes so many lists of 100 calls on a manager with five shards and four workers, publishes
+//! after each call, and has two threads read beside it: each answer and each read must be those of a manager with one of both.
+//!
+//! Ends with status 1 where two answers differ, where a read is of no version that was published or goes back, where memory is
+//! refused, where an argument is no number, and where the run was too poor to show much: fewer than so many events of each kind
+//! accepted, rounds that command something, lists that are not empty, and refusals. (Fewer calls than a list has show little, and
+//! are not judged so.)
 #![tactic(auto)]
 
 mod alike;
+mod beside;
 mod counts;
 mod dice;
 mod drawing;
+mod readers;
 
 use alike::are_alike;
 use bm_base::{Answer, Call, Config, Refusal};
@@ -30,13 +36,31 @@ const LIST: u32 = 2000;
 
 const SEED: u64 = 20_260_123;
 
+/// How many lists are made beside readers.
+const TIMES: u32 = 200;
+
+/// What is asked for: so many calls, or so many lists beside readers, by a seed.
+#[derive(Clone, Copy)]
+enum Asked {
+    Calls(u32, u64),
+    Beside(u32, u64),
+}
+
 fn main(rt: HostRuntime) -> ExitCode {
-    let Some((calls, seed)) = asked(&rt) else {
+    let Some(asked) = read_words(&rt) else {
         return ExitCode::FAILURE;
     };
-    match compare(&rt, rt.alloc(), calls, seed) {
+    let (done, what) = match asked {
+        Asked::Calls(calls, seed) => (compare(&rt, rt.alloc(), calls, seed), "calls alike"),
+        Asked::Beside(times, seed) => (
+            beside::are_all_alike(&rt, rt.alloc(), times, seed),
+            "lists alike beside readers",
+        ),
+    };
+    match done {
         Ok(true) => {
-            let _ = println!(rt; "{calls} calls alike");
+            let count = asked.count();
+            let _ = println!(rt; "{count} {what}");
             ExitCode::SUCCESS
         }
         Ok(false) => ExitCode::FAILURE,
@@ -47,18 +71,33 @@ fn main(rt: HostRuntime) -> ExitCode {
     }
 }
 
-/// How many calls are asked for, and by which seed. `None` where a word is no number.
-fn asked<R: Runtime + AllocGlobal>(rt: &R) -> Option<(u32, u64)> {
-    let mut words = env::args(rt).ok()?.skip(1);
-    let calls = match words.next() {
-        Some(word) => word.as_str().parse::<u32>().ok()?,
-        None => LIST,
+impl Asked {
+    fn count(&self) -> u32 {
+        match self {
+            Asked::Calls(count, _) | Asked::Beside(count, _) => *count,
+        }
+    }
+}
+
+/// What the arguments ask for. `None` where a word is no number.
+fn read_words<R: Runtime + AllocGlobal>(rt: &R) -> Option<Asked> {
+    let mut words = env::args(rt).ok()?.skip(1).peekable();
+    let is_beside = matches!(words.peek(), Some(word) if word.as_str() == "beside");
+    if is_beside {
+        let _ = words.next();
+    }
+    let count = match words.next() {
+        Some(word) => Some(word.as_str().parse::<u32>().ok()?),
+        None => None,
     };
     let seed = match words.next() {
         Some(word) => word.as_str().parse::<u64>().ok()?,
         None => SEED,
     };
-    Some((calls, seed))
+    if is_beside {
+        return Some(Asked::Beside(count.unwrap_or(TIMES), seed));
+    }
+    Some(Asked::Calls(count.unwrap_or(LIST), seed))
 }
 
 /// Whether all calls were answered alike, and enough happened.

@@ -45,7 +45,7 @@ fn make_cluster<R: Abort + Threads + Wait + Sync>(rt: &R, alloc: Global, manager
     }
 }
 
-pub(super) fn new_manager<R: Abort + Threads + Wait + Sync>(
+fn new_manager<R: Abort + Threads + Wait + Sync>(
     rt: &R,
     alloc: Global,
     shards: u32,
@@ -54,7 +54,7 @@ pub(super) fn new_manager<R: Abort + Threads + Wait + Sync>(
     Manager::new(alloc, config(shards, workers)).expect(rt, "memory")
 }
 
-pub(super) fn publish<R: Abort + Threads + Wait + Sync>(
+fn publish<R: Abort + Threads + Wait + Sync>(
     rt: &R,
     manager: &mut Manager,
     publisher: &mut Publisher,
@@ -252,7 +252,7 @@ fn read_many(rt: &impl Abort, alloc: Global, locator: &mut Locator, oldest: u64)
 }
 
 /// Names what one `open_view` made, for receipts that cross a channel. A call picks it.
-pub(super) trait Home {
+trait Home {
     ghost use Rattle.bm_view.specs.Holders.{Home};
 
     ghost home: { Home };
@@ -266,13 +266,13 @@ impl Home for Brand {
 
 /// A receipt on its way to another thread.
 #[derive(Drop)]
-pub(super) struct Notice<J: Home> {
-    pub(super) receipt: Receipt,
-    pub(super) of: PhantomData<J>,
+struct Notice<J: Home> {
+    receipt: Receipt,
+    of: PhantomData<J>,
     ghost home_is: { receipt.home ≡ J.home },
 }
 
-pub(super) fn make_notice<J: Home>(receipt: Receipt) -> Notice<J>
+fn make_notice<J: Home>(receipt: Receipt) -> Notice<J>
     requires { receipt.home ≡ J.home }
 {
     Notice {

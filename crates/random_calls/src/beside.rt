@@ -1,0 +1,215 @@
+// Lists of calls, many times: four threads work each in five shards, after each call what stands is published, and two threads read
+// beside. Each answer is that of a manager of one shard and one thread, and so is each read; and no reader goes back.
+ghost use Rattle.std.specs.Prelude.{◌≡◌, ◌×◌};
+
+use crate::alike::are_alike;
+use crate::counts::Counts;
+use crate::dice::Dice;
+use crate::drawing;
+use crate::readers::{Home, Notice, make_notice, read_beside};
+use bm_base::{Answer, BlockId, Call, Config, Places, Refusal};
+use bm_crew::NoGate;
+use bm_manager::Manager;
+use bm_view::{Located, Locator, Publisher, open_view};
+use crossbeam_channel::{Sender, unbounded};
+use std::alloc::Global;
+use std::marker::Brand;
+use std::sync::Wait;
+use std::thread::{Threads, join};
+
+/// How many calls are made on one manager.
+const LIST: u32 = 100;
+
+const SHARDS: u32 = 5;
+
+const WORKERS: u32 = 4;
+
+/// Whether so many lists are answered and read as they should be.
+pub fn are_all_alike<R: Eprint + Threads + Wait + Sync>(
+    rt: &R,
+    alloc: Global,
+    times: u32,
+    seed: u64,
+) -> Result<bool, Refusal> {
+    let mut dice = Dice::new(seed);
+    let mut counts = Counts::new();
+    for time in 0..times {
+        let list = List::new(rt, alloc, &mut dice, &mut counts)?;
+        let wrong = beside_once(rt, alloc, &list)?;
+        if wrong > 0 {
+            let _ = eprintln!(rt; "list {time}: {wrong} answers or reads are wrong");
+            return Ok(false);
+        }
+    }
+    counts.tell(rt);
+    Ok(counts.are_enough())
+}
+
+/// Calls, and what one shard and one thread answer.
+#[derive(Drop)]
+pub struct List {
+    calls: Vec<Call>,
+    answers: Vec<Answer>,
+    /// Of this block the readers ask.
+    pub block: BlockId,
+    /// Where the block is at first, and after each call.
+    pub located: Vec<Located>,
+}
+
+impl List {
+    /// A list that is drawn. Counts what happens in it.
+    fn new<R: Threads + Wait + Sync>(
+        rt: &R,
+        alloc: Global,
+        dice: &mut Dice,
+        counts: &mut Counts,
+    ) -> Result<List, Refusal> {
+        let mut manager = Manager::new(alloc, config(1, 1))?;
+        let mut list = List {
+            calls: Vec::new(alloc),
+            answers: Vec::new(alloc),
+            block: drawing::block(dice),
+            located: Vec::new(alloc),
+        };
+        list.located.push(located_in(&manager, list.block))?;
+        for _ in 0..LIST {
+            let call = drawing::call(dice, alloc)?;
+            let answer = manager.answer(rt, &NoGate, &call);
+            counts.add(&call, &answer);
+            list.calls.push(call)?;
+            list.answers.push(answer)?;
+            list.located.push(located_in(&manager, list.block))?;
+        }
+        Ok(list)
+    }
+}
+
+/// Rounds with few commands, and copies that are soon given up.
+fn config(shards: u32, workers: u32) -> Config {
+    Config {
+        shards,
+        workers,
+        work: 2,
+        invalidate: 3,
+        pend: 3,
+        ..Config::standard()
+    }
+}
+
+/// Where a manager has a block, as a locator is to answer it: a block that was not added is nowhere.
+fn located_in(manager: &Manager, block: BlockId) -> Located {
+    let calls = manager.calls();
+    let places = match manager.places(block) {
+        Ok(storages) => Places::first_of(storages.as_slice()),
+        Err(_) => Places::first_of(&[]),
+    };
+    Located { calls, places }
+}
+
+/// The list beside two readers. How many answers and reads are wrong.
+fn beside_once<R: Threads + Wait + Sync>(
+    rt: &R,
+    alloc: Global,
+    list: &List,
+) -> Result<u32, Refusal> {
+    let mut manager = Manager::new(alloc, config(SHARDS, WORKERS))?;
+    let (mut publisher, mut locators) = open_view(rt, alloc, 2)?;
+    let wrong = match (locators.pop(), locators.pop()) {
+        (Some(one), Some(other)) => {
+            beside_both(rt, alloc, list, &mut manager, &mut publisher, one, other)
+        }
+        _ => Ok(1),
+    };
+    publisher.end(rt);
+    wrong
+}
+
+fn beside_both<R: Threads + Wait + Sync>(
+    rt: &R,
+    alloc: Global,
+    list: &List,
+    manager: &mut Manager,
+    publisher: &mut Publisher,
+    one: Locator,
+    other: Locator,
+) -> Result<u32, Refusal>
+    requires { (one.home ≡ publisher.old.home) × (other.home ≡ publisher.old.home) }
+{
+    beside::<Brand, R>(rt, alloc, list, manager, publisher, one, other)
+}
+
+fn beside<J: Home + Send + Sync, R: Threads + Wait + Sync>(
+    rt: &R,
+    alloc: Global,
+    list: &List,
+    manager: &mut Manager,
+    publisher: &mut Publisher,
+    one: Locator,
+    other: Locator,
+) -> Result<u32, Refusal>
+    requires { (publisher.old.home ≡ J.home) × ((one.home ≡ J.home) × (other.home ≡ J.home)) }
+{
+    let (to_one, from_one) = unbounded(alloc)?;
+    let (to_other, from_other) = unbounded(alloc)?;
+    let (answers, (first, second)) = join(
+        rt,
+        || -> u32
+            requires { publisher.now.home ≡ J.home }
+        { make_all::<J, R>(rt, list, manager, publisher, to_one, to_other) },
+        move || -> (u32, u32)
+            requires { (one.home ≡ J.home) × (other.home ≡ J.home) }
+        {
+            join(
+                rt,
+                move || -> u32
+                    requires { one.home ≡ J.home }
+                { read_beside::<J, R>(rt, list, one, from_one) },
+                move || -> u32
+                    requires { other.home ≡ J.home }
+                { read_beside::<J, R>(rt, list, other, from_other) },
+            )
+        },
+    );
+    Ok(answers.saturating_add(first).saturating_add(second))
+}
+
+/// Makes the calls, publishes after each, and tells each reader of it. How many answers differ, or can't be told.
+fn make_all<J: Home, R: Threads + Wait + Sync>(
+    rt: &R,
+    list: &List,
+    manager: &mut Manager,
+    publisher: &mut Publisher,
+    to_one: Sender<Notice<J>>,
+    to_other: Sender<Notice<J>>,
+) -> u32
+    requires { publisher.old.home ≡ J.home }
+{
+    let mut wrong = 0u32;
+    for (call, answer) in list.calls.iter().zip(list.answers.iter()) {
+        let told = manager.answer(rt, &NoGate, call);
+        let is_told = are_alike(answer, &told)
+            && publish_to::<J, R>(rt, manager, publisher, &to_one)
+            && publish_to::<J, R>(rt, manager, publisher, &to_other);
+        wrong = wrong.saturating_add(u32::from(!is_told));
+    }
+    wrong
+}
+
+/// Publishes what stands, and sends a reader the receipt. Whether that was had.
+fn publish_to<J: Home, R: Threads + Wait + Sync>(
+    rt: &R,
+    manager: &mut Manager,
+    publisher: &mut Publisher,
+    to: &Sender<Notice<J>>,
+) -> bool
+    requires { publisher.old.home ≡ J.home }
+    ensures { publisher.new.home ≡ publisher.old.home }
+{
+    if publisher.calls() > manager.calls() {
+        return false;
+    }
+    match manager.publish(rt, publisher) {
+        Ok(receipt) => to.send(rt, make_notice::<J>(receipt)).is_ok(),
+        Err(_) => false,
+    }
+}
