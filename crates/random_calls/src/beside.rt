@@ -1,6 +1,6 @@
 // Lists of calls, many times: four threads work each in five shards, after each call what stands is published, and two threads read
 // beside. Each answer is that of a manager of one shard and one thread, and so is each read; and no reader goes back.
-ghost use Rattle.std.specs.Prelude.{◌≡◌, ◌×◌};
+ghost use Rattle.std.specs.Prelude.{◌≡◌};
 
 use crate::alike::are_alike;
 use crate::counts::Counts;
