@@ -3,7 +3,14 @@ pub mod Least
 pub mod Classes
 pub mod Best
 pub mod Choosing
+pub mod Alike
+pub mod Scanning
+pub mod Keeping
+pub mod Renewing
+pub mod Fewer
+pub mod Covering
 pub mod Counting
+pub mod Entering
 pub mod Sending
 pub mod Surplus
 pub mod Taking

@@ -1,33 +1,25 @@
--- The scan of the targets ends at the least one.
-use Rattle.std.specs.Prelude.{◌-◌, option_map, nat_le, not}
-use Rattle.std.proofs.Common.{◌≡◌, ℕ, ◌+◌, ◌≤◌, Bool, true, false, ◌&&◌, List, [], ◌∷◌, map, drop, filter, length, Option, Some, None, refl, sym, ap, ◌∙◌, ◌==◌}
+-- Rows are ordered and tested as the storages of which they are made.
+use Rattle.std.specs.Prelude.{◌-◌, nat_le, not}
+use Rattle.std.proofs.Common.{◌≡◌, ℕ, ◌+◌, Bool, true, false, ◌&&◌, List, Some, refl, sym, ◌∙◌, ◌==◌}
 use Rattle.std.specs.Ordering.{nat_cmp, ordering_then}
 use Rattle.std.specs.Cmp.{IsTotalOrder, nat_cmp_total}
 use Rattle.std.proofs.lemmas.Cmp.{on_total, then_total, back_total}
-use Rattle.std.proofs.lemmas.List.{at_drop_all}
 use Rattle.bm_base.specs.declared.level.Level.{Level}
 use Rattle.bm_base.specs.declared.level.Level.TheVariants.{BadlyDistributed}
-use Rattle.bm_base.specs.Map.{keys}
 use Rattle.bm_base.specs.State.{Cluster}
-use Rattle.bm_base.specs.Lists.{least}
 use Rattle.bm_base.specs.Replicas.{rack_of, has_storage, is_draining}
 use Rattle.bm_base.specs.Levels.{is_at}
 use Rattle.bm_base.specs.Excess.{remaining}
-use Rattle.bm_base.specs.Transfers.{room, class_of, target_cmp, is_barred, is_target, least_target_by}
-use Rattle.bm_place.specs.declared.standing.Standing.{Standing}
-use Rattle.bm_place.specs.declared.scheduled.Target.{Target}
+use Rattle.bm_base.specs.Transfers.{room, class_of, target_cmp, is_barred, is_target}
 use Rattle.bm_place.specs.Standing.{standing_of, class_in, is_one}
-use Rattle.bm_place.specs.Tables.{listed}
 use Rattle.bm_place.specs.Targets.{target_at, cmp_targets, is_free, is_barred_by}
-use Rattle.bm_place.specs.Scan.{scan}
-use Rattle.bm_place.proofs.Choosing.{scan-found}
 use Rattle.bm_place.proofs.Classes.{class_standing, one_standing}
 
 pub target_cmp_total : (C : Cluster) (sent : ℕ → ℕ) (holders : List ℕ) → IsTotalOrder (target_cmp C sent holders)
 unfolding target_cmp
 target_cmp_total C sent holders = then_total (on_total (class_of C holders) nat_cmp_total) (then_total (back_total (on_total (room C sent) nat_cmp_total)) nat_cmp_total)
 
-ordered_as : (C : Cluster) (sent : ℕ → ℕ) (holders : List ℕ) (s t : ℕ) → cmp_targets (standing_of C holders) (target_at C sent s) (target_at C sent t) ≡ target_cmp C sent holders s t
+pub ordered_as : (C : Cluster) (sent : ℕ → ℕ) (holders : List ℕ) (s t : ℕ) → cmp_targets (standing_of C holders) (target_at C sent s) (target_at C sent t) ≡ target_cmp C sent holders s t
 unfolding target_cmp room
 ordered_as C sent holders s t =
     λ i. ordering_then (nat_cmp (sym (class_standing C holders s) i) (sym (class_standing C holders t) i)) (ordering_then (nat_cmp (remaining C t - sent t) (remaining C s - sent s)) (nat_cmp s t))
@@ -41,34 +33,9 @@ tests_swapped false b c true = refl
 tests_swapped true b c false = refl
 tests_swapped false b c false = refl
 
-tested_as : (C : Cluster) (sent : ℕ → ℕ) (urgency : Level) (holders barred : List ℕ) (len s : ℕ) → is_free C (standing_of C holders) urgency barred len (target_at C sent s) ≡ is_target C sent urgency holders barred len s
+pub tested_as : (C : Cluster) (sent : ℕ → ℕ) (urgency : Level) (holders barred : List ℕ) (len s : ℕ) → is_free C (standing_of C holders) urgency barred len (target_at C sent s) ≡ is_target C sent urgency holders barred len s
 unfolding is_target is_barred is_barred_by has_storage
 tested_as C sent urgency holders barred len s =
     tests_swapped (nat_le (len + sent s) (remaining C s)) (not (is_barred_by C barred (target_at C sent s))) (not (is_at BadlyDistributed (Some urgency) && is_one (standing_of C holders).racks && (class_in (standing_of C holders) (rack_of C s) == 1)))
     (not (is_draining C s))
     ∙ (λ i. nat_le (len + sent s) (remaining C s) && not (is_draining C s) && not (is_barred_by C barred (target_at C sent s)) && not (is_at BadlyDistributed (Some urgency) && sym (one_standing C holders) i && (sym (class_standing C holders s) i == 1)))
-
-rows_of_listed : {X : Type 0} (f : ℕ → X) (ks : List ℕ) → map (λ e. e.1) (listed f ks) ≡ map f ks
-rows_of_listed f [] = refl
-rows_of_listed f (k ∷ ks) = ap (λ xs. f k ∷ xs) (rows_of_listed f ks)
-
-storage_again : (C : Cluster) (sent : ℕ → ℕ) (o : Option ℕ) → option_map (λ (t : Target). t.storage) (option_map (target_at C sent) o) ≡ o
-storage_again C sent None = refl
-storage_again C sent (Some s) = refl
-
--- a scan that has nothing left has found the target
-pub target_found : (C : Cluster) (sent : ℕ → ℕ) (urgency : Level) (holders barred : List ℕ) (len : ℕ) (w : Standing) (rows : List (ℕ × Target)) (best : Option Target) (i : ℕ)
-    → w ≡ standing_of C holders → rows ≡ listed (target_at C sent) (keys C.storages) → length rows ≤ i
-    → scan (cmp_targets w) (is_free C w urgency barred len) best (map (λ e. e.1) (drop i rows)) ≡ scan (cmp_targets w) (is_free C w urgency barred len) None (map (λ e. e.1) rows)
-    → option_map (λ (t : Target). t.storage) best ≡ least_target_by C sent urgency holders barred len
-unfolding least_target_by
-target_found C sent urgency holders barred len w rows best i stands shown all inv =
-    ap (option_map (λ (t : Target). t.storage)) (
-    sym (at_drop_all (λ xs. scan (cmp_targets w) (is_free C w urgency barred len) best (map (λ e. e.1) xs)) rows i all)
-    ∙ inv
-    ∙ ap (λ v. scan (cmp_targets v) (is_free C v urgency barred len) None (map (λ e. e.1) rows)) stands
-    ∙ ap (λ xs. scan (cmp_targets (standing_of C holders)) (is_free C (standing_of C holders) urgency barred len) None xs) (ap (map (λ e. e.1)) shown ∙ rows_of_listed (target_at C sent) (keys C.storages))
-    ∙ scan-found (target_at C sent) (cmp_targets (standing_of C holders)) (is_free C (standing_of C holders) urgency barred len) (target_cmp C sent holders) (is_target C sent urgency holders barred len)
-    (target_cmp_total C sent holders) (ordered_as C sent holders) (tested_as C sent urgency holders barred len) (keys C.storages)
-    )
-    ∙ storage_again C sent (least (target_cmp C sent holders) (filter (is_target C sent urgency holders barred len) (keys C.storages)))

@@ -31,7 +31,7 @@ not_true true e = cc
 not_true false e = refl
 
 -- what a target is
-parts : (C : Cluster) (sent : ℕ → ℕ) (urgency : Level) (holders barred : List ℕ) (len s : ℕ) → is_target C sent urgency holders barred len s ≡ true → (len + sent s ≤ remaining C s) × (is_draining C s ≡ false) × (is_barred C barred s ≡ false)
+pub parts : (C : Cluster) (sent : ℕ → ℕ) (urgency : Level) (holders barred : List ℕ) (len s : ℕ) → is_target C sent urgency holders barred len s ≡ true → (len + sent s ≤ remaining C s) × (is_draining C s ≡ false) × (is_barred C barred s ≡ false)
 unfolding is_target
 parts C sent urgency holders barred len s e =
     let all = four (nat_le (len + sent s) (remaining C s)) (not (is_draining C s)) (not (is_barred C barred s)) (not (is_at BadlyDistributed (Some urgency) && (length (racks C holders) == 1) && (class_of C holders s == 1))) e in

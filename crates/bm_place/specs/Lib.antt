@@ -8,3 +8,4 @@ pub mod Scan
 pub mod Few
 pub mod Standing
 pub mod Candidates
+pub mod Foremost

@@ -8,6 +8,7 @@
 
 mod excess;
 mod few;
+mod foremost;
 mod scheduled;
 mod source;
 mod standing;

@@ -1,5 +1,5 @@
 // What is sent to each storage in a round.
-ghost use Rattle.std.specs.Prelude.{◌≡◌, ◌≤◌, ◌+◌, ◌==◌, if◌then◌else◌, ℕ, List, [], ◌∷◌, ◌++◌, IfOk, IfErr};
+ghost use Rattle.std.specs.Prelude.{◌≡◌, ◌≤◌, ◌+◌, ◌==◌, false, if◌then◌else◌, ℕ, List, [], ◌∷◌, ◌++◌, IfOk, IfErr};
 ghost use Rattle.std.specs.Option.{IfSome};
 ghost use Rattle.bm_base.specs.declared.refusal.Refusal.TheVariants.{Memory};
 ghost use Rattle.bm_base.specs.declared.commands.Transfer.{Transfer};
@@ -8,10 +8,14 @@ ghost use Rattle.bm_base.specs.Map as map;
 ghost use Rattle.bm_base.specs.Excess.{remaining};
 ghost use Rattle.bm_base.specs.Transfers as transfers;
 ghost use Rattle.bm_place.specs.Targets as targets;
+ghost use Rattle.bm_place.specs.Foremost as nodes;
+ghost use Rattle.bm_place.specs.Foremost.{AreForemost, HasNoRoom, IsKept};
+ghost use Rattle.bm_place.specs.declared.scheduled.Target.{Target};
 
+use crate::foremost::{foremost_beside, foremost_of, greatest_room, put_for};
 use bm_base::{NodeId, NumberMap, Rack, Refusal, StorageId};
 use bm_topo::Topology;
-use std::alloc::Global;
+use std::alloc::{AllocError, Global};
 use std::marker::Model;
 
 /// A storage as a target: where it stands, whether its node drains, its remaining bytes, and how many are sent to it.
@@ -33,6 +37,8 @@ pub struct Target {
 #[derive(Drop)]
 pub struct Scheduled {
     pub(crate) rows: NumberMap<Target>,
+    foremost: Vec<Target>,
+    greatest_room: u64,
 }
 
 impl Model for Scheduled {
@@ -46,28 +52,33 @@ impl Model for Scheduled {
     ghost coded = { code coded_ℕ coded_target };
 
     ghost view = { λ s. s.rows.map };
+
+    ghost use Rattle.bm_place.specs.Foremost.{IsKept};
+
+    ghost invariant = { λ s. IsKept s.rows.map s.foremost.items s.greatest_room };
 }
 
 impl Scheduled {
-    /// Nothing is sent yet to any storage of the cluster. `Memory` where a growth of the table is refused. Goes over the
-    /// storages of the cluster once, by a few look-ups each.
+    /// Nothing is sent yet to any storage of the cluster. `Memory` where a growth of the tables is refused. Goes over the
+    /// storages of the cluster once, by a few look-ups and over the nodes so far for each.
     pub fn new(alloc: Global, topology: &Topology) -> Result<Scheduled, Refusal>
         ensures none_yet { IfOk result (λ t. t ≡ targets.target_table topology.now.cluster (λ _. 0)) }
         ensures of_transfers { IfOk result (λ t. t ≡ targets.target_table topology.now.cluster (transfers.scheduled_to [])) }
         ensures refused { IfErr result (λ e. e ≡ Memory) }
     {
-        let mut rows = NumberMap::new(alloc);
-        for place in 0..topology.storage_count() {
-            let Some(storage) = topology.storage_at(place) else {
-                return Ok(Scheduled { rows });
-            };
-            rows.insert(u64::from(storage.0), target_at(topology, storage))?;
-        }
-        Ok(Scheduled { rows })
+        let rows = rows_of(alloc, topology)?;
+        let foremost = foremost_of(alloc, rows.entries())?;
+        let greatest_room = greatest_room(&foremost);
+        Ok(Scheduled {
+            rows,
+            foremost,
+            greatest_room,
+        })
     }
 
     /// Counts `len` bytes more as sent to `target`, which has room for them, as what [`least_target`](crate::least_target) just
-    /// found for this length; nothing for an unknown storage. One look-up. Takes no memory.
+    /// found for this length; nothing for an unknown storage. Two look-ups, and once over the storages of the cluster, to find
+    /// those of the node. Takes no memory.
     pub fn add(&mut self, target: StorageId, len: u64)
         requires fits { IfSome (map.get self.old target) (λ t. len + t.scheduled ≤ t.remaining) }
         ensures after { self.new ≡ map.revise_at self.old target (λ t. record t { scheduled = t.scheduled + len }) }
@@ -75,14 +86,37 @@ impl Scheduled {
         ensures of_transfers { (C : Cluster) (chosen : List Transfer) (t : Transfer) → t.target ≡ target → t.stamp.len ≡ len → self.old ≡ targets.target_table C (transfers.scheduled_to chosen) → self.new ≡ targets.target_table C (transfers.scheduled_to (chosen ++ t ∷ [])) }
     {
         add_to(&mut self.rows, target, len);
+        renew(&mut self.foremost, &self.rows, target);
+        self.greatest_room = greatest_room(&self.foremost);
     }
 
-    /// The rows, by rising storage.
-    pub(crate) fn rows(&self) -> &[(u64, Target)]
-        ensures { result.now ≡ map.entries self.now }
+    /// The foremost storage of each node: of its storages the one with most room, and of these the least.
+    pub(crate) fn foremost(&self) -> &[Target]
+        ensures { AreForemost self.now result.now }
     {
-        self.rows.entries()
+        &self.foremost
     }
+
+    /// Whether a storage may have room for so many bytes. Where it says no, none has.
+    pub(crate) fn may_fit(&self, len: u64) -> bool
+        ensures { result ≡ false → HasNoRoom self.now len }
+    {
+        len <= self.greatest_room
+    }
+}
+
+/// The storages of a cluster, by rising number, to none of which anything is sent yet.
+fn rows_of(alloc: Global, topology: &Topology) -> Result<NumberMap<Target>, AllocError>
+    ensures { IfOk result (λ rows. rows.map ≡ targets.target_table topology.now.cluster (λ _. 0)) }
+{
+    let mut rows = NumberMap::new(alloc);
+    for place in 0..topology.storage_count() {
+        let Some(storage) = topology.storage_at(place) else {
+            return Ok(rows);
+        };
+        rows.insert(u64::from(storage.0), target_at(topology, storage))?;
+    }
+    Ok(rows)
 }
 
 /// So many bytes more are sent to a storage, if it is there.
@@ -93,6 +127,16 @@ fn add_to(rows: &mut NumberMap<Target>, target: StorageId, len: u64)
     if let Some(row) = rows.get(u64::from(target.0)) {
         let scheduled = row.scheduled + len;
         rows.replace(u64::from(target.0), Target { scheduled, ..row });
+    }
+}
+
+/// The foremost storages, where more bytes were sent to one: that of its node is looked for anew, if it was this one.
+fn renew(foremost: &mut Vec<Target>, rows: &NumberMap<Target>, target: StorageId)
+    ensures { (old : map.Map map.by_number Target) (most len : ℕ) → IsKept old foremost.old.items most → IfSome (map.get old target) (λ t. len + t.scheduled ≤ t.remaining) → rows.now.map ≡ map.revise_at old target (λ t. record t { scheduled = t.scheduled + len }) → IsKept rows.now.map foremost.new.items (nodes.greatest_room 0 foremost.new.items) }
+{
+    if let Some(row) = rows.get(u64::from(target.0)) {
+        let best = foremost_beside(row, rows.entries());
+        put_for(foremost, target, &best);
     }
 }
 

@@ -11,6 +11,7 @@ ghost use Rattle.bm_place.specs.Least.{IsLeastOf};
 ghost use Rattle.bm_place.specs.Targets as targets;
 ghost use Rattle.bm_place.specs.Scan as scanned;
 
+use crate::foremost::room_on;
 use crate::scheduled::{Scheduled, Target};
 use crate::standing::Standing;
 use bm_base::{Level, StorageId};
@@ -24,9 +25,10 @@ use bm_topo::Topology;
 /// where `held` is just two storages on two racks, these racks go first. Then more room, then the lesser storage. `None` only
 /// where none may be taken.
 ///
-/// `scheduled` was made of the same cluster; else nothing is said of the answer. Goes over `held` once, by a look-up each, and
-/// over the storages of the cluster once: room, class and whether the node drains take constant time, and whether the node is
-/// barred is asked last, only where the storage would be taken, by a look-up for each of `barred`. Takes no memory.
+/// `scheduled` was made of the same cluster; else nothing is said of the answer. Where `len` is more than the greatest room, it
+/// ends at once. Else it goes over `held` once, by a look-up each, and over the nodes of the cluster once, at the foremost storage
+/// of each: room, class and whether the node drains take constant time, and whether the node is barred is asked last, only where
+/// the storage would be taken, by a look-up for each of `barred`. Takes no memory.
 pub fn least_target(
     held: &[StorageId],
     barred: &[StorageId],
@@ -44,12 +46,29 @@ pub fn least_target(
     ensures other_rack { (sent : ℕ → ℕ) → scheduled.now ≡ targets.target_table topology.now.cluster sent → targets.LeavesRack topology.now.cluster sent level held.now barred.now len result }
     ensures of_transfers { (chosen : List Transfer) → scheduled.now ≡ targets.target_table topology.now.cluster (transfers.scheduled_to chosen) → result ≡ transfers.least_target topology.now.cluster chosen level held.now barred.now len }
 {
+    least_fitting(held, barred, len, level, topology, scheduled)
+}
+
+/// The same: none where no storage has room, else the least of the foremost storages.
+fn least_fitting(
+    held: &[StorageId],
+    barred: &[StorageId],
+    len: u64,
+    level: Level,
+    topology: &Topology,
+    scheduled: &Scheduled,
+) -> Option<StorageId>
+    ensures { (sent : ℕ → ℕ) → scheduled.now ≡ targets.target_table topology.now.cluster sent → result ≡ transfers.least_target_by topology.now.cluster sent level held.now barred.now len }
+{
+    if !scheduled.may_fit(len) {
+        return None;
+    }
     let standing = Standing::of(held, topology);
-    let rows = scheduled.rows();
+    let targets = scheduled.foremost();
     let mut best = None;
-    for row in rows {
-        if is_taken(&row.1, &best, &standing, topology, barred, len, level) {
-            best = Some(row.1);
+    for target in targets {
+        if is_taken(target, &best, &standing, topology, barred, len, level) {
+            best = Some(*target);
         }
     }
     storage_of(&best)
@@ -113,13 +132,6 @@ fn is_better(target: &Target, best: &Option<Target>, standing: &Standing) -> boo
         }
         None => true,
     }
-}
-
-/// The remaining bytes beside those that are sent to it.
-fn room_on(target: &Target) -> u64
-    ensures { result ≡ targets.room_on target.now }
-{
-    target.remaining.saturating_sub(target.scheduled)
 }
 
 /// Whether a target stands on the node of one of these storages.

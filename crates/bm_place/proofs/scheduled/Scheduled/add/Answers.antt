@@ -1,8 +1,10 @@
-use Rattle.std.proofs.Common.{ap, sym, ◌+◌, ◌∙◌}
-use Rattle.bm_base.specs.Map.{revise_at}
+use Rattle.std.proofs.Common.{ap, sym, subst, ◌+◌, ◌≤◌, ◌∙◌}
+use Rattle.std.specs.Option.{IfSome}
+use Rattle.bm_base.specs.Map.{get, revise_at}
 use Rattle.bm_base.specs.Transfers.{scheduled_to}
 use Rattle.bm_place.specs.declared.scheduled.Target.{Target}
 use Rattle.bm_place.specs.Targets.{target_table}
+use Rattle.bm_place.specs.Foremost.{IsKept, greatest_room}
 use Rattle.bm_place.proofs.Counting.{targets-more, targets-chosen}
 use Rattle.bm_place.proofs.scheduled.Scheduled.add.Goals as goal
 
@@ -16,3 +18,10 @@ returns-clause-of_transfers c C chosen t at long made =
     c.add_to.ensures ∙ ap (λ m. revise_at m c.args.target (λ (u : Target). record u { scheduled = u.scheduled + c.args.len })) (c.self.view_is ∙ made)
     ∙ (λ i. revise_at (target_table C (scheduled_to chosen)) (sym at i) (λ (u : Target). record u { scheduled = u.scheduled + sym long i }))
     ∙ targets-chosen C chosen t
+
+pub invariant_of-self : goal.invariant_of-self
+invariant_of-self c =
+    let inside = c.self.inside in
+    let fits = subst (λ rows. IfSome (get rows c.args.target) (λ (t : Target). c.args.len + t.scheduled ≤ t.remaining)) (sym c.self.view_is) c.requires.fits in
+    subst (IsKept c.add_to.new.rows.map c.renew.new.foremost.items) (sym (c.greatest_room-self-inside.ensures ∙ ap (greatest_room 0) c.deref.ensures.value))
+    (c.renew.ensures inside.rows.map inside.greatest_room c.args.len c.self.invariant fits c.add_to.ensures)

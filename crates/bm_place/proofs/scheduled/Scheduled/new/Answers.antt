@@ -1,36 +1,15 @@
-use Rattle.std.proofs.Common.{ap, sym, ◌∙◌, arith}
-use Rattle.bm_base.specs.Map.{keys, insert_all}
+use Rattle.std.proofs.Common.{[], ap, map, ◌∙◌}
 use Rattle.bm_base.specs.Transfers.{scheduled_to}
-use Rattle.bm_place.specs.Tables.{table, listed}
-use Rattle.bm_place.specs.Targets.{target_at, target_table}
-use Rattle.bm_place.proofs.Tables.{row_made, made_past, none_behind}
+use Rattle.bm_place.specs.Foremost.{greatest_room, with_targets}
+use Rattle.bm_place.proofs.Keeping.{kept_made}
 use Rattle.bm_place.proofs.scheduled.Scheduled.new.Goals as goal
 
-pub loop-place-init : goal.loop-place-init
-unfolding table
-loop-place-init c = ap (λ m. insert_all m (listed (target_at c.args.topology.now.cluster (λ _. 0)) (keys c.args.topology.now.cluster.storages))) c.new-rows.ensures.empty
-
-pub loop-place-preserved : goal.loop-place-preserved
-loop-place-preserved c =
-    let C = c.args.topology.now.cluster in
-    row_made (target_at C (λ _. 0)) (keys C.storages) c.loop-place.place (target_table C (λ _. 0)) c.loop-place.rows.map c.insert.new.self.map c.in-Some.storage c.from.result c.target_at.result
-    (sym c.storage_at.ensures ∙ c.in-Some.is) (c.from.ensures ∙ c.storage.view_is) c.target_at.ensures c.in_ok-insert.ensures.ok c.loop-place.invariant
-
-pub returns-in_default-clause-none_yet : goal.returns-in_default-clause-none_yet
-returns-in_default-clause-none_yet c =
-    let C = c.args.topology.now.cluster in
-    made_past (target_at C (λ _. 0)) (keys C.storages) c.loop-place.place (target_table C (λ _. 0)) c.loop-place.rows.map (sym c.storage_at.ensures ∙ c.in_default.is) c.loop-place.invariant
-
-pub returns-in_default-clause-of_transfers : goal.returns-in_default-clause-of_transfers
-unfolding scheduled_to
-returns-in_default-clause-of_transfers c = returns-in_default-clause-none_yet c
-
-pub returns-clause-none_yet : goal.returns-clause-none_yet
-returns-clause-none_yet c =
-    let C = c.args.topology.now.cluster in
-    let past = none_behind C.storages c.loop-place.place (omega (arith, c.loop-place-test.false, c.storage_count-place-end.ensures.count)) in
-    made_past (target_at C (λ _. 0)) (keys C.storages) c.loop-place.place (target_table C (λ _. 0)) c.loop-place.rows.map past c.loop-place.invariant
+pub invariant_of-result : goal.invariant_of-result
+invariant_of-result c =
+    kept_made c.args.topology.now.cluster c.in_ok-rows.rows.map c.in_ok-foremost.foremost.items c.greatest_room-greatest_room.result c.in_ok-rows.ensures
+    (c.in_ok-foremost.ensures ∙ ap (λ es. with_targets [] (map (λ e. e.1) es)) c.entries.ensures)
+    (c.greatest_room-greatest_room.ensures ∙ ap (greatest_room 0) c.deref.ensures.value)
 
 pub returns-clause-of_transfers : goal.returns-clause-of_transfers
 unfolding scheduled_to
-returns-clause-of_transfers c = returns-clause-none_yet c
+returns-clause-of_transfers c = c.in_ok-rows.ensures

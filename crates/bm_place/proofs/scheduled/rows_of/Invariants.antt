@@ -2,7 +2,7 @@ use Rattle.std.proofs.Common.{◌≡◌, drop}
 use Rattle.bm_base.specs.Map.{insert_all, keys}
 use Rattle.bm_place.specs.Tables.{listed}
 use Rattle.bm_place.specs.Targets.{target_at, target_table}
-use Rattle.bm_place.proofs.scheduled.Scheduled.new.Given as goal
+use Rattle.bm_place.proofs.scheduled.rows_of.Given as goal
 
 -- with the storages that are left the table is whole
 abbrev pub invariant-loop-place : goal.invariant-loop-place

@@ -1,0 +1,52 @@
+-- A scan that starts from a target ends at one that goes before all that pass.
+use Rattle.std.specs.Prelude.{◌⊎◌}
+use Rattle.std.proofs.Common.{◌≡◌, Bool, true, false, cond, ◌&&◌, List, [], ◌∷◌, Some, refl, inl, inr, sym, ap, subst, ◌∙◌}
+use Rattle.std.proofs.lemmas.Option.{same_Some}
+use Rattle.bm_place.specs.declared.scheduled.Target.{Target}
+use Rattle.bm_place.specs.Scan.{scan}
+use Rattle.bm_place.specs.Foremost.{IsAmong, cmp_alike, goes_before}
+use Rattle.bm_place.proofs.Alike.{ranks, not_before_itself}
+
+module _ (p : Target → Bool) where
+  -- what was found from b on among xs
+  pub record IsFound (b : Target) (xs : List Target) (r : Target) : Type 0 where
+    pub among : (b ≡ r) ⊎ IsAmong xs r
+    pub passes : p b ≡ true → p r ≡ true
+    pub start : goes_before b r ≡ false
+    pub all : (x : Target) → IsAmong xs x → p x ≡ true → goes_before x r ≡ false
+
+  taken : (b x r : Target) (xs : List Target) → p x ≡ true → goes_before x b ≡ true → IsFound x xs r → IsFound b (x ∷ xs) r
+  taken b x r xs passes before h = record {
+    among = inr h.among;
+    passes = λ _. h.passes passes;
+    start = ranks.chain b x r (ranks.one_way x b before) h.start;
+    all = λ y there. all y there;
+  }
+    where
+      all : (y : Target) → IsAmong (x ∷ xs) y → p y ≡ true → goes_before y r ≡ false
+      all y (inl e) t = subst (λ y. goes_before y r ≡ false) e h.start
+      all y (inr there) t = h.all y there t
+
+  passed_by : (b x r : Target) (xs : List Target) → (p x ≡ true → goes_before x b ≡ false) → IsFound b xs r → IsFound b (x ∷ xs) r
+  passed_by b x r xs not_before h = record {
+    among = elim h.among [ inl e ↦ inl e | inr there ↦ inr (inr there) ];
+    passes = h.passes;
+    start = h.start;
+    all = λ y there. all y there;
+  }
+    where
+      all : (y : Target) → IsAmong (x ∷ xs) y → p y ≡ true → goes_before y r ≡ false
+      all y (inl e) t = subst (λ y. goes_before y r ≡ false) e (ranks.chain x b r (not_before (ap p e ∙ t)) h.start)
+      all y (inr there) t = h.all y there t
+
+  pub found : (b r : Target) (xs : List Target) → scan cmp_alike p (Some b) xs ≡ Some r → IsFound b xs r
+  found b r [] is =
+      let same = same_Some b r is in
+      record { among = inl same; passes = λ t. ap p (sym same) ∙ t; start = subst (λ r. goes_before b r ≡ false) same (not_before_itself b); all = λ x none. absurd none }
+  found b r (x ∷ xs) is = by (p x) (goes_before x b) refl refl is (λ h. found x r xs h) (λ h. found b r xs h)
+    where
+      by : (t u : Bool) → p x ≡ t → goes_before x b ≡ u → scan cmp_alike p (cond (t && u) (Some x) (Some b)) xs ≡ Some r → (scan cmp_alike p (Some x) xs ≡ Some r → IsFound x xs r)
+          → (scan cmp_alike p (Some b) xs ≡ Some r → IsFound b xs r) → IsFound b (x ∷ xs) r
+      by true true e f is with_x with_b = taken b x r xs e f (with_x is)
+      by true false e f is with_x with_b = passed_by b x r xs (λ _. f) (with_b is)
+      by false u e f is with_x with_b = passed_by b x r xs (λ t. cc) (with_b is)
