@@ -41,6 +41,10 @@ pub record AreIds (blocks : List (Option Block)) (ids : List (ℕ × ℕ)) (deli
   -- a link can name each slot that is held
   pub small : (slot : ℕ) (b : Block) → slice_index_or blocks slot None ≡ Some b → slot < end_of_links
 
+-- no number that has a slot is greater
+abbrev pub AreUpTo : List (ℕ × ℕ) → ℕ → Type 0
+AreUpTo ids greatest = (id slot : ℕ) → lookup (nat_eq id) ids ≡ Some slot → id ≤ greatest
+
 -- what is true of an arena's fields
 pub record IsArena (slots : Slab Entry) (ids : List (ℕ × ℕ)) (heads : List (ℕ × Option ℕ)) (delimiter : ℕ) : Type 0 where
   pub sound : IsSound slots heads

@@ -5,6 +5,7 @@ ghost use Rattle.bm_base.specs.Map.{empty};
 ghost use Rattle.bm_arena.specs.Contents.{block_at, empty_block, count_up, IsLawful};
 ghost use Rattle.bm_arena.specs.Holding.{replicas_of, blocks_of};
 
+use crate::numbers::Numbers;
 use crate::types::Entry;
 use crate::usual_slots::UsualSlots;
 use bm_base::{Refusal, SlotLink};
@@ -24,12 +25,12 @@ pub type Slot = usize;
 /// other call takes none and succeeds under its conditions. A refused call leaves what is seen as it was, but that a refused
 /// `reserve_heads` may leave heads with empty lists. A list operation takes a constant number of steps beside a look along the few
 /// replicas of the blocks that it touches. A look-up, a list operation and `add_entry` hash a number once at most, and a look-up of a
-/// number whose slot is as usual not at all.
+/// number whose slot is as usual, or that is above all that were added, not at all.
 #[derive(Drop)]
 pub struct Arena {
     pub(crate) slots: Slab<Entry>,
     // The slot of each block number.
-    pub(crate) ids: IndexMap<u64, usize>,
+    pub(crate) ids: Numbers,
     // The first slot of each storage's list.
     pub(crate) heads: IndexMap<u32, SlotLink>,
     // The slot of an entry that is no block, and marks a place in a list.
@@ -52,14 +53,14 @@ impl Model for Arena {
 
     ghost view = { λ a. record {
       blocks = seen_slots a.slots;
-      ids = a.ids.entries;
+      ids = a.ids;
       lists = lists_from a.slots a.heads.entries;
       delimiter = a.delimiter;
       steps = a.steps;
       bound = a.bound;
     } };
 
-    ghost invariant = { λ a. IsBoundedArena a.slots a.ids.entries a.heads.entries a.delimiter a.bound };
+    ghost invariant = { λ a. IsBoundedArena a.slots a.ids a.heads.entries a.delimiter a.bound };
 }
 
 // Counts one more, and stays at the last value.
@@ -92,7 +93,7 @@ impl Arena {
         });
         Ok(Arena {
             slots,
-            ids: IndexMap::new(alloc),
+            ids: Numbers::new(alloc),
             heads: IndexMap::new(alloc),
             delimiter,
             steps: 0,

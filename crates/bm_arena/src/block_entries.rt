@@ -8,8 +8,8 @@ ghost use Rattle.bm_base.specs.Map.{insert};
 ghost use Rattle.bm_base.specs.State.{replica_at};
 
 use crate::arena::{Arena, Slot};
+use crate::links;
 use crate::types::Entry;
-use crate::{links, numbers};
 use bm_base::{BlockId, BlockInfo, Marks, Refusal, StorageId};
 use smallvec::SmallVec;
 
@@ -31,7 +31,7 @@ impl Arena {
         if let Some(slot) = self.find_usual(id) {
             return Ok(slot);
         }
-        let (slot, is_new) = numbers::slot_for(&mut self.ids, &mut self.slots, id.0)?;
+        let (slot, is_new) = self.ids.slot_for(&mut self.slots, id.0)?;
         if is_new {
             self.slots.insert_reserved(Entry {
                 id: id.0,
@@ -56,7 +56,7 @@ impl Arena {
         ensures lawful { IsLawful self.new }
     {
         if let Some(id) = links::remove_entry(&mut self.slots, slot) {
-            self.ids.swap_remove(&id);
+            self.ids.remove(id);
             self.usual.drop(id, slot);
         }
     }

@@ -15,7 +15,7 @@ impl Arena {
     {
         match self.find_usual(id) {
             Some(slot) => Some(slot),
-            None => self.ids.get(&id.0).copied(),
+            None => self.ids.get(id.0),
         }
     }
 
@@ -89,10 +89,7 @@ impl Arena {
     pub fn slot_at(&self, i: usize) -> Option<Slot>
         ensures { result ≡ option_map (λ p. p.1) (slice_get self.now.ids i) }
     {
-        match self.ids.get_index(i) {
-            Some((_, slot)) => Some(*slot),
-            None => None,
-        }
+        self.ids.slot_at(i)
     }
 
     /// The storage and the marks of the replica at place `i`, from 0 on, of the block in `slot`; None behind the last one.

@@ -1,6 +1,4 @@
 use Rattle.std.proofs.Common.{◌≡◌, None, sym, ap, ◌∙◌, ◌+◌, max, refl}
-use Rattle.std.specs.Prelude.{nat_eq}
-use Rattle.indexmap.proofs.CallerLemmas.{insert_entry-new}
 use Rattle.bm_arena.proofs.Lawfulness.{IsLawful-arena}
 use Rattle.bm_arena.proofs.Entries.{IsArena-capacity, add_entry-arena, add_entry-added}
 use Rattle.bm_arena.proofs.Bounds.{below-inserted, below-capacity}
@@ -12,7 +10,7 @@ pub invariant_of-self : goal.invariant_of-self
 invariant_of-self c =
     rw c.in_err-slot.ensures.unchanged
     (record {
-      arena = IsArena-capacity c.self.inside.slots c.slot_for.new.slots _ c.self.inside.ids.entries c.self.inside.heads.entries c.self.inside.delimiter c.slot_for.ensures.grown c.self.invariant.arena;
+      arena = IsArena-capacity c.self.inside.slots c.slot_for.new.slots _ c.self.inside.ids c.self.inside.heads.entries c.self.inside.delimiter c.slot_for.ensures.grown c.self.invariant.arena;
       bounded = below-capacity c.self.inside.slots c.slot_for.new.slots _ c.self.inside.bound c.slot_for.ensures.grown c.self.invariant.bounded;
     })
 
@@ -25,9 +23,9 @@ invariant_of-self-then-is_new c =
     let absent = c.in_ok-slot.ensures.absent c.if-is_new.true in
     record {
       arena =
-          add_entry-arena c.self.inside.slots c.slot_for.new.slots c.insert_reserved-self-inside.new.self _ c.insert_reserved-self-inside.result c.in_ok-slot.slot _ c.self.inside.ids.entries c.slot_for.new.ids.entries c.self.inside.heads.entries c.self.inside.delimiter
+          add_entry-arena c.self.inside.slots c.slot_for.new.slots c.insert_reserved-self-inside.new.self _ c.insert_reserved-self-inside.result c.in_ok-slot.slot _ c.self.inside.ids c.slot_for.new.self c.self.inside.heads.entries c.self.inside.delimiter
           c.slot_for.ensures.grown c.insert_reserved-self-inside.ensures.key listed.0 c.insert_reserved-self-inside.ensures.was_vacant c.insert_reserved-self-inside.ensures.updates c.new.ensures.items
-          absent (listed.3 ∙ insert_entry-new nat_eq c.self.inside.ids c.id.inside.0 c.in_ok-slot.slot (sym absent)) c.slot_for.ensures.unique listed.1 c.self.invariant.arena;
+          absent listed.3 c.slot_for.ensures.unique listed.1 c.self.invariant.arena;
       bounded = below-inserted c.slot_for.new.slots c.insert_reserved-self-inside.new.self c.insert_reserved-self-inside.result c.self.inside.bound c.max-self-inside.result _ c.insert_reserved-self-inside.ensures.updates (c.max-self-inside.ensures ∙ ap (λ k. max c.self.inside.bound (k + 1)) (listed.0 ∙ sym c.insert_reserved-self-inside.ensures.key)) (below-capacity c.self.inside.slots c.slot_for.new.slots _ c.self.inside.bound c.slot_for.ensures.grown c.self.invariant.bounded);
     }
 
@@ -36,9 +34,9 @@ returns-then-is_new-clause-added c none =
     let listed = c.in_ok-slot.ensures.listed c.if-is_new.true in
     let absent = c.in_ok-slot.ensures.absent c.if-is_new.true in
     rw (← c.self.view_is, ← c.id.view_is)
-    (add_entry-added c.self.inside.slots c.slot_for.new.slots c.insert_reserved-self-inside.new.self _ c.insert_reserved-self-inside.result c.in_ok-slot.slot _ c.self.inside.ids.entries c.slot_for.new.ids.entries c.self.inside.heads.entries c.self.inside.delimiter
+    (add_entry-added c.self.inside.slots c.slot_for.new.slots c.insert_reserved-self-inside.new.self _ c.insert_reserved-self-inside.result c.in_ok-slot.slot _ c.self.inside.ids c.slot_for.new.self c.self.inside.heads.entries c.self.inside.delimiter
     c.slot_for.ensures.grown c.insert_reserved-self-inside.ensures.key listed.0 c.insert_reserved-self-inside.ensures.was_vacant c.insert_reserved-self-inside.ensures.updates c.new.ensures.items
-    absent (listed.3 ∙ insert_entry-new nat_eq c.self.inside.ids c.id.inside.0 c.in_ok-slot.slot (sym absent)) c.slot_for.ensures.unique listed.1 c.self.invariant.arena
+    absent listed.3 c.slot_for.ensures.unique listed.1 c.self.invariant.arena
     c.self.inside.steps c.self.inside.bound c.max-self-inside.result c.max-self-inside.ensures refl c.new.ensures.capacity)
 
 pub returns-then-is_new-clause-lawful : goal.returns-then-is_new-clause-lawful

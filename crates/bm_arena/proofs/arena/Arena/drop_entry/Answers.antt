@@ -10,7 +10,7 @@ invariant_of-self c =
     record {
       arena =
           drop_entry-arena c.self.inside.slots c.remove_entry.new.slots c.args.slot c.in-Some.id c.in-Some.ensures.id c.in-Some.ensures.slots bare
-          c.self.inside.ids.entries c.swap_remove.new.self.entries c.self.inside.heads.entries c.self.inside.delimiter c.self.invariant.arena apart c.swap_remove.ensures.updates.0 c.swap_remove.ensures.unique;
+          c.self.inside.ids c.remove.new.self c.self.inside.heads.entries c.self.inside.delimiter c.self.invariant.arena apart c.remove.ensures.found c.remove.ensures.unique;
       bounded = below-dropped c.self.inside.slots c.remove_entry.new.slots c.args.slot c.self.inside.bound c.in-Some.ensures.slots c.self.invariant.bounded;
     }
 
@@ -26,8 +26,8 @@ returns-in-Some-clause-after c b seen =
     let at = rw (← c.self.view_is) at seen in
     rw (← c.self.view_is)
     (drop_entry-view c.self.inside.slots c.remove_entry.new.slots c.args.slot c.in-Some.id c.in-Some.ensures.id c.in-Some.ensures.slots bare
-    c.self.inside.ids.entries c.swap_remove.new.self.entries c.self.inside.heads.entries c.self.inside.delimiter c.self.invariant.arena apart c.swap_remove.ensures.updates.0
-    c.self.inside.steps c.self.inside.bound c.swap_remove.ensures.entries b at)
+    c.self.inside.ids c.remove.new.self c.self.inside.heads.entries c.self.inside.delimiter c.self.invariant.arena apart c.remove.ensures.found
+    c.self.inside.steps c.self.inside.bound c.remove.ensures.list b at)
 
 pub returns-in-Some-clause-lawful : goal.returns-in-Some-clause-lawful
 returns-in-Some-clause-lawful c = IsLawful-arena _ _ _ _ _ (invariant_of-self c) _
@@ -43,7 +43,7 @@ returns-in-Some-clause-entries c y =
     let apart = rw (← c.self.view_is) at c.requires.entry in
     rw (← c.self.view_is)
     (drop_entry-entries c.self.inside.slots c.remove_entry.new.slots c.args.slot c.in-Some.id c.in-Some.ensures.id c.in-Some.ensures.slots bare
-    c.self.inside.ids.entries c.swap_remove.new.self.entries c.self.inside.heads.entries c.self.inside.delimiter c.self.invariant.arena apart c.swap_remove.ensures.updates.0 y)
+    c.self.inside.ids c.remove.new.self c.self.inside.heads.entries c.self.inside.delimiter c.self.invariant.arena apart c.remove.ensures.found y)
 
 pub returns-in-Some-clause-numbers : goal.returns-in-Some-clause-numbers
 returns-in-Some-clause-numbers c b seen q =
@@ -52,7 +52,7 @@ returns-in-Some-clause-numbers c b seen q =
     let at = rw (← c.self.view_is) at seen in
     rw (← c.self.view_is)
     (drop_entry-numbers c.self.inside.slots c.remove_entry.new.slots c.args.slot c.in-Some.id c.in-Some.ensures.id c.in-Some.ensures.slots bare
-    c.self.inside.ids.entries c.swap_remove.new.self.entries c.self.inside.heads.entries c.self.inside.delimiter c.self.invariant.arena apart c.swap_remove.ensures.updates.0 b at q)
+    c.self.inside.ids c.remove.new.self c.self.inside.heads.entries c.self.inside.delimiter c.self.invariant.arena apart c.remove.ensures.found b at q)
 
 pub returns-in-Some-clause-lists : goal.returns-in-Some-clause-lists
 returns-in-Some-clause-lists c =
@@ -60,4 +60,4 @@ returns-in-Some-clause-lists c =
     let apart = rw (← c.self.view_is) at c.requires.entry in
     rw (← c.self.view_is)
     (drop_entry-lists c.self.inside.slots c.remove_entry.new.slots c.args.slot c.in-Some.id c.in-Some.ensures.id c.in-Some.ensures.slots bare
-    c.self.inside.ids.entries c.swap_remove.new.self.entries c.self.inside.heads.entries c.self.inside.delimiter c.self.invariant.arena apart c.swap_remove.ensures.updates.0)
+    c.self.inside.ids c.remove.new.self c.self.inside.heads.entries c.self.inside.delimiter c.self.invariant.arena apart c.remove.ensures.found)

@@ -11,7 +11,7 @@ pub invariant_of-self : goal.invariant_of-self
 invariant_of-self c =
     record {
       arena =
-          move_front-sound c.self.inside.slots c.self.inside.heads.entries c.in-Some-get_mut.first.now c.storage.inside.0 c.args.slot c.in-Some.triplet c.self.inside.ids.entries c.self.inside.delimiter c.self.invariant.arena c.in-Some-get_mut.ensures.value c.in-Some.ensures
+          move_front-sound c.self.inside.slots c.self.inside.heads.entries c.in-Some-get_mut.first.now c.storage.inside.0 c.args.slot c.in-Some.triplet c.self.inside.ids c.self.inside.delimiter c.self.invariant.arena c.in-Some-get_mut.ensures.value c.in-Some.ensures
           c.detach.new.slots c.attach.new.slots c.detach.new.first c.attach.new.first _ c.detach.ensures.slots c.detach.ensures.first c.attach.ensures.slots (c.get_mut.follows.holds c.attach.new.first).0 c.attach.ensures.first (c.get_mut.follows.holds c.attach.new.first).4;
       bounded = below-moved c.self.inside.slots c.detach.new.slots c.attach.new.slots c.detach.new.first c.args.slot c.storage.inside.0 c.in-Some.triplet c.self.inside.bound c.detach.ensures.slots c.attach.ensures.slots c.self.invariant.bounded;
     }
@@ -19,7 +19,7 @@ invariant_of-self c =
 pub returns-in-Some-get_mut-clause-after : goal.returns-in-Some-get_mut-clause-after
 returns-in-Some-get_mut-clause-after c =
     rw (← c.self.view_is, ← c.storage.view_is)
-    (move_front-view c.self.inside.slots c.self.inside.heads.entries c.in-Some-get_mut.first.now c.storage.inside.0 c.args.slot c.in-Some.triplet c.self.inside.ids.entries c.self.inside.delimiter c.self.invariant.arena c.in-Some-get_mut.ensures.value c.in-Some.ensures
+    (move_front-view c.self.inside.slots c.self.inside.heads.entries c.in-Some-get_mut.first.now c.storage.inside.0 c.args.slot c.in-Some.triplet c.self.inside.ids c.self.inside.delimiter c.self.invariant.arena c.in-Some-get_mut.ensures.value c.in-Some.ensures
     c.detach.new.slots c.attach.new.slots c.detach.new.first c.attach.new.first _ c.self.inside.steps c.count_up-self-inside.result c.self.inside.bound c.detach.ensures.slots c.detach.ensures.first c.attach.ensures.slots (c.get_mut.follows.holds c.attach.new.first).0 c.attach.ensures.first
     c.count_up-self-inside.ensures)
 

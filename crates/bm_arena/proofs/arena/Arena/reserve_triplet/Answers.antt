@@ -12,20 +12,20 @@ pub invariant_of-self : goal.invariant_of-self
 invariant_of-self c =
     record {
       arena =
-          reserve-arena c.self.inside.slots c.reserve_triplets.new.slots c.args.slot c.reserve_triplets.ensures.rest c.reserve_triplets.ensures.grows c.self.inside.ids.entries c.self.inside.heads.entries c.self.inside.delimiter c.self.invariant.arena;
+          reserve-arena c.self.inside.slots c.reserve_triplets.new.slots c.args.slot c.reserve_triplets.ensures.rest c.reserve_triplets.ensures.grows c.self.inside.ids c.self.inside.heads.entries c.self.inside.delimiter c.self.invariant.arena;
       bounded = below-changed _ c.self.inside.slots c.reserve_triplets.new.slots c.args.slot c.self.inside.bound c.reserve_triplets.ensures.rest c.self.invariant.bounded;
     }
 
 pub returns-clause-rest : goal.returns-clause-rest
 returns-clause-rest c =
     rw (← c.self.view_is)
-    (reserve-view c.self.inside.slots c.reserve_triplets.new.slots c.args.slot c.reserve_triplets.ensures.rest c.reserve_triplets.ensures.grows c.self.inside.ids.entries c.self.inside.heads.entries c.self.inside.delimiter c.self.invariant.arena c.self.inside.steps c.self.inside.bound)
+    (reserve-view c.self.inside.slots c.reserve_triplets.new.slots c.args.slot c.reserve_triplets.ensures.rest c.reserve_triplets.ensures.grows c.self.inside.ids c.self.inside.heads.entries c.self.inside.delimiter c.self.invariant.arena c.self.inside.steps c.self.inside.bound)
 
 pub invariant_of-self-2 : goal.invariant_of-self-2
 invariant_of-self-2 c =
     record {
       arena =
-          reserve-arena c.self.inside.slots c.reserve_triplets.new.slots c.args.slot c.reserve_triplets.ensures.rest c.reserve_triplets.ensures.grows c.self.inside.ids.entries c.self.inside.heads.entries c.self.inside.delimiter c.self.invariant.arena;
+          reserve-arena c.self.inside.slots c.reserve_triplets.new.slots c.args.slot c.reserve_triplets.ensures.rest c.reserve_triplets.ensures.grows c.self.inside.ids c.self.inside.heads.entries c.self.inside.delimiter c.self.invariant.arena;
       bounded = below-changed _ c.self.inside.slots c.reserve_triplets.new.slots c.args.slot c.self.inside.bound c.reserve_triplets.ensures.rest c.self.invariant.bounded;
     }
 

@@ -11,7 +11,7 @@ pub invariant_of-self : goal.invariant_of-self
 invariant_of-self c =
     record {
       arena =
-          unlink-sound c.self.inside.slots c.self.inside.heads.entries c.in-Some-get_mut.first.now c.storage.inside.0 c.args.slot c.in-Some.triplet c.self.inside.ids.entries c.self.inside.delimiter c.self.invariant.arena c.in-Some-get_mut.ensures.value c.in-Some.ensures
+          unlink-sound c.self.inside.slots c.self.inside.heads.entries c.in-Some-get_mut.first.now c.storage.inside.0 c.args.slot c.in-Some.triplet c.self.inside.ids c.self.inside.delimiter c.self.invariant.arena c.in-Some-get_mut.ensures.value c.in-Some.ensures
           c.detach.new.slots c.remove_triplet.new.slots _ c.detach.new.first c.detach.ensures.slots c.remove_triplet.ensures (c.get_mut.follows.holds c.detach.new.first).0 c.detach.ensures.first (c.get_mut.follows.holds c.detach.new.first).4;
       bounded = below-unlinked c.self.inside.slots c.detach.new.slots c.remove_triplet.new.slots c.args.slot c.storage.inside.0 c.in-Some.triplet c.self.inside.bound c.detach.ensures.slots c.remove_triplet.ensures c.self.invariant.bounded;
     }
@@ -19,7 +19,7 @@ invariant_of-self c =
 pub returns-in-Some-get_mut-clause-after : goal.returns-in-Some-get_mut-clause-after
 returns-in-Some-get_mut-clause-after c =
     rw (← c.self.view_is, ← c.storage.view_is)
-    (unlink-view c.self.inside.slots c.self.inside.heads.entries c.in-Some-get_mut.first.now c.storage.inside.0 c.args.slot c.in-Some.triplet c.self.inside.ids.entries c.self.inside.delimiter c.self.invariant.arena c.in-Some-get_mut.ensures.value c.in-Some.ensures
+    (unlink-view c.self.inside.slots c.self.inside.heads.entries c.in-Some-get_mut.first.now c.storage.inside.0 c.args.slot c.in-Some.triplet c.self.inside.ids c.self.inside.delimiter c.self.invariant.arena c.in-Some-get_mut.ensures.value c.in-Some.ensures
     c.detach.new.slots c.remove_triplet.new.slots _ c.detach.new.first c.self.inside.steps c.count_up-self-inside.result c.self.inside.bound c.detach.ensures.slots c.remove_triplet.ensures (c.get_mut.follows.holds c.detach.new.first).0 c.detach.ensures.first
     c.count_up-self-inside.ensures)
 
