@@ -20,6 +20,7 @@ loop-rest-preserved c =
       fresh = naming-chain c.args.arena.now c.loop-rest.arena c.look_up_chunk.new.arena [] c.loop-rest.named.items c.look_up_chunk.new.named.items c.loop-rest.invariant.fresh c.look_up_chunk.ensures.fresh;
       kept = prepared-chain c.args.arena.now c.loop-rest.arena c.look_up_chunk.new.arena c.loop-rest.invariant.kept c.look_up_chunk.ensures.kept;
       here = c.in_ok-look_up_chunk.ensures.here;
+      room = c.in_ok-look_up_chunk.ensures.room;
       others = λ b out.
           c.look_up_chunk.ensures.others b (not_named _ (λ in_it. named_apart _ b out (c.loop-rest.invariant.left b (front_named c.args.part c.split_at.result.0.now c.split_at.result.1.now c.loop-rest.rest.now b whole in_it)))) ∙ c.loop-rest.invariant.others b out;
       left = λ b in_it. c.loop-rest.invariant.left b (back_named c.args.part c.split_at.result.0.now c.split_at.result.1.now c.loop-rest.rest.now b whole in_it);

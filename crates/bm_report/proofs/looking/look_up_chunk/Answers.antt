@@ -2,7 +2,7 @@ use Rattle.std.proofs.Common.{map, length, refl, ◌∙◌}
 use Rattle.std.proofs.lemmas.Option.{slice_get_read}
 use Rattle.bm_report.specs.Midway.{told_of}
 use Rattle.bm_report.proofs.Aborts.{naming-chain}
-use Rattle.bm_report.proofs.Prepared.{prepared-chain}
+use Rattle.bm_report.proofs.Prepared.{prepared-chain, placed-prepared}
 use Rattle.bm_report.proofs.Running.{told_on, told_end}
 use Rattle.bm_report.proofs.Naming.{named_apart, not_named, entry_named, rest_named}
 use Rattle.bm_report.proofs.looking.look_up_chunk.Goals as goal
@@ -13,6 +13,7 @@ loop-place-preserved c =
       fresh = naming-chain c.args.arena.now c.loop-place.arena c.look_up_run.new.arena c.args.named.now.items c.loop-place.named.items c.look_up_run.new.named.items c.loop-place.invariant.fresh c.look_up_run.ensures.fresh;
       kept = prepared-chain c.args.arena.now c.loop-place.arena c.look_up_run.new.arena c.loop-place.invariant.kept c.look_up_run.ensures.kept;
       here = c.in_ok-look_up_run.ensures.here;
+      room = c.in_ok-look_up_run.ensures.room;
       others = λ b out.
           c.look_up_run.ensures.others b (not_named _ (λ in_it. named_apart _ b out (c.loop-place.invariant.rest b (entry_named c.args.part c.args.chunk.now c.loop-place.place c.index-chunk-place.result b at in_it)))) ∙ c.loop-place.invariant.others b out;
       rest = λ b in_it. c.loop-place.invariant.rest b (rest_named c.args.part c.args.chunk.now c.loop-place.place c.index-chunk-place.result b at in_it);
@@ -31,4 +32,6 @@ returns-in_err-look_up_run-clause-others c b out =
     c.look_up_run.ensures.others b (not_named _ (λ in_it. named_apart _ b out (c.loop-place.invariant.rest b (entry_named c.args.part c.args.chunk.now c.loop-place.place c.index-chunk-place.result b at in_it)))) ∙ c.loop-place.invariant.others b out
 
 pub look_up_run-requires-clause-known : goal.look_up_run-requires-clause-known
-look_up_run-requires-clause-known c slot e = c.loop-place.invariant.kept.slots _ slot (c.find_firsts-known.ensures c.loop-place.place c.index-known-place.result c.loop-place-test.true slot e)
+look_up_run-requires-clause-known c =
+    placed-prepared c.args.storage c.args.arena.now c.loop-place.arena _ c.lawful.ensures c.loop-place.invariant.kept
+    (c.find_firsts-known.ensures c.loop-place.place c.index-known-place.result c.loop-place-test.true)

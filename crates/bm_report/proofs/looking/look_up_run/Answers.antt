@@ -6,7 +6,7 @@ use Rattle.bm_base.specs.Events.{is_named}
 use Rattle.bm_report.specs.Midway.{told_of}
 use Rattle.std.proofs.Common.{refl}
 use Rattle.bm_report.proofs.Aborts.{naming-none, naming-chain}
-use Rattle.bm_report.proofs.Prepared.{prepared-none, prepared-chain}
+use Rattle.bm_report.proofs.Prepared.{prepared-none, prepared-chain, placed-prepared}
 use Rattle.bm_report.proofs.Running.{told_first, run_step}
 use Rattle.bm_report.proofs.Naming.{named_apart, next_named, later_named}
 use Rattle.bm_report.proofs.looking.look_up_run.Goals as goal
@@ -18,6 +18,7 @@ loop-next-init c =
       fresh = naming-none c.args.arena.now c.args.arena.now c.args.named.now.items c.args.named.now.items (λ b. refl) refl;
       kept = prepared-none c.args.arena.now;
       here = c.requires.here;
+      room = c.requires.room;
       known = c.requires.known;
       others = λ b out. refl;
       rest = λ b in_it. ap (λ l. is_named l b) first_is ∙ in_it;
@@ -32,7 +33,8 @@ loop-next-preserved c =
       fresh = naming-chain c.args.arena.now c.loop-next.arena c.look_up_one.new.arena c.args.named.now.items c.loop-next.named.items c.look_up_one.new.named.items c.loop-next.invariant.fresh c.look_up_one.ensures.fresh;
       kept = prepared-chain c.args.arena.now c.loop-next.arena c.look_up_one.new.arena c.loop-next.invariant.kept c.look_up_one.ensures.kept;
       here = c.in_ok-look_up_one.ensures.here;
-      known = λ slot e. c.look_up_one.ensures.kept.slots c.args.known.now.id slot (c.loop-next.invariant.known slot e);
+      room = c.in_ok-look_up_one.ensures.room;
+      known = placed-prepared c.args.storage c.loop-next.arena c.look_up_one.new.arena c.args.known.now c.lawful.ensures c.look_up_one.ensures.kept c.loop-next.invariant.known;
       others = λ b out. c.look_up_one.ensures.others b (λ same. named_apart _ b out (c.loop-next.invariant.rest b (next_named c.args.part c.args.entry.now c.loop-next.next b c.requires.index c.loop-next.invariant.own within same))) ∙ c.loop-next.invariant.others b out;
       rest = λ b in_it.
           let at : is_named (of_part c.args.part (told_from c.args.entry.now (c.loop-next.next + c.args.part.shards))) b ≡ true = ap (λ k. is_named (of_part c.args.part (told_from c.args.entry.now (c.loop-next.next + k))) b) (sym c.from-next.ensures) ∙ in_it in
@@ -41,6 +43,10 @@ loop-next-preserved c =
       named = ap (λ k. map told_of c.look_up_one.new.named.items ++ of_part c.args.part (told_from c.args.entry.now (c.loop-next.next + k))) c.from-next.ensures ∙ run_step c.args.part c.args.entry.now c.loop-next.next (map told_of c.loop-next.named.items) (map told_of c.look_up_one.new.named.items) _ c.requires.index c.loop-next.invariant.own within c.loop-next.invariant.named
           (c.in_ok-look_up_one.ensures.named ∙ ap (λ (e : Entry). map told_of c.loop-next.named.items ++ record { id = c.loop-next.next; stamp = e.stamp } ∷ []) c.entry.view_is);
     }
+
+pub returns-in_err-look_up_one-clause-kept : goal.returns-in_err-look_up_one-clause-kept
+returns-in_err-look_up_one-clause-kept c =
+    prepared-chain c.args.arena.now c.loop-next.arena c.look_up_one.new.arena c.loop-next.invariant.kept c.look_up_one.ensures.kept
 
 pub returns-in_err-look_up_one-clause-others : goal.returns-in_err-look_up_one-clause-others
 returns-in_err-look_up_one-clause-others c b out =
