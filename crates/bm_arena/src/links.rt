@@ -13,11 +13,22 @@ use slab::Slab;
 use smallvec::SmallVec;
 use std::alloc::AllocError;
 
-// The place of a storage's triplet.
+// The place of a storage's triplet. All few are looked at, from the last on: at which place a storage stands can't be foretold, so
+// a search that ends there would make the processor throw away what it does ahead.
 fn place_of(triplets: &[Triplet], storage: u32) -> Option<usize>
     ensures { result ≡ position (λ t. t.storage == storage) triplets.now }
 {
-    triplets.iter().position(|t| t.storage == storage)
+    let mut first = triplets.len();
+    for place in (0..triplets.len()).rev() {
+        if triplets[place].storage == storage {
+            first = place;
+        }
+    }
+    if first < triplets.len() {
+        Some(first)
+    } else {
+        None
+    }
 }
 
 // The triplet of a storage.
