@@ -1,13 +1,12 @@
 -- Replicas that leave one after another.
-use Rattle.std.specs.Prelude.{◌≡◌, ℕ, ◌+◌, ◌-◌, ◌<◌, ◌≤◌, length, Bool, true, false, not, ◌==◌, List, [], ◌∷◌, Option, Some, None, IsSome, is_some, option_and_then}
-use Rattle.std.proofs.Common.{cond, refl, sym, ap, subst, ◌∙◌, arith, inl}
-use Rattle.std.proofs.lemmas.Option.{same_Some}
-use Rattle.std.proofs.lemmas.Bool.{eqb-false, eq-eqb}
+use Rattle.std.specs.Prelude.{◌≡◌, ◌≢◌, ℕ, ◌+◌, ◌-◌, ◌<◌, ◌≤◌, length, Bool, true, false, not, ◌==◌, List, [], Option, Some, None, IsSome, is_some, option_and_then}
+use Rattle.std.proofs.Common.{cond, refl, sym, ap, subst, ◌∙◌, arith}
+use Rattle.std.proofs.lemmas.Bool.{eqb-false, false≢true}
 use Rattle.bm_base.specs.declared.replica.ReplicaId.{ReplicaId}
 use Rattle.bm_base.specs.declared.replica.Marks.{Marks}
 use Rattle.bm_base.specs.Map.{get, keep, remove, len}
 use Rattle.bm_base.specs.State.{replica_at}
-use Rattle.bm_base.specs.SlotLists.{Among, first_of, without}
+use Rattle.bm_base.specs.SlotLists.{Among}
 use Rattle.bm_base.proofs.SlotLists.{length-distinct_below}
 use Rattle.bm_base.specs.Calls.{new_replicas}
 use Rattle.bm_base.proofs.MapLaws.{same_map, get-keep}
@@ -20,22 +19,6 @@ use Rattle.bm_arena.proofs.Held.{get-replicas_of}
 use Rattle.bm_report.proofs.Maps.{get-here, len-out}
 use Rattle.bm_levels.specs.Leaving.{IsLeaving}
 
--- the first of a list of slots, and the rest
-pub first_among : (xs : List ℕ) (x : ℕ) → first_of xs ≡ Some x → Among x xs
-first_among [] x e = cc
-first_among (y ∷ ys) x e = inl (same_Some x y (sym e))
-
-pub first_then : (xs : List ℕ) (x : ℕ) → first_of xs ≡ Some x → xs ≡ x ∷ without x xs
-first_then [] x e = cc
-first_then (y ∷ ys) x e =
-    let same : y ≡ x = same_Some y x e in
-    let rest : without x (y ∷ ys) ≡ ys = ap (λ b. cond b ys (y ∷ without x ys)) (eq-eqb y x same) in
-    (λ i. same i ∷ sym rest i)
-
-pub first_none : (xs : List ℕ) → first_of xs ≡ None → xs ≡ []
-first_none [] e = refl
-first_none (y ∷ ys) e = cc
-
 -- each slot of a list is held
 pub held_on : (a : Contents) → IsLawful a → (s slot : ℕ) → Among slot (list_of a s) → IsSome (block_at a slot)
 held_on a lawful s slot there = by (block_at a slot) ((lawful.exact slot s).0 there)
@@ -43,6 +26,18 @@ held_on a lawful s slot there = by (block_at a slot) ((lawful.exact slot s).0 th
     by : (o : Option Block) → IsSome (option_and_then (λ (b : Block). find_marks b.replicas s) o) → IsSome o
     by None h = h
     by (Some b) h = refl
+
+-- where the delimiter has no replica on a storage, a number leads to each slot that has one
+module _ (a : Contents) (lawful : IsLawful a) (s : ℕ) (free : marks_at a a.delimiter s ≡ None) (slot : ℕ) (there : IsSome (marks_at a slot s)) where
+  pub apart_from : slot ≢ a.delimiter
+  apart_from at = false≢true (sym (ap is_some free) ∙ ap (λ x. is_some (marks_at a x s)) (sym at) ∙ there)
+
+  pub led_by : (id : ℕ) × (slot_of a id ≡ Some slot)
+  led_by = by (block_at a slot) refl there
+    where
+      by : (o : Option Block) → block_at a slot ≡ o → IsSome (option_and_then (λ (b : Block). find_marks b.replicas s) o) → (id : ℕ) × (slot_of a id ≡ Some slot)
+      by None e some = absurd (false≢true some)
+      by (Some k) e some = (k.id, lawful.known slot k e apart_from)
 
 -- no list is longer than there are slots
 pub few_on : (a : Contents) → IsLawful a → (s bound : ℕ) → ((slot : ℕ) → IsSome (block_at a slot) → slot < bound) → length (list_of a s) ≤ bound

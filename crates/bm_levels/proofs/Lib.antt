@@ -25,3 +25,4 @@ pub mod Going
 pub mod Beginning
 pub mod RoundStart
 pub mod Bare
+pub mod Unlinking

@@ -1,5 +1,5 @@
 -- Where the replicas of several blocks changed and just these were judged anew, all that holds between calls holds again.
-use Rattle.std.specs.Prelude.{◌≡◌, ◌≢◌, ◌↔◌, ℕ, ◌+◌, true, false, List, [], ◌∷◌, Option, Some, None, IsSome, is_some, option_and_then}
+use Rattle.std.specs.Prelude.{◌≡◌, ◌≢◌, ◌↔◌, ℕ, ◌+◌, Bool, true, false, List, [], ◌∷◌, Option, Some, None, IsSome, is_some, option_and_then}
 use Rattle.std.proofs.Common.{refl, sym, ap, subst, ◌∙◌, inl, inr, ◌⊎◌, cond}
 use Rattle.std.proofs.lemmas.Bool.{cases_eq, eq-eqb, true≢false}
 use Rattle.bm_base.specs.declared.replica.Marks.{Marks}
@@ -9,9 +9,10 @@ use Rattle.bm_base.specs.Replicas.{rack_of, is_draining, is_multi_rack}
 use Rattle.bm_arena.specs.Triplets.{Block}
 use Rattle.bm_arena.specs.Contents.{Contents, block_at, marks_at, find_marks, known_of}
 use Rattle.bm_arena.specs.Holding.{info_at}
-use Rattle.bm_levels.specs.Judged.{level_in, is_settled_at}
+use Rattle.bm_levels.specs.Judged.{level_by, is_settled_at}
 use Rattle.bm_levels.specs.Kept.{Kept, level_of_slot, IsUnsettled, HasRoomFor, IsJudged, IsSameAt}
 use Rattle.bm_levels.specs.Leveled.{Leveled, IsLeveled, AreLevels}
+use Rattle.bm_levels.specs.LevelsBy.{AreLevelsBy}
 use Rattle.bm_levels.proofs.Judgement.{level_unknown}
 
 pub no_replicas : (rs : List (ℕ × Marks)) → ((t : ℕ) → find_marks rs t ≡ None) → rs ≡ []
@@ -41,16 +42,16 @@ known_there o p e there = sym (by p) ∙ ap is_some (sym e) ∙ by o ∙ there
     by None = refl
     by (Some b) = refl
 
-module _ (C : Cluster) (old : Leveled) (a : Contents) (K : Kept) (delimiter : a.delimiter ≡ old.arena.delimiter)
+module _ (rack : ℕ → Option ℕ) (draining : ℕ → Bool) (multi : Bool) (old : Leveled) (a : Contents) (K : Kept) (delimiter : a.delimiter ≡ old.arena.delimiter)
     (free : (t : ℕ) → marks_at a a.delimiter t ≡ marks_at old.arena old.arena.delimiter t)
     (known : (slot : ℕ) → known_of (block_at a slot) ≡ known_of (block_at old.arena slot))
-    (each : (slot : ℕ) → slot ≢ old.arena.delimiter → (IsJudged (rack_of C) (is_draining C) (is_multi_rack C) (block_at a slot) K slot) ⊎ ((block_at a slot ≡ block_at old.arena slot) × IsSameAt old.kept K slot))
+    (each : (slot : ℕ) → slot ≢ old.arena.delimiter → (IsJudged rack draining multi (block_at a slot) K slot) ⊎ ((block_at a slot ≡ block_at old.arena slot) × IsSameAt old.kept K slot))
     (mark : IsSameAt old.kept K old.arena.delimiter) where
   same_info : (slot : ℕ) → info_at a slot ≡ info_at old.arena slot
   same_info slot = known_info (block_at a slot) (block_at old.arena slot) (known slot)
 
-  pub leveled_reported : IsLeveled old → ((bound : ℕ) → HasRoomFor old.kept bound → HasRoomFor K bound) → IsLeveled (record { arena = a; kept = K })
-  leveled_reported h room =
+  pub leveled_many : IsLeveled old → ((bound : ℕ) → HasRoomFor old.kept bound → HasRoomFor K bound) → IsLeveled (record { arena = a; kept = K })
+  leveled_many h room =
       let free_now : (t : ℕ) → marks_at a old.arena.delimiter t ≡ None = λ t. sym (ap (λ d. marks_at a d t) delimiter) ∙ free t ∙ h.free t in
       let blank_now : info_at a old.arena.delimiter ≡ None = same_info old.arena.delimiter ∙ h.blank in
       let now_settled = marker_settled (block_at a old.arena.delimiter) free_now blank_now in
@@ -73,17 +74,29 @@ module _ (C : Cluster) (old : Leveled) (a : Contents) (K : Kept) (delimiter : a.
         unknown = λ z e. elim (cases_eq z old.arena.delimiter) [
           | inl same ↦ let P : ℕ → Type 0 = λ x. level_of_slot K x ≡ None in subst P (sym same) (mark.level ∙ h.unknown old.arena.delimiter h.blank)
           | inr differs ↦ elim (each z differs) [
-            | inl judged ↦ judged.level ∙ sym (level_unknown (rack_of C) (is_draining C) (is_multi_rack C) (block_at a z) e)
+            | inl judged ↦ judged.level ∙ sym (level_unknown rack draining multi (block_at a z) e)
             | inr g ↦ g.1.level ∙ h.unknown z (sym (same_info z) ∙ e)
           ]
         ];
       }
 
-  pub levels_reported : IsLeveled old → AreLevels C old → AreLevels C (record { arena = a; kept = K })
-  levels_reported i h z = elim (cases_eq z old.arena.delimiter) [
+  pub levels_many : IsLeveled old → AreLevelsBy rack draining multi old → AreLevelsBy rack draining multi (record { arena = a; kept = K })
+  levels_many i h z = elim (cases_eq z old.arena.delimiter) [
     | inl same ↦
-        let P : ℕ → Type 0 = λ x. level_of_slot K x ≡ level_in C (block_at a x) in
+        let P : ℕ → Type 0 = λ x. level_of_slot K x ≡ level_by rack draining multi (block_at a x) in
         subst P (sym same)
-        (mark.level ∙ i.unknown old.arena.delimiter i.blank ∙ level_unknown (rack_of C) (is_draining C) (is_multi_rack C) (block_at a old.arena.delimiter) (same_info old.arena.delimiter ∙ i.blank))
-    | inr differs ↦ elim (each z differs) [ inl judged ↦ judged.level | inr g ↦ g.1.level ∙ h z ∙ sym (ap (level_in C) g.0) ]
+        (mark.level ∙ i.unknown old.arena.delimiter i.blank ∙ level_unknown rack draining multi (block_at a old.arena.delimiter) (same_info old.arena.delimiter ∙ i.blank))
+    | inr differs ↦ elim (each z differs) [ inl judged ↦ judged.level | inr g ↦ g.1.level ∙ h z ∙ sym (ap (level_by rack draining multi) g.0) ]
   ]
+
+-- in a cluster
+module _ (C : Cluster) (old : Leveled) (a : Contents) (K : Kept) (delimiter : a.delimiter ≡ old.arena.delimiter)
+    (free : (t : ℕ) → marks_at a a.delimiter t ≡ marks_at old.arena old.arena.delimiter t)
+    (known : (slot : ℕ) → known_of (block_at a slot) ≡ known_of (block_at old.arena slot))
+    (each : (slot : ℕ) → slot ≢ old.arena.delimiter → (IsJudged (rack_of C) (is_draining C) (is_multi_rack C) (block_at a slot) K slot) ⊎ ((block_at a slot ≡ block_at old.arena slot) × IsSameAt old.kept K slot))
+    (mark : IsSameAt old.kept K old.arena.delimiter) where
+  pub leveled_reported : IsLeveled old → ((bound : ℕ) → HasRoomFor old.kept bound → HasRoomFor K bound) → IsLeveled (record { arena = a; kept = K })
+  leveled_reported = leveled_many (rack_of C) (is_draining C) (is_multi_rack C) old a K delimiter free known each mark
+
+  pub levels_reported : IsLeveled old → AreLevels C old → AreLevels C (record { arena = a; kept = K })
+  levels_reported = levels_many (rack_of C) (is_draining C) (is_multi_rack C) old a K delimiter free known each mark

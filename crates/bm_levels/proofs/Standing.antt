@@ -1,7 +1,7 @@
 -- Where storages stand alike for all replicas that are held, levels are the same.
 use Rattle.std.specs.Prelude.{◌≡◌, ℕ, Bool, true, false, ◌==◌, List, [], ◌∷◌, Option, Some, None, IsSome, is_some, option_and_then}
 use Rattle.std.proofs.Common.{cond, refl, sym, ap, subst, ◌∙◌}
-use Rattle.std.proofs.lemmas.Bool.{eq-eqb, false≢true}
+use Rattle.std.proofs.lemmas.Bool.{eq-eqb}
 use Rattle.bm_base.specs.declared.replica.Marks.{Marks}
 use Rattle.bm_base.specs.Map.{get}
 use Rattle.bm_base.specs.State.{Cluster, replica_at}
@@ -20,6 +20,7 @@ use Rattle.bm_levels.specs.Judged.{drains_then, level_by}
 use Rattle.bm_levels.specs.Leveled.{Leveled, IsLeveled, AreLevels}
 use Rattle.bm_levels.specs.LevelsBy.{AreLevelsBy, IsSameForHeld, heartbeat_leaves_all_levels, register_is_same_for_held}
 use Rattle.bm_levels.proofs.Agreeing.{levels_agree}
+use Rattle.bm_levels.proofs.Leaving.{led_by}
 
 -- what holds of each storage on which marks are found holds of each replica
 pub each_found : (P : ℕ → Type 0) (rs : List (ℕ × Marks)) → ((s : ℕ) → IsSome (find_marks rs s) → P s) → Each (λ (r : ℕ × Marks). P r.0) rs
@@ -70,11 +71,7 @@ still_by C D t multi m v e f g h slot = h slot ∙ (λ i. level_by (rack_of (e i
 
 -- a slot with a replica is that of a number
 pub led_to : (v : Leveled) → IsLawful v.arena → IsLeveled v → (slot s : ℕ) → IsSome (marks_at v.arena slot s) → (id : ℕ) × (slot_of v.arena id ≡ Some slot)
-led_to v lawful leveled slot s there = by (block_at v.arena slot) refl there
-  where
-    by : (o : Option Block) → block_at v.arena slot ≡ o → IsSome (option_and_then (λ (b : Block). find_marks b.replicas s) o) → (id : ℕ) × (slot_of v.arena id ≡ Some slot)
-    by None e some = absurd (false≢true some)
-    by (Some k) e some = (k.id, lawful.known slot k e (λ at. false≢true (sym (ap is_some (leveled.free s)) ∙ ap (λ x. is_some (marks_at v.arena x s)) (sym at) ∙ there)))
+led_to v lawful leveled slot s there = led_by v.arena lawful s (leveled.free s) slot there
 
 module _ (C D : Cluster) (v : Leveled) (lawful : IsLawful v.arena) (leveled : IsLeveled v) (same : IsSameForHeld C D v.arena) where
   stands : (slot s : ℕ) → IsSome (marks_at v.arena slot s) → (rack_of C s ≡ rack_of D s) × (is_draining C s ≡ is_draining D s)

@@ -13,7 +13,7 @@ use crate::kept::KeptLevels;
 use bm_arena::{Arena, Slot};
 
 /// So many blocks are judged together.
-const CHUNK: usize = 64;
+pub(crate) const CHUNK: usize = 64;
 
 /// What was not judged.
 const NOT_JUDGED: Judged = Judged {

@@ -1,5 +1,5 @@
 // Entries that nothing needs any more: those that a report found bare, and those that one left so.
-ghost use Rattle.std.specs.Prelude.{◌≡◌, ℕ, [], Some};
+ghost use Rattle.std.specs.Prelude.{◌≡◌, ℕ, Bool, [], Option, Some};
 ghost use Rattle.bm_base.specs.State.{Cluster};
 ghost use Rattle.bm_base.specs.Events.{is_named};
 ghost use Rattle.bm_arena.specs.Contents.{slot_of};
@@ -7,6 +7,7 @@ ghost use Rattle.bm_arena.specs.Holding.{replicas_of, blocks_of};
 ghost use Rattle.bm_report.specs.Ready.{told};
 ghost use Rattle.bm_levels.specs.Bare.{IsBare, HasNoneBareOf, HasNoneBareAt, MakesNoneBare, KeepsSlots};
 ghost use Rattle.bm_levels.specs.Leveled.{AreLevels};
+ghost use Rattle.bm_levels.specs.LevelsBy.{AreLevelsBy};
 
 use crate::leveled::LeveledBlocks;
 use bm_arena::Slot;
@@ -37,6 +38,18 @@ impl LeveledBlocks {
         ensures slots { KeepsSlots self.old.arena self.new.arena }
         ensures levels { (C : Cluster) → AreLevels C self.old → AreLevels C self.new }
     {
+        self.drop_each(slots);
+    }
+
+    /// Drops the entries at these slots that have neither a block nor a replica. No list changes.
+    pub(crate) fn drop_each(&mut self, slots: &[Slot])
+        ensures blocks { blocks_of self.new.arena ≡ blocks_of self.old.arena }
+        ensures replicas { replicas_of self.new.arena ≡ replicas_of self.old.arena }
+        ensures left { HasNoneBareAt slots.now self.old.arena self.new.arena }
+        ensures slots { KeepsSlots self.old.arena self.new.arena }
+        ensures lists { self.new.arena.lists ≡ self.old.arena.lists }
+        ensures levels_by { (rack : ℕ → Option ℕ) (draining : ℕ → Bool) (multi : Bool) → AreLevelsBy rack draining multi self.old → AreLevelsBy rack draining multi self.new }
+    {
         for slot in slots {
             self.drop_at(*slot);
         }
@@ -48,7 +61,8 @@ impl LeveledBlocks {
         ensures replicas { replicas_of self.new.arena ≡ replicas_of self.old.arena }
         ensures slots { KeepsSlots self.old.arena self.new.arena }
         ensures left { (b : ℕ) → slot_of self.old.arena b ≡ Some slot → IsBare self.new.arena b → ⊥ }
-        ensures levels { (C : Cluster) → AreLevels C self.old → AreLevels C self.new }
+        ensures lists { self.new.arena.lists ≡ self.old.arena.lists }
+        ensures levels_by { (rack : ℕ → Option ℕ) (draining : ℕ → Bool) (multi : Bool) → AreLevelsBy rack draining multi self.old → AreLevelsBy rack draining multi self.new }
     {
         self.arena.lawful();
         if self.arena.has_entry(slot) && !self.arena.is_delimiter(slot) {

@@ -1,12 +1,10 @@
 // Storages and nodes that leave with all their replicas.
-ghost use Rattle.std.specs.Prelude.{◌≡◌, ◌<◌, ◌^◌, ◌==◌, not, ℕ, [], ◌∷◌, Some, IsSome, true};
-ghost use Rattle.bm_base.specs.Map.{keep, remove};
-ghost use Rattle.bm_base.specs.State.{replica_at};
+ghost use Rattle.std.specs.Prelude.{◌≡◌, ◌<◌, ◌^◌, ◌==◌, not, ℕ, [], true};
+ghost use Rattle.bm_base.specs.Map.{keep};
 ghost use Rattle.bm_base.specs.Replicas as replicas;
-ghost use Rattle.bm_base.specs.SlotLists as slots;
 ghost use Rattle.bm_base.specs.Events as events;
 ghost use Rattle.bm_base.specs.Calls as calls;
-ghost use Rattle.bm_arena.specs.Contents.{block_at, slot_of, list_of, marks_at, HasHead, KeepsOthers};
+ghost use Rattle.bm_arena.specs.Contents.{list_of, HasHead};
 ghost use Rattle.bm_arena.specs.Holding.{replicas_of, blocks_of};
 ghost use Rattle.bm_levels.specs.Bare.{MakesNoneBare};
 ghost use Rattle.bm_levels.specs.Judged.{drains_then};
@@ -17,7 +15,6 @@ ghost use Rattle.bm_levels.specs.Leaving.{IsLeaving, HasNoHeads, MakesNoHead};
 use crate::around::Around;
 use crate::leveled::LeveledBlocks;
 use crate::turned::has_storage;
-use bm_arena::Slot;
 use bm_base::{NodeId, StorageId};
 use bm_topo::Topology;
 
@@ -84,81 +81,5 @@ impl LeveledBlocks {
             }
         }
         removed
-    }
-
-    /// The replicas on a storage leave, and its list; answers how many.
-    fn clear(&mut self, around: &Around<'_>, storage: StorageId) -> usize
-        ensures left { IsLeaving (λ s. s == storage) self.old.arena self.new.arena result }
-        ensures none { list_of self.new.arena storage ≡ [] }
-        ensures bare { MakesNoneBare self.old.arena self.new.arena }
-        ensures head { HasHead self.new.arena storage → ⊥ }
-        ensures fewer { MakesNoHead self.old.arena self.new.arena }
-        ensures levels { AreLevelsBy (replicas.rack_of around.now.topology.now.cluster) (drains_then around.now.topology.now.cluster around.now.turning) around.now.multi self.old → AreLevelsBy (replicas.rack_of around.now.topology.now.cluster) (drains_then around.now.topology.now.cluster around.now.turning) around.now.multi self.new }
-    {
-        self.arena().lawful();
-        let bound = self.arena().slot_bound();
-        let mut removed = 0;
-        while let Some(slot) = self.first_on(storage) {
-            self.take_first(around, storage, slot);
-            prove!(removed < bound);
-            removed += 1;
-        }
-        self.drop_list(storage);
-        removed
-    }
-
-    /// The first slot in the list of a storage.
-    fn first_on(&self, storage: StorageId) -> Option<Slot>
-        ensures { result ≡ slots.first_of (list_of self.now.arena storage) }
-    {
-        self.arena().walk(storage).next()
-    }
-
-    /// Takes out the replica on a storage of the first slot in the storage's list, and drops the entry if it has neither a block nor
-    /// another replica.
-    fn take_first(&mut self, around: &Around<'_>, storage: StorageId, slot: Slot)
-        requires { slots.first_of (list_of self.old.arena storage) ≡ Some slot }
-        ensures left { IsLeaving (λ s. s == storage) self.old.arena self.new.arena 1 }
-        ensures list { list_of self.old.arena storage ≡ slot ∷ list_of self.new.arena storage }
-        ensures bare { MakesNoneBare self.old.arena self.new.arena }
-        ensures fewer { MakesNoHead self.old.arena self.new.arena }
-        ensures levels { AreLevelsBy (replicas.rack_of around.now.topology.now.cluster) (drains_then around.now.topology.now.cluster around.now.turning) around.now.multi self.old → AreLevelsBy (replicas.rack_of around.now.topology.now.cluster) (drains_then around.now.topology.now.cluster around.now.turning) around.now.multi self.new }
-    {
-        self.lawful();
-        self.arena().lawful();
-        self.take_out(around, slot, storage);
-        self.drop_if_bare(slot);
-    }
-
-    /// Takes out the replica on a storage of the block at the slot of a number, and judges the block anew.
-    fn take_out(&mut self, around: &Around<'_>, slot: Slot, storage: StorageId)
-        requires slot { (id : ℕ) × (slot_of self.old.arena id ≡ Some slot) }
-        requires replica { IsSome (marks_at self.old.arena slot storage) }
-        ensures list { list_of self.new.arena storage ≡ slots.without slot (list_of self.old.arena storage) }
-        ensures blocks { blocks_of self.new.arena ≡ blocks_of self.old.arena }
-        ensures replicas { (id : ℕ) → slot_of self.old.arena id ≡ Some slot → replicas_of self.new.arena ≡ remove (replicas_of self.old.arena) (replica_at id storage) }
-        ensures rest { KeepsOthers self.old.arena self.new.arena slot storage }
-        ensures fewer { MakesNoHead self.old.arena self.new.arena }
-        ensures levels { AreLevelsBy (replicas.rack_of around.now.topology.now.cluster) (drains_then around.now.topology.now.cluster around.now.turning) around.now.multi self.old → AreLevelsBy (replicas.rack_of around.now.topology.now.cluster) (drains_then around.now.topology.now.cluster around.now.turning) around.now.multi self.new }
-    {
-        self.arena.lawful();
-        let was = self.kept.kept_at(slot);
-        self.arena.unlink(slot, storage);
-        self.kept.judge_from(&self.arena, slot, around, was);
-    }
-
-    /// Drops the list of a storage, which is empty.
-    fn drop_list(&mut self, storage: StorageId)
-        requires { list_of self.old.arena storage ≡ [] }
-        ensures kept { self.new.kept ≡ self.old.kept }
-        ensures entries { (slot : ℕ) → block_at self.new.arena slot ≡ block_at self.old.arena slot }
-        ensures blocks { blocks_of self.new.arena ≡ blocks_of self.old.arena }
-        ensures replicas { replicas_of self.new.arena ≡ replicas_of self.old.arena }
-        ensures lists { (other : ℕ) → list_of self.new.arena other ≡ list_of self.old.arena other }
-        ensures numbers { self.new.arena.ids ≡ self.old.arena.ids }
-        ensures head { HasHead self.new.arena storage → ⊥ }
-        ensures fewer { MakesNoHead self.old.arena self.new.arena }
-    {
-        self.arena.drop_head(storage);
     }
 }

@@ -8,6 +8,7 @@
 
 mod around;
 mod chunks;
+mod cleared;
 mod count;
 mod dropped;
 mod forgotten;

@@ -4,8 +4,8 @@ use Rattle.bm_arena.specs.Contents.{Contents, block_at, IsLawful}
 use Rattle.bm_levels.proofs.Leaving.{few_on, leaving_none}
 use Rattle.bm_levels.proofs.leveled.LeveledBlocks.clear.Goals as goal
 
-pub loop-slot-init : goal.loop-slot-init
-loop-slot-init c =
+pub loop-self-init : goal.loop-self-init
+loop-self-init c =
     let a = c.args.self.now.arena in
     let P : Contents → Type 0 = λ x. (slot : ℕ) → IsSome (block_at x slot) → slot < c.slot_bound-bound.result in
     let few = few_on a (subst IsLawful c.arena.ensures c.lawful.ensures) c.args.storage c.slot_bound-bound.result (subst P c.arena-2.ensures c.slot_bound-bound.ensures.above) in

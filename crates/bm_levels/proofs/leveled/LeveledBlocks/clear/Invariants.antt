@@ -9,7 +9,7 @@ use Rattle.bm_levels.specs.Leaving.{IsLeaving, MakesNoHead}
 use Rattle.bm_levels.proofs.leveled.LeveledBlocks.clear.Given as goal
 
 -- so many have left, and no more are to leave than there are slots
-pub record AreLeaving (l : goal.Live-loop-slot) : Type 0 where
+pub record AreLeaving (l : goal.Live-loop-self) : Type 0 where
   pub left : IsLeaving (λ s. s == l.storage) l.initial.self.arena l.self.arena l.removed
   pub few : l.removed + length (list_of l.self.arena l.storage) ≤ l.bound
   pub bare : MakesNoneBare l.initial.self.arena l.self.arena
@@ -17,8 +17,8 @@ pub record AreLeaving (l : goal.Live-loop-slot) : Type 0 where
   pub levels : AreLevelsBy (rack_of l.around.topology.now.cluster) (drains_then l.around.topology.now.cluster l.around.turning) l.around.multi l.initial.self
       → AreLevelsBy (rack_of l.around.topology.now.cluster) (drains_then l.around.topology.now.cluster l.around.turning) l.around.multi l.self
 
-abbrev pub decreases-loop-slot : goal.decreases-loop-slot
-decreases-loop-slot l = length (list_of l.self.arena l.storage)
+abbrev pub decreases-loop-self : goal.decreases-loop-self
+decreases-loop-self l = length (list_of l.self.arena l.storage)
 
-abbrev pub invariant-loop-slot : goal.invariant-loop-slot
-invariant-loop-slot l = AreLeaving l
+abbrev pub invariant-loop-self : goal.invariant-loop-self
+invariant-loop-self l = AreLeaving l

@@ -1,11 +1,10 @@
-use Rattle.std.proofs.Common.{◌≡◌, ℕ, Some, drop}
-use Rattle.bm_base.specs.State.{Cluster}
+use Rattle.std.proofs.Common.{◌≡◌, ℕ, Bool, Option, Some, drop}
 use Rattle.bm_base.specs.SlotLists.{Among}
 use Rattle.bm_arena.specs.Contents.{slot_of}
 use Rattle.bm_arena.specs.Holding.{replicas_of, blocks_of}
 use Rattle.bm_levels.specs.Bare.{IsBare, KeepsSlots}
-use Rattle.bm_levels.specs.Leveled.{AreLevels}
-use Rattle.bm_levels.proofs.leveled.LeveledBlocks.drop_bare.Given as goal
+use Rattle.bm_levels.specs.LevelsBy.{AreLevelsBy}
+use Rattle.bm_levels.proofs.leveled.LeveledBlocks.drop_each.Given as goal
 
 -- numbers keep their entries or lose them, and of those at the slots so far none is bare
 pub record AreDroppedSoFar (l : goal.Live-loop-slot) : Type 0 where
@@ -13,7 +12,8 @@ pub record AreDroppedSoFar (l : goal.Live-loop-slot) : Type 0 where
   pub replicas : replicas_of l.self.arena ≡ replicas_of l.fn.self.arena
   pub slots : KeepsSlots l.fn.self.arena l.self.arena
   pub left : (b slot : ℕ) → Among slot l.slots → slot_of l.fn.self.arena b ≡ Some slot → IsBare l.self.arena b → Among slot (drop l.slot-index l.slots)
-  pub levels : (C : Cluster) → AreLevels C l.fn.self → AreLevels C l.self
+  pub lists : l.self.arena.lists ≡ l.fn.self.arena.lists
+  pub levels_by : (rack : ℕ → Option ℕ) (draining : ℕ → Bool) (multi : Bool) → AreLevelsBy rack draining multi l.fn.self → AreLevelsBy rack draining multi l.self
 
 abbrev pub invariant-loop-slot : goal.invariant-loop-slot
 invariant-loop-slot l = AreDroppedSoFar l

@@ -2,7 +2,7 @@ use Rattle.std.proofs.Common.{◌≡◌, ◌<◌, ◌+◌, ℕ, refl, List, ◌�
 use Rattle.bm_base.specs.SlotLists.{Among}
 use Rattle.bm_levels.specs.Bare.{IsBare}
 use Rattle.bm_levels.proofs.Bare.{bare_held, some_before}
-use Rattle.bm_levels.proofs.leveled.LeveledBlocks.drop_bare.Goals as goal
+use Rattle.bm_levels.proofs.leveled.LeveledBlocks.drop_each.Goals as goal
 
 pub loop-slot-preserved : goal.loop-slot-preserved
 loop-slot-preserved c =
@@ -25,5 +25,6 @@ loop-slot-preserved c =
             | inl same ↦ absurd (d.left b (h.slots b was.entry ∙ at ∙ ap (λ x. Some x) same) bare)
             | inr later ↦ later
           ];
-      levels = λ C were. d.levels C (h.levels C were);
+      lists = d.lists ∙ h.lists;
+      levels_by = λ rack draining multi were. d.levels_by rack draining multi (h.levels_by rack draining multi were);
     }
