@@ -18,19 +18,20 @@ use Rattle.bm_pending.specs.OnTheWay.{OnTheWay}
 use Rattle.bm_pending.specs.Remaining.{targets_left}
 use Rattle.bm_finding.specs.declared.look.Look.{Look}
 use Rattle.bm_finding.specs.declared.found.Found.{Found}
+use Rattle.bm_finding.specs.declared.replicas.Usable.{Usable}
 use Rattle.bm_finding.specs.Marking.{storages_in}
-use Rattle.bm_finding.specs.Looked.{replicas_on, deletes_of, IsLook}
+use Rattle.bm_finding.specs.Looked.{replicas_on, deletes_of, IsLook, AreUsable}
 use Rattle.bm_finding.specs.Wanting.{wish_in, wish_by}
 use Rattle.bm_finding.specs.Gathering.{excess_at, wishes_at, deletes_at, HasFound}
 use Rattle.bm_finding.proofs.Owning.{storages_own}
 use Rattle.bm_finding.proofs.OwnWish.{wish_known}
 
 -- what a look at a block came to
-pub record IsSeen (C : Cluster) (pend r : ℕ) (p : OnTheWay) (l : Look) (ls ts : List ℕ) (e : Bool) (w : Option Wish) : Type 0 where
-  pub lives : ls ≡ storages_in (is_live_on C) (entries l.replicas)
+pub record IsSeen (C : Cluster) (pend r : ℕ) (p : OnTheWay) (l : Look) (u : Usable) (ts : List ℕ) (e : Bool) (w : Option Wish) : Type 0 where
+  pub usable : AreUsable C (entries l.replicas) u
   pub left : ts ≡ targets_left pend r p l.id
-  pub enough : e ≡ option_map_or (λ (i : BlockInfo). nat_le i.repl (length ls)) l.info false
-  pub wish : w ≡ option_and_then (λ i. wish_by C l.id i ls (storages_in (is_drained_on C) (entries l.replicas)) (storages_in (λ _ _. true) (entries l.replicas)) ts) l.info
+  pub enough : e ≡ option_map_or (λ (i : BlockInfo). nat_le i.repl (length u.live)) l.info false
+  pub wish : w ≡ option_and_then (λ i. wish_by C l.id i u.live u.drained (storages_in (λ _ _. true) (entries l.replicas)) ts) l.info
 
 -- it was put behind what was found
 pub record IsPut (l : Look) (e : Bool) (w : Option Wish) (f g : Found) : Type 0 where
@@ -38,7 +39,7 @@ pub record IsPut (l : Look) (e : Bool) (w : Option Wish) (f g : Found) : Type 0 
   pub wishes : g.wishes.items ≡ f.wishes.items ++ option_to_list w
   pub deletes : g.deletes.items ≡ f.deletes.items ++ deletes_of e (entries l.replicas)
 
-module _ (C : Cluster) (pend r : ℕ) (a : Contents) (p : OnTheWay) (l : Look) (ls ts : List ℕ) (e : Bool) (w : Option Wish) (look : IsLook C pend r (holdings_with a p.map) l) (seen : IsSeen C pend r p l ls ts e w) where
+module _ (C : Cluster) (pend r : ℕ) (a : Contents) (p : OnTheWay) (l : Look) (u : Usable) (ts : List ℕ) (e : Bool) (w : Option Wish) (look : IsLook C pend r (holdings_with a p.map) l) (seen : IsSeen C pend r p l u ts e w) where
   abbrev H : Holdings
   H = holdings_with a p.map
 
@@ -56,11 +57,11 @@ module _ (C : Cluster) (pend r : ℕ) (a : Contents) (p : OnTheWay) (l : Look) (
   known : l.info ≡ get G.blocks l.id
   known = look.info ∙ sym known_at_start
 
-  lives_are : ls ≡ live C G l.id
-  lives_are = seen.lives ∙ ap (λ m. storages_in (is_live_on C) (entries m)) look.replicas ∙ storages_own (is_live_on C) G l.id
+  lives_are : u.live ≡ live C G l.id
+  lives_are = seen.usable.live ∙ ap (λ m. storages_in (is_live_on C) (entries m)) look.replicas ∙ storages_own (is_live_on C) G l.id
 
-  drained_are : storages_in (is_drained_on C) (entries l.replicas) ≡ drained C G l.id
-  drained_are = ap (λ m. storages_in (is_drained_on C) (entries m)) look.replicas ∙ storages_own (is_drained_on C) G l.id
+  drained_are : u.drained ≡ drained C G l.id
+  drained_are = seen.usable.drained ∙ ap (λ m. storages_in (is_drained_on C) (entries m)) look.replicas ∙ storages_own (is_drained_on C) G l.id
 
   pairs_are : storages_in (λ _ _. true) (entries l.replicas) ≡ storages_where (λ _ _. true) G l.id
   pairs_are = ap (λ m. storages_in (λ _ _. true) (entries m)) look.replicas ∙ storages_own (λ _ _. true) G l.id

@@ -1,3 +1,4 @@
+pub mod Unmarked
 pub mod Owning
 pub mod OwnWish
 pub mod InOrder

@@ -4,7 +4,7 @@ use Rattle.std.specs.List.{list_any, IsDistinct, AllByRecursion}
 use Rattle.std.proofs.Common.{cond, refl, sym, ap, ◌∙◌, true≢false}
 use Rattle.bm_base.specs.Map.{Order}
 use Rattle.bm_base.proofs.Maps.{same_key}
-use Rattle.bm_base.proofs.Each.{Each, each_all, each_both, each_filtered, each_passing}
+use Rattle.bm_base.proofs.Each.{each_all, each_both, each_filtered, each_passing}
 use Rattle.bm_parts.specs.Found.{IsGathered}
 use Rattle.bm_parts.proofs.Before.{rises_still}
 use Rattle.bm_parts.proofs.Filters.{all_each}

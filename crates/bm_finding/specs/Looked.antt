@@ -6,10 +6,12 @@ use Rattle.bm_base.specs.declared.commands.Delete.{Delete}
 use Rattle.bm_base.specs.Map.{Map, get, keep}
 use Rattle.bm_base.specs.State.{Cluster, Holdings, by_replica}
 use Rattle.bm_base.specs.Lists.{has}
-use Rattle.bm_base.specs.Replicas.{is_stray, is_corrupt}
+use Rattle.bm_base.specs.Replicas.{is_stray, is_corrupt, is_live_on, is_drained_on}
 use Rattle.bm_base.specs.Excess.{without_expired, without_unordered_excess, excess_in}
 use Rattle.bm_base.specs.RoundParts.{started_holdings}
 use Rattle.bm_finding.specs.declared.look.Look.{Look}
+use Rattle.bm_finding.specs.declared.replicas.Usable.{Usable}
+use Rattle.bm_finding.specs.Marking.{storages_in}
 
 -- the replicas of one block, among all
 abbrev pub own_replicas : Holdings → ℕ → Map by_replica Marks
@@ -24,6 +26,11 @@ pub record IsLook (C : Cluster) (pend r : ℕ) (H : Holdings) (l : Look) : Type 
   pub info : l.info ≡ get H.blocks l.id
   pub excess : l.excess.items ≡ too_many C pend r H l.id
   pub replicas : l.replicas ≡ own_replicas (started_holdings C pend r H) l.id
+
+-- on which storages live replicas stand, of these, and on which drained ones
+pub record AreUsable (C : Cluster) (es : List (ReplicaId × Marks)) (u : Usable) : Type 0 where
+  pub live : u.live ≡ storages_in (is_live_on C) es
+  pub drained : u.drained ≡ storages_in (is_drained_on C) es
 
 -- of these replicas, those on these storages
 abbrev pub replicas_on : List ℕ → List (ReplicaId × Marks) → List ReplicaId

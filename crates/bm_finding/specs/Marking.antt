@@ -3,10 +3,7 @@ use Rattle.std.specs.Prelude.{ℕ, Bool, true, false, if◌then◌else◌, List,
 use Rattle.bm_base.specs.declared.replica.ReplicaId.{ReplicaId}
 use Rattle.bm_base.specs.declared.replica.Marks.{Marks}
 use Rattle.bm_base.specs.Map.{Map, insert}
-use Rattle.bm_base.specs.State.{Cluster, by_replica, replica_at}
-use Rattle.bm_base.specs.Replicas.{is_live_on, is_drained_on}
-use Rattle.bm_finding.specs.declared.replicas.Which.{Which}
-use Rattle.bm_finding.specs.declared.replicas.Which.TheVariants.{Live, Drained, All}
+use Rattle.bm_base.specs.State.{by_replica, replica_at}
 
 -- a replica in excess counts again where its deletion was not commanded
 abbrev pub counted_again : Marks → Marks
@@ -24,9 +21,3 @@ put_on b m (r ∷ rs) = put_on b (insert m (replica_at b r.0) (counted_again r.1
 -- of these replicas, the storages of those that pass
 abbrev pub storages_in : (ℕ → Marks → Bool) → List (ReplicaId × Marks) → List ℕ
 storages_in p es = map (λ e. e.0.storage) (filter (λ e. p e.0.storage e.1) es)
-
--- which replicas of a block are meant
-abbrev pub meant : Cluster → Which → ℕ → Marks → Bool
-meant C Live = is_live_on C
-meant C Drained = is_drained_on C
-meant C All = λ _ _. true

@@ -8,7 +8,6 @@ ghost use Rattle.bm_levels.specs.Held.{holdings_with};
 ghost use Rattle.bm_finding.specs.Gathering.{HasFound, id_at};
 
 use crate::look::Look;
-use crate::replicas::{Which, storages_of};
 use crate::wishing::wish_of;
 use bm_arena::{Arena, Slot};
 use bm_base::{BlockInfo, Delete, Refusal, ReplicaId, Wish};
@@ -47,14 +46,21 @@ impl<'a> Start<'a> {
             wishes: Vec::new(alloc),
             deletes: Vec::new(alloc),
         };
+        let mut look = Look::new(alloc);
         for keyed in slots {
-            self.visit(alloc, keyed.1, &mut found)?;
+            self.visit(alloc, keyed.1, &mut look, &mut found)?;
         }
         Ok(found)
     }
 
     /// Looks at the block at a slot, and puts what is found of it behind what was found.
-    fn visit(&self, alloc: Global, slot: Slot, found: &mut Found) -> Result<(), Refusal>
+    fn visit(
+        &self,
+        alloc: Global,
+        slot: Slot,
+        look: &mut Look,
+        found: &mut Found,
+    ) -> Result<(), Refusal>
         requires { (id : ℕ) × (slot_of self.now.arena.now id ≡ Some slot) }
         ensures more { (bs : List ℕ) → HasFound self.now.topology.now.cluster self.now.pend self.now.round (holdings_with self.now.arena.now self.now.pending.now.map) bs found.old
             → OnOk result (HasFound self.now.topology.now.cluster self.now.pend self.now.round (holdings_with self.now.arena.now self.now.pending.now.map) (bs ++ id_at self.now.arena.now slot ∷ []) found.new) }
@@ -62,11 +68,10 @@ impl<'a> Start<'a> {
     {
         self.arena.lawful();
         let id = self.arena.id_of(slot);
-        let look = Look::of(alloc, self.arena, self.topology, slot, id)?;
-        let live = storages_of(alloc, self.topology, Which::Live, look.replicas.entries())?;
-        let enough = has_enough(look.info, live.as_slice().len());
+        let usable = look.look_at(alloc, self.arena, self.topology, slot, id)?;
+        let enough = has_enough(look.info, usable.live.as_slice().len());
         let left = self.pending.targets_left(alloc, id, self.pend, self.round)?;
-        let wish = wish_of(alloc, self.topology, &look, live, left)?;
+        let wish = wish_of(alloc, self.topology, look, usable, left)?;
         look.push_excess(&mut found.excess)?;
         look.push_deletes(enough, &mut found.deletes)?;
         push_wish(wish, &mut found.wishes)?;

@@ -6,21 +6,20 @@ ghost use Rattle.bm_base.specs.Lists.{has};
 ghost use Rattle.bm_base.specs.Map.{Map, entries, revise};
 ghost use Rattle.bm_base.specs.State.{by_replica};
 ghost use Rattle.bm_base.specs.Excess as excess;
-ghost use Rattle.bm_base.specs.Replicas as replicas;
 ghost use Rattle.bm_arena.specs.Contents.{slot_of};
 ghost use Rattle.bm_levels.specs.Held.{holdings_with};
-ghost use Rattle.bm_finding.specs.Marking.{marked_if, storages_in};
-ghost use Rattle.bm_finding.specs.Looked.{IsLook, replicas_on, is_to_go, deletes_of};
+ghost use Rattle.bm_finding.specs.Marking.{marked_if};
+ghost use Rattle.bm_finding.specs.Looked.{IsLook, AreUsable, replicas_on, is_to_go, deletes_of};
 ghost use Rattle.std.specs.Prelude.{[]};
 
-use crate::replicas::{Which, contains, counted_replicas, marked_replicas, storages_of};
+use crate::replicas::{Usable, contains, fill_counted, marked_replicas, usable_among};
 use bm_arena::{Arena, Slot};
 use bm_base::{BlockId, BlockInfo, Delete, Marks, Refusal, ReplicaId, ReplicaMap, StorageId, Tag};
 use bm_place::excess_of;
 use bm_topo::Topology;
 use std::alloc::{AllocError, Global};
 
-/// What a round sees of one block as it begins.
+/// What a round sees of one block as it begins. One block is looked at after another in the same memory.
 #[derive(Drop)]
 pub(crate) struct Look {
     pub id: BlockId,
@@ -33,40 +32,59 @@ pub(crate) struct Look {
 }
 
 impl Look {
-    /// Looks at the block of a number with this slot: a few looks at each of its replicas.
-    pub(crate) fn of(
+    /// At no block so far. Takes no memory.
+    pub(crate) fn new(alloc: Global) -> Look {
+        Look {
+            id: BlockId(0),
+            info: None,
+            excess: Vec::new(alloc),
+            replicas: ReplicaMap::new(alloc),
+        }
+    }
+
+    /// Looks at the block of a number with this slot, and tells on which storages its usable replicas stand: a few looks at each of its
+    /// replicas. It takes memory only where some are too many, where more than four are live or drained, or where it has more replicas
+    /// than each block before.
+    pub(crate) fn look_at(
+        &mut self,
         alloc: Global,
         arena: &Arena,
         topology: &Topology,
         slot: Slot,
         id: BlockId,
-    ) -> Result<Look, Refusal>
+    ) -> Result<Usable, Refusal>
         requires { slot_of arena.now id ≡ Some slot }
-        ensures id { IfOk result (λ l. l.id ≡ id) }
-        ensures look { IfOk result (λ l. (pend r : ℕ) (pending : Map by_replica ℕ) → IsLook topology.now.cluster pend r (holdings_with arena.now pending) l) }
+        ensures id { OnOk result (self.new.id ≡ id) }
+        ensures look { OnOk result ((pend r : ℕ) (pending : Map by_replica ℕ) → IsLook topology.now.cluster pend r (holdings_with arena.now pending) self.new) }
+        ensures usable { IfOk result (λ u. AreUsable topology.now.cluster (entries self.new.replicas) u) }
         ensures refused { IfErr result (λ e. e ≡ Memory) }
     {
         arena.lawful();
-        let replicas = counted_replicas(alloc, arena, slot, id)?;
-        let excess = surplus_of(alloc, topology, arena.info(slot), replicas.entries())?;
-        let info = arena.info(slot);
-        let mut look = Look {
-            id,
-            info,
-            excess,
-            replicas,
-        };
-        look.mark(alloc)?;
-        Ok(look)
+        fill_counted(&mut self.replicas, arena, slot, id)?;
+        let usable = usable_among(alloc, topology, self.replicas.entries())?;
+        self.id = id;
+        self.info = arena.info(slot);
+        self.excess = surplus_of(alloc, topology, self.info, usable.live.as_slice())?;
+        Ok(self.mark(alloc, topology, usable)?)
     }
 
-    /// Marks the replicas that are too many.
-    fn mark(&mut self, alloc: Global) -> Result<(), AllocError>
-        ensures { OnOk result (self.new ≡ record self.old { replicas = revise self.old.replicas (λ q m. marked_if (has self.old.excess.items q.storage) m) }) }
+    /// Marks the replicas that are too many, and tells on which storages its usable ones stand then.
+    fn mark(
+        &mut self,
+        alloc: Global,
+        topology: &Topology,
+        usable: Usable,
+    ) -> Result<Usable, AllocError>
+        requires { AreUsable topology.now.cluster (entries self.old.replicas) usable }
+        ensures marked { OnOk result (self.new ≡ record self.old { replicas = revise self.old.replicas (λ q m. marked_if (has self.old.excess.items q.storage) m) }) }
+        ensures usable { IfOk result (λ u. AreUsable topology.now.cluster (entries self.new.replicas) u) }
     {
+        if self.excess.as_slice().is_empty() {
+            return Ok(usable);
+        }
         let marked = marked_replicas(alloc, &self.replicas, self.excess.as_slice())?;
         self.replicas = marked;
-        Ok(())
+        usable_among(alloc, topology, self.replicas.entries())
     }
 
     /// Puts the replicas that are too many behind those that are there.
@@ -101,22 +119,20 @@ impl Look {
     }
 }
 
-/// On which storages live replicas are too many, of these replicas of one block. It takes memory only where some are, or more
-/// than four are live.
+/// Which of these storages of one block's live replicas are too many. It takes memory only where some are.
 fn surplus_of(
     alloc: Global,
     topology: &Topology,
     info: Option<BlockInfo>,
-    run: &[(ReplicaId, Marks)],
+    live: &[StorageId],
 ) -> Result<Vec<StorageId>, Refusal>
-    ensures surplus { IfOk result (λ v. v.items ≡ option_map_or (λ i. excess.excess_of topology.now.cluster (storages_in (replicas.is_live_on topology.now.cluster) run.now) i.repl) info []) }
+    ensures surplus { IfOk result (λ v. v.items ≡ option_map_or (λ i. excess.excess_of topology.now.cluster live.now i.repl) info []) }
     ensures refused { IfErr result (λ e. e ≡ Memory) }
 {
-    let Some(info) = info else {
-        return Ok(Vec::new(alloc));
-    };
-    let live = storages_of(alloc, topology, Which::Live, run)?;
-    excess_of(alloc, live.as_slice(), info.repl, topology)
+    match info {
+        Some(info) => excess_of(alloc, live, info.repl, topology),
+        None => Ok(Vec::new(alloc)),
+    }
 }
 
 /// Whether a replica is to be deleted and was not ordered to be.

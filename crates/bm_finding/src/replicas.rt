@@ -1,42 +1,49 @@
 // The replicas of one block, with their marks as a round begins.
-ghost use Rattle.std.specs.Prelude.{◌≡◌, filter_map, IfOk};
+ghost use Rattle.std.specs.Prelude.{◌≡◌, true, filter_map, IfOk, OnOk};
 ghost use Rattle.bm_base.specs.Map as map_of;
 ghost use Rattle.bm_base.specs.Lists.{has};
 ghost use Rattle.bm_base.specs.Replicas as replicas;
 ghost use Rattle.bm_base.specs.Spread.{spread};
 ghost use Rattle.bm_arena.specs.Holding.{replicas_at};
-ghost use Rattle.bm_finding.specs.Marking.{counted_again, marked_if, put_on, storages_in, meant};
+ghost use Rattle.bm_finding.specs.Marking.{counted_again, marked_if, put_on, storages_in};
+ghost use Rattle.bm_finding.specs.Looked.{AreUsable};
 
 use bm_arena::{Arena, Slot};
 use bm_base::{BlockId, Marks, Rack, ReplicaId, ReplicaMap, StorageId, StorageIds, Tag};
 use bm_topo::Topology;
 use std::alloc::{AllocError, Global};
 
-/// Which replicas of a block are meant.
-#[derive(Clone, Copy)]
-pub(crate) enum Which {
-    Live,
-    Drained,
-    /// Whatever their tags.
-    All,
+/// The storages of a block's usable replicas.
+#[derive(Drop)]
+pub(crate) struct Usable {
+    pub live: StorageIds,
+    pub drained: StorageIds,
 }
 
-/// The replicas at a slot, rising by storage. One in excess counts again where its deletion was not commanded.
-pub(crate) fn counted_replicas(
-    alloc: Global,
+/// Puts the replicas at a slot in the place of those that are there, rising by storage. One in excess counts again where its deletion was
+/// not commanded.
+pub(crate) fn fill_counted(
+    into: &mut ReplicaMap<Marks>,
     arena: &Arena,
     slot: Slot,
     block: BlockId,
-) -> Result<ReplicaMap<Marks>, AllocError>
-    ensures { IfOk result (λ m. m ≡ put_on block map_of.empty (replicas_at arena.now slot)) }
+) -> Result<(), AllocError>
+    ensures { OnOk result (into.new ≡ put_on block map_of.empty (replicas_at arena.now slot)) }
 {
-    let mut replicas = ReplicaMap::new(alloc);
+    clear(into);
     for place in 0..arena.triplet_count(slot) {
         if let Some((storage, marks)) = arena.triplet_at(slot, place) {
-            replicas.insert(ReplicaId { block, storage }, counted_again(marks))?;
+            into.insert(ReplicaId { block, storage }, counted_again(marks))?;
         }
     }
-    Ok(replicas)
+    Ok(())
+}
+
+/// Takes all out, and keeps the memory.
+fn clear(replicas: &mut ReplicaMap<Marks>)
+    ensures { replicas.new ≡ map_of.empty }
+{
+    replicas.retain(|_| false);
 }
 
 /// The same replicas, those on these storages marked as being in excess.
@@ -55,20 +62,38 @@ pub(crate) fn marked_replicas(
     Ok(ReplicaMap::from_sorted(entries))
 }
 
-/// On which storages those of these replicas are that are meant.
-pub(crate) fn storages_of(
+/// On which storages live replicas stand, and on which drained ones, by one look at each.
+pub(crate) fn usable_among(
     alloc: Global,
     topology: &Topology,
-    which: Which,
+    run: &[(ReplicaId, Marks)],
+) -> Result<Usable, AllocError>
+    ensures { IfOk result (λ u. AreUsable topology.now.cluster run.now u) }
+{
+    let mut live = StorageIds::new(alloc);
+    let mut drained = StorageIds::new(alloc);
+    for (replica, marks) in run {
+        if is_usable(marks) {
+            if topology.is_draining(replica.storage) {
+                drained.push(replica.storage)?;
+            } else {
+                live.push(replica.storage)?;
+            }
+        }
+    }
+    Ok(Usable { live, drained })
+}
+
+/// On which storages these replicas stand.
+pub(crate) fn storages_of(
+    alloc: Global,
     run: &[(ReplicaId, Marks)],
 ) -> Result<StorageIds, AllocError>
-    ensures { IfOk result (λ v. v ≡ storages_in (meant topology.now.cluster which) run.now) }
+    ensures { IfOk result (λ v. v ≡ storages_in (λ _ _. true) run.now) }
 {
     let mut storages = StorageIds::new(alloc);
-    for (replica, marks) in run {
-        if is_meant(topology, which, replica.storage, marks) {
-            storages.push(replica.storage)?;
-        }
+    for (replica, _) in run {
+        storages.push(replica.storage)?;
     }
     Ok(storages)
 }
@@ -112,18 +137,6 @@ fn marked_if(is_excess: bool, marks: Marks) -> Marks
         tag: marks.tag,
         excess: is_excess || marks.excess,
         ordered: marks.ordered,
-    }
-}
-
-/// Whether a replica is one of these.
-fn is_meant(topology: &Topology, which: Which, storage: StorageId, marks: &Marks) -> bool
-    ensures { result ≡ meant topology.now.cluster which storage marks.now }
-{
-    let is_usable = is_usable(marks);
-    match which {
-        Which::Live => is_usable && !topology.is_draining(storage),
-        Which::Drained => is_usable && topology.is_draining(storage),
-        Which::All => true,
     }
 }
 

@@ -9,29 +9,29 @@ ghost use Rattle.bm_finding.specs.Marking.{storages_in};
 ghost use Rattle.bm_finding.specs.Wanting.{count_at, wish_by};
 
 use crate::look::Look;
-use crate::replicas::{Which, spread_of, storages_of};
+use crate::replicas::{Usable, spread_of, storages_of};
 use bm_base::{Level, Refusal, StorageId, StorageIds, Wish, level_of};
 use bm_pending::PendingTransfers;
 use bm_topo::Topology;
 use std::alloc::Global;
 
-/// What a block wishes for that has these live replicas: so many copies at its level, if it has one and wants any.
+/// What a block wishes for that has these usable replicas: so many copies at its level, if it has one and wants any.
 pub(crate) fn wish_of(
     alloc: Global,
     topology: &Topology,
     look: &Look,
-    live: StorageIds,
+    usable: Usable,
     pending: StorageIds,
 ) -> Result<Option<Wish>, Refusal>
-    ensures wish { IfOk result (λ w. w ≡ option_and_then (λ i. wish_by topology.now.cluster look.now.id i live
-        (storages_in (replicas.is_drained_on topology.now.cluster) (entries look.now.replicas)) (storages_in (λ _ _. true) (entries look.now.replicas)) pending) look.now.info) }
+    ensures wish { IfOk result (λ w. w ≡ option_and_then (λ i. wish_by topology.now.cluster look.now.id i usable.live usable.drained
+        (storages_in (λ _ _. true) (entries look.now.replicas)) pending) look.now.info) }
     ensures refused { IfErr result (λ e. e ≡ Memory) }
 {
     let info = look.info;
     let Some(info) = info else {
         return Ok(None);
     };
-    let drained = storages_of(alloc, topology, Which::Drained, look.replicas.entries())?;
+    let Usable { live, drained } = usable;
     let drained_count = drained.as_slice().len();
     let repl = info.repl;
     let Some(level) = level_among(topology, repl, live.as_slice(), drained_count) else {
@@ -43,7 +43,7 @@ pub(crate) fn wish_of(
     if count == 0 {
         return Ok(None);
     }
-    let pairs = storages_of(alloc, topology, Which::All, look.replicas.entries())?;
+    let pairs = storages_of(alloc, look.replicas.entries())?;
     Ok(Some(Wish {
         level,
         block: look.id,

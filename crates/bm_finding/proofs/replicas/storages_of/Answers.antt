@@ -1,11 +1,10 @@
-use Rattle.std.proofs.Common.{◌≡◌, ◌≤◌, ◌++◌, [], length, drop, drop_of_length-le, append-nil, sym, ap, ◌∙◌, arith}
-use Rattle.bm_finding.specs.Marking.{meant, storages_in}
+use Rattle.std.proofs.Common.{◌≡◌, ◌≤◌, ◌++◌, true, [], length, drop, drop_of_length-le, append-nil, sym, ap, ◌∙◌, arith}
+use Rattle.bm_finding.specs.Marking.{storages_in}
 use Rattle.bm_finding.proofs.replicas.storages_of.Goals as goal
 
 pub returns : goal.returns
 returns c =
     let run = c.args.run.now in
-    let p = meant c.args.topology.now.cluster c.args.which in
     let past : length run ≤ c.loop-replica.replica-index = omega arith in
     let none : drop c.loop-replica.replica-index run ≡ [] = drop_of_length-le _ past in
-    sym (append-nil c.loop-replica.storages) ∙ ap (λ es. c.loop-replica.storages ++ storages_in p es) (sym none) ∙ c.loop-replica.invariant
+    sym (append-nil c.loop-replica.storages) ∙ ap (λ es. c.loop-replica.storages ++ storages_in (λ _ _. true) es) (sym none) ∙ c.loop-replica.invariant

@@ -6,8 +6,8 @@ use Rattle.bm_arena.specs.Holding.{replicas_at}
 use Rattle.bm_arena.specs.Contents.{block_at}
 use Rattle.bm_levels.proofs.Slots.{next_at, none_at}
 use Rattle.bm_finding.specs.Marking.{counted_again, put_on}
-use Rattle.bm_finding.proofs.replicas.counted_replicas.Goals as goal
-use Rattle.bm_finding.proofs.replicas.counted_replicas.Goals.{in-Some+in_ok-insert, in_default}
+use Rattle.bm_finding.proofs.replicas.fill_counted.Goals as goal
+use Rattle.bm_finding.proofs.replicas.fill_counted.Goals.{in-Some+in_ok-insert, in_default}
 
 -- one more is put
 one_put : (b : ℕ) (m n : Map by_replica Marks) (s : ℕ) (u v : Marks) (ds rest : List (ℕ × Marks)) → ds ≡ (s, v) ∷ rest → n ≡ insert m (replica_at b s) u → u ≡ counted_again v → put_on b n rest ≡ put_on b m ds
@@ -19,6 +19,6 @@ loop-place-preserved c =
     elim c.match-triplet_at.branch [
       | in-Some+in_ok-insert w ↦
           let here = next_at (block_at c.args.arena.now c.args.slot) c.loop-place.place _ (sym w.in-Some.ensures) in
-          one_put c.args.block c.loop-place.replicas c.match-triplet_at.replicas _ _ _ _ rest here (w.replicas-is ∙ w.in_ok-insert.ensures.ok) w.counted_again.ensures ∙ c.loop-place.invariant
+          one_put c.args.block c.loop-place.into c.match-triplet_at.into _ _ _ _ rest here (w.into-is ∙ w.in_ok-insert.ensures.ok) w.counted_again.ensures ∙ c.loop-place.invariant
       | in_default w ↦ absurd (none_at (block_at c.args.arena.now c.args.slot) c.loop-place.place (sym w.in_default.ensures) (omega (arith, c.loop-place-test.true, c.triplet_count-place-end.ensures)))
     ]

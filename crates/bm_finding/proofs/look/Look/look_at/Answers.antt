@@ -1,0 +1,22 @@
+use Rattle.std.proofs.Common.{[], refl, sym, ap, subst, ◌∙◌}
+use Rattle.std.specs.Option.{option_map_or}
+use Rattle.bm_base.specs.Map.{revise}
+use Rattle.bm_base.specs.Lists.{has}
+use Rattle.bm_base.specs.Replicas.{is_live_on}
+use Rattle.bm_base.specs.Excess.{excess_of}
+use Rattle.bm_levels.specs.Held.{holdings_with}
+use Rattle.bm_finding.specs.declared.look.Look.{Look}
+use Rattle.bm_finding.specs.Marking.{marked_if, storages_in}
+use Rattle.bm_finding.specs.Looked.{IsLook}
+use Rattle.bm_finding.proofs.Owning.{look_is}
+use Rattle.bm_finding.proofs.look.Look.look_at.Goals as goal
+
+pub returns-clause-look : goal.returns-clause-look
+returns-clause-look c pend r pending =
+    let C = c.args.topology.now.cluster in
+    let m = c.fill_counted.new.into in
+    let many = c.in_ok-self.field-0 in
+    let l : Look = record { id = c.args.id; info = c.info-self.result; excess = many; replicas = revise m (λ q x. marked_if (has many.items q.storage) x) } in
+    subst (λ k. IsLook C pend r (holdings_with c.args.arena.now pending) k) (sym c.in_ok-mark.ensures.marked)
+    (look_is c.args.arena.now C l c.args.slot m c.lawful.ensures c.requires c.in_ok-fill_counted.ensures c.info-self.ensures
+    (c.in_ok-self.ensures.surplus ∙ (λ j. option_map_or (λ i. excess_of C ((c.as_slice.ensures ∙ c.in_ok-usable.ensures.live ∙ ap (storages_in (is_live_on C)) c.entries.ensures) j) i.repl) c.info-self.result [])) refl pend r pending)
