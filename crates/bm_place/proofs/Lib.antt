@@ -6,6 +6,7 @@ pub mod Choosing
 pub mod Alike
 pub mod Scanning
 pub mod Keeping
+pub mod Spanning
 pub mod Renewing
 pub mod Fewer
 pub mod Covering

@@ -59,7 +59,8 @@ module _ (rows : Map by_number Target) (target len : ℕ) where
   }
 
   module _ (cs : List Target) (most : ℕ) (row best : Target) (kept : IsKept rows cs most) (fits : IfSome (get rows target) (λ t. len + t.scheduled ≤ t.remaining))
-      (there : get added target ≡ Some row) (is : scan cmp_alike (λ c. are_alike c row) (Some row) (rows_of added) ≡ Some best) where
+      (there : get added target ≡ Some row) (ts : List Target) (part : (t : Target) → IsAmong ts t → IsAmong (rows_of added) t) (all : (t : Target) → IsAmong (rows_of added) t → are_alike t row ≡ true → IsAmong ts t)
+      (is : scan cmp_alike (λ c. are_alike c row) (Some row) ts ≡ Some best) where
     at_storage : (s : ℕ) (t : Target) → get added s ≡ Some t → t.storage ≡ s
     at_storage s t e = let h = row_before s t e in ap (λ (t : Target). t.storage) (sym h.2) ∙ same_storage (s == target) h.0 ∙ kept.at_storage s h.0 h.1
 
@@ -72,23 +73,23 @@ module _ (rows : Map by_number Target) (target len : ℕ) where
             subst (λ (t : Target). t.scheduled ≤ t.remaining) more (omega arith)
         by false same x at other = subst (λ (t : Target). t.scheduled ≤ t.remaining) other (kept.within s x at)
 
-    facts : (row ≡ best) ⊎ IsAmong (rows_of added) best
-    facts = (found (λ c. are_alike c row) row best (rows_of added) is).among
+    facts : (row ≡ best) ⊎ IsAmong ts best
+    facts = (found (λ c. are_alike c row) row best ts is).among
 
     best_known : get added best.storage ≡ Some best
     best_known = elim facts [
       | inl e ↦ ap (λ (t : Target). get added t.storage) (sym e) ∙ ap (get added) (at_storage target row there) ∙ there ∙ ap Some e
-      | inr among ↦ among_rows added at_storage best among
+      | inr among ↦ among_rows added at_storage best (part best among)
     ]
 
     best_like : IsLike best row
-    best_like = like best row ((found (λ c. are_alike c row) row best (rows_of added) is).passes (alike row row (like_itself row)))
+    best_like = like best row ((found (λ c. are_alike c row) row best ts is).passes (alike row row (like_itself row)))
 
     -- what is like the row is stood for by the best
     stood_for_by_best : (s : ℕ) (t : Target) → get added s ≡ Some t → IsLike t row → StandsFor best t
     stood_for_by_best s t e h = record {
       alike = alike best t (like_then best row t best_like (like_back t row h));
-      before = (found (λ c. are_alike c row) row best (rows_of added) is).all t (row_among added s t e) (alike t row h);
+      before = (found (λ c. are_alike c row) row best ts is).all t (all t (row_among added s t e) (alike t row h)) (alike t row h);
     }
 
     known : (c : Target) → IsAmong (map (put_for target best) cs) c → get added c.storage ≡ Some c
@@ -133,12 +134,15 @@ module _ (rows : Map by_number Target) (target len : ℕ) where
     }
 
 -- the same of what is equal to these
-pub kept_renewed : (old new : Map by_number Target) (target len : ℕ) (cs ds : List Target) (most : ℕ) (row best : Target) → IsKept old cs most → IfSome (get old target) (λ t. len + t.scheduled ≤ t.remaining)
-    → new ≡ revise_at old target (sent_more len) → get new target ≡ Some row → scan cmp_alike (λ c. are_alike c row) (Some row) (rows_of new) ≡ Some best → ds ≡ map (put_for target best) cs → IsKept new ds (greatest_room 0 ds)
-kept_renewed old new target len cs ds most row best kept fits made there is put =
+pub kept_renewed : (old new : Map by_number Target) (target len : ℕ) (cs ds ts : List Target) (most : ℕ) (row best : Target) → IsKept old cs most → IfSome (get old target) (λ t. len + t.scheduled ≤ t.remaining)
+    → new ≡ revise_at old target (sent_more len) → get new target ≡ Some row → ((t : Target) → IsAmong ts t → IsAmong (rows_of new) t) → ((t : Target) → IsAmong (rows_of new) t → are_alike t row ≡ true → IsAmong ts t)
+    → scan cmp_alike (λ c. are_alike c row) (Some row) ts ≡ Some best → ds ≡ map (put_for target best) cs → IsKept new ds (greatest_room 0 ds)
+kept_renewed old new target len cs ds ts most row best kept fits made there part all is put =
     let there = ap (λ m. get m target) (sym made) ∙ there in
-    let is = ap (λ m. scan cmp_alike (λ c. are_alike c row) (Some row) (rows_of m)) (sym made) ∙ is in
-    subst (λ m. IsKept m ds (greatest_room 0 ds)) (sym made) (subst (λ xs. IsKept (added old target len) xs (greatest_room 0 xs)) (sym put) (kept_added old target len cs most row best kept fits there is))
+    let part = subst (λ m. (t : Target) → IsAmong ts t → IsAmong (rows_of m) t) made part in
+    let all = subst (λ m. (t : Target) → IsAmong (rows_of m) t → are_alike t row ≡ true → IsAmong ts t) made all in
+    subst (λ m. IsKept m ds (greatest_room 0 ds)) (sym made)
+    (subst (λ xs. IsKept (added old target len) xs (greatest_room 0 xs)) (sym put) (kept_added old target len cs most row best kept fits there ts part all is))
 
 -- of an unknown storage nothing changes
 pub kept_same : (old new : Map by_number Target) (target len : ℕ) (cs : List Target) (most : ℕ) → IsKept old cs most → new ≡ revise_at old target (sent_more len) → get new target ≡ None → IsKept new cs (greatest_room 0 cs)

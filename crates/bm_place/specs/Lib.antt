@@ -9,3 +9,4 @@ pub mod Few
 pub mod Standing
 pub mod Candidates
 pub mod Foremost
+pub mod Spans

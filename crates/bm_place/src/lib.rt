@@ -11,6 +11,7 @@ mod few;
 mod foremost;
 mod scheduled;
 mod source;
+mod spans;
 mod standing;
 mod streams;
 mod target;

@@ -10,9 +10,11 @@ ghost use Rattle.bm_base.specs.Transfers as transfers;
 ghost use Rattle.bm_place.specs.Targets as targets;
 ghost use Rattle.bm_place.specs.Foremost as nodes;
 ghost use Rattle.bm_place.specs.Foremost.{AreForemost, HasNoRoom, IsKept};
+ghost use Rattle.bm_place.specs.Spans.{AreSpanned};
 ghost use Rattle.bm_place.specs.declared.scheduled.Target.{Target};
 
 use crate::foremost::{foremost_beside, foremost_of, greatest_room, put_for};
+use crate::spans::{Span, rows_near, spans_of};
 use bm_base::{NodeId, NumberMap, Rack, Refusal, StorageId};
 use bm_topo::Topology;
 use std::alloc::{AllocError, Global};
@@ -39,6 +41,7 @@ pub struct Scheduled {
     pub(crate) rows: NumberMap<Target>,
     foremost: Vec<Target>,
     greatest_room: u64,
+    spans: NumberMap<Span>,
 }
 
 impl Model for Scheduled {
@@ -53,9 +56,9 @@ impl Model for Scheduled {
 
     ghost view = { λ s. s.rows.map };
 
-    ghost use Rattle.bm_place.specs.Foremost.{IsKept};
+    ghost use Rattle.bm_place.specs.Spans.{IsIndexed};
 
-    ghost invariant = { λ s. IsKept s.rows.map s.foremost.items s.greatest_room };
+    ghost invariant = { λ s. IsIndexed s.rows.map s.foremost.items s.greatest_room s.spans.map };
 }
 
 impl Scheduled {
@@ -67,18 +70,21 @@ impl Scheduled {
         ensures refused { IfErr result (λ e. e ≡ Memory) }
     {
         let rows = rows_of(alloc, topology)?;
-        let foremost = foremost_of(alloc, rows.entries())?;
+        let listed = rows.entries();
+        let foremost = foremost_of(alloc, listed)?;
+        let spans = spans_of(alloc, listed)?;
         let greatest_room = greatest_room(&foremost);
         Ok(Scheduled {
             rows,
             foremost,
             greatest_room,
+            spans,
         })
     }
 
     /// Counts `len` bytes more as sent to `target`, which has room for them, as what [`least_target`](crate::least_target) just
-    /// found for this length; nothing for an unknown storage. Two look-ups, and once over the storages of the cluster, to find
-    /// those of the node. Takes no memory.
+    /// found for this length; nothing for an unknown storage. A few look-ups, and goes once over the nodes of the cluster and over
+    /// the storages whose numbers lie between the least and the greatest of the node's. Takes no memory.
     pub fn add(&mut self, target: StorageId, len: u64)
         requires fits { IfSome (map.get self.old target) (λ t. len + t.scheduled ≤ t.remaining) }
         ensures after { self.new ≡ map.revise_at self.old target (λ t. record t { scheduled = t.scheduled + len }) }
@@ -86,7 +92,7 @@ impl Scheduled {
         ensures of_transfers { (C : Cluster) (chosen : List Transfer) (t : Transfer) → t.target ≡ target → t.stamp.len ≡ len → self.old ≡ targets.target_table C (transfers.scheduled_to chosen) → self.new ≡ targets.target_table C (transfers.scheduled_to (chosen ++ t ∷ [])) }
     {
         add_to(&mut self.rows, target, len);
-        renew(&mut self.foremost, &self.rows, target);
+        renew(&mut self.foremost, &self.rows, &self.spans, target);
         self.greatest_room = greatest_room(&self.foremost);
     }
 
@@ -131,11 +137,17 @@ fn add_to(rows: &mut NumberMap<Target>, target: StorageId, len: u64)
 }
 
 /// The foremost storages, where more bytes were sent to one: that of its node is looked for anew, if it was this one.
-fn renew(foremost: &mut Vec<Target>, rows: &NumberMap<Target>, target: StorageId)
-    ensures { (old : map.Map map.by_number Target) (most len : ℕ) → IsKept old foremost.old.items most → IfSome (map.get old target) (λ t. len + t.scheduled ≤ t.remaining) → rows.now.map ≡ map.revise_at old target (λ t. record t { scheduled = t.scheduled + len }) → IsKept rows.now.map foremost.new.items (nodes.greatest_room 0 foremost.new.items) }
+fn renew(
+    foremost: &mut Vec<Target>,
+    rows: &NumberMap<Target>,
+    spans: &NumberMap<Span>,
+    target: StorageId,
+)
+    ensures { (old : map.Map map.by_number Target) (most len : ℕ) → IsKept old foremost.old.items most → IfSome (map.get old target) (λ t. len + t.scheduled ≤ t.remaining) → rows.now.map ≡ map.revise_at old target (λ t. record t { scheduled = t.scheduled + len }) → AreSpanned (map.entries rows.now.map) spans.now.map → IsKept rows.now.map foremost.new.items (nodes.greatest_room 0 foremost.new.items) }
 {
     if let Some(row) = rows.get(u64::from(target.0)) {
-        let best = foremost_beside(row, rows.entries());
+        let near = rows_near(rows.entries(), spans, &row);
+        let best = foremost_beside(row, near);
         put_for(foremost, target, &best);
     }
 }

@@ -8,4 +8,4 @@ pub returns : goal.returns
 returns c refused =
     let inside = c.self.inside in
     let more : inside.greatest_room < c.args.len = grind (arith, nat_tests) in
-    subst (λ rows. HasNoRoom rows c.args.len) c.self.view_is (has_no_room inside.rows.map inside.foremost.items inside.greatest_room c.args.len c.self.invariant more)
+    subst (λ rows. HasNoRoom rows c.args.len) c.self.view_is (has_no_room inside.rows.map inside.foremost.items inside.greatest_room c.args.len c.self.invariant.kept more)
