@@ -1,5 +1,5 @@
 -- What a shard is told by the entries of a report, and what a look-up of its numbers leaves as it was.
-use Rattle.std.specs.Prelude.{◌≡◌, ◌≢◌, ℕ, ◌+◌, ◌-◌, ◌≤◌, List, map, IsSome, Some, None}
+use Rattle.std.specs.Prelude.{◌≡◌, ◌≢◌, ℕ, ◌+◌, ◌-◌, ◌≤◌, List, map, IsSome, Some, true}
 use Rattle.bm_base.specs.declared.ids.Part.{Part}
 use Rattle.bm_base.specs.declared.event.Entry.{Entry}
 use Rattle.bm_base.specs.Entries.{Told, count_up, expanded}
@@ -25,10 +25,10 @@ told_from e b = map (λ n. record { id = n; stamp = e.stamp }) (count_up b (e.to
 abbrev pub IsKnown : Contents → Known → Type 0
 IsKnown a k = (slot : ℕ) → k.slot ≡ Some slot → slot_of a k.id ≡ Some slot
 
--- and the block in its slot has a replica on s, or room for one
-pub record IsPlaced (a : Contents) (s : ℕ) (k : Known) : Type 0 where
+-- and so is what was seen of the room in its slot
+pub record IsSeen (a : Contents) (k : Known) : Type 0 where
   pub known : IsKnown a k
-  pub place : (slot : ℕ) → k.slot ≡ Some slot → marks_at a slot s ≡ None → HasRoom a slot
+  pub room : k.is_roomy ≡ true → (slot : ℕ) → k.slot ≡ Some slot → HasRoom a slot
 
 -- numbers may have got slots, and slots room: all that is held stays
 pub record IsPrepared (old new : Contents) : Type 0 where

@@ -1,40 +1,40 @@
 // The slot of a number, and which numbers of an entry are of a part.
-ghost use Rattle.std.specs.Prelude.{◌≡◌, ◌≢◌, ◌<◌, ◌≤◌, ◌+◌, ◌^◌, ℕ, length, slice_index_or, IfOk, IfErr, IfSome, OnErr, None, Some, true};
+ghost use Rattle.std.specs.Prelude.{◌≡◌, ◌≢◌, ◌<◌, ◌≤◌, ◌+◌, ◌^◌, ℕ, length, slice_index_or, IfOk, IfErr, OnErr, Some, true};
 ghost use Rattle.bm_base.specs.declared.refusal.Refusal.TheVariants.{Memory};
 ghost use Rattle.bm_base.specs.Shards.{shard_of};
-ghost use Rattle.bm_arena.specs.Contents.{slot_of, marks_at, HasRoom};
+ghost use Rattle.bm_arena.specs.Contents.{slot_of, HasRoom};
 ghost use Rattle.bm_report.specs.declared.types.Known.{Known};
-ghost use Rattle.bm_report.specs.Expanded.{IsKnown, IsPlaced, IsPrepared};
+ghost use Rattle.bm_report.specs.Expanded.{IsPrepared, IsSeen};
 
 use crate::chunks::CHUNK;
-use crate::rooms::has_place;
 use crate::types::Known;
 use bm_arena::{Arena, Slot};
-use bm_base::{BlockId, Entry, Part, Refusal, StorageId, shard_of};
+use bm_base::{BlockId, Entry, Part, Refusal, shard_of};
 
 /// Nothing was looked up.
 const UNKNOWN: Known = Known {
     id: BlockId(0),
     slot: None,
+    is_roomy: false,
 };
 
-/// The slot of a number, which has an entry from now on, and whether it is the one that was looked up.
+/// The slot of a number, which has an entry from now on, and whether it is known to have room for one more replica.
 pub(crate) fn slot_for(
     arena: &mut Arena,
     id: BlockId,
     known: &Known,
 ) -> Result<(Slot, bool), Refusal>
-    requires { IsKnown arena.old known.now }
+    requires { IsSeen arena.old known.now }
     ensures kept { IsPrepared arena.old arena.new }
     ensures here { IfOk result (λ r. slot_of arena.new id ≡ Some r.0) }
-    ensures known { IfOk result (λ r. r.1 ≡ true → (known.now.slot ≡ Some r.0) × (arena.new ≡ arena.old)) }
+    ensures room { IfOk result (λ r. r.1 ≡ true → HasRoom arena.new r.0) }
     ensures others { (b : ℕ) → b ≢ id → slot_of arena.new b ≡ slot_of arena.old b }
     ensures unchanged { OnErr result (arena.new ≡ arena.old) }
     ensures refused { IfErr result (λ e. e ≡ Memory) }
 {
     if known.id.0 == id.0 {
         if let Some(slot) = known.slot {
-            return Ok((slot, true));
+            return Ok((slot, known.is_roomy));
         }
     }
     arena.lawful();
@@ -42,51 +42,45 @@ pub(crate) fn slot_for(
     Ok((slot, false))
 }
 
-/// The slot of a number, where it has one with a replica on the storage or room for it.
-fn find_placed(arena: &Arena, storage: StorageId, id: BlockId) -> Option<Slot>
-    ensures here { IfSome result (λ slot. slot_of arena.now id ≡ Some slot) }
-    ensures place { IfSome result (λ slot. marks_at arena.now slot storage ≡ None → HasRoom arena.now slot) }
+/// Looks up a number, and the room in its slot.
+fn find_seen(arena: &Arena, id: BlockId) -> Known
+    ensures { IsSeen arena.now result }
 {
     match arena.find(id) {
-        Some(slot) if has_place(arena, slot, storage) => Some(slot),
-        _ => None,
+        Some(slot) => Known {
+            id,
+            slot: Some(slot),
+            is_roomy: arena.has_room(slot),
+        },
+        None => UNKNOWN,
     }
 }
 
 /// Looks up the first number of the part that an entry names.
-fn find_first(arena: &Arena, storage: StorageId, entry: &Entry, part: Part) -> Known
+fn find_first(arena: &Arena, entry: &Entry, part: Part) -> Known
     requires shards { 0 < part.shards }
     requires index { part.index < part.shards }
-    ensures { IsPlaced arena.now storage result }
+    ensures { IsSeen arena.now result }
 {
     let first = first_of_part(entry.from, part);
     if first <= u128::from(entry.to.0) {
-        let id = BlockId(first as u64);
-        Known {
-            id,
-            slot: find_placed(arena, storage, id),
-        }
+        find_seen(arena, BlockId(first as u64))
     } else {
         UNKNOWN
     }
 }
 
-/// The same for each entry of a chunk. No look-up depends on another, and each reads all of a block's entry that its number needs, so
-/// the reads of memory do not wait for one another.
-pub(crate) fn find_firsts(
-    arena: &Arena,
-    storage: StorageId,
-    chunk: &[Entry],
-    part: Part,
-) -> [Known; CHUNK]
+/// The same for each entry of a chunk. No look-up depends on another, so they do not wait for one another; and as the number stands at
+/// the start of a block's entry in memory and its room at the end, what follows finds all of the entry near.
+pub(crate) fn find_firsts(arena: &Arena, chunk: &[Entry], part: Part) -> [Known; CHUNK]
     requires few { length chunk.now ≤ 64 }
     requires shards { 0 < part.shards }
     requires index { part.index < part.shards }
-    ensures { (i : ℕ) (default : Known) → i < length chunk.now → IsPlaced arena.now storage (slice_index_or result i default) }
+    ensures { (i : ℕ) (default : Known) → i < length chunk.now → IsSeen arena.now (slice_index_or result i default) }
 {
     let mut known = [UNKNOWN; CHUNK];
     for (place, entry) in chunk.iter().enumerate() {
-        known[place] = find_first(arena, storage, entry, part);
+        known[place] = find_first(arena, entry, part);
     }
     known
 }

@@ -7,7 +7,7 @@ ghost use Rattle.bm_base.specs.Events.{is_named};
 ghost use Rattle.bm_base.specs.Shards.{shard_of};
 ghost use Rattle.bm_report.specs.Midway.{AreHere, HaveRoom, told_of};
 ghost use Rattle.bm_report.specs.Aborted.{NamesNew};
-ghost use Rattle.bm_report.specs.Expanded.{IsPlaced, IsPrepared, of_part, told_to};
+ghost use Rattle.bm_report.specs.Expanded.{IsPrepared, IsSeen, of_part, told_to};
 
 use crate::chunks::chunk_len;
 use crate::finding::{find_firsts, first_of_part, slot_for};
@@ -27,7 +27,7 @@ fn look_up_one(
 ) -> Result<(), Refusal>
     requires here { AreHere arena.old named.old.items }
     requires room { HaveRoom arena.old storage named.old.items }
-    requires known { IsPlaced arena.old storage known.now }
+    requires known { IsSeen arena.old known.now }
     ensures kept { IsPrepared arena.old arena.new }
     ensures others { (b : ℕ) → b ≢ id → slot_of arena.new b ≡ slot_of arena.old b }
     ensures here { OnOk result (AreHere arena.new named.new.items) }
@@ -38,10 +38,10 @@ fn look_up_one(
 {
     named.reserve(1)?;
     arena.lawful();
-    let (slot, is_placed) = slot_for(arena, id, known)?;
+    let (slot, is_roomy) = slot_for(arena, id, known)?;
     named.push_reserved(Named { id, slot, stamp });
     arena.lawful();
-    make_room(arena, slot, storage, is_placed)?;
+    make_room(arena, slot, storage, is_roomy)?;
     Ok(())
 }
 
@@ -58,7 +58,7 @@ fn look_up_run(
     requires index { part.index < part.shards }
     requires here { AreHere arena.old named.old.items }
     requires room { HaveRoom arena.old storage named.old.items }
-    requires known { IsPlaced arena.old storage known.now }
+    requires known { IsSeen arena.old known.now }
     ensures kept { IsPrepared arena.old arena.new }
     ensures others { (b : ℕ) → is_named (of_part part (told_by entry.now)) b ≡ false → slot_of arena.new b ≡ slot_of arena.old b }
     ensures here { OnOk result (AreHere arena.new named.new.items) }
@@ -106,7 +106,7 @@ fn look_up_chunk(
     ensures refused { IfErr result (λ e. e ≡ Memory) }
 {
     arena.lawful();
-    let known = find_firsts(arena, storage, chunk, part);
+    let known = find_firsts(arena, chunk, part);
     for (place, entry) in chunk.iter().enumerate() {
         look_up_run(arena, storage, entry, part, &known[place], named)?;
     }

@@ -4,13 +4,13 @@ use Rattle.std.proofs.Math.ListN.{length-set}
 use Rattle.std.proofs.lemmas.Bool.{cases_eq}
 use Rattle.std.proofs.lemmas.List.{get_or-set_other}
 use Rattle.bm_report.specs.declared.types.Known.{Known}
-use Rattle.bm_report.specs.Expanded.{IsPlaced}
+use Rattle.bm_report.specs.Expanded.{IsSeen}
 use Rattle.bm_report.proofs.finding.find_firsts.Goals as goal
 
 read_on : (c : goal.After-index-known-place) (i : ℕ) (default : Known) → i < c.loop-place.place + 1
-    → IsPlaced c.args.arena.now c.args.storage (slice_index_or (slice_set c.loop-place.known c.loop-place.place c.find_first.result) i default)
+    → IsSeen c.args.arena.now (slice_index_or (slice_set c.loop-place.known c.loop-place.place c.find_first.result) i default)
 read_on c i default below =
-    let P : Known → Type 0 = λ k. IsPlaced c.args.arena.now c.args.storage k in
+    let P : Known → Type 0 = λ k. IsSeen c.args.arena.now k in
     elim (cases_eq i c.loop-place.place) [
       | inl here ↦
           let room : c.loop-place.place < length c.loop-place.known = omega (arith, c.loop-place.invariant.whole) in

@@ -2,7 +2,7 @@ use Rattle.std.proofs.Common.{map, length, refl, ◌∙◌}
 use Rattle.std.proofs.lemmas.Option.{slice_get_read}
 use Rattle.bm_report.specs.Midway.{told_of}
 use Rattle.bm_report.proofs.Aborts.{naming-chain}
-use Rattle.bm_report.proofs.Prepared.{prepared-chain, placed-prepared}
+use Rattle.bm_report.proofs.Prepared.{prepared-chain, seen-prepared}
 use Rattle.bm_report.proofs.Running.{told_on, told_end}
 use Rattle.bm_report.proofs.Naming.{named_apart, not_named, entry_named, rest_named}
 use Rattle.bm_report.proofs.looking.look_up_chunk.Goals as goal
@@ -33,5 +33,5 @@ returns-in_err-look_up_run-clause-others c b out =
 
 pub look_up_run-requires-clause-known : goal.look_up_run-requires-clause-known
 look_up_run-requires-clause-known c =
-    placed-prepared c.args.storage c.args.arena.now c.loop-place.arena _ c.lawful.ensures c.loop-place.invariant.kept
+    seen-prepared c.args.arena.now c.loop-place.arena _ c.lawful.ensures c.loop-place.invariant.kept
     (c.find_firsts-known.ensures c.loop-place.place c.index-known-place.result c.loop-place-test.true)
