@@ -1,3 +1,5 @@
+pub mod AllOrNone
+pub mod Unmoved
 pub mod Unmarked
 pub mod Owning
 pub mod OwnWish

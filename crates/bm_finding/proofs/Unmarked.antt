@@ -1,5 +1,5 @@
 -- Where no replica of a block is too many, and where none is there.
-use Rattle.std.specs.Prelude.{◌≡◌, ℕ, false, List, [], ◌∷◌, filter, Option, Some, None, option_map}
+use Rattle.std.specs.Prelude.{◌≡◌, ℕ, List, [], Option, Some, None, option_map}
 use Rattle.std.proofs.Common.{refl, sym, ap, ◌∙◌}
 use Rattle.bm_base.specs.declared.replica.Marks.{Marks}
 use Rattle.bm_base.specs.Map.{Map, get, revise, empty, entries, same_entries_map}
@@ -15,10 +15,6 @@ same_option (Some m) = refl
 -- marks of no storage change nothing
 pub marked_by_none : (m : Map by_replica Marks) (ss : List ℕ) → ss ≡ [] → m ≡ revise m (λ q x. marked_if (has ss q.storage) x)
 marked_by_none m ss none = same_map m (revise m (λ q x. marked_if (has ss q.storage) x)) (λ q. same_option (get m q) ∙ ap (λ xs. option_map (marked_if (has xs q.storage)) (get m q)) (sym none) ∙ sym (get-revise m (λ q x. marked_if (has ss q.storage) x) q))
-
-pub none_kept : {X : Type 0} (xs : List X) → filter (λ _. false) xs ≡ []
-none_kept [] = refl
-none_kept (x ∷ xs) = none_kept xs
 
 pub is_empty : (m : Map by_replica Marks) → entries m ≡ [] → m ≡ empty
 unfolding entries empty

@@ -1,20 +1,21 @@
 // What is found of the blocks at which a round looks, one after another.
-ghost use Rattle.std.specs.Prelude.{◌≡◌, ◌++◌, ◌∷◌, [], ℕ, List, map, Some, nat_le, false, option_to_list, IfOk, IfErr, OnOk};
+ghost use Rattle.std.specs.Prelude.{◌≡◌, ◌++◌, ◌∷◌, [], ℕ, List, map, Some, nat_le, false, IfOk, IfErr, OnOk};
 ghost use Rattle.std.specs.Option.{option_map_or};
 ghost use Rattle.bm_base.specs.declared.refusal.Refusal.TheVariants.{Memory};
 ghost use Rattle.bm_base.specs.SlotLists.{Among};
 ghost use Rattle.bm_arena.specs.Contents.{slot_of};
+ghost use Rattle.bm_pending.specs.Remaining.{targets_left};
 ghost use Rattle.bm_levels.specs.Held.{holdings_with};
 ghost use Rattle.bm_finding.specs.Gathering.{HasFound, id_at};
 
 use crate::look::Look;
-use crate::wishing::wish_of;
+use crate::wishing::push_wish;
 use bm_arena::{Arena, Slot};
-use bm_base::{BlockInfo, Delete, Refusal, ReplicaId, Wish};
+use bm_base::{BlockId, BlockInfo, Delete, Refusal, ReplicaId, StorageIds, Wish};
 use bm_parts::merge::Key;
 use bm_pending::PendingTransfers;
 use bm_topo::Topology;
-use std::alloc::{AllocError, Global};
+use std::alloc::Global;
 
 /// What was found so far, in the order in which it was come upon.
 #[derive(Drop)]
@@ -70,23 +71,24 @@ impl<'a> Start<'a> {
         let id = self.arena.id_of(slot);
         let usable = look.look_at(alloc, self.arena, self.topology, slot, id)?;
         let enough = has_enough(look.info, usable.live.as_slice().len());
-        let left = self.pending.targets_left(alloc, id, self.pend, self.round)?;
-        let wish = wish_of(alloc, self.topology, look, usable, left)?;
+        let left = self.targets_left(alloc, id)?;
         look.push_excess(&mut found.excess)?;
         look.push_deletes(enough, &mut found.deletes)?;
-        push_wish(wish, &mut found.wishes)?;
+        push_wish(alloc, self.topology, look, usable, left, &mut found.wishes)?;
         Ok(())
     }
-}
 
-/// Puts a wish behind those that are there, if there is one.
-fn push_wish(wish: Option<Wish>, into: &mut Vec<Wish>) -> Result<(), AllocError>
-    ensures { OnOk result (into.new.items ≡ into.old.items ++ option_to_list wish) }
-{
-    if let Some(wish) = wish {
-        into.push(wish)?;
+    /// The targets of a block's transfers that the round leaves on their way. The block is not looked up where no transfer is.
+    fn targets_left(&self, alloc: Global, id: BlockId) -> Result<StorageIds, Refusal>
+        ensures targets { IfOk result (λ v. v ≡ targets_left self.now.pend self.now.round self.now.pending.now id) }
+        ensures refused { IfErr result (λ e. e ≡ Memory) }
+    {
+        self.pending.lawful();
+        if self.pending.count() == 0 {
+            return Ok(StorageIds::new(alloc));
+        }
+        self.pending.targets_left(alloc, id, self.pend, self.round)
     }
-    Ok(())
 }
 
 /// Whether as many replicas as are wanted are live; not of an unknown block.

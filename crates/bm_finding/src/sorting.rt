@@ -17,7 +17,12 @@ use std::alloc::AllocError;
 pub(crate) fn keep_before(wishes: &mut Vec<Wish>, bound: Option<Key>)
     ensures { wishes.new.items ≡ wishes_before bound wishes.old.items }
 {
-    wishes.retain(|wish| is_before(bound, (wish.level.number() as u64, wish.block.0)));
+    match bound {
+        Some(_) => {
+            wishes.retain(|wish| is_before(bound, (wish.level.number() as u64, wish.block.0)));
+        }
+        None => {}
+    }
 }
 
 /// By block and storage.

@@ -1,5 +1,5 @@
 // What one block wishes for.
-ghost use Rattle.std.specs.Prelude.{◌≡◌, true, ◌==◌, not, length, map, filter, option_and_then, IfOk, IfErr, Some};
+ghost use Rattle.std.specs.Prelude.{◌≡◌, true, ◌==◌, not, length, map, filter, ◌++◌, option_and_then, option_to_list, OnOk, IfErr, Some};
 ghost use Rattle.bm_base.specs.declared.refusal.Refusal.TheVariants.{Memory};
 ghost use Rattle.bm_base.specs.Map.{entries, keep};
 ghost use Rattle.bm_base.specs.Replicas as replicas;
@@ -15,36 +15,38 @@ use bm_pending::PendingTransfers;
 use bm_topo::Topology;
 use std::alloc::Global;
 
-/// What a block wishes for that has these usable replicas: so many copies at its level, if it has one and wants any.
-pub(crate) fn wish_of(
+/// Puts what a block wishes for behind what is there, which has these usable replicas: so many copies at its level, if it has one and
+/// wants any.
+pub(crate) fn push_wish(
     alloc: Global,
     topology: &Topology,
     look: &Look,
     usable: Usable,
     pending: StorageIds,
-) -> Result<Option<Wish>, Refusal>
-    ensures wish { IfOk result (λ w. w ≡ option_and_then (λ i. wish_by topology.now.cluster look.now.id i usable.live usable.drained
-        (storages_in (λ _ _. true) (entries look.now.replicas)) pending) look.now.info) }
+    into: &mut Vec<Wish>,
+) -> Result<(), Refusal>
+    ensures wish { OnOk result (into.new.items ≡ into.old.items ++ option_to_list (option_and_then (λ i. wish_by topology.now.cluster look.now.id i usable.live usable.drained
+        (storages_in (λ _ _. true) (entries look.now.replicas)) pending) look.now.info)) }
     ensures refused { IfErr result (λ e. e ≡ Memory) }
 {
     let info = look.info;
     let Some(info) = info else {
-        return Ok(None);
+        return Ok(());
     };
     let Usable { live, drained } = usable;
     let drained_count = drained.as_slice().len();
     let repl = info.repl;
     let Some(level) = level_among(topology, repl, live.as_slice(), drained_count) else {
-        return Ok(None);
+        return Ok(());
     };
     let live_count = live.as_slice().len();
     let pending_count = pending.as_slice().len();
     let count = count_at(level, repl, live_count, pending_count);
     if count == 0 {
-        return Ok(None);
+        return Ok(());
     }
     let pairs = storages_of(alloc, look.replicas.entries())?;
-    Ok(Some(Wish {
+    into.push(Wish {
         level,
         block: look.id,
         stamp: info.stamp,
@@ -53,7 +55,8 @@ pub(crate) fn wish_of(
         drained,
         pairs,
         pending,
-    }))
+    })?;
+    Ok(())
 }
 
 /// The level of a block with live replicas on these storages.
