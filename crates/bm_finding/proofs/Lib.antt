@@ -1,3 +1,4 @@
+pub mod FewLive
 pub mod AllOrNone
 pub mod Unmoved
 pub mod Unmarked

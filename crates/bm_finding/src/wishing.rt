@@ -59,10 +59,13 @@ pub(crate) fn push_wish(
     Ok(())
 }
 
-/// The level of a block with live replicas on these storages.
+/// The level of a block with live replicas on these storages. Only where enough are live their racks are looked up.
 fn level_among(topology: &Topology, repl: u32, live: &[StorageId], drained: usize) -> Option<Level>
     ensures { result ≡ levels.level_of (length live.now) drained repl (length (replicas.racks topology.now.cluster live.now)) (replicas.is_multi_rack topology.now.cluster) }
 {
+    if live.len() < repl as usize {
+        return level_of(live.len(), drained, repl, 0, false);
+    }
     let racks = spread_of(topology, live);
     level_of(live.len(), drained, repl, racks, topology.multi_rack())
 }
