@@ -27,22 +27,21 @@ use Rattle.bm_finding.proofs.Owning.{storages_own}
 use Rattle.bm_finding.proofs.OwnWish.{wish_known}
 
 -- what a look at a block came to
-pub record IsSeen (C : Cluster) (pend r : ℕ) (p : OnTheWay) (l : Look) (u : Usable) (ts : List ℕ) (e : Bool) : Type 0 where
+pub record IsSeen (C : Cluster) (l : Look) (u : Usable) (e : Bool) : Type 0 where
   pub usable : AreUsable C (entries l.replicas) u
-  pub left : ts ≡ targets_left pend r p l.id
   pub enough : e ≡ option_map_or (λ (i : BlockInfo). nat_le i.repl (length u.live)) l.info false
 
 -- what the block wishes for by it
-abbrev wish_seen : Cluster → Look → Usable → List ℕ → Option Wish
-wish_seen C l u ts = option_and_then (λ i. wish_by C l.id i u.live u.drained (storages_in (λ _ _. true) (entries l.replicas)) ts) l.info
+abbrev wish_seen : Cluster → ℕ → ℕ → OnTheWay → Look → Usable → Option Wish
+wish_seen C pend r p l u = option_and_then (λ i. wish_by C l.id i u.live u.drained (storages_in (λ _ _. true) (entries l.replicas)) (targets_left pend r p l.id)) l.info
 
 -- it was put behind what was found
-pub record IsPut (C : Cluster) (l : Look) (u : Usable) (ts : List ℕ) (e : Bool) (f g : Found) : Type 0 where
+pub record IsPut (C : Cluster) (pend r : ℕ) (p : OnTheWay) (l : Look) (u : Usable) (e : Bool) (f g : Found) : Type 0 where
   pub excess : g.excess.items ≡ f.excess.items ++ replicas_on l.excess.items (entries l.replicas)
-  pub wishes : g.wishes.items ≡ f.wishes.items ++ option_to_list (wish_seen C l u ts)
+  pub wishes : g.wishes.items ≡ f.wishes.items ++ option_to_list (wish_seen C pend r p l u)
   pub deletes : g.deletes.items ≡ f.deletes.items ++ deletes_of e (entries l.replicas)
 
-module _ (C : Cluster) (pend r : ℕ) (a : Contents) (p : OnTheWay) (l : Look) (u : Usable) (ts : List ℕ) (e : Bool) (look : IsLook C pend r (holdings_with a p.map) l) (seen : IsSeen C pend r p l u ts e) where
+module _ (C : Cluster) (pend r : ℕ) (a : Contents) (p : OnTheWay) (l : Look) (u : Usable) (e : Bool) (look : IsLook C pend r (holdings_with a p.map) l) (seen : IsSeen C l u e) where
   abbrev H : Holdings
   H = holdings_with a p.map
 
@@ -69,20 +68,17 @@ module _ (C : Cluster) (pend r : ℕ) (a : Contents) (p : OnTheWay) (l : Look) (
   pairs_are : storages_in (λ _ _. true) (entries l.replicas) ≡ storages_where (λ _ _. true) G l.id
   pairs_are = ap (λ m. storages_in (λ _ _. true) (entries m)) look.replicas ∙ storages_own (λ _ _. true) G l.id
 
-  left_is : ts ≡ pending_targets G l.id
-  left_is = seen.left ∙ left_at_start
-
   enough_is : e ≡ has_enough_live C G l.id
   unfolding has_enough_live
   enough_is = seen.enough ∙ (λ j. option_map_or (λ (i : BlockInfo). nat_le i.repl (length (lives_are j))) (known j) false)
 
-  wish_is : wish_seen C l u ts ≡ wish_in C G l.id
-  wish_is = (λ j. option_and_then (λ (i : BlockInfo). wish_by C l.id i (lives_are j) (drained_are j) (pairs_are j) (left_is j)) (known j)) ∙ wish_known C G l.id
+  wish_is : wish_seen C pend r p l u ≡ wish_in C G l.id
+  wish_is = (λ j. option_and_then (λ (i : BlockInfo). wish_by C l.id i (lives_are j) (drained_are j) (pairs_are j) (left_at_start j)) (known j)) ∙ wish_known C G l.id
 
   more : {X : Type 0} (f : ℕ → List X) (bs : List ℕ) (b : ℕ) → flat_map f bs ++ f b ≡ flat_map f (bs ++ b ∷ [])
   more f bs b = flat_map_more f [] bs b
 
-  pub found_more : (f g : Found) → IsPut C l u ts e f g → (bs : List ℕ) → HasFound C pend r H bs f → HasFound C pend r H (bs ++ l.id ∷ []) g
+  pub found_more : (f g : Found) → IsPut C pend r p l u e f g → (bs : List ℕ) → HasFound C pend r H bs f → HasFound C pend r H (bs ++ l.id ∷ []) g
   found_more f g put bs has = record {
     excess = put.excess ∙ (λ j. has.excess j ++ replicas_on (look.excess j) (entries (look.replicas j))) ∙ more (excess_at C pend r H) bs l.id;
     wishes = put.wishes ∙ (λ j. has.wishes j ++ option_to_list (wish_is j)) ∙ more (wishes_at C pend r H) bs l.id;

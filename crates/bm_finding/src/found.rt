@@ -4,14 +4,12 @@ ghost use Rattle.std.specs.Option.{option_map_or};
 ghost use Rattle.bm_base.specs.declared.refusal.Refusal.TheVariants.{Memory};
 ghost use Rattle.bm_base.specs.SlotLists.{Among};
 ghost use Rattle.bm_arena.specs.Contents.{slot_of};
-ghost use Rattle.bm_pending.specs.Remaining.{targets_left};
 ghost use Rattle.bm_levels.specs.Held.{holdings_with};
 ghost use Rattle.bm_finding.specs.Gathering.{HasFound, id_at};
 
 use crate::look::Look;
-use crate::wishing::push_wish;
 use bm_arena::{Arena, Slot};
-use bm_base::{BlockId, BlockInfo, Delete, Refusal, ReplicaId, StorageIds, Wish};
+use bm_base::{BlockInfo, Delete, Refusal, ReplicaId, Wish};
 use bm_parts::merge::Key;
 use bm_pending::PendingTransfers;
 use bm_topo::Topology;
@@ -71,23 +69,10 @@ impl<'a> Start<'a> {
         let id = self.arena.id_of(slot);
         let usable = look.look_at(alloc, self.arena, self.topology, slot, id)?;
         let enough = has_enough(look.info, usable.live.as_slice().len());
-        let left = self.targets_left(alloc, id)?;
         look.push_excess(&mut found.excess)?;
         look.push_deletes(enough, &mut found.deletes)?;
-        push_wish(alloc, self.topology, look, usable, left, &mut found.wishes)?;
+        self.push_wish(alloc, look, usable, &mut found.wishes)?;
         Ok(())
-    }
-
-    /// The targets of a block's transfers that the round leaves on their way. The block is not looked up where no transfer is.
-    fn targets_left(&self, alloc: Global, id: BlockId) -> Result<StorageIds, Refusal>
-        ensures targets { IfOk result (λ v. v ≡ targets_left self.now.pend self.now.round self.now.pending.now id) }
-        ensures refused { IfErr result (λ e. e ≡ Memory) }
-    {
-        self.pending.lawful();
-        if self.pending.count() == 0 {
-            return Ok(StorageIds::new(alloc));
-        }
-        self.pending.targets_left(alloc, id, self.pend, self.round)
     }
 }
 

@@ -1,62 +1,76 @@
 // What one block wishes for.
-ghost use Rattle.std.specs.Prelude.{◌≡◌, true, ◌==◌, not, length, map, filter, ◌++◌, option_and_then, option_to_list, OnOk, IfErr, Some};
+ghost use Rattle.std.specs.Prelude.{◌≡◌, true, length, ◌++◌, option_and_then, option_to_list, OnOk, IfOk, IfErr};
 ghost use Rattle.bm_base.specs.declared.refusal.Refusal.TheVariants.{Memory};
-ghost use Rattle.bm_base.specs.Map.{entries, keep};
+ghost use Rattle.bm_base.specs.Map.{entries};
 ghost use Rattle.bm_base.specs.Replicas as replicas;
 ghost use Rattle.bm_base.specs.Levels as levels;
-ghost use Rattle.bm_pending.specs.OnTheWay.{is_expired};
+ghost use Rattle.bm_pending.specs.Remaining.{targets_left};
 ghost use Rattle.bm_finding.specs.Marking.{storages_in};
 ghost use Rattle.bm_finding.specs.Wanting.{count_at, wish_by};
 
+use crate::found::Start;
 use crate::look::Look;
 use crate::replicas::{Usable, spread_of, storages_of};
-use bm_base::{Level, Refusal, StorageId, StorageIds, Wish, level_of};
-use bm_pending::PendingTransfers;
+use bm_base::{BlockId, Level, Refusal, StorageId, StorageIds, Wish, level_of};
 use bm_topo::Topology;
 use std::alloc::Global;
 
-/// Puts what a block wishes for behind what is there, which has these usable replicas: so many copies at its level, if it has one and
-/// wants any.
-pub(crate) fn push_wish(
-    alloc: Global,
-    topology: &Topology,
-    look: &Look,
-    usable: Usable,
-    pending: StorageIds,
-    into: &mut Vec<Wish>,
-) -> Result<(), Refusal>
-    ensures wish { OnOk result (into.new.items ≡ into.old.items ++ option_to_list (option_and_then (λ i. wish_by topology.now.cluster look.now.id i usable.live usable.drained
-        (storages_in (λ _ _. true) (entries look.now.replicas)) pending) look.now.info)) }
-    ensures refused { IfErr result (λ e. e ≡ Memory) }
-{
-    let info = look.info;
-    let Some(info) = info else {
-        return Ok(());
-    };
-    let Usable { live, drained } = usable;
-    let drained_count = drained.as_slice().len();
-    let repl = info.repl;
-    let Some(level) = level_among(topology, repl, live.as_slice(), drained_count) else {
-        return Ok(());
-    };
-    let live_count = live.as_slice().len();
-    let pending_count = pending.as_slice().len();
-    let count = count_at(level, repl, live_count, pending_count);
-    if count == 0 {
-        return Ok(());
+impl<'a> Start<'a> {
+    /// Puts what a block wishes for behind what is there, which has these usable replicas: so many copies at its level, if it has one and
+    /// wants any. The transfers on their way count only where it has one.
+    pub(crate) fn push_wish(
+        &self,
+        alloc: Global,
+        look: &Look,
+        usable: Usable,
+        into: &mut Vec<Wish>,
+    ) -> Result<(), Refusal>
+        ensures wish { OnOk result (into.new.items ≡ into.old.items ++ option_to_list (option_and_then (λ i. wish_by self.now.topology.now.cluster look.now.id i usable.live usable.drained
+            (storages_in (λ _ _. true) (entries look.now.replicas)) (targets_left self.now.pend self.now.round self.now.pending.now look.now.id)) look.now.info)) }
+        ensures refused { IfErr result (λ e. e ≡ Memory) }
+    {
+        let info = look.info;
+        let Some(info) = info else {
+            return Ok(());
+        };
+        let Usable { live, drained } = usable;
+        let drained_count = drained.as_slice().len();
+        let repl = info.repl;
+        let Some(level) = level_among(self.topology, repl, live.as_slice(), drained_count) else {
+            return Ok(());
+        };
+        let live_count = live.as_slice().len();
+        let pending = self.targets_left(alloc, look.id)?;
+        let pending_count = pending.as_slice().len();
+        let count = count_at(level, repl, live_count, pending_count);
+        if count == 0 {
+            return Ok(());
+        }
+        let pairs = storages_of(alloc, look.replicas.entries())?;
+        into.push(Wish {
+            level,
+            block: look.id,
+            stamp: info.stamp,
+            count,
+            live,
+            drained,
+            pairs,
+            pending,
+        })?;
+        Ok(())
     }
-    let pairs = storages_of(alloc, look.replicas.entries())?;
-    into.push(Wish {
-        level,
-        block: look.id,
-        stamp: info.stamp,
-        count,
-        live,
-        drained,
-        pairs,
-        pending,
-    })?;
-    Ok(())
+
+    /// The targets of a block's transfers that the round leaves on their way. The block is not looked up where no transfer is.
+    fn targets_left(&self, alloc: Global, id: BlockId) -> Result<StorageIds, Refusal>
+        ensures targets { IfOk result (λ v. v ≡ targets_left self.now.pend self.now.round self.now.pending.now id) }
+        ensures refused { IfErr result (λ e. e ≡ Memory) }
+    {
+        self.pending.lawful();
+        if self.pending.count() == 0 {
+            return Ok(StorageIds::new(alloc));
+        }
+        self.pending.targets_left(alloc, id, self.pend, self.round)
+    }
 }
 
 /// The level of a block with live replicas on these storages. Only where enough are live their racks are looked up.

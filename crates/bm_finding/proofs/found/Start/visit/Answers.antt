@@ -3,7 +3,6 @@ use Rattle.std.specs.Option.{option_map_or}
 use Rattle.bm_base.specs.declared.replica.BlockInfo.{BlockInfo}
 use Rattle.bm_arena.specs.Triplets.{Block}
 use Rattle.bm_arena.specs.Contents.{block_at}
-use Rattle.bm_pending.specs.Remaining.{targets_left}
 use Rattle.bm_levels.specs.Held.{holdings_with}
 use Rattle.bm_finding.specs.declared.found.Found.{Found}
 use Rattle.bm_finding.specs.Gathering.{HasFound}
@@ -19,11 +18,10 @@ returns-clause-more c bs has =
     let g : Found = record { excess = c.push_excess.new.into; wishes = c.push_wish.new.into; deletes = c.push_deletes.new.into } in
     let id : l.id ≡ option_map_or (λ (b : Block). b.id) (block_at a c.args.slot) 0 = c.in_ok-usable.ensures.id ∙ c.id_of-id.ensures found.1 found.2 ∙ sym (ap (λ o. option_map_or (λ (b : Block). b.id) o 0) found.2) in
     subst (λ b. HasFound c.args.self.now.topology.now.cluster c.args.self.now.pend c.args.self.now.round (holdings_with a c.args.self.now.pending.now.map) (bs ++ b ∷ []) g) id
-    (found_more c.args.self.now.topology.now.cluster c.args.self.now.pend c.args.self.now.round a c.args.self.now.pending.now l c.in_ok-usable.usable c.in_ok-left.left c.has_enough-enough.result
+    (found_more c.args.self.now.topology.now.cluster c.args.self.now.pend c.args.self.now.round a c.args.self.now.pending.now l c.in_ok-usable.usable c.has_enough-enough.result
     (c.in_ok-usable.ensures.look c.args.self.now.pend c.args.self.now.round c.args.self.now.pending.now.map)
     (record {
       usable = c.in_ok-usable.ensures.usable;
-      left = c.in_ok-left.ensures.targets ∙ ap (targets_left c.args.self.now.pend c.args.self.now.round c.args.self.now.pending.now) (sym c.in_ok-usable.ensures.id);
       enough = c.has_enough-enough.ensures ∙ ap (λ (xs : List ℕ). option_map_or (λ (i : BlockInfo). nat_le i.repl (length xs)) l.info false) c.as_slice.ensures;
     }) c.args.found.now g
     (record {
