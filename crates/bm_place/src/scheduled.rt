@@ -35,12 +35,15 @@ pub struct Target {
 ///
 /// Made once for a round: it keeps what the cluster was when it was made, and knows nothing of transfers of earlier rounds. A
 /// contract sees a table with a row for each storage: the storage, its node and rack, whether the node drains, its remaining
-/// bytes and the bytes that are sent to it.
+/// bytes and the bytes that are sent to it. Beside these rows it keeps what saves going over all of them.
 #[derive(Drop)]
 pub struct Scheduled {
     pub(crate) rows: NumberMap<Target>,
+    /// Of the storages of each node the one with most room, and of these the least: no other is the target of a copy.
     foremost: Vec<Target>,
+    /// No storage whose node does not drain has more room.
     greatest_room: u64,
+    /// By node: between which places of the rows all its storages stand.
     spans: NumberMap<Span>,
 }
 
@@ -136,7 +139,7 @@ fn add_to(rows: &mut NumberMap<Target>, target: StorageId, len: u64)
     }
 }
 
-/// The foremost storages, where more bytes were sent to one: that of its node is looked for anew, if it was this one.
+/// The foremost storages, where more bytes were sent to one: in its place comes what is foremost on its node now.
 fn renew(
     foremost: &mut Vec<Target>,
     rows: &NumberMap<Target>,
