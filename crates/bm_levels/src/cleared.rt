@@ -73,10 +73,11 @@ impl LeveledBlocks {
     }
 
     /// Takes out the replicas on a storage of some blocks, the first ones in its list; answers how many left.
-    fn take_some(&mut self, around: &Around<'_>, storage: StorageId) -> usize
+    pub(crate) fn take_some(&mut self, around: &Around<'_>, storage: StorageId) -> usize
         ensures left { IsLeaving (λ s. s == storage) self.old.arena self.new.arena result }
         ensures list { length (list_of self.old.arena storage) ≡ result + length (list_of self.new.arena storage) }
         ensures some { 0 < length (list_of self.old.arena storage) → 0 < result }
+        ensures few { result ≤ 64 }
         ensures bare { MakesNoneBare self.old.arena self.new.arena }
         ensures fewer { MakesNoHead self.old.arena self.new.arena }
         ensures levels { AreLevelsBy (replicas.rack_of around.now.topology.now.cluster) (drains_then around.now.topology.now.cluster around.now.turning) around.now.multi self.old → AreLevelsBy (replicas.rack_of around.now.topology.now.cluster) (drains_then around.now.topology.now.cluster around.now.turning) around.now.multi self.new }

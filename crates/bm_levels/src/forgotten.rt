@@ -72,7 +72,7 @@ impl LeveledBlocks {
         ensures fewer { MakesNoHead self.old.arena self.new.arena }
         ensures levels { AreLevelsBy (replicas.rack_of around.now.topology.now.cluster) (drains_then around.now.topology.now.cluster around.now.turning) around.now.multi self.old → AreLevelsBy (replicas.rack_of around.now.topology.now.cluster) (drains_then around.now.topology.now.cluster around.now.turning) around.now.multi self.new }
     {
-        let mut removed = 0;
+        let mut removed = self.clear_abreast(around, node);
         for place in 0..around.topology.storage_count() {
             if let Some(storage) = around.topology.storage_at(place) {
                 if has_storage(around.topology, node, storage) {

@@ -6,6 +6,7 @@
 //! `ready_block`.
 #![tactic(auto)]
 
+mod abreast;
 mod around;
 mod chunks;
 mod cleared;

@@ -1,4 +1,4 @@
-use Rattle.std.proofs.Common.{◌≡◌, ◌≤◌, ◌*◌, ◌^◌, []}
+use Rattle.std.proofs.Common.{◌≡◌, ◌≤◌, ◌+◌, ◌*◌, ◌^◌, []}
 use Rattle.bm_base.specs.Replicas.{rack_of, has_storage}
 use Rattle.bm_arena.specs.Contents.{list_of, HasHead}
 use Rattle.bm_levels.specs.Bare.{MakesNoneBare}
@@ -10,13 +10,13 @@ use Rattle.bm_levels.proofs.leveled.LeveledBlocks.clear_node.Given as goal
 
 -- the storages at the first places have left
 pub record AreLeaving (l : goal.Live-loop-place) : Type 0 where
-  pub left : IsLeaving (has_storage l.around.topology.now.cluster l.node) l.initial.self.arena l.self.arena l.removed
+  pub left : IsLeaving (has_storage l.around.topology.now.cluster l.node) l.fn.self.arena l.self.arena l.removed
   pub none : HaveGone l.around.topology.now.cluster l.node (λ s. list_of l.self.arena s ≡ []) l.place
   pub heads : HaveGone l.around.topology.now.cluster l.node (λ s. HasHead l.self.arena s → ⊥) l.place
-  pub bare : MakesNoneBare l.initial.self.arena l.self.arena
-  pub fewer : MakesNoHead l.initial.self.arena l.self.arena
-  pub few : l.removed ≤ l.place * 2 ^ 64
-  pub levels : AreLevelsBy (rack_of l.around.topology.now.cluster) (drains_then l.around.topology.now.cluster l.around.turning) l.around.multi l.initial.self
+  pub bare : MakesNoneBare l.fn.self.arena l.self.arena
+  pub fewer : MakesNoHead l.fn.self.arena l.self.arena
+  pub few : l.removed ≤ 2 ^ 99 + l.place * 2 ^ 64
+  pub levels : AreLevelsBy (rack_of l.around.topology.now.cluster) (drains_then l.around.topology.now.cluster l.around.turning) l.around.multi l.fn.self
       → AreLevelsBy (rack_of l.around.topology.now.cluster) (drains_then l.around.topology.now.cluster l.around.turning) l.around.multi l.self
 
 abbrev pub invariant-loop-place : goal.invariant-loop-place
