@@ -1,4 +1,4 @@
-pub mod FewLive
+pub mod RacksSpared
 pub mod AllOrNone
 pub mod Unmoved
 pub mod Unmarked

@@ -81,6 +81,9 @@ fn level_among(topology: &Topology, repl: u32, live: &[StorageId], drained: usiz
         return level_of(live.len(), drained, repl, 0, false);
     }
     let racks = spread_of(topology, live);
+    if racks != 1 {
+        return level_of(live.len(), drained, repl, racks, false);
+    }
     level_of(live.len(), drained, repl, racks, topology.multi_rack())
 }
 

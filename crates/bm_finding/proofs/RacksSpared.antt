@@ -1,0 +1,43 @@
+-- Where the level of a block needs no look at all racks.
+use Rattle.std.specs.Prelude.{◌≡◌, ◌≢◌, ◌<◌, ◌*◌, ℕ, Bool, true, false, ◌&&◌, ◌==◌, if◌then◌else◌, nat_lt, nat_le, Option, Some, None}
+use Rattle.std.proofs.Common.{refl, sym, ap, ◌∙◌, arith}
+use Rattle.std.proofs.lemmas.Bool.Decides.{nat_tests}
+use Rattle.bm_base.specs.declared.level.Level.{Level}
+use Rattle.bm_base.specs.declared.level.Level.TheVariants.{Highest, VeryUnderReplicated, UnderReplicated, BadlyDistributed}
+use Rattle.bm_base.specs.Levels.{level_of, level_without_live}
+
+-- where fewer replicas are live than are wanted, their racks do not count
+pub few_live : (live drained repl r s : ℕ) (m n : Bool) → live < repl → level_of live drained repl r m ≡ level_of live drained repl s n
+unfolding level_of
+few_live live drained repl r s m n few =
+    let less : nat_le repl live ≡ false = grind (arith, nat_tests, few) in
+    ap (λ t. by t r m) less ∙ sym (ap (λ t. by t s n) less)
+  where
+    by : Bool → ℕ → Bool → Option Level
+    by t r m =
+        if t then (if nat_lt 1 repl && (r == 1) && m then Some BadlyDistributed else None)
+        else Some (
+        if live == 0 then level_without_live drained
+        else if live == 1 then Highest
+        else if nat_lt (live * 3) repl then VeryUnderReplicated
+        else UnderReplicated)
+
+alike : (t m n : Bool) → (t && false && m) ≡ (t && false && n)
+alike true m n = refl
+alike false m n = refl
+
+-- where they do not stand on just one rack, it does not count whether the cluster has several
+pub not_on_one : (live drained repl r : ℕ) (m n : Bool) → r ≢ 1 → level_of live drained repl r m ≡ level_of live drained repl r n
+unfolding level_of
+not_on_one live drained repl r m n apart =
+    let other : (r == 1) ≡ false = grind (arith, nat_tests, apart) in
+    ap (λ t. by (nat_lt 1 repl && t && m)) other ∙ ap by (alike (nat_lt 1 repl) m n) ∙ sym (ap (λ t. by (nat_lt 1 repl && t && n)) other)
+  where
+    by : Bool → Option Level
+    by t =
+        if nat_le repl live then (if t then Some BadlyDistributed else None)
+        else Some (
+        if live == 0 then level_without_live drained
+        else if live == 1 then Highest
+        else if nat_lt (live * 3) repl then VeryUnderReplicated
+        else UnderReplicated)
