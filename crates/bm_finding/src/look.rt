@@ -3,7 +3,7 @@ ghost use Rattle.std.specs.Prelude.{◌≡◌, ℕ, Some, IfOk, IfErr, OnOk, ◌
 ghost use Rattle.std.specs.Option.{option_map_or};
 ghost use Rattle.bm_base.specs.declared.refusal.Refusal.TheVariants.{Memory};
 ghost use Rattle.bm_base.specs.Lists.{has};
-ghost use Rattle.bm_base.specs.Map.{Map, entries, revise};
+ghost use Rattle.bm_base.specs.Map.{Map, empty, entries, revise};
 ghost use Rattle.bm_base.specs.State.{by_replica};
 ghost use Rattle.bm_base.specs.Excess as excess;
 ghost use Rattle.bm_arena.specs.Contents.{slot_of};
@@ -33,7 +33,9 @@ pub(crate) struct Look {
 
 impl Look {
     /// At no block so far. Takes no memory.
-    pub(crate) fn new(alloc: Global) -> Look {
+    pub(crate) fn new(alloc: Global) -> Look
+        ensures { result.replicas ≡ empty }
+    {
         Look {
             id: BlockId(0),
             info: None,
