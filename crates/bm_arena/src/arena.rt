@@ -76,7 +76,8 @@ impl Arena {
         ensures ids { IfOk result (λ a. a.ids ≡ []) }
         ensures lists { IfOk result (λ a. a.lists ≡ []) }
         ensures steps { IfOk result (λ a. a.steps ≡ 0) }
-        ensures blocks { IfOk result (λ a. (slot : ℕ) → slot ≢ a.delimiter → block_at a slot ≡ None) }
+        ensures blocks { IfOk result (λ a. (slot : ℕ) → slot ≢ a.delimiter
+            → block_at a slot ≡ None) }
         ensures delimiter { IfOk result (λ a. block_at a a.delimiter ≡ Some (empty_block 0)) }
         ensures bound { IfOk result (λ a. a.bound ≡ a.delimiter + 1) }
         ensures replicas { IfOk result (λ a. replicas_of a ≡ empty) }

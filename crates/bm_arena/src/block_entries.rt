@@ -19,8 +19,10 @@ impl Arena {
     /// past what a link of 32 bits can name.
     pub fn add_entry(&mut self, id: BlockId) -> Result<Slot, Refusal>
         ensures there { IsSome (slot_of self.old id) → IsOk result }
-        ensures known { IfOk result (λ slot. IsSome (slot_of self.old id) → (slot_of self.old id ≡ Some slot) × (self.new ≡ self.old)) }
-        ensures added { IfOk result (λ slot. slot_of self.old id ≡ None → IsAdded self.old self.new id slot) }
+        ensures known { IfOk result (λ slot. IsSome (slot_of self.old id)
+            → (slot_of self.old id ≡ Some slot) × (self.new ≡ self.old)) }
+        ensures added { IfOk result (λ slot. slot_of self.old id ≡ None
+            → IsAdded self.old self.new id slot) }
         ensures replicas { replicas_of self.new ≡ replicas_of self.old }
         ensures blocks { blocks_of self.new ≡ blocks_of self.old }
         ensures refused { IfErr result (λ e. e ≡ Memory) }
@@ -49,9 +51,12 @@ impl Arena {
     pub fn drop_entry(&mut self, slot: Slot)
         requires bare { IsSomeAnd (block_at self.old slot) (λ b. b.replicas ≡ []) }
         requires entry { slot ≢ self.old.delimiter }
-        ensures after { (b : Block) → block_at self.old slot ≡ Some b → self.new ≡ dropped self.old slot b.id }
-        ensures entries { (other : ℕ) → block_at self.new other ≡ (if other == slot then None else block_at self.old other) }
-        ensures numbers { (b : Block) → block_at self.old slot ≡ Some b → (id : ℕ) → slot_of self.new id ≡ (if b.id == id then None else slot_of self.old id) }
+        ensures after { (b : Block) → block_at self.old slot ≡ Some b
+            → self.new ≡ dropped self.old slot b.id }
+        ensures entries { (other : ℕ)
+            → block_at self.new other ≡ (if other == slot then None else block_at self.old other) }
+        ensures numbers { (b : Block) → block_at self.old slot ≡ Some b → (id : ℕ)
+            → slot_of self.new id ≡ (if b.id == id then None else slot_of self.old id) }
         ensures lists { self.new.lists ≡ self.old.lists }
         ensures lawful { IsLawful self.new }
     {
@@ -68,10 +73,16 @@ impl Arena {
         ensures room { OnOk result (HasRoom self.new slot) }
         ensures succeeds { HasRoom self.old slot → IsOk result }
         ensures had_room { HasRoom self.old slot → self.new ≡ self.old }
-        ensures rest { self.new ≡ record self.old { blocks = change_block (with_room (room_at self.new slot)) self.old.blocks slot } }
+        ensures rest { self.new
+            ≡ record self.old {
+              blocks = change_block (with_room (room_at self.new slot))
+                  self.old.blocks slot;
+            } }
         ensures grows { room_at self.old slot ≤ room_at self.new slot }
-        ensures marks { (other storage : ℕ) → marks_at self.new other storage ≡ marks_at self.old other storage }
-        ensures others { (other : ℕ) → other ≢ slot → block_at self.new other ≡ block_at self.old other }
+        ensures marks { (other storage : ℕ)
+            → marks_at self.new other storage ≡ marks_at self.old other storage }
+        ensures others { (other : ℕ) → other ≢ slot
+            → block_at self.new other ≡ block_at self.old other }
         ensures known { known_of (block_at self.new slot) ≡ known_of (block_at self.old slot) }
         ensures replicas { replicas_of self.new ≡ replicas_of self.old }
         ensures blocks { blocks_of self.new ≡ blocks_of self.old }
@@ -84,12 +95,16 @@ impl Arena {
 
     /// Sets what is known of the block in `slot`: None where it is no known block. Nothing else changes. Takes no memory.
     pub fn set_info(&mut self, slot: Slot, info: Option<BlockInfo>)
-        ensures after { self.new ≡ record self.old { blocks = change_block (with_info info) self.old.blocks slot } }
-        ensures entry { (b : Block) → block_at self.old slot ≡ Some b → block_at self.new slot ≡ Some (with_info info b) }
-        ensures marks { (other storage : ℕ) → marks_at self.new other storage ≡ marks_at self.old other storage }
+        ensures after { self.new
+            ≡ record self.old { blocks = change_block (with_info info) self.old.blocks slot } }
+        ensures entry { (b : Block) → block_at self.old slot ≡ Some b
+            → block_at self.new slot ≡ Some (with_info info b) }
+        ensures marks { (other storage : ℕ)
+            → marks_at self.new other storage ≡ marks_at self.old other storage }
         ensures rest { KeepsAllBut slot self.old self.new }
         ensures replicas { replicas_of self.new ≡ replicas_of self.old }
-        ensures blocks { (id : ℕ) → slot_of self.old id ≡ Some slot → blocks_of self.new ≡ with_known (blocks_of self.old) id info }
+        ensures blocks { (id : ℕ) → slot_of self.old id ≡ Some slot
+            → blocks_of self.new ≡ with_known (blocks_of self.old) id info }
         ensures lawful { IsLawful self.new }
     {
         links::set_info(&mut self.slots, slot, info);
@@ -98,13 +113,21 @@ impl Arena {
     /// Sets the marks of the replica on `storage` of the block in `slot`; where it has none, nothing changes. Nothing else
     /// changes. Takes no memory.
     pub fn set_marks(&mut self, slot: Slot, storage: StorageId, marks: Marks)
-        ensures after { self.new ≡ record self.old { blocks = change_block (with_marks storage marks) self.old.blocks slot } }
-        ensures marks { IsSome (marks_at self.old slot storage) → marks_at self.new slot storage ≡ Some marks }
-        ensures beside { (other : ℕ) → other ≢ storage → marks_at self.new slot other ≡ marks_at self.old slot other }
-        ensures others { (other : ℕ) → other ≢ slot → block_at self.new other ≡ block_at self.old other }
+        ensures after { self.new
+            ≡ record self.old {
+              blocks = change_block (with_marks storage marks)
+                  self.old.blocks slot;
+            } }
+        ensures marks { IsSome (marks_at self.old slot storage)
+            → marks_at self.new slot storage ≡ Some marks }
+        ensures beside { (other : ℕ) → other ≢ storage
+            → marks_at self.new slot other ≡ marks_at self.old slot other }
+        ensures others { (other : ℕ) → other ≢ slot
+            → block_at self.new other ≡ block_at self.old other }
         ensures known { known_of (block_at self.new slot) ≡ known_of (block_at self.old slot) }
         ensures rest { KeepsAllBut slot self.old self.new }
-        ensures replicas { (id : ℕ) → slot_of self.old id ≡ Some slot → IsSome (marks_at self.old slot storage) →
+        ensures replicas { (id : ℕ) → slot_of self.old id ≡ Some slot
+            → IsSome (marks_at self.old slot storage) →
             replicas_of self.new ≡ insert (replicas_of self.old) (replica_at id storage) marks }
         ensures blocks { blocks_of self.new ≡ blocks_of self.old }
         ensures lawful { IsLawful self.new }

@@ -173,9 +173,12 @@ pub(crate) fn reserve_triplets(
 ) -> Result<(), AllocError>
     ensures rest { slots.new ≡ at_slot (with_capacity (capacity_at slots.new slot)) slots.old slot }
     ensures grows { capacity_at slots.old slot ≤ capacity_at slots.new slot }
-    ensures room { OnOk result ((e : _) → get slots.new slot ≡ Some e → HasRoomFor e.triplets additional) }
-    ensures succeeds { ((e : _) → get slots.old slot ≡ Some e → HasRoomFor e.triplets additional) → IsOk result }
-    ensures had_room { ((e : _) → get slots.old slot ≡ Some e → HasRoomFor e.triplets additional) → slots.new ≡ slots.old }
+    ensures room { OnOk result ((e : _) → get slots.new slot ≡ Some e
+        → HasRoomFor e.triplets additional) }
+    ensures succeeds { ((e : _) → get slots.old slot ≡ Some e → HasRoomFor e.triplets additional)
+        → IsOk result }
+    ensures had_room { ((e : _) → get slots.old slot ≡ Some e → HasRoomFor e.triplets additional)
+        → slots.new ≡ slots.old }
     ensures refused { OnErr result (slots.new ≡ slots.old) }
 {
     match slots.get_mut(slot) {
@@ -186,7 +189,8 @@ pub(crate) fn reserve_triplets(
 
 // The storage and the marks of the triplet at place `i` of the block at a slot.
 pub(crate) fn replica_at(slots: &Slab<Entry>, slot: usize, i: usize) -> Option<(StorageId, Marks)>
-    ensures { result ≡ option_and_then (λ e. option_map seen_triplet (slice_get e.triplets.items i)) (get slots.now slot) }
+    ensures { result ≡ option_and_then
+        (λ e. option_map seen_triplet (slice_get e.triplets.items i)) (get slots.now slot) }
 {
     match slots.get(slot) {
         Some(entry) => replica_in(entry.triplets.as_slice(), i),

@@ -83,9 +83,12 @@ impl Numbers {
         id: u64,
     ) -> Result<(usize, bool), Refusal>
         ensures there { (was : ℕ) → lookup (nat_eq id) self.old ≡ Some was → IsOk result }
-        ensures known { IfOk result (λ r. r.1 ≡ false → (Some r.0 ≡ lookup (nat_eq id) self.old) × (self.new ≡ self.old) × (slots.new ≡ slots.old)) }
+        ensures known { IfOk result (λ r. r.1 ≡ false → (Some r.0 ≡ lookup (nat_eq id) self.old)
+            × (self.new ≡ self.old) × (slots.new ≡ slots.old)) }
         ensures absent { IfOk result (λ r. r.1 ≡ true → None ≡ lookup (nat_eq id) self.old) }
-        ensures listed { IfOk result (λ r. r.1 ≡ true → (r.0 ≡ slots.new.vacant_key) × (r.0 < end_of_links) × HasRoomFor slots.new 1 × (self.new ≡ self.old ++ (id, r.0) ∷ [])) }
+        ensures listed { IfOk result (λ r. r.1 ≡ true
+            → (r.0 ≡ slots.new.vacant_key) × (r.0 < end_of_links) × HasRoomFor slots.new 1
+            × (self.new ≡ self.old ++ (id, r.0) ∷ [])) }
         ensures grown { slots.new ≡ record slots.old { capacity = slots.new.capacity } }
         ensures unique { IsDistinct nat_eq (keys_of self.new) }
         ensures refused { IfErr result (λ e. e ≡ Memory) }
@@ -101,7 +104,9 @@ impl Numbers {
     /// Takes a number out: the last one takes its place.
     pub(crate) fn remove(&mut self, id: u64)
         ensures list { self.new ≡ swap_remove_entry (nat_eq id) self.old }
-        ensures found { (other : ℕ) → lookup (nat_eq other) self.new ≡ (if id == other then None else lookup (nat_eq other) self.old) }
+        ensures found { (other : ℕ)
+            → lookup (nat_eq other) self.new
+            ≡ (if id == other then None else lookup (nat_eq other) self.old) }
         ensures unique { IsDistinct nat_eq (keys_of self.new) }
     {
         self.index.swap_remove(&id);
@@ -115,9 +120,12 @@ fn slot_in(
     id: u64,
 ) -> Result<(usize, bool), Refusal>
     ensures there { (was : ℕ) → lookup (nat_eq id) ids.old.entries ≡ Some was → IsOk result }
-    ensures known { IfOk result (λ r. r.1 ≡ false → (Some r.0 ≡ lookup (nat_eq id) ids.old.entries) × (ids.new.entries ≡ ids.old.entries) × (slots.new ≡ slots.old)) }
+    ensures known { IfOk result (λ r. r.1 ≡ false → (Some r.0 ≡ lookup (nat_eq id) ids.old.entries)
+        × (ids.new.entries ≡ ids.old.entries) × (slots.new ≡ slots.old)) }
     ensures absent { IfOk result (λ r. r.1 ≡ true → None ≡ lookup (nat_eq id) ids.old.entries) }
-    ensures listed { IfOk result (λ r. r.1 ≡ true → (r.0 ≡ slots.new.vacant_key) × (r.0 < end_of_links) × HasRoomFor slots.new 1 × (ids.new.entries ≡ insert_entry nat_eq ids.old.entries id r.0)) }
+    ensures listed { IfOk result (λ r. r.1 ≡ true
+        → (r.0 ≡ slots.new.vacant_key) × (r.0 < end_of_links) × HasRoomFor slots.new 1
+        × (ids.new.entries ≡ insert_entry nat_eq ids.old.entries id r.0)) }
     ensures grown { slots.new ≡ record slots.old { capacity = slots.new.capacity } }
     ensures unique { IsDistinct nat_eq (keys_of ids.new.entries) }
     ensures refused { IfErr result (λ e. e ≡ Memory) }

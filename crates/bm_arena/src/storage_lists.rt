@@ -21,9 +21,13 @@ impl Arena {
     /// A storage that has a head keeps it and its list; no storage beside those named gets one, also where it is refused. Where all
     /// have heads nothing is done. `Memory`: then some of the storages may have got a head.
     pub fn reserve_heads(&mut self, storages: &[StorageId]) -> Result<(), Refusal>
-        ensures heads { OnOk result (EachIndex storages.now (λ k. HasHead self.new (slice_index storages.now k))) }
-        ensures named { (other : ℕ) → EachIndex storages.now (λ k. other ≢ slice_index storages.now k) → HasHead self.new other → HasHead self.old other }
-        ensures had { EachIndex storages.now (λ k. HasHead self.old (slice_index storages.now k)) → IsOk result × (self.new ≡ self.old) }
+        ensures heads { OnOk result (EachIndex storages.now
+            (λ k. HasHead self.new (slice_index storages.now k))) }
+        ensures named { (other : ℕ)
+            → EachIndex storages.now (λ k. other ≢ slice_index storages.now k)
+            → HasHead self.new other → HasHead self.old other }
+        ensures had { EachIndex storages.now (λ k. HasHead self.old (slice_index storages.now k))
+            → IsOk result × (self.new ≡ self.old) }
         ensures kept { IsReserved self.old self.new }
         ensures refused { IfErr result (λ e. e ≡ Memory) }
         ensures lawful { IsLawful self.new }
@@ -38,7 +42,8 @@ impl Arena {
     // The delimiter gets room for one more triplet with each head.
     fn reserve_head(&mut self, storage: StorageId) -> Result<(), Refusal>
         ensures head { OnOk result (HasHead self.new storage) }
-        ensures named { (other : ℕ) → other ≢ storage → HasHead self.new other → HasHead self.old other }
+        ensures named { (other : ℕ) → other ≢ storage → HasHead self.new other
+            → HasHead self.old other }
         ensures had { HasHead self.old storage → IsOk result × (self.new ≡ self.old) }
         ensures kept { IsReserved self.old self.new }
         ensures refused { IfErr result (λ e. e ≡ Memory) }
@@ -56,9 +61,11 @@ impl Arena {
     /// Drops the head of a storage whose list is empty, or that has none. Takes no memory.
     pub fn drop_head(&mut self, storage: StorageId)
         requires { list_of self.old storage ≡ [] }
-        ensures after { self.new ≡ record self.old { lists = swap_remove_entry (nat_eq storage) self.old.lists } }
+        ensures after { self.new
+            ≡ record self.old { lists = swap_remove_entry (nat_eq storage) self.old.lists } }
         ensures lists { (other : ℕ) → list_of self.new other ≡ list_of self.old other }
-        ensures heads { (other : ℕ) → other ≢ storage → HasHead self.old other → HasHead self.new other }
+        ensures heads { (other : ℕ) → other ≢ storage → HasHead self.old other
+            → HasHead self.new other }
         ensures gone { HasHead self.new storage → ⊥ }
         ensures fewer { (other : ℕ) → HasHead self.new other → HasHead self.old other }
         ensures lawful { IsLawful self.new }
@@ -75,7 +82,8 @@ impl Arena {
         ensures list { list_of self.new storage ≡ slot ∷ list_of self.old storage }
         ensures marks { marks_at self.new slot storage ≡ Some marks }
         ensures others { KeepsOthers self.old self.new slot storage }
-        ensures replicas { (id : ℕ) → slot_of self.old id ≡ Some slot → replicas_of self.new ≡ insert (replicas_of self.old) (replica_at id storage) marks }
+        ensures replicas { (id : ℕ) → slot_of self.old id ≡ Some slot
+            → replicas_of self.new ≡ insert (replicas_of self.old) (replica_at id storage) marks }
         ensures known { blocks_of self.new ≡ blocks_of self.old }
         ensures lawful { IsLawful self.new }
     {
@@ -100,7 +108,8 @@ impl Arena {
         ensures list { list_of self.new storage ≡ without slot (list_of self.old storage) }
         ensures marks { marks_at self.new slot storage ≡ None }
         ensures others { KeepsOthers self.old self.new slot storage }
-        ensures replicas { (id : ℕ) → slot_of self.old id ≡ Some slot → replicas_of self.new ≡ remove (replicas_of self.old) (replica_at id storage) }
+        ensures replicas { (id : ℕ) → slot_of self.old id ≡ Some slot
+            → replicas_of self.new ≡ remove (replicas_of self.old) (replica_at id storage) }
         ensures known { blocks_of self.new ≡ blocks_of self.old }
         ensures lawful { IsLawful self.new }
     {
@@ -151,7 +160,8 @@ impl Arena {
     pub fn take_delimiter(&mut self, storage: StorageId)
         requires { IsSome (marks_at self.old self.old.delimiter storage) }
         ensures after { self.new ≡ unlinked self.old self.old.delimiter storage }
-        ensures list { list_of self.new storage ≡ without self.old.delimiter (list_of self.old storage) }
+        ensures list { list_of self.new storage
+            ≡ without self.old.delimiter (list_of self.old storage) }
         ensures marks { marks_at self.new self.old.delimiter storage ≡ None }
         ensures others { KeepsOthers self.old self.new self.old.delimiter storage }
         ensures lawful { IsLawful self.new }
@@ -164,7 +174,8 @@ impl Arena {
     /// slot, or the delimiter, is in the list. Takes no memory.
     pub fn next_after(&self, storage: StorageId, slot: Option<Slot>) -> Option<Slot>
         requires { IsSome (marks_at self.now (unwrap_or slot self.now.delimiter) storage) }
-        ensures { result ≡ slot_after (unwrap_or slot self.now.delimiter) (list_of self.now storage) }
+        ensures { result ≡ slot_after (unwrap_or slot self.now.delimiter)
+            (list_of self.now storage) }
     {
         let slot = slot.unwrap_or(self.delimiter);
         match links::find(&self.slots, slot, storage.0) {

@@ -66,7 +66,8 @@ impl<V: Copy> NumberMap<V> {
         ensures err { OnErr result (self.new.map ≡ self.old.map) }
         ensures err_room { OnErr result (self.new.room ≡ self.old.room) }
         ensures known { IsTrue (map.contains_key self.old.map key) → IsOk result }
-        ensures known_no_growth { IsTrue (map.contains_key self.old.map key) → capacity self.new ≡ capacity self.old }
+        ensures known_no_growth { IsTrue (map.contains_key self.old.map key)
+            → capacity self.new ≡ capacity self.old }
         ensures reserved { 1 ≤ self.old.room → IsOk result }
         ensures reserved_no_growth { 1 ≤ self.old.room → capacity self.new ≡ capacity self.old }
         ensures no_less { capacity self.old ≤ capacity self.new }
@@ -123,7 +124,8 @@ impl<V: Copy> NumberMap<V> {
     /// Keeps the entries that pass. Takes no memory.
     pub fn retain<F: FnMut(&(u64, V)) -> bool>(&mut self, f: F)
         requires { F.IsAlwaysCallable f }
-        ensures filtered { IsFiltered (CalledAt F.FnMut) f (map.entries self.old.map) (map.entries self.new.map) }
+        ensures filtered { IsFiltered (CalledAt F.FnMut) f (map.entries self.old.map)
+            (map.entries self.new.map) }
         ensures no_growth { capacity self.new ≡ capacity self.old }
     {
         self.entries.retain(f);

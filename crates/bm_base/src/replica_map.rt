@@ -101,7 +101,8 @@ impl<V: Copy> ReplicaMap<V> {
     /// Sets the value of the entry at a place of the rising order, from 0 on, where there is one. Takes no memory.
     pub fn set_at(&mut self, at: usize, value: V)
         requires { at < map.len self.old }
-        ensures { (e : ReplicaId × V) → slice_get (map.entries self.old) at ≡ Some e → map.entries self.new ≡ slice_set (map.entries self.old) at (e.0, value) }
+        ensures { (e : ReplicaId × V) → slice_get (map.entries self.old) at ≡ Some e
+            → map.entries self.new ≡ slice_set (map.entries self.old) at (e.0, value) }
     {
         self.entries[at].1 = value;
     }

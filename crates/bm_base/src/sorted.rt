@@ -126,7 +126,9 @@ pub(crate) fn replace<K: Ord + Copy, V: Copy>(
 )
     requires sorted { T (list.is_sorted K.cmp entries.old.items) }
     requires at { at ≡ place K.cmp key.now entries.old.items }
-    ensures after { entries.new.items ≡ (if is_some (list.find K.cmp key.now entries.old.items) then list.put K.cmp key.now value entries.old.items else entries.old.items) }
+    ensures after { entries.new.items
+        ≡ (if is_some (list.find K.cmp key.now entries.old.items)
+        then list.put K.cmp key.now value entries.old.items else entries.old.items) }
     ensures capacity { vec_capacity entries.new ≡ vec_capacity entries.old }
     ensures len { vec_len entries.new ≡ vec_len entries.old }
 {

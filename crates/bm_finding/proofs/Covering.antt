@@ -202,8 +202,8 @@ module _ (v : Leveled) (lawful : IsLawful v.arena) (leveled : IsLeveled v) (is :
           | inr visited ↦ visited
         ]
 
-    pub all_found : ((q : ReplicaId) → IsSome (get (replicas_of a) q) → IsTrue (contains_key C.storages q.storage)) → (f : Found) → HasFound C pend r H ids f → (p : RoundPart) → p.expired ≡ expired_of pend r pending
-        → IsInOrder by_replica (λ (q : ReplicaId). q) f.excess.items p.excess → IsInOrder by_pair wish_key (wishes_before bound f.wishes.items) p.wishes → IsInOrder by_pair delete_key f.deletes.items p.deletes
+    pub all_found : ((q : ReplicaId) → IsSome (get (replicas_of a) q) → IsTrue (contains_key C.storages q.storage)) → (f : Found) → HasFound C pend r H bound ids f → (p : RoundPart) → p.expired ≡ expired_of pend r pending
+        → IsInOrder by_replica (λ (q : ReplicaId). q) f.excess.items p.excess → IsInOrder by_pair wish_key f.wishes.items p.wishes → IsInOrder by_pair delete_key f.deletes.items p.deletes
         → p ≡ part_before bound (round_part C pend r H)
     all_found stored f has p old excess wishes deletes =
         let full : RoundPart = round_part C pend r H in
@@ -216,12 +216,10 @@ module _ (v : Leveled) (lawful : IsLawful v.arena) (leveled : IsLeveled v) (is :
           wishes = found.wishes;
           deletes = gathered_of by_pair delete_key (λ (d : Delete). d.block) (IsToDelete C G) _ (deletes_listed C pend r H (known_storage stored)) ids p.deletes once covers_deletes (subst (λ xs. IsInOrder by_pair delete_key xs p.deletes) has.deletes deletes);
         }) in
-        let each : wishes_before bound f.wishes.items ≡ flat_map (λ b. wishes_before bound (wishes_at C pend r H b)) ids =
-        ap (wishes_before bound) has.wishes ∙ sym (filter_flat_map (λ (w : Wish). is_before bound (wish_key w)) (wishes_at C pend r H) (λ b. wishes_before bound (wishes_at C pend r H b)) (λ b. refl) ids) in
         let mine =
         gathered_of by_pair wish_key (λ (w : Wish). w.block) (Passing by_pair wish_key (is_before bound) P) (λ b. wishes_before bound (wishes_at C pend r H b))
         (passing_listed by_pair wish_key (is_before bound) (λ (w : Wish). w.block) P (wishes_at C pend r H) (wishes_listed C pend r H)) ids p.wishes once (λ w p. covers_wishes w p.0 p.1)
-        (subst (λ xs. IsInOrder by_pair wish_key xs p.wishes) each wishes) in
+        (subst (λ xs. IsInOrder by_pair wish_key xs p.wishes) has.wishes wishes) in
         let cut : p.wishes ≡ wishes_before bound full.wishes =
         gathered_alike by_pair wish_key (Passing by_pair wish_key (is_before bound) P) (λ u w pu pw alike. one_wish C G u w pu.0 pw.0 alike) p.wishes (wishes_before bound full.wishes) mine
         (passing_gathered by_pair wish_key (is_before bound) P full.wishes found.wishes) in

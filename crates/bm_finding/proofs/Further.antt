@@ -12,6 +12,7 @@ use Rattle.bm_base.specs.Replicas.{is_live_on, is_drained_on, live, drained, sto
 use Rattle.bm_base.specs.Excess.{without_expired, without_unordered_excess, marked}
 use Rattle.bm_base.specs.Transfers.{pending_targets}
 use Rattle.bm_base.specs.RoundParts.{started_holdings}
+use Rattle.bm_parts.specs.Before.{wishes_before}
 use Rattle.bm_arena.specs.Contents.{Contents}
 use Rattle.bm_levels.specs.Held.{holdings_with}
 use Rattle.bm_pending.specs.OnTheWay.{OnTheWay}
@@ -36,9 +37,9 @@ abbrev wish_seen : Cluster → ℕ → ℕ → OnTheWay → Look → Usable → 
 wish_seen C pend r p l u = option_and_then (λ i. wish_by C l.id i u.live u.drained (storages_in (λ _ _. true) (entries l.replicas)) (targets_left pend r p l.id)) l.info
 
 -- it was put behind what was found
-pub record IsPut (C : Cluster) (pend r : ℕ) (p : OnTheWay) (l : Look) (u : Usable) (e : Bool) (f g : Found) : Type 0 where
+pub record IsPut (C : Cluster) (pend r : ℕ) (bound : Option (ℕ × ℕ)) (p : OnTheWay) (l : Look) (u : Usable) (e : Bool) (f g : Found) : Type 0 where
   pub excess : g.excess.items ≡ f.excess.items ++ replicas_on l.excess.items (entries l.replicas)
-  pub wishes : g.wishes.items ≡ f.wishes.items ++ option_to_list (wish_seen C pend r p l u)
+  pub wishes : g.wishes.items ≡ f.wishes.items ++ wishes_before bound (option_to_list (wish_seen C pend r p l u))
   pub deletes : g.deletes.items ≡ f.deletes.items ++ deletes_of e (entries l.replicas)
 
 module _ (C : Cluster) (pend r : ℕ) (a : Contents) (p : OnTheWay) (l : Look) (u : Usable) (e : Bool) (look : IsLook C pend r (holdings_with a p.map) l) (seen : IsSeen C l u e) where
@@ -78,9 +79,9 @@ module _ (C : Cluster) (pend r : ℕ) (a : Contents) (p : OnTheWay) (l : Look) (
   more : {X : Type 0} (f : ℕ → List X) (bs : List ℕ) (b : ℕ) → flat_map f bs ++ f b ≡ flat_map f (bs ++ b ∷ [])
   more f bs b = flat_map_more f [] bs b
 
-  pub found_more : (f g : Found) → IsPut C pend r p l u e f g → (bs : List ℕ) → HasFound C pend r H bs f → HasFound C pend r H (bs ++ l.id ∷ []) g
-  found_more f g put bs has = record {
+  pub found_more : (bound : Option (ℕ × ℕ)) (f g : Found) → IsPut C pend r bound p l u e f g → (bs : List ℕ) → HasFound C pend r H bound bs f → HasFound C pend r H bound (bs ++ l.id ∷ []) g
+  found_more bound f g put bs has = record {
     excess = put.excess ∙ (λ j. has.excess j ++ replicas_on (look.excess j) (entries (look.replicas j))) ∙ more (excess_at C pend r H) bs l.id;
-    wishes = put.wishes ∙ (λ j. has.wishes j ++ option_to_list (wish_is j)) ∙ more (wishes_at C pend r H) bs l.id;
+    wishes = put.wishes ∙ (λ j. has.wishes j ++ wishes_before bound (option_to_list (wish_is j))) ∙ more (λ b. wishes_before bound (wishes_at C pend r H b)) bs l.id;
     deletes = put.deletes ∙ (λ j. has.deletes j ++ deletes_of (enough_is j) (entries (look.replicas j))) ∙ more (deletes_at C pend r H) bs l.id;
   }

@@ -1,5 +1,5 @@
 pub mod RacksSpared
-pub mod AllOrNone
+pub mod NoneKept
 pub mod Unmoved
 pub mod Unmarked
 pub mod Owning

@@ -1,5 +1,5 @@
 -- What is found of several blocks as a round begins, one block after another.
-use Rattle.std.specs.Prelude.{◌≡◌, ℕ, List, option_to_list}
+use Rattle.std.specs.Prelude.{◌≡◌, ℕ, List, Option, option_to_list}
 use Rattle.std.specs.Option.{option_map_or}
 use Rattle.std.specs.List.{flat_map}
 use Rattle.std.specs.List.Sorted.{IsPermutation, IsSortedByKey}
@@ -10,6 +10,7 @@ use Rattle.bm_base.specs.Map.{Order, entries}
 use Rattle.bm_base.specs.State.{Cluster, Holdings}
 use Rattle.bm_base.specs.Replicas.{has_enough_live}
 use Rattle.bm_base.specs.RoundParts.{started_holdings}
+use Rattle.bm_parts.specs.Before.{wishes_before}
 use Rattle.bm_arena.specs.Triplets.{Block}
 use Rattle.bm_arena.specs.Contents.{Contents, block_at}
 use Rattle.bm_finding.specs.Looked.{own_replicas, too_many, replicas_on, deletes_of}
@@ -32,10 +33,10 @@ wishes_at C pend r H b = option_to_list (wish_in C (started_holdings C pend r H)
 abbrev pub deletes_at : Cluster → ℕ → ℕ → Holdings → ℕ → List Delete
 deletes_at C pend r H b = let G = started_holdings C pend r H in deletes_of (has_enough_live C G b) (entries (own_replicas G b))
 
--- what is found of these blocks
-pub record HasFound (C : Cluster) (pend r : ℕ) (H : Holdings) (bs : List ℕ) (f : Found) : Type 0 where
+-- what is found of these blocks, with the wishes before a bound
+pub record HasFound (C : Cluster) (pend r : ℕ) (H : Holdings) (bound : Option (ℕ × ℕ)) (bs : List ℕ) (f : Found) : Type 0 where
   pub excess : f.excess.items ≡ flat_map (excess_at C pend r H) bs
-  pub wishes : f.wishes.items ≡ flat_map (wishes_at C pend r H) bs
+  pub wishes : f.wishes.items ≡ flat_map (λ b. wishes_before bound (wishes_at C pend r H b)) bs
   pub deletes : f.deletes.items ≡ flat_map (deletes_at C pend r H) bs
 
 -- the same elements, in the order of their keys

@@ -11,7 +11,7 @@ ghost use Rattle.bm_levels.specs.Held.{holdings_with};
 
 use crate::found::Start;
 use crate::slots::{keyed_before, slots_to_visit, sort_slots};
-use crate::sorting::{keep_before, sort_deletes, sort_excess, sort_wishes};
+use crate::sorting::{sort_deletes, sort_excess, sort_wishes};
 use bm_base::{Items, Refusal, RoundPart};
 use bm_levels::LeveledBlocks;
 use bm_parts::merge::Key;
@@ -36,8 +36,12 @@ pub fn find_round(
     bound: Option<Key>,
 ) -> Result<RoundPart, Refusal>
     requires levels { AreLevels topology.now.cluster blocks.now }
-    requires stored { (q : ReplicaId) → IsSome (get (replicas_of blocks.now.arena) q) → IsTrue (contains_key topology.now.cluster.storages q.storage) }
-    ensures part { IfOk result (λ p. p ≡ part_before bound (round_part topology.now.cluster pend round (holdings_with blocks.now.arena pending.now.map))) }
+    requires stored { (q : ReplicaId) → IsSome (get (replicas_of blocks.now.arena) q)
+        → IsTrue (contains_key topology.now.cluster.storages q.storage) }
+    ensures part { IfOk result
+        (λ p. p ≡ part_before bound
+        (round_part topology.now.cluster pend round
+        (holdings_with blocks.now.arena pending.now.map))) }
     ensures refused { IfErr result (λ e. e ≡ Memory) }
 {
     blocks.lawful();
@@ -49,12 +53,12 @@ pub fn find_round(
         topology,
         pend,
         round,
+        bound,
     };
     let slots = slots_to_visit(alloc, blocks.kept())?;
     let mut keyed = keyed_before(alloc, blocks.kept(), blocks.arena(), &slots, bound)?;
     sort_slots(&mut keyed)?;
     let mut found = start.visit_all(alloc, &keyed)?;
-    keep_before(&mut found.wishes, bound);
     sort_excess(&mut found.excess)?;
     sort_wishes(&mut found.wishes)?;
     sort_deletes(&mut found.deletes)?;

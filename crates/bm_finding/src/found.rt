@@ -31,13 +31,19 @@ pub(crate) struct Start<'a> {
     pub topology: &'a Topology,
     pub pend: u32,
     pub round: u64,
+    /// Of the wishes those before it are told, if there is one.
+    pub bound: Option<Key>,
 }
 
 impl<'a> Start<'a> {
     /// Looks at the blocks at these slots, each beside its key.
     pub(crate) fn visit_all(&self, alloc: Global, slots: &[(Key, Slot)]) -> Result<Found, Refusal>
-        requires { (slot : ℕ) → Among slot (map (λ e. e.1) slots.now) → (id : ℕ) × (slot_of self.now.arena.now id ≡ Some slot) }
-        ensures found { IfOk result (HasFound self.now.topology.now.cluster self.now.pend self.now.round (holdings_with self.now.arena.now self.now.pending.now.map) (map (λ e. id_at self.now.arena.now e.1) slots.now)) }
+        requires { (slot : ℕ) → Among slot (map (λ e. e.1) slots.now)
+            → (id : ℕ) × (slot_of self.now.arena.now id ≡ Some slot) }
+        ensures found { IfOk result
+            (HasFound self.now.topology.now.cluster self.now.pend self.now.round
+            (holdings_with self.now.arena.now self.now.pending.now.map) self.now.bound
+            (map (λ e. id_at self.now.arena.now e.1) slots.now)) }
         ensures refused { IfErr result (λ e. e ≡ Memory) }
     {
         let mut found = Found {
@@ -61,8 +67,12 @@ impl<'a> Start<'a> {
         found: &mut Found,
     ) -> Result<(), Refusal>
         requires { (id : ℕ) × (slot_of self.now.arena.now id ≡ Some slot) }
-        ensures more { (bs : List ℕ) → HasFound self.now.topology.now.cluster self.now.pend self.now.round (holdings_with self.now.arena.now self.now.pending.now.map) bs found.old
-            → OnOk result (HasFound self.now.topology.now.cluster self.now.pend self.now.round (holdings_with self.now.arena.now self.now.pending.now.map) (bs ++ id_at self.now.arena.now slot ∷ []) found.new) }
+        ensures more { (bs : List ℕ)
+            → HasFound self.now.topology.now.cluster self.now.pend self.now.round
+            (holdings_with self.now.arena.now self.now.pending.now.map) self.now.bound bs found.old
+            → OnOk result (HasFound self.now.topology.now.cluster self.now.pend self.now.round
+            (holdings_with self.now.arena.now self.now.pending.now.map) self.now.bound (bs
+            ++ id_at self.now.arena.now slot ∷ []) found.new) }
         ensures refused { IfErr result (λ e. e ≡ Memory) }
     {
         self.arena.lawful();

@@ -57,8 +57,10 @@ impl Look {
     ) -> Result<Usable, Refusal>
         requires { slot_of arena.now id ≡ Some slot }
         ensures id { OnOk result (self.new.id ≡ id) }
-        ensures look { OnOk result ((pend r : ℕ) (pending : Map by_replica ℕ) → IsLook topology.now.cluster pend r (holdings_with arena.now pending) self.new) }
-        ensures usable { IfOk result (λ u. AreUsable topology.now.cluster (entries self.new.replicas) u) }
+        ensures look { OnOk result ((pend r : ℕ) (pending : Map by_replica ℕ)
+            → IsLook topology.now.cluster pend r (holdings_with arena.now pending) self.new) }
+        ensures usable { IfOk result
+            (λ u. AreUsable topology.now.cluster (entries self.new.replicas) u) }
         ensures refused { IfErr result (λ e. e ≡ Memory) }
     {
         arena.lawful();
@@ -78,8 +80,13 @@ impl Look {
         usable: Usable,
     ) -> Result<Usable, AllocError>
         requires { AreUsable topology.now.cluster (entries self.old.replicas) usable }
-        ensures marked { OnOk result (self.new ≡ record self.old { replicas = revise self.old.replicas (λ q m. marked_if (has self.old.excess.items q.storage) m) }) }
-        ensures usable { IfOk result (λ u. AreUsable topology.now.cluster (entries self.new.replicas) u) }
+        ensures marked { OnOk result (self.new
+            ≡ record self.old {
+              replicas = revise self.old.replicas
+                  (λ q m. marked_if (has self.old.excess.items q.storage) m);
+            }) }
+        ensures usable { IfOk result
+            (λ u. AreUsable topology.now.cluster (entries self.new.replicas) u) }
     {
         if self.excess.as_slice().is_empty() {
             return Ok(usable);
@@ -91,7 +98,8 @@ impl Look {
 
     /// Puts the replicas that are too many behind those that are there.
     pub(crate) fn push_excess(&self, into: &mut Vec<ReplicaId>) -> Result<(), AllocError>
-        ensures { OnOk result (into.new.items ≡ into.old.items ++ replicas_on self.now.excess.items (entries self.now.replicas)) }
+        ensures { OnOk result (into.new.items ≡ into.old.items
+            ++ replicas_on self.now.excess.items (entries self.now.replicas)) }
     {
         for (replica, _) in self.replicas.entries() {
             if contains(self.excess.as_slice(), replica.storage) {
@@ -107,7 +115,8 @@ impl Look {
         enough: bool,
         into: &mut Vec<Delete>,
     ) -> Result<(), AllocError>
-        ensures { OnOk result (into.new.items ≡ into.old.items ++ deletes_of enough (entries self.now.replicas)) }
+        ensures { OnOk result (into.new.items ≡ into.old.items
+            ++ deletes_of enough (entries self.now.replicas)) }
     {
         for (replica, marks) in self.replicas.entries() {
             if is_to_go(enough, marks) {
@@ -128,7 +137,9 @@ fn surplus_of(
     info: Option<BlockInfo>,
     live: &[StorageId],
 ) -> Result<Vec<StorageId>, Refusal>
-    ensures surplus { IfOk result (λ v. v.items ≡ option_map_or (λ i. excess.excess_of topology.now.cluster live.now i.repl) info []) }
+    ensures surplus { IfOk result
+        (λ v. v.items ≡ option_map_or
+        (λ i. excess.excess_of topology.now.cluster live.now i.repl) info []) }
     ensures refused { IfErr result (λ e. e ≡ Memory) }
 {
     match info {

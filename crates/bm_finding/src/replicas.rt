@@ -52,7 +52,8 @@ pub(crate) fn marked_replicas(
     replicas: &ReplicaMap<Marks>,
     excess: &[StorageId],
 ) -> Result<ReplicaMap<Marks>, AllocError>
-    ensures { IfOk result (λ m. m ≡ map_of.revise replicas.now (λ q m. marked_if (has excess.now q.storage) m)) }
+    ensures { IfOk result
+        (λ m. m ≡ map_of.revise replicas.now (λ q m. marked_if (has excess.now q.storage) m)) }
 {
     let mut entries = Vec::new(alloc);
     for (replica, marks) in replicas.entries() {

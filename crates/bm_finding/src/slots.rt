@@ -45,7 +45,9 @@ pub(crate) fn keyed_before(
     slots: &[Slot],
     bound: Option<Key>,
 ) -> Result<Vec<(Key, Slot)>, AllocError>
-    ensures { IfOk result (λ v. v.items ≡ map (λ s. (key_at kept.now arena.now s, s)) (filter (is_told kept.now arena.now bound) slots.now)) }
+    ensures { IfOk result
+        (λ v. v.items ≡ map (λ s. (key_at kept.now arena.now s, s))
+        (filter (is_told kept.now arena.now bound) slots.now)) }
 {
     let mut keyed = Vec::new(alloc);
     for slot in slots {

@@ -55,7 +55,8 @@ fn come(
 fn block_with_one(rt: &impl Abort, alloc: Global, topology: &Topology) -> LeveledBlocks
     requires { IsSome (node_of topology.now.cluster 11) }
     ensures levels { AreLevels topology.now.cluster result }
-    ensures stored { (q : ReplicaId) → IsSome (get (replicas_of result.arena) q) → IsTrue (contains_key topology.now.cluster.storages q.storage) }
+    ensures stored { (q : ReplicaId) → IsSome (get (replicas_of result.arena) q)
+        → IsTrue (contains_key topology.now.cluster.storages q.storage) }
 {
     let mut blocks = LeveledBlocks::new(alloc).expect(rt, "memory");
     let id = BlockId(7);

@@ -4,11 +4,13 @@ ghost use Rattle.bm_base.specs.declared.refusal.Refusal.TheVariants.{Memory};
 ghost use Rattle.bm_base.specs.Map.{entries};
 ghost use Rattle.bm_base.specs.Replicas as replicas;
 ghost use Rattle.bm_base.specs.Levels as levels;
+ghost use Rattle.bm_parts.specs.Before.{wishes_before};
 ghost use Rattle.bm_pending.specs.Remaining.{targets_left};
 ghost use Rattle.bm_finding.specs.Marking.{storages_in};
 ghost use Rattle.bm_finding.specs.Wanting.{count_at, wish_by};
 
 use crate::found::Start;
+use crate::keys::is_before;
 use crate::look::Look;
 use crate::replicas::{Usable, spread_of, storages_of};
 use bm_base::{BlockId, Level, Refusal, StorageId, StorageIds, Wish, level_of};
@@ -17,7 +19,7 @@ use std::alloc::Global;
 
 impl<'a> Start<'a> {
     /// Puts what a block wishes for behind what is there, which has these usable replicas: so many copies at its level, if it has one and
-    /// wants any. The transfers on their way count only where it has one.
+    /// wants any, and only where that comes before the bound. The transfers on their way count only where it does.
     pub(crate) fn push_wish(
         &self,
         alloc: Global,
@@ -25,8 +27,13 @@ impl<'a> Start<'a> {
         usable: Usable,
         into: &mut Vec<Wish>,
     ) -> Result<(), Refusal>
-        ensures wish { OnOk result (into.new.items ≡ into.old.items ++ option_to_list (option_and_then (λ i. wish_by self.now.topology.now.cluster look.now.id i usable.live usable.drained
-            (storages_in (λ _ _. true) (entries look.now.replicas)) (targets_left self.now.pend self.now.round self.now.pending.now look.now.id)) look.now.info)) }
+        ensures wish { OnOk result (into.new.items ≡ into.old.items
+            ++ wishes_before self.now.bound
+            (option_to_list (option_and_then
+            (λ i. wish_by self.now.topology.now.cluster look.now.id i usable.live usable.drained
+            (storages_in (λ _ _. true) (entries look.now.replicas))
+            (targets_left self.now.pend self.now.round self.now.pending.now look.now.id))
+            look.now.info))) }
         ensures refused { IfErr result (λ e. e ≡ Memory) }
     {
         let info = look.info;
@@ -39,6 +46,9 @@ impl<'a> Start<'a> {
         let Some(level) = level_among(self.topology, repl, live.as_slice(), drained_count) else {
             return Ok(());
         };
+        if !is_before(self.bound, (level.number() as u64, look.id.0)) {
+            return Ok(());
+        }
         let live_count = live.as_slice().len();
         let pending = self.targets_left(alloc, look.id)?;
         let pending_count = pending.as_slice().len();
@@ -62,7 +72,8 @@ impl<'a> Start<'a> {
 
     /// The targets of a block's transfers that the round leaves on their way. The block is not looked up where no transfer is.
     fn targets_left(&self, alloc: Global, id: BlockId) -> Result<StorageIds, Refusal>
-        ensures targets { IfOk result (λ v. v ≡ targets_left self.now.pend self.now.round self.now.pending.now id) }
+        ensures targets { IfOk result
+            (λ v. v ≡ targets_left self.now.pend self.now.round self.now.pending.now id) }
         ensures refused { IfErr result (λ e. e ≡ Memory) }
     {
         self.pending.lawful();
@@ -75,7 +86,9 @@ impl<'a> Start<'a> {
 
 /// The level of a block with live replicas on these storages. Only where enough are live their racks are looked up.
 fn level_among(topology: &Topology, repl: u32, live: &[StorageId], drained: usize) -> Option<Level>
-    ensures { result ≡ levels.level_of (length live.now) drained repl (length (replicas.racks topology.now.cluster live.now)) (replicas.is_multi_rack topology.now.cluster) }
+    ensures { result ≡ levels.level_of (length live.now) drained repl
+        (length (replicas.racks topology.now.cluster live.now))
+        (replicas.is_multi_rack topology.now.cluster) }
 {
     if live.len() < repl as usize {
         return level_of(live.len(), drained, repl, 0, false);

@@ -1,5 +1,4 @@
 pub mod Told
-pub mod Zips
 pub mod OneMore
 pub mod Newly
 pub mod Staying
@@ -8,7 +7,7 @@ pub mod OneOf
 pub mod FromAll
 pub mod Founds
 pub mod Chosen
-pub mod Finished
+pub mod RoundsTaken
 pub mod Joins
 pub mod RowPlaces
 pub mod RoundEnd

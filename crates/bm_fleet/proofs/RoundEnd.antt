@@ -14,8 +14,8 @@ use Rattle.bm_shard.specs.Seen.{Seen}
 use Rattle.bm_fleet.specs.Whole.{held_by, AreShards, EachStandsIn, EachTook}
 use Rattle.bm_fleet.specs.Worked.{IsSame}
 use Rattle.bm_fleet.specs.Rounds.{commands_in, left_by_round}
-use Rattle.bm_fleet.specs.RoundWorked.{IsFinished}
-use Rattle.bm_fleet.proofs.Finished.{are_after, held_after, stands_after, took_after}
+use Rattle.bm_fleet.specs.RoundWorked.{HasTakenRound}
+use Rattle.bm_fleet.proofs.RoundsTaken.{are_after, held_after, stands_after, took_after}
 use Rattle.bm_fleet.proofs.Staying.{still_shards, same_held, same_stands, same_took}
 
 pub then_ok : {X E : Type 0} (P : X → Type 0) (r : Result X E) (x : X) → r ≡ Ok x → IfOk r P → P x
@@ -24,9 +24,9 @@ then_ok P r x is h = subst (λ o. IfOk o P) is h
 module _ (C : Cluster) (limits : RoundLimits) (last : ℕ) (ss : List (ℕ × Seen)) (h : AreShards (length ss) ss) (took : EachTook last limits.pend ss) where
   -- Taken.
   module _ (chosen : Chosen) (back ts : List (ℕ × Seen)) (o : Result (Unit {0}) Refusal) (u : Unit {0}) (from : back ≡ ss)
-      (done : OnOk o (AllZip (IsFinished C chosen) back ts)) (is : o ≡ Ok u) where
-    each : AllZip (IsFinished C chosen) ss ts
-    each = subst (λ (xs : List (ℕ × Seen)). AllZip (IsFinished C chosen) xs ts) from (subst (λ r. OnOk r (AllZip (IsFinished C chosen) back ts)) is done)
+      (done : OnOk o (AllZip (HasTakenRound C chosen) back ts)) (is : o ≡ Ok u) where
+    each : AllZip (HasTakenRound C chosen) ss ts
+    each = subst (λ (xs : List (ℕ × Seen)). AllZip (HasTakenRound C chosen) xs ts) from (subst (λ r. OnOk r (AllZip (HasTakenRound C chosen) back ts)) is done)
 
     pub end_shards : AreShards (length ts) ts
     end_shards = are_after C chosen last limits.pend ss ts each h took

@@ -7,7 +7,7 @@ use Rattle.bm_base.specs.Rounds.{commands_of}
 use Rattle.bm_base.specs.Choices.{chosen_transfers, chosen_deletes}
 use Rattle.bm_shard.specs.Seen.{Seen}
 use Rattle.bm_shard.specs.Standing.{next_part}
-use Rattle.bm_fleet.specs.declared.rounding.Choice.{Choice}
+use Rattle.bm_fleet.specs.declared.round_choice.ChosenCommands.{ChosenCommands}
 
 -- what all these shards have for their next round
 abbrev pub next_parts : Cluster → List (ℕ × Seen) → List RoundPart
@@ -21,7 +21,7 @@ abbrev pub HasExcess : Cluster → List (ℕ × Seen) → List RoundPart → Typ
 HasExcess C ss ps = map (λ (p : RoundPart). p.excess) ps ≡ next_excess C ss
 
 -- what is chosen is what is chosen of all that the shards have, and commanded
-pub record IsChosen (limits : RoundLimits) (C : Cluster) (r : ℕ) (ss : List (ℕ × Seen)) (c : Choice) : Type 0 where
+pub record IsChosen (limits : RoundLimits) (C : Cluster) (r : ℕ) (ss : List (ℕ × Seen)) (c : ChosenCommands) : Type 0 where
   pub transfers : c.chosen.transfers ≡ chosen_transfers limits C (next_parts C ss)
   pub deletes : c.chosen.deletes ≡ chosen_deletes limits C (next_parts C ss)
   pub commands : c.commands ≡ commands_of C r c.chosen.transfers c.chosen.deletes

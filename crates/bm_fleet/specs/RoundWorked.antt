@@ -15,8 +15,8 @@ pub record CanFind (C : Cluster) (r : ℕ) (s : ℕ × Seen) : Type 0 where
   pub next : r ≡ s.1.round + 1
   pub stands : StandsIn C s.1
 
--- a shard that was made ready for a round, and whether that was refused
-pub record IsReadied (chosen : Chosen) (s : ℕ × Seen) (made : ℕ × Prepared) : Type 0 where
+-- a shard that was prepared for a round, and whether that was refused
+pub record IsPreparedForRound (chosen : Chosen) (s : ℕ × Seen) (made : ℕ × Prepared) : Type 0 where
   pub same : IsSame s (made.0, made.1.shard)
   pub ready : OnOk made.1.outcome (IsReadyForRound chosen made.1.shard)
   pub refused : IfErr made.1.outcome (λ e. e ≡ Memory)
@@ -26,14 +26,14 @@ abbrev pub HasPart : Cluster → List RoundPart → ℕ × Seen → Type 0
 HasPart C parts s = option_map (λ (p : RoundPart). p.excess) (slice_get parts s.0) ≡ Some (next_part C s.1).excess
 
 -- a shard that may take its next round, whose number is still one of 64 bits
-pub record CanFinish (C : Cluster) (parts : List RoundPart) (chosen : Chosen) (s : ℕ × Seen) : Type 0 where
+pub record CanCommitRound (C : Cluster) (parts : List RoundPart) (chosen : Chosen) (s : ℕ × Seen) : Type 0 where
   pub stands : StandsIn C s.1
   pub part : HasPart C parts s
   pub ready : IsReadyForRound chosen s.1
   pub counted : s.1.round + 1 < 2 ^ 64
 
 -- a shard that took its next round
-pub record IsFinished (C : Cluster) (chosen : Chosen) (s made : ℕ × Seen) : Type 0 where
+pub record HasTakenRound (C : Cluster) (chosen : Chosen) (s made : ℕ × Seen) : Type 0 where
   pub index : made.0 ≡ s.0
   pub holdings : made.1.holdings ≡ round_on_part C s.1.pend (s.1.round + 1) s.1.holdings s.1.part.index s.1.part.shards chosen.transfers chosen.deletes
   pub stands : StandsIn C made.1

@@ -56,9 +56,13 @@ pub(crate) fn answers_of<A: Drop>(
 ) -> (Vec<(u32, Shard)>, Result<Vec<A>, Refusal>)
     requires back { (back.items ≡ []) × (vec_len answered ≤ vec_capacity back) }
     requires answers { (answers.items ≡ []) × (vec_len answered ≤ vec_capacity answers) }
-    ensures shards { (f : Seen → A) → (ss : List (ℕ × Seen)) → AllZip (HasAnswered f) ss answered.items → result.0.items ≡ ss }
-    ensures answers { (f : Seen → A) → (ss : List (ℕ × Seen)) → AllZip (HasAnswered f) ss answered.items → IfOk result.1 (λ v. v.items ≡ map (λ s. f s.1) ss) }
-    ensures refused { (f : Seen → A) → (ss : List (ℕ × Seen)) → AllZip (HasAnswered f) ss answered.items → IfErr result.1 (λ e. e ≡ Memory) }
+    ensures shards { (f : Seen → A) → (ss : List (ℕ × Seen))
+        → AllZip (HasAnswered f) ss answered.items → result.0.items ≡ ss }
+    ensures answers { (f : Seen → A) → (ss : List (ℕ × Seen))
+        → AllZip (HasAnswered f) ss answered.items
+        → IfOk result.1 (λ v. v.items ≡ map (λ s. f s.1) ss) }
+    ensures refused { (f : Seen → A) → (ss : List (ℕ × Seen))
+        → AllZip (HasAnswered f) ss answered.items → IfErr result.1 (λ e. e ≡ Memory) }
 {
     let (items, answers, outcome) = gather_answers(answered, back, answers);
     match outcome {

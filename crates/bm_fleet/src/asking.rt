@@ -17,7 +17,7 @@ use crate::joining::joined;
 use crate::listed::{
     lists_of_blocks_on, lists_of_corrupt, lists_of_excess, lists_of_missing, lists_of_replicas,
 };
-use crate::one_shard::{block_of, place_of};
+use crate::one_shard::{block_of, index_of_shard};
 use bm_base::{BlockId, Event, Items, Level, NodeId, Refusal, Replica, ReplicaId, StorageId};
 use bm_shard::Shard;
 use bm_topo::Topology;
@@ -67,7 +67,8 @@ impl Fleet {
     #[tactic(auto, unfolding(crate::specs::Whole::StandsIn))]
     pub fn missing(&self, topology: &Topology) -> Result<Items<BlockId>, Refusal>
         requires { StandsIn topology.now.cluster self.now }
-        ensures missing { IfOk result (λ v. v ≡ queries.missing_blocks topology.now.cluster self.now.holdings) }
+        ensures missing { IfOk result
+            (λ v. v ≡ queries.missing_blocks topology.now.cluster self.now.holdings) }
         ensures refused { IfErr result (λ e. e ≡ Memory) }
     {
         let lists = lists_of_missing(self.alloc, self.shards.as_slice(), topology)?;
@@ -98,7 +99,8 @@ impl Fleet {
     #[tactic(auto, unfolding(crate::specs::Whole::StandsIn))]
     pub fn level(&self, id: BlockId) -> Result<Option<Level>, Refusal>
         ensures known { OnOk result (block_refusal self.now.holdings id ≡ None) }
-        ensures level { (C : Cluster) → StandsIn C self.now → IfOk result (λ l. l ≡ levels.level C self.now.holdings id) }
+        ensures level { (C : Cluster) → StandsIn C self.now
+            → IfOk result (λ l. l ≡ levels.level C self.now.holdings id) }
         ensures refused { IfErr result (Refuses (block_refusal self.now.holdings id) false) }
     {
         own_shard(self.shards.as_slice(), id).level(id)
@@ -116,17 +118,19 @@ impl Fleet {
 /// The shard of a block.
 fn own_shard(shards: &[(u32, Shard)], id: BlockId) -> &Shard
     requires { AreShards (length shards.now) shards.now }
-    ensures own { result.now.holdings ≡ cut (held_by shards.now) (shard_of id (length shards.now)) (length shards.now) }
+    ensures own { result.now.holdings
+        ≡ cut (held_by shards.now) (shard_of id (length shards.now)) (length shards.now) }
     ensures standing { (C : Cluster) → EachStandsIn C shards.now → shard.StandsIn C result.now }
 {
-    match shards.get(place_of(id, shards.len())) {
+    match shards.get(index_of_shard(id, shards.len())) {
         Some(one) => &one.1,
         None => unreachable!(),
     }
 }
 
 fn some_holds_back(shards: &[(u32, Shard)], node: NodeId, topology: &Topology) -> bool
-    ensures { result ≡ list_any (λ s. asked.holds_back topology.now.cluster node s.1.holdings) shards.now }
+    ensures { result ≡ list_any
+        (λ s. asked.holds_back topology.now.cluster node s.1.holdings) shards.now }
 {
     for one in shards {
         if one.1.holds_back(node, topology) {

@@ -36,9 +36,11 @@ fn event_room(alloc: Global, count: usize, workers: usize) -> Result<EventRoom, 
     requires { 0 < workers }
     ensures preparing { IfOk result (λ r. r.preparing.room ≡ count) }
     ensures committing { IfOk result (λ r. r.committing.room ≡ count) }
-    ensures prepared { IfOk result (λ r. (r.prepared.items ≡ []) × (count ≤ vec_capacity r.prepared)) }
+    ensures prepared { IfOk result (λ r. (r.prepared.items ≡ [])
+        × (count ≤ vec_capacity r.prepared)) }
     ensures aborted { IfOk result (λ r. (r.aborted.items ≡ []) × (count ≤ vec_capacity r.aborted)) }
-    ensures committed { IfOk result (λ r. (r.committed.items ≡ []) × (count ≤ vec_capacity r.committed)) }
+    ensures committed { IfOk result (λ r. (r.committed.items ≡ [])
+        × (count ≤ vec_capacity r.committed)) }
     ensures refused { IfErr result (λ e. e ≡ Memory) }
 {
     let preparing = Crew::ready::<Shard, Prepared>(alloc, count, workers)?;
@@ -74,11 +76,15 @@ pub(crate) fn change_all<R: Threads + Wait + Sync, G: Gate + Sync>(
     requires multi { multi ≡ is_multi_rack (change_cluster topology.now.cluster event.now) }
     requires shards { AreShards (length shards.old.items) shards.old.items }
     requires standing { EachStandsIn topology.now.cluster shards.old.items }
-    ensures done { IfOk result (λ d. d ≡ done (held_by shards.old.items) (held_by shards.new.items)) }
-    ensures changed { OnOk result (held_by shards.new.items ≡ change_holdings topology.now.cluster (held_by shards.old.items) event.now) }
-    ensures standing { OnOk result (EachStandsIn (change_cluster topology.now.cluster event.now) shards.new.items) }
+    ensures done { IfOk result
+        (λ d. d ≡ done (held_by shards.old.items) (held_by shards.new.items)) }
+    ensures changed { OnOk result (held_by shards.new.items
+        ≡ change_holdings topology.now.cluster (held_by shards.old.items) event.now) }
+    ensures standing { OnOk result
+        (EachStandsIn (change_cluster topology.now.cluster event.now) shards.new.items) }
     ensures shards { AreShards (length shards.new.items) shards.new.items }
-    ensures rounds { (round pend : ℕ) → EachTook round pend shards.old.items → EachTook round pend shards.new.items }
+    ensures rounds { (round pend : ℕ) → EachTook round pend shards.old.items
+        → EachTook round pend shards.new.items }
     ensures unchanged { OnErr result (held_by shards.new.items ≡ held_by shards.old.items) }
     ensures still { OnErr result (EachStandsIn topology.now.cluster shards.new.items) }
     ensures refused { IfErr result (λ e. e ≡ Memory) }
@@ -157,10 +163,12 @@ fn commit_and_gather<R: Threads + Wait + Sync, G: Gate + Sync>(
     requires ready { All (CanCommit topology.now.cluster event.now) shards.items }
     requires shards { AreShards (length shards.items) shards.items }
     ensures done { result.1 ≡ done (held_by shards.items) (held_by result.0.items) }
-    ensures changed { held_by result.0.items ≡ change_holdings topology.now.cluster (held_by shards.items) event.now }
+    ensures changed { held_by result.0.items
+        ≡ change_holdings topology.now.cluster (held_by shards.items) event.now }
     ensures standing { EachStandsIn (change_cluster topology.now.cluster event.now) result.0.items }
     ensures shards { AreShards (length result.0.items) result.0.items }
-    ensures rounds { (round pend : ℕ) → EachTook round pend shards.items → EachTook round pend result.0.items }
+    ensures rounds { (round pend : ℕ) → EachTook round pend shards.items
+        → EachTook round pend result.0.items }
 {
     let made = commit_all(rt, gate, committing, shards, event, topology, multi);
     gather_committed(made, committed)

@@ -52,7 +52,9 @@ pub(crate) fn commit_one(
     requires multi { multi ≡ is_multi_rack (change_cluster topology.now.cluster event.now) }
     requires standing { StandsIn topology.now.cluster shard }
     requires ready { IsReadyFor event.now shard }
-    ensures holdings { result.shard.holdings ≡ change_part topology.now.cluster shard.holdings shard.part.index shard.part.shards event.now }
+    ensures holdings { result.shard.holdings
+        ≡ change_part topology.now.cluster shard.holdings shard.part.index
+        shard.part.shards event.now }
     ensures done { result.done ≡ done shard.holdings result.shard.holdings }
     ensures few { (result.done.added < 2 ^ 100) × (result.done.removed < 2 ^ 100) }
     ensures standing { StandsIn (change_cluster topology.now.cluster event.now) result.shard }

@@ -37,9 +37,12 @@ impl Fleet {
         requires multi { multi ≡ is_multi_rack (change_cluster topology.now.cluster event.now) }
         requires standing { StandsIn topology.now.cluster self.old }
         ensures done { IfOk result (λ d. d ≡ done self.old.holdings self.new.holdings) }
-        ensures changed { OnOk result (self.new.holdings ≡ change_holdings topology.now.cluster self.old.holdings event.now) }
-        ensures standing { OnOk result (StandsIn (change_cluster topology.now.cluster event.now) self.new) }
-        ensures rounds { (round pend : ℕ) → HasTaken round pend self.old → HasTaken round pend self.new }
+        ensures changed { OnOk result (self.new.holdings
+            ≡ change_holdings topology.now.cluster self.old.holdings event.now) }
+        ensures standing { OnOk result
+            (StandsIn (change_cluster topology.now.cluster event.now) self.new) }
+        ensures rounds { (round pend : ℕ) → HasTaken round pend self.old
+            → HasTaken round pend self.new }
         ensures unchanged { OnErr result (self.new.holdings ≡ self.old.holdings) }
         ensures still { OnErr result (StandsIn topology.now.cluster self.new) }
         ensures refused { IfErr result (Refuses None (takes_memory event.now)) }

@@ -23,7 +23,8 @@ type RowPlace = (usize, usize);
 /// list; its key and its place are copied as those of any list that is merged.
 pub(crate) fn joined_rows(alloc: Global, mut tables: Vec<Rows>) -> Result<Vec<Row>, Refusal>
     requires { AreSorted (map keyed_rows tables.items) }
-    ensures joined { IfOk result (λ v. v.items ≡ map (λ e. e.1) (put_all [] (flat_map keyed_rows tables.items))) }
+    ensures joined { IfOk result
+        (λ v. v.items ≡ map (λ e. e.1) (put_all [] (flat_map keyed_rows tables.items))) }
     ensures refused { IfErr result (λ e. e ≡ Memory) }
 {
     if tables.len() == 1 {
@@ -37,7 +38,8 @@ pub(crate) fn joined_rows(alloc: Global, mut tables: Vec<Rows>) -> Result<Vec<Ro
 /// The rows of all lists, each of which rises by block, in the order of the blocks.
 fn merged_rows(alloc: Global, tables: &[Rows]) -> Result<Vec<Row>, Refusal>
     requires { AreSorted (map keyed_rows tables.now) }
-    ensures joined { IfOk result (λ v. v.items ≡ map (λ e. e.1) (put_all [] (flat_map keyed_rows tables.now))) }
+    ensures joined { IfOk result
+        (λ v. v.items ≡ map (λ e. e.1) (put_all [] (flat_map keyed_rows tables.now))) }
     ensures refused { IfErr result (λ e. e ≡ Memory) }
 {
     let keyed = keyed_places(alloc, tables)?;

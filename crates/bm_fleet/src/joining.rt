@@ -12,7 +12,8 @@ use std::alloc::{AllocError, Global};
 /// log k times.
 pub(crate) fn joined<T: Copy>(alloc: Global, lists: &[Vec<(Key, T)>]) -> Result<Vec<T>, Refusal>
     requires { AreSorted (map (λ l. l.items) lists.now) }
-    ensures joined { IfOk result (λ v. v.items ≡ map (λ e. e.1) (put_all [] (flat_map (λ l. l.items) lists.now))) }
+    ensures joined { IfOk result
+        (λ v. v.items ≡ map (λ e. e.1) (put_all [] (flat_map (λ l. l.items) lists.now))) }
     ensures refused { IfErr result (λ e. e ≡ Memory) }
 {
     let merged = merge_all(alloc, lists)?;

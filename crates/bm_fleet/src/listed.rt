@@ -17,7 +17,9 @@ pub(crate) fn lists_of_replicas(
     alloc: Global,
     shards: &[(u32, Shard)],
 ) -> Result<Vec<Vec<(Key, Replica)>>, Refusal>
-    ensures lists { IfOk result (λ v. map (λ l. l.items) v.items ≡ map (λ s. map keyed_replica (queries.all_replicas s.1.holdings)) shards.now) }
+    ensures lists { IfOk result
+        (λ v. map (λ l. l.items) v.items
+        ≡ map (λ s. map keyed_replica (queries.all_replicas s.1.holdings)) shards.now) }
     ensures refused { IfErr result (λ e. e ≡ Memory) }
 {
     let mut lists = Vec::new(alloc);
@@ -34,7 +36,9 @@ pub(crate) fn lists_of_corrupt(
     alloc: Global,
     shards: &[(u32, Shard)],
 ) -> Result<Vec<Vec<(Key, ReplicaId)>>, Refusal>
-    ensures lists { IfOk result (λ v. map (λ l. l.items) v.items ≡ map (λ s. map keyed_id (queries.corrupt_replicas s.1.holdings)) shards.now) }
+    ensures lists { IfOk result
+        (λ v. map (λ l. l.items) v.items
+        ≡ map (λ s. map keyed_id (queries.corrupt_replicas s.1.holdings)) shards.now) }
     ensures refused { IfErr result (λ e. e ≡ Memory) }
 {
     let mut lists = Vec::new(alloc);
@@ -51,7 +55,9 @@ pub(crate) fn lists_of_excess(
     alloc: Global,
     shards: &[(u32, Shard)],
 ) -> Result<Vec<Vec<(Key, ReplicaId)>>, Refusal>
-    ensures lists { IfOk result (λ v. map (λ l. l.items) v.items ≡ map (λ s. map keyed_id (queries.excess_replicas s.1.holdings)) shards.now) }
+    ensures lists { IfOk result
+        (λ v. map (λ l. l.items) v.items
+        ≡ map (λ s. map keyed_id (queries.excess_replicas s.1.holdings)) shards.now) }
     ensures refused { IfErr result (λ e. e ≡ Memory) }
 {
     let mut lists = Vec::new(alloc);
@@ -70,7 +76,10 @@ pub(crate) fn lists_of_missing(
     topology: &Topology,
 ) -> Result<Vec<Vec<(Key, BlockId)>>, Refusal>
     requires { EachStandsIn topology.now.cluster shards.now }
-    ensures lists { IfOk result (λ v. map (λ l. l.items) v.items ≡ map (λ s. map keyed_block (queries.missing_blocks topology.now.cluster s.1.holdings)) shards.now) }
+    ensures lists { IfOk result
+        (λ v. map (λ l. l.items) v.items
+        ≡ map (λ s. map keyed_block (queries.missing_blocks topology.now.cluster s.1.holdings))
+        shards.now) }
     ensures refused { IfErr result (λ e. e ≡ Memory) }
 {
     let mut lists = Vec::new(alloc);
@@ -88,7 +97,9 @@ fn list_of_missing(
     topology: &Topology,
 ) -> Result<Vec<(Key, BlockId)>, Refusal>
     requires { StandsIn topology.now.cluster shard.now }
-    ensures list { IfOk result (λ v. v.items ≡ map keyed_block (queries.missing_blocks topology.now.cluster shard.now.holdings)) }
+    ensures list { IfOk result
+        (λ v. v.items ≡ map keyed_block
+        (queries.missing_blocks topology.now.cluster shard.now.holdings)) }
     ensures refused { IfErr result (λ e. e ≡ Memory) }
 {
     let _ = topology;
@@ -102,7 +113,9 @@ pub(crate) fn lists_of_blocks_on(
     shards: &[(u32, Shard)],
     storage: StorageId,
 ) -> Result<Vec<Vec<(Key, BlockId)>>, Refusal>
-    ensures lists { IfOk result (λ v. map (λ l. l.items) v.items ≡ map (λ s. map keyed_block (queries.blocks_on s.1.holdings storage)) shards.now) }
+    ensures lists { IfOk result
+        (λ v. map (λ l. l.items) v.items
+        ≡ map (λ s. map keyed_block (queries.blocks_on s.1.holdings storage)) shards.now) }
     ensures refused { IfErr result (λ e. e ≡ Memory) }
 {
     let mut lists = Vec::new(alloc);

@@ -1,5 +1,5 @@
 // An event on one block, made on the block's shard alone.
-ghost use Rattle.std.specs.Prelude.{◌≡◌, ◌<◌, ℕ, None, Some, IfOk, IfErr, OnOk, OnErr, length, slice_get};
+ghost use Rattle.std.specs.Prelude.{◌≡◌, ◌<◌, ◌≤◌, ℕ, None, Some, IfOk, IfErr, OnOk, OnErr, length, slice_get};
 ghost use Rattle.bm_base.specs.Replicas.{is_multi_rack};
 ghost use Rattle.bm_base.specs.Shards.{shard_of};
 ghost use Rattle.bm_base.specs.Events.{change_cluster, change_holdings};
@@ -13,7 +13,7 @@ ghost use Rattle.bm_fleet.specs.Whole.{AreShards, EachStandsIn, EachTook, held_b
 ghost use Rattle.bm_fleet.specs.Worked.{Accepts};
 ghost use Rattle.bm_fleet.specs.OneShard.{IsChanged, IsMadeAt};
 
-use bm_base::{BlockId, Done, Event, Refusal};
+use bm_base::{BlockId, Done, Event, Refusal, shard_of};
 use bm_shard::Shard;
 use bm_topo::Topology;
 
@@ -32,25 +32,30 @@ pub(crate) fn change_own(
     requires multi { multi ≡ is_multi_rack (change_cluster topology.now.cluster event.now) }
     requires shards { AreShards (length shards.old.items) shards.old.items }
     requires standing { EachStandsIn topology.now.cluster shards.old.items }
-    ensures done { IfOk result (λ d. d ≡ done (held_by shards.old.items) (held_by shards.new.items)) }
-    ensures changed { OnOk result (held_by shards.new.items ≡ change_holdings topology.now.cluster (held_by shards.old.items) event.now) }
-    ensures standing { OnOk result (EachStandsIn (change_cluster topology.now.cluster event.now) shards.new.items) }
+    ensures done { IfOk result
+        (λ d. d ≡ done (held_by shards.old.items) (held_by shards.new.items)) }
+    ensures changed { OnOk result (held_by shards.new.items
+        ≡ change_holdings topology.now.cluster (held_by shards.old.items) event.now) }
+    ensures standing { OnOk result
+        (EachStandsIn (change_cluster topology.now.cluster event.now) shards.new.items) }
     ensures shards { AreShards (length shards.new.items) shards.new.items }
-    ensures rounds { (round pend : ℕ) → EachTook round pend shards.old.items → EachTook round pend shards.new.items }
+    ensures rounds { (round pend : ℕ) → EachTook round pend shards.old.items
+        → EachTook round pend shards.new.items }
     ensures unchanged { OnErr result (held_by shards.new.items ≡ held_by shards.old.items) }
     ensures still { OnErr result (EachStandsIn topology.now.cluster shards.new.items) }
     ensures refused { IfErr result (Refuses None (takes_memory event.now)) }
 {
-    let place = place_of(id, shards.len());
+    let place = index_of_shard(id, shards.len());
     change_at(shards, place, event, topology, multi)
 }
 
 /// Where the shard of a block stands, of so many.
-pub(crate) fn place_of(id: BlockId, count: usize) -> usize
-    requires { 0 < count }
+pub(crate) fn index_of_shard(id: BlockId, count: usize) -> usize
+    requires some { 0 < count }
+    requires few { count ≤ 64 }
     ensures { result ≡ shard_of id count }
 {
-    (id.0 % count as u64) as usize
+    shard_of(id, count as u32) as usize
 }
 
 /// The block of an event on one block.
@@ -86,10 +91,14 @@ fn change_at(
 ) -> Result<Done, Refusal>
     requires place { place < length shards.old.items }
     requires cluster { first_of (cluster_checks topology.now.cluster event.now) ≡ None }
-    requires blocks { (s : ℕ × Seen) → slice_get shards.old.items place ≡ Some s → Accepts event.now s }
+    requires blocks { (s : ℕ × Seen) → slice_get shards.old.items place ≡ Some s
+        → Accepts event.now s }
     requires multi { multi ≡ is_multi_rack (change_cluster topology.now.cluster event.now) }
-    requires standing { (s : ℕ × Seen) → slice_get shards.old.items place ≡ Some s → StandsIn topology.now.cluster s.1 }
-    ensures changed { IfOk result (λ d. IsMadeAt (λ S T. IsChanged topology.now.cluster event.now S T d) place shards.old.items shards.new.items) }
+    requires standing { (s : ℕ × Seen) → slice_get shards.old.items place ≡ Some s
+        → StandsIn topology.now.cluster s.1 }
+    ensures changed { IfOk result
+        (λ d. IsMadeAt (λ S T. IsChanged topology.now.cluster event.now S T d) place
+        shards.old.items shards.new.items) }
     ensures same { OnErr result (IsMadeAt IsSameButRoom place shards.old.items shards.new.items) }
     ensures refused { IfErr result (Refuses None (takes_memory event.now)) }
 {

@@ -23,7 +23,8 @@ pub(crate) fn find_one(
     requires next { round ≡ shard.round + 1 }
     requires standing { StandsIn topology.now.cluster shard }
     ensures shard { result.shard ≡ shard }
-    ensures part { IfOk result.answer (λ p. p ≡ part_before bound (next_part topology.now.cluster shard)) }
+    ensures part { IfOk result.answer
+        (λ p. p ≡ part_before bound (next_part topology.now.cluster shard)) }
     ensures refused { IfErr result.answer (λ e. e ≡ Memory) }
 {
     let answer = shard.round_part_before(round, topology, bound);
@@ -31,7 +32,7 @@ pub(crate) fn find_one(
 }
 
 /// Takes the memory of a round in one shard.
-pub(crate) fn ready_one(
+pub(crate) fn prepare_round_one(
     mut shard: Shard,
     part: &RoundPart,
     chosen: &Chosen,
@@ -46,7 +47,7 @@ pub(crate) fn ready_one(
 }
 
 /// Takes the next round in one shard that is ready for it.
-pub(crate) fn finish_one(
+pub(crate) fn commit_round_one(
     mut shard: Shard,
     part: &RoundPart,
     chosen: &Chosen,
@@ -56,7 +57,9 @@ pub(crate) fn finish_one(
     requires part { part.now.excess ≡ (next_part topology.now.cluster shard).excess }
     requires ready { IsReadyForRound chosen.now shard }
     requires counted { shard.round + 1 < 2 ^ 64 }
-    ensures holdings { result.holdings ≡ round_on_part topology.now.cluster shard.pend (shard.round + 1) shard.holdings shard.part.index shard.part.shards chosen.now.transfers chosen.now.deletes }
+    ensures holdings { result.holdings
+        ≡ round_on_part topology.now.cluster shard.pend (shard.round + 1) shard.holdings
+        shard.part.index shard.part.shards chosen.now.transfers chosen.now.deletes }
     ensures standing { StandsIn topology.now.cluster result }
     ensures part { result.part ≡ shard.part }
     ensures rounds { (result.round ≡ shard.round + 1) × (result.pend ≡ shard.pend) }

@@ -4,11 +4,11 @@ ghost use Rattle.std.specs.List.{All, AllZip};
 ghost use Rattle.bm_parts.specs.Before.{part_before};
 ghost use Rattle.bm_shard.specs.Standing.{next_part};
 ghost use Rattle.bm_fleet.specs.FromShards.{HasAnswered};
-ghost use Rattle.bm_fleet.specs.RoundWorked.{CanFind, HasPart, IsReadied, CanFinish, IsFinished};
+ghost use Rattle.bm_fleet.specs.RoundWorked.{CanFind, HasPart, IsPreparedForRound, CanCommitRound, HasTakenRound};
 
 use crate::answered::Answered;
 use crate::crewed::Prepared;
-use crate::round_crewed::{find_one, finish_one, ready_one};
+use crate::round_crewed::{commit_round_one, find_one, prepare_round_one};
 use bm_base::{Chosen, RoundPart};
 use bm_crew::{Gate, Ready};
 use bm_parts::merge::Key;
@@ -30,11 +30,14 @@ pub(crate) fn find_all<R: Threads + Wait + Sync, G: Gate + Sync>(
     requires room { vec_len shards ≤ ready.room }
     requires shards { All (CanFind topology.now.cluster round) shards.items }
     ensures len { vec_len result ≡ vec_len shards }
-    ensures each { AllZip (HasAnswered (λ S. part_before bound (next_part topology.now.cluster S))) shards.items result.items }
+    ensures each { AllZip (HasAnswered (λ S. part_before bound (next_part topology.now.cluster S)))
+        shards.items result.items }
 {
     let work = |index: u32, shard: Shard| -> Answered<RoundPart>
         requires { CanFind topology.now.cluster round (index, shard) }
-        ensures { HasAnswered (λ S. part_before bound (next_part topology.entry.now.cluster S)) (index, shard) (index, result) }
+        ensures { HasAnswered
+            (λ S. part_before bound (next_part topology.entry.now.cluster S)) (index, shard)
+            (index, result) }
     {
         let _ = index;
         find_one(shard, round, topology, bound)
@@ -42,8 +45,8 @@ pub(crate) fn find_all<R: Threads + Wait + Sync, G: Gate + Sync>(
     ready.run(rt, shards, &work, gate)
 }
 
-/// Takes the memory of a round in each shard. Each is as it was but for room; it is ready for the round, or it was refused.
-pub(crate) fn ready_all<R: Threads + Wait + Sync, G: Gate + Sync>(
+/// Prepares all shards for a round. Each is as it was but for room; it is ready for the round, or it was refused.
+pub(crate) fn prepare_round_all<R: Threads + Wait + Sync, G: Gate + Sync>(
     rt: &R,
     gate: &G,
     ready: Ready<Shard, Prepared>,
@@ -55,14 +58,14 @@ pub(crate) fn ready_all<R: Threads + Wait + Sync, G: Gate + Sync>(
     requires room { vec_len shards ≤ ready.room }
     requires shards { All (HasPart topology.now.cluster parts.now) shards.items }
     ensures len { vec_len result ≡ vec_len shards }
-    ensures each { AllZip (IsReadied chosen.now) shards.items result.items }
+    ensures each { AllZip (IsPreparedForRound chosen.now) shards.items result.items }
 {
     let work = |index: u32, shard: Shard| -> Prepared
         requires { HasPart topology.now.cluster parts.now (index, shard) }
-        ensures { IsReadied chosen.entry.now (index, shard) (index, result) }
+        ensures { IsPreparedForRound chosen.entry.now (index, shard) (index, result) }
     {
         match parts.get(index as usize) {
-            Some(part) => ready_one(shard, part, chosen, topology),
+            Some(part) => prepare_round_one(shard, part, chosen, topology),
             None => unreachable!(),
         }
     };
@@ -70,7 +73,7 @@ pub(crate) fn ready_all<R: Threads + Wait + Sync, G: Gate + Sync>(
 }
 
 /// Takes the next round in each shard, each of which is ready for it. Refuses nothing.
-pub(crate) fn finish_all<R: Threads + Wait + Sync, G: Gate + Sync>(
+pub(crate) fn commit_round_all<R: Threads + Wait + Sync, G: Gate + Sync>(
     rt: &R,
     gate: &G,
     ready: Ready<Shard, Shard>,
@@ -80,16 +83,18 @@ pub(crate) fn finish_all<R: Threads + Wait + Sync, G: Gate + Sync>(
     topology: &Topology,
 ) -> Vec<(u32, Shard)>
     requires room { vec_len shards ≤ ready.room }
-    requires shards { All (CanFinish topology.now.cluster parts.now chosen.now) shards.items }
+    requires shards { All (CanCommitRound topology.now.cluster parts.now chosen.now) shards.items }
     ensures len { vec_len result ≡ vec_len shards }
-    ensures each { AllZip (IsFinished topology.now.cluster chosen.now) shards.items result.items }
+    ensures each { AllZip (HasTakenRound topology.now.cluster chosen.now) shards.items
+        result.items }
 {
     let work = |index: u32, shard: Shard| -> Shard
-        requires { CanFinish topology.now.cluster parts.now chosen.now (index, shard) }
-        ensures { IsFinished topology.entry.now.cluster chosen.entry.now (index, shard) (index, result) }
+        requires { CanCommitRound topology.now.cluster parts.now chosen.now (index, shard) }
+        ensures { HasTakenRound topology.entry.now.cluster chosen.entry.now (index, shard)
+            (index, result) }
     {
         match parts.get(index as usize) {
-            Some(part) => finish_one(shard, part, chosen, topology),
+            Some(part) => commit_round_one(shard, part, chosen, topology),
             None => unreachable!(),
         }
     };

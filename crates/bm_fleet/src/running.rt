@@ -64,7 +64,8 @@ pub(crate) fn commit_all<R: Threads + Wait + Sync, G: Gate + Sync>(
         requires every { block_of event.now ≡ None }
         requires multi { multi ≡ is_multi_rack (change_cluster topology.now.cluster event.now) }
         requires shard { CanCommit topology.now.cluster event.now (index, shard) }
-        ensures { IsCommitted topology.entry.now.cluster event.entry.now (index, shard) (index, result) }
+        ensures { IsCommitted topology.entry.now.cluster event.entry.now (index, shard)
+            (index, result) }
     {
         let _ = index;
         commit_one(shard, event, topology, multi)

@@ -3,7 +3,7 @@ use Rattle.std.specs.Prelude.{◌≡◌, ◌≢◌, ℕ, Bool, true, false, not,
 use Rattle.std.specs.Option.{option_map_or}
 use Rattle.std.specs.Map.{lookup, set_value}
 use Rattle.std.proofs.Common.{cond, eqb, refl, sym, ap, subst, ◌∙◌, inl, inr}
-use Rattle.std.proofs.lemmas.Option.{same_Some}
+use Rattle.std.proofs.lemmas.Option.{same_Some, none-some}
 use Rattle.std.proofs.lemmas.Bool.{cases_eq, cases_Bool, eq-eqb, false≢true}
 use Rattle.bm_base.specs.declared.replica.Marks.{Marks}
 use Rattle.bm_base.specs.Map.{get}
@@ -14,11 +14,9 @@ use Rattle.bm_arena.specs.Triplets.{Block}
 use Rattle.bm_arena.specs.Contents.{Contents, block_at, slot_of, find_marks, list_of, HasHead, unlinked, IsLawful}
 use Rattle.bm_arena.specs.Holding.{replicas_at, replicas_of, blocks_of, info_at}
 use Rattle.bm_report.specs.Aborted.{is_bare_number}
+use Rattle.bm_report.proofs.Maps.{get-here}
 use Rattle.bm_levels.specs.Bare.{IsBare, HasNoneBare, MakesNoneBare, MakesBareOnly, KeepsSlots}
-use Rattle.bm_levels.proofs.Revising.{known_at, held_at}
-
-none_some : {X : Type 0} {x : X} → None ≡ Some x → ⊥
-none_some e = cc
+use Rattle.bm_levels.proofs.Revising.{known_at}
 
 -- with an entry of no number more, and no block and no replica less
 pub bare_before : (a c : Contents) (b : ℕ) → IsSome (slot_of a b) → (get (blocks_of c) b ≡ None → get (blocks_of a) b ≡ None)
@@ -58,7 +56,7 @@ module _ (a : Contents) (b slot : ℕ) (led : slot_of a b ≡ Some slot) (bare :
       by : (rs : List (ℕ × Marks)) → replicas_at a slot ≡ rs → rs ≡ []
       by [] e = refl
       by (r ∷ rs) e =
-          absurd (none_some (sym (bare.empty r.0) ∙ held_at a b slot r.0 led ∙ sym (listed_marks (block_at a slot) r.0) ∙ ap (λ l. find_marks l r.0) e
+          absurd (none-some _ (sym (bare.empty r.0) ∙ get-here a b slot r.0 led ∙ sym (listed_marks (block_at a slot) r.0) ∙ ap (λ l. find_marks l r.0) e
           ∙ ap (λ t. cond t (Some r.1) (find_marks rs r.0)) (eq-eqb r.0 r.0 refl)))
 
   pub bare_counted : IsLawful a → is_bare_number a b ≡ true
@@ -78,7 +76,7 @@ module _ (a c : Contents) (slot : ℕ) (blocks : blocks_of c ≡ blocks_of a) (r
     where
       by : (o : Option ℕ) → slot_of a b ≡ o → IsSome o
       by (Some x) e = refl
-      by None e = absurd (let P : Option ℕ → Type 0 = λ o. IsSome o in false≢true (subst P (numbers b (λ f. none_some (sym e ∙ f)) ∙ e) some))
+      by None e = absurd (let P : Option ℕ → Type 0 = λ o. IsSome o in false≢true (subst P (numbers b (λ f. none-some _ (sym e ∙ f)) ∙ e) some))
 
   pub bare_dropped : MakesNoneBare a c
   bare_dropped b bare = bare_held a c b (was_there b bare.entry) blocks replicas bare
@@ -94,7 +92,7 @@ pub bare_elsewhere : (a m : Contents) (b x : ℕ) → slot_of a b ≡ Some x →
 bare_elsewhere a m b x here led still =
     bare_before a m b (ap is_some here)
     (λ e. known_at a b x here ∙ sym (ap (λ o. option_and_then (λ (k : Block). k.info) o) still) ∙ sym (known_at m b x led) ∙ e)
-    (λ s e. held_at a b x s here ∙ sym (ap (λ o. option_and_then (λ (k : Block). find_marks k.replicas s) o) still) ∙ sym (held_at m b x s led) ∙ e)
+    (λ s e. get-here a b x s here ∙ sym (ap (λ o. option_and_then (λ (k : Block). find_marks k.replicas s) o) still) ∙ sym (get-here m b x s led) ∙ e)
 
 -- Before the entry at a slot is dropped, the block there alone changed.
 pub bare_changed : (a m c : Contents) (slot : ℕ) → m.ids ≡ a.ids → ((other : ℕ) → other ≢ slot → block_at m other ≡ block_at a other) → blocks_of c ≡ blocks_of m → replicas_of c ≡ replicas_of m
@@ -149,7 +147,7 @@ pub slots_kept : (a c : Contents) (slot : ℕ) → ((id : ℕ) → slot_of a id 
 slots_kept a c slot numbers gone b some = by (slot_of a b) refl
   where
     by : (o : Option ℕ) → slot_of a b ≡ o → slot_of c b ≡ slot_of a b
-    by None e = numbers b (λ f. none_some (sym e ∙ f))
+    by None e = numbers b (λ f. none-some _ (sym e ∙ f))
     by (Some x) e =
         elim (cases_eq x slot) [
           | inl same ↦ absurd (let P : Option ℕ → Type 0 = λ o. IsSome o in false≢true (subst P (gone b (e ∙ ap (λ y. Some y) same)) some))

@@ -1,5 +1,5 @@
 -- Where the entry of a number with neither a block nor a replica is dropped, nothing that is held changes.
-use Rattle.std.specs.Prelude.{◌≡◌, ◌≢◌, ◌↔◌, ℕ, IsSome, Bool, true, false, ◌==◌, if◌then◌else◌, [], Option, Some, None, option_and_then, is_some, IsSomeAnd}
+use Rattle.std.specs.Prelude.{◌≡◌, ◌≢◌, ◌↔◌, ℕ, IsSome, Bool, true, false, ◌==◌, if◌then◌else◌, [], Option, Some, None, option_and_then, IsSomeAnd}
 use Rattle.std.specs.Option.{option_map_or}
 use Rattle.std.proofs.Common.{refl, sym, ap, subst, ◌∙◌, inl, inr}
 use Rattle.std.proofs.lemmas.Option.{same_Some}
@@ -133,10 +133,6 @@ emptied old c slot id lawful here bare unknown after entries numbers =
       leveled = leveled_still old c slot k lawful e f.0 none info entries (numbers k e) (ap (λ (x : Contents). x.delimiter) is);
       levels = levels_still old c slot k lawful e f.0 none info entries (numbers k e) (ap (λ (x : Contents). x.delimiter) is);
     }
-
-pub no_value : {X : Type 0} (o : Option X) → is_some o ≡ false → o ≡ None
-no_value None e = refl
-no_value (Some x) e = cc
 
 -- a slot that is led to, with no replica in its list, is bare
 pub bare_at : (a : Contents) (slot id : ℕ) → IsLawful a → slot_of a id ≡ Some slot → replicas_at a slot ≡ [] → IsSomeAnd (block_at a slot) (λ (b : Block). b.replicas ≡ [])

@@ -4,8 +4,7 @@
 --     excess_next, excess_end                the replicas that are too many
 use Rattle.std.specs.Prelude.{◌≡◌, ℕ, Bool, true, false, ◌&&◌, ◌||◌, ◌==◌, if◌then◌else◌, List, [], ◌∷◌, Option, Some, None, option_map}
 use Rattle.std.specs.Ordering.{eq_by_cmp}
-use Rattle.std.proofs.Common.{cond, refl, sym, ap, ◌∙◌, arith}
-use Rattle.std.proofs.lemmas.Bool.Decides.{nat_tests}
+use Rattle.std.proofs.Common.{cond, refl, sym, ap, ◌∙◌}
 use Rattle.bm_base.specs.declared.replica.ReplicaId.{ReplicaId}
 use Rattle.bm_base.specs.declared.replica.Marks.{Marks}
 use Rattle.bm_base.specs.declared.commands.Delete.{Delete}
@@ -16,6 +15,7 @@ use Rattle.bm_base.specs.RoundParts.{own_deletes}
 use Rattle.bm_base.specs.Shards.{shard_of}
 use Rattle.bm_base.proofs.MapLaws.{same_map, get-revise}
 use Rattle.bm_base.proofs.Ties.{replica_tie}
+use Rattle.bm_base.proofs.Clusters.{eqb_turned}
 use Rattle.bm_levels.specs.Changes.{as_ordered, as_excess, has_replica}
 
 mapped_twice : {X : Type 0} (f g h : X → X) (v : Option X) → ((x : X) → f (g x) ≡ h x) → option_map f (option_map g v) ≡ option_map h v
@@ -26,9 +26,6 @@ unmapped : {X : Type 0} (v : Option X) → v ≡ option_map (λ x. x) v
 unmapped None = refl
 unmapped (Some x) = refl
 
-same_number : (a b : ℕ) → (a == b) ≡ (b == a)
-same_number a b = grind (arith, nat_tests)
-
 and_swap : (s t : Bool) → (s && t) ≡ (t && s)
 and_swap true true = refl
 and_swap true false = refl
@@ -36,7 +33,7 @@ and_swap false true = refl
 and_swap false false = refl
 
 its_key : (q p : ReplicaId) → eq_by_cmp replica_cmp q p ≡ ((p.storage == q.storage) && (p.block == q.block))
-its_key q p = replica_tie q p ∙ and_swap (q.block == p.block) (q.storage == p.storage) ∙ (λ i. same_number q.storage p.storage i && same_number q.block p.block i)
+its_key q p = replica_tie q p ∙ and_swap (q.block == p.block) (q.storage == p.storage) ∙ (λ i. eqb_turned q.storage p.storage i && eqb_turned q.block p.block i)
 
 module _ (f : Marks → Marks) (again : (x : Marks) → f (f x) ≡ f x) (m : Map by_replica Marks) where
   abbrev flagged : (ReplicaId → Bool) → Map by_replica Marks

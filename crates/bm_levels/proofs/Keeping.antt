@@ -31,11 +31,6 @@ among_in slot [] i e = cc
 among_in slot (x ∷ xs) zero e = inl (same_Some slot x (sym e))
 among_in slot (x ∷ xs) (suc i) e = inr (among_in slot xs i e)
 
-pub among_front : (slot : ℕ) (xs ys : List ℕ) → Among slot xs → Among slot (xs ++ ys)
-among_front slot [] ys h = absurd h
-among_front slot (x ∷ xs) ys (inl here) = inl here
-among_front slot (x ∷ xs) ys (inr later) = inr (among_front slot xs ys later)
-
 pub among_back : (slot : ℕ) (xs ys : List ℕ) → Among slot ys → Among slot (xs ++ ys)
 among_back slot [] ys h = h
 among_back slot (x ∷ xs) ys h = inr (among_back slot xs ys h)

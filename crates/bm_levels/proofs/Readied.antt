@@ -209,24 +209,6 @@ module _ (a c : Contents) (lawful_a : IsLawful a) (lawful_c : IsLawful c) (prepa
         by differs (Some k) e there = was k.id k (lawful_d.known slot k e differs) (slot_of a k.id) refl
         by differs None e there = absurd (false≢true (sym (ap is_some e) ∙ there))
 
--- an arena is prepared for what it was
-pub as_prepared : (a : Contents) → IsPrepared a a
-as_prepared a = record {
-  replicas = refl;
-  blocks = refl;
-  lists = λ t. refl;
-  heads = λ t h. h;
-  delimiter = refl;
-  steps = refl;
-  slots = λ b slot e. e;
-  held = λ slot h. h;
-  marks = λ slot t h. refl;
-  room = λ slot ne h. h;
-  entries = λ slot b e. e ∙ ap (λ n. Some (with_room n b)) (sym (ap (λ o. option_map_or (λ (k : Block). k.room) o 0) e));
-  grows = λ slot. omega arith;
-  bound = omega arith;
-}
-
--- and has no number that it had not
+-- an arena has no number that it has not
 pub none_fresh : (a : Contents) (named : ℕ → Bool) (b : ℕ) → slot_of a b ≡ None → IsSome (slot_of a b) → IsTrue (named b)
 none_fresh a named b none some = absurd (let P : Option ℕ → Type 0 = λ o. IsSome o in false≢true (subst P none some))

@@ -7,6 +7,7 @@ use Rattle.std.specs.Prelude.{◌≡◌, ℕ, Bool, true, false, ◌==◌, if◌
 use Rattle.std.specs.Ordering.{eq_by_cmp}
 use Rattle.std.proofs.Common.{cond, refl, sym, ap, ◌∙◌, inl, inr}
 use Rattle.std.proofs.lemmas.Bool.{cases_Bool, eqb-true, eq-eqb}
+use Rattle.std.proofs.lemmas.Option.{none-some}
 use Rattle.bm_base.specs.declared.replica.Marks.{Marks}
 use Rattle.bm_base.specs.declared.replica.BlockInfo.{BlockInfo}
 use Rattle.bm_base.specs.Map.{Map, Order, by_number, get, insert, remove, revise, revise_at}
@@ -17,6 +18,7 @@ use Rattle.bm_base.proofs.Replacing.{same_change, no_change, insert_there}
 use Rattle.bm_arena.specs.Contents.{Contents, slot_of, marks_at, find_marks}
 use Rattle.bm_arena.specs.Holding.{replicas_at, replicas_of, blocks_of, info_at, with_known}
 use Rattle.bm_arena.proofs.Held.{get-replicas_of, get-blocks_of}
+use Rattle.bm_report.proofs.Maps.{get-here}
 use Rattle.bm_levels.proofs.AllMarks.{marks_listed}
 
 module _ {K X : Type 0} {o : Order K} (m : Map o X) (k : K) where
@@ -41,9 +43,6 @@ known_revised m b f = by (get m b) refl
 -- what is known at the slot of a number
 pub known_at : (a : Contents) (b slot : ℕ) → slot_of a b ≡ Some slot → get (blocks_of a) b ≡ info_at a slot
 known_at a b slot here = get-blocks_of a b ∙ ap (λ o. option_and_then (λ x. info_at a x) o) here
-
-pub held_at : (a : Contents) (b slot s : ℕ) → slot_of a b ≡ Some slot → get (replicas_of a) (replica_at b s) ≡ marks_at a slot s
-held_at a b slot s here = get-replicas_of a (replica_at b s) ∙ ap (λ o. option_and_then (λ x. marks_at a x s) o) here
 
 pub block_absent : (a : Contents) (b : ℕ) → slot_of a b ≡ None → get (blocks_of a) b ≡ None
 block_absent a b none = get-blocks_of a b ∙ ap (λ o. option_and_then (λ x. info_at a x) o) none
@@ -72,13 +71,10 @@ pub entry_left : (b c : Contents) (id slot : ℕ) → slot_of b id ≡ Some slot
     → (z : ℕ) → slot_of c id ≡ Some z → replicas_at c z ≡ [] → ⊥
 entry_left b c id slot here same gone z led empty = by (replicas_at b slot) refl
   where
-    none_some : {X : Type 0} {x : X} → None ≡ Some x → ⊥
-    none_some e = cc
-
     by : (rs : List (ℕ × Marks)) → replicas_at b slot ≡ rs → ⊥
-    by [] e = none_some (sym (gone e) ∙ led)
+    by [] e = none-some _ (sym (gone e) ∙ led)
     by (r ∷ rs) e =
         let was : get (replicas_of b) (replica_at id r.0) ≡ Some r.1 =
-        held_at b id slot r.0 here ∙ sym (marks_listed b slot r.0) ∙ ap (λ l. find_marks l r.0) e ∙ ap (λ t. cond t (Some r.1) (find_marks rs r.0)) (eq-eqb r.0 r.0 refl) in
-        let now : get (replicas_of c) (replica_at id r.0) ≡ None = held_at c id z r.0 led ∙ sym (marks_listed c z r.0) ∙ ap (λ l. find_marks l r.0) empty in
-        none_some (sym now ∙ ap (λ m. get m (replica_at id r.0)) same ∙ was)
+        get-here b id slot r.0 here ∙ sym (marks_listed b slot r.0) ∙ ap (λ l. find_marks l r.0) e ∙ ap (λ t. cond t (Some r.1) (find_marks rs r.0)) (eq-eqb r.0 r.0 refl) in
+        let now : get (replicas_of c) (replica_at id r.0) ≡ None = get-here c id z r.0 led ∙ sym (marks_listed c z r.0) ∙ ap (λ l. find_marks l r.0) empty in
+        none-some _ (sym now ∙ ap (λ m. get m (replica_at id r.0)) same ∙ was)

@@ -14,6 +14,7 @@ use Rattle.bm_base.specs.State.{by_replica, replica_at}
 use Rattle.bm_base.specs.Replicas.{is_good, is_usable, storages_where}
 use Rattle.bm_arena.specs.Triplets.{Block}
 use Rattle.bm_arena.specs.Contents.{Contents, block_at, slot_of, find_marks, IsLawful}
+use Rattle.bm_base.proofs.Options.{fails_not}
 use Rattle.bm_levels.specs.Judged.{storages_at, is_plain, is_settled_at}
 use Rattle.bm_levels.specs.Held.{holdings_with}
 use Rattle.bm_levels.proofs.Levels.{found_marks, found_info, as_many}
@@ -36,16 +37,12 @@ parts_of : (a b : Bool) → (not a && b) ≡ true → (a ≡ false) × (b ≡ tr
 parts_of true b e = cc
 parts_of false b e = (refl, e)
 
-not_not : (b : Bool) → not b ≡ false → b ≡ true
-not_not true e = refl
-not_not false e = cc
-
 each_plain : (rs : List (ℕ × Marks)) (s : ℕ) (m : Marks) → list_any (λ (r : ℕ × Marks). not (is_plain r.1)) rs ≡ false → find_marks rs s ≡ Some m → is_plain m ≡ true
 each_plain [] s m e f = cc
 each_plain (r ∷ rs) s m e f =
     let h = or_parts (not (is_plain r.1)) (list_any (λ (x : ℕ × Marks). not (is_plain x.1)) rs) e in
     (elim (r.0 == s) as (λ b. (if b then Some r.1 else find_marks rs s) ≡ Some m → is_plain m ≡ true) [
-      | true ↦ λ g. let same : r.1 ≡ m = (cc) in ap is_plain (sym same) ∙ not_not (is_plain r.1) h.0
+      | true ↦ λ g. let same : r.1 ≡ m = (cc) in ap is_plain (sym same) ∙ fails_not (is_plain r.1) h.0
       | false ↦ λ g. each_plain rs s m h.1 g
     ]) f
 

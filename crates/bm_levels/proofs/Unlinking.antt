@@ -10,12 +10,12 @@ use Rattle.bm_base.proofs.Options.{there}
 use Rattle.bm_arena.specs.Triplets.{Block}
 use Rattle.bm_arena.specs.Contents.{Contents, block_at, slot_of, list_of, marks_at, find_marks, known_of, unlinked, IsLawful, KeepsOthers}
 use Rattle.bm_arena.specs.Holding.{replicas_of, blocks_of}
+use Rattle.bm_arena.proofs.Replicas.{Among-left}
 use Rattle.bm_levels.specs.Bare.{MakesNoneBare, HasNoneBareAt, KeepsSlots}
 use Rattle.bm_levels.specs.Kept.{Kept, HasRoomFor, IsJudged, IsSameAt}
 use Rattle.bm_levels.specs.Leaving.{IsLeaving, MakesNoHead}
 use Rattle.bm_levels.specs.Leveled.{Leveled, IsLeveled}
 use Rattle.bm_levels.specs.LevelsBy.{AreLevelsBy}
-use Rattle.bm_levels.proofs.Keeping.{among_front}
 use Rattle.bm_levels.proofs.Leaving.{apart_from, led_by, leaving_none, leaving_one, leaving_more}
 use Rattle.bm_levels.proofs.ManySlots.{leveled_many, levels_many}
 use Rattle.bm_levels.proofs.Bare.{heads_unlinked, bare_held, bare_elsewhere, some_before, same_numbers}
@@ -84,7 +84,7 @@ module _ (s : ℕ) (all left rest : List ℕ) (a b : Contents) (n x : ℕ) (h : 
 
 -- some of the first slots of a list
 pub listed_in : (l slots rest : List ℕ) → l ≡ slots ++ rest → (slot : ℕ) → Among slot slots → Among slot l
-listed_in l slots rest e slot there = let P : List ℕ → Type 0 = λ l. Among slot l in subst P (sym e) (among_front slot slots rest there)
+listed_in l slots rest e slot there = let P : List ℕ → Type 0 = λ l. Among slot l in subst P (sym e) (Among-left slot slots rest there)
 
 -- The blocks at the first slots of a list are judged anew after their replicas have gone: all that holds between calls holds again.
 module _ (rack : ℕ → Option ℕ) (draining : ℕ → Bool) (multi : Bool) (old : Leveled) (a : Contents) (K : Kept) (s : ℕ) (slots rest : List ℕ) (first : list_of old.arena s ≡ slots ++ rest)

@@ -1,10 +1,10 @@
 -- Entries with neither a block nor a replica: a number has such a one only while an event that is prepared may need it.
-use Rattle.std.specs.Prelude.{◌≡◌, ◌≢◌, ℕ, Bool, false, List, None, Some, IsSome, IsTrue}
+use Rattle.std.specs.Prelude.{◌≡◌, ◌≢◌, ℕ, Bool, false, List, [], None, Some, IsSome, IsTrue}
 use Rattle.bm_base.specs.Map.{get}
 use Rattle.bm_base.specs.State.{replica_at}
 use Rattle.bm_base.specs.SlotLists.{Among}
 use Rattle.bm_arena.specs.Contents.{Contents, block_at, slot_of}
-use Rattle.bm_arena.specs.Holding.{replicas_of, blocks_of}
+use Rattle.bm_arena.specs.Holding.{replicas_at, replicas_of, blocks_of}
 
 -- the number has an entry, and neither a known block nor a replica
 pub record IsBare (a : Contents) (b : ℕ) : Type 0 where
@@ -12,6 +12,11 @@ pub record IsBare (a : Contents) (b : ℕ) : Type 0 where
   pub unknown : get (blocks_of a) b ≡ None
   pub empty : (s : ℕ) → get (replicas_of a) (replica_at b s) ≡ None
 
+-- it has none, or one with a replica
+abbrev pub HasNoEmptyEntry : Contents → ℕ → Type 0
+HasNoEmptyEntry a b = (slot : ℕ) → slot_of a b ≡ Some slot → replicas_at a slot ≢ []
+
+-- no number is bare
 abbrev pub HasNoneBare : Contents → Type 0
 HasNoneBare a = (b : ℕ) → IsBare a b → ⊥
 
@@ -35,6 +40,10 @@ MakesBareOnly these old new = (b : ℕ) → these b ≡ false → IsBare new b �
 abbrev pub KeepsSlots : Contents → Contents → Type 0
 KeepsSlots old new = (b : ℕ) → IsSome (slot_of new b) → slot_of new b ≡ slot_of old b
 
--- the blocks at other slots are as they were; the delimiter is none
+-- the blocks at all slots but these are as before
+abbrev pub KeepsBlocksOutside : List ℕ → Contents → Contents → Type 0
+KeepsBlocksOutside slots old new = (slot : ℕ) → (Among slot slots → ⊥) → block_at new slot ≡ block_at old slot
+
+-- the same of all slots but the delimiter
 abbrev pub IsSameBeside : List ℕ → Contents → Contents → Type 0
 IsSameBeside slots old new = (slot : ℕ) → slot ≢ old.delimiter → (Among slot slots → ⊥) → block_at new slot ≡ block_at old slot

@@ -5,7 +5,13 @@ use Rattle.bm_base.specs.declared.replica.ReplicaId.{ReplicaId}
 use Rattle.bm_base.specs.declared.replica.Marks.{Marks}
 use Rattle.bm_base.specs.declared.replica.Stamp.{Stamp}
 use Rattle.bm_base.specs.declared.replica.BlockInfo.{BlockInfo}
+use Rattle.bm_base.specs.declared.commands.Delete.{Delete}
 use Rattle.bm_base.specs.Events.{as_stray, as_restamped}
+use Rattle.bm_base.specs.Rounds.{is_commanded}
+use Rattle.bm_base.specs.State.{Holdings}
+use Rattle.bm_base.specs.Excess.{without_unordered_excess}
+use Rattle.bm_arena.specs.Contents.{Contents}
+use Rattle.bm_arena.specs.Holding.{holdings_of}
 use Rattle.bm_levels.specs.declared.marking.MarkChange.{MarkChange}
 use Rattle.bm_levels.specs.declared.marking.MarkChange.TheVariants.{Deleted, Restamped, RoundBegun}
 
@@ -18,6 +24,10 @@ unfoldable pub changed : MarkChange → Marks → Marks
 changed Deleted m = as_stray m
 changed Restamped m = as_restamped m
 changed RoundBegun m = as_begun m
+
+-- what is held as a round begins: a replica in excess counts again where its delete was not ordered
+abbrev pub at_round_start : Contents → Holdings
+at_round_start a = without_unordered_excess (holdings_of a)
 
 -- the replicas at a slot, each with its marks changed
 abbrev pub all_changed : (Marks → Marks) → List (ℕ × Marks) → List (ℕ × Marks)
@@ -45,3 +55,7 @@ as_excess m = record m { excess = true }
 
 abbrev pub as_ordered : Marks → Marks
 as_ordered m = record m { ordered = true }
+
+-- the marks of a replica once these deletes are ordered
+abbrev pub ordered_by : List Delete → ReplicaId → Marks → Marks
+ordered_by ds q m = if is_commanded ds q then as_ordered m else m

@@ -1,12 +1,14 @@
 -- What is kept of blocks beside their replicas, by slot.
-use Rattle.std.specs.Prelude.{◌≡◌, ◌↔◌, ℕ, ◌≤◌, Bool, false, List, length, map, Option}
+use Rattle.std.specs.Prelude.{◌≡◌, ◌↔◌, ℕ, ◌+◌, ◌<◌, ◌≤◌, Bool, false, List, length, map, Option, Some, slice_get, slice_index_or}
 use Rattle.bm_base.specs.declared.level.Level.{Level}
 use Rattle.bm_base.specs.SlotLists.{Among}
+use Rattle.bm_base.specs.State.{Cluster}
+use Rattle.bm_base.specs.Replicas.{rack_of, is_draining, is_multi_rack}
 use Rattle.bm_queues.specs.Levels.{Levels, level_at}
 use Rattle.bm_queues.specs.Members.{Members}
 use Rattle.bm_queues.specs.Walks.{slots_from, IsOn, IsPast}
 use Rattle.bm_arena.specs.Triplets.{Block}
-use Rattle.bm_arena.specs.Contents.{Contents}
+use Rattle.bm_arena.specs.Contents.{Contents, block_at}
 use Rattle.bm_levels.specs.declared.judging.Judged.{Judged}
 use Rattle.bm_levels.specs.Judged.{level_by, is_settled_at}
 
@@ -25,10 +27,32 @@ IsUnsettled K slot = Among slot K.unsettled.slots
 abbrev pub HasRoomFor : Kept → ℕ → Type 0
 HasRoomFor K bound = (bound ≤ length K.levels.levels) × (bound ≤ K.unsettled.room)
 
+-- there is room for a slot, and for each of these
+abbrev pub HasRoomAt : Kept → ℕ → Type 0
+HasRoomAt K slot = (bound : ℕ) × (slot < bound) × HasRoomFor K bound
+
+abbrev pub HasRoomForEach : Kept → List ℕ → Type 0
+HasRoomForEach K slots = (slot : ℕ) → Among slot slots → HasRoomFor K (slot + 1)
+
+-- a change leaves the room that there is
+abbrev pub KeepsRoom : Kept → Kept → Type 0
+KeepsRoom old new = (bound : ℕ) → HasRoomFor old bound → HasRoomFor new bound
+
+-- these are just the slots at a level
+abbrev pub AreSlotsAt : Kept → Level → List ℕ → Type 0
+AreSlotsAt K l slots = (slot : ℕ) → Among slot slots ↔ (level_of_slot K slot ≡ Some l)
+
 -- a slot is kept as the block that stands there is judged
 pub record IsJudged (rack : ℕ → Option ℕ) (draining : ℕ → Bool) (multi : Bool) (o : Option Block) (K : Kept) (slot : ℕ) : Type 0 where
   pub level : level_of_slot K slot ≡ level_by rack draining multi o
   pub unsettled : IsUnsettled K slot ↔ (is_settled_at o ≡ false)
+
+-- the same in a cluster, and of each of these slots
+abbrev pub IsJudgedIn : Cluster → Option Block → Kept → ℕ → Type 0
+IsJudgedIn C o K slot = IsJudged (rack_of C) (is_draining C) (is_multi_rack C) o K slot
+
+abbrev pub AreJudgedIn : Cluster → Contents → List ℕ → Kept → Type 0
+AreJudgedIn C a slots K = (slot : ℕ) → Among slot slots → IsJudgedIn C (block_at a slot) K slot
 
 -- what a block is judged
 pub record IsJudgedAs (rack : ℕ → Option ℕ) (draining : ℕ → Bool) (multi : Bool) (o : Option Block) (j : Judged) : Type 0 where
@@ -40,10 +64,18 @@ pub record IsKeptAs (K : Kept) (slot : ℕ) (j : Judged) : Type 0 where
   pub level : level_of_slot K slot ≡ j.level
   pub unsettled : IsUnsettled K slot ↔ (j.is_settled ≡ false)
 
+-- each of these slots is kept as the judgement at its place says
+abbrev pub AreKeptAs : Kept → List ℕ → List Judged → Type 0
+AreKeptAs K slots js = (i slot : ℕ) (default : Judged) → slice_get slots i ≡ Some slot → IsKeptAs K slot (slice_index_or js i default)
+
 -- a slot is kept as before
 pub record IsSameAt (old new : Kept) (slot : ℕ) : Type 0 where
   pub level : level_of_slot new slot ≡ level_of_slot old slot
   pub unsettled : IsUnsettled new slot ↔ IsUnsettled old slot
+
+-- and so is every slot but these
+abbrev pub IsSameOutside : List ℕ → Kept → Kept → Type 0
+IsSameOutside slots old new = (slot : ℕ) → (Among slot slots → ⊥) → IsSameAt old new slot
 
 -- the slots to which numbers lead
 abbrev pub slots_led : Contents → List ℕ

@@ -25,3 +25,7 @@ pub record IsLeveled (v : Leveled) : Type 0 where
 -- the level of each slot is that of its block in a cluster
 abbrev pub AreLevels : Cluster → Leveled → Type 0
 AreLevels C v = (slot : ℕ) → level_of_slot v.kept slot ≡ level_in C (block_at v.arena slot)
+
+-- where that is so before a change, it is so after it
+abbrev pub KeepsLevels : Cluster → Leveled → Leveled → Type 0
+KeepsLevels C old new = AreLevels C old → AreLevels C new

@@ -1,5 +1,5 @@
 -- Levels by racks and nodes that drain which need not be those of one cluster; and what leaves all levels.
-use Rattle.std.specs.Prelude.{◌≡◌, ℕ, Bool, true, false, List, Option, IsSome}
+use Rattle.std.specs.Prelude.{◌≡◌, ℕ, if◌then◌else◌, Bool, true, false, List, Option, IsSome}
 use Rattle.std.specs.List.{list_any}
 use Rattle.bm_base.specs.declared.event.Remaining.{Remaining}
 use Rattle.bm_base.specs.declared.replica.ReplicaId.{ReplicaId}
@@ -7,7 +7,7 @@ use Rattle.bm_base.specs.Map.{get, contains_key}
 use Rattle.bm_base.specs.State.{Cluster}
 use Rattle.bm_base.specs.SlotLists.{Among}
 use Rattle.bm_base.specs.Replicas.{rack_of, has_storage, is_draining}
-use Rattle.bm_base.specs.Events.{register, heartbeat}
+use Rattle.bm_base.specs.Events.{register, heartbeat, drain, undrain}
 use Rattle.bm_base.specs.Refusals.{knows_storage}
 use Rattle.bm_parts.specs.LevelLaws.{IsRacked}
 use Rattle.bm_arena.specs.Contents.{Contents, block_at, list_of}
@@ -21,6 +21,15 @@ use Rattle.bm_levels.specs.Leveled.{Leveled, AreLevels}
 abbrev pub AreLevelsBy : (ℕ → Option ℕ) → (ℕ → Bool) → Bool → Leveled → Type 0
 AreLevelsBy rack draining multi v = (slot : ℕ) → level_of_slot v.kept slot ≡ level_by rack draining multi (block_at v.arena slot)
 
+-- the same by the racks and the draining nodes of a cluster, where it is said apart whether its alive nodes stand on two racks or more
+abbrev pub AreLevelsWith : Cluster → Bool → Leveled → Type 0
+AreLevelsWith C multi v = AreLevelsBy (rack_of C) (is_draining C) multi v
+
+-- whatever they are by: where that is so before a change, it is so after it
+abbrev pub KeepsAllLevels : Leveled → Leveled → Type 0
+KeepsAllLevels old new =
+    (rack : ℕ → Option ℕ) (draining : ℕ → Bool) (multi : Bool) → AreLevelsBy rack draining multi old → AreLevelsBy rack draining multi new
+
 -- the storage of each replica that is held stands in D on the rack that it stands on in C, and drains in D if it does in C
 pub record IsSameForHeld (C D : Cluster) (a : Contents) : Type 0 where
   pub rack : (q : ReplicaId) → IsSome (get (replicas_of a) q) → rack_of D q.storage ≡ rack_of C q.storage
@@ -29,6 +38,10 @@ pub record IsSameForHeld (C D : Cluster) (a : Contents) : Type 0 where
 -- no storage of a node has the slot in its list
 abbrev pub IsOff : Cluster → ℕ → Contents → ℕ → Type 0
 IsOff C node a slot = (storage : ℕ) → has_storage C node storage ≡ true → Among slot (list_of a storage) → ⊥
+
+-- the cluster once a node begins or ceases to drain
+abbrev pub with_draining : Cluster → ℕ → Bool → Cluster
+with_draining C node drains = if drains then drain C node else undrain C node
 
 -- a heartbeat leaves all levels
 abbrev pub heartbeat_leaves_all_levels : Type 0

@@ -4,6 +4,7 @@ pub mod Kept
 pub mod Held
 pub mod Leveled
 pub mod LevelsBy
+pub mod Around
 pub mod Leaving
 pub mod Changes
 pub mod Bare

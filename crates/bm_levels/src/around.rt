@@ -1,14 +1,14 @@
 // The cluster as an event leaves it, as far as levels depend on it.
 ghost use Rattle.std.specs.Prelude.{◌≡◌, None};
 ghost use Rattle.bm_base.specs.Replicas as replicas;
-ghost use Rattle.bm_levels.specs.Judged.{drains_then};
+ghost use Rattle.bm_levels.specs.Around.{rack_around, drains_around};
 
 use bm_base::{NodeId, StorageId};
 use bm_topo::{Location, Topology};
 
 /// A node that begins or ceases to drain.
 #[derive(Clone, Copy)]
-pub struct Turning {
+pub(crate) struct Turning {
     pub node: NodeId,
     /// Whether it drains from now on.
     pub drains: bool,
@@ -16,7 +16,7 @@ pub struct Turning {
 
 /// The cluster as an event leaves it: the one before, with what the event changes for replicas that stay.
 #[derive(Clone, Copy)]
-pub struct Around<'a> {
+pub(crate) struct Around<'a> {
     /// The cluster before the event.
     pub topology: &'a Topology,
     /// The node whose draining the event changes.
@@ -42,8 +42,8 @@ impl<'a> Around<'a> {
     /// Where a storage is.
     #[tactic(auto, unfolding(crate::specs::Judged::drains_then, bm_base::specs::Replicas::is_draining))]
     pub(crate) fn location_of(&self, storage: StorageId) -> Location
-        ensures rack { result.rack ≡ replicas.rack_of self.now.topology.now.cluster storage }
-        ensures drains { result.drains ≡ drains_then self.now.topology.now.cluster self.now.turning storage }
+        ensures rack { result.rack ≡ rack_around self.now storage }
+        ensures drains { result.drains ≡ drains_around self.now storage }
     {
         let location = self.topology.location_of(storage);
         let Some(turning) = self.turning else {
@@ -56,5 +56,16 @@ impl<'a> Around<'a> {
             },
             _ => location,
         }
+    }
+}
+
+/// Whether a storage is one of a node.
+#[tactic(auto, unfolding(bm_base::specs::Replicas::has_storage))]
+pub(crate) fn has_storage(topology: &Topology, node: NodeId, storage: StorageId) -> bool
+    ensures { result ≡ replicas.has_storage topology.now.cluster node storage }
+{
+    match topology.node_of(storage) {
+        Some(its_node) => its_node == node,
+        None => false,
     }
 }

@@ -1,11 +1,7 @@
 // Many blocks judged anew, some at a time: reads of memory that do not depend on one another do not wait for one another.
-ghost use Rattle.std.specs.Prelude.{◌≡◌, ◌<◌, ◌≤◌, ◌+◌, ℕ, length, slice_get, slice_index_or, true, Some};
-ghost use Rattle.bm_base.specs.Replicas as replicas;
-ghost use Rattle.bm_base.specs.SlotLists.{Among};
-ghost use Rattle.bm_arena.specs.Contents.{block_at};
-ghost use Rattle.bm_levels.specs.declared.judging.Judged.{Judged};
-ghost use Rattle.bm_levels.specs.Judged.{drains_then};
-ghost use Rattle.bm_levels.specs.Kept.{HasRoomFor, IsJudged, IsJudgedAs, IsKeptAs, IsSameAt};
+ghost use Rattle.std.specs.Prelude.{◌≡◌, ◌<◌, ◌≤◌, length, true};
+ghost use Rattle.bm_levels.specs.Kept.{HasRoomForEach, KeepsRoom, AreKeptAs, IsSameOutside};
+ghost use Rattle.bm_levels.specs.Around.{AreJudgedAsAround, AreJudgedAround};
 
 use crate::around::Around;
 use crate::judging::{Judged, are_alike, judge};
@@ -34,7 +30,7 @@ fn chunk_len(count: usize) -> usize
 /// Judges the blocks at the slots of a chunk.
 fn judge_ahead(arena: &Arena, chunk: &[Slot], around: &Around<'_>) -> [Judged; CHUNK]
     requires { length chunk.now ≤ 64 }
-    ensures { (i slot : ℕ) (default : Judged) → slice_get chunk.now i ≡ Some slot → IsJudgedAs (replicas.rack_of around.now.topology.now.cluster) (drains_then around.now.topology.now.cluster around.now.turning) around.now.multi (block_at arena.now slot) (slice_index_or result i default) }
+    ensures { AreJudgedAsAround around.now arena.now chunk.now result }
 {
     let mut judged = [NOT_JUDGED; CHUNK];
     for (place, slot) in chunk.iter().enumerate() {
@@ -45,11 +41,11 @@ fn judge_ahead(arena: &Arena, chunk: &[Slot], around: &Around<'_>) -> [Judged; C
 
 impl KeptLevels {
     /// Judges the blocks at these slots anew.
-    pub fn judge_all(&mut self, arena: &Arena, slots: &[Slot], around: &Around<'_>)
-        requires room { (slot : ℕ) → Among slot slots.now → HasRoomFor self.old (slot + 1) }
-        ensures judged { (slot : ℕ) → Among slot slots.now → IsJudged (replicas.rack_of around.now.topology.now.cluster) (drains_then around.now.topology.now.cluster around.now.turning) around.now.multi (block_at arena.now slot) self.new slot }
-        ensures others { (slot : ℕ) → (Among slot slots.now → ⊥) → IsSameAt self.old self.new slot }
-        ensures room { (bound : ℕ) → HasRoomFor self.old bound → HasRoomFor self.new bound }
+    pub(crate) fn judge_all(&mut self, arena: &Arena, slots: &[Slot], around: &Around<'_>)
+        requires room { HasRoomForEach self.old slots.now }
+        ensures judged { AreJudgedAround around.now arena.now slots.now self.new }
+        ensures others { IsSameOutside slots.now self.old self.new }
+        ensures room { KeepsRoom self.old self.new }
     {
         let mut rest = slots;
         while !rest.is_empty() {
@@ -62,10 +58,10 @@ impl KeptLevels {
     /// Judges the blocks at the slots of a chunk anew: each is judged and what is kept of it looked at before anything changes.
     fn judge_chunk(&mut self, arena: &Arena, chunk: &[Slot], around: &Around<'_>)
         requires few { length chunk.now ≤ 64 }
-        requires room { (slot : ℕ) → Among slot chunk.now → HasRoomFor self.old (slot + 1) }
-        ensures judged { (slot : ℕ) → Among slot chunk.now → IsJudged (replicas.rack_of around.now.topology.now.cluster) (drains_then around.now.topology.now.cluster around.now.turning) around.now.multi (block_at arena.now slot) self.new slot }
-        ensures others { (slot : ℕ) → (Among slot chunk.now → ⊥) → IsSameAt self.old self.new slot }
-        ensures room { (bound : ℕ) → HasRoomFor self.old bound → HasRoomFor self.new bound }
+        requires room { HasRoomForEach self.old chunk.now }
+        ensures judged { AreJudgedAround around.now arena.now chunk.now self.new }
+        ensures others { IsSameOutside chunk.now self.old self.new }
+        ensures room { KeepsRoom self.old self.new }
     {
         let judged = judge_ahead(arena, chunk, around);
         if self.keeps_all(chunk, judged.as_slice()) {
@@ -79,8 +75,8 @@ impl KeptLevels {
     /// Whether the blocks at the slots of a chunk were judged as is kept of them. All are looked at, whatever comes out of the first.
     fn keeps_all(&self, chunk: &[Slot], judged: &[Judged]) -> bool
         requires few { length chunk.now ≤ length judged.now }
-        requires room { (slot : ℕ) → Among slot chunk.now → HasRoomFor self.now (slot + 1) }
-        ensures { result ≡ true → (i slot : ℕ) (default : Judged) → slice_get chunk.now i ≡ Some slot → IsKeptAs self.now slot (slice_index_or judged.now i default) }
+        requires room { HasRoomForEach self.now chunk.now }
+        ensures { result ≡ true → AreKeptAs self.now chunk.now judged.now }
     {
         let mut are_kept = true;
         for (place, slot) in chunk.iter().enumerate() {

@@ -1,8 +1,8 @@
 // What the replicas of one block come to, counted one after another.
 ghost use Rattle.std.specs.Prelude.{◌≡◌, ◌<◌, ◌-◌, ◌^◌};
-ghost use Rattle.bm_base.specs.Replicas as replicas;
 ghost use Rattle.bm_levels.specs.Judged as judged;
 ghost use Rattle.bm_levels.specs.Counted as counted;
+ghost use Rattle.bm_levels.specs.Around.{rack_around, drains_around};
 
 use crate::around::Around;
 use bm_base::{Marks, Rack, StorageId, Tag};
@@ -38,7 +38,8 @@ impl Count {
     pub(crate) fn add(&mut self, around: &Around<'_>, storage: StorageId, marks: Marks)
         requires live { self.old.live < 2 ^ 64 - 1 }
         requires drained { self.old.drained < 2 ^ 64 - 1 }
-        ensures { self.new ≡ counted.one_more (replicas.rack_of around.now.topology.now.cluster) (judged.drains_then around.now.topology.now.cluster around.now.turning) self.old storage marks }
+        ensures { self.new ≡ counted.one_more (rack_around around.now) (drains_around around.now)
+            self.old storage marks }
     {
         self.is_plain = self.is_plain && is_plain(marks);
         if !matches!(marks.tag, Tag::Good) || marks.excess {

@@ -1,10 +1,10 @@
 // The judgement of one block.
 ghost use Rattle.std.specs.Prelude.{◌≡◌, true};
-ghost use Rattle.bm_base.specs.Replicas as replicas;
 ghost use Rattle.bm_arena.specs.Contents.{block_at};
+ghost use Rattle.bm_arena.specs.Holding.{replicas_at};
 ghost use Rattle.bm_levels.specs.Judged as judged;
 ghost use Rattle.bm_levels.specs.Counted as counted;
-ghost use Rattle.bm_arena.specs.Holding.{replicas_at};
+ghost use Rattle.bm_levels.specs.Around.{rack_around, drains_around, level_around};
 
 use crate::around::Around;
 use crate::count::Count;
@@ -30,7 +30,7 @@ pub(crate) fn are_alike(a: Judged, b: Judged) -> bool
 /// Judges the block at a slot. One look at each of its replicas.
 #[tactic(auto, unfolding(crate::specs::Judged::level_by, crate::specs::Judged::is_settled_at))]
 pub(crate) fn judge(arena: &Arena, slot: Slot, around: &Around<'_>) -> Judged
-    ensures level { result.level ≡ judged.level_by (replicas.rack_of around.now.topology.now.cluster) (judged.drains_then around.now.topology.now.cluster around.now.turning) around.now.multi (block_at arena.now slot) }
+    ensures level { result.level ≡ level_around around.now (block_at arena.now slot) }
     ensures settled { result.is_settled ≡ judged.is_settled_at (block_at arena.now slot) }
 {
     let count = count_all(arena, slot, around);
@@ -55,7 +55,8 @@ pub(crate) fn judge(arena: &Arena, slot: Slot, around: &Around<'_>) -> Judged
 
 /// Counts the replicas of the block at a slot.
 fn count_all(arena: &Arena, slot: Slot, around: &Around<'_>) -> Count
-    ensures { result ≡ counted.counted_on (replicas.rack_of around.now.topology.now.cluster) (judged.drains_then around.now.topology.now.cluster around.now.turning) counted.none (replicas_at arena.now slot) }
+    ensures { result ≡ counted.counted_on (rack_around around.now) (drains_around around.now)
+        counted.none (replicas_at arena.now slot) }
 {
     let mut count = Count::none();
     for place in 0..arena.triplet_count(slot) {

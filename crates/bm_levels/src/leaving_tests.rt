@@ -76,7 +76,11 @@ fn on_both(rt: &impl Abort, alloc: Global, topology: &Topology) -> LeveledBlocks
 }
 
 /// The level after node 1 began to drain, or ceased to.
-fn turned(topology: &Topology, blocks: &mut LeveledBlocks, drains: bool) -> Option<Level> {
+fn level_when_turned(
+    topology: &Topology,
+    blocks: &mut LeveledBlocks,
+    drains: bool,
+) -> Option<Level> {
     blocks.turn(topology, NodeId(1), drains);
     blocks.level(ID)
 }
@@ -90,8 +94,8 @@ fn dead(topology: &Topology, blocks: &mut LeveledBlocks, node: NodeId) -> u128 {
 
 /// Whether the level is what it must be after each change.
 fn goes_rightly(topology: &Topology, blocks: &mut LeveledBlocks) -> bool {
-    turned(topology, blocks, true) == Some(Level::Highest)
-        && turned(topology, blocks, false).is_none()
+    level_when_turned(topology, blocks, true) == Some(Level::Highest)
+        && level_when_turned(topology, blocks, false).is_none()
         && blocks.forget_storage(topology, StorageId(21)) == 1
         && blocks.level(ID) == Some(Level::Highest)
         && dead(topology, blocks, NodeId(1)) == 1

@@ -1,15 +1,14 @@
 // The blocks and replicas of a shard, each block with its level.
-ghost use Rattle.std.specs.Prelude.{◌≡◌, ◌≢◌, ℕ, Bool, Option, IsSome, IsSomeAnd, None, Some, [], IfOk, IfErr, OnOk, OnErr};
+ghost use Rattle.std.specs.Prelude.{◌≡◌, ◌≢◌, ℕ, IsSome, Some, IfOk, IfErr, OnOk, OnErr};
 ghost use Rattle.bm_base.specs.declared.refusal.Refusal.TheVariants.{Memory};
 ghost use Rattle.bm_base.specs.Map.{Map, empty, insert, remove};
 ghost use Rattle.bm_base.specs.Levels.{level};
 ghost use Rattle.bm_base.specs.State.{Cluster, by_replica, replica_at};
-ghost use Rattle.bm_arena.specs.Contents.{block_at, slot_of, marks_at, KeepsAllBut, KeepsOthers};
-ghost use Rattle.bm_arena.specs.Holding.{replicas_at, replicas_of, blocks_of, info_at, with_known};
-ghost use Rattle.bm_levels.specs.Bare.{HasNoneBare, MakesNoneBare, KeepsSlots};
+ghost use Rattle.bm_arena.specs.Contents.{slot_of, marks_at, KeepsAllBut, KeepsOthers};
+ghost use Rattle.bm_arena.specs.Holding.{replicas_of, blocks_of, with_known};
+ghost use Rattle.bm_levels.specs.Bare.{HasNoneBare, MakesNoneBare};
 ghost use Rattle.bm_levels.specs.Held.{holdings_with};
-ghost use Rattle.bm_levels.specs.Leveled.{AreLevels, IsLeveled};
-ghost use Rattle.bm_levels.specs.LevelsBy.{AreLevelsBy};
+ghost use Rattle.bm_levels.specs.Leveled.{AreLevels, KeepsLevels, IsLeveled};
 
 use crate::kept::KeptLevels;
 use bm_arena::{Arena, Slot};
@@ -56,11 +55,13 @@ impl LeveledBlocks {
         ensures entry { OnOk result (IsSome (slot_of self.new.arena id)) }
         ensures blocks { blocks_of self.new.arena ≡ blocks_of self.old.arena }
         ensures replicas { replicas_of self.new.arena ≡ replicas_of self.old.arena }
-        ensures numbers { (other slot : ℕ) → slot_of self.old.arena other ≡ Some slot → slot_of self.new.arena other ≡ Some slot }
-        ensures others { (other : ℕ) → other ≢ id → slot_of self.new.arena other ≡ slot_of self.old.arena other }
+        ensures numbers { (other slot : ℕ) → slot_of self.old.arena other ≡ Some slot
+            → slot_of self.new.arena other ≡ Some slot }
+        ensures others { (other : ℕ) → other ≢ id
+            → slot_of self.new.arena other ≡ slot_of self.old.arena other }
         ensures lists { self.new.arena.lists ≡ self.old.arena.lists }
         ensures given_up { OnErr result (MakesNoneBare self.old.arena self.new.arena) }
-        ensures levels { (C : Cluster) → AreLevels C self.old → AreLevels C self.new }
+        ensures levels { (C : Cluster) → KeepsLevels C self.old self.new }
         ensures refused { IfErr result (λ e. e ≡ Memory) }
     {
         if self.arena.find(id).is_some() {
@@ -79,10 +80,11 @@ impl LeveledBlocks {
     /// Changes what is known of the block at the slot of a number; `None` makes it unknown. Takes no memory.
     pub fn set_info(&mut self, topology: &Topology, slot: Slot, info: Option<BlockInfo>)
         requires { (id : ℕ) × (slot_of self.old.arena id ≡ Some slot) }
-        ensures blocks { (id : ℕ) → slot_of self.old.arena id ≡ Some slot → blocks_of self.new.arena ≡ with_known (blocks_of self.old.arena) id info }
+        ensures blocks { (id : ℕ) → slot_of self.old.arena id ≡ Some slot
+            → blocks_of self.new.arena ≡ with_known (blocks_of self.old.arena) id info }
         ensures replicas { replicas_of self.new.arena ≡ replicas_of self.old.arena }
         ensures rest { KeepsAllBut slot self.old.arena self.new.arena }
-        ensures levels { AreLevels topology.now.cluster self.old → AreLevels topology.now.cluster self.new }
+        ensures levels { KeepsLevels topology.now.cluster self.old self.new }
     {
         self.arena.lawful();
         self.arena.set_info(slot, info);
@@ -94,9 +96,11 @@ impl LeveledBlocks {
         requires slot { (id : ℕ) × (slot_of self.old.arena id ≡ Some slot) }
         requires replica { IsSome (marks_at self.old.arena slot storage) }
         ensures blocks { blocks_of self.new.arena ≡ blocks_of self.old.arena }
-        ensures replicas { (id : ℕ) → slot_of self.old.arena id ≡ Some slot → replicas_of self.new.arena ≡ insert (replicas_of self.old.arena) (replica_at id storage) marks }
+        ensures replicas { (id : ℕ) → slot_of self.old.arena id ≡ Some slot
+            → replicas_of self.new.arena
+            ≡ insert (replicas_of self.old.arena) (replica_at id storage) marks }
         ensures rest { KeepsAllBut slot self.old.arena self.new.arena }
-        ensures levels { AreLevels topology.now.cluster self.old → AreLevels topology.now.cluster self.new }
+        ensures levels { KeepsLevels topology.now.cluster self.old self.new }
     {
         self.arena.lawful();
         self.arena.set_marks(slot, storage, marks);
@@ -108,34 +112,16 @@ impl LeveledBlocks {
         requires slot { (id : ℕ) × (slot_of self.old.arena id ≡ Some slot) }
         requires replica { IsSome (marks_at self.old.arena slot storage) }
         ensures blocks { blocks_of self.new.arena ≡ blocks_of self.old.arena }
-        ensures replicas { (id : ℕ) → slot_of self.old.arena id ≡ Some slot → replicas_of self.new.arena ≡ remove (replicas_of self.old.arena) (replica_at id storage) }
+        ensures replicas { (id : ℕ) → slot_of self.old.arena id ≡ Some slot
+            → replicas_of self.new.arena
+            ≡ remove (replicas_of self.old.arena) (replica_at id storage) }
         ensures rest { KeepsOthers self.old.arena self.new.arena slot storage }
-        ensures levels { AreLevels topology.now.cluster self.old → AreLevels topology.now.cluster self.new }
+        ensures levels { KeepsLevels topology.now.cluster self.old self.new }
     {
         self.arena.lawful();
         let was = self.kept.kept_at(slot);
         self.arena.unlink(slot, storage);
         self.kept.judge_from_in(topology, &self.arena, slot, was);
-    }
-
-    /// Drops the entry of a number that has neither a block nor a replica; others stay. Takes no memory.
-    pub fn drop_if_bare(&mut self, slot: Slot)
-        requires { (id : ℕ) × (slot_of self.old.arena id ≡ Some slot) }
-        ensures blocks { blocks_of self.new.arena ≡ blocks_of self.old.arena }
-        ensures replicas { replicas_of self.new.arena ≡ replicas_of self.old.arena }
-        ensures numbers { (id : ℕ) → slot_of self.old.arena id ≢ Some slot → slot_of self.new.arena id ≡ slot_of self.old.arena id }
-        ensures dropped { IsSomeAnd (block_at self.old.arena slot) (λ b. b.replicas ≡ []) → info_at self.old.arena slot ≡ None → block_at self.new.arena slot ≡ None }
-        ensures gone { (id : ℕ) → slot_of self.old.arena id ≡ Some slot → replicas_at self.old.arena slot ≡ [] → info_at self.old.arena slot ≡ None → slot_of self.new.arena id ≡ None }
-        ensures slots { KeepsSlots self.old.arena self.new.arena }
-        ensures others { (other : ℕ) → other ≢ slot → block_at self.new.arena other ≡ block_at self.old.arena other }
-        ensures lists { self.new.arena.lists ≡ self.old.arena.lists }
-        ensures levels { (C : Cluster) → AreLevels C self.old → AreLevels C self.new }
-        ensures levels_by { (rack : ℕ → Option ℕ) (draining : ℕ → Bool) (multi : Bool) → AreLevelsBy rack draining multi self.old → AreLevelsBy rack draining multi self.new }
-    {
-        self.arena.lawful();
-        if self.arena.is_bare(slot) && self.arena.info(slot).is_none() {
-            self.arena.drop_entry(slot);
-        }
     }
 
     /// Does nothing: a caller has by it that the unsettled slots are just those of blocks that are not settled, that a slot without a
@@ -171,7 +157,8 @@ impl LeveledBlocks {
     /// at the replicas.
     #[tactic(auto, using(crate::proofs::Levels::level_is_at_slot))]
     pub fn level(&self, id: BlockId) -> Option<Level>
-        ensures { (C : Cluster) → AreLevels C self.now → (pending : Map by_replica ℕ) → result ≡ level C (holdings_with self.now.arena pending) id }
+        ensures { (C : Cluster) → AreLevels C self.now → (pending : Map by_replica ℕ)
+            → result ≡ level C (holdings_with self.now.arena pending) id }
     {
         self.arena.lawful();
         match self.arena.find(id) {

@@ -2,31 +2,32 @@
 //!
 //! The blocks and replicas of a shard stand in an arena. Beside it stand, by the slots of the arena, the level of each block and the
 //! set of the blocks that are not settled: those of which a round may mark or delete a replica. Where the replicas of a block change,
-//! the block is judged anew from its own replicas, with one look at each of them. Nothing here takes memory but `new`, `grow_to` and
-//! `ready_block`.
+//! the block is judged anew from its own replicas, with one look at each of them. Nothing here takes memory but `new`, `grow_to`,
+//! `ready_block` and `ready_report`.
 #![tactic(auto)]
 
-mod abreast;
 mod around;
+mod bare_entries;
+mod block_events;
 mod chunks;
-mod cleared;
 mod count;
-mod dropped;
-mod forgotten;
+mod draining_nodes;
+mod four_lists;
 mod judging;
+mod judging_slots;
 mod kept;
+mod leaving_storages;
 #[cfg(test)]
 mod leaving_tests;
 mod leveled;
 mod marking;
-mod rejudging;
-mod remarked;
-mod reported;
-mod revised;
+mod one_list;
+mod racks;
+mod reports;
+mod round_marks;
 #[cfg(test)]
 mod tests;
-mod turned;
+mod unsettled;
 
-pub use around::{Around, Turning};
 pub use kept::KeptLevels;
 pub use leveled::LeveledBlocks;

@@ -33,7 +33,7 @@ impl MarkChange {
                 ordered: marks.ordered,
             },
             MarkChange::Restamped => Marks {
-                tag: restamped(marks.tag),
+                tag: tag_after_restamp(marks.tag),
                 excess: false,
                 ordered: marks.ordered,
             },
@@ -47,7 +47,7 @@ impl MarkChange {
 }
 
 /// A good replica is stale once its block has another stamp.
-fn restamped(tag: Tag) -> Tag
+fn tag_after_restamp(tag: Tag) -> Tag
     ensures { result ≡ (if is_good tag then Stale else tag) }
 {
     match tag {
@@ -58,7 +58,8 @@ fn restamped(tag: Tag) -> Tag
 
 /// Changes the marks of each replica of the block at a slot; nothing else changes. Takes no memory.
 pub(crate) fn change_marks(arena: &mut Arena, slot: Slot, change: MarkChange)
-    ensures replicas { replicas_at arena.new slot ≡ all_changed (changed change) (replicas_at arena.old slot) }
+    ensures replicas { replicas_at arena.new slot
+        ≡ all_changed (changed change) (replicas_at arena.old slot) }
     ensures known { known_of (block_at arena.new slot) ≡ known_of (block_at arena.old slot) }
     ensures rest { KeepsAllBut slot arena.old arena.new }
     ensures lawful { IsLawful arena.new }

@@ -17,7 +17,9 @@ pub fn blocks_on(
     blocks: &LeveledBlocks,
     storage: StorageId,
 ) -> Result<Items<BlockId>, Refusal>
-    ensures blocks { (pending : Map by_replica ℕ) → IfOk result (λ v. v ≡ queries.blocks_on (holdings_with blocks.now.arena pending) storage) }
+    ensures blocks { (pending : Map by_replica ℕ)
+        → IfOk result (λ v. v
+        ≡ queries.blocks_on (holdings_with blocks.now.arena pending) storage) }
     ensures refused { IfErr result (λ e. e ≡ Memory) }
 {
     blocks.lawful();
@@ -33,7 +35,8 @@ pub fn blocks_on(
 
 /// The known blocks of which no replica is usable, rising. Walks the list of that level alone. May answer `Memory`.
 pub fn missing_blocks(alloc: Global, blocks: &LeveledBlocks) -> Result<Items<BlockId>, Refusal>
-    ensures missing { (C : Cluster) → AreLevels C blocks.now → (pending : Map by_replica ℕ) → IfOk result (λ v. v ≡ queries.missing_blocks C (holdings_with blocks.now.arena pending)) }
+    ensures missing { (C : Cluster) → AreLevels C blocks.now → (pending : Map by_replica ℕ)
+        → IfOk result (λ v. v ≡ queries.missing_blocks C (holdings_with blocks.now.arena pending)) }
     ensures refused { IfErr result (λ e. e ≡ Memory) }
 {
     blocks.lawful();

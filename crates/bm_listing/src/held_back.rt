@@ -40,7 +40,8 @@ fn is_live_on(topology: &Topology, storage: StorageId, marks: Marks) -> bool
 
 /// How many replicas at a slot are live.
 fn live_count(topology: &Topology, arena: &Arena, slot: Slot) -> usize
-    ensures { result ≡ length (storages_at (replicas.is_live_on topology.now.cluster) (replicas_at arena.now slot)) }
+    ensures { result ≡ length
+        (storages_at (replicas.is_live_on topology.now.cluster) (replicas_at arena.now slot)) }
 {
     let mut count = 0;
     for place in 0..arena.triplet_count(slot) {
@@ -102,7 +103,8 @@ fn waits_for(topology: &Topology, arena: &Arena, node: NodeId, storage: StorageI
 /// Whether a block holds a node back: it has a drained replica there, and fewer live ones than are wanted. Walks the lists of the
 /// node's storages alone, and those only where it drains. Takes no memory.
 pub fn is_held_back(blocks: &LeveledBlocks, topology: &Topology, node: NodeId) -> bool
-    ensures { (pending : Map by_replica ℕ) → result ≡ holds_back topology.now.cluster node (holdings_with blocks.now.arena pending) }
+    ensures { (pending : Map by_replica ℕ)
+        → result ≡ holds_back topology.now.cluster node (holdings_with blocks.now.arena pending) }
 {
     blocks.lawful();
     let arena = blocks.arena();

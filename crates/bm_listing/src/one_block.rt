@@ -30,7 +30,8 @@ fn is_stray(tag: Tag) -> bool
 
 /// Puts the storages of the good replicas at a slot behind those that are there.
 pub(crate) fn push_good(arena: &Arena, slot: Slot, into: &mut Vec<StorageId>) -> Result<(), Refusal>
-    ensures items { OnOk result (into.new.items ≡ into.old.items ++ storages_at (λ _ m. replicas.is_good m.tag) (replicas_at arena.now slot)) }
+    ensures items { OnOk result (into.new.items ≡ into.old.items
+        ++ storages_at (λ _ m. replicas.is_good m.tag) (replicas_at arena.now slot)) }
     ensures refused { IfErr result (λ e. e ≡ Memory) }
 {
     for place in 0..arena.triplet_count(slot) {
@@ -49,7 +50,8 @@ pub fn places(
     blocks: &LeveledBlocks,
     id: BlockId,
 ) -> Result<Items<StorageId>, Refusal>
-    ensures places { (pending : Map by_replica ℕ) → IfOk result (λ v. v ≡ queries.places (holdings_with blocks.now.arena pending) id) }
+    ensures places { (pending : Map by_replica ℕ)
+        → IfOk result (λ v. v ≡ queries.places (holdings_with blocks.now.arena pending) id) }
     ensures refused { IfErr result (λ e. e ≡ Memory) }
 {
     let arena = blocks.arena();
@@ -64,7 +66,8 @@ pub fn places(
 
 /// Whether a block is known. Takes no memory.
 pub fn knows_block(blocks: &LeveledBlocks, id: BlockId) -> bool
-    ensures { (pending : Map by_replica ℕ) → result ≡ refusals.knows_block (holdings_with blocks.now.arena pending) id }
+    ensures { (pending : Map by_replica ℕ)
+        → result ≡ refusals.knows_block (holdings_with blocks.now.arena pending) id }
 {
     let arena = blocks.arena();
     match arena.find(id) {
@@ -89,7 +92,8 @@ fn has_stray(arena: &Arena, slot: Slot) -> bool
 
 /// Whether a stray replica of the number is there. Takes no memory.
 pub fn is_still_stored(blocks: &LeveledBlocks, id: BlockId) -> bool
-    ensures { (pending : Map by_replica ℕ) → result ≡ refusals.is_still_stored (holdings_with blocks.now.arena pending) id }
+    ensures { (pending : Map by_replica ℕ)
+        → result ≡ refusals.is_still_stored (holdings_with blocks.now.arena pending) id }
 {
     let arena = blocks.arena();
     arena.lawful();

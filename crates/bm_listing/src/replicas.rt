@@ -44,7 +44,8 @@ fn push_replicas(
     into: &mut Vec<Replica>,
 ) -> Result<(), Refusal>
     requires { IsSome (block_at arena.now slot) }
-    ensures items { OnOk result (into.new.items ≡ into.old.items ++ listed_at (wants wanted) (block_at arena.now slot)) }
+    ensures items { OnOk result (into.new.items ≡ into.old.items
+        ++ listed_at (wants wanted) (block_at arena.now slot)) }
     ensures refused { IfErr result (λ e. e ≡ Memory) }
 {
     let block = arena.id_of(slot);
@@ -64,7 +65,8 @@ fn push_replicas(
 
 /// The replicas that are wanted, in the order of the arena.
 fn gathered(alloc: Global, arena: &Arena, wanted: Wanted) -> Result<Vec<Replica>, Refusal>
-    ensures items { IfOk result (λ v. v.items ≡ listed_on (wants wanted) arena.now (slots_led arena.now)) }
+    ensures items { IfOk result
+        (λ v. v.items ≡ listed_on (wants wanted) arena.now (slots_led arena.now)) }
     ensures refused { IfErr result (λ e. e ≡ Memory) }
 {
     arena.lawful();
@@ -88,7 +90,8 @@ fn key(replica: &Replica) -> ReplicaId
 
 /// The replicas that are wanted, by block and storage.
 fn listed(alloc: Global, arena: &Arena, wanted: Wanted) -> Result<Vec<Replica>, Refusal>
-    ensures items { IfOk result (λ v. v.items ≡ replicas_passing (wants wanted) (replicas_of arena.now)) }
+    ensures items { IfOk result
+        (λ v. v.items ≡ replicas_passing (wants wanted) (replicas_of arena.now)) }
     ensures refused { IfErr result (λ e. e ≡ Memory) }
 {
     arena.lawful();
@@ -99,7 +102,8 @@ fn listed(alloc: Global, arena: &Arena, wanted: Wanted) -> Result<Vec<Replica>, 
 
 /// Which replicas are wanted, by block and storage.
 fn ids_listed(alloc: Global, arena: &Arena, wanted: Wanted) -> Result<Vec<ReplicaId>, Refusal>
-    ensures items { IfOk result (λ v. v.items ≡ map replica_key (replicas_passing (wants wanted) (replicas_of arena.now))) }
+    ensures items { IfOk result
+        (λ v. v.items ≡ map replica_key (replicas_passing (wants wanted) (replicas_of arena.now))) }
     ensures refused { IfErr result (λ e. e ≡ Memory) }
 {
     let all = listed(alloc, arena, wanted)?;
@@ -113,7 +117,8 @@ fn ids_listed(alloc: Global, arena: &Arena, wanted: Wanted) -> Result<Vec<Replic
 /// All replicas with their tags, by block and storage. May answer `Memory`.
 #[tactic(auto, unfolding(bm_base::specs::Queries::all_replicas, bm_levels::specs::Held::holdings_with))]
 pub fn all_replicas(alloc: Global, blocks: &LeveledBlocks) -> Result<Items<Replica>, Refusal>
-    ensures all { (pending : Map by_replica ℕ) → IfOk result (λ v. v ≡ queries.all_replicas (holdings_with blocks.now.arena pending)) }
+    ensures all { (pending : Map by_replica ℕ)
+        → IfOk result (λ v. v ≡ queries.all_replicas (holdings_with blocks.now.arena pending)) }
     ensures refused { IfErr result (λ e. e ≡ Memory) }
 {
     Ok(Items::from_vec(listed(alloc, blocks.arena(), Wanted::All)?))
@@ -122,7 +127,8 @@ pub fn all_replicas(alloc: Global, blocks: &LeveledBlocks) -> Result<Items<Repli
 /// The stale and bad replicas, by block and storage. May answer `Memory`.
 #[tactic(auto, unfolding(bm_base::specs::Queries::replicas_where, bm_levels::specs::Held::holdings_with))]
 pub fn corrupt_replicas(alloc: Global, blocks: &LeveledBlocks) -> Result<Items<ReplicaId>, Refusal>
-    ensures corrupt { (pending : Map by_replica ℕ) → IfOk result (λ v. v ≡ queries.corrupt_replicas (holdings_with blocks.now.arena pending)) }
+    ensures corrupt { (pending : Map by_replica ℕ)
+        → IfOk result (λ v. v ≡ queries.corrupt_replicas (holdings_with blocks.now.arena pending)) }
     ensures refused { IfErr result (λ e. e ≡ Memory) }
 {
     Ok(Items::from_vec(ids_listed(alloc, blocks.arena(), Wanted::Corrupt)?))
@@ -131,7 +137,8 @@ pub fn corrupt_replicas(alloc: Global, blocks: &LeveledBlocks) -> Result<Items<R
 /// The replicas in excess, by block and storage. May answer `Memory`.
 #[tactic(auto, unfolding(bm_base::specs::Queries::replicas_where, bm_levels::specs::Held::holdings_with))]
 pub fn excess_replicas(alloc: Global, blocks: &LeveledBlocks) -> Result<Items<ReplicaId>, Refusal>
-    ensures excess { (pending : Map by_replica ℕ) → IfOk result (λ v. v ≡ queries.excess_replicas (holdings_with blocks.now.arena pending)) }
+    ensures excess { (pending : Map by_replica ℕ)
+        → IfOk result (λ v. v ≡ queries.excess_replicas (holdings_with blocks.now.arena pending)) }
     ensures refused { IfErr result (λ e. e ≡ Memory) }
 {
     Ok(Items::from_vec(ids_listed(alloc, blocks.arena(), Wanted::Excess)?))

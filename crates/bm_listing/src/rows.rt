@@ -22,7 +22,8 @@ use std::alloc::Global;
 /// Puts the block at a slot, where it is known, with the slot behind those that are there.
 fn push_known(arena: &Arena, slot: Slot, into: &mut Vec<(BlockId, Slot)>) -> Result<(), Refusal>
     requires { IsSome (block_at arena.now slot) }
-    ensures items { OnOk result (into.new.items ≡ into.old.items ++ known_on arena.now (slot ∷ [])) }
+    ensures items { OnOk result (into.new.items ≡ into.old.items
+        ++ known_on arena.now (slot ∷ [])) }
     ensures refused { IfErr result (λ e. e ≡ Memory) }
 {
     if arena.info(slot).is_some() {
@@ -48,7 +49,8 @@ fn gathered_blocks(alloc: Global, arena: &Arena) -> Result<Vec<(BlockId, Slot)>,
 
 /// The known blocks with their slots, rising.
 fn known_blocks(alloc: Global, arena: &Arena) -> Result<Vec<(BlockId, Slot)>, Refusal>
-    ensures blocks { IfOk result (λ v. v.items ≡ map (with_slot arena.now) (keys (blocks_of arena.now))) }
+    ensures blocks { IfOk result
+        (λ v. v.items ≡ map (with_slot arena.now) (keys (blocks_of arena.now))) }
     ensures slots { IfOk result (λ v. All (λ p. slot_of arena.now p.0 ≡ Some p.1) v.items) }
     ensures refused { IfErr result (λ e. e ≡ Memory) }
 {
@@ -66,7 +68,9 @@ fn first_places(
     storages: &mut Vec<StorageId>,
 ) -> Result<Places, Refusal>
     requires { slot_of arena.now id ≡ Some slot }
-    ensures places { (pending : Map by_replica ℕ) → IfOk result (λ p. p ≡ take MAX_PLACES (queries.places (holdings_with arena.now pending) id)) }
+    ensures places { (pending : Map by_replica ℕ)
+        → IfOk result (λ p. p
+        ≡ take MAX_PLACES (queries.places (holdings_with arena.now pending) id)) }
     ensures refused { IfErr result (λ e. e ≡ Memory) }
 {
     arena.lawful();
@@ -81,7 +85,8 @@ pub fn table_rows(
     alloc: Global,
     blocks: &LeveledBlocks,
 ) -> Result<Items<(BlockId, Places)>, Refusal>
-    ensures rows { (pending : Map by_replica ℕ) → IfOk result (λ v. v ≡ versions.table (holdings_with blocks.now.arena pending)) }
+    ensures rows { (pending : Map by_replica ℕ)
+        → IfOk result (λ v. v ≡ versions.table (holdings_with blocks.now.arena pending)) }
     ensures refused { IfErr result (λ e. e ≡ Memory) }
 {
     let arena = blocks.arena();

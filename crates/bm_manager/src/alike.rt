@@ -30,7 +30,8 @@ pub fn answers_alike<R: Threads + Wait + Sync, G: Gate + Sync>(
     ensures alike { IfOk result (λ r. AreAlike r.0 r.1) }
     ensures these { IfOk result (λ r. MayAnswerAll step (first_state config) calls.now r.0) }
     ensures others { IfOk result (λ r. MayAnswerAll step (first_state config) calls.now r.1) }
-    ensures refused { IfErr result (λ e. Refuses (config_refusal config) true e ⊎ Refuses (config_refusal (record config { shards = shards; workers = workers })) true e) }
+    ensures refused { IfErr result (λ e. Refuses (config_refusal config) true e
+        ⊎ Refuses (config_refusal (record config { shards = shards; workers = workers })) true e) }
 {
     let other = Config {
         shards,

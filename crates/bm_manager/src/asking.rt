@@ -64,7 +64,8 @@ impl Manager {
 
     /// The known blocks of which no replica is usable, rising. `Memory`.
     pub fn missing(&self) -> Result<Items<BlockId>, Refusal>
-        ensures missing { IfOk result (λ v. v ≡ queries.missing_blocks self.now.cluster self.now.holdings) }
+        ensures missing { IfOk result
+            (λ v. v ≡ queries.missing_blocks self.now.cluster self.now.holdings) }
         ensures refused { IfErr result (λ e. e ≡ Memory) }
     {
         self.fleet.missing(&self.topology)
@@ -84,7 +85,8 @@ impl Manager {
     #[tactic(auto, unfolding(bm_base::specs::Refusals::node_refusal, bm_base::specs::Queries::is_retired, bm_parts::specs::QueryLaws::holds_back))]
     pub fn retired(&self, node: NodeId) -> Result<bool, Refusal>
         ensures known { OnOk result (node_refusal self.now.cluster node ≡ None) }
-        ensures retired { IfOk result (λ b. b ≡ queries.is_retired self.now.cluster self.now.holdings node) }
+        ensures retired { IfOk result
+            (λ b. b ≡ queries.is_retired self.now.cluster self.now.holdings node) }
         ensures refused { IfErr result (Refuses (node_refusal self.now.cluster node) false) }
     {
         match self.topology.node_drains(node) {

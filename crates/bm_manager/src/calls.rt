@@ -79,7 +79,8 @@ impl Manager {
         calls: &[Call],
     ) -> Result<Items<Answer>, AllocError>
         ensures answers { IfOk result (λ answers. MayAnswerAll step self.old calls.now answers) }
-        ensures state { IfOk result (λ answers. self.new ≡ state_left_by step self.old calls.now answers) }
+        ensures state { IfOk result
+            (λ answers. self.new ≡ state_left_by step self.old calls.now answers) }
         ensures unchanged { OnErr result (self.new ≡ self.old) }
         ensures lawful { IsLawful self.new }
     {

@@ -91,7 +91,8 @@ impl Manager {
         ensures accepted { OnOk result (refusal_of self.old event.now ≡ None) }
         ensures done { IfOk result (λ d. d ≡ done_by self.old event.now) }
         ensures state { OnOk result (self.new ≡ after_event self.old event.now) }
-        ensures refused { IfErr result (Refuses (refusal_of self.old event.now) (takes_memory event.now)) }
+        ensures refused { IfErr result
+            (Refuses (refusal_of self.old event.now) (takes_memory event.now)) }
         ensures unchanged { OnErr result (self.new ≡ self.old) }
     {
         self.check(event)?;
@@ -132,7 +133,8 @@ impl Manager {
     fn check(&self, event: &Event) -> Result<(), Refusal>
         ensures refusal { result ≡ checked (refusal_of self.now event.now) }
         ensures room { OnOk result (self.now.calls < last_number) }
-        ensures cluster { OnOk result (first_of (cluster_checks self.now.cluster event.now) ≡ None) }
+        ensures cluster { OnOk result (first_of (cluster_checks self.now.cluster event.now)
+            ≡ None) }
         ensures blocks { OnOk result (first_of (block_checks self.now.holdings event.now) ≡ None) }
     {
         self.topology.check(event)?;

@@ -29,7 +29,8 @@ impl Manager {
         requires { (last_of publisher.old.list).calls ≤ self.old.calls }
         ensures same { self.new ≡ self.old }
         ensures home { publisher.new.home ≡ publisher.old.home }
-        ensures added { OnOk result (publisher.new.list ≡ publisher.old.list ++ version self.old ∷ []) }
+        ensures added { OnOk result (publisher.new.list ≡ publisher.old.list
+            ++ version self.old ∷ []) }
         ensures last { OnOk result (last_of publisher.new.list ≡ version self.old) }
         ensures history { OnOk result (IsHistory publisher.new.list) }
         ensures receipt { IfOk result (λ receipt. receipt ≡ publisher.new) }

@@ -28,7 +28,8 @@ pub(crate) fn reserve_in(
     ensures targets { (q : ℕ) → targets_at blocks.new.entries q ≡ targets_at blocks.old.entries q }
     ensures room { OnOk result (additional ≤ room_at blocks.new.entries block) }
     ensures rooms { (q : ℕ) → room_at blocks.old.entries q ≤ room_at blocks.new.entries q }
-    ensures succeeds { 0 < additional → additional ≤ room_at blocks.old.entries block → IsOk result }
+    ensures succeeds { 0 < additional → additional ≤ room_at blocks.old.entries block
+        → IsOk result }
     ensures refused { IfErr result (λ e. e ≡ Memory) }
 {
     match blocks.get_mut(&block) {
@@ -46,8 +47,12 @@ pub(crate) fn reserve_in(
 pub(crate) fn put_in(blocks: &mut Blocks, block: u64, storage: u32, round: u64)
     requires sorted { (q : ℕ) → T (list.is_sorted nat_cmp (targets_at blocks.old.entries q)) }
     requires room { 0 < room_at blocks.old.entries block }
-    ensures targets { (q : ℕ) → targets_at blocks.new.entries q ≡ cond (nat_eq block q) (list.put nat_cmp storage round (targets_at blocks.old.entries q)) (targets_at blocks.old.entries q) }
-    ensures rooms { (q : ℕ) → room_at blocks.old.entries q ≤ room_at blocks.new.entries q + cond (nat_eq block q) 1 0 }
+    ensures targets { (q : ℕ)
+        → targets_at blocks.new.entries q
+        ≡ cond (nat_eq block q) (list.put nat_cmp storage round (targets_at blocks.old.entries q))
+        (targets_at blocks.old.entries q) }
+    ensures rooms { (q : ℕ)
+        → room_at blocks.old.entries q ≤ room_at blocks.new.entries q + cond (nat_eq block q) 1 0 }
 {
     if let Some(targets) = blocks.get_mut(&block) {
         put(targets, storage, round);
@@ -57,7 +62,11 @@ pub(crate) fn put_in(blocks: &mut Blocks, block: u64, storage: u32, round: u64)
 /// Takes a target of a block out.
 pub(crate) fn drop_in(blocks: &mut Blocks, block: u64, storage: u32)
     ensures keys { keys_of blocks.new.entries ≡ keys_of blocks.old.entries }
-    ensures targets { (q : ℕ) → targets_at blocks.new.entries q ≡ cond (nat_eq block q) (filter (λ t. not (t.0 == storage)) (targets_at blocks.old.entries q)) (targets_at blocks.old.entries q) }
+    ensures targets { (q : ℕ)
+        → targets_at blocks.new.entries q
+        ≡ cond (nat_eq block q) (filter
+        (λ t. not (t.0 == storage)) (targets_at blocks.old.entries q))
+        (targets_at blocks.old.entries q) }
     ensures rooms { (q : ℕ) → room_at blocks.old.entries q ≤ room_at blocks.new.entries q }
 {
     if let Some(targets) = blocks.get_mut(&block) {
@@ -67,15 +76,20 @@ pub(crate) fn drop_in(blocks: &mut Blocks, block: u64, storage: u32)
 
 /// Takes a block out.
 pub(crate) fn drop_block(blocks: &mut Blocks, block: u64)
-    ensures targets { (q : ℕ) → targets_at blocks.new.entries q ≡ cond (nat_eq block q) [] (targets_at blocks.old.entries q) }
-    ensures rooms { (q : ℕ) → room_at blocks.new.entries q ≡ cond (nat_eq block q) 0 (room_at blocks.old.entries q) }
+    ensures targets { (q : ℕ)
+        → targets_at blocks.new.entries q
+        ≡ cond (nat_eq block q) [] (targets_at blocks.old.entries q) }
+    ensures rooms { (q : ℕ)
+        → room_at blocks.new.entries q ≡ cond (nat_eq block q) 0 (room_at blocks.old.entries q) }
 {
     blocks.swap_remove(&block);
 }
 
 /// Takes the transfers out that are given up.
 pub(crate) fn drop_expired_in(blocks: &mut Blocks, pend: u32, round: u64)
-    ensures targets { (q : ℕ) → targets_at blocks.new.entries q ≡ filter (λ t. not (is_expired pend round t.1)) (targets_at blocks.old.entries q) }
+    ensures targets { (q : ℕ)
+        → targets_at blocks.new.entries q
+        ≡ filter (λ t. not (is_expired pend round t.1)) (targets_at blocks.old.entries q) }
     ensures rooms { (q : ℕ) → room_at blocks.old.entries q ≤ room_at blocks.new.entries q }
 {
     blocks.retain(|_, targets| {
@@ -86,7 +100,9 @@ pub(crate) fn drop_expired_in(blocks: &mut Blocks, pend: u32, round: u64)
 
 /// Takes the transfers to these storages out.
 pub(crate) fn drop_storages_in(blocks: &mut Blocks, storages: &[StorageId])
-    ensures targets { (q : ℕ) → targets_at blocks.new.entries q ≡ filter (λ t. not (has storages.now t.0)) (targets_at blocks.old.entries q) }
+    ensures targets { (q : ℕ)
+        → targets_at blocks.new.entries q
+        ≡ filter (λ t. not (has storages.now t.0)) (targets_at blocks.old.entries q) }
     ensures rooms { (q : ℕ) → room_at blocks.old.entries q ≤ room_at blocks.new.entries q }
 {
     blocks.retain(|_, targets| {
@@ -98,8 +114,10 @@ pub(crate) fn drop_storages_in(blocks: &mut Blocks, storages: &[StorageId])
 /// Takes the blocks with no target out.
 pub(crate) fn shed(blocks: &mut Blocks)
     ensures targets { (q : ℕ) → targets_at blocks.new.entries q ≡ targets_at blocks.old.entries q }
-    ensures kept { (q : ℕ) → targets_at blocks.old.entries q ≢ [] → room_at blocks.new.entries q ≡ room_at blocks.old.entries q }
-    ensures freed { (q : ℕ) → targets_at blocks.old.entries q ≡ [] → room_at blocks.new.entries q ≡ 0 }
+    ensures kept { (q : ℕ) → targets_at blocks.old.entries q ≢ []
+        → room_at blocks.new.entries q ≡ room_at blocks.old.entries q }
+    ensures freed { (q : ℕ) → targets_at blocks.old.entries q ≡ []
+        → room_at blocks.new.entries q ≡ 0 }
 {
     // Reads nothing, and says that each block stands once.
     let _ = blocks.iter();

@@ -13,7 +13,8 @@ pub(crate) fn left_among(
     pend: u32,
     round: u64,
 ) -> Result<StorageIds, AllocError>
-    ensures { IfOk result (λ v. v ≡ map (λ t. t.0) (filter (λ t. not (is_expired pend round t.1)) targets.now)) }
+    ensures { IfOk result
+        (λ v. v ≡ map (λ t. t.0) (filter (λ t. not (is_expired pend round t.1)) targets.now)) }
 {
     let mut left = StorageIds::new(alloc);
     for target in targets {

@@ -45,7 +45,8 @@ fn replica_id(block: u64, storage: u32) -> ReplicaId
 fn numbers_in(blocks: &Blocks, alloc: Global) -> Result<Vec<u64>, Refusal>
     ensures rising { IfOk result (λ v. IsNonDecreasing v.items) }
     ensures distinct { IfOk result (λ v. IsDistinct nat_eq v.items) }
-    ensures absent { IfOk result (λ v. (b : ℕ) → list_any (nat_eq b) v.items ≡ false → targets_at blocks.now.entries b ≡ []) }
+    ensures absent { IfOk result (λ v. (b : ℕ) → list_any (nat_eq b) v.items ≡ false
+        → targets_at blocks.now.entries b ≡ []) }
     ensures refused { IfErr result (λ e. e ≡ Memory) }
 {
     let mut numbers: Vec<u64> = blocks.keys().copied().collect(alloc)?;
@@ -59,7 +60,8 @@ fn push_transfers(
     block: u64,
     into: &mut Vec<(ReplicaId, u64)>,
 ) -> Result<(), Refusal>
-    ensures items { OnOk result (into.new.items ≡ into.old.items ++ map (λ t. (replica_at block t.0, t.1)) targets.now) }
+    ensures items { OnOk result (into.new.items ≡ into.old.items
+        ++ map (λ t. (replica_at block t.0, t.1)) targets.now) }
     ensures refused { IfErr result (λ e. e ≡ Memory) }
 {
     for target in targets {
@@ -95,7 +97,8 @@ fn has_expired(targets: &[(u32, u64)], pend: u32, round: u64) -> bool
 fn expiring_in(blocks: &Blocks, alloc: Global, pend: u32, round: u64) -> Result<Vec<u64>, Refusal>
     ensures rising { IfOk result (λ v. IsNonDecreasing v.items) }
     ensures distinct { IfOk result (λ v. IsDistinct nat_eq v.items) }
-    ensures absent { IfOk result (λ v. (b : ℕ) → list_any (nat_eq b) v.items ≡ false → filter (λ t. is_expired pend round t.1) (targets_at blocks.now.entries b) ≡ []) }
+    ensures absent { IfOk result (λ v. (b : ℕ) → list_any (nat_eq b) v.items ≡ false
+        → filter (λ t. is_expired pend round t.1) (targets_at blocks.now.entries b) ≡ []) }
     ensures refused { IfErr result (λ e. e ≡ Memory) }
 {
     let mut numbers = Vec::new(alloc);
@@ -116,7 +119,8 @@ fn push_expired(
     round: u64,
     into: &mut Vec<ReplicaId>,
 ) -> Result<(), Refusal>
-    ensures items { OnOk result (into.new.items ≡ into.old.items ++ map (λ t. replica_at block t.0) (filter (λ t. is_expired pend round t.1) targets.now)) }
+    ensures items { OnOk result (into.new.items ≡ into.old.items
+        ++ map (λ t. replica_at block t.0) (filter (λ t. is_expired pend round t.1) targets.now)) }
     ensures refused { IfErr result (λ e. e ≡ Memory) }
 {
     for target in targets {

@@ -15,7 +15,9 @@ impl PendingTransfers {
     pub fn reserve_own(&mut self, transfers: &[Transfer], part: Part) -> Result<(), Refusal>
         requires part { part.index < part.shards }
         ensures map { self.new.map ≡ self.old.map }
-        ensures room { OnOk result ((b : ℕ) → length (filter (λ t. t.block == b) (own_transfers part.index part.shards transfers.now)) ≤ room self.new b) }
+        ensures room { OnOk result ((b : ℕ)
+            → length (filter (λ t. t.block == b)
+            (own_transfers part.index part.shards transfers.now)) ≤ room self.new b) }
         ensures rooms { (b : ℕ) → room self.old b ≤ room self.new b }
         ensures refused { IfErr result (λ e. e ≡ Memory) }
     {
@@ -34,7 +36,10 @@ impl PendingTransfers {
 fn count_one(counts: &mut IndexMap<u64, usize>, id: BlockId) -> Result<usize, Refusal>
     requires { count_at counts.old.entries id < 18446744073709551615 }
     ensures counted { IfOk result (λ n. n ≡ suc (count_at counts.old.entries id)) }
-    ensures counts { OnOk result ((q : ℕ) → count_at counts.new.entries q ≡ cond (nat_eq id q) (suc (count_at counts.old.entries q)) (count_at counts.old.entries q)) }
+    ensures counts { OnOk result ((q : ℕ)
+        → count_at counts.new.entries q
+        ≡ cond (nat_eq id q) (suc (count_at counts.old.entries q))
+        (count_at counts.old.entries q)) }
     ensures refused { IfErr result (λ e. e ≡ Memory) }
 {
     let count = match counts.get(&id.0) {

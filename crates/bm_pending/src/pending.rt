@@ -71,7 +71,8 @@ impl PendingTransfers {
     pub fn insert_reserved(&mut self, block: BlockId, storage: StorageId, round: u64)
         requires { 0 < room self.old block }
         ensures map { self.new.map ≡ map.insert self.old.map (replica_at block storage) round }
-        ensures rooms { (other : ℕ) → room self.old other ≤ room self.new other + (if other == block then 1 else 0) }
+        ensures rooms { (other : ℕ)
+            → room self.old other ≤ room self.new other + (if other == block then 1 else 0) }
     {
         put_in(&mut self.by_block, block.0, storage.0, round);
     }
@@ -88,7 +89,8 @@ impl PendingTransfers {
     /// Takes the transfers of a block out, and gives its room up. Takes no memory.
     pub fn remove_block(&mut self, block: BlockId)
         ensures map { self.new.map ≡ map.keep self.old.map (λ q _. not (q.block == block)) }
-        ensures rooms { (other : ℕ) → room self.new other ≡ (if other == block then 0 else room self.old other) }
+        ensures rooms { (other : ℕ)
+            → room self.new other ≡ (if other == block then 0 else room self.old other) }
     {
         drop_block(&mut self.by_block, block.0);
     }
@@ -104,7 +106,8 @@ impl PendingTransfers {
     /// Takes the transfers to these storages out, in one pass over the blocks, each target compared with each of the storages. Takes no
     /// memory.
     pub fn drop_storages(&mut self, storages: &[StorageId])
-        ensures map { self.new.map ≡ map.keep self.old.map (λ q _. not (has storages.now q.storage)) }
+        ensures map { self.new.map
+            ≡ map.keep self.old.map (λ q _. not (has storages.now q.storage)) }
         ensures rooms { (other : ℕ) → room self.old other ≤ room self.new other }
     {
         drop_storages_in(&mut self.by_block, storages);
@@ -113,7 +116,8 @@ impl PendingTransfers {
     /// Gives up the room of the blocks with no transfer, in one pass over the blocks. Takes no memory.
     pub fn shed(&mut self)
         ensures map { self.new.map ≡ self.old.map }
-        ensures kept { (block : ℕ) → targets_of self.old block ≢ [] → room self.new block ≡ room self.old block }
+        ensures kept { (block : ℕ) → targets_of self.old block ≢ []
+            → room self.new block ≡ room self.old block }
         ensures freed { (block : ℕ) → targets_of self.old block ≡ [] → room self.new block ≡ 0 }
     {
         shed(&mut self.by_block);
@@ -160,7 +164,8 @@ impl PendingTransfers {
 
     /// Does nothing: a caller has by it that the block of each transfer stands at a place, and no block at two.
     pub fn lawful(&self)
-        ensures listed { (q : ReplicaId) → IsSome (map.get self.now.map q) → has (blocks_in self.now) q.block ≡ true }
+        ensures listed { (q : ReplicaId) → IsSome (map.get self.now.map q)
+            → has (blocks_in self.now) q.block ≡ true }
         ensures once { IsDistinct nat_eq (blocks_in self.now) }
     {
         // Reads nothing, and says that each block stands once.
@@ -170,7 +175,8 @@ impl PendingTransfers {
     /// Puts the targets of a block's transfers, rising, behind what is there. May answer `Memory`, and then nothing is put.
     pub fn push_targets(&self, block: BlockId, into: &mut Vec<StorageId>) -> Result<(), Refusal>
         ensures items { OnOk result (into.new.items ≡ into.old.items ++ targets_of self.now block) }
-        ensures succeeds { vec_len into.old + length (targets_of self.now block) ≤ vec_capacity into.old → IsOk result }
+        ensures succeeds { vec_len into.old + length (targets_of self.now block) ≤ vec_capacity
+            into.old → IsOk result }
         ensures unchanged { OnErr result (into.new.items ≡ into.old.items) }
         ensures refused { IfErr result (λ e. e ≡ Memory) }
     {

@@ -54,14 +54,22 @@ pub(crate) fn is_expired(commanded: u64, pend: u32, round: u64) -> bool
 
 /// Takes the transfers out that are given up.
 pub(crate) fn drop_expired(targets: &mut Targets, pend: u32, round: u64)
-    ensures { targets.new ≡ record targets.old { items = filter (λ t. not (is_expired pend round t.1)) targets.old.items } }
+    ensures { targets.new
+        ≡ record targets.old {
+          items = filter
+              (λ t. not (is_expired pend round t.1)) targets.old.items;
+        } }
 {
     targets.retain(|target| !is_expired(target.1, pend, round));
 }
 
 /// Takes the transfers to these storages out.
 pub(crate) fn drop_storages(targets: &mut Targets, storages: &[StorageId])
-    ensures { targets.new ≡ record targets.old { items = filter (λ t. not (has storages.now t.0)) targets.old.items } }
+    ensures { targets.new
+        ≡ record targets.old {
+          items = filter
+              (λ t. not (has storages.now t.0)) targets.old.items;
+        } }
 {
     targets.retain(|target| !storages.contains(&StorageId(target.0)));
 }

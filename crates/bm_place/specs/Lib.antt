@@ -3,6 +3,7 @@ pub mod Least
 pub mod Tables
 pub mod Sources
 pub mod Targets
+pub mod Found
 -- Words of the bodies: the same as in bm_base, said of rows and counts.
 pub mod Scan
 pub mod Few

@@ -36,7 +36,8 @@ pub fn excess_of(
     repl: u32,
     topology: &Topology,
 ) -> Result<Vec<StorageId>, Refusal>
-    ensures chosen { IfOk result (λ v. v.items ≡ excess.excess_of topology.now.cluster live.now repl) }
+    ensures chosen { IfOk result
+        (λ v. v.items ≡ excess.excess_of topology.now.cluster live.now repl) }
     ensures enough { length live.now ≤ repl → IsOk result }
     ensures refused { IfErr result (λ e. e ≡ Memory) }
 {
@@ -92,7 +93,8 @@ fn first_excess(
     racks: &NumberMap<usize>,
     topology: &Topology,
 ) -> Option<StorageId>
-    ensures { candidates.CountsRacks topology.now.cluster left.now racks.now.map → result ≡ least (excess.excess_cmp topology.now.cluster left.now) left.now }
+    ensures { candidates.CountsRacks topology.now.cluster left.now racks.now.map
+        → result ≡ least (excess.excess_cmp topology.now.cluster left.now) left.now }
 {
     let mut best = None;
     for storage in left {
@@ -150,7 +152,8 @@ fn take_out(
     topology: &Topology,
 )
     ensures left { left.new.items ≡ filter (λ s. not (s == next)) left.old.items }
-    ensures racks { candidates.CountsRacks topology.now.cluster left.old.items racks.old.map → candidates.CountsRacks topology.now.cluster left.new.items racks.new.map }
+    ensures racks { candidates.CountsRacks topology.now.cluster left.old.items racks.old.map
+        → candidates.CountsRacks topology.now.cluster left.new.items racks.new.map }
 {
     let before = left.len();
     left.retain(|storage| *storage != next);

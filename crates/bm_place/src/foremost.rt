@@ -1,5 +1,5 @@
 // The targets that go before the others of their nodes.
-ghost use Rattle.std.specs.Prelude.{◌≡◌, [], map, Some, position, IfOk, OnOk};
+ghost use Rattle.std.specs.Prelude.{◌≡◌, ◌<◌, [], map, length, slice_index_or, slice_set, Some, position, IfOk, OnOk};
 ghost use Rattle.bm_place.specs.Foremost as nodes;
 ghost use Rattle.bm_place.specs.Scan as scanned;
 ghost use Rattle.bm_place.specs.Targets as targets;
@@ -50,7 +50,8 @@ fn better(one: &Target, other: &Target) -> Target
 
 /// Of a target and the rows of its node the one that goes before the others. Goes over the rows once.
 pub fn foremost_beside(target: Target, rows: &[(u64, Target)]) -> Target
-    ensures { scanned.scan nodes.cmp_alike (λ c. nodes.are_alike c target) (Some target) (map (λ e. e.1) rows.now) ≡ Some result }
+    ensures { scanned.scan nodes.cmp_alike
+        (λ c. nodes.are_alike c target) (Some target) (map (λ e. e.1) rows.now) ≡ Some result }
 {
     let mut best = target;
     for row in rows {
@@ -66,19 +67,20 @@ pub fn put_for(foremost: &mut Vec<Target>, storage: StorageId, best: &Target)
     ensures { foremost.new.items ≡ map (nodes.put_for storage best.now) foremost.old.items }
 {
     for place in 0..foremost.len() {
-        foremost[place] = either(&foremost[place], storage, best);
+        put_at(foremost, place, storage, best);
     }
 }
 
-/// Another target in the place of that of this storage, and any other target as it is.
-fn either(target: &Target, storage: StorageId, best: &Target) -> Target
-    ensures { result ≡ nodes.put_for storage best.now target.now }
+/// Puts another target at a place, if that of this storage stands there. Any other is not even written again.
+fn put_at(foremost: &mut Vec<Target>, place: usize, storage: StorageId, best: &Target)
+    requires { place < length foremost.old.items }
+    ensures { (x : Target) → x ≡ slice_index_or foremost.old.items place x
+        → foremost.new.items ≡ slice_set foremost.old.items place (nodes.put_for storage best.now x) }
 {
-    if target.storage == storage {
-        *best
-    } else {
-        *target
+    if foremost[place].storage != storage {
+        return;
     }
+    foremost[place] = *best;
 }
 
 /// The greatest room of the targets that do not drain; 0 where there is none.

@@ -8,6 +8,7 @@ ghost use Rattle.bm_base.specs.Map as map;
 ghost use Rattle.bm_base.specs.Excess.{remaining};
 ghost use Rattle.bm_base.specs.Transfers as transfers;
 ghost use Rattle.bm_place.specs.Targets as targets;
+ghost use Rattle.bm_place.specs.Found.{HasRoomFor, with_sent, targets_with};
 ghost use Rattle.bm_place.specs.Foremost as nodes;
 ghost use Rattle.bm_place.specs.Foremost.{AreForemost, HasNoRoom, IsKept};
 ghost use Rattle.bm_place.specs.Spans.{AreSpanned};
@@ -68,8 +69,9 @@ impl Scheduled {
     /// Nothing is sent yet to any storage of the cluster. `Memory` where a growth of the tables is refused. Goes over the
     /// storages of the cluster once, by a few look-ups and over the nodes so far for each.
     pub fn new(alloc: Global, topology: &Topology) -> Result<Scheduled, Refusal>
-        ensures none_yet { IfOk result (λ t. t ≡ targets.target_table topology.now.cluster (λ _. 0)) }
-        ensures of_transfers { IfOk result (λ t. t ≡ targets.target_table topology.now.cluster (transfers.scheduled_to [])) }
+        ensures none_yet { IfOk result
+            (λ t. t ≡ targets.target_table topology.now.cluster (λ _. 0)) }
+        ensures of_transfers { IfOk result (λ t. t ≡ targets_with topology.now.cluster []) }
         ensures refused { IfErr result (λ e. e ≡ Memory) }
     {
         let rows = rows_of(alloc, topology)?;
@@ -89,10 +91,13 @@ impl Scheduled {
     /// found for this length; nothing for an unknown storage. A few look-ups, and goes once over the nodes of the cluster and over
     /// the storages whose numbers lie between the least and the greatest of the node's. Takes no memory.
     pub fn add(&mut self, target: StorageId, len: u64)
-        requires fits { IfSome (map.get self.old target) (λ t. len + t.scheduled ≤ t.remaining) }
-        ensures after { self.new ≡ map.revise_at self.old target (λ t. record t { scheduled = t.scheduled + len }) }
-        ensures sent { (C : Cluster) (sent : ℕ → ℕ) → self.old ≡ targets.target_table C sent → self.new ≡ targets.target_table C (λ s. sent s + (if target == s then len else 0)) }
-        ensures of_transfers { (C : Cluster) (chosen : List Transfer) (t : Transfer) → t.target ≡ target → t.stamp.len ≡ len → self.old ≡ targets.target_table C (transfers.scheduled_to chosen) → self.new ≡ targets.target_table C (transfers.scheduled_to (chosen ++ t ∷ [])) }
+        requires fits { HasRoomFor self.old len target }
+        ensures after { self.new ≡ with_sent self.old target len }
+        ensures sent { (C : Cluster) (sent : ℕ → ℕ) → self.old ≡ targets.target_table C sent
+            → self.new ≡ targets.target_table C (λ s. sent s + (if target == s then len else 0)) }
+        ensures of_transfers { (C : Cluster) (chosen : List Transfer) (t : Transfer)
+            → t.target ≡ target → t.stamp.len ≡ len
+            → self.old ≡ targets_with C chosen → self.new ≡ targets_with C (chosen ++ t ∷ []) }
     {
         add_to(&mut self.rows, target, len);
         renew(&mut self.foremost, &self.rows, &self.spans, target);
@@ -130,8 +135,8 @@ fn rows_of(alloc: Global, topology: &Topology) -> Result<NumberMap<Target>, Allo
 
 /// So many bytes more are sent to a storage, if it is there.
 fn add_to(rows: &mut NumberMap<Target>, target: StorageId, len: u64)
-    requires { IfSome (map.get rows.old.map target) (λ t. len + t.scheduled ≤ t.remaining) }
-    ensures { rows.new.map ≡ map.revise_at rows.old.map target (λ t. record t { scheduled = t.scheduled + len }) }
+    requires { HasRoomFor rows.old.map len target }
+    ensures { rows.new.map ≡ with_sent rows.old.map target len }
 {
     if let Some(row) = rows.get(u64::from(target.0)) {
         let scheduled = row.scheduled + len;
@@ -146,7 +151,11 @@ fn renew(
     spans: &NumberMap<Span>,
     target: StorageId,
 )
-    ensures { (old : map.Map map.by_number Target) (most len : ℕ) → IsKept old foremost.old.items most → IfSome (map.get old target) (λ t. len + t.scheduled ≤ t.remaining) → rows.now.map ≡ map.revise_at old target (λ t. record t { scheduled = t.scheduled + len }) → AreSpanned (map.entries rows.now.map) spans.now.map → IsKept rows.now.map foremost.new.items (nodes.greatest_room 0 foremost.new.items) }
+    ensures { (old : map.Map map.by_number Target) (most len : ℕ)
+        → IsKept old foremost.old.items most → HasRoomFor old len target
+        → rows.now.map ≡ with_sent old target len
+        → AreSpanned (map.entries rows.now.map) spans.now.map
+        → IsKept rows.now.map foremost.new.items (nodes.greatest_room 0 foremost.new.items) }
 {
     if let Some(row) = rows.get(u64::from(target.0)) {
         let near = rows_near(rows.entries(), spans, &row);

@@ -5,7 +5,7 @@ ghost use Rattle.std.specs.Option.{IfSome};
 ghost use Rattle.bm_base.specs.Map as map;
 ghost use Rattle.bm_base.specs.Replicas.{is_draining};
 ghost use Rattle.bm_base.specs.Transfers as transfers;
-ghost use Rattle.bm_place.specs.Least.{IsLeastOf};
+ghost use Rattle.bm_place.specs.Found.{IsLeastSource, IsCountable, senders_with};
 ghost use Rattle.bm_place.specs.Sources as sources;
 ghost use Rattle.bm_place.specs.Tables as tables;
 ghost use Rattle.bm_place.specs.Scan as scanned;
@@ -37,11 +37,14 @@ pub fn least_source(
     topology: &Topology,
     streams: &Streams,
 ) -> Option<StorageId>
-    ensures choice { (sends : ℕ → ℕ) → streams.now ≡ sources.sender_table topology.now.cluster sends → result ≡ transfers.least_source_by topology.now.cluster (sources.streams_by topology.now.cluster sends) level usable.now }
-    ensures least { (sends : ℕ → ℕ) → streams.now ≡ sources.sender_table topology.now.cluster sends → IsLeastOf (transfers.source_cmp topology.now.cluster (sources.streams_by topology.now.cluster sends)) (λ s. nat_lt (sources.streams_by topology.now.cluster sends s) (transfers.stream_limit level (is_draining topology.now.cluster s))) usable.now result }
-    ensures drained_first { (sends : ℕ → ℕ) → streams.now ≡ sources.sender_table topology.now.cluster sends → sources.TakesDrained topology.now.cluster (sources.streams_by topology.now.cluster sends) usable.now result }
-    ensures countable { (sends : ℕ → ℕ) → streams.now ≡ sources.sender_table topology.now.cluster sends → IfSome result (λ s. IfSome (map.get streams.now.nodes s) (λ n. tables.count_at streams.now.counts n < sources.max_transfers)) }
-    ensures of_transfers { (chosen : List Transfer) → streams.now ≡ sources.sender_table topology.now.cluster (sources.transfers_by topology.now.cluster chosen) → result ≡ transfers.least_source topology.now.cluster chosen level usable.now }
+    ensures found { (sends : ℕ → ℕ) → streams.now ≡ sources.sender_table topology.now.cluster sends
+        → IsLeastSource topology.now.cluster sends level usable.now result }
+    ensures countable { (sends : ℕ → ℕ)
+        → streams.now ≡ sources.sender_table topology.now.cluster sends
+        → IfSome result (IsCountable streams.now) }
+    ensures of_transfers { (chosen : List Transfer)
+        → streams.now ≡ senders_with topology.now.cluster chosen
+        → result ≡ transfers.least_source topology.now.cluster chosen level usable.now }
 {
     let mut best = None;
     for storage in usable {
@@ -65,7 +68,8 @@ fn storage_of(source: &Option<Source>) -> Option<StorageId>
 /// A storage as a source.
 #[tactic(auto, unfolding(bm_base::specs::Transfers::node_number))]
 fn source_at(topology: &Topology, streams: &Streams, storage: StorageId) -> Source
-    ensures { result ≡ sources.source_at topology.now.cluster (sources.streams_by topology.now.cluster (tables.count_at streams.now.counts)) storage }
+    ensures { result ≡ sources.source_at topology.now.cluster
+        (sources.streams_by topology.now.cluster (tables.count_at streams.now.counts)) storage }
 {
     let is_drained = topology.is_draining(storage);
     match topology.node_of(storage) {

@@ -62,8 +62,11 @@ pub fn rows_near<'a>(
     spans: &NumberMap<Span>,
     target: &Target,
 ) -> &'a [(u64, Target)]
-    ensures part { (t : Target) → IsAmong (map (λ e. e.1) result.now) t → IsAmong (map (λ e. e.1) rows.now) t }
-    ensures all { places.AreSpanned rows.now spans.now.map → (t : Target) → IsAmong (map (λ e. e.1) rows.now) t → are_alike t target.now ≡ true → IsAmong (map (λ e. e.1) result.now) t }
+    ensures part { (t : Target) → IsAmong (map (λ e. e.1) result.now) t
+        → IsAmong (map (λ e. e.1) rows.now) t }
+    ensures all { places.AreSpanned rows.now spans.now.map → (t : Target)
+        → IsAmong (map (λ e. e.1) rows.now) t → are_alike t target.now ≡ true
+        → IsAmong (map (λ e. e.1) result.now) t }
 {
     match span_of(spans, target.node) {
         Some(span) if span.from <= span.to && span.to <= rows.len() => &rows[span.from..span.to],

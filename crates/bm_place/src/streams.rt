@@ -1,12 +1,12 @@
 // Of how many transfers each node is the source in a round.
 ghost use Rattle.std.specs.Prelude.{◌≡◌, ◌<◌, ◌+◌, if◌then◌else◌, ℕ, List, [], ◌∷◌, ◌++◌, IfOk, IfErr};
-ghost use Rattle.std.specs.Option.{IfSome};
 ghost use Rattle.bm_base.specs.declared.refusal.Refusal.TheVariants.{Memory};
 ghost use Rattle.bm_base.specs.declared.commands.Transfer.{Transfer};
 ghost use Rattle.bm_base.specs.State.{Cluster};
 ghost use Rattle.bm_base.specs.Map as map;
 ghost use Rattle.bm_base.specs.Replicas.{has_storage};
 ghost use Rattle.bm_base.specs.Transfers as transfers;
+ghost use Rattle.bm_place.specs.Found.{IsCountable, senders_with};
 ghost use Rattle.bm_place.specs.Sources as sources;
 ghost use Rattle.bm_place.specs.Tables as tables;
 
@@ -38,8 +38,9 @@ impl Model for Streams {
 impl Streams {
     /// No node is a source yet. `Memory` where a growth of the tables is refused. Looks up each storage of the cluster once.
     pub fn new(alloc: Global, topology: &Topology) -> Result<Streams, Refusal>
-        ensures none_yet { IfOk result (λ t. t ≡ sources.sender_table topology.now.cluster (λ _. 0)) }
-        ensures of_transfers { IfOk result (λ t. t ≡ sources.sender_table topology.now.cluster (sources.transfers_by topology.now.cluster [])) }
+        ensures none_yet { IfOk result
+            (λ t. t ≡ sources.sender_table topology.now.cluster (λ _. 0)) }
+        ensures of_transfers { IfOk result (λ t. t ≡ senders_with topology.now.cluster []) }
         ensures refused { IfErr result (λ e. e ≡ Memory) }
     {
         let mut nodes = NumberMap::new(alloc);
@@ -58,10 +59,14 @@ impl Streams {
     /// Counts one transfer more for the node of `source`; nothing for an unknown storage. The node is the source of fewer than
     /// 256,000 so far, as that of what [`least_source`](crate::least_source) just found. Two look-ups. Takes no memory.
     pub fn add(&mut self, source: StorageId)
-        requires countable { IfSome (map.get self.old.nodes source) (λ n. tables.count_at self.old.counts n < sources.max_transfers) }
+        requires countable { IsCountable self.old source }
         ensures after { self.new ≡ sources.with_one_from source self.old }
-        ensures sends { (C : Cluster) (sends : ℕ → ℕ) → self.old ≡ sources.sender_table C sends → self.new ≡ sources.sender_table C (λ n. sends n + (if has_storage C n source then 1 else 0)) }
-        ensures of_transfers { (C : Cluster) (chosen : List Transfer) (t : Transfer) → t.source ≡ source → self.old ≡ sources.sender_table C (sources.transfers_by C chosen) → self.new ≡ sources.sender_table C (sources.transfers_by C (chosen ++ t ∷ [])) }
+        ensures sends { (C : Cluster) (sends : ℕ → ℕ) → self.old ≡ sources.sender_table C sends
+            → self.new ≡ sources.sender_table C
+            (λ n. sends n + (if has_storage C n source then 1 else 0)) }
+        ensures of_transfers { (C : Cluster) (chosen : List Transfer) (t : Transfer)
+            → t.source ≡ source
+            → self.old ≡ senders_with C chosen → self.new ≡ senders_with C (chosen ++ t ∷ []) }
     {
         if let Some(node) = self.nodes.get(u64::from(source.0)) {
             add_one(&mut self.counts, node);

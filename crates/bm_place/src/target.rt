@@ -1,13 +1,9 @@
 // The target of a copy.
-ghost use Rattle.std.specs.Prelude.{◌≡◌, ◌≤◌, ◌+◌, ◌&&◌, true, false, ℕ, List, Some, option_map};
+ghost use Rattle.std.specs.Prelude.{◌≡◌, ◌&&◌, ℕ, List, option_map};
 ghost use Rattle.std.specs.Option.{IfSome};
 ghost use Rattle.bm_base.specs.declared.commands.Transfer.{Transfer};
-ghost use Rattle.bm_base.specs.Map as map;
-ghost use Rattle.bm_base.specs.Lists.{has};
-ghost use Rattle.bm_base.specs.Replicas.{node_of, has_storage, is_draining};
-ghost use Rattle.bm_base.specs.Excess.{remaining};
 ghost use Rattle.bm_base.specs.Transfers as transfers;
-ghost use Rattle.bm_place.specs.Least.{IsLeastOf};
+ghost use Rattle.bm_place.specs.Found.{IsLeastTarget, HasRoomFor, targets_with};
 ghost use Rattle.bm_place.specs.Targets as targets;
 ghost use Rattle.bm_place.specs.Scan as scanned;
 
@@ -37,14 +33,14 @@ pub fn least_target(
     topology: &Topology,
     scheduled: &Scheduled,
 ) -> Option<StorageId>
-    ensures choice { (sent : ℕ → ℕ) → scheduled.now ≡ targets.target_table topology.now.cluster sent → result ≡ transfers.least_target_by topology.now.cluster sent level held.now barred.now len }
-    ensures least { (sent : ℕ → ℕ) → scheduled.now ≡ targets.target_table topology.now.cluster sent → IsLeastOf (transfers.target_cmp topology.now.cluster sent held.now) (transfers.is_target topology.now.cluster sent level held.now barred.now len) (map.keys topology.now.cluster.storages) result }
-    ensures room { (sent : ℕ → ℕ) → scheduled.now ≡ targets.target_table topology.now.cluster sent → IfSome result (λ s. len + sent s ≤ remaining topology.now.cluster s) }
-    ensures fits { (sent : ℕ → ℕ) → scheduled.now ≡ targets.target_table topology.now.cluster sent → IfSome result (λ s. IfSome (map.get scheduled.now s) (λ t. len + t.scheduled ≤ t.remaining)) }
-    ensures unbarred_node { (sent : ℕ → ℕ) → scheduled.now ≡ targets.target_table topology.now.cluster sent → IfSome result (λ s. (b n : ℕ) → has barred.now b ≡ true → node_of topology.now.cluster b ≡ Some n → has_storage topology.now.cluster n s ≡ false) }
-    ensures not_draining { (sent : ℕ → ℕ) → scheduled.now ≡ targets.target_table topology.now.cluster sent → IfSome result (λ s. is_draining topology.now.cluster s ≡ false) }
-    ensures other_rack { (sent : ℕ → ℕ) → scheduled.now ≡ targets.target_table topology.now.cluster sent → targets.LeavesRack topology.now.cluster sent level held.now barred.now len result }
-    ensures of_transfers { (chosen : List Transfer) → scheduled.now ≡ targets.target_table topology.now.cluster (transfers.scheduled_to chosen) → result ≡ transfers.least_target topology.now.cluster chosen level held.now barred.now len }
+    ensures found { (sent : ℕ → ℕ) → scheduled.now ≡ targets.target_table topology.now.cluster sent
+        → IsLeastTarget topology.now.cluster sent level held.now barred.now len result }
+    ensures fits { (sent : ℕ → ℕ) → scheduled.now ≡ targets.target_table topology.now.cluster sent
+        → IfSome result (HasRoomFor scheduled.now len) }
+    ensures of_transfers { (chosen : List Transfer)
+        → scheduled.now ≡ targets_with topology.now.cluster chosen
+        → result ≡ transfers.least_target topology.now.cluster chosen level held.now
+        barred.now len }
 {
     least_fitting(held, barred, len, level, topology, scheduled)
 }
@@ -58,7 +54,9 @@ fn least_fitting(
     topology: &Topology,
     scheduled: &Scheduled,
 ) -> Option<StorageId>
-    ensures { (sent : ℕ → ℕ) → scheduled.now ≡ targets.target_table topology.now.cluster sent → result ≡ transfers.least_target_by topology.now.cluster sent level held.now barred.now len }
+    ensures { (sent : ℕ → ℕ) → scheduled.now ≡ targets.target_table topology.now.cluster sent
+        → result ≡ transfers.least_target_by topology.now.cluster sent level held.now
+        barred.now len }
 {
     if !scheduled.may_fit(len) {
         return None;
@@ -93,7 +91,8 @@ fn is_taken(
     len: u64,
     level: Level,
 ) -> bool
-    ensures { result ≡ (targets.is_free topology.now.cluster standing.now level barred.now len target.now && scanned.is_better (targets.cmp_targets standing.now) best.now target.now) }
+    ensures { result ≡ (targets.is_free topology.now.cluster standing.now level barred.now len
+        target.now && scanned.is_better (targets.cmp_targets standing.now) best.now target.now) }
 {
     is_open(target, standing, len, level)
         && is_better(target, best, standing)

@@ -90,13 +90,19 @@ impl LevelLists {
         requires { slot < length self.old.levels }
         ensures same { level_at self.old slot ≡ level → self.new ≡ self.old }
         ensures after { level_at self.old slot ≢ level → self.new ≡ moved self.old slot level }
-        ensures front { (l : Level) → level ≡ Some l → level_at self.old slot ≢ level → slots_of self.new l ≡ slot ∷ slots_of self.old l }
-        ensures left { (l : Level) → level_at self.old slot ≡ Some l → level ≢ Some l → slots_of self.new l ≡ without slot (slots_of self.old l) }
+        ensures front { (l : Level) → level ≡ Some l → level_at self.old slot ≢ level
+            → slots_of self.new l ≡ slot ∷ slots_of self.old l }
+        ensures left { (l : Level) → level_at self.old slot ≡ Some l → level ≢ Some l
+            → slots_of self.new l ≡ without slot (slots_of self.old l) }
         ensures room { length self.new.levels ≡ length self.old.levels }
-        ensures levels { (other : ℕ) → level_at self.new other ≡ (if other == slot then level else level_at self.old other) }
-        ensures others { (l : Level) → Some l ≢ level → Some l ≢ level_at self.old slot → slots_of self.new l ≡ slots_of self.old l }
-        ensures rest { (l : Level) (at : Option ℕ) → IsPast slot at (slots_of self.old l) → slots_from (slots_of self.new l) at ≡ slots_from (slots_of self.old l) at }
-        ensures on { (l : Level) (at : Option ℕ) → IsPast slot at (slots_of self.old l) → IsOn at (slots_of self.old l) → IsOn at (slots_of self.new l) }
+        ensures levels { (other : ℕ)
+            → level_at self.new other ≡ (if other == slot then level else level_at self.old other) }
+        ensures others { (l : Level) → Some l ≢ level → Some l ≢ level_at self.old slot
+            → slots_of self.new l ≡ slots_of self.old l }
+        ensures rest { (l : Level) (at : Option ℕ) → IsPast slot at (slots_of self.old l)
+            → slots_from (slots_of self.new l) at ≡ slots_from (slots_of self.old l) at }
+        ensures on { (l : Level) (at : Option ℕ) → IsPast slot at (slots_of self.old l)
+            → IsOn at (slots_of self.old l) → IsOn at (slots_of self.new l) }
         ensures lawful { IsLawful self.new }
     {
         let byte = LevelByte::of(level);
@@ -133,9 +139,13 @@ impl LevelLists {
     pub fn next(&self, slot: usize) -> Option<usize>
         requires { slot < length self.now.levels }
         ensures slot { result ≡ next_of self.now slot }
-        ensures on { (l : Level) → level_at self.now slot ≡ Some l → IsOn result (slots_of self.now l) }
-        ensures rest { (l : Level) → level_at self.now slot ≡ Some l → slots_from (slots_of self.now l) (Some slot) ≡ slot ∷ slots_from (slots_of self.now l) result }
-        ensures past { (l : Level) → level_at self.now slot ≡ Some l → IsPast slot result (slots_of self.now l) }
+        ensures on { (l : Level) → level_at self.now slot ≡ Some l
+            → IsOn result (slots_of self.now l) }
+        ensures rest { (l : Level) → level_at self.now slot ≡ Some l
+            → slots_from (slots_of self.now l) (Some slot)
+            ≡ slot ∷ slots_from (slots_of self.now l) result }
+        ensures past { (l : Level) → level_at self.now slot ≡ Some l
+            → IsPast slot result (slots_of self.now l) }
     {
         self.lists.next(slot)
     }

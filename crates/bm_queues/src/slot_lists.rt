@@ -68,7 +68,8 @@ impl SlotLists {
     pub(crate) fn grow_to(&mut self, room: usize) -> Result<(), AllocError>
         requires lawful { AreLinked self.old }
         ensures heads { self.new.heads ≡ self.old.heads }
-        ensures room { OnOk result (room_of self.new ≡ (if nat_lt (room_of self.old) room then room else room_of self.old)) }
+        ensures room { OnOk result (room_of self.new
+            ≡ (if nat_lt (room_of self.old) room then room else room_of self.old)) }
         ensures enough { OnOk result (room ≤ room_of self.new) }
         ensures kept { room_of self.old ≤ room_of self.new }
         ensures refused { OnErr result (room_of self.new ≡ room_of self.old) }
@@ -92,7 +93,8 @@ impl SlotLists {
         requires slot { slot < room_of self.old }
         ensures heads { self.new.heads ≡ self.old.heads }
         ensures room { room_of self.new ≡ room_of self.old }
-        ensures lists { (l : ℕ) → l < self.old.heads → list_of self.new l ≡ without slot (list_of self.old l) }
+        ensures lists { (l : ℕ) → l < self.old.heads
+            → list_of self.new l ≡ without slot (list_of self.old l) }
         ensures lawful { AreLinked self.new }
     {
         if let Some(before) = self.previous[slot].slot() {
@@ -113,7 +115,9 @@ impl SlotLists {
         requires absent { (l : ℕ) → l < self.old.heads → Among slot (list_of self.old l) → ⊥ }
         ensures heads { self.new.heads ≡ self.old.heads }
         ensures room { room_of self.new ≡ room_of self.old }
-        ensures lists { (l : ℕ) → l < self.old.heads → list_of self.new l ≡ (if l == list then slot ∷ list_of self.old l else list_of self.old l) }
+        ensures lists { (l : ℕ) → l < self.old.heads
+            → list_of self.new l ≡ (if l == list then slot ∷ list_of self.old l
+            else list_of self.old l) }
         ensures lawful { AreLinked self.new }
     {
         let cell = self.heads + slot;
@@ -137,8 +141,10 @@ impl SlotLists {
     pub(crate) fn next(&self, slot: usize) -> Option<usize>
         requires lawful { AreLinked self.now }
         requires slot { slot < room_of self.now }
-        ensures listed { (l : ℕ) → l < self.now.heads → Among slot (list_of self.now l) → result ≡ slot_after slot (list_of self.now l) }
-        ensures absent { ((l : ℕ) → l < self.now.heads → Among slot (list_of self.now l) → ⊥) → result ≡ None }
+        ensures listed { (l : ℕ) → l < self.now.heads → Among slot (list_of self.now l)
+            → result ≡ slot_after slot (list_of self.now l) }
+        ensures absent { ((l : ℕ) → l < self.now.heads → Among slot (list_of self.now l) → ⊥)
+            → result ≡ None }
     {
         self.next[self.heads + slot].slot()
     }
@@ -147,8 +153,10 @@ impl SlotLists {
     pub(crate) fn is_listed(&self, slot: usize) -> bool
         requires lawful { AreLinked self.now }
         requires slot { slot < room_of self.now }
-        ensures listed { IsTrue result → (l : ℕ) × (l < self.now.heads) × Among slot (list_of self.now l) }
-        ensures found { (l : ℕ) → l < self.now.heads → Among slot (list_of self.now l) → IsTrue result }
+        ensures listed { IsTrue result
+            → (l : ℕ) × (l < self.now.heads) × Among slot (list_of self.now l) }
+        ensures found { (l : ℕ) → l < self.now.heads → Among slot (list_of self.now l)
+            → IsTrue result }
     {
         self.previous[slot].slot().is_some()
     }

@@ -78,12 +78,16 @@ impl SlotSet {
     pub fn insert(&mut self, slot: usize)
         requires { slot < self.old.room }
         ensures same { Among slot self.old.slots → self.new ≡ self.old }
-        ensures after { (Among slot self.old.slots → ⊥) → self.new ≡ record self.old { slots = slot ∷ self.old.slots } }
+        ensures after { (Among slot self.old.slots → ⊥)
+            → self.new ≡ record self.old { slots = slot ∷ self.old.slots } }
         ensures held { Among slot self.new.slots }
-        ensures others { (other : ℕ) → other ≢ slot → (Among other self.new.slots ↔ Among other self.old.slots) }
+        ensures others { (other : ℕ) → other ≢ slot
+            → (Among other self.new.slots ↔ Among other self.old.slots) }
         ensures room { self.new.room ≡ self.old.room }
-        ensures rest { (at : Option ℕ) → IsPast slot at self.old.slots → slots_from self.new.slots at ≡ slots_from self.old.slots at }
-        ensures on { (at : Option ℕ) → IsPast slot at self.old.slots → IsOn at self.old.slots → IsOn at self.new.slots }
+        ensures rest { (at : Option ℕ) → IsPast slot at self.old.slots
+            → slots_from self.new.slots at ≡ slots_from self.old.slots at }
+        ensures on { (at : Option ℕ) → IsPast slot at self.old.slots → IsOn at self.old.slots
+            → IsOn at self.new.slots }
     {
         if self.lists.is_listed(slot) {
             return;
@@ -98,9 +102,12 @@ impl SlotSet {
         ensures after { self.new ≡ record self.old { slots = without slot self.old.slots } }
         ensures gone { Among slot self.new.slots → ⊥ }
         ensures room { self.new.room ≡ self.old.room }
-        ensures others { (other : ℕ) → other ≢ slot → (Among other self.new.slots ↔ Among other self.old.slots) }
-        ensures rest { (at : Option ℕ) → IsPast slot at self.old.slots → slots_from self.new.slots at ≡ slots_from self.old.slots at }
-        ensures on { (at : Option ℕ) → IsPast slot at self.old.slots → IsOn at self.old.slots → IsOn at self.new.slots }
+        ensures others { (other : ℕ) → other ≢ slot
+            → (Among other self.new.slots ↔ Among other self.old.slots) }
+        ensures rest { (at : Option ℕ) → IsPast slot at self.old.slots
+            → slots_from self.new.slots at ≡ slots_from self.old.slots at }
+        ensures on { (at : Option ℕ) → IsPast slot at self.old.slots → IsOn at self.old.slots
+            → IsOn at self.new.slots }
     {
         if self.lists.is_listed(slot) {
             self.lists.unlink(slot);
@@ -139,7 +146,8 @@ impl SlotSet {
         requires { slot < self.now.room }
         ensures slot { result ≡ slot_after slot self.now.slots }
         ensures on { IsOn result self.now.slots }
-        ensures rest { Among slot self.now.slots → slots_from self.now.slots (Some slot) ≡ slot ∷ slots_from self.now.slots result }
+        ensures rest { Among slot self.now.slots
+            → slots_from self.now.slots (Some slot) ≡ slot ∷ slots_from self.now.slots result }
         ensures past { IsPast slot result self.now.slots }
     {
         self.lists.next(slot)

@@ -1,17 +1,10 @@
 -- What stands behind the delimiter, as slots are linked and moved before it.
-use Rattle.std.proofs.Common.{◌≡◌, ◌≢◌, ℕ, List, [], ◌∷◌, eqb, false, refl, inl, inr, sym, ap, ◌∙◌}
+use Rattle.std.proofs.Common.{◌≡◌, ◌≢◌, ℕ, List, [], ◌∷◌, eqb, false, refl, inl, inr, sym, ◌∙◌}
 use Rattle.std.proofs.lemmas.Bool.{cases_Bool, eqb-true, ne_eqb}
 use Rattle.bm_base.specs.SlotLists.{Among, Distinct, without}
+use Rattle.bm_base.proofs.SlotLists.{without-absent}
 use Rattle.bm_arena.specs.Contents.{Contents, list_of}
 use Rattle.bm_report.specs.Midway.{after, behind}
-
-pub without-absent : (x : ℕ) (xs : List ℕ) → (Among x xs → ⊥) → without x xs ≡ xs
-without-absent x [] gone = refl
-without-absent x (y ∷ ys) gone =
-    elim (cases_Bool (eqb y x)) [
-      | inl here ↦ absurd (gone (inl (sym (eqb-true y x here))))
-      | inr other ↦ rw other (ap (λ l. y ∷ l) (without-absent x ys (λ m. gone (inr m))))
-    ]
 
 pub Among-after : (d x : ℕ) (xs : List ℕ) → Among x (after d xs) → Among x xs
 Among-after d x [] m = m

@@ -1,28 +1,27 @@
--- Numbers entered and settled one after another, each with the slot that it has.
-use Rattle.std.proofs.Common.{◌≡◌, ℕ, ◌+◌, ◌≤◌, List, [], ◌∷◌, ◌++◌, length, map, Option, Some, None, refl, subst, inl, inr, sym, ap, ◌∙◌, arith, length-append}
-use Rattle.std.proofs.Common.{zero, suc, Bool, true, false, ◌||◌, cond, eqb}
+-- Numbers entered, and their lost excess dropped, one after another, each with the slot that it has.
+use Rattle.std.proofs.Common.{◌≡◌, ℕ, ◌≤◌, List, [], ◌∷◌, ◌++◌, length, map, Option, Some, None, refl, subst, inl, inr, sym, ap, ◌∙◌, arith, length-append}
+use Rattle.std.proofs.Common.{Bool, true, false, ◌||◌, cond, eqb}
 use Rattle.std.specs.Prelude.{nat_eq, filter, ◌==◌, IsTrue, IsSomeAnd}
 use Rattle.std.proofs.lemmas.Bool.{eq-eqb}
 use Rattle.std.specs.Option.{unwrap_or}
 use Rattle.std.specs.Map.{lookup}
 use Rattle.std.proofs.lemmas.List.{map-append, length-map}
-use Rattle.std.specs.List.{fold}
-use Rattle.std.proofs.lemmas.List.Concat.{length-flat_map}
 use Rattle.bm_base.specs.declared.event.Entry.{Entry}
 use Rattle.bm_base.specs.declared.ids.Part.{Part}
-use Rattle.bm_base.specs.Entries.{Told, count_up, run_length, told_by, expanded, numbers_in}
+use Rattle.bm_base.specs.Entries.{Told, expanded, numbers_in}
 use Rattle.bm_base.specs.Shards.{shard_of}
 use Rattle.bm_base.specs.Events.{is_named}
 use Rattle.bm_base.specs.SlotLists.{Among}
 use Rattle.bm_base.specs.State.{Cluster}
 use Rattle.bm_arena.specs.Contents.{Contents, slot_of, marks_at, HasRoom}
+use Rattle.bm_base.proofs.Entries.{length-expanded}
 use Rattle.bm_report.specs.declared.types.Named.{Named}
-use Rattle.bm_report.specs.declared.types.Tally.{Tally}
-use Rattle.bm_report.specs.Midway.{AreHere, HaveRoom, IsEntered, IsCounted, IsSmall, IsUnderway, IsSettling, told_of, slot_in}
+use Rattle.bm_report.specs.declared.tally.Tally.{Tally}
+use Rattle.bm_report.specs.Midway.{AreHere, HaveRoom, IsEntered, IsCounted, IsSmall, IsUnderway, DropsLostExcess, told_of, slot_in}
 use Rattle.bm_report.specs.Ready.{named_in, named_of, HasPlace, CanBeEntered}
 use Rattle.bm_report.specs.Expanded.{told_to}
 use Rattle.bm_report.proofs.Underway.{underway-first, underway-next, underway-last, here-part, here-rest, room-part}
-use Rattle.bm_report.proofs.Settled.{settling-join, settling-same, here-ids}
+use Rattle.bm_report.proofs.LostExcess.{drops-join, drops-same, here-ids}
 
 abbrev named_by_ids : List Told → List (ℕ × ℕ) → List Named
 named_by_ids ts ids = map (λ (t : Told). record { id = t.id; slot = unwrap_or (lookup (nat_eq t.id) ids) 0; stamp = t.stamp }) ts
@@ -74,14 +73,10 @@ entered_as C s ts a b c e f = let P : List Named → Type 0 = λ l. IsEntered C 
 pub counted_as : (C : Cluster) (s : ℕ) (ts : List Told) (a b c : Contents) (t u : Tally) → b.ids ≡ a.ids → IsCounted C s (named_of b ts) b c t u → IsCounted C s (named_of a ts) b c t u
 counted_as C s ts a b c t u e f = let P : List Named → Type 0 = λ l. IsCounted C s l b c t u in subst P (named-ids a b ts e) f
 
-pub settling_as : (s : ℕ) (ts : List Told) (a b c : Contents) → b.ids ≡ a.ids → IsSettling s (named_of b ts) b c → IsSettling s (named_of a ts) b c
-settling_as s ts a b c e f = let P : List Named → Type 0 = λ l. IsSettling s l b c in subst P (named-ids a b ts e) f
+pub drops_as : (s : ℕ) (ts : List Told) (a b c : Contents) → b.ids ≡ a.ids → DropsLostExcess s (named_of b ts) b c → DropsLostExcess s (named_of a ts) b c
+drops_as s ts a b c e f = let P : List Named → Type 0 = λ l. DropsLostExcess s l b c in subst P (named-ids a b ts e) f
 
 -- so many numbers are told to a part as all entries name, at most
-length-count_up : (n k : ℕ) → length (count_up n k) ≡ k
-length-count_up n zero = refl
-length-count_up n (suc k) = ap suc (length-count_up (suc n) k)
-
 length-filter_le : {X : Type 0} (p : X → Bool) (xs : List X) → length (filter p xs) ≤ length xs
 length-filter_le p [] = omega arith
 length-filter_le p (x ∷ xs) = by (p x) (filter p xs) (length-filter_le p xs)
@@ -89,18 +84,6 @@ length-filter_le p (x ∷ xs) = by (p x) (filter p xs) (length-filter_le p xs)
     by : (b : Bool) (ys : List _) → length ys ≤ length xs → length (cond b (x ∷ ys) ys) ≤ length (x ∷ xs)
     by true ys h = omega (arith, h)
     by false ys h = omega (arith, h)
-
-length-told_by : (e : Entry) → length (told_by e) ≡ run_length e
-unfolding told_by
-length-told_by e = length-map (count_up e.from (run_length e)) _ ∙ length-count_up e.from (run_length e)
-
-lengths_summed : (n : ℕ) (es : List Entry) → fold (λ a (e : Entry). a + length (told_by e)) n es ≡ fold (λ a (e : Entry). a + run_length e) n es
-lengths_summed n [] = refl
-lengths_summed n (e ∷ es) = ap (λ k. fold (λ a (x : Entry). a + length (told_by x)) (n + k) es) (length-told_by e) ∙ lengths_summed (n + run_length e) es
-
-length-expanded : (es : List Entry) → length (expanded es) ≡ numbers_in es
-unfolding expanded numbers_in
-length-expanded es = length-flat_map told_by es ∙ lengths_summed 0 es
 
 pub few_told : (p : Part) (es : List Entry) (n : ℕ) → numbers_in es ≤ n → length (told_to p es) ≤ n
 few_told p es n few = let h = length-filter_le (λ (t : Told). shard_of t.id p.shards == p.index) (expanded es) in let e = length-expanded es in omega (arith, few, h, e)
@@ -145,35 +128,35 @@ module _ (C : Cluster) (s : ℕ) (all : List Told) (first : Contents) (t : Tally
   pub left-last : (now : Contents) (u : Tally) → IsLeft [] now u → IsEntered C s (named_of first all) first now × IsCounted C s (named_of first all) first now t u
   left-last now u f = underway-last C s (named_of first all) [] first now t u refl f.1
 
--- and still to be settled
+-- and with lost excess still to be dropped
 module _ (s : ℕ) (all : List Told) (first : Contents) where
-  abbrev pub IsUnsettled : List Told → Contents → Type 0
-  IsUnsettled rest now =
-      (now.ids ≡ first.ids) × AreHere now (named_of first rest) × ((last : Contents) → IsSettling s (named_of first rest) now last → IsSettling s (named_of first all) first last)
+  abbrev pub HasExcessToDrop : List Told → Contents → Type 0
+  HasExcessToDrop rest now =
+      (now.ids ≡ first.ids) × AreHere now (named_of first rest) × ((last : Contents) → DropsLostExcess s (named_of first rest) now last → DropsLostExcess s (named_of first all) first last)
 
-  pub unsettled-first : AreHere first (named_of first all) → IsUnsettled all first
-  unsettled-first here = (refl, here, λ last g. g)
+  pub to_drop-first : AreHere first (named_of first all) → HasExcessToDrop all first
+  to_drop-first here = (refl, here, λ last g. g)
 
-  pub unsettled-here : (xs ys : List Told) (now : Contents) → IsUnsettled (xs ++ ys) now → AreHere now (named_of now xs)
-  unsettled-here xs ys now f =
+  pub to_drop-here : (xs ys : List Told) (now : Contents) → HasExcessToDrop (xs ++ ys) now → AreHere now (named_of now xs)
+  to_drop-here xs ys now f =
       let H : List Named → Type 0 = λ l. AreHere now l in
       subst H (sym (named-ids first now xs f.0)) (here-part now (named_of first xs) (named_of first ys) (subst H (split first xs ys) f.1))
 
-  pub unsettled-next : (xs ys : List Told) (now next : Contents) → IsUnsettled (xs ++ ys) now → IsSettling s (named_of now xs) now next → IsUnsettled ys next
-  unsettled-next xs ys now next f g =
+  pub to_drop-next : (xs ys : List Told) (now next : Contents) → HasExcessToDrop (xs ++ ys) now → DropsLostExcess s (named_of now xs) now next → HasExcessToDrop ys next
+  to_drop-next xs ys now next f g =
       let H : List Named → Type 0 = λ l. AreHere now l in
-      let S : List Named → Type 0 = λ l. IsSettling s l now next in
+      let S : List Named → Type 0 = λ l. DropsLostExcess s l now next in
       let same : named_of now xs ≡ named_of first xs = named-ids first now xs f.0 in
       let there = here-rest now (named_of first xs) (named_of first ys) (subst H (split first xs ys) f.1) in (
         g.ids ∙ f.0,
         here-ids now next (named_of first ys) g.ids there,
         λ last h.
-            let T : List Named → Type 0 = λ l. IsSettling s l now last in
-            f.2 last (subst T (sym (split first xs ys)) (settling-join s (named_of first xs) (named_of first ys) now next last (subst S same g) h)),
+            let T : List Named → Type 0 = λ l. DropsLostExcess s l now last in
+            f.2 last (subst T (sym (split first xs ys)) (drops-join s (named_of first xs) (named_of first ys) now next last (subst S same g) h)),
       )
 
-  pub unsettled-last : (now : Contents) → IsUnsettled [] now → IsSettling s (named_of first all) first now
-  unsettled-last now f = f.2 now (settling-same s [] now refl)
+  pub to_drop-last : (now : Contents) → HasExcessToDrop [] now → DropsLostExcess s (named_of first all) first now
+  to_drop-last now f = f.2 now (drops-same s [] now refl)
 
 -- the slot of a told number
 pub told_slot : (a : Contents) (s : ℕ) (ts : List Told) → ((b : ℕ) → IsTrue (is_named ts b) → HasPlace a s b) → (slot : ℕ) → Among slot (map slot_in (named_of a ts)) → (b : ℕ) × IsTrue (is_named ts b) × (slot_of a b ≡ Some slot)

@@ -11,13 +11,13 @@ use Rattle.bm_base.specs.State.{Cluster, replica_at}
 use Rattle.bm_base.specs.SlotLists.{Among, without}
 use Rattle.bm_arena.specs.Contents.{Contents, block_at, slot_of, marks_at, count_up}
 use Rattle.bm_report.specs.declared.types.Named.{Named}
-use Rattle.bm_report.specs.declared.types.Tally.{Tally}
+use Rattle.bm_report.specs.declared.tally.Tally.{Tally}
 use Rattle.bm_arena.specs.Holding.{replicas_of, blocks_of, info_at}
-use Rattle.bm_report.specs.Midway.{entered_one, entered_all, fresh, midway_marks, is_settled, behind, without_all, count_ups, AreHere, HaveRoom, IsFramed, IsEntered, IsCounted, IsOncePerNode, IsExcessGood, moved_tally, linked_tally, slot_in}
+use Rattle.bm_report.specs.Midway.{entered_at, entered_one, entered_all, fresh, midway_marks, is_excess_good, behind, without_all, count_ups, AreHere, HaveRoom, IsFramed, IsEntered, IsCounted, IsOncePerNode, IsExcessGood, moved_tally, linked_tally, slot_in}
 use Rattle.bm_arena.proofs.Held.{get-blocks_of}
 use Rattle.bm_report.proofs.Frames.{framed-none, framed-chain}
-use Rattle.bm_report.proofs.Maps.{Held, get-here, entered_at, put-known, some_is, len-put_known}
-use Rattle.bm_report.proofs.Once.{settled-entered_at}
+use Rattle.bm_report.proofs.Maps.{Held, get-here, put-known, some_is, len-put_known}
+use Rattle.bm_report.proofs.Once.{excess_good-entered_at}
 
 pub entered_one_is : (C : Cluster) (B : Map by_number BlockInfo) (s : ℕ) (n : Named) (K : Held) → entered_one C B s n K ≡ entered_at C K (replica_at n.id s) (midway_marks (get B n.id) (get K (replica_at n.id s)) n.stamp)
 unfolding entered_one
@@ -50,10 +50,10 @@ fresh_new : (b : Bool) → b ≡ false → cond b 0 1 + 0 ≡ 1
 fresh_new true e = cc
 fresh_new false e = refl
 
-settled_if : (b t : Bool) → (b || not t) ≡ false → (b ≡ false) × (t ≡ true)
-settled_if true t e = absurd (false≢true (sym e))
-settled_if false true e = (refl, refl)
-settled_if false false e = absurd (false≢true (sym e))
+both_good : (b t : Bool) → (b || not t) ≡ false → (b ≡ false) × (t ≡ true)
+both_good true t e = absurd (false≢true (sym e))
+both_good false true e = (refl, refl)
+both_good false false e = absurd (false≢true (sym e))
 
 -- one block entered
 module _ (C : Cluster) (a c : Contents) (s : ℕ) (n : Named) (here : slot_of a n.id ≡ Some n.slot) (was : Option Marks) (was_is : was ≡ marks_at a n.slot s) (marks : Marks)
@@ -62,15 +62,15 @@ module _ (C : Cluster) (a c : Contents) (s : ℕ) (n : Named) (here : slot_of a 
     pub entered_new : ((slot : ℕ) → slot ≢ n.slot → block_at c slot ≡ block_at a slot) → IsEntered C s (n ∷ []) a c
     entered_new others = record { replicas = replicas ∙ entered_one_as C a s n here was was_is marks marks_is; behind = behind_is; frame = frame; others = λ x out. others x (λ same. out (inl same)) }
 
-    settles : (b t : Bool) → t ≡ is_settled marks → (b || not t) ≡ false → (b ≡ false) × (IsExcessGood (replicas_of a) → IsExcessGood (replicas_of c))
-    settles b t is e =
-        let both = settled_if b t e in
+    stays_good : (b t : Bool) → t ≡ is_excess_good marks → (b || not t) ≡ false → (b ≡ false) × (IsExcessGood (replicas_of a) → IsExcessGood (replicas_of c))
+    stays_good b t is e =
+        let both = both_good b t e in
         let P : Held → Type 0 = λ K. IsExcessGood K in
-        (both.0, λ good. subst P (sym replicas) (settled-entered_at C (replicas_of a) (replica_at n.id s) marks (sym is ∙ both.1) good))
+        (both.0, λ good. subst P (sym replicas) (excess_good-entered_at C (replicas_of a) (replica_at n.id s) marks (sym is ∙ both.1) good))
 
-    pub counted_new : (t u : Tally) (has_left settled : Bool) → was ≡ None → settled ≡ is_settled marks → u ≡ linked_tally t has_left settled
+    pub counted_new : (t u : Tally) (has_left is_good_too : Bool) → was ≡ None → is_good_too ≡ is_excess_good marks → u ≡ linked_tally t has_left is_good_too
         → c.steps ≡ count_ups (cond has_left 2 1) a.steps → cond has_left 1 0 + len (replicas_of c) ≡ len (replicas_of a) + 1 → IsCounted C s (n ∷ []) a c t u
-    counted_new t u has_left settled none settled_is u_is steps lengths =
+    counted_new t u has_left is_good_too none good_is u_is steps lengths =
         let P : Tally → Type 0 = λ x. IsCounted C s (n ∷ []) a c t x in
         subst P (sym u_is)
         (record {
@@ -80,7 +80,7 @@ module _ (C : Cluster) (a c : Contents) (s : ℕ) (n : Named) (here : slot_of a 
           removed = omega (arith, lengths);
           few_added = omega arith;
           few_removed = few has_left;
-          settled = settles t.is_unsettled settled settled_is;
+          good = stays_good t.has_lost_excess is_good_too good_is;
         })
       where
         absent : contains_key (replicas_of a) (replica_at n.id s) ≡ false
@@ -111,8 +111,8 @@ module _ (C : Cluster) (a c : Contents) (s : ℕ) (n : Named) (here : slot_of a 
     pub entered_known : ((slot : ℕ) → slot ≢ n.slot → block_at c slot ≡ block_at a slot) → IsEntered C s (n ∷ []) a c
     entered_known = entered_new replicas_too
 
-    pub counted_known : (t u : Tally) (settled : Bool) → settled ≡ is_settled marks → u ≡ moved_tally t settled → c.steps ≡ count_up a.steps → IsCounted C s (n ∷ []) a c t u
-    counted_known t u settled settled_is u_is steps =
+    pub counted_known : (t u : Tally) (is_good_too : Bool) → is_good_too ≡ is_excess_good marks → u ≡ moved_tally t is_good_too → c.steps ≡ count_up a.steps → IsCounted C s (n ∷ []) a c t u
+    counted_known t u is_good_too good_is u_is steps =
         let P : Tally → Type 0 = λ x. IsCounted C s (n ∷ []) a c t x in
         let lengths : len (replicas_of c) ≡ len (replicas_of a) = ap len replicas ∙ len-put_known (replicas_of a) (replica_at n.id s) marks there in
         subst P (sym u_is)
@@ -123,7 +123,7 @@ module _ (C : Cluster) (a c : Contents) (s : ℕ) (n : Named) (here : slot_of a 
           removed = omega (arith, lengths);
           few_added = omega arith;
           few_removed = omega arith;
-          settled = settles replicas_too t.is_unsettled settled settled_is;
+          good = stays_good replicas_too t.has_lost_excess is_good_too good_is;
         })
 
 -- none entered
@@ -138,7 +138,7 @@ counted-none C s a t = record {
   removed = refl;
   few_added = omega arith;
   few_removed = omega arith;
-  settled = λ e. (e, λ good. good);
+  good = λ e. (e, λ good. good);
 }
 
 -- some and then others
@@ -183,7 +183,7 @@ module _ (C : Cluster) (s : ℕ) (xs ys : List Named) (a b c : Contents) (f : Is
         removed = omega (arith, p.removed, q.removed);
         few_added = omega (arith, p.few_added, q.few_added, all);
         few_removed = omega (arith, p.few_removed, q.few_removed, all);
-        settled = λ e. let y = q.settled e in let x = p.settled y.0 in (x.0, λ good. y.1 (x.1 good));
+        good = λ e. let y = q.good e in let x = p.good y.0 in (x.0, λ good. y.1 (x.1 good));
       }
 
 -- what the rest of the blocks wants stays

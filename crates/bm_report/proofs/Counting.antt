@@ -1,5 +1,5 @@
 -- How many replicas came and went by a report.
-use Rattle.std.proofs.Common.{◌≡◌, ◌≢◌, ℕ, ◌+◌, Bool, true, false, cond, not, ◌&&◌, ◌||◌, List, [], ◌∷◌, length, filter, Option, Some, None, is_some, refl, sym, ap, ◌∙◌, arith}
+use Rattle.std.proofs.Common.{◌≡◌, ◌≢◌, ℕ, ◌+◌, Bool, true, false, cond, not, ◌&&◌, ◌||◌, List, [], ◌∷◌, length, Option, Some, None, is_some, refl, sym, ap, ◌∙◌, arith}
 use Rattle.std.specs.Prelude.{◌==◌}
 use Rattle.std.specs.List.{list_any}
 use Rattle.std.specs.Option.{option_map, option_map_or, option_and_then}
@@ -16,14 +16,14 @@ use Rattle.bm_base.specs.State.{Cluster, by_replica, replica_at}
 use Rattle.bm_base.specs.Events.{replaces}
 use Rattle.bm_base.specs.Calls.{new_replicas}
 use Rattle.bm_base.proofs.MapLaws.{same_map, get-insert, get-keep, get-revise, entries-keep, entries-revise}
-use Rattle.bm_base.proofs.Differences.{none_new}
+use Rattle.bm_base.proofs.Differences.{both_parts, none_new}
 use Rattle.bm_report.specs.declared.types.Named.{Named}
-use Rattle.bm_report.specs.Midway.{entered_one, entered_all, fresh, out_all, settled, settled_all, last_stamp, midway_marks}
+use Rattle.bm_report.specs.Midway.{entered_at, entered_one, entered_all, fresh, out_all, without_lost_excess, lost_excess_out_all, last_stamp, midway_marks}
 use Rattle.bm_report.proofs.Sisters.{sisters_apart}
-use Rattle.bm_report.proofs.Maps.{Held, tie, tied, entered_at, is_replaced, len-put_new}
+use Rattle.bm_report.proofs.Maps.{Held, tie, tied, is_replaced, len-put_new}
 use Rattle.bm_report.proofs.Once.{get-entered_at}
 use Rattle.bm_report.proofs.Chaining.{entered_one_is}
-use Rattle.bm_report.proofs.Reported.{entered-own, out-at, settled-at}
+use Rattle.bm_report.proofs.Reported.{entered-own, out-at, lost_excess_out_all-at}
 
 abbrev pub has : Held → ReplicaId → Bool
 has K q = contains_key K q
@@ -102,15 +102,6 @@ new-more K L M p m not_k not_l more =
     by q false e = more q e
 
 -- came and went
-both_parts : {X : Type 0} (p : X → Bool) (xs : List X) → length (filter (λ x. not (p x)) xs) + length (filter p xs) ≡ length xs
-both_parts p [] = refl
-both_parts p (x ∷ xs) =
-    let rest = both_parts p xs in
-    elim (p x) as (λ b. length (cond (not b) (x ∷ filter (λ y. not (p y)) xs) (filter (λ y. not (p y)) xs)) + length (cond b (x ∷ filter p xs) (filter p xs)) ≡ length (x ∷ xs)) [
-      | true ↦ omega (arith, rest)
-      | false ↦ omega (arith, rest)
-    ]
-
 parts : (K L : Held) → len (apart_from K L) + len (keep L (λ q _. has K q)) ≡ len L
 unfolding len
 parts K L =
@@ -207,21 +198,21 @@ module _ (C : Cluster) (B : Map by_number BlockInfo) (s : ℕ) (K : Held) where
           not_in true f = absurd (false≢true (sym e ∙ between.0 (replica_at n.id s) refl f))
           not_in false f = refl
 
-  -- swept and settled
+  -- swept, and lost excess dropped
   module _ (ns : List Named) (bs : List ℕ) (named_stay : (b : ℕ) → is_some (last_stamp ns b) ≡ true → list_any (λ k. k == b) bs ≡ false) where
     abbrev entered_then : Held
     entered_then = entered_all C B s ns K
 
-    has_settled : (q : ReplicaId) → has (settled_all s ns (out_all s bs entered_then)) q ≡ has (out_all s bs entered_then) q
-    has_settled q = ap is_some (settled-at s ns (out_all s bs entered_then) q) ∙ by ((q.storage == s) && is_some (last_stamp ns q.block)) (get (out_all s bs entered_then) q)
+    has_lost_excess_out : (q : ReplicaId) → has (lost_excess_out_all s ns (out_all s bs entered_then)) q ≡ has (out_all s bs entered_then) q
+    has_lost_excess_out q = ap is_some (lost_excess_out_all-at s ns (out_all s bs entered_then) q) ∙ by ((q.storage == s) && is_some (last_stamp ns q.block)) (get (out_all s bs entered_then) q)
       where
-        by : (b : Bool) (z : Option Marks) → is_some (cond b (option_map settled z) z) ≡ is_some z
+        by : (b : Bool) (z : Option Marks) → is_some (cond b (option_map without_lost_excess z) z) ≡ is_some z
         by true None = refl
         by true (Some x) = refl
         by false z = refl
 
-    pub len-settled : len (settled_all s ns (out_all s bs entered_then)) ≡ len (out_all s bs entered_then)
-    len-settled = len-same (settled_all s ns (out_all s bs entered_then)) (out_all s bs entered_then) has_settled
+    pub len-lost_excess_out : len (lost_excess_out_all s ns (out_all s bs entered_then)) ≡ len (out_all s bs entered_then)
+    len-lost_excess_out = len-same (lost_excess_out_all s ns (out_all s bs entered_then)) (out_all s bs entered_then) has_lost_excess_out
 
     has_out : (q : ReplicaId) → has K q ≡ false → has (out_all s bs entered_then) q ≡ has entered_then q
     has_out q out = ap is_some (out-at s bs entered_then q) ∙ by ((q.storage == s) && list_any (λ b. b == q.block) bs) refl
@@ -238,9 +229,9 @@ module _ (C : Cluster) (B : Map by_number BlockInfo) (s : ℕ) (K : Held) where
     unfolding new_replicas
     none_new_yet = none_new K K (λ q x e. ap is_some e)
 
-    pub came : new_replicas K (settled_all s ns (out_all s bs entered_then)) ≡ fresh C B s ns K
+    pub came : new_replicas K (lost_excess_out_all s ns (out_all s bs entered_then)) ≡ fresh C B s ns K
     came =
-        let same = new-same K (settled_all s ns (out_all s bs entered_then)) entered_then (λ q out. has_settled q ∙ has_out q out) in
+        let same = new-same K (lost_excess_out_all s ns (out_all s bs entered_then)) entered_then (λ q out. has_lost_excess_out q ∙ has_out q out) in
         let all = fresh-new ns K (λ q own h. h, λ q other h. h) in
         let none = none_new_yet in
         omega (arith, same, all, none)

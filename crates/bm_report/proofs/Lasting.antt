@@ -12,11 +12,11 @@ use Rattle.bm_base.specs.State.{Cluster, Holdings}
 use Rattle.bm_base.specs.Replicas.{is_good, are_sisters}
 use Rattle.bm_base.specs.Events.{entered, report}
 use Rattle.bm_report.specs.declared.types.Named.{Named}
-use Rattle.bm_report.specs.Midway.{midway_marks, settled, last_stamp, told_of, IsOncePerNode}
+use Rattle.bm_report.specs.Midway.{midway_marks, without_lost_excess, last_stamp, told_of, IsOncePerNode}
 use Rattle.bm_report.specs.Ready.{HasGoodExcess}
 use Rattle.bm_base.proofs.Clusters.{sisters_turned, no_sister_itself}
 use Rattle.bm_report.proofs.Maps.{Held}
-use Rattle.bm_report.proofs.Reported.{report_own, report_other, entered_settled}
+use Rattle.bm_report.proofs.Reported.{report_own, report_other, entered_without_lost_excess}
 
 module _ (C : Cluster) (H : Holdings) (s : ℕ) (ns : List Named) where
   abbrev after_it : Held
@@ -77,7 +77,7 @@ module _ (C : Cluster) (H : Holdings) (s : ℕ) (ns : List Named) where
       entered_good None e = cc
       entered_good (Some st) e =
           let x = midway_marks (get H.blocks p.block) (get H.replicas p) st in
-          let same : settled x ≡ m = entered_settled C H s p st ∙ one (entered H p st) m e in
+          let same : without_lost_excess x ≡ m = entered_without_lost_excess C H s p st ∙ one (entered H p st) m e in
           let P : Marks → Type 0 = λ k. IsTrue k.excess → IsTrue (is_good k.tag) in
           subst P same (λ h. (and_parts (is_good x.tag) x.excess h).0) excess
 

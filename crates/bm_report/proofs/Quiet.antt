@@ -13,7 +13,7 @@ use Rattle.bm_base.specs.declared.replica.Stamp.{Stamp}
 use Rattle.bm_arena.specs.Triplets.{Block}
 use Rattle.bm_arena.specs.Contents.{Contents, block_at, marks_at, find_marks, IsLawful}
 use Rattle.bm_report.specs.declared.types.Named.{Named}
-use Rattle.bm_report.specs.Midway.{midway_marks, settled, told_of, Stands, AllStand, AreHere}
+use Rattle.bm_report.specs.Midway.{midway_marks, without_lost_excess, told_of, Stands, AllStand, AreHere}
 
 -- by the block in a slot alone
 abbrev StandsAs : ℕ → Stamp → Option Block → Type 0
@@ -55,10 +55,10 @@ nothing_left (x ∷ xs) e = absurd (omega (arith, e))
 
 -- in words of holdings
 
--- marks that stay when they are settled are in excess only where they are good
-excess_kept : (info : Option BlockInfo) (was : Option Marks) (t : Stamp) → was ≡ Some (settled (midway_marks info was t)) → was ≡ Some (midway_marks info was t)
+-- marks that stay without lost excess are in excess only where they are good
+excess_kept : (info : Option BlockInfo) (was : Option Marks) (t : Stamp) → was ≡ Some (without_lost_excess (midway_marks info was t)) → was ≡ Some (midway_marks info was t)
 excess_kept info was t is =
-    let kept : (midway_marks info was t).excess ≡ (settled (midway_marks info was t)).excess = ap (λ o. option_map_or (λ (m : Marks). m.excess) o false) is in
+    let kept : (midway_marks info was t).excess ≡ (without_lost_excess (midway_marks info was t)).excess = ap (λ o. option_map_or (λ (m : Marks). m.excess) o false) is in
     is ∙ (λ i. Some (record (midway_marks info was t) { excess = sym kept i }))
 
 pub stand_already : (C : Cluster) (a : Contents) (s : ℕ) (ns : List Named) → AreHere a ns → StandAlready (holdings_of a) s (map told_of ns) → AllStand a s ns

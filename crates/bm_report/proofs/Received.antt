@@ -14,13 +14,13 @@ use Rattle.bm_arena.specs.Contents.{Contents, block_at, slot_of, marks_at, find_
 use Rattle.bm_report.specs.declared.types.Named.{Named}
 use Rattle.bm_report.specs.declared.types.Applied.{Applied}
 use Rattle.bm_arena.specs.Holding.{replicas_of, blocks_of, holdings_of, info_at}
-use Rattle.bm_report.specs.Midway.{midway_marks, settled, count_ups, IsFramed, IsOncePerNode}
+use Rattle.bm_report.specs.Midway.{entered_at, midway_marks, without_lost_excess, count_ups, IsFramed, IsOncePerNode}
 use Rattle.bm_report.specs.Received.{HasReceived}
 use Rattle.bm_arena.proofs.Held.{get-blocks_of, replicas-put, replicas-out, blocks-kept}
 use Rattle.bm_arena.proofs.Marked.{set_at, set-elsewhere, set-known, set-marks, set-others}
 use Rattle.bm_arena.proofs.Staying.{set-entries}
-use Rattle.bm_report.proofs.Maps.{Held, tie, tied, get-here, some_is, entered_at, put-known, len-out}
-use Rattle.bm_report.proofs.Reported.{entered_settled}
+use Rattle.bm_report.proofs.Maps.{Held, tie, tied, get-here, some_is, put-known, len-out}
+use Rattle.bm_report.proofs.Reported.{entered_without_lost_excess}
 use Rattle.bm_report.proofs.Counting.{has, new-same, new-more, came_and_went, len-same, has-entered}
 
 new_none : (K : Held) → new_replicas K K ≡ 0
@@ -30,14 +30,14 @@ new_none K = none_new K K (λ q x e. ap is_some e)
 -- the marks that a received replica gets, by its slot
 module _ (C : Cluster) (a : Contents) (s : ℕ) (n : Named) (here : slot_of a n.id ≡ Some n.slot) where
   abbrev pub marks_then : Marks
-  marks_then = settled (midway_marks (info_at a n.slot) (marks_at a n.slot s) n.stamp)
+  marks_then = without_lost_excess (midway_marks (info_at a n.slot) (marks_at a n.slot s) n.stamp)
 
   pub marks_are : marks_then ≡ entered (holdings_of a) (replica_at n.id s) n.stamp
   unfolding holdings_of
   marks_are =
       let i = sym (get-blocks_of a n.id ∙ ap (λ o. option_and_then (λ k. info_at a k) o) here) in
       let w = sym (get-here a n.id n.slot s here) in
-      (λ j. settled (midway_marks (i j) (w j) n.stamp)) ∙ entered_settled C (holdings_of a) s (replica_at n.id s) n.stamp
+      (λ j. without_lost_excess (midway_marks (i j) (w j) n.stamp)) ∙ entered_without_lost_excess C (holdings_of a) s (replica_at n.id s) n.stamp
 
   pub entering_is : (m : Marks) → m ≡ marks_then → entered_at C (replicas_of a) (replica_at n.id s) m ≡ (enter C (holdings_of a) (replica_at n.id s) n.stamp).replicas
   unfolding enter holdings_of

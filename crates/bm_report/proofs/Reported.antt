@@ -1,4 +1,4 @@
--- What was entered, swept and settled is the report of the definition.
+-- What was entered and swept, without lost excess, is the report of the definition.
 use Rattle.std.proofs.Common.{◌≡◌, ℕ, Bool, true, false, cond, not, ◌&&◌, ◌||◌, List, [], ◌∷◌, map, Option, Some, None, is_some, IsSome, refl, inl, inr, sym, ap, ◌∙◌, eqb-true, eqb}
 use Rattle.std.specs.Prelude.{◌==◌}
 use Rattle.std.specs.List.{list_any}
@@ -17,7 +17,7 @@ use Rattle.bm_base.specs.Events.{same_stamp, was_bad, was_excess, entered_tag, e
 use Rattle.bm_base.proofs.MapLaws.{same_map, get-insert, get-keep, get-remove}
 use Rattle.bm_base.proofs.Ties.{replica_tie}
 use Rattle.bm_report.specs.declared.types.Named.{Named}
-use Rattle.bm_report.specs.Midway.{midway_marks, settled, entered_one, entered_all, out_all, settled_one, settled_all, last_stamp, told_of}
+use Rattle.bm_report.specs.Midway.{midway_marks, without_lost_excess, entered_one, entered_all, out_all, lost_excess_out_one, lost_excess_out_all, last_stamp, told_of}
 use Rattle.bm_arena.proofs.Words.{eqb_turned}
 use Rattle.bm_base.proofs.Clusters.{no_sister_itself}
 use Rattle.bm_report.proofs.Maps.{Held, tie, tied}
@@ -146,54 +146,54 @@ out-at s (b ∷ bs) K q =
     joined false true a z = refl
     joined false false a z = refl
 
--- what was settled
+-- what has no lost excess any more
 
-settled_twice : (o : Option Marks) → option_map settled (option_map settled o) ≡ option_map settled o
-settled_twice None = refl
-settled_twice (Some m) = ap (λ e. Some (record m { excess = e })) (again (is_good m.tag) m.excess)
+dropped_twice : (o : Option Marks) → option_map without_lost_excess (option_map without_lost_excess o) ≡ option_map without_lost_excess o
+dropped_twice None = refl
+dropped_twice (Some m) = ap (λ e. Some (record m { excess = e })) (again (is_good m.tag) m.excess)
   where
     again : (g e : Bool) → (g && (g && e)) ≡ (g && e)
     again true e = refl
     again false e = refl
 
-one_settled : (s b : ℕ) (K : Held) (q : ReplicaId) → get (settled_one s b K) q ≡ cond (tie q (replica_at b s)) (option_map settled (get K q)) (get K q)
-one_settled s b K q = by (get K (replica_at b s)) refl
+lost_excess_out_one-at : (s b : ℕ) (K : Held) (q : ReplicaId) → get (lost_excess_out_one s b K) q ≡ cond (tie q (replica_at b s)) (option_map without_lost_excess (get K q)) (get K q)
+lost_excess_out_one-at s b K q = by (get K (replica_at b s)) refl
   where
-    by : (o : Option Marks) → get K (replica_at b s) ≡ o → get (option_map_or (λ m. insert K (replica_at b s) (settled m)) o K) q ≡ cond (tie q (replica_at b s)) (option_map settled (get K q)) (get K q)
+    by : (o : Option Marks) → get K (replica_at b s) ≡ o → get (option_map_or (λ m. insert K (replica_at b s) (without_lost_excess m)) o K) q ≡ cond (tie q (replica_at b s)) (option_map without_lost_excess (get K q)) (get K q)
     by None e =
         elim (cases_Bool (tie q (replica_at b s))) [
           | inl it ↦
               let none : get K q ≡ None = ap (get K) (tied q (replica_at b s) it) ∙ e in
-              rw it (none ∙ sym (ap (option_map settled) none))
+              rw it (none ∙ sym (ap (option_map without_lost_excess) none))
           | inr other ↦ rw other refl
         ]
     by (Some m) e =
-        get-insert K (replica_at b s) (settled m) q
+        get-insert K (replica_at b s) (without_lost_excess m) q
         ∙ elim (cases_Bool (tie q (replica_at b s))) [
           | inl it ↦
               let some : get K q ≡ Some m = ap (get K) (tied q (replica_at b s) it) ∙ e in
-              rw it (sym (ap (option_map settled) some))
+              rw it (sym (ap (option_map without_lost_excess) some))
           | inr other ↦ rw other refl
         ]
 
-pub settled-at : (s : ℕ) (ns : List Named) (K : Held) (q : ReplicaId)
-    → get (settled_all s ns K) q ≡ cond ((q.storage == s) && is_some (last_stamp ns q.block)) (option_map settled (get K q)) (get K q)
-settled-at s [] K q = sym (never (q.storage == s) (option_map settled (get K q)) (get K q))
+pub lost_excess_out_all-at : (s : ℕ) (ns : List Named) (K : Held) (q : ReplicaId)
+    → get (lost_excess_out_all s ns K) q ≡ cond ((q.storage == s) && is_some (last_stamp ns q.block)) (option_map without_lost_excess (get K q)) (get K q)
+lost_excess_out_all-at s [] K q = sym (never (q.storage == s) (option_map without_lost_excess (get K q)) (get K q))
   where
     never : (x : Bool) (y z : Option Marks) → cond (x && false) y z ≡ z
     never true y z = refl
     never false y z = refl
-settled-at s (n ∷ ns) K q =
-    settled-at s ns (settled_one s n.id K) q
-    ∙ ap (λ w. cond ((q.storage == s) && is_some (last_stamp ns q.block)) (option_map settled w) w) (one_settled s n.id K q ∙ ap (λ t. cond t (option_map settled (get K q)) (get K q)) (replica_tie q (replica_at n.id s)))
+lost_excess_out_all-at s (n ∷ ns) K q =
+    lost_excess_out_all-at s ns (lost_excess_out_one s n.id K) q
+    ∙ ap (λ w. cond ((q.storage == s) && is_some (last_stamp ns q.block)) (option_map without_lost_excess w) w) (lost_excess_out_one-at s n.id K q ∙ ap (λ t. cond t (option_map without_lost_excess (get K q)) (get K q)) (replica_tie q (replica_at n.id s)))
     ∙ joined (q.storage == s) (q.block == n.id) (last_stamp ns q.block) (get K q)
-    ∙ ap (λ t. cond ((q.storage == s) && is_some (option_or (last_stamp ns q.block) (cond t (Some n.stamp) None))) (option_map settled (get K q)) (get K q)) (eqb_turned q.block n.id)
+    ∙ ap (λ t. cond ((q.storage == s) && is_some (option_or (last_stamp ns q.block) (cond t (Some n.stamp) None))) (option_map without_lost_excess (get K q)) (get K q)) (eqb_turned q.block n.id)
   where
     joined : (x y : Bool) (l : Option Stamp) (z : Option Marks)
-        → cond (x && is_some l) (option_map settled (cond (y && x) (option_map settled z) z)) (cond (y && x) (option_map settled z) z)
-        ≡ cond (x && is_some (option_or l (cond y (Some n.stamp) None))) (option_map settled z) z
+        → cond (x && is_some l) (option_map without_lost_excess (cond (y && x) (option_map without_lost_excess z) z)) (cond (y && x) (option_map without_lost_excess z) z)
+        ≡ cond (x && is_some (option_or l (cond y (Some n.stamp) None))) (option_map without_lost_excess z) z
     joined true true None z = refl
-    joined true true (Some l) z = settled_twice z
+    joined true true (Some l) z = dropped_twice z
     joined true false None z = refl
     joined true false (Some l) z = refl
     joined false true l z = refl
@@ -295,39 +295,39 @@ module _ (C : Cluster) (H : Holdings) (s : ℕ) where
       turn true z = refl
       turn false z = refl
 
-  pub entered_settled : (q : ReplicaId) (st : Stamp) → settled (midway_marks (get H.blocks q.block) (get H.replicas q) st) ≡ entered H q st
+  pub entered_without_lost_excess : (q : ReplicaId) (st : Stamp) → without_lost_excess (midway_marks (get H.blocks q.block) (get H.replicas q) st) ≡ entered H q st
   unfolding entered entered_tag was_bad was_excess
-  entered_settled q st = refl
+  entered_without_lost_excess q st = refl
 
   -- in the end
   pub reported : (ns : List Named) (bs : List ℕ)
       → ((b : ℕ) → is_some (last_stamp ns b) ≡ true → list_any (λ k. k == b) bs ≡ false)
       → ((b : ℕ) → is_some (last_stamp ns b) ≡ false → IsSome (get H.replicas (replica_at b s)) → list_any (λ k. k == b) bs ≡ true)
-      → settled_all s ns (out_all s bs (entered_all C H.blocks s ns H.replicas)) ≡ (report C H s (map told_of ns)).replicas
+      → lost_excess_out_all s ns (out_all s bs (entered_all C H.blocks s ns H.replicas)) ≡ (report C H s (map told_of ns)).replicas
   reported ns bs named_stay others_leave =
-      same_map (settled_all s ns (out_all s bs (entered_all C H.blocks s ns H.replicas))) (report C H s (map told_of ns)).replicas (λ q.
-      settled-at s ns (out_all s bs (entered_all C H.blocks s ns H.replicas)) q
-      ∙ ap (λ w. cond ((q.storage == s) && is_some (last_stamp ns q.block)) (option_map settled w) w) (out-at s bs (entered_all C H.blocks s ns H.replicas) q)
+      same_map (lost_excess_out_all s ns (out_all s bs (entered_all C H.blocks s ns H.replicas))) (report C H s (map told_of ns)).replicas (λ q.
+      lost_excess_out_all-at s ns (out_all s bs (entered_all C H.blocks s ns H.replicas)) q
+      ∙ ap (λ w. cond ((q.storage == s) && is_some (last_stamp ns q.block)) (option_map without_lost_excess w) w) (out-at s bs (entered_all C H.blocks s ns H.replicas) q)
       ∙ elim (cases_Bool (eqb q.storage s)) [
         | inl own ↦
-            ap (λ w. cond ((q.storage == s) && is_some (last_stamp ns q.block)) (option_map settled (cond ((q.storage == s) && list_any (λ b. b == q.block) bs) None w)) (cond ((q.storage == s) && list_any (λ b. b == q.block) bs) None w))
+            ap (λ w. cond ((q.storage == s) && is_some (last_stamp ns q.block)) (option_map without_lost_excess (cond ((q.storage == s) && list_any (λ b. b == q.block) bs) None w)) (cond ((q.storage == s) && list_any (λ b. b == q.block) bs) None w))
             (entered-own C H.blocks s ns H.replicas q own)
-            ∙ ap (λ t. cond (t && is_some (last_stamp ns q.block)) (option_map settled (cond (t && list_any (λ b. b == q.block) bs) None (enter_marks H.blocks (get H.replicas q) q.block (last_stamp ns q.block))))
+            ∙ ap (λ t. cond (t && is_some (last_stamp ns q.block)) (option_map without_lost_excess (cond (t && list_any (λ b. b == q.block) bs) None (enter_marks H.blocks (get H.replicas q) q.block (last_stamp ns q.block))))
             (cond (t && list_any (λ b. b == q.block) bs) None (enter_marks H.blocks (get H.replicas q) q.block (last_stamp ns q.block)))) own
             ∙ here q own (last_stamp ns q.block) refl ∙ sym (report_own ns q own)
         | inr other ↦
-            ap (λ w. cond ((q.storage == s) && is_some (last_stamp ns q.block)) (option_map settled (cond ((q.storage == s) && list_any (λ b. b == q.block) bs) None w)) (cond ((q.storage == s) && list_any (λ b. b == q.block) bs) None w))
+            ap (λ w. cond ((q.storage == s) && is_some (last_stamp ns q.block)) (option_map without_lost_excess (cond ((q.storage == s) && list_any (λ b. b == q.block) bs) None w)) (cond ((q.storage == s) && list_any (λ b. b == q.block) bs) None w))
             (entered-other C H.blocks s ns H.replicas q other)
-            ∙ ap (λ t. cond (t && is_some (last_stamp ns q.block)) (option_map settled (cond (t && list_any (λ b. b == q.block) bs) None (cond (is_some (last_stamp ns q.block) && are_sisters C s q.storage) None (get H.replicas q))))
+            ∙ ap (λ t. cond (t && is_some (last_stamp ns q.block)) (option_map without_lost_excess (cond (t && list_any (λ b. b == q.block) bs) None (cond (is_some (last_stamp ns q.block) && are_sisters C s q.storage) None (get H.replicas q))))
             (cond (t && list_any (λ b. b == q.block) bs) None (cond (is_some (last_stamp ns q.block) && are_sisters C s q.storage) None (get H.replicas q)))) other
             ∙ sym (report_other ns q other)
       ])
     where
       here : (q : ReplicaId) → (q.storage == s) ≡ true → (l : Option Stamp) → last_stamp ns q.block ≡ l
-          → cond (is_some l) (option_map settled (cond (list_any (λ b. b == q.block) bs) None (enter_marks H.blocks (get H.replicas q) q.block l))) (cond (list_any (λ b. b == q.block) bs) None (enter_marks H.blocks (get H.replicas q) q.block l))
+          → cond (is_some l) (option_map without_lost_excess (cond (list_any (λ b. b == q.block) bs) None (enter_marks H.blocks (get H.replicas q) q.block l))) (cond (list_any (λ b. b == q.block) bs) None (enter_marks H.blocks (get H.replicas q) q.block l))
           ≡ option_map (entered H q) l
       here q own (Some st) e =
-          ap (λ t. option_map settled (cond t None (Some (midway_marks (get H.blocks q.block) (get H.replicas q) st)))) (named_stay q.block (ap is_some e)) ∙ ap (λ m. Some m) (entered_settled q st)
+          ap (λ t. option_map without_lost_excess (cond t None (Some (midway_marks (get H.blocks q.block) (get H.replicas q) st)))) (named_stay q.block (ap is_some e)) ∙ ap (λ m. Some m) (entered_without_lost_excess q st)
       here q own None e = gone (get H.replicas q) refl
         where
           at_s : get H.replicas q ≡ get H.replicas (replica_at q.block s)

@@ -19,7 +19,7 @@ use Rattle.bm_base.specs.Replicas.{are_sisters, is_good}
 use Rattle.bm_arena.specs.Triplets.{Block}
 use Rattle.bm_arena.specs.Contents.{Contents, block_at, slot_of, marks_at, find_marks, IsLawful}
 use Rattle.bm_arena.specs.Holding.{replicas_of}
-use Rattle.bm_report.specs.Midway.{IsOncePerNode, IsExcessGood, is_settled}
+use Rattle.bm_report.specs.Midway.{IsOncePerNode, IsExcessGood, is_excess_good}
 use Rattle.bm_report.specs.Ready.{HasGoodExcess}
 use Rattle.bm_report.specs.Tested.{IsSingle, AreLow}
 use Rattle.bm_arena.proofs.Held.{get-replicas_of}
@@ -65,8 +65,8 @@ module _ (a : Contents) (slot : ℕ) (few : option_map_or (λ (b : Block). lengt
   few_in : (b : Block) → block_at a slot ≡ Some b → length b.replicas ≤ 1
   few_in b e = let is = ap (λ o. option_map_or (λ (x : Block). length x.replicas) o 0) e in omega (arith, few, is)
 
-  excess_good : (m : Marks) → is_settled m ≡ true → IsTrue m.excess → IsTrue (is_good m.tag)
-  excess_good m settled excess = by m.excess (is_good m.tag) settled excess
+  excess_good : (m : Marks) → is_excess_good m ≡ true → IsTrue m.excess → IsTrue (is_good m.tag)
+  excess_good m rightful excess = by m.excess (is_good m.tag) rightful excess
     where
       by : (e g : Bool) → not (e && not g) ≡ true → IsTrue e → IsTrue g
       by true true s e = refl
@@ -88,13 +88,13 @@ module _ (a : Contents) (slot : ℕ) (few : option_map_or (λ (b : Block). lengt
   found_in None few s m e = cc
   found_in (Some b) few s m e = first_found b.replicas s m (few b refl) e
 
-  pub single-some : (r : ℕ × Marks) → option_and_then (λ (b : Block). slice_get b.replicas 0) (block_at a slot) ≡ Some r → is_settled r.1 ≡ true → IsSingle a slot
-  single-some r first settled = record {
+  pub single-some : (r : ℕ × Marks) → option_and_then (λ (b : Block). slice_get b.replicas 0) (block_at a slot) ≡ Some r → is_excess_good r.1 ≡ true → IsSingle a slot
+  single-some r first rightful = record {
     few = few_in;
     good = λ s m e.
         let f = found_in (block_at a slot) few_in s m e in
         let same : r.1 ≡ m = one r f.0 (sym first ∙ f.1) ∙ f.2 in
-        excess_good m (ap is_settled (sym same) ∙ settled);
+        excess_good m (ap is_excess_good (sym same) ∙ rightful);
   }
     where
       one : (x y : ℕ × Marks) → Some x ≡ Some y → x.1 ≡ y.1

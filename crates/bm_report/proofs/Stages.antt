@@ -1,4 +1,4 @@
--- The stages of a report: the delimiter put, blocks entered, what was not reported swept out, the delimiter taken, marks settled.
+-- The stages of a report: the delimiter put, blocks entered, what was not reported swept out, the delimiter taken, lost excess dropped.
 use Rattle.std.proofs.Common.{◌≡◌, ◌≢◌, ℕ, ◌+◌, ◌<◌, ◌≤◌, Bool, true, false, cond, List, [], ◌∷◌, length, map, Option, Some, None, is_some, IsSome, refl, subst, inl, inr, sym, ap, ◌∙◌, arith, eqb, eq-eqb, eqb-true, ne_eqb, add-one}
 use Rattle.std.specs.Prelude.{◌==◌, nat_eq, IsSomeAnd, ◌⊎◌}
 use Rattle.std.specs.List.{list_any}
@@ -18,19 +18,19 @@ use Rattle.bm_base.specs.SlotLists.{Among, Distinct, without}
 use Rattle.bm_arena.specs.Contents.{Contents, block_at, slot_of, marks_at, list_of, find_marks, HasHead, IsLawful, KeepsOthers, KeepsEntries, IsEntry, count_up}
 use Rattle.bm_base.proofs.SlotLists.{Among-without, Among-without_other, without-gone, Distinct-without}
 use Rattle.bm_report.specs.declared.types.Named.{Named}
-use Rattle.bm_report.specs.declared.types.Tally.{Tally}
+use Rattle.bm_report.specs.declared.tally.Tally.{Tally}
 use Rattle.bm_arena.specs.Holding.{replicas_of, blocks_of, holdings_of}
-use Rattle.bm_report.specs.Midway.{after, behind, without_all, number_at, slot_in, entered_all, fresh, out_all, settled_all, last_stamp, told_of, count_ups, AreHere, HaveRoom, IsOncePerNode, IsExcessGood, IsEntered, IsCounted, IsSwept, IsSettling, IsListed}
+use Rattle.bm_report.specs.Midway.{after, behind, without_all, number_at, slot_in, entered_all, fresh, out_all, lost_excess_out_all, last_stamp, told_of, count_ups, AreHere, HaveRoom, IsOncePerNode, IsExcessGood, IsEntered, IsCounted, IsSwept, DropsLostExcess, IsListed}
 use Rattle.bm_arena.proofs.Held.{get-replicas_of, blocks-kept, one_number}
 use Rattle.bm_arena.proofs.Staying.{entries-chain, entries-others}
 use Rattle.bm_report.proofs.Behind.{Among-after}
 use Rattle.bm_report.proofs.Frames.{some_there}
 use Rattle.bm_report.proofs.Maps.{Held, tie, get-here, some_is}
-use Rattle.bm_report.proofs.Swept.{number-leads}
+use Rattle.bm_report.proofs.Swept.{delimiter_before, number-leads}
 use Rattle.bm_report.proofs.Underway.{listed-chain}
-use Rattle.bm_report.proofs.Settled.{here-ids}
+use Rattle.bm_report.proofs.LostExcess.{here-ids}
 use Rattle.bm_report.proofs.Reported.{reported}
-use Rattle.bm_report.proofs.Counting.{came, came_and_went, len-settled}
+use Rattle.bm_report.proofs.Counting.{came, came_and_went, len-lost_excess_out}
 
 same_slot : (x y : ℕ) → Some x ≡ Some y → x ≡ y
 same_slot x y e = cc
@@ -109,14 +109,6 @@ any-in f b x [] m e = absurd m
 any-in f b x (y ∷ xs) (inl same) e = rw (eq-eqb (f y) b (ap f (sym same) ∙ e)) refl
 any-in f b x (y ∷ xs) (inr m) e = elim (cases_Bool (eqb (f y) b)) [ inl here ↦ rw here refl | inr other ↦ rw other (any-in f b x xs m e) ]
 
-delimiter_out : (d : ℕ) (xs : List ℕ) → Distinct xs → Among d (after d xs) → ⊥
-delimiter_out d [] distinct m = m
-delimiter_out d (x ∷ xs) distinct m =
-    elim (cases_Bool (eqb x d)) [
-      | inl here ↦ distinct.0 (rw (eqb-true x d here) (rw here at m))
-      | inr other ↦ delimiter_out d xs distinct.1 (rw other at m)
-    ]
-
 excess-out : (s : ℕ) (bs : List ℕ) (K : Held) → IsExcessGood K → IsExcessGood (out_all s bs K)
 excess-out s [] K good = good
 excess-out s (b ∷ bs) K good = excess-out s bs (remove K (replica_at b s)) (λ p m e. good p m (was (tie p (replica_at b s)) (get K p) m (sym (get-remove K (replica_at b s) p) ∙ e)))
@@ -183,7 +175,7 @@ module _ (C : Cluster) (s : ℕ) (ns : List Named) (a0 a1 : Contents) (lawful0 :
     leads2 : (x : ℕ) → Among x (behind a2 s) → slot_of a2 (number_at a2 x) ≡ Some x
     leads2 x m =
         let P : ℕ → Type 0 = λ k. Among k (behind a2 s) in
-        number-leads a2 lawful2 x s (λ same. delimiter_out a2.delimiter (list_of a2 s) (lawful2.distinct s) (subst P same m))
+        number-leads a2 lawful2 x s (λ same. delimiter_before a2.delimiter (list_of a2 s) (lawful2.distinct s) (subst P same m))
         ((lawful2.exact x s).0 (Among-after a2.delimiter x (list_of a2 s) m))
 
     named_stay : (b : ℕ) → is_some (last_stamp ns b) ≡ true → list_any (λ k. k == b) bs ≡ false
@@ -241,36 +233,36 @@ module _ (C : Cluster) (s : ℕ) (ns : List Named) (a0 a1 : Contents) (lawful0 :
         let P : Option Block → Type 0 = λ o. IsSome (option_and_then (λ (b : Block). find_marks b.replicas s) o) in
         subst P (sym (ap (block_at a3) delimiter3 ∙ marker3)) some
 
-    module _ (a5 : Contents) (settling : IsSettling s ns a4 a5) where
+    module _ (a5 : Contents) (drops : DropsLostExcess s ns a4 a5) where
       pub replicas5 : replicas_of a5 ≡ (report C (holdings_of a0) s (map told_of ns)).replicas
       unfolding holdings_of
       replicas5 =
-          settling.replicas ∙ ap (settled_all s ns) (replicas4 ∙ replicas3 ∙ ap (out_all s bs) (entered.replicas ∙ (λ i. entered_all C (blocks1 i) s ns (replicas1 i))))
+          drops.replicas ∙ ap (lost_excess_out_all s ns) (replicas4 ∙ replicas3 ∙ ap (out_all s bs) (entered.replicas ∙ (λ i. entered_all C (blocks1 i) s ns (replicas1 i))))
           ∙ reported C (holdings_of a0) s ns bs named_stay others_leave
 
       pub blocks5 : blocks_of a5 ≡ blocks_of a0
-      blocks5 = settling.blocks ∙ blocks-kept a3 a4 a3.delimiter others4.ids others4.blocks others4.known ∙ swept.blocks ∙ entered.frame.blocks ∙ blocks1
+      blocks5 = drops.blocks ∙ blocks-kept a3 a4 a3.delimiter others4.ids others4.blocks others4.known ∙ swept.blocks ∙ entered.frame.blocks ∙ blocks1
 
       pub ids5 : a5.ids ≡ a0.ids
-      ids5 = settling.ids ∙ others4.ids ∙ swept.ids ∙ ids2
+      ids5 = drops.ids ∙ others4.ids ∙ swept.ids ∙ ids2
 
       pub entries5 : KeepsEntries a0 a5
       entries5 =
           entries-chain a0 a1 a5 (entries-others a0 a1 a0.delimiter s others1)
           (entries-chain a1 a2 a5 entered.frame.entries
-          (entries-chain a2 a3 a5 swept.entries (entries-chain a3 a4 a5 (entries-others a3 a4 a3.delimiter s others4) settling.entries)))
+          (entries-chain a2 a3 a5 swept.entries (entries-chain a3 a4 a5 (entries-others a3 a4 a3.delimiter s others4) drops.entries)))
 
       pub delimiter5 : a5.delimiter ≡ a0.delimiter
-      delimiter5 = settling.delimiter ∙ others4.delimiter ∙ delimiter3
+      delimiter5 = drops.delimiter ∙ others4.delimiter ∙ delimiter3
 
       pub heads5 : (t : ℕ) → HasHead a0 t → HasHead a5 t
       heads5 t h =
           let P : List (ℕ × List ℕ) → Type 0 = λ l. IsSome (lookup (nat_eq t) l) in
-          subst P (sym settling.lists) (others4.heads t (swept.heads t (entered.frame.heads t (others1.heads t h))))
+          subst P (sym drops.lists) (others4.heads t (swept.heads t (entered.frame.heads t (others1.heads t h))))
 
       pub free5 : marks_at a0 a0.delimiter s ≡ None → marks_at a4 a3.delimiter s ≡ None → (t : ℕ) → marks_at a5 a5.delimiter t ≡ marks_at a0 a0.delimiter t
       free5 free taken t =
-          let last : block_at a5 a5.delimiter ≡ block_at a4 a3.delimiter = ap (block_at a5) settling.delimiter ∙ settling.marker ∙ ap (block_at a4) others4.delimiter in
+          let last : block_at a5 a5.delimiter ≡ block_at a4 a3.delimiter = ap (block_at a5) drops.delimiter ∙ drops.marker ∙ ap (block_at a4) others4.delimiter in
           ap (λ o. option_and_then (λ (b : Block). find_marks b.replicas t) o) last
           ∙ elim (cases_eq t s) [
             | inl same ↦ ap (marks_at a4 a3.delimiter) same ∙ taken ∙ sym free ∙ ap (marks_at a0 a0.delimiter) (sym same)
@@ -289,10 +281,10 @@ module _ (C : Cluster) (s : ℕ) (ns : List Named) (a0 a1 : Contents) (lawful0 :
           marks4 = ap (λ o. option_and_then (λ (b : Block). find_marks b.replicas s) o) same4
 
           by : (o : Option Marks) → marks_at a0 slot s ≡ o → block_at a5 slot ≡ block_at a0 slot
-          by None e = settling.absent slot (marks4 ∙ e) ∙ same4
+          by None e = drops.absent slot (marks4 ∙ e) ∙ same4
           by (Some m) e =
               let at = number-leads a0 lawful0 slot s apart (some_is (marks_at a0 slot s) m e) in
-              settling.others slot m (marks4 ∙ e) (good (replica_at (number_at a0 slot) s) m (get-here a0 (number_at a0 slot) slot s at ∙ e)) ∙ same4
+              drops.others slot m (marks4 ∙ e) (good (replica_at (number_at a0 slot) s) m (get-here a0 (number_at a0 slot) slot s at ∙ e)) ∙ same4
 
       -- a block that is on another storage alone and is not named
       pub others5 : (slot : ℕ) → slot ≢ a0.delimiter → marks_at a0 slot s ≡ None → (Among slot (map slot_in ns) → ⊥) → block_at a5 slot ≡ block_at a0 slot
@@ -302,7 +294,7 @@ module _ (C : Cluster) (s : ℕ) (ns : List Named) (a0 a1 : Contents) (lawful0 :
           let not_behind : Among slot (behind a2 s) → ⊥ = λ m.
           some_there (marks_at a2 slot s) ((lawful2.exact slot s).0 (Among-after a2.delimiter slot (list_of a2 s) m)) (ap found still ∙ absent) in
           let same4 : block_at a4 slot ≡ block_at a0 slot = others4.blocks slot (λ e. apart (e ∙ delimiter3)) ∙ swept.others slot not_behind ∙ still in
-          settling.absent slot (ap found same4 ∙ absent) ∙ same4
+          drops.absent slot (ap found same4 ∙ absent) ∙ same4
 
       pub listed5 : (l0 l2 l3 : List ℕ) → IsListed a1 a2 l0 l2 → IsListed a2 a3 l2 l3 → (slot : ℕ) → Among slot l3 → Among slot l0 ⊎ IsEntry a0 slot
       listed5 l0 l2 l3 f g slot m = by ((listed-chain a1 a2 a3 l0 l2 l3 f g).only slot m)
@@ -313,12 +305,12 @@ module _ (C : Cluster) (s : ℕ) (ns : List Named) (a0 a1 : Contents) (lawful0 :
 
       pub rises5 : a1.steps ≡ count_up a0.steps → t1.steps ≡ 1 → ((n : ℕ) → a1.steps ≡ count_ups t1.steps n → a2.steps ≡ count_ups t2.steps n) → a5.steps ≡ count_ups (t3.steps + 1) a0.steps
       rises5 first one rises =
-          settling.steps ∙ others4.steps ∙ ap count_up (swept.rises a0.steps (rises a0.steps (first ∙ ap (λ k. count_ups k a0.steps) (sym one)))) ∙ ap (λ k. count_ups k a0.steps) (sym (add-one t3.steps))
+          drops.steps ∙ others4.steps ∙ ap count_up (swept.rises a0.steps (rises a0.steps (first ∙ ap (λ k. count_ups k a0.steps) (sym one)))) ∙ ap (λ k. count_ups k a0.steps) (sym (add-one t3.steps))
 
       -- the replicas in the end, by the maps before
-      in_the_end : replicas_of a5 ≡ settled_all s ns (out_all s bs (entered_all C (blocks_of a0) s ns (replicas_of a0)))
+      in_the_end : replicas_of a5 ≡ lost_excess_out_all s ns (out_all s bs (entered_all C (blocks_of a0) s ns (replicas_of a0)))
       in_the_end =
-          settling.replicas ∙ ap (settled_all s ns) (replicas4 ∙ replicas3 ∙ ap (out_all s bs) (entered.replicas ∙ (λ i. entered_all C (blocks1 i) s ns (replicas1 i))))
+          drops.replicas ∙ ap (lost_excess_out_all s ns) (replicas4 ∙ replicas3 ∙ ap (out_all s bs) (entered.replicas ∙ (λ i. entered_all C (blocks1 i) s ns (replicas1 i))))
 
       then_swept : replicas_of a4 ≡ out_all s bs (entered_all C (blocks_of a0) s ns (replicas_of a0))
       then_swept = replicas4 ∙ replicas3 ∙ ap (out_all s bs) (entered.replicas ∙ (λ i. entered_all C (blocks1 i) s ns (replicas1 i)))
@@ -335,7 +327,7 @@ module _ (C : Cluster) (s : ℕ) (ns : List Named) (a0 a1 : Contents) (lawful0 :
         pub removed5 : t3.removed ≡ new_replicas (replicas_of a5) (replicas_of a0)
         removed5 =
             let both = came_and_went (replicas_of a0) (replicas_of a5) in
-            let len5 : len (replicas_of a5) ≡ len (replicas_of a4) = ap len in_the_end ∙ len-settled C (blocks_of a0) s (replicas_of a0) ns bs named_stay ∙ sym (ap len then_swept) in
+            let len5 : len (replicas_of a5) ≡ len (replicas_of a4) = ap len in_the_end ∙ len-lost_excess_out C (blocks_of a0) s (replicas_of a0) ns bs named_stay ∙ sym (ap len then_swept) in
             let len4 = ap len replicas4 in
             let len1 = ap len replicas1 in
             let added = added5 in

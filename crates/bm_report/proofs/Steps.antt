@@ -9,14 +9,14 @@ use Rattle.bm_base.specs.Replicas.{are_sisters}
 use Rattle.bm_base.specs.SlotLists.{Among, without}
 use Rattle.bm_arena.specs.Contents.{Contents, block_at, slot_of, marks_at, list_of, IsLawful, KeepsOthers}
 use Rattle.bm_arena.specs.Holding.{replicas_of}
-use Rattle.bm_report.specs.Midway.{behind, IsFramed, IsOncePerNode}
+use Rattle.bm_report.specs.Midway.{entered_at, behind, IsFramed, IsOncePerNode}
 use Rattle.bm_arena.proofs.Held.{replicas-put, replicas-out}
 use Rattle.bm_report.proofs.Behind.{behind-linked, behind-moved, behind-kept}
 use Rattle.bm_report.proofs.Frames.{framed, framed-chain, is_there, some_there}
 use Rattle.bm_arena.proofs.Marked.{set_at, set-elsewhere, set-known, set-marks, set-others}
 use Rattle.bm_arena.proofs.Staying.{entries-others, set-entries}
 use Rattle.bm_report.proofs.Sisters.{sisters_apart}
-use Rattle.bm_report.proofs.Maps.{get-here, insert-same, some_is, is_replaced, entered_at, put-alone, put-moved, len-put_new, len-out}
+use Rattle.bm_report.proofs.Maps.{get-here, insert-same, some_is, is_replaced, put-alone, put-moved, len-put_new, len-out}
 
 -- it is there: moved to the head, and then its marks set
 module _ (a c : Contents) (s b slot : ℕ) (was : Marks) (lawful : IsLawful a) (here : slot_of a b ≡ Some slot) (at : marks_at a slot s ≡ Some was)

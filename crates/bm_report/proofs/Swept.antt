@@ -10,7 +10,7 @@ use Rattle.bm_arena.specs.Triplets.{Block}
 use Rattle.bm_base.specs.SlotLists.{Among, Distinct, without}
 use Rattle.bm_base.specs.SlotLists.{first_of, slot_after}
 use Rattle.bm_arena.specs.Contents.{Contents, block_at, slot_of, marks_at, list_of, find_marks, known_of, count_up, IsLawful, KeepsOthers}
-use Rattle.bm_report.specs.declared.types.Tally.{Tally}
+use Rattle.bm_report.specs.declared.tally.Tally.{Tally}
 use Rattle.bm_arena.specs.Holding.{replicas_of}
 use Rattle.bm_report.specs.Midway.{after, behind, number_at, out_all, count_ups, swept_tally, IsSwept, IsSweeping}
 use Rattle.bm_arena.proofs.Held.{replicas-out, blocks-kept}
@@ -25,7 +25,8 @@ pub first-after : (d : ℕ) (xs : List ℕ) → slot_after d xs ≡ first_of (af
 first-after d [] = refl
 first-after d (x ∷ xs) = elim (cases_Bool (eqb x d)) [ inl here ↦ rw here refl | inr other ↦ rw other (first-after d xs) ]
 
-delimiter_before : (d : ℕ) (xs : List ℕ) → Distinct xs → Among d (after d xs) → ⊥
+-- the delimiter is not behind itself
+pub delimiter_before : (d : ℕ) (xs : List ℕ) → Distinct xs → Among d (after d xs) → ⊥
 delimiter_before d [] distinct m = m
 delimiter_before d (x ∷ xs) distinct m =
     elim (cases_Bool (eqb x d)) [
@@ -79,7 +80,7 @@ swept-none s a t = record {
   heads = λ q h. h;
   rises = λ n h. h;
   added = refl;
-  is_unsettled = refl;
+  has_lost_excess = refl;
   removed = omega arith;
   steps = omega arith;
   lengths = omega arith;
@@ -100,7 +101,7 @@ swept-cons s x xs a b c t u v f g = record {
   heads = λ q h. g.heads q (f.heads q h);
   rises = λ n h. g.rises n (f.rises n h);
   added = g.added ∙ f.added;
-  is_unsettled = g.is_unsettled ∙ f.is_unsettled;
+  has_lost_excess = g.has_lost_excess ∙ f.has_lost_excess;
   removed = omega (arith, f.removed, g.removed);
   steps = omega (arith, f.steps, g.steps);
   lengths = omega (arith, f.lengths, g.lengths);
@@ -173,7 +174,7 @@ module _ (s x : ℕ) (a b : Contents) (lawful : IsLawful a) (next : slot_after a
         heads = others.heads;
         rises = λ n h. others.steps ∙ ap count_up h ∙ ap (λ k. count_ups k n) (sym (add-one t.steps));
         added = refl;
-        is_unsettled = refl;
+        has_lost_excess = refl;
         removed = omega arith;
         steps = omega arith;
         lengths = omega (arith, fewer, here);

@@ -11,7 +11,7 @@ use Rattle.bm_base.specs.SlotLists.{Among}
 use Rattle.bm_arena.specs.Contents.{Contents, block_at, IsEntry, HasHead}
 use Rattle.bm_arena.proofs.Replicas.{Among-left, Among-last}
 use Rattle.bm_report.specs.declared.types.Named.{Named}
-use Rattle.bm_report.specs.declared.types.Tally.{Tally}
+use Rattle.bm_report.specs.declared.tally.Tally.{Tally}
 use Rattle.bm_arena.specs.Holding.{replicas_of, blocks_of}
 use Rattle.bm_report.specs.Midway.{AreHere, HaveRoom, IsOncePerNode, IsEntered, IsCounted, IsListed, IsSmall, IsUnderway}
 use Rattle.bm_report.proofs.Chaining.{entered-none, counted-none, entered-append, counted-append, here-framed, room-framed}

@@ -7,7 +7,7 @@ use Rattle.bm_parts.specs.Parts.{told_of}
 use Rattle.bm_arena.specs.Triplets.{Block}
 use Rattle.bm_arena.specs.Contents.{Contents, block_at, slot_of, marks_at, list_of, room_at, with_room, HasHead, HasRoom}
 use Rattle.bm_arena.specs.Holding.{replicas_of, blocks_of}
-use Rattle.bm_report.specs.declared.types.Known.{Known}
+use Rattle.bm_report.specs.declared.slots_of_numbers.Known.{Known}
 
 -- what is told of a shard's numbers
 abbrev pub of_part : Part → List Told → List Told

@@ -16,7 +16,7 @@ use Rattle.bm_arena.specs.Triplets.{Block}
 use Rattle.bm_base.specs.SlotLists.{Among, without}
 use Rattle.bm_arena.specs.Contents.{Contents, block_at, slot_of, marks_at, list_of, HasHead, HasRoom, count_up, known_of, IsEntry, KeepsEntries}
 use Rattle.bm_report.specs.declared.types.Named.{Named}
-use Rattle.bm_report.specs.declared.types.Tally.{Tally}
+use Rattle.bm_report.specs.declared.tally.Tally.{Tally}
 use Rattle.bm_arena.specs.Holding.{replicas_of, blocks_of, info_at}
 
 -- The marks of a reported replica while the report runs. The mark "in excess" says that it was so before the report, also
@@ -31,18 +31,21 @@ midway_marks info was stamp = record {
   ordered = false;
 }
 
--- the marks after the report: only a good replica is in excess
-abbrev pub settled : Marks → Marks
-settled m = record m { excess = is_good m.tag && m.excess }
+-- The marks after the report: a good replica alone stays in excess. The mark of a replica that is not good any more is lost excess.
+abbrev pub without_lost_excess : Marks → Marks
+without_lost_excess m = record m { excess = is_good m.tag && m.excess }
 
-abbrev pub is_settled : Marks → Bool
-is_settled m = not (m.excess && not (is_good m.tag))
+abbrev pub is_excess_good : Marks → Bool
+is_excess_good m = not (m.excess && not (is_good m.tag))
+
+-- the replica p is there with marks m, and leaves the other storages of its node
+abbrev pub entered_at : Cluster → Map by_replica Marks → ReplicaId → Marks → Map by_replica Marks
+entered_at C K p m = insert (keep K (λ q _. not (replaces C p q))) p m
 
 -- what one named block makes of the replicas
 unfoldable pub entered_one : Cluster → Map by_number BlockInfo → ℕ → Named → Map by_replica Marks → Map by_replica Marks
 entered_one C B s n K =
-    insert (keep K (λ q _. not (replaces C (replica_at n.id s) q))) (replica_at n.id s)
-    (midway_marks (get B n.id) (get K (replica_at n.id s)) n.stamp)
+    entered_at C K (replica_at n.id s) (midway_marks (get B n.id) (get K (replica_at n.id s)) n.stamp)
 
 abbrev pub entered_all : Cluster → Map by_number BlockInfo → ℕ → List Named → Map by_replica Marks → Map by_replica Marks
 entered_all C B s [] K = K
@@ -62,7 +65,7 @@ IsOncePerNode C K = (p q : ReplicaId) → IsSome (get K p) → IsSome (get K q) 
 
 -- only good replicas are in excess
 abbrev pub IsExcessGood : Map by_replica Marks → Type 0
-IsExcessGood K = (p : ReplicaId) (m : Marks) → get K p ≡ Some m → is_settled m ≡ true
+IsExcessGood K = (p : ReplicaId) (m : Marks) → get K p ≡ Some m → is_excess_good m ≡ true
 
 -- the slots that stand behind the delimiter
 abbrev pub after : ℕ → List ℕ → List ℕ
@@ -85,13 +88,13 @@ abbrev pub out_all : ℕ → List ℕ → Map by_replica Marks → Map by_replic
 out_all s [] K = K
 out_all s (b ∷ bs) K = out_all s bs (remove K (replica_at b s))
 
--- the marks of the named blocks on s are settled
-abbrev pub settled_one : ℕ → ℕ → Map by_replica Marks → Map by_replica Marks
-settled_one s b K = option_map_or (λ m. insert K (replica_at b s) (settled m)) (get K (replica_at b s)) K
+-- the lost excess of the named blocks on s is out
+abbrev pub lost_excess_out_one : ℕ → ℕ → Map by_replica Marks → Map by_replica Marks
+lost_excess_out_one s b K = option_map_or (λ m. insert K (replica_at b s) (without_lost_excess m)) (get K (replica_at b s)) K
 
-abbrev pub settled_all : ℕ → List Named → Map by_replica Marks → Map by_replica Marks
-settled_all s [] K = K
-settled_all s (n ∷ ns) K = settled_all s ns (settled_one s n.id K)
+abbrev pub lost_excess_out_all : ℕ → List Named → Map by_replica Marks → Map by_replica Marks
+lost_excess_out_all s [] K = K
+lost_excess_out_all s (n ∷ ns) K = lost_excess_out_all s ns (lost_excess_out_one s n.id K)
 
 -- the stamp that counts of a named block: that of its last entry
 abbrev pub last_stamp : List Named → ℕ → Option Stamp
@@ -154,18 +157,18 @@ pub record IsCounted (C : Cluster) (s : ℕ) (ns : List Named) (old new : Conten
   pub removed : after.removed + before.added + len (replicas_of new) ≡ before.removed + after.added + len (replicas_of old)
   pub few_added : after.added ≤ before.added + length ns
   pub few_removed : after.removed ≤ before.removed + length ns
-  pub settled : after.is_unsettled ≡ false → (before.is_unsettled ≡ false) × (IsExcessGood (replicas_of old) → IsExcessGood (replicas_of new))
+  pub good : after.has_lost_excess ≡ false → (before.has_lost_excess ≡ false) × (IsExcessGood (replicas_of old) → IsExcessGood (replicas_of new))
 
 -- what a tally is after a block was moved, or linked and perhaps taken from a sister storage
 abbrev pub moved_tally : Tally → Bool → Tally
-moved_tally t is_settled = record t { steps = t.steps + 1; is_unsettled = t.is_unsettled || not is_settled }
+moved_tally t is_excess_good = record t { steps = t.steps + 1; has_lost_excess = t.has_lost_excess || not is_excess_good }
 
 abbrev pub linked_tally : Tally → Bool → Bool → Tally
-linked_tally t has_left is_settled = record {
+linked_tally t has_left is_excess_good = record {
   added = t.added + 1;
   removed = t.removed + (if has_left then 1 else 0);
   steps = t.steps + (if has_left then 2 else 1);
-  is_unsettled = t.is_unsettled || not is_settled;
+  has_lost_excess = t.has_lost_excess || not is_excess_good;
 }
 
 abbrev pub swept_tally : Tally → Tally
@@ -205,7 +208,7 @@ pub record IsSwept (s : ℕ) (xs : List ℕ) (old new : Contents) (t u : Tally) 
   pub heads : (t : ℕ) → HasHead old t → HasHead new t
   pub rises : (n : ℕ) → old.steps ≡ count_ups t.steps n → new.steps ≡ count_ups u.steps n
   pub added : u.added ≡ t.added
-  pub is_unsettled : u.is_unsettled ≡ t.is_unsettled
+  pub has_lost_excess : u.has_lost_excess ≡ t.has_lost_excess
   pub removed : u.removed ≡ t.removed + length xs
   pub steps : u.steps ≡ t.steps + length xs
   pub lengths : len (replicas_of new) + length xs ≡ len (replicas_of old)
@@ -220,16 +223,16 @@ pub record IsSweeping (s : ℕ) (first now : Contents) (t u : Tally) (listed_fir
   pub removed : u.removed + length (behind now s) < 2 ^ 127
   pub steps : u.steps + length (behind now s) < 2 ^ 127
 
--- the marks of blocks on s were settled
-pub record IsSettling (s : ℕ) (ns : List Named) (old new : Contents) : Type 0 where
-  pub replicas : replicas_of new ≡ settled_all s ns (replicas_of old)
+-- the lost excess of the named blocks on s was dropped
+pub record DropsLostExcess (s : ℕ) (ns : List Named) (old new : Contents) : Type 0 where
+  pub replicas : replicas_of new ≡ lost_excess_out_all s ns (replicas_of old)
   pub ids : new.ids ≡ old.ids
   pub delimiter : new.delimiter ≡ old.delimiter
   pub marker : block_at new old.delimiter ≡ block_at old old.delimiter
   pub blocks : blocks_of new ≡ blocks_of old
   pub lists : new.lists ≡ old.lists
   pub steps : new.steps ≡ old.steps
-  -- a block whose replicas are others has a replica whose marks were not settled
-  pub others : (slot : ℕ) (m : Marks) → marks_at old slot s ≡ Some m → is_settled m ≡ true → block_at new slot ≡ block_at old slot
+  -- a block whose replicas are others had a replica on s with lost excess
+  pub others : (slot : ℕ) (m : Marks) → marks_at old slot s ≡ Some m → is_excess_good m ≡ true → block_at new slot ≡ block_at old slot
   pub absent : (slot : ℕ) → marks_at old slot s ≡ None → block_at new slot ≡ block_at old slot
   pub entries : KeepsEntries old new

@@ -11,7 +11,7 @@ use Rattle.bm_base.specs.Events.{is_named, entered}
 use Rattle.bm_arena.specs.Contents.{Contents, slot_of, marks_at, list_of, HasHead, HasRoom}
 use Rattle.bm_report.specs.declared.types.Named.{Named}
 use Rattle.bm_report.specs.Midway.{AreHere, HaveRoom, IsOncePerNode, IsSmall, told_of}
-use Rattle.bm_report.specs.declared.types.Tally.{Tally}
+use Rattle.bm_report.specs.declared.tally.Tally.{Tally}
 use Rattle.bm_arena.specs.Holding.{replicas_of}
 
 -- what a report keeps

@@ -8,8 +8,9 @@ ghost use Rattle.bm_arena.specs.Holding.{replicas_of, blocks_of, holdings_of};
 ghost use Rattle.bm_report.specs.Midway.{AreHere, HaveRoom, IsOncePerNode, IsExcessGood, told_of, count_ups, AllStand};
 
 use crate::chunks::enter_all;
-use crate::sweeping::{settle, sweep};
-use crate::types::{Applied, Named, Tally};
+use crate::sweeping::{drop_lost_excess, sweep};
+use crate::tally::Tally;
+use crate::types::{Applied, Named};
 use bm_arena::{Arena, Slot};
 use bm_base::StorageId;
 use bm_topo::Topology;
@@ -28,16 +29,25 @@ pub(crate) fn apply(
     requires once { IsOncePerNode topology.now.cluster (replicas_of arena.old) }
     requires good { IsExcessGood (replicas_of arena.old) }
     requires free { marks_at arena.old arena.old.delimiter storage ≡ None }
-    requires space { vec_len changed.old + length named.now + length (list_of arena.old storage) ≤ vec_capacity changed.old }
-    ensures replicas { replicas_of arena.new ≡ (events.report topology.now.cluster (holdings_of arena.old) storage (map told_of named.now)).replicas }
+    requires space { vec_len changed.old + length named.now + length (list_of arena.old storage)
+        ≤ vec_capacity changed.old }
+    ensures replicas { replicas_of arena.new
+        ≡ (events.report topology.now.cluster (holdings_of arena.old) storage
+        (map told_of named.now)).replicas }
     ensures blocks { blocks_of arena.new ≡ blocks_of arena.old }
     ensures entries { KeepsEntries arena.old arena.new }
-    ensures free { (t : ℕ) → marks_at arena.new arena.new.delimiter t ≡ marks_at arena.old arena.old.delimiter t }
-    ensures listed { (slot : ℕ) → Among slot changed.new.items → Among slot changed.old.items ⊎ IsEntry arena.old slot }
-    ensures changed { (slot : ℕ) → slot ≢ arena.old.delimiter → (Among slot changed.new.items → ⊥) → block_at arena.new slot ≡ block_at arena.old slot }
-    ensures quiet { AllStand arena.old storage named.now → result.removed ≡ 0 → changed.new.items ≡ changed.old.items }
-    ensures added { result.added ≡ calls.new_replicas (replicas_of arena.old) (replicas_of arena.new) }
-    ensures removed { result.removed ≡ calls.new_replicas (replicas_of arena.new) (replicas_of arena.old) }
+    ensures free { (t : ℕ)
+        → marks_at arena.new arena.new.delimiter t ≡ marks_at arena.old arena.old.delimiter t }
+    ensures listed { (slot : ℕ) → Among slot changed.new.items
+        → Among slot changed.old.items ⊎ IsEntry arena.old slot }
+    ensures changed { (slot : ℕ) → slot ≢ arena.old.delimiter → (Among slot changed.new.items → ⊥)
+        → block_at arena.new slot ≡ block_at arena.old slot }
+    ensures quiet { AllStand arena.old storage named.now → result.removed ≡ 0
+        → changed.new.items ≡ changed.old.items }
+    ensures added { result.added
+        ≡ calls.new_replicas (replicas_of arena.old) (replicas_of arena.new) }
+    ensures removed { result.removed
+        ≡ calls.new_replicas (replicas_of arena.new) (replicas_of arena.old) }
     ensures few { (result.added < 2 ^ 100) × (result.removed < 2 ^ 100) }
     ensures steps { result.steps ≡ length named.now + result.removed + 2 }
     ensures counted { arena.new.steps ≡ count_ups result.steps arena.old.steps }
@@ -46,7 +56,7 @@ pub(crate) fn apply(
         added: 0,
         removed: 0,
         steps: 1,
-        is_unsettled: false,
+        has_lost_excess: false,
     };
     arena.lawful();
     arena.put_delimiter(storage);
@@ -55,7 +65,7 @@ pub(crate) fn apply(
     sweep(arena, storage, &mut tally, changed);
     arena.lawful();
     arena.take_delimiter(storage);
-    settle(arena, storage, named, tally.is_unsettled);
+    drop_lost_excess(arena, storage, named, tally.has_lost_excess);
     Applied {
         added: tally.added,
         removed: tally.removed,

@@ -1,16 +1,17 @@
-// Numbers of a report entered and settled one after another, each looked up anew: no slots are kept.
+// Numbers of a report entered, and their lost excess dropped, one after another, each looked up anew: no slots are kept.
 ghost use Rattle.std.specs.Prelude.{◌≡◌, ◌<◌, ◌+◌, ◌^◌, ◌∷◌, [], length, false, IsSome};
 ghost use Rattle.bm_base.specs.Entries.{told_by};
 ghost use Rattle.bm_arena.specs.Contents.{marks_at};
 ghost use Rattle.bm_arena.specs.Holding.{replicas_of};
-ghost use Rattle.bm_report.specs.Midway.{behind, AreHere, IsCounted, IsEntered, IsExcessGood, IsSettling, IsSwept};
+ghost use Rattle.bm_report.specs.Midway.{behind, AreHere, IsCounted, IsEntered, IsExcessGood, DropsLostExcess, IsSwept};
 ghost use Rattle.bm_report.specs.Expanded.{of_part, told_to};
 ghost use Rattle.bm_report.specs.Ready.{named_of, CanBeEntered};
 
 use crate::entering::enter;
-use crate::finding::first_of_part;
-use crate::sweeping::settle_one;
-use crate::types::{Named, Tally};
+use crate::slots_of_numbers::first_of_part;
+use crate::sweeping::drop_lost_excess_of_one;
+use crate::tally::Tally;
+use crate::types::Named;
 use bm_arena::Arena;
 use bm_base::{BlockId, Entry, Part, Stamp, StorageId};
 use bm_topo::Topology;
@@ -24,9 +25,13 @@ fn enter_number(
     stamp: Stamp,
     tally: &mut Tally,
 )
-    requires { CanBeEntered topology.now.cluster storage (record { id = id; stamp = stamp } ∷ []) arena.old tally.old }
-    ensures entered { IsEntered topology.now.cluster storage (named_of arena.old (record { id = id; stamp = stamp } ∷ [])) arena.old arena.new }
-    ensures counted { IsCounted topology.now.cluster storage (named_of arena.old (record { id = id; stamp = stamp } ∷ [])) arena.old arena.new tally.old tally.new }
+    requires { CanBeEntered topology.now.cluster storage (record { id = id; stamp = stamp } ∷ [])
+        arena.old tally.old }
+    ensures entered { IsEntered topology.now.cluster storage
+        (named_of arena.old (record { id = id; stamp = stamp } ∷ [])) arena.old arena.new }
+    ensures counted { IsCounted topology.now.cluster storage
+        (named_of arena.old (record { id = id; stamp = stamp } ∷ [])) arena.old arena.new
+        tally.old tally.new }
 {
     match arena.find(id) {
         Some(slot) => {
@@ -54,9 +59,13 @@ fn enter_run(
     tally: &mut Tally,
 )
     requires part { part.index < part.shards }
-    requires set { CanBeEntered topology.now.cluster storage (of_part part (told_by entry.now)) arena.old tally.old }
-    ensures entered { IsEntered topology.now.cluster storage (named_of arena.old (of_part part (told_by entry.now))) arena.old arena.new }
-    ensures counted { IsCounted topology.now.cluster storage (named_of arena.old (of_part part (told_by entry.now))) arena.old arena.new tally.old tally.new }
+    requires set { CanBeEntered topology.now.cluster storage (of_part part (told_by entry.now))
+        arena.old tally.old }
+    ensures entered { IsEntered topology.now.cluster storage
+        (named_of arena.old (of_part part (told_by entry.now))) arena.old arena.new }
+    ensures counted { IsCounted topology.now.cluster storage
+        (named_of arena.old (of_part part (told_by entry.now))) arena.old arena.new
+        tally.old tally.new }
 {
     let last = u128::from(entry.to.0);
     let mut next = first_of_part(entry.from, part);
@@ -83,64 +92,71 @@ pub(crate) fn enter_entries(
     tally: &mut Tally,
 )
     requires part { part.index < part.shards }
-    requires set { CanBeEntered topology.now.cluster storage (told_to part entries.now) arena.old tally.old }
-    ensures entered { IsEntered topology.now.cluster storage (named_of arena.old (told_to part entries.now)) arena.old arena.new }
-    ensures counted { IsCounted topology.now.cluster storage (named_of arena.old (told_to part entries.now)) arena.old arena.new tally.old tally.new }
+    requires set { CanBeEntered topology.now.cluster storage (told_to part entries.now)
+        arena.old tally.old }
+    ensures entered { IsEntered topology.now.cluster storage
+        (named_of arena.old (told_to part entries.now)) arena.old arena.new }
+    ensures counted { IsCounted topology.now.cluster storage
+        (named_of arena.old (told_to part entries.now)) arena.old arena.new tally.old tally.new }
 {
     for entry in entries {
         enter_run(arena, topology, storage, entry, part, tally);
     }
 }
 
-/// Settles the marks on the storage of the block of a number.
-fn settle_number(arena: &mut Arena, storage: StorageId, id: BlockId, stamp: Stamp)
+/// Drops the lost excess of the block of a number on the storage.
+fn drop_lost_excess_of_number(arena: &mut Arena, storage: StorageId, id: BlockId, stamp: Stamp)
     requires { AreHere arena.old (named_of arena.old (record { id = id; stamp = stamp } ∷ [])) }
-    ensures { IsSettling storage (named_of arena.old (record { id = id; stamp = stamp } ∷ [])) arena.old arena.new }
+    ensures { DropsLostExcess storage (named_of arena.old (record { id = id; stamp = stamp } ∷ []))
+        arena.old arena.new }
 {
     match arena.find(id) {
-        Some(slot) => settle_one(arena, storage, &Named { id, slot, stamp }),
+        Some(slot) => drop_lost_excess_of_one(arena, storage, &Named { id, slot, stamp }),
         None => unreachable!(),
     }
 }
 
-fn settle_run(arena: &mut Arena, storage: StorageId, entry: &Entry, part: Part)
+fn drop_lost_excess_of_run(arena: &mut Arena, storage: StorageId, entry: &Entry, part: Part)
     requires part { part.index < part.shards }
     requires here { AreHere arena.old (named_of arena.old (of_part part (told_by entry.now))) }
-    ensures { IsSettling storage (named_of arena.old (of_part part (told_by entry.now))) arena.old arena.new }
+    ensures { DropsLostExcess storage (named_of arena.old (of_part part (told_by entry.now)))
+        arena.old arena.new }
 {
     let last = u128::from(entry.to.0);
     let mut next = first_of_part(entry.from, part);
     while next <= last {
-        settle_number(arena, storage, BlockId(next as u64), entry.stamp);
+        drop_lost_excess_of_number(arena, storage, BlockId(next as u64), entry.stamp);
         next += u128::from(part.shards);
     }
 }
 
-fn settle_entries(arena: &mut Arena, storage: StorageId, entries: &[Entry], part: Part)
+fn drop_lost_excess_of_entries(arena: &mut Arena, storage: StorageId, entries: &[Entry], part: Part)
     requires part { part.index < part.shards }
     requires here { AreHere arena.old (named_of arena.old (told_to part entries.now)) }
-    ensures { IsSettling storage (named_of arena.old (told_to part entries.now)) arena.old arena.new }
+    ensures { DropsLostExcess storage (named_of arena.old (told_to part entries.now))
+        arena.old arena.new }
 {
     for entry in entries {
-        settle_run(arena, storage, entry, part);
+        drop_lost_excess_of_run(arena, storage, entry, part);
     }
 }
 
-/// Settles the marks of all blocks that the entries name, where some are not: only a good replica stays in excess.
-pub(crate) fn settle_named(
+/// Drops the lost excess of all blocks that the entries name, where there is some: a good replica alone stays in excess.
+pub(crate) fn drop_lost_excess_by_number(
     arena: &mut Arena,
     storage: StorageId,
     entries: &[Entry],
     part: Part,
-    is_unsettled: bool,
+    has_lost_excess: bool,
 )
     requires part { part.index < part.shards }
     requires here { AreHere arena.old (named_of arena.old (told_to part entries.now)) }
-    requires settled { is_unsettled ≡ false → IsExcessGood (replicas_of arena.old) }
-    ensures { IsSettling storage (named_of arena.old (told_to part entries.now)) arena.old arena.new }
+    requires good { has_lost_excess ≡ false → IsExcessGood (replicas_of arena.old) }
+    ensures { DropsLostExcess storage (named_of arena.old (told_to part entries.now))
+        arena.old arena.new }
 {
-    if is_unsettled {
-        settle_entries(arena, storage, entries, part);
+    if has_lost_excess {
+        drop_lost_excess_of_entries(arena, storage, entries, part);
     }
 }
 

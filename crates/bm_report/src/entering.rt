@@ -1,15 +1,16 @@
 // Entering one block that a report names.
-ghost use Rattle.std.specs.Prelude.{◌≡◌, ◌≢◌, ◌+◌, ◌∷◌, [], ℕ, if◌then◌else◌, not, true, false, None, Some};
-ghost use Rattle.bm_base.specs.Map.{insert, keep, len};
+ghost use Rattle.std.specs.Prelude.{◌≡◌, ◌≢◌, ◌+◌, ◌∷◌, [], ℕ, if◌then◌else◌, true, false, None, Some};
+ghost use Rattle.bm_base.specs.Map.{insert, len};
 ghost use Rattle.bm_base.specs.State.{replica_at};
-ghost use Rattle.bm_base.specs.Events.{replaces};
 ghost use Rattle.bm_base.specs.SlotLists.{without};
 ghost use Rattle.bm_arena.specs.Contents.{block_at, slot_of, marks_at, count_up, HasHead, HasRoom};
 ghost use Rattle.bm_arena.specs.Holding.{replicas_of};
-ghost use Rattle.bm_report.specs.Midway.{behind, IsFramed, IsOncePerNode, count_ups, IsEntered, IsCounted, IsSmall, Stands};
+ghost use Rattle.bm_report.specs.Midway.{behind, entered_at, IsFramed, IsOncePerNode, count_ups, IsEntered, IsCounted, IsSmall, Stands};
 
-use crate::marking::{are_same, is_settled, midway_marks, sister_of};
-use crate::types::{Named, Tally};
+use crate::marking::{are_same, is_excess_good, midway_marks};
+use crate::sister_storages::sister_of;
+use crate::tally::Tally;
+use crate::types::Named;
 use bm_arena::Arena;
 use bm_base::{Marks, StorageId};
 use bm_topo::Topology;
@@ -26,25 +27,28 @@ pub(crate) fn enter(
     requires here { slot_of arena.old named.now.id ≡ Some named.now.slot }
     requires was { was ≡ marks_at arena.old named.now.slot storage }
     requires head { HasHead arena.old storage }
-    requires room { marks_at arena.old named.now.slot storage ≡ None → HasRoom arena.old named.now.slot }
+    requires room { marks_at arena.old named.now.slot storage ≡ None
+        → HasRoom arena.old named.now.slot }
     requires once { IsOncePerNode topology.now.cluster (replicas_of arena.old) }
     requires small { IsSmall tally.old 1 }
     ensures entered { IsEntered topology.now.cluster storage (named.now ∷ []) arena.old arena.new }
-    ensures counted { IsCounted topology.now.cluster storage (named.now ∷ []) arena.old arena.new tally.old tally.new }
+    ensures counted { IsCounted topology.now.cluster storage (named.now ∷ []) arena.old arena.new
+        tally.old tally.new }
     ensures same { result ≡ false → arena.new.blocks ≡ arena.old.blocks }
     ensures quiet { Stands arena.old storage named.now → result ≡ false }
-    ensures others { (slot : ℕ) → slot ≢ named.now.slot → block_at arena.new slot ≡ block_at arena.old slot }
+    ensures others { (slot : ℕ) → slot ≢ named.now.slot
+        → block_at arena.new slot ≡ block_at arena.old slot }
 {
     let marks = midway_marks(arena.info(named.slot), was, &named.stamp);
-    let is_settled = is_settled(marks);
+    let is_excess_good = is_excess_good(marks);
     match was {
         Some(was) => {
-            tally.count_move(is_settled);
+            tally.count_move(is_excess_good);
             move_known(arena, named, storage, was, marks)
         }
         None => {
             let has_left = link_new(arena, topology, named, storage, marks);
-            tally.count_link(has_left, is_settled);
+            tally.count_link(has_left, is_excess_good);
             true
         }
     }
@@ -60,12 +64,14 @@ pub(crate) fn move_known(
 ) -> bool
     requires here { slot_of arena.old named.now.id ≡ Some named.now.slot }
     requires was { marks_at arena.old named.now.slot storage ≡ Some was }
-    ensures replicas { replicas_of arena.new ≡ insert (replicas_of arena.old) (replica_at named.now.id storage) marks }
+    ensures replicas { replicas_of arena.new
+        ≡ insert (replicas_of arena.old) (replica_at named.now.id storage) marks }
     ensures behind { behind arena.new storage ≡ without named.now.slot (behind arena.old storage) }
     ensures frame { IsFramed storage arena.old arena.new }
     ensures same { result ≡ false → arena.new.blocks ≡ arena.old.blocks }
     ensures quiet { marks ≡ was → result ≡ false }
-    ensures others { (slot : ℕ) → slot ≢ named.now.slot → block_at arena.new slot ≡ block_at arena.old slot }
+    ensures others { (slot : ℕ) → slot ≢ named.now.slot
+        → block_at arena.new slot ≡ block_at arena.old slot }
     ensures steps { arena.new.steps ≡ count_up arena.old.steps }
 {
     arena.lawful();
@@ -91,11 +97,14 @@ pub(crate) fn link_new(
     requires head { HasHead arena.old storage }
     requires room { HasRoom arena.old named.now.slot }
     requires once { IsOncePerNode topology.now.cluster (replicas_of arena.old) }
-    ensures replicas { replicas_of arena.new ≡ insert (keep (replicas_of arena.old) (λ q _. not (replaces topology.now.cluster (replica_at named.now.id storage) q))) (replica_at named.now.id storage) marks }
+    ensures replicas { replicas_of arena.new ≡ entered_at topology.now.cluster
+        (replicas_of arena.old) (replica_at named.now.id storage) marks }
     ensures behind { behind arena.new storage ≡ without named.now.slot (behind arena.old storage) }
     ensures frame { IsFramed storage arena.old arena.new }
-    ensures others { (slot : ℕ) → slot ≢ named.now.slot → block_at arena.new slot ≡ block_at arena.old slot }
-    ensures removed { (if result then 1 else 0) + len (replicas_of arena.new) ≡ len (replicas_of arena.old) + 1 }
+    ensures others { (slot : ℕ) → slot ≢ named.now.slot
+        → block_at arena.new slot ≡ block_at arena.old slot }
+    ensures removed { (if result then 1 else 0) + len (replicas_of arena.new)
+        ≡ len (replicas_of arena.old) + 1 }
     ensures steps { arena.new.steps ≡ count_ups (if result then 2 else 1) arena.old.steps }
 {
     arena.lawful();

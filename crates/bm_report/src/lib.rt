@@ -10,22 +10,23 @@ mod aborting;
 mod applying;
 mod by_number;
 mod chunks;
-mod direct;
 mod entering;
-mod finding;
-mod looking;
+mod look_up;
 mod marking;
 mod notices;
 mod report;
-mod rooms;
+mod room_for_replica;
+mod sister_storages;
+mod slots_of_numbers;
 mod sweeping;
 mod tally;
 #[cfg(test)]
 mod tests;
 mod types;
+mod without_report;
 
 pub use aborting::abort;
-pub use direct::{apply_full, ready};
 pub use notices::{apply_deleted, apply_received};
 pub use report::Report;
 pub use types::Applied;
+pub use without_report::{apply_full, ready};

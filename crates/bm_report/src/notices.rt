@@ -10,8 +10,7 @@ ghost use Rattle.bm_report.specs.Ready.{HasPlace};
 ghost use Rattle.bm_report.specs.Received.{HasReceived};
 
 use crate::entering::link_new;
-use crate::marking::midway_marks;
-use crate::sweeping::settled;
+use crate::marking::{midway_marks, without_lost_excess};
 use crate::types::{Applied, Named};
 use bm_arena::Arena;
 use bm_base::{BlockId, Stamp, StorageId};
@@ -32,12 +31,14 @@ pub(crate) fn receive(
 ) -> Applied
     requires here { slot_of arena.old named.now.id ≡ Some named.now.slot }
     requires head { HasHead arena.old storage }
-    requires room { marks_at arena.old named.now.slot storage ≡ None → HasRoom arena.old named.now.slot }
+    requires room { marks_at arena.old named.now.slot storage ≡ None
+        → HasRoom arena.old named.now.slot }
     requires once { IsOncePerNode topology.now.cluster (replicas_of arena.old) }
-    ensures { HasReceived topology.now.cluster storage named.now.id named.now.stamp arena.old arena.new result }
+    ensures { HasReceived topology.now.cluster storage named.now.id named.now.stamp arena.old
+        arena.new result }
 {
     let was = arena.marks(named.slot, storage);
-    let marks = settled(midway_marks(arena.info(named.slot), was, &named.stamp));
+    let marks = without_lost_excess(midway_marks(arena.info(named.slot), was, &named.stamp));
     match was {
         Some(_) => {
             arena.lawful();
@@ -83,13 +84,18 @@ pub fn apply_received(
 
 /// A replica of the block `id` on a storage was deleted: it leaves, if it is there. Only that block changes. Takes no memory.
 pub fn apply_deleted(arena: &mut Arena, storage: StorageId, id: BlockId) -> Applied
-    ensures replicas { replicas_of arena.new ≡ remove (replicas_of arena.old) (replica_at id storage) }
+    ensures replicas { replicas_of arena.new
+        ≡ remove (replicas_of arena.old) (replica_at id storage) }
     ensures blocks { blocks_of arena.new ≡ blocks_of arena.old }
     ensures entries { KeepsEntries arena.old arena.new }
-    ensures free { (t : ℕ) → marks_at arena.new arena.new.delimiter t ≡ marks_at arena.old arena.old.delimiter t }
-    ensures others { (slot : ℕ) → slot_of arena.old id ≢ Some slot → block_at arena.new slot ≡ block_at arena.old slot }
-    ensures added { result.added ≡ calls.new_replicas (replicas_of arena.old) (replicas_of arena.new) }
-    ensures removed { result.removed ≡ calls.new_replicas (replicas_of arena.new) (replicas_of arena.old) }
+    ensures free { (t : ℕ)
+        → marks_at arena.new arena.new.delimiter t ≡ marks_at arena.old arena.old.delimiter t }
+    ensures others { (slot : ℕ) → slot_of arena.old id ≢ Some slot
+        → block_at arena.new slot ≡ block_at arena.old slot }
+    ensures added { result.added
+        ≡ calls.new_replicas (replicas_of arena.old) (replicas_of arena.new) }
+    ensures removed { result.removed
+        ≡ calls.new_replicas (replicas_of arena.new) (replicas_of arena.old) }
     ensures steps { result.steps ≡ result.added + result.removed }
     ensures counted { arena.new.steps ≡ count_ups result.steps arena.old.steps }
 {

@@ -14,7 +14,7 @@ ghost use Rattle.bm_report.specs.Ready.{told, IsReady, HasGoodExcess, StandAlrea
 
 use crate::aborting::abort_named;
 use crate::applying::apply;
-use crate::looking::look_up;
+use crate::look_up::look_up;
 use crate::notices::receive;
 use crate::types::{Applied, Named};
 use bm_arena::{Arena, Slot};
@@ -24,8 +24,8 @@ use std::alloc::Global;
 use std::marker::Model;
 
 /// What a shard keeps of a report between `ready` and its end: the slots of the numbers that it names, so that a number that
-/// has an entry is hashed once, and a list of the slots that change, with its room. A contract sees both as lists. Only `ready` takes memory; a
-/// shard keeps one `Report` for all its reports, so that its room is taken once.
+/// has an entry is hashed once, and a list of the slots that change, with its room. A contract sees both as lists. Only `ready`
+/// takes memory; a shard keeps one `Report` for all its reports, so that its room is taken once.
 #[derive(Drop)]
 pub struct Report {
     named: Vec<Named>,
@@ -75,8 +75,10 @@ impl Report {
         ensures ready { OnOk result (IsReady self.new arena.new storage) }
         ensures changed { OnOk result (self.new.changed ≡ []) }
         ensures kept { IsPrepared arena.old arena.new }
-        ensures others { (b : ℕ) → events.is_named (told_to part entries.now) b ≡ false → slot_of arena.new b ≡ slot_of arena.old b }
-        ensures fresh { (b : ℕ) → slot_of arena.old b ≡ None → IsSome (slot_of arena.new b) → IsTrue (events.is_named (told self.new) b) }
+        ensures others { (b : ℕ) → events.is_named (told_to part entries.now) b ≡ false
+            → slot_of arena.new b ≡ slot_of arena.old b }
+        ensures fresh { (b : ℕ) → slot_of arena.old b ≡ None → IsSome (slot_of arena.new b)
+            → IsTrue (events.is_named (told self.new) b) }
         ensures refused { IfErr result (λ e. e ≡ Memory) }
     {
         look_up(arena, storage, entries, part, &mut self.named)?;
@@ -103,18 +105,27 @@ impl Report {
         requires once { IsOncePerNode topology.now.cluster (replicas_of arena.old) }
         requires good { HasGoodExcess (replicas_of arena.old) }
         requires free { marks_at arena.old arena.old.delimiter storage ≡ None }
-        ensures replicas { replicas_of arena.new ≡ (events.report topology.now.cluster (holdings_of arena.old) storage (told self.old)).replicas }
+        ensures replicas { replicas_of arena.new
+            ≡ (events.report topology.now.cluster (holdings_of arena.old) storage
+            (told self.old)).replicas }
         ensures blocks { blocks_of arena.new ≡ blocks_of arena.old }
         ensures entries { KeepsEntries arena.old arena.new }
         ensures once { IsOncePerNode topology.now.cluster (replicas_of arena.new) }
         ensures good { HasGoodExcess (replicas_of arena.new) }
-        ensures free { (t : ℕ) → marks_at arena.new arena.new.delimiter t ≡ marks_at arena.old arena.old.delimiter t }
-        ensures listed { (slot : ℕ) → Among slot self.new.changed → Among slot self.old.changed ⊎ IsEntry arena.old slot }
-        ensures changed { (slot : ℕ) → slot ≢ arena.old.delimiter → (Among slot self.new.changed → ⊥) → block_at arena.new slot ≡ block_at arena.old slot }
-        ensures unchanged { StandAlready (holdings_of arena.old) storage (told self.old) → result.removed ≡ 0 → self.new.changed ≡ self.old.changed }
+        ensures free { (t : ℕ)
+            → marks_at arena.new arena.new.delimiter t ≡ marks_at arena.old arena.old.delimiter t }
+        ensures listed { (slot : ℕ) → Among slot self.new.changed
+            → Among slot self.old.changed ⊎ IsEntry arena.old slot }
+        ensures changed { (slot : ℕ) → slot ≢ arena.old.delimiter
+            → (Among slot self.new.changed → ⊥)
+            → block_at arena.new slot ≡ block_at arena.old slot }
+        ensures unchanged { StandAlready (holdings_of arena.old) storage (told self.old)
+            → result.removed ≡ 0 → self.new.changed ≡ self.old.changed }
         ensures told { told self.new ≡ told self.old }
-        ensures added { result.added ≡ calls.new_replicas (replicas_of arena.old) (replicas_of arena.new) }
-        ensures removed { result.removed ≡ calls.new_replicas (replicas_of arena.new) (replicas_of arena.old) }
+        ensures added { result.added
+            ≡ calls.new_replicas (replicas_of arena.old) (replicas_of arena.new) }
+        ensures removed { result.removed
+            ≡ calls.new_replicas (replicas_of arena.new) (replicas_of arena.old) }
         ensures few { (result.added < 2 ^ 100) × (result.removed < 2 ^ 100) }
         ensures steps { result.steps ≡ length (told self.old) + result.removed + 2 }
         ensures counted { arena.new.steps ≡ count_ups result.steps arena.old.steps }
@@ -154,10 +165,15 @@ impl Report {
         ensures blocks { blocks_of arena.new ≡ blocks_of arena.old }
         ensures lists { arena.new.lists ≡ arena.old.lists }
         ensures delimiter { arena.new.delimiter ≡ arena.old.delimiter }
-        ensures marker { block_at arena.new arena.new.delimiter ≡ block_at arena.old arena.old.delimiter }
+        ensures marker { block_at arena.new arena.new.delimiter
+            ≡ block_at arena.old arena.old.delimiter }
         ensures steps { arena.new.steps ≡ arena.old.steps }
-        ensures numbers { (b : ℕ) → slot_of arena.new b ≡ (if events.is_named (told self.old) b && is_bare_number arena.old b then None else slot_of arena.old b) }
-        ensures entries { (b slot : ℕ) → slot_of arena.new b ≡ Some slot → block_at arena.new slot ≡ block_at arena.old slot }
+        ensures numbers { (b : ℕ)
+            → slot_of arena.new b
+            ≡ (if events.is_named (told self.old) b && is_bare_number arena.old b then None
+            else slot_of arena.old b) }
+        ensures entries { (b slot : ℕ) → slot_of arena.new b ≡ Some slot
+            → block_at arena.new slot ≡ block_at arena.old slot }
     {
         abort_named(arena, self.named.as_slice());
         self.named.clear();

@@ -5,7 +5,7 @@ ghost use Rattle.bm_base.specs.declared.limits.TheConstants.{MAX_NUMBERS};
 ghost use Rattle.bm_base.specs.Entries.{numbers_in};
 ghost use Rattle.bm_report.specs.Tested.{IsSingle};
 
-use crate::marking::is_settled;
+use crate::marking::is_excess_good;
 use crate::{Applied, Report, abort, apply_deleted, apply_full, apply_received, ready};
 use bm_arena::{Arena, Slot};
 use bm_base::{
@@ -126,7 +126,7 @@ fn is_single(arena: &Arena, slot: Slot) -> bool
         return false;
     }
     match arena.triplet_at(slot, 0) {
-        Some((_, marks)) => is_settled(marks),
+        Some((_, marks)) => is_excess_good(marks),
         None => true,
     }
 }

@@ -1,17 +1,16 @@
 // Which blocks are copied, from where and to where.
-ghost use Rattle.std.specs.Prelude.{◌≡◌, ◌≤◌, ◌<◌, ◌+◌, [], map, false, replicate, length, IfOk, IfErr, OnOk};
+ghost use Rattle.std.specs.Prelude.{◌≡◌, [], map, false, IfOk, IfErr, OnOk};
 ghost use Rattle.std.specs.Option.{IfSome};
 ghost use Rattle.bm_base.specs.declared.refusal.Refusal.TheVariants.{Memory};
-ghost use Rattle.bm_base.specs.Map.{get};
 ghost use Rattle.bm_base.specs.State.{limits_of};
 ghost use Rattle.bm_base.specs.Lists.{has_repeats};
 ghost use Rattle.bm_base.specs.Transfers.{targets_of};
 ghost use Rattle.bm_base.specs.Choices as choices;
-ghost use Rattle.bm_place.specs.Sources as sources;
-ghost use Rattle.bm_place.specs.Tables as tables;
+ghost use Rattle.bm_place.specs.Found.{IsCountable, HasRoomFor};
+ghost use Rattle.bm_round.specs.Commanded.{with_copies};
 ghost use Rattle.bm_round.specs.Counted.{IsCounted};
 
-use crate::choice::Choice;
+use crate::chosen_so_far::ChosenSoFar;
 use bm_base::{Config, Refusal, Transfer, Wish};
 use bm_place::{least_source, least_target};
 use bm_topo::Topology;
@@ -26,20 +25,22 @@ pub(crate) fn choose_transfers(
     config: &Config,
 ) -> Result<Vec<Transfer>, Refusal>
     requires apart { has_repeats (map (λ w. w.block) (map (λ w. w.now) wishes.now)) ≡ false }
-    ensures transfers { IfOk result (λ v. v.items ≡ choices.transfers_over (limits_of config.now) topology.now.cluster [] (choices.one_by_one (map (λ w. w.now) wishes.now))) }
+    ensures transfers { IfOk result (λ v. v.items
+        ≡ choices.transfers_over (limits_of config.now) topology.now.cluster []
+        (choices.one_by_one (map (λ w. w.now) wishes.now))) }
     ensures refused { IfErr result (λ e. e ≡ Memory) }
 {
     if wishes.is_empty() {
         return Ok(Vec::new(alloc));
     }
-    let mut choice = Choice::new(alloc, topology)?;
+    let mut choice = ChosenSoFar::new(alloc, topology)?;
     for wish in wishes {
         if choice.is_full(config, topology) {
             break;
         }
         choose_copies(wish, topology, config, &mut choice)?;
     }
-    let Choice { transfers, .. } = choice;
+    let ChosenSoFar { transfers, .. } = choice;
     Ok(transfers)
 }
 
@@ -49,11 +50,13 @@ fn choose_copies(
     wish: &Wish,
     topology: &Topology,
     config: &Config,
-    choice: &mut Choice,
+    choice: &mut ChosenSoFar,
 ) -> Result<(), Refusal>
     requires counted { IsCounted topology.now.cluster choice.old }
     requires fresh { targets_of choice.old.transfers.items wish.now.block ≡ [] }
-    ensures transfers { OnOk result (choice.new.transfers.items ≡ choices.transfers_over (limits_of config.now) topology.now.cluster choice.old.transfers.items (replicate wish.now.count wish.now)) }
+    ensures transfers { OnOk result (choice.new.transfers.items
+        ≡ with_copies (limits_of config.now) topology.now.cluster
+        choice.old.transfers.items wish.now) }
     ensures counted { OnOk result (IsCounted topology.now.cluster choice.new) }
     ensures refused { IfErr result (λ e. e ≡ Memory) }
 {
@@ -69,15 +72,23 @@ fn choose_copies(
 
 /// The transfer for one more copy of a wish. A target is looked for only where there is a source.
 #[tactic(auto, unfolding(bm_base::specs::Choices::transfer_by))]
-fn next_copy(wish: &Wish, topology: &Topology, config: &Config, choice: &Choice) -> Option<Transfer>
+fn next_copy(
+    wish: &Wish,
+    topology: &Topology,
+    config: &Config,
+    choice: &ChosenSoFar,
+) -> Option<Transfer>
     requires counted { IsCounted topology.now.cluster choice.now }
     requires sources { choice.now.sources.items ≡ choices.sources_by wish.now }
     requires held { choice.now.held.items ≡ choices.holders_by choice.now.transfers.items wish.now }
-    requires barred { choice.now.barred.items ≡ choices.barred_by choice.now.transfers.items wish.now }
-    ensures transfer { result ≡ choices.transfer_by (limits_of config.now) topology.now.cluster choice.now.transfers.items wish.now }
+    requires barred { choice.now.barred.items
+        ≡ choices.barred_by choice.now.transfers.items wish.now }
+    ensures transfer { result
+        ≡ choices.transfer_by (limits_of config.now) topology.now.cluster
+        choice.now.transfers.items wish.now }
     ensures block { IfSome result (λ t. t.block ≡ wish.now.block) }
-    ensures countable { IfSome result (λ t. IfSome (get choice.now.streams.nodes t.source) (λ n. tables.count_at choice.now.streams.counts n < sources.max_transfers)) }
-    ensures fits { IfSome result (λ t. IfSome (get choice.now.scheduled t.target) (λ r. t.stamp.len + r.scheduled ≤ r.remaining)) }
+    ensures countable { IfSome result (λ t. IsCountable choice.now.streams t.source) }
+    ensures fits { IfSome result (λ t. HasRoomFor choice.now.scheduled t.stamp.len t.target) }
 {
     if choice.is_full(config, topology) {
         return None;

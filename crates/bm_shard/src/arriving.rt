@@ -13,7 +13,8 @@ use bm_pending::PendingTransfers;
 /// Takes out the transfers to a storage whose blocks have a replica there: a look at each block with transfers, none at the replicas
 /// of the storage. Takes no memory.
 pub(crate) fn drop_arrived(pending: &mut PendingTransfers, arena: &Arena, storage: StorageId)
-    ensures { pending.new.map ≡ keep pending.old.map (λ q _. not (has_arrived arena.now storage q)) }
+    ensures { pending.new.map
+        ≡ keep pending.old.map (λ q _. not (has_arrived arena.now storage q)) }
 {
     pending.lawful();
     for place in 0..pending.count() {
@@ -24,7 +25,9 @@ pub(crate) fn drop_arrived(pending: &mut PendingTransfers, arena: &Arena, storag
 /// Takes out the transfer to a storage of the block at a place.
 fn drop_arrived_at(pending: &mut PendingTransfers, arena: &Arena, storage: StorageId, place: usize)
     ensures places { blocks_in pending.new ≡ blocks_in pending.old }
-    ensures map { (b : ℕ) → slice_get (blocks_in pending.old) place ≡ Some b → pending.new.map ≡ keep pending.old.map (λ q _. not ((b == q.block) && has_arrived arena.now storage q)) }
+    ensures map { (b : ℕ) → slice_get (blocks_in pending.old) place ≡ Some b
+        → pending.new.map ≡ keep pending.old.map
+        (λ q _. not ((b == q.block) && has_arrived arena.now storage q)) }
 {
     if let Some(block) = pending.block_at(place) {
         drop_if_arrived(pending, arena, storage, block);
@@ -39,7 +42,9 @@ fn drop_if_arrived(
     block: BlockId,
 )
     ensures places { blocks_in pending.new ≡ blocks_in pending.old }
-    ensures map { pending.new.map ≡ keep pending.old.map (λ q _. not ((block == q.block) && has_arrived arena.now storage q)) }
+    ensures map { pending.new.map
+        ≡ keep pending.old.map
+        (λ q _. not ((block == q.block) && has_arrived arena.now storage q)) }
 {
     if pending.contains(block, storage) && has_replica(arena, storage, block) {
         pending.remove(block, storage);

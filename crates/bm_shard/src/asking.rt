@@ -45,7 +45,8 @@ impl Shard {
 
     /// The known blocks of which no replica is usable, rising. `Memory`.
     pub fn missing(&self) -> Result<Items<BlockId>, Refusal>
-        ensures missing { (C : Cluster) → StandsIn C self.now → IfOk result (λ v. v ≡ queries.missing_blocks C self.now.holdings) }
+        ensures missing { (C : Cluster) → StandsIn C self.now
+            → IfOk result (λ v. v ≡ queries.missing_blocks C self.now.holdings) }
         ensures refused { IfErr result (λ e. e ≡ Memory) }
     {
         self.blocks.lawful();
@@ -86,7 +87,8 @@ impl Shard {
     #[tactic(auto, unfolding(bm_base::specs::Refusals::block_refusal))]
     pub fn level(&self, id: BlockId) -> Result<Option<Level>, Refusal>
         ensures known { OnOk result (block_refusal self.now.holdings id ≡ None) }
-        ensures level { (C : Cluster) → StandsIn C self.now → IfOk result (λ l. l ≡ levels.level C self.now.holdings id) }
+        ensures level { (C : Cluster) → StandsIn C self.now
+            → IfOk result (λ l. l ≡ levels.level C self.now.holdings id) }
         ensures refused { IfErr result (Refuses (block_refusal self.now.holdings id) false) }
     {
         if !knows_block(&self.blocks, id) {

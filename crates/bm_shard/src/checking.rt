@@ -55,7 +55,8 @@ impl Shard {
     }
 
     fn check_block(&self, id: BlockId) -> Result<(), Refusal>
-        ensures { result ≡ (if knows_block self.now.holdings id then Ok tt else Err Refusal.UnknownBlock) }
+        ensures { result ≡ (if knows_block self.now.holdings id then Ok tt
+            else Err Refusal.UnknownBlock) }
     {
         if knows_block(&self.blocks, id) {
             Ok(())

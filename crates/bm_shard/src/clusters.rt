@@ -21,9 +21,13 @@ impl Shard {
     /// two racks or more without it. A look at each storage of the cluster, one step for each of the replicas, and one pass over the
     /// transfers for each storage of the node.
     pub(crate) fn forget_node(&mut self, topology: &Topology, node: NodeId, multi: bool) -> Done
-        requires multi { multi ≡ replicas.is_multi_rack (events.without_node topology.now.cluster node) }
+        requires multi { multi
+            ≡ replicas.is_multi_rack (events.without_node topology.now.cluster node) }
         requires none { HasNoneBare self.old }
-        ensures changed { HasChanged topology.now.cluster (events.without_node topology.now.cluster node) self.old self.new (events.without_storages self.old.holdings (replicas.has_storage topology.now.cluster node)) result }
+        ensures changed { HasChanged topology.now.cluster
+            (events.without_node topology.now.cluster node) self.old self.new
+            (events.without_storages self.old.holdings
+            (replicas.has_storage topology.now.cluster node)) result }
         ensures few { (result.added < 2 ^ 100) × (result.removed < 2 ^ 100) }
         ensures lists { HasNoLists (replicas.has_storage topology.now.cluster node) self.new }
         ensures bare { HasNoneBare self.new }
@@ -40,7 +44,9 @@ impl Shard {
     /// A storage fails: its replicas and the transfers to it leave. One step for each of the replicas, and one pass over the transfers.
     pub(crate) fn forget_storage(&mut self, topology: &Topology, storage: StorageId) -> Done
         requires none { HasNoneBare self.old }
-        ensures changed { HasChanged topology.now.cluster (events.without_storage topology.now.cluster storage) self.old self.new (events.without_storages self.old.holdings (λ t. t == storage)) result }
+        ensures changed { HasChanged topology.now.cluster
+            (events.without_storage topology.now.cluster storage) self.old self.new
+            (events.without_storages self.old.holdings (λ t. t == storage)) result }
         ensures few { (result.added < 2 ^ 100) × (result.removed < 2 ^ 100) }
         ensures lists { HasNoLists (λ s. s == storage) self.new }
         ensures bare { HasNoneBare self.new }
@@ -57,7 +63,11 @@ impl Shard {
     /// A node begins or ceases to drain. Where it begins to, the transfers to its storages leave.
     pub(crate) fn turn(&mut self, topology: &Topology, node: NodeId, drains: bool) -> Done
         requires none { HasNoneBare self.old }
-        ensures changed { HasChanged topology.now.cluster (if drains then events.drain topology.now.cluster node else events.undrain topology.now.cluster node) self.old self.new (if drains then events.begun_to_drain topology.now.cluster self.old.holdings node else self.old.holdings) result }
+        ensures changed { HasChanged topology.now.cluster
+            (if drains then events.drain topology.now.cluster node
+            else events.undrain topology.now.cluster node) self.old self.new
+            (if drains then events.begun_to_drain topology.now.cluster self.old.holdings node
+            else self.old.holdings) result }
         ensures nothing { (result.added ≡ 0) × (result.removed ≡ 0) }
         ensures bare { HasNoneBare self.new }
     {
@@ -79,11 +89,16 @@ impl Shard {
         storages: &[StorageId],
         multi: bool,
     ) -> Done
-        requires cluster { first_of (cluster_checks topology.now.cluster (event_of.Register node rack storages.now)) ≡ None }
-        requires multi { multi ≡ replicas.is_multi_rack (events.register topology.now.cluster node rack storages.now) }
+        requires cluster { first_of
+            (cluster_checks topology.now.cluster (event_of.Register node rack storages.now))
+            ≡ None }
+        requires multi { multi
+            ≡ replicas.is_multi_rack (events.register topology.now.cluster node rack storages.now) }
         requires placed { IsPlaced topology.now.cluster self.old.holdings }
         requires none { HasNoneBare self.old }
-        ensures changed { HasChanged topology.now.cluster (events.register topology.now.cluster node rack storages.now) self.old self.new self.old.holdings result }
+        ensures changed { HasChanged topology.now.cluster
+            (events.register topology.now.cluster node rack storages.now) self.old self.new
+            self.old.holdings result }
         ensures bare { HasNoneBare self.new }
     {
         let _ = node;
@@ -101,7 +116,9 @@ impl Shard {
     /// A node tells how many bytes remain on its storages: nothing changes.
     pub(crate) fn hear(&mut self, topology: &Topology, remaining: &[Remaining]) -> Done
         requires none { HasNoneBare self.old }
-        ensures changed { HasChanged topology.now.cluster (events.heartbeat topology.now.cluster remaining.now) self.old self.new self.old.holdings result }
+        ensures changed { HasChanged topology.now.cluster
+            (events.heartbeat topology.now.cluster remaining.now) self.old self.new
+            self.old.holdings result }
         ensures bare { HasNoneBare self.new }
     {
         let _ = topology;
@@ -115,7 +132,10 @@ impl Shard {
 
 /// Where a node begins to drain that did not yet, the transfers to its storages leave.
 fn turn_transfers(pending: &mut PendingTransfers, topology: &Topology, node: NodeId, drains: bool)
-    ensures { pending.new.map ≡ (if drains && not (replicas.drains topology.now.cluster node) then keep pending.old.map (λ q _. not (replicas.has_storage topology.now.cluster node q.storage)) else pending.old.map) }
+    ensures { pending.new.map
+        ≡ (if drains && not (replicas.drains topology.now.cluster node) then keep pending.old.map
+        (λ q _. not (replicas.has_storage topology.now.cluster node q.storage))
+        else pending.old.map) }
 {
     if drains && !drains_now(topology, node) {
         drop_transfers_to(pending, topology, node);
@@ -132,7 +152,9 @@ fn drains_now(topology: &Topology, node: NodeId) -> bool
 
 /// The transfers to a node's storages leave.
 fn drop_transfers_to(pending: &mut PendingTransfers, topology: &Topology, node: NodeId)
-    ensures { pending.new.map ≡ keep pending.old.map (λ q _. not (replicas.has_storage topology.now.cluster node q.storage)) }
+    ensures { pending.new.map
+        ≡ keep pending.old.map
+        (λ q _. not (replicas.has_storage topology.now.cluster node q.storage)) }
 {
     for place in 0..topology.storage_count() {
         if let Some(storage) = topology.storage_at(place) {

@@ -26,9 +26,12 @@ impl Shard {
         requires multi { multi ≡ is_multi_rack (change_cluster topology.now.cluster event.now) }
         requires standing { StandsIn topology.now.cluster self.old }
         requires ready { IsReadyFor event.now self.old }
-        ensures holdings { self.new.holdings ≡ change_part topology.now.cluster self.old.holdings self.old.part.index self.old.part.shards event.now }
+        ensures holdings { self.new.holdings
+            ≡ change_part topology.now.cluster self.old.holdings self.old.part.index
+            self.old.part.shards event.now }
         ensures done { result ≡ done self.old.holdings self.new.holdings }
-        ensures few { block_of event.now ≡ None → (result.added < 2 ^ 100) × (result.removed < 2 ^ 100) }
+        ensures few { block_of event.now ≡ None
+            → (result.added < 2 ^ 100) × (result.removed < 2 ^ 100) }
         ensures standing { StandsIn (change_cluster topology.now.cluster event.now) self.new }
         ensures bare { HasNoneBare self.new }
         ensures lists { HasNoLists (leaves topology.now.cluster event.now) self.new }
@@ -66,8 +69,12 @@ impl Shard {
         requires placed { IsPlaced topology.now.cluster self.old.holdings }
         requires ready { IsReadyFor event.now self.old }
         requires none { takes_room event.now ≡ false → HasNoneBare self.old }
-        ensures changed { HasChanged topology.now.cluster (change_cluster topology.now.cluster event.now) self.old self.new (change_part topology.now.cluster self.old.holdings self.old.part.index self.old.part.shards event.now) result }
-        ensures few { block_of event.now ≡ None → (result.added < 2 ^ 100) × (result.removed < 2 ^ 100) }
+        ensures changed { HasChanged topology.now.cluster
+            (change_cluster topology.now.cluster event.now) self.old self.new
+            (change_part topology.now.cluster self.old.holdings self.old.part.index
+            self.old.part.shards event.now) result }
+        ensures few { block_of event.now ≡ None
+            → (result.added < 2 ^ 100) × (result.removed < 2 ^ 100) }
         ensures bare { HasNoneBare self.new }
         ensures lists { HasNoLists (leaves topology.now.cluster event.now) self.new }
     {

@@ -27,7 +27,8 @@ impl Shard {
         repl: u32,
     ) -> Done
         requires entry { Among id self.old.room.entries }
-        ensures changed { HasChanged topology.now.cluster topology.now.cluster self.old self.new (events.add_block self.old.holdings id stamp repl) result }
+        ensures changed { HasChanged topology.now.cluster topology.now.cluster self.old self.new
+            (events.add_block self.old.holdings id stamp repl) result }
         ensures bare { HasNoneBare self.new }
     {
         let prepared = self.prepared;
@@ -44,7 +45,8 @@ impl Shard {
     /// A block is deleted: its replicas are stray, and its transfers leave. One look at each of its replicas.
     pub(crate) fn delete_block(&mut self, topology: &Topology, id: BlockId) -> Done
         requires none { HasNoneBare self.old }
-        ensures changed { HasChanged topology.now.cluster topology.now.cluster self.old self.new (events.delete_block self.old.holdings id) result }
+        ensures changed { HasChanged topology.now.cluster topology.now.cluster self.old self.new
+            (events.delete_block self.old.holdings id) result }
         ensures bare { HasNoneBare self.new }
     {
         self.prepared = Prepared::Nothing;
@@ -59,7 +61,8 @@ impl Shard {
     /// So many replicas of a block are wanted from now on.
     pub(crate) fn set_replication(&mut self, topology: &Topology, id: BlockId, repl: u32) -> Done
         requires none { HasNoneBare self.old }
-        ensures changed { HasChanged topology.now.cluster topology.now.cluster self.old self.new (events.set_replication self.old.holdings id repl) result }
+        ensures changed { HasChanged topology.now.cluster topology.now.cluster self.old self.new
+            (events.set_replication self.old.holdings id repl) result }
         ensures bare { HasNoneBare self.new }
     {
         self.prepared = Prepared::Nothing;
@@ -73,7 +76,8 @@ impl Shard {
     /// A block has another stamp: its good replicas are stale, and its transfers leave. One look at each of its replicas.
     pub(crate) fn restamp(&mut self, topology: &Topology, id: BlockId, stamp: Stamp) -> Done
         requires none { HasNoneBare self.old }
-        ensures changed { HasChanged topology.now.cluster topology.now.cluster self.old self.new (events.restamp self.old.holdings id stamp) result }
+        ensures changed { HasChanged topology.now.cluster topology.now.cluster self.old self.new
+            (events.restamp self.old.holdings id stamp) result }
         ensures bare { HasNoneBare self.new }
     {
         self.prepared = Prepared::Nothing;
@@ -88,7 +92,8 @@ impl Shard {
     /// A replica is bad, if it is there.
     pub(crate) fn make_bad(&mut self, topology: &Topology, storage: StorageId, id: BlockId) -> Done
         requires none { HasNoneBare self.old }
-        ensures changed { HasChanged topology.now.cluster topology.now.cluster self.old self.new (events.make_bad self.old.holdings (replica_at id storage)) result }
+        ensures changed { HasChanged topology.now.cluster topology.now.cluster self.old self.new
+            (events.make_bad self.old.holdings (replica_at id storage)) result }
         ensures bare { HasNoneBare self.new }
     {
         self.prepared = Prepared::Nothing;
@@ -107,7 +112,8 @@ impl Shard {
         id: BlockId,
     ) -> Done
         requires none { HasNoneBare self.old }
-        ensures changed { HasChanged topology.now.cluster topology.now.cluster self.old self.new (events.remove_replica self.old.holdings (replica_at id storage)) result }
+        ensures changed { HasChanged topology.now.cluster topology.now.cluster self.old self.new
+            (events.remove_replica self.old.holdings (replica_at id storage)) result }
         ensures bare { HasNoneBare self.new }
     {
         self.prepared = Prepared::Nothing;

@@ -16,8 +16,13 @@ pub(crate) fn insert_own(
     round: u64,
 )
     requires part { part.index < part.shards }
-    requires room { (b : ℕ) → length (filter (λ t. t.block == b) (own_transfers part.index part.shards transfers.now)) ≤ room pending.old b }
-    ensures { pending.new.map ≡ insert_all pending.old.map (map (λ t. (replica_at t.block t.target, round)) (own_transfers part.index part.shards transfers.now)) }
+    requires room { (b : ℕ)
+        → length (filter (λ t. t.block == b) (own_transfers part.index part.shards transfers.now))
+        ≤ room pending.old b }
+    ensures { pending.new.map
+        ≡ insert_all pending.old.map (map
+        (λ t. (replica_at t.block t.target, round))
+        (own_transfers part.index part.shards transfers.now)) }
 {
     for transfer in transfers {
         if shard_of(transfer.block, part.shards) == part.index {

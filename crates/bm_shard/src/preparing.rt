@@ -93,7 +93,8 @@ impl Shard {
     ) -> Result<(), Refusal>
         requires part { part.index < part.shards }
         requires none { HasNoneBare self.old }
-        ensures ready { OnOk result (self.new.room.report ≡ Some (storage, told_to part entries.now)) }
+        ensures ready { OnOk result (self.new.room.report
+            ≡ Some (storage, told_to part entries.now)) }
         ensures same { IsSameButRoom self.old self.new }
         ensures bare { HasBareOnly (is_named (told_to part entries.now)) self.new }
         ensures given_up { OnErr result (HasNoneBare self.new) }

@@ -33,9 +33,12 @@ impl Shard {
         id: BlockId,
         stamp: Stamp,
     ) -> Done
-        requires ready { self.old.room.report ≡ Some (storage, record { id = id; stamp = stamp } ∷ []) }
+        requires ready { self.old.room.report
+            ≡ Some (storage, record { id = id; stamp = stamp } ∷ []) }
         requires placed { IsPlaced topology.now.cluster self.old.holdings }
-        ensures changed { HasChanged topology.now.cluster topology.now.cluster self.old self.new (events.enter topology.now.cluster self.old.holdings (replica_at id storage) stamp) result }
+        ensures changed { HasChanged topology.now.cluster topology.now.cluster self.old self.new
+            (events.enter topology.now.cluster self.old.holdings (replica_at id storage) stamp)
+            result }
         ensures bare { HasNoneBare self.new }
     {
         self.prepared = Prepared::Nothing;
@@ -54,7 +57,9 @@ impl Shard {
     pub(crate) fn report(&mut self, topology: &Topology, storage: StorageId) -> Done
         requires ready { (ts : List Told) × (self.old.room.report ≡ Some (storage, ts)) }
         requires placed { IsPlaced topology.now.cluster self.old.holdings }
-        ensures changed { (ts : List Told) → self.old.room.report ≡ Some (storage, ts) → HasChanged topology.now.cluster topology.now.cluster self.old self.new (events.report topology.now.cluster self.old.holdings storage ts) result }
+        ensures changed { (ts : List Told) → self.old.room.report ≡ Some (storage, ts)
+            → HasChanged topology.now.cluster topology.now.cluster self.old self.new
+            (events.report topology.now.cluster self.old.holdings storage ts) result }
         ensures few { (result.added < 2 ^ 100) × (result.removed < 2 ^ 100) }
         ensures bare { HasNoneBare self.new }
     {

@@ -37,7 +37,8 @@ impl Shard {
     ) -> Result<RoundPart, Refusal>
         requires next { round ≡ self.now.round + 1 }
         requires standing { StandsIn topology.now.cluster self.now }
-        ensures part { IfOk result (λ p. p ≡ part_before bound (next_part topology.now.cluster self.now)) }
+        ensures part { IfOk result
+            (λ p. p ≡ part_before bound (next_part topology.now.cluster self.now)) }
         ensures refused { IfErr result (λ e. e ≡ Memory) }
     {
         self.blocks.lawful();
@@ -87,7 +88,10 @@ impl Shard {
         requires part { part.now.excess ≡ (next_part topology.now.cluster self.old).excess }
         requires ready { IsReadyForRound chosen.now self.old }
         requires counted { self.old.round + 1 < 2 ^ 64 }
-        ensures holdings { self.new.holdings ≡ round_on_part topology.now.cluster self.old.pend (self.old.round + 1) self.old.holdings self.old.part.index self.old.part.shards chosen.now.transfers chosen.now.deletes }
+        ensures holdings { self.new.holdings
+            ≡ round_on_part topology.now.cluster self.old.pend (self.old.round + 1)
+            self.old.holdings self.old.part.index self.old.part.shards chosen.now.transfers
+            chosen.now.deletes }
         ensures standing { StandsIn topology.now.cluster self.new }
         ensures part { self.new.part ≡ self.old.part }
         ensures rounds { (self.new.round ≡ self.old.round + 1) × (self.new.pend ≡ self.old.pend) }
@@ -104,7 +108,10 @@ impl Shard {
         requires ready { IsReadyForRound chosen.now self.old }
         requires counted { self.old.round + 1 < 2 ^ 64 }
         requires none { HasNoneBare self.old }
-        ensures holdings { self.new.holdings ≡ round_on_part topology.now.cluster self.old.pend (self.old.round + 1) self.old.holdings self.old.part.index self.old.part.shards chosen.now.transfers chosen.now.deletes }
+        ensures holdings { self.new.holdings
+            ≡ round_on_part topology.now.cluster self.old.pend (self.old.round + 1)
+            self.old.holdings self.old.part.index self.old.part.shards chosen.now.transfers
+            chosen.now.deletes }
         ensures standing { StandsIn topology.now.cluster self.new }
         ensures part { self.new.part ≡ self.old.part }
         ensures rounds { (self.new.round ≡ self.old.round + 1) × (self.new.pend ≡ self.old.pend) }

@@ -65,7 +65,8 @@ impl Shard {
     pub fn new(alloc: Global, index: u32, config: &Config) -> Result<Shard, Refusal>
         requires { index < config.now.shards }
         ensures empty { IfOk result (λ s. s.holdings ≡ empty_holdings) }
-        ensures part { IfOk result (λ s. s.part ≡ record { index = index; shards = config.now.shards }) }
+        ensures part { IfOk result
+            (λ s. s.part ≡ record { index = index; shards = config.now.shards }) }
         ensures round { IfOk result (λ s. s.round ≡ config.now.first_round) }
         ensures pend { IfOk result (λ s. s.pend ≡ config.now.pend) }
         ensures standing { IfOk result (λ s. (C : Cluster) → StandsIn C s) }

@@ -1,9 +1,9 @@
 -- What a line asks, by its length.
 use Rattle.std.proofs.Common.{◌≡◌, ℕ, ◌<◌, ◌≤◌, List, length, refl}
 use Rattle.std.proofs.lemmas.Bool.{lt-ltb, le-ltb}
-use Rattle.bm_tool.specs.CallOf.{call_of}
+use Rattle.bm_lines.specs.CallOf.{call_of}
 use Rattle.bm_tool.specs.Text.{asked, asked_by}
-use Rattle.bm_tool.specs.declared.limits.TheConstants.{MAX_LINE}
+use Rattle.bm_lines.specs.declared.limits.TheConstants.{MAX_LINE}
 use Rattle.bm_tool.specs.declared.reply.Asked.TheVariants.{Long}
 
 pub asked-long : (line : List ℕ) → MAX_LINE < length line → Long ≡ asked line

@@ -3,7 +3,6 @@ pub mod TextLemmas
 pub mod AskedLemmas
 pub mod ProgressLemmas
 pub mod RunLemmas
-pub mod Reading
 pub mod OptionTexts
 pub mod OptionRows
 pub mod OptionNumbers

@@ -2,7 +2,7 @@
 use Rattle.std.proofs.Common.{◌≡◌, ℕ, List, [], ◌∷◌, ◌++◌, refl, sym, ap, ◌∙◌, append_assoc, append-nil}
 use Rattle.std.specs.List.{flat_map, AllByRecursion}
 use Rattle.std.proofs.lemmas.List.Concat.{flat_map-append}
-use Rattle.bm_tool.specs.Lines.{line_end, onto, lines_of, whole_lines, IsPart, ended, Splits}
+use Rattle.bm_lines.specs.Lines.{line_end, onto, lines_of, whole_lines, IsPart, ended, Splits}
 
 -- the rest as a line, where it is not empty
 abbrev pub rest_line : List ℕ → List (List ℕ)

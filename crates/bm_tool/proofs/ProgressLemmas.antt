@@ -10,9 +10,9 @@ use Rattle.bm_tool.specs.declared.session.Session.{Session}
 use Rattle.bm_tool.specs.declared.reply.Asked.{Asked}
 use Rattle.bm_tool.specs.declared.fault.Fault.{Fault}
 use Rattle.bm_tool.specs.declared.fault.Fault.TheVariants.{Config, Read, Write, Memory, TooMuch}
-use Rattle.bm_tool.specs.Lines.{line_end, onto, onto_whole, IsPart, ended, lines_of, whole_lines}
+use Rattle.bm_lines.specs.Lines.{line_end, onto, onto_whole, IsPart, ended, lines_of, whole_lines}
 use Rattle.bm_tool.specs.Text.{asked, asked_text, asked_next, asked_refused, line_text, line_next, line_refused, texts, after, refusals}
-use Rattle.bm_tool.specs.Held.{Holds}
+use Rattle.bm_lines.specs.Held.{Holds}
 use Rattle.bm_tool.specs.Progress.{Progress, Answered, MayBeWorked, Interrupted, Overflows, LineFault, PieceFault, IsSummary}
 use Rattle.bm_tool.proofs.LineLemmas.{rest_line, lines_of-first, IsPart-append, splits_none, splits_part, splits_end, lines_of-split, whole_lines-split, lines_of-begin, whole_lines-begin}
 use Rattle.bm_tool.proofs.TextLemmas.{texts-push, after-push, refusals-push}

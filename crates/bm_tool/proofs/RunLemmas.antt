@@ -12,7 +12,7 @@ use Rattle.bm_tool.specs.declared.session.Session.{Session}
 use Rattle.bm_tool.specs.declared.fault.Summary.{Summary}
 use Rattle.bm_tool.specs.declared.fault.Fault.{Fault}
 use Rattle.bm_tool.specs.declared.fault.Fault.TheVariants as fault
-use Rattle.bm_tool.specs.Lines.{lines_of, whole_lines}
+use Rattle.bm_lines.specs.Lines.{lines_of, whole_lines}
 use Rattle.bm_tool.specs.Text.{texts, text}
 use Rattle.bm_tool.specs.Starting.{StartFault}
 use Rattle.bm_tool.specs.Progress.{Progress, PieceFault, IsSummary}

@@ -9,7 +9,7 @@ use Rattle.bm_tool.specs.declared.fault.Summary.{Summary}
 use Rattle.bm_tool.specs.declared.limits.TheConstants.{MAX_LINES, MAX_BYTES, PIECE}
 use Rattle.bm_tool.specs.declared.fault.Fault.{Fault}
 use Rattle.bm_tool.specs.declared.fault.Fault.TheVariants as fault
-use Rattle.bm_tool.specs.Lines.{lines_of, whole_lines}
+use Rattle.bm_lines.specs.Lines.{lines_of, whole_lines}
 use Rattle.bm_tool.specs.Text.{texts, text}
 use Rattle.bm_tool.specs.Progress.{Answered, IsSummary}
 

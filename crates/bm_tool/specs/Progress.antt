@@ -7,9 +7,9 @@ use Rattle.bm_tool.specs.declared.session.Session.{Session}
 use Rattle.bm_tool.specs.declared.fault.Summary.{Summary}
 use Rattle.bm_tool.specs.declared.fault.Fault.{Fault}
 use Rattle.bm_tool.specs.declared.fault.Fault.TheVariants.{Config, Read, Write, Memory, TooMuch}
-use Rattle.bm_tool.specs.Lines.{Splits, lines_of, whole_lines}
+use Rattle.bm_lines.specs.Lines.{Splits, lines_of, whole_lines}
 use Rattle.bm_tool.specs.Text.{line_next, texts, after, refusals}
-use Rattle.bm_tool.specs.Held.{Holds}
+use Rattle.bm_lines.specs.Held.{Holds}
 
 -- the session has answered the whole lines of these bytes, from the state M on
 pub record Progress (M : State) (start now : Option (List ℕ)) (s : Session) (bytes : List ℕ) : Type 0 where

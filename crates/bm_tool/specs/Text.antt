@@ -6,12 +6,12 @@ use Rattle.bm_base.specs.declared.call.Call.{Call}
 use Rattle.bm_base.specs.State.{State, first_state}
 use Rattle.bm_base.specs.Calls.{step}
 use Rattle.bm_base.specs.Answering.{is_refused}
-use Rattle.bm_tool.specs.declared.limits.TheConstants.{MAX_LINE}
+use Rattle.bm_lines.specs.declared.limits.TheConstants.{MAX_LINE}
 use Rattle.bm_tool.specs.declared.reply.Asked.{Asked}
 use Rattle.bm_tool.specs.declared.reply.Asked.TheVariants.{Long, Bad, Asks}
-use Rattle.bm_tool.specs.Print.{answer_text}
-use Rattle.bm_tool.specs.CallOf.{call_of}
-use Rattle.bm_tool.specs.Lines.{lines_of, ended}
+use Rattle.bm_lines.specs.Print.{answer_text}
+use Rattle.bm_lines.specs.CallOf.{call_of}
+use Rattle.bm_lines.specs.Lines.{lines_of, ended}
 
 abbrev pub asked_by : Option Call → Asked
 asked_by None = Bad

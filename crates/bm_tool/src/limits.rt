@@ -1,8 +1,5 @@
 // How much is read at most.
 
-/// The bytes of the longest line that is read, without its line end.
-pub const MAX_LINE: usize = 4_194_304;
-
 /// The lines of a run.
 pub const MAX_LINES: u64 = 1_048_576;
 

@@ -7,16 +7,10 @@ ghost use Rattle.clap.specs.Words.{kind_of};
 ghost use Rattle.bm_tool.specs.Options.{EndsBy, refusals_of};
 ghost use Rattle.bm_tool.specs.Status.{end_of};
 
-mod call;
 mod ends;
 mod fault;
-mod fields;
-mod from_fields;
 mod limits;
-mod line;
-mod op;
 mod options;
-mod print;
 mod reply;
 mod session;
 mod status;

@@ -1,16 +1,14 @@
 // The answer to one line.
 ghost use Rattle.std.specs.Prelude.{◌≡◌, ◌⊎◌, IfOk, OnErr, List, ℕ, string_bytes, true, false};
 ghost use Rattle.bm_base.specs.Answering.{wants_memory, is_refused};
-ghost use Rattle.bm_tool.specs.Held.{Holds};
-ghost use Rattle.bm_tool.specs.Lines.{ended};
-ghost use Rattle.bm_tool.specs.Print.{answer_text};
+ghost use Rattle.bm_lines.specs.Held.{Holds};
+ghost use Rattle.bm_lines.specs.Lines.{ended};
+ghost use Rattle.bm_lines.specs.Print.{answer_text};
 ghost use Rattle.bm_tool.specs.Text.{asked, asked_text, asked_next, asked_refused};
 
-use crate::call::call_of;
-use crate::line::Line;
-use crate::print::line_of;
 use bm_base::{Answer, Call, Refusal};
 use bm_crew::NoGate;
+use bm_lines::{Line, answer_line, call_of};
 use bm_manager::Manager;
 use std::alloc::{AllocError, Global};
 use std::sync::Wait;
@@ -53,10 +51,12 @@ pub fn reply_to<H: Threads + Wait + Sync>(
     manager: &mut Manager,
     asked: &Asked,
 ) -> Result<Reply, AllocError>
-    ensures text { IfOk result (λ r. string_bytes r.text ≡ ended (asked_text manager.old asked.now)) }
+    ensures text { IfOk result
+        (λ r. string_bytes r.text ≡ ended (asked_text manager.old asked.now)) }
     ensures refused { IfOk result (λ r. r.is_refused ≡ asked_refused manager.old asked.now) }
     ensures next { IfOk result (λ _. manager.new ≡ asked_next manager.old asked.now) }
-    ensures worked { OnErr result ((manager.new ≡ manager.old) ⊎ (manager.new ≡ asked_next manager.old asked.now)) }
+    ensures worked { OnErr result ((manager.new ≡ manager.old)
+        ⊎ (manager.new ≡ asked_next manager.old asked.now)) }
 {
     match asked {
         Asked::Long => refused(alloc, "refused 21 LongLine\n"),
@@ -69,14 +69,15 @@ pub fn reply_to<H: Threads + Wait + Sync>(
 }
 
 fn reply_of(alloc: Global, call: &Call, answer: &Answer) -> Result<Reply, AllocError>
-    ensures text { IfOk result (λ r. string_bytes r.text ≡ ended (answer_text call.now answer.now)) }
+    ensures text { IfOk result
+        (λ r. string_bytes r.text ≡ ended (answer_text call.now answer.now)) }
     ensures refused { IfOk result (λ r. r.is_refused ≡ is_refused answer.now) }
     ensures memory { IfOk result (λ _. wants_memory answer.now ≡ false) }
 {
     if wants_memory(answer) {
         return Err(AllocError);
     }
-    let mut text = line_of(alloc, call, answer)?;
+    let mut text = answer_line(alloc, call, answer)?;
     text.push_str("\n")?;
     let is_refused = is_refused(answer);
     Ok(Reply { text, is_refused })

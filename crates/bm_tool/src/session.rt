@@ -2,16 +2,16 @@
 ghost use Rattle.std.specs.Prelude.{◌≡◌, true, ◌≤◌, ◌<◌, ◌+◌, ◌^◌, ◌∷◌, [], ◌++◌, ℕ, List, Option, length, None, IfOk, OnOk, OnErr, IfErr};
 ghost use Rattle.bm_base.specs.State.{State, first_state};
 ghost use Rattle.bm_base.specs.Configuration.{config_refusal};
-ghost use Rattle.bm_tool.specs.Held.{Holds, is_begun};
+ghost use Rattle.bm_lines.specs.Held.{Holds, is_begun};
 ghost use Rattle.bm_tool.specs.Starting.{StartFault};
 ghost use Rattle.bm_tool.specs.declared.limits.TheConstants.{MAX_LINES};
 
 use crate::ends::Sink;
 use crate::fault::{Fault, Summary};
 use crate::limits::MAX_LINES;
-use crate::line::{Line, line_end};
 use crate::reply::{asked_by, reply_to};
 use bm_base::{Config, Refusal};
+use bm_lines::{Line, line_end};
 use bm_manager::Manager;
 use std::alloc::Global;
 use std::sync::Wait;
@@ -31,7 +31,7 @@ pub struct Session {
 }
 
 impl Session {
-    ghost use Rattle.bm_tool.specs.Lines.{line_end, lines_of};
+    ghost use Rattle.bm_lines.specs.Lines.{line_end, lines_of};
     ghost use Rattle.bm_tool.specs.Text.{texts};
     ghost use Rattle.std.specs.Io.KnownBytes.{Appends};
     ghost use Rattle.bm_tool.specs.Progress.{Progress, MayBeWorked, LineFault, PieceFault, IsSummary};
@@ -39,7 +39,8 @@ impl Session {
     /// Nothing is read and nothing answered yet.
     pub fn new(alloc: Global, config: &Config) -> Result<Session, Fault>
         ensures allowed { OnOk result (config_refusal config.now ≡ None) }
-        ensures ok { IfOk result (λ s. (start : Option (List ℕ)) → Progress (first_state config.now) start start s []) }
+        ensures ok { IfOk result (λ s. (start : Option (List ℕ))
+            → Progress (first_state config.now) start start s []) }
         ensures err { IfErr result (StartFault config.now) }
     {
         let manager = manager_of(alloc, config)?;

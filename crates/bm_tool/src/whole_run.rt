@@ -30,7 +30,8 @@ pub fn run<R: Source, W: Sink, H: Threads + Wait + Sync>(
     ensures text { OnOk result (IfSome (R.remaining reader.old) (λ input.
         Appends (W.contents writer.old) (W.contents writer.new) (text config.now input))) }
     // What was read, and what stands written for it.
-    ensures leaves { (input : List ℕ) × Consumes (R.remaining reader.old) (R.remaining reader.new) input
+    ensures leaves { (input : List ℕ)
+        × Consumes (R.remaining reader.old) (R.remaining reader.new) input
         × Leaves config.now input (R.remaining reader.new) (R.last reader.new)
         (W.contents writer.old) (W.contents writer.new) result }
     ensures flushed { OnOk result (W.is_flushed writer.new ≡ true) }

@@ -8,3 +8,4 @@ pub mod RackCount
 pub mod Capacity
 pub mod OwnStorages
 pub mod Repeats
+pub mod Undrained

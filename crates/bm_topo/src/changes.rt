@@ -39,8 +39,10 @@ impl Topology {
         ensures nodes { OnOk result (1 ≤ self.new.room.nodes) }
         ensures racks { OnOk result (1 ≤ self.new.room.racks) }
         ensures storages { OnOk result (storages ≤ self.new.room.storages) }
-        ensures enough { 1 ≤ self.old.room.nodes → 1 ≤ self.old.room.racks → storages ≤ self.old.room.storages → IsOk result }
-        ensures nothing_taken { 1 ≤ self.old.room.nodes → 1 ≤ self.old.room.racks → storages ≤ self.old.room.storages →
+        ensures enough { 1 ≤ self.old.room.nodes → 1 ≤ self.old.room.racks
+            → storages ≤ self.old.room.storages → IsOk result }
+        ensures nothing_taken { 1 ≤ self.old.room.nodes → 1 ≤ self.old.room.racks
+            → storages ≤ self.old.room.storages →
             self.new ≡ self.old }
         ensures kept { IsNoLess self.old.room self.new.room }
         ensures same { self.new.cluster ≡ self.old.cluster }
@@ -88,7 +90,8 @@ impl Topology {
     {}
 
     fn add_node(&mut self, node: NodeId, rack: Rack, storages: &[StorageId])
-        requires accepted { first_of (cluster_checks self.old.cluster (event_of.Register node rack storages.now)) ≡ None }
+        requires accepted { first_of
+            (cluster_checks self.old.cluster (event_of.Register node rack storages.now)) ≡ None }
         requires ready { IsReadyFor (event_of.Register node rack storages.now) self.old.room }
         ensures after { self.new.cluster ≡ events.register self.old.cluster node rack storages.now }
         ensures no_growth { IsSameCapacity self.old self.new }
@@ -112,9 +115,11 @@ impl Topology {
 
     /// A node that has no storage any more and does not drain.
     fn forget_node(&mut self, node: NodeId)
-        requires storages { (storage : ℕ) (info : StorageInfo) → map.get self.old.cluster.storages storage ≡ Some info → info.node ≢ node }
+        requires storages { (storage : ℕ) (info : StorageInfo)
+            → map.get self.old.cluster.storages storage ≡ Some info → info.node ≢ node }
         requires draining { map.contains_key self.old.cluster.draining node ≡ false }
-        ensures after { self.new.cluster ≡ record self.old.cluster { nodes = map.remove self.old.cluster.nodes node } }
+        ensures after { self.new.cluster
+            ≡ record self.old.cluster { nodes = map.remove self.old.cluster.nodes node } }
         ensures no_growth { IsSameCapacity self.old self.new }
         ensures kept { IsNoLess self.old.room self.new.room }
     {

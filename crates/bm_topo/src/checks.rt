@@ -26,7 +26,8 @@ const ORDERED: usize = 32_768;
 impl Topology {
     /// Whether a storage is named twice, or known.
     fn is_taken(&self, storages: &[StorageId]) -> bool
-        ensures { result ≡ (lists.has_repeats storages.now || list_any (knows_storage self.now.cluster) storages.now) }
+        ensures { result ≡ (lists.has_repeats storages.now
+            || list_any (knows_storage self.now.cluster) storages.now) }
     {
         if has_repeats(storages) {
             return true;
@@ -42,7 +43,8 @@ impl Topology {
 
     /// Whether a node with these storages would be too many.
     fn is_full(&self, storages: &[StorageId]) -> bool
-        ensures { result ≡ (nat_le MAX_NODES (map.len self.now.cluster.nodes) || nat_lt MAX_STORAGES (map.len self.now.cluster.storages + length storages.now)) }
+        ensures { result ≡ (nat_le MAX_NODES (map.len self.now.cluster.nodes)
+            || nat_lt MAX_STORAGES (map.len self.now.cluster.storages + length storages.now)) }
     {
         if self.nodes.len() >= MAX_NODES {
             return true;
@@ -51,14 +53,16 @@ impl Topology {
     }
 
     fn lacks_one(&self, remaining: &[Remaining]) -> bool
-        ensures { result ≡ list_any (λ r. not (knows_storage self.now.cluster r.storage)) remaining.now }
+        ensures { result ≡ list_any
+            (λ r. not (knows_storage self.now.cluster r.storage)) remaining.now }
     {
         remaining.iter().any(|r| !self.knows_storage(r.storage))
     }
 
     /// Whether a storage is not one of the node's; one that is not known is not.
     fn has_stranger(&self, node: NodeId, remaining: &[Remaining]) -> bool
-        ensures { result ≡ list_any (λ r. not (replicas.has_storage self.now.cluster node r.storage)) remaining.now }
+        ensures { result ≡ list_any
+            (λ r. not (replicas.has_storage self.now.cluster node r.storage)) remaining.now }
     {
         remaining.iter().any(|r| !self.has_storage(node, r.storage))
     }
@@ -70,7 +74,8 @@ impl Topology {
         rack: Rack,
         storages: &[StorageId],
     ) -> Result<(), Refusal>
-        ensures { result ≡ checked (first_of (cluster_checks self.now.cluster (event.Register node rack storages.now))) }
+        ensures { result ≡ checked
+            (first_of (cluster_checks self.now.cluster (event.Register node rack storages.now))) }
     {
         if self.knows_node(node) {
             return Err(Refusal::NodeKnown);
@@ -86,7 +91,8 @@ impl Topology {
 
     #[tactic(auto, unfolding(bm_base::specs::Refusals::cluster_checks))]
     fn check_heartbeat(&self, node: NodeId, remaining: &[Remaining]) -> Result<(), Refusal>
-        ensures { result ≡ checked (first_of (cluster_checks self.now.cluster (event.Heartbeat node remaining.now))) }
+        ensures { result ≡ checked
+            (first_of (cluster_checks self.now.cluster (event.Heartbeat node remaining.now))) }
     {
         if !self.knows_node(node) {
             return Err(Refusal::UnknownNode);
@@ -101,7 +107,8 @@ impl Topology {
     }
 
     fn check_node(&self, node: NodeId) -> Result<(), Refusal>
-        ensures { result ≡ (if knows_node self.now.cluster node then Ok tt else Err Refusal.UnknownNode) }
+        ensures { result ≡ (if knows_node self.now.cluster node then Ok tt
+            else Err Refusal.UnknownNode) }
     {
         let is_known = self.knows_node(node);
         if is_known {
@@ -112,7 +119,8 @@ impl Topology {
     }
 
     fn check_storage(&self, storage: StorageId) -> Result<(), Refusal>
-        ensures { result ≡ (if knows_storage self.now.cluster storage then Ok tt else Err Refusal.UnknownStorage) }
+        ensures { result ≡ (if knows_storage self.now.cluster storage then Ok tt
+            else Err Refusal.UnknownStorage) }
     {
         if self.knows_storage(storage) {
             Ok(())
@@ -126,7 +134,8 @@ impl Topology {
     #[tactic(auto, unfolding(bm_base::specs::Refusals::cluster_checks))]
     pub fn check(&self, event: &Event) -> Result<(), Refusal>
         ensures refusal { result ≡ checked (first_of (cluster_checks self.now.cluster event.now)) }
-        ensures accepted { OnOk result (first_of (cluster_checks self.now.cluster event.now) ≡ None) }
+        ensures accepted { OnOk result (first_of (cluster_checks self.now.cluster event.now)
+            ≡ None) }
     {
         match event {
             Event::Register {
@@ -210,7 +219,9 @@ fn has_repeats_among_few(storages: &[StorageId]) -> bool
     false
 }
 
-/// Puts one part of the list after another in order, and looks for all that follows it there.
+/// Puts one part of the list after another in order, and looks for all that follows it there. It stays a function of its own: in the
+/// place of its call, each check of any event would touch all of its room on the stack.
+#[inline(never)]
 fn has_repeats_among_many(storages: &[StorageId]) -> bool
     ensures { result ≡ lists.has_repeats storages.now }
 {

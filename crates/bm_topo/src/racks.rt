@@ -99,7 +99,8 @@ impl Topology {
 
     /// The rack of the first node.
     fn first_rack(&self) -> Option<Rack>
-        ensures { result ≡ option_map (λ e. e.1) (slice_get (map.entries self.now.cluster.nodes) 0) }
+        ensures { result ≡ option_map
+            (λ e. e.1) (slice_get (map.entries self.now.cluster.nodes) 0) }
     {
         match self.nodes.entries().get(0) {
             Some((_, rack)) => Some(*rack),

@@ -60,7 +60,8 @@ pub(crate) fn set_remaining(storages: &mut NumberMap<StorageInfo>, remaining: &[
 
 /// Sets the remaining bytes of a storage, if it is there.
 fn set_one(storages: &mut NumberMap<StorageInfo>, storage: StorageId, remaining: u64)
-    ensures after { storages.new.map ≡ map.revise_at storages.old.map storage (λ i. record i { remaining = remaining }) }
+    ensures after { storages.new.map
+        ≡ map.revise_at storages.old.map storage (λ i. record i { remaining = remaining }) }
     ensures no_growth { capacity storages.new ≡ capacity storages.old }
 {
     if let Some(info) = storages.get(u64::from(storage.0)) {

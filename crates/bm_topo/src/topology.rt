@@ -105,6 +105,9 @@ impl Topology {
     pub fn is_draining(&self, storage: StorageId) -> bool
         ensures { result ≡ replicas.is_draining self.now.cluster storage }
     {
+        if self.draining.len() == 0 {
+            return false;
+        }
         match self.node_of(storage) {
             Some(node) => self.draining.get(u64::from(node.0)).is_some(),
             None => false,
@@ -136,7 +139,8 @@ impl Topology {
     /// Whether a node drains; `None` where it is not alive.
     #[tactic(auto, unfolding(bm_base::specs::Replicas::drains, bm_base::specs::Refusals::knows_node))]
     pub fn node_drains(&self, node: NodeId) -> Option<bool>
-        ensures { result ≡ (if knows_node self.now.cluster node then Some (replicas.drains self.now.cluster node) else None) }
+        ensures { result ≡ (if knows_node self.now.cluster node then Some
+            (replicas.drains self.now.cluster node) else None) }
     {
         match self.nodes.get(u64::from(node.0)) {
             Some(_) => Some(self.draining.get(u64::from(node.0)).is_some()),
@@ -146,7 +150,8 @@ impl Topology {
 
     /// The free bytes of a storage that the last heartbeat told, 0 before the first; `None` where the storage is not known.
     pub fn remaining(&self, storage: StorageId) -> Option<u64>
-        ensures { result ≡ option_map (λ i. i.remaining) (map.get self.now.cluster.storages storage) }
+        ensures { result ≡ option_map
+            (λ i. i.remaining) (map.get self.now.cluster.storages storage) }
     {
         match self.storages.get(u64::from(storage.0)) {
             Some(info) => Some(info.remaining),

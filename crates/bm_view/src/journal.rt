@@ -240,7 +240,8 @@ impl Journal {
     /// Enters a table: as done, or as proposed or withdrawn.
     pub fn enter(&mut self, done: bool, table: &Table)
         ensures home { self.new.home ≡ self.old.home }
-        ensures log { self.new.log ≡ self.old.log ++ record { done = done; table = table.now } ∷ [] }
+        ensures log { self.new.log ≡ self.old.log
+            ++ record { done = done; table = table.now } ∷ [] }
     {
         let (next, _word) = new_pen(&self.head, &self.seen);
         let wanted = Wanted {

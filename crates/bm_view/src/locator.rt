@@ -172,7 +172,8 @@ impl Locator {
         ensures history { OnSome result (IsHistory self.new.list) }
         ensures later { OnSome result (IsPrefix self.old.list self.new.list) }
         ensures told { OnSome result (All (λ known. IsPrefix known self.new.list) self.old.told) }
-        ensures no_older { IfSome result (λ found. All (λ known. (last_of known).calls ≤ found.calls) self.old.told) }
+        ensures no_older { IfSome result
+            (λ found. All (λ known. (last_of known).calls ≤ found.calls) self.old.told) }
     {
         let Some(seen) = replace_with(&mut self.seat, id, read) else {
             return None;

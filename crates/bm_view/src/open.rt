@@ -38,7 +38,8 @@ fn open_writer<R: Wait>(
     requires table { arc_value table ≡ opening }
     requires log { journal.now.log ≡ opening_log }
     requires readers { (0 < readers) × (readers < 2 ^ 32) }
-    ensures shown { IfOk result (λ w. (w.desk.shown.value.home ≡ journal.now.home) × (w.desk.shown.value.log ≡ opening_log)) }
+    ensures shown { IfOk result (λ w. (w.desk.shown.value.home ≡ journal.now.home)
+        × (w.desk.shown.value.log ≡ opening_log)) }
     ensures seen { IfOk result (λ w. HasSeen (sight w.desk.place) journal.now.home (opening ∷ [])) }
 {
     let first = Shown::new(table, journal.evidence(), Count::one(alloc));
@@ -66,7 +67,9 @@ fn make_locators(
     requires seen { HasSeen (sight writer.old.desk.place) journal.now.home (opening ∷ []) }
     ensures shown { writer.new.desk.shown.value ≡ writer.old.desk.shown.value }
     ensures count { IfOk result (λ made. vec_len made ≡ readers) }
-    ensures each { IfOk result (λ made. All (λ l. l ≡ record { home = journal.now.home; list = opening ∷ []; told = [] }) made.items) }
+    ensures each { IfOk result
+        (λ made. All (λ l. l ≡ record { home = journal.now.home; list = opening ∷ []; told = [] })
+        made.items) }
 {
     let mut locators = Vec::new(alloc);
     for _ in 0..readers {
@@ -88,10 +91,13 @@ pub fn open_view<R: Wait>(
     readers: usize,
 ) -> Result<(Publisher, Vec<Locator>), Refusal>
     ensures too_many { (result ≡ Err Refusal.BadConfig) ↔ (16 < readers) }
-    ensures refused { IfErr result (λ refusal. (refusal ≡ Refusal.BadConfig) ⊎ (refusal ≡ Refusal.Memory)) }
+    ensures refused { IfErr result (λ refusal. (refusal ≡ Refusal.BadConfig)
+        ⊎ (refusal ≡ Refusal.Memory)) }
     ensures publisher { IfOk result (λ made. made.0.list ≡ opening ∷ []) }
     ensures count { IfOk result (λ made. vec_len made.1 ≡ readers) }
-    ensures locators { IfOk result (λ made. All (λ l. l ≡ record { home = made.0.home; list = opening ∷ []; told = [] }) made.1.items) }
+    ensures locators { IfOk result
+        (λ made. All (λ l. l ≡ record { home = made.0.home; list = opening ∷ []; told = [] })
+        made.1.items) }
 {
     if readers > MAX_READERS {
         return Err(Refusal::BadConfig);

@@ -56,7 +56,8 @@ pub(crate) fn show<R: Wait>(
 ) -> (VersionWriter, Result<(), AllocError>)
     requires { Extends writer.desk.shown.value next.1 }
     ensures { MatchResult result.1
-        (λ _. (result.0.desk.shown.value ≡ next.entry.1) × (sight result.0.desk.place ≡ Some next.entry.1))
+        (λ _. (result.0.desk.shown.value ≡ next.entry.1)
+        × (sight result.0.desk.place ≡ Some next.entry.1))
         (λ _. result.0.desk.shown.value ≡ writer.desk.shown.value) }
 {
     let (rt, shown) = next;
@@ -68,7 +69,8 @@ pub(crate) fn show<R: Wait>(
 
 impl Publisher {
     pub(crate) fn new(alloc: Global, writer: VersionWriter, journal: Journal) -> Publisher
-        requires { (journal.log ≡ opening_log) × (writer.desk.shown.value.home ≡ journal.home) × (writer.desk.shown.value.log ≡ opening_log) }
+        requires { (journal.log ≡ opening_log) × (writer.desk.shown.value.home ≡ journal.home)
+            × (writer.desk.shown.value.log ≡ opening_log) }
         ensures { result ≡ record { home = journal.home; list = opening ∷ [] } }
     {
         Publisher {

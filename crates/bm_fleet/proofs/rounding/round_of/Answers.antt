@@ -7,7 +7,7 @@ use Rattle.bm_fleet.specs.RoundWorked.{HasPart}
 use Rattle.bm_fleet.specs.RoundChosen.{next_parts, HasExcess, IsChosen}
 use Rattle.bm_fleet.proofs.Founds.{can_find, have_parts}
 use Rattle.bm_fleet.proofs.Chosen.{wished_once, transfers_of_all, deletes_of_all}
-use Rattle.bm_fleet.proofs.Finished.{all_counted}
+use Rattle.bm_fleet.proofs.RoundsTaken.{all_counted}
 use Rattle.bm_fleet.proofs.RoundEnd.{then_ok, end_shards, end_stands, end_took, end_held, still_are, still_held, still_stand, still_took, all_commands}
 use Rattle.bm_fleet.proofs.rounding.round_of.Goals as goal
 
@@ -46,24 +46,24 @@ returns-in-Ok-outcome-clause-changed g c =
     let limits = limits_of c.args.config.now in
     let ss = c.args.shards.items in
     let chosen = then_ok (λ f. IsChosen limits C (c.args.last + 1) ss f.choice) _ _ c.in-Ok.is c.found_of-items.ensures.chosen in
-    end_held C limits c.args.last ss c.requires.shards c.requires.rounds c.in-Ok.found.choice.chosen _ _ _ _ c.found_of-items.ensures.shards c.take_round-items.ensures.finished c.in-Ok-outcome.is
+    end_held C limits c.args.last ss c.requires.shards c.requires.rounds c.in-Ok.found.choice.chosen _ _ _ _ c.found_of-items.ensures.shards c.take_round-items.ensures.taken c.in-Ok-outcome.is
     (chosen.transfers ∙ transfers_of_all C limits c.args.last ss (next_parts C ss) refl c.requires.shards c.requires.rounds)
     (chosen.deletes ∙ deletes_of_all C limits c.args.last ss (next_parts C ss) refl c.requires.shards c.requires.rounds)
 
 pub returns-in-Ok-outcome-clause-shards : goal.returns-in-Ok-outcome-clause-shards
 returns-in-Ok-outcome-clause-shards g c =
     end_shards c.args.topology.now.cluster (limits_of c.args.config.now) c.args.last c.args.shards.items c.requires.shards c.requires.rounds c.in-Ok.found.choice.chosen _ _ _ _
-    c.found_of-items.ensures.shards c.take_round-items.ensures.finished c.in-Ok-outcome.is
+    c.found_of-items.ensures.shards c.take_round-items.ensures.taken c.in-Ok-outcome.is
 
 pub returns-in-Ok-outcome-clause-standing : goal.returns-in-Ok-outcome-clause-standing
 returns-in-Ok-outcome-clause-standing g c =
     end_stands c.args.topology.now.cluster (limits_of c.args.config.now) c.args.last c.args.shards.items c.requires.shards c.requires.rounds c.in-Ok.found.choice.chosen _ _ _ _
-    c.found_of-items.ensures.shards c.take_round-items.ensures.finished c.in-Ok-outcome.is
+    c.found_of-items.ensures.shards c.take_round-items.ensures.taken c.in-Ok-outcome.is
 
 pub returns-in-Ok-outcome-clause-rounds : goal.returns-in-Ok-outcome-clause-rounds
 returns-in-Ok-outcome-clause-rounds g c =
     end_took c.args.topology.now.cluster (limits_of c.args.config.now) c.args.last c.args.shards.items c.requires.shards c.requires.rounds c.in-Ok.found.choice.chosen _ _ _ _
-    c.found_of-items.ensures.shards c.take_round-items.ensures.finished c.in-Ok-outcome.is
+    c.found_of-items.ensures.shards c.take_round-items.ensures.taken c.in-Ok-outcome.is
 
 pub returns-clause-shards : goal.returns-clause-shards
 returns-clause-shards g c =

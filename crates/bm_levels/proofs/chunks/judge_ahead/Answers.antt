@@ -1,4 +1,4 @@
-use Rattle.std.proofs.Common.{◌≡◌, ◌<◌, ◌+◌, ℕ, Some, length, inl, inr, ap, sym, subst, ◌∙◌, arith, get_or-set_same}
+use Rattle.std.proofs.Common.{◌≡◌, ◌<◌, ◌+◌, ℕ, Some, length, inl, inr, sym, subst, ◌∙◌, arith, get_or-set_same}
 use Rattle.std.specs.Prelude.{slice_get, slice_set, slice_index_or}
 use Rattle.std.proofs.Math.ListN.{length-set}
 use Rattle.std.proofs.lemmas.Bool.{cases_eq}
@@ -9,10 +9,11 @@ use Rattle.bm_arena.specs.Contents.{block_at}
 use Rattle.bm_levels.specs.declared.judging.Judged.{Judged}
 use Rattle.bm_levels.specs.Judged.{drains_then}
 use Rattle.bm_levels.specs.Kept.{IsJudgedAs}
+use Rattle.bm_levels.specs.Around.{IsJudgedAsAround}
 use Rattle.bm_levels.proofs.chunks.judge_ahead.Goals as goal
 
 read_on : (c : goal.After-judge) → (i : ℕ) → i < c.loop-place.place + 1 → (slot : ℕ) (default : Judged) → slice_get c.args.chunk.now i ≡ Some slot
-    → IsJudgedAs (rack_of c.args.around.now.topology.now.cluster) (drains_then c.args.around.now.topology.now.cluster c.args.around.now.turning) c.args.around.now.multi (block_at c.args.arena.now slot)
+    → IsJudgedAsAround c.args.around.now (block_at c.args.arena.now slot)
     (slice_index_or (slice_set c.loop-place.judged c.loop-place.place c.judge.result) i default)
 read_on c i below slot default is =
     let C = c.args.around.now.topology.now.cluster in

@@ -1,10 +1,8 @@
 use Rattle.std.proofs.Common.{◌≡◌, ◌<◌, ℕ, Some, length}
 use Rattle.std.specs.Prelude.{slice_get, slice_index_or}
-use Rattle.bm_base.specs.Replicas.{rack_of}
 use Rattle.bm_arena.specs.Contents.{block_at}
 use Rattle.bm_levels.specs.declared.judging.Judged.{Judged}
-use Rattle.bm_levels.specs.Judged.{drains_then}
-use Rattle.bm_levels.specs.Kept.{IsJudgedAs}
+use Rattle.bm_levels.specs.Around.{IsJudgedAsAround}
 use Rattle.bm_levels.proofs.chunks.judge_ahead.Given as goal
 
 -- what the blocks are judged at which it was looked
@@ -13,5 +11,5 @@ invariant-loop-place l =
     record {
       whole : length l.judged ≡ 64;
       read : (i : ℕ) → i < l.place → (slot : ℕ) (default : Judged) → slice_get l.chunk i ≡ Some slot
-          → IsJudgedAs (rack_of l.around.topology.now.cluster) (drains_then l.around.topology.now.cluster l.around.turning) l.around.multi (block_at l.arena slot) (slice_index_or l.judged i default);
+          → IsJudgedAsAround l.around (block_at l.arena slot) (slice_index_or l.judged i default);
     }

@@ -3,9 +3,9 @@ use Rattle.bm_report.proofs.Simple.{single-some, single-none}
 use Rattle.bm_report.proofs.tests.is_single.Goals as goal
 
 pub returns-in-Some : goal.returns-in-Some
-returns-in-Some c settled =
+returns-in-Some c rightful =
     single-some c.args.arena.now c.args.slot (omega (arith, c.if-triplet_count-gt1.false, c.triplet_count.ensures)) (c.in-Some.field-0-0, c.in-Some.marks) (sym c.triplet_at.ensures ∙ c.in-Some.is)
-    (sym c.is_settled.ensures ∙ settled)
+    (sym c.is_excess_good.ensures ∙ rightful)
 
 pub returns-in-None : goal.returns-in-None
 returns-in-None c _ =

@@ -4,8 +4,9 @@ use Rattle.std.proofs.lemmas.Bool.{eqb-true}
 use Rattle.std.proofs.lemmas.List.{take-append-drop}
 use Rattle.bm_base.specs.Replicas.{rack_of}
 use Rattle.bm_base.specs.SlotLists.{Among}
+use Rattle.bm_arena.proofs.Replicas.{Among-left}
 use Rattle.bm_levels.specs.Judged.{drains_then}
-use Rattle.bm_levels.proofs.Keeping.{IsUnderway, underway_none, underway_chunk, underway_judged, underway_others, among_front, among_back}
+use Rattle.bm_levels.proofs.Keeping.{IsUnderway, underway_none, underway_chunk, underway_judged, underway_others, among_back}
 use Rattle.bm_levels.proofs.kept.KeptLevels.judge_all.Goals as goal
 
 empty_of : (xs : List ℕ) → (length xs == 0) ≡ true → xs ≡ []
@@ -21,7 +22,7 @@ pub judge_chunk-requires-clause-room : goal.judge_chunk-requires-clause-room
 judge_chunk-requires-clause-room c slot there =
     let P : List ℕ → Type 0 = λ l. Among slot l in
     let whole : c.split_at.result.0.now ++ c.split_at.result.1.now ≡ c.loop-rest.rest.now = (λ i. c.split_at.ensures.front i ++ c.split_at.ensures.back i) ∙ take-append-drop c.chunk_len.result c.loop-rest.rest.now in
-    c.loop-rest.invariant.room (slot + 1) (c.requires.room slot (c.loop-rest.invariant.listed slot (subst P whole (among_front slot c.split_at.result.0.now c.split_at.result.1.now there))))
+    c.loop-rest.invariant.room (slot + 1) (c.requires.room slot (c.loop-rest.invariant.listed slot (subst P whole (Among-left slot c.split_at.result.0.now c.split_at.result.1.now there))))
 
 pub loop-rest-preserved : goal.loop-rest-preserved
 loop-rest-preserved c =
@@ -36,7 +37,7 @@ loop-rest-preserved c =
     let P : List ℕ → Type 0 = λ l. IsUnderway (rack_of C) D multi a all l c.args.self.now c.loop-rest.self in
     let listed : (slot : ℕ) → Among slot (xs ++ ys) → Among slot all = λ slot h. c.loop-rest.invariant.listed slot (let Q : List ℕ → Type 0 = λ l. Among slot l in subst Q whole h) in
     record {
-      underway = underway_chunk (rack_of C) D multi a all xs ys c.args.self.now c.loop-rest.self c.judge_chunk.new.self (λ slot h. listed slot (among_front slot xs ys h)) (subst P (sym whole) c.loop-rest.invariant.underway) c.judge_chunk.ensures.judged c.judge_chunk.ensures.others;
+      underway = underway_chunk (rack_of C) D multi a all xs ys c.args.self.now c.loop-rest.self c.judge_chunk.new.self (λ slot h. listed slot (Among-left slot xs ys h)) (subst P (sym whole) c.loop-rest.invariant.underway) c.judge_chunk.ensures.judged c.judge_chunk.ensures.others;
       listed = λ slot h. listed slot (among_back slot xs ys h);
       room = λ bound h. c.judge_chunk.ensures.room bound (c.loop-rest.invariant.room bound h);
     }

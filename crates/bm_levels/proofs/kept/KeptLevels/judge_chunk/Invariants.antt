@@ -1,13 +1,12 @@
 use Rattle.std.proofs.Common.{ℕ, drop}
-use Rattle.bm_base.specs.Replicas.{rack_of}
-use Rattle.bm_levels.specs.Judged.{drains_then}
 use Rattle.bm_levels.specs.Kept.{HasRoomFor}
+use Rattle.bm_levels.specs.Around.{rack_around, drains_around}
 use Rattle.bm_levels.proofs.Keeping.{IsUnderway}
 use Rattle.bm_levels.proofs.kept.KeptLevels.judge_chunk.Given as goal
 
 -- the slots that have gone are kept as judged, and there is room for all
 pub record AreKeptSoFar (l : goal.Live-loop-place) : Type 0 where
-  pub underway : IsUnderway (rack_of l.around.topology.now.cluster) (drains_then l.around.topology.now.cluster l.around.turning) l.around.multi l.arena l.chunk (drop l.place l.chunk) l.initial.self l.self
+  pub underway : IsUnderway (rack_around l.around) (drains_around l.around) l.around.multi l.arena l.chunk (drop l.place l.chunk) l.initial.self l.self
   pub room : (bound : ℕ) → HasRoomFor l.initial.self bound → HasRoomFor l.self bound
 
 abbrev pub invariant-loop-place : goal.invariant-loop-place

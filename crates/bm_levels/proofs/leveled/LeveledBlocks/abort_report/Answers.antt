@@ -4,9 +4,10 @@ use Rattle.bm_base.specs.State.{Cluster}
 use Rattle.bm_base.specs.Events.{is_named}
 use Rattle.bm_arena.specs.Contents.{block_at}
 use Rattle.bm_report.specs.Ready.{told}
+use Rattle.bm_report.proofs.Prepared.{prepared-none}
 use Rattle.bm_levels.specs.Leveled.{Leveled, AreLevels}
 use Rattle.bm_levels.proofs.Keeping.{same_itself}
-use Rattle.bm_levels.proofs.Readied.{AreAlike, alike_again, held_before, leveled_alike, levels_alike, as_prepared, none_fresh}
+use Rattle.bm_levels.proofs.Readied.{AreAlike, alike_again, held_before, leveled_alike, levels_alike, none_fresh}
 use Rattle.bm_levels.proofs.Bare.{bare_unnamed}
 use Rattle.bm_levels.proofs.leveled.LeveledBlocks.abort_report.Goals as goal
 
@@ -17,13 +18,13 @@ alike : (c : goal.After-lawful-2) → (z : ℕ) → AreAlike (block_at c.abort.n
 alike c =
     let r = c.abort.ensures in
     let a = c.self.inside.arena in
-    alike_again a a c.lawful.ensures c.lawful.ensures (as_prepared a) c.abort.new.arena c.lawful-2.ensures (is_named (told c.args.report.now)) r.delimiter r.marker r.numbers r.entries (none_fresh a (is_named (told c.args.report.now)))
+    alike_again a a c.lawful.ensures c.lawful.ensures (prepared-none a) c.abort.new.arena c.lawful-2.ensures (is_named (told c.args.report.now)) r.delimiter r.marker r.numbers r.entries (none_fresh a (is_named (told c.args.report.now)))
 
 held : (c : goal.After-lawful-2) → (z : ℕ) → IsSome (block_at c.abort.new.arena z) → IsSome (block_at c.self.inside.arena z)
 held c =
     let r = c.abort.ensures in
     let a = c.self.inside.arena in
-    held_before a a c.lawful.ensures c.lawful.ensures (as_prepared a) c.abort.new.arena c.lawful-2.ensures (is_named (told c.args.report.now)) r.delimiter r.marker r.numbers r.entries (none_fresh a (is_named (told c.args.report.now)))
+    held_before a a c.lawful.ensures c.lawful.ensures (prepared-none a) c.abort.new.arena c.lawful-2.ensures (is_named (told c.args.report.now)) r.delimiter r.marker r.numbers r.entries (none_fresh a (is_named (told c.args.report.now)))
 
 pub invariant_of-self : goal.invariant_of-self
 invariant_of-self c =

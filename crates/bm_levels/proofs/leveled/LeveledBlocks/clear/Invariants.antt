@@ -1,11 +1,9 @@
 use Rattle.std.proofs.Common.{◌≤◌, ◌+◌, length}
 use Rattle.std.specs.Prelude.{◌==◌}
-use Rattle.bm_base.specs.Replicas.{rack_of}
 use Rattle.bm_arena.specs.Contents.{list_of}
 use Rattle.bm_levels.specs.Bare.{MakesNoneBare}
-use Rattle.bm_levels.specs.Judged.{drains_then}
-use Rattle.bm_levels.specs.LevelsBy.{AreLevelsBy}
 use Rattle.bm_levels.specs.Leaving.{IsLeaving, MakesNoHead}
+use Rattle.bm_levels.specs.Around.{KeepsLevelsAround}
 use Rattle.bm_levels.proofs.leveled.LeveledBlocks.clear.Given as goal
 
 -- so many have left, and no more are to leave than there are slots
@@ -14,8 +12,7 @@ pub record AreLeaving (l : goal.Live-loop-self) : Type 0 where
   pub few : l.removed + length (list_of l.self.arena l.storage) ≤ l.bound
   pub bare : MakesNoneBare l.initial.self.arena l.self.arena
   pub fewer : MakesNoHead l.initial.self.arena l.self.arena
-  pub levels : AreLevelsBy (rack_of l.around.topology.now.cluster) (drains_then l.around.topology.now.cluster l.around.turning) l.around.multi l.initial.self
-      → AreLevelsBy (rack_of l.around.topology.now.cluster) (drains_then l.around.topology.now.cluster l.around.turning) l.around.multi l.self
+  pub levels : KeepsLevelsAround l.around l.initial.self l.self
 
 abbrev pub decreases-loop-self : goal.decreases-loop-self
 decreases-loop-self l = length (list_of l.self.arena l.storage)

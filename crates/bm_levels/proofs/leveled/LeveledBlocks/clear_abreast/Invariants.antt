@@ -1,20 +1,17 @@
 use Rattle.std.proofs.Common.{◌≤◌, ◌<◌, ◌+◌, ◌*◌, ◌^◌}
-use Rattle.bm_base.specs.Replicas.{rack_of, has_storage}
 use Rattle.bm_levels.specs.Bare.{MakesNoneBare}
-use Rattle.bm_levels.specs.Judged.{drains_then}
-use Rattle.bm_levels.specs.LevelsBy.{AreLevelsBy}
 use Rattle.bm_levels.specs.Leaving.{IsLeaving, MakesNoHead}
+use Rattle.bm_levels.specs.Around.{is_on_node, KeepsLevelsAround}
 use Rattle.bm_levels.proofs.leveled.LeveledBlocks.clear_abreast.Given as goal
 
 -- so many have left
 pub record AreLeaving (l : goal.Live-loop-place) : Type 0 where
-  pub left : IsLeaving (has_storage l.around.topology.now.cluster l.node) l.initial.self.arena l.self.arena l.removed
+  pub left : IsLeaving (is_on_node l.around l.node) l.initial.self.arena l.self.arena l.removed
   pub few : l.removed ≤ l.place * (2 ^ 66 + 256)
   pub next : l.count < 4
   pub bare : MakesNoneBare l.initial.self.arena l.self.arena
   pub fewer : MakesNoHead l.initial.self.arena l.self.arena
-  pub levels : AreLevelsBy (rack_of l.around.topology.now.cluster) (drains_then l.around.topology.now.cluster l.around.turning) l.around.multi l.initial.self
-      → AreLevelsBy (rack_of l.around.topology.now.cluster) (drains_then l.around.topology.now.cluster l.around.turning) l.around.multi l.self
+  pub levels : KeepsLevelsAround l.around l.initial.self l.self
 
 abbrev pub invariant-loop-place : goal.invariant-loop-place
 invariant-loop-place l = AreLeaving l

@@ -1,23 +1,20 @@
 use Rattle.std.proofs.Common.{◌≡◌, ◌≤◌, ◌+◌, ◌*◌, ◌^◌, []}
-use Rattle.bm_base.specs.Replicas.{rack_of, has_storage}
 use Rattle.bm_arena.specs.Contents.{list_of, HasHead}
 use Rattle.bm_levels.specs.Bare.{MakesNoneBare}
-use Rattle.bm_levels.specs.Judged.{drains_then}
-use Rattle.bm_levels.specs.LevelsBy.{AreLevelsBy}
 use Rattle.bm_levels.specs.Leaving.{IsLeaving, MakesNoHead}
+use Rattle.bm_levels.specs.Around.{is_on_node, KeepsLevelsAround}
 use Rattle.bm_levels.proofs.Places.{HaveGone}
 use Rattle.bm_levels.proofs.leveled.LeveledBlocks.clear_node.Given as goal
 
 -- the storages at the first places have left
 pub record AreLeaving (l : goal.Live-loop-place) : Type 0 where
-  pub left : IsLeaving (has_storage l.around.topology.now.cluster l.node) l.fn.self.arena l.self.arena l.removed
+  pub left : IsLeaving (is_on_node l.around l.node) l.fn.self.arena l.self.arena l.removed
   pub none : HaveGone l.around.topology.now.cluster l.node (λ s. list_of l.self.arena s ≡ []) l.place
   pub heads : HaveGone l.around.topology.now.cluster l.node (λ s. HasHead l.self.arena s → ⊥) l.place
   pub bare : MakesNoneBare l.fn.self.arena l.self.arena
   pub fewer : MakesNoHead l.fn.self.arena l.self.arena
   pub few : l.removed ≤ 2 ^ 99 + l.place * 2 ^ 64
-  pub levels : AreLevelsBy (rack_of l.around.topology.now.cluster) (drains_then l.around.topology.now.cluster l.around.turning) l.around.multi l.fn.self
-      → AreLevelsBy (rack_of l.around.topology.now.cluster) (drains_then l.around.topology.now.cluster l.around.turning) l.around.multi l.self
+  pub levels : KeepsLevelsAround l.around l.fn.self l.self
 
 abbrev pub invariant-loop-place : goal.invariant-loop-place
 invariant-loop-place l = AreLeaving l

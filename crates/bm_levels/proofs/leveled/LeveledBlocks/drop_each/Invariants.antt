@@ -1,9 +1,9 @@
-use Rattle.std.proofs.Common.{◌≡◌, ℕ, Bool, Option, Some, drop}
+use Rattle.std.proofs.Common.{◌≡◌, ℕ, Some, drop}
 use Rattle.bm_base.specs.SlotLists.{Among}
 use Rattle.bm_arena.specs.Contents.{slot_of}
 use Rattle.bm_arena.specs.Holding.{replicas_of, blocks_of}
 use Rattle.bm_levels.specs.Bare.{IsBare, KeepsSlots}
-use Rattle.bm_levels.specs.LevelsBy.{AreLevelsBy}
+use Rattle.bm_levels.specs.LevelsBy.{KeepsAllLevels}
 use Rattle.bm_levels.proofs.leveled.LeveledBlocks.drop_each.Given as goal
 
 -- numbers keep their entries or lose them, and of those at the slots so far none is bare
@@ -13,7 +13,7 @@ pub record AreDroppedSoFar (l : goal.Live-loop-slot) : Type 0 where
   pub slots : KeepsSlots l.fn.self.arena l.self.arena
   pub left : (b slot : ℕ) → Among slot l.slots → slot_of l.fn.self.arena b ≡ Some slot → IsBare l.self.arena b → Among slot (drop l.slot-index l.slots)
   pub lists : l.self.arena.lists ≡ l.fn.self.arena.lists
-  pub levels_by : (rack : ℕ → Option ℕ) (draining : ℕ → Bool) (multi : Bool) → AreLevelsBy rack draining multi l.fn.self → AreLevelsBy rack draining multi l.self
+  pub levels_by : KeepsAllLevels l.fn.self l.self
 
 abbrev pub invariant-loop-slot : goal.invariant-loop-slot
 invariant-loop-slot l = AreDroppedSoFar l

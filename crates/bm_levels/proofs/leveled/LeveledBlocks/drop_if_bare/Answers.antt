@@ -4,9 +4,10 @@ use Rattle.bm_base.specs.State.{Cluster}
 use Rattle.bm_base.specs.Replicas.{rack_of, is_draining, is_multi_rack}
 use Rattle.bm_arena.specs.Contents.{slot_of}
 use Rattle.bm_arena.specs.Holding.{blocks_of, replicas_of}
+use Rattle.bm_base.proofs.Options.{not_there}
 use Rattle.bm_levels.specs.Leveled.{Leveled, AreLevels}
 use Rattle.bm_levels.specs.LevelsBy.{AreLevelsBy}
-use Rattle.bm_levels.proofs.Emptied.{IsEmptied, emptied, no_value}
+use Rattle.bm_levels.proofs.Emptied.{IsEmptied, emptied}
 use Rattle.bm_levels.proofs.Bare.{slots_kept}
 use Rattle.bm_levels.proofs.leveled.LeveledBlocks.drop_if_bare.Goals as goal
 
@@ -15,7 +16,7 @@ done c =
     let P : Leveled → Type 0 = λ v. slot_of v.arena c.requires.0 ≡ Some c.args.slot in
     let here = subst P (sym c.self.view_is) c.requires.1 in
     emptied (record { arena = c.self.inside.arena; kept = c.self.inside.kept }) c.drop_entry.new.self c.args.slot c.requires.0 c.lawful.ensures here (c.is_bare.ensures.0 c.if-is_bare.true)
-    (sym c.info.ensures ∙ no_value c.info.result (c.is_none.ensures ∙ ap not c.if-is_none.true)) c.drop_entry.ensures.after c.drop_entry.ensures.entries c.drop_entry.ensures.numbers
+    (sym c.info.ensures ∙ not_there c.info.result (c.is_none.ensures ∙ ap not c.if-is_none.true)) c.drop_entry.ensures.after c.drop_entry.ensures.entries c.drop_entry.ensures.numbers
 
 pub invariant_of-self : goal.invariant_of-self
 invariant_of-self c = (done c).leveled c.self.invariant

@@ -3,7 +3,8 @@ use Rattle.bm_base.specs.State.{replica_at}
 use Rattle.bm_base.specs.Events.{as_bad}
 use Rattle.bm_base.proofs.Replacing.{no_change}
 use Rattle.bm_arena.specs.Holding.{replicas_of}
-use Rattle.bm_levels.proofs.Revising.{put_changed, replica_absent, held_at}
+use Rattle.bm_report.proofs.Maps.{get-here}
+use Rattle.bm_levels.proofs.Revising.{put_changed, replica_absent}
 use Rattle.bm_levels.proofs.leveled.LeveledBlocks.make_bad.Goals as goal
 
 pub returns-in_default-clause-replicas : goal.returns-in_default-clause-replicas
@@ -16,9 +17,9 @@ returns-in-Some-marks_of-clause-replicas c =
     let a = c.args.self.now.arena in
     let here = sym c.in-Some.ensures in
     c.set_marks.ensures.replicas c.args.id here
-    ∙ put_changed (replicas_of a) (replica_at c.args.id c.args.storage) as_bad _ (held_at a c.args.id c.in-Some.slot c.args.storage here ∙ sym c.in-Some-marks_of.ensures)
+    ∙ put_changed (replicas_of a) (replica_at c.args.id c.args.storage) as_bad _ (get-here a c.args.id c.in-Some.slot c.args.storage here ∙ sym c.in-Some-marks_of.ensures)
 
 pub returns-in_default-marks_of-clause-replicas : goal.returns-in_default-marks_of-clause-replicas
 returns-in_default-marks_of-clause-replicas c =
     let a = c.args.self.now.arena in
-    no_change (replicas_of a) (replica_at c.args.id c.args.storage) as_bad (held_at a c.args.id c.in-Some.slot c.args.storage (sym c.in-Some.ensures) ∙ sym c.in_default-marks_of.ensures)
+    no_change (replicas_of a) (replica_at c.args.id c.args.storage) as_bad (get-here a c.args.id c.in-Some.slot c.args.storage (sym c.in-Some.ensures) ∙ sym c.in_default-marks_of.ensures)

@@ -2,9 +2,9 @@ use Rattle.std.proofs.Common.{◌≢◌, ◌≡◌, ℕ, Some, not, subst, sym, 
 use Rattle.bm_base.specs.State.{Cluster}
 use Rattle.bm_arena.specs.Contents.{Contents, block_at, slot_of, empty_block, IsAdded}
 use Rattle.bm_arena.specs.Holding.{blocks_of, replicas_of}
+use Rattle.bm_base.proofs.Options.{not_there}
 use Rattle.bm_levels.specs.Leveled.{Leveled, AreLevels}
 use Rattle.bm_report.proofs.Simple.{ok_then}
-use Rattle.bm_levels.proofs.Emptied.{no_value}
 use Rattle.bm_levels.proofs.Added.{room_below, leveled_same, levels_same, leveled_added, levels_added, dropped_again, blocks_again, replicas_again, numbers_again}
 use Rattle.bm_levels.proofs.Bare.{bare_held, some_before}
 use Rattle.bm_levels.specs.Bare.{MakesNoneBare}
@@ -17,10 +17,10 @@ abbrev before : goal.After-drop_entry → Leveled
 before c = record { arena = c.self.inside.arena; kept = c.self.inside.kept }
 
 added_then : (c : goal.After-drop_entry) → IsAdded c.self.inside.arena c.add_entry.new.self c.args.id c.in_ok-slot.slot
-added_then c = c.in_ok-slot.ensures.added (sym c.find.ensures ∙ no_value c.find.result (sym c.is_some.ensures ∙ c.if-is_some.false))
+added_then c = c.in_ok-slot.ensures.added (sym c.find.ensures ∙ not_there c.find.result (sym c.is_some.ensures ∙ c.if-is_some.false))
 
 added_else : (c : goal.Else-is_err) → IsAdded c.self.inside.arena c.add_entry.new.self c.args.id c.in_ok-slot.slot
-added_else c = c.in_ok-slot.ensures.added (sym c.find.ensures ∙ no_value c.find.result (sym c.is_some.ensures ∙ c.if-is_some.false))
+added_else c = c.in_ok-slot.ensures.added (sym c.find.ensures ∙ not_there c.find.result (sym c.is_some.ensures ∙ c.if-is_some.false))
 
 again : (c : goal.After-drop_entry) → (z : ℕ) → block_at c.drop_entry.new.self z ≡ block_at c.self.inside.arena z
 again c = dropped_again (before c) c.add_entry.new.self c.grow_to.new.self c.args.id c.in_ok-slot.slot c.lawful.ensures (added_then c) c.grow_to.ensures.same c.drop_entry.new.self c.drop_entry.ensures.entries
@@ -30,7 +30,7 @@ marker c = ap (λ (x : Contents). x.delimiter) (c.drop_entry.ensures.after (empt
 
 numbers : (c : goal.After-drop_entry) → (b : ℕ) → slot_of c.drop_entry.new.self b ≡ slot_of c.self.inside.arena b
 numbers c = numbers_again (before c) c.add_entry.new.self c.grow_to.new.self c.args.id c.in_ok-slot.slot c.lawful.ensures (added_then c) c.grow_to.ensures.same c.drop_entry.new.self c.drop_entry.ensures.entries
-    (sym c.find.ensures ∙ no_value c.find.result (sym c.is_some.ensures ∙ c.if-is_some.false)) (c.drop_entry.ensures.numbers (empty_block c.args.id) (added_then c).entry)
+    (sym c.find.ensures ∙ not_there c.find.result (sym c.is_some.ensures ∙ c.if-is_some.false)) (c.drop_entry.ensures.numbers (empty_block c.args.id) (added_then c).entry)
 
 pub invariant_of-self-then-is_err : goal.invariant_of-self-then-is_err
 invariant_of-self-then-is_err c = leveled_same (before c) c.drop_entry.new.self c.grow_to.new.self (again c) (marker c) c.grow_to.ensures.same c.self.invariant c.grow_to.ensures.kept

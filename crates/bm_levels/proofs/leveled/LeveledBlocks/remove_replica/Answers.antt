@@ -5,8 +5,9 @@ use Rattle.bm_base.specs.Map.{get}
 use Rattle.bm_base.specs.State.{replica_at}
 use Rattle.bm_arena.specs.Contents.{slot_of}
 use Rattle.bm_arena.specs.Holding.{replicas_of, blocks_of, info_at}
-use Rattle.bm_levels.proofs.Emptied.{no_value}
-use Rattle.bm_levels.proofs.Revising.{remove_absent, replica_absent, held_at, known_at, entry_left}
+use Rattle.bm_base.proofs.Options.{not_there}
+use Rattle.bm_report.proofs.Maps.{get-here}
+use Rattle.bm_levels.proofs.Revising.{remove_absent, replica_absent, known_at, entry_left}
 use Rattle.bm_levels.proofs.Bare.{bare_changed}
 use Rattle.bm_levels.proofs.leveled.LeveledBlocks.remove_replica.Goals as goal
 
@@ -21,8 +22,8 @@ returns-in_default-clause-removed c = sym (ap is_some (replica_absent c.args.sel
 -- the replica was not there
 gone : (c : goal.Then-is_none) → get (replicas_of c.args.self.now.arena) (replica_at c.args.id c.args.storage) ≡ None
 gone c =
-    held_at c.args.self.now.arena c.args.id c.in-Some.slot c.args.storage (sym c.in-Some.ensures)
-    ∙ sym c.marks_of.ensures ∙ no_value c.marks_of.result (c.is_none.ensures ∙ ap not c.if-is_none.true)
+    get-here c.args.self.now.arena c.args.id c.in-Some.slot c.args.storage (sym c.in-Some.ensures)
+    ∙ sym c.marks_of.ensures ∙ not_there c.marks_of.result (c.is_none.ensures ∙ ap not c.if-is_none.true)
 
 pub returns-then-is_none-clause-replicas : goal.returns-then-is_none-clause-replicas
 returns-then-is_none-clause-replicas c = remove_absent (replicas_of c.args.self.now.arena) (replica_at c.args.id c.args.storage) (gone c)
@@ -32,7 +33,7 @@ returns-then-is_none-clause-removed c = sym (ap is_some (gone c))
 
 pub returns-clause-removed : goal.returns-clause-removed
 returns-clause-removed c =
-    let held = held_at c.args.self.now.arena c.args.id c.in-Some.slot c.args.storage (sym c.in-Some.ensures) in
+    let held = get-here c.args.self.now.arena c.args.id c.in-Some.slot c.args.storage (sym c.in-Some.ensures) in
     sym (ap is_some (held ∙ sym c.marks_of.ensures) ∙ c.is_none.ensures ∙ ap not c.if-is_none.false)
 
 pub returns-clause-entry : goal.returns-clause-entry
@@ -43,7 +44,7 @@ returns-clause-entry c =
     let a = c.args.self.now.arena in
     let b = c.remove.new.self.arena in
     let still : slot_of b id ≡ Some slot = ap (λ l. lookup (nat_eq id) l) c.remove.ensures.rest.ids ∙ sym c.in-Some.ensures in
-    let unknown : info_at b slot ≡ None = sym (known_at b id slot still) ∙ ap (λ m. get m id) c.remove.ensures.blocks ∙ no_value (get (blocks_of a) id) absent in
+    let unknown : info_at b slot ≡ None = sym (known_at b id slot still) ∙ ap (λ m. get m id) c.remove.ensures.blocks ∙ not_there (get (blocks_of a) id) absent in
     entry_left b c.drop_if_bare.new.self.arena id slot still c.drop_if_bare.ensures.replicas (λ none. c.drop_if_bare.ensures.gone id still none unknown)
 
 pub returns-clause-bare : goal.returns-clause-bare

@@ -13,7 +13,7 @@ returns-in-Some-clause-blocks c =
     let f = with_stamp c.args.stamp in
     let here = sym c.in-Some.ensures in
     c.change_block.ensures.blocks c.args.id here
-    ∙ ap (λ i. with_known (blocks_of a) c.args.id i) (c.restamped-info.ensures ∙ ap (option_map f) (c.info_of.ensures ∙ sym (known_at a c.args.id c.in-Some.slot here)))
+    ∙ ap (λ i. with_known (blocks_of a) c.args.id i) (c.with_stamp-info.ensures ∙ ap (option_map f) (c.info_of.ensures ∙ sym (known_at a c.args.id c.in-Some.slot here)))
     ∙ known_revised (blocks_of a) c.args.id f
 
 pub returns-in_default-clause-blocks : goal.returns-in_default-clause-blocks

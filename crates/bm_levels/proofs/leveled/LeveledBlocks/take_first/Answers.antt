@@ -1,10 +1,9 @@
 use Rattle.std.proofs.Common.{◌≡◌, ℕ, length, arith, subst, ap, ◌∙◌}
 use Rattle.std.specs.Prelude.{nat_eq, unwrap_or, [], ◌+◌}
 use Rattle.std.specs.Map.{lookup}
-use Rattle.bm_base.specs.Replicas.{rack_of}
 use Rattle.bm_arena.specs.Contents.{list_of}
-use Rattle.bm_levels.specs.Judged.{drains_then}
 use Rattle.bm_levels.specs.Leaving.{IsLeaving}
+use Rattle.bm_levels.specs.Around.{rack_around, drains_around}
 use Rattle.bm_levels.proofs.Leaving.{leaving_same, leaving_more}
 use Rattle.bm_levels.proofs.Bare.{heads_same}
 use Rattle.bm_levels.proofs.Unlinking.{bare_taken}
@@ -30,7 +29,7 @@ returns-clause-list c rest e = same_lists c c.args.storage ∙ c.take_out.ensure
 
 pub returns-clause-levels : goal.returns-clause-levels
 returns-clause-levels c h =
-    c.drop_each.ensures.levels_by (rack_of c.args.around.now.topology.now.cluster) (drains_then c.args.around.now.topology.now.cluster c.args.around.now.turning) c.args.around.now.multi (c.take_out.ensures.levels h)
+    c.drop_each.ensures.levels_by (rack_around c.args.around.now) (drains_around c.args.around.now) c.args.around.now.multi (c.take_out.ensures.levels h)
 
 pub returns-clause-bare : goal.returns-clause-bare
 returns-clause-bare c =

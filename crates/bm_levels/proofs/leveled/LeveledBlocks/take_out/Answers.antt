@@ -7,6 +7,7 @@ use Rattle.bm_levels.specs.Judged.{drains_then}
 use Rattle.bm_levels.specs.Leaving.{IsLeaving}
 use Rattle.bm_levels.specs.Leveled.{Leveled}
 use Rattle.bm_levels.specs.LevelsBy.{AreLevelsBy}
+use Rattle.bm_levels.specs.Around.{rack_around, drains_around}
 use Rattle.bm_levels.proofs.Leaving.{held_on}
 use Rattle.bm_levels.proofs.Unlinking.{listed_in, leveled_first, levels_first}
 use Rattle.bm_levels.proofs.leveled.LeveledBlocks.take_out.Goals as goal
@@ -34,7 +35,7 @@ invariant_of-self c =
     let old : Leveled = record { arena = c.self.inside.arena; kept = c.self.inside.kept } in
     let f = first old c.args.self.now c.args.slots.now c.args.storage c.self.view_is c.requires in
     let u = c.unlink_all.ensures in
-    leveled_first (rack_of c.args.around.now.topology.now.cluster) (drains_then c.args.around.now.topology.now.cluster c.args.around.now.turning) c.args.around.now.multi
+    leveled_first (rack_around c.args.around.now) (drains_around c.args.around.now) c.args.around.now.multi
     old c.unlink_all.new.arena c.judge_all.new.self c.args.storage c.args.slots.now f.0 f.1 c.lawful.ensures c.self.invariant u.others u.known u.delimiter
     c.judge_all.ensures.judged c.judge_all.ensures.others c.judge_all.ensures.room
 

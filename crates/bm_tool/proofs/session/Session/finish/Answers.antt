@@ -1,6 +1,6 @@
 use Rattle.std.proofs.Common.{◌++◌, [], ◌∷◌}
 use Rattle.std.proofs.lemmas.Result.{err_from_is_err_and}
-use Rattle.bm_tool.specs.Lines.{line_end}
+use Rattle.bm_lines.specs.Lines.{line_end}
 use Rattle.bm_tool.specs.Progress.{Progress}
 use Rattle.bm_tool.proofs.ProgressLemmas.{interrupted_rest, piece_fault_of_line, lines_of-ended, lines_of-empty, finished}
 use Rattle.bm_tool.proofs.session.Session.finish.Goals as goal

@@ -2,7 +2,7 @@ use Rattle.std.proofs.Common.{[], ◌∷◌, ◌++◌, take, refl, sym, append_a
 use Rattle.std.proofs.lemmas.List.{take_rest}
 use Rattle.std.proofs.Math.Seq.{drop-length}
 use Rattle.std.proofs.lemmas.Result.{err_from_is_err_and}
-use Rattle.bm_tool.specs.Lines.{line_end}
+use Rattle.bm_lines.specs.Lines.{line_end}
 use Rattle.bm_tool.proofs.ProgressLemmas.{progress_part, progress_interrupted, interrupted_line, piece_fault_of_line}
 use Rattle.bm_tool.proofs.session.Session.take_line.Goals as goal
 

@@ -1,0 +1,197 @@
+// What all shards have for a round: of their first wishes, or of all.
+ghost use Rattle.std.specs.Prelude.{◌≡◌, ◌≤◌, [], None, IsSome, map, false, IfOk, IfErr, vec_len, vec_capacity};
+ghost use Rattle.std.specs.Option.{IfSome};
+ghost use Rattle.std.specs.List.{All};
+ghost use Rattle.bm_base.specs.declared.refusal.Refusal.TheVariants.{Memory};
+ghost use Rattle.bm_base.specs.State.{limits_of};
+ghost use Rattle.bm_base.specs.Lists.{has_repeats};
+ghost use Rattle.bm_base.specs.Configuration.{config_refusal};
+ghost use Rattle.bm_base.specs.Choices as choices;
+ghost use Rattle.bm_parts.specs.Before.{part_before};
+ghost use Rattle.bm_shard.specs.Standing.{next_part};
+ghost use Rattle.bm_fleet.specs.RoundWorked.{CanFind};
+ghost use Rattle.bm_fleet.specs.RoundChosen.{next_parts, HasExcess, IsChosen};
+
+use crate::answered::{AskRoom, answers_of, ask_room};
+use crate::round_choice::{ChosenCommands, choice_of};
+use crate::round_running::find_all;
+use bm_base::{Config, Refusal, RoundPart};
+use bm_crew::Gate;
+use bm_parts::merge::Key;
+use bm_round::is_full;
+use bm_shard::Shard;
+use bm_topo::Topology;
+use std::alloc::Global;
+use std::sync::Wait;
+use std::thread::Threads;
+
+/// What the shards have for their next round, of whose wishes the first may be there alone, and what is chosen of all.
+#[derive(Drop)]
+pub(crate) struct FoundRound {
+    pub parts: Vec<RoundPart>,
+    pub choice: ChosenCommands,
+}
+
+/// The shards as they were, and what they have for their next round, with what is chosen of all of it. First those wishes are asked for
+/// that the round is likely to need, and only where it can have further transfers all of them.
+pub(crate) fn found_of<R: Threads + Wait + Sync, G: Gate + Sync>(
+    alloc: Global,
+    rt: &R,
+    gate: &G,
+    room: AskRoom<RoundPart>,
+    shards: Vec<(u32, Shard)>,
+    config: &Config,
+    round: u64,
+    topology: &Topology,
+) -> (Vec<(u32, Shard)>, Result<FoundRound, Refusal>)
+    requires config { config_refusal config.now ≡ None }
+    requires room { vec_len shards ≤ room.asking.room }
+    requires back { (room.back.items ≡ []) × (vec_len shards ≤ vec_capacity room.back) }
+    requires answers { (room.answers.items ≡ []) × (vec_len shards ≤ vec_capacity room.answers) }
+    requires shards { All (CanFind topology.now.cluster round) shards.items }
+    requires one_wish { has_repeats (map
+        (λ w. w.block) (choices.merged_wishes (next_parts topology.now.cluster shards.items)))
+        ≡ false }
+    ensures shards { result.0.items ≡ shards.items }
+    ensures excess { IfOk result.1
+        (λ f. HasExcess topology.now.cluster shards.items f.parts.items) }
+    ensures chosen { IfOk result.1
+        (λ f. IsChosen (limits_of config.now) topology.now.cluster round shards.items f.choice) }
+    ensures refused { IfErr result.1 (λ e. e ≡ Memory) }
+{
+    let bound = match bound_of_shards(shards.as_slice(), config, topology) {
+        Ok(bound) => bound,
+        Err(refusal) => return (shards, Err(refusal)),
+    };
+    let (shards, first) = found_before(
+        alloc, rt, gate, room, shards, config, round, topology, bound,
+    );
+    match first {
+        Ok(Some(found)) => return (shards, Ok(found)),
+        Ok(None) => {}
+        Err(refusal) => return (shards, Err(refusal)),
+    }
+    let room = match ask_room(alloc, shards.len(), config.workers as usize) {
+        Ok(room) => room,
+        Err(refusal) => return (shards, Err(refusal)),
+    };
+    let (shards, whole) = found_before(
+        alloc, rt, gate, room, shards, config, round, topology, None,
+    );
+    match whole {
+        Ok(Some(found)) => (shards, Ok(found)),
+        Ok(None) => unreachable!(),
+        Err(refusal) => (shards, Err(refusal)),
+    }
+}
+
+/// The shards as they were, and what they have for their next round, with the wishes before a bound and what is chosen of them: where
+/// that is what is chosen of all wishes.
+fn found_before<R: Threads + Wait + Sync, G: Gate + Sync>(
+    alloc: Global,
+    rt: &R,
+    gate: &G,
+    room: AskRoom<RoundPart>,
+    shards: Vec<(u32, Shard)>,
+    config: &Config,
+    round: u64,
+    topology: &Topology,
+    bound: Option<Key>,
+) -> (Vec<(u32, Shard)>, Result<Option<FoundRound>, Refusal>)
+    requires room { vec_len shards ≤ room.asking.room }
+    requires back { (room.back.items ≡ []) × (vec_len shards ≤ vec_capacity room.back) }
+    requires answers { (room.answers.items ≡ []) × (vec_len shards ≤ vec_capacity room.answers) }
+    requires shards { All (CanFind topology.now.cluster round) shards.items }
+    requires one_wish { has_repeats (map
+        (λ w. w.block) (choices.merged_wishes (next_parts topology.now.cluster shards.items)))
+        ≡ false }
+    ensures shards { result.0.items ≡ shards.items }
+    ensures excess { IfOk result.1
+        (λ o. IfSome o (λ f. HasExcess topology.now.cluster shards.items f.parts.items)) }
+    ensures chosen { IfOk result.1
+        (λ o. IfSome o (λ f. IsChosen (limits_of config.now) topology.now.cluster round
+        shards.items f.choice)) }
+    ensures whole { bound ≡ None → IfOk result.1 (λ o. IsSome o) }
+    ensures refused { IfErr result.1 (λ e. e ≡ Memory) }
+{
+    let (shards, told) = parts_of(rt, gate, room, shards, round, topology, bound);
+    let parts = match told {
+        Ok(parts) => parts,
+        Err(refusal) => return (shards, Err(refusal)),
+    };
+    match choice_of(alloc, parts.as_slice(), config, round, topology) {
+        Ok(choice) => {
+            if bound.is_some() && !is_full(&choice.chosen, topology, config) {
+                return (shards, Ok(None));
+            }
+            (shards, Ok(Some(FoundRound { parts, choice })))
+        }
+        Err(refusal) => (shards, Err(refusal)),
+    }
+}
+
+/// The shards as they were, and what each has for its next round, with the wishes before a bound.
+fn parts_of<R: Threads + Wait + Sync, G: Gate + Sync>(
+    rt: &R,
+    gate: &G,
+    room: AskRoom<RoundPart>,
+    shards: Vec<(u32, Shard)>,
+    round: u64,
+    topology: &Topology,
+    bound: Option<Key>,
+) -> (Vec<(u32, Shard)>, Result<Vec<RoundPart>, Refusal>)
+    requires room { vec_len shards ≤ room.asking.room }
+    requires back { (room.back.items ≡ []) × (vec_len shards ≤ vec_capacity room.back) }
+    requires answers { (room.answers.items ≡ []) × (vec_len shards ≤ vec_capacity room.answers) }
+    requires shards { All (CanFind topology.now.cluster round) shards.items }
+    ensures shards { result.0.items ≡ shards.items }
+    ensures parts { IfOk result.1
+        (λ v. v.items ≡ map (λ s. part_before bound (next_part topology.now.cluster s.1))
+        shards.items) }
+    ensures refused { IfErr result.1 (λ e. e ≡ Memory) }
+{
+    let AskRoom {
+        asking,
+        back,
+        answers,
+    } = room;
+    let found = find_all(rt, gate, asking, shards, round, topology, bound);
+    answers_of(found, back, answers)
+}
+
+/// For each transfer that a round may have, so many wishes are asked for first: some find no source, since towards the end few nodes may
+/// still send a copy. Where all nodes are alike, a round takes its last transfer from among 3 to 5 wishes for each.
+const WISHES_A_TRANSFER: u64 = 7;
+
+/// A bound before which the shards are likely to wish for more copies than a round may have transfers.
+fn bound_of_shards(
+    shards: &[(u32, Shard)],
+    config: &Config,
+    topology: &Topology,
+) -> Result<Option<Key>, Refusal>
+    ensures refused { IfErr result (λ e. e ≡ Memory) }
+{
+    let transfers = u64::from(config.work).saturating_mul(u64::from(topology.alive_nodes()));
+    let shard_count = shards.len().max(1) as u64;
+    let of_each = transfers.saturating_mul(WISHES_A_TRANSFER) / shard_count;
+    let mut bound = None;
+    for shard in shards {
+        bound = later_of(bound, shard.1.likely_bound(of_each as usize)?);
+    }
+    Ok(bound)
+}
+
+/// The later of two bounds.
+fn later_of(bound: Option<Key>, other: Option<Key>) -> Option<Key> {
+    match (bound, other) {
+        (Some(bound), Some(other)) => {
+            if bound.0.cmp(&other.0).then(bound.1.cmp(&other.1)).is_lt() {
+                Some(other)
+            } else {
+                Some(bound)
+            }
+        }
+        (Some(bound), None) => Some(bound),
+        (None, other) => other,
+    }
+}

@@ -1,0 +1,16 @@
+use Rattle.std.proofs.Common.{◌≡◌, ℕ, Some, false, drop}
+use Rattle.bm_base.specs.Map.{revise}
+use Rattle.bm_arena.specs.Contents.{block_at, slot_of, KeepsEntries}
+use Rattle.bm_arena.specs.Holding.{replicas_of}
+use Rattle.bm_levels.specs.Changes.{has_block}
+use Rattle.bm_levels.proofs.Flagging.{excess_by}
+use Rattle.bm_levels.proofs.round_marks.mark_surplus.Given as goal
+
+-- with the replicas from this place on marked too, all of them are, and blocks of which none is listed are as before
+pub record AreMarkedSoFar (l : goal.Live-loop-replica) : Type 0 where
+  pub replicas : revise (replicas_of l.arena) (excess_by (drop l.replica-index l.surplus)) ≡ revise (replicas_of l.initial.arena) (excess_by l.surplus)
+  pub others : (slot : ℕ) → ((b : ℕ) → slot_of l.initial.arena b ≡ Some slot → has_block l.surplus b ≡ false) → block_at l.arena slot ≡ block_at l.initial.arena slot
+  pub entries : KeepsEntries l.initial.arena l.arena
+
+abbrev pub invariant-loop-replica : goal.invariant-loop-replica
+invariant-loop-replica l = AreMarkedSoFar l

@@ -1,0 +1,60 @@
+-- The cluster as an event leaves it: what is said of levels and judgements by it.
+use Rattle.std.specs.Prelude.{◌≡◌, ◌⊎◌, ℕ, Bool, List, Option, Some, slice_get, slice_index_or}
+use Rattle.bm_base.specs.declared.level.Level.{Level}
+use Rattle.bm_base.specs.SlotLists.{Among}
+use Rattle.bm_base.specs.Replicas.{rack_of, has_storage}
+use Rattle.bm_arena.specs.Triplets.{Block}
+use Rattle.bm_arena.specs.Contents.{Contents, block_at, list_of}
+use Rattle.bm_levels.specs.declared.around.Around.{Around}
+use Rattle.bm_levels.specs.declared.judging.Judged.{Judged}
+use Rattle.bm_levels.specs.Judged.{level_by, drains_then}
+use Rattle.bm_levels.specs.Kept.{Kept, IsJudged, IsJudgedAs, IsSameAt}
+use Rattle.bm_levels.specs.Leveled.{Leveled}
+use Rattle.bm_levels.specs.LevelsBy.{AreLevelsBy, IsOff}
+
+-- the rack of a storage, whether it stands on a node that drains after the event, and whether it is one of a node
+abbrev pub rack_around : Around → ℕ → Option ℕ
+rack_around A = rack_of A.topology.now.cluster
+
+abbrev pub drains_around : Around → ℕ → Bool
+drains_around A = drains_then A.topology.now.cluster A.turning
+
+abbrev pub is_on_node : Around → ℕ → ℕ → Bool
+is_on_node A node = has_storage A.topology.now.cluster node
+
+-- the level of the block at a slot
+abbrev pub level_around : Around → Option Block → Option Level
+level_around A o = level_by (rack_around A) (drains_around A) A.multi o
+
+-- what a block is judged, and what the blocks at these slots are, each at its place
+abbrev pub IsJudgedAsAround : Around → Option Block → Judged → Type 0
+IsJudgedAsAround A o j = IsJudgedAs (rack_around A) (drains_around A) A.multi o j
+
+abbrev pub AreJudgedAsAround : Around → Contents → List ℕ → List Judged → Type 0
+AreJudgedAsAround A a slots js =
+    (i slot : ℕ) (default : Judged) → slice_get slots i ≡ Some slot → IsJudgedAsAround A (block_at a slot) (slice_index_or js i default)
+
+-- a slot is kept as its block is judged, and so is each of these
+abbrev pub IsJudgedAround : Around → Option Block → Kept → ℕ → Type 0
+IsJudgedAround A o K slot = IsJudged (rack_around A) (drains_around A) A.multi o K slot
+
+abbrev pub AreJudgedAround : Around → Contents → List ℕ → Kept → Type 0
+AreJudgedAround A a slots K = (slot : ℕ) → Among slot slots → IsJudgedAround A (block_at a slot) K slot
+
+-- so is each slot, or it is kept as before and the list of a storage does not have it
+abbrev pub AreJudgedOfStorage : Around → ℕ → Contents → Kept → Kept → Type 0
+AreJudgedOfStorage A storage a old new =
+    (slot : ℕ) → IsJudgedAround A (block_at a slot) new slot ⊎ (IsSameAt old new slot × (Among slot (list_of a storage) → ⊥))
+
+-- so is each slot, or it is kept as before and no list of a node's storages has it
+abbrev pub AreJudgedOfNode : Around → ℕ → Contents → Kept → Kept → Type 0
+AreJudgedOfNode A node a old new =
+    (slot : ℕ) → IsJudgedAround A (block_at a slot) new slot ⊎ (IsSameAt old new slot × IsOff A.topology.now.cluster node a slot)
+
+-- the level of each slot is that of its block
+abbrev pub AreLevelsAround : Around → Leveled → Type 0
+AreLevelsAround A v = AreLevelsBy (rack_around A) (drains_around A) A.multi v
+
+-- where that is so before a change, it is so after it
+abbrev pub KeepsLevelsAround : Around → Leveled → Leveled → Type 0
+KeepsLevelsAround A old new = AreLevelsAround A old → AreLevelsAround A new

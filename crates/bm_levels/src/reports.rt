@@ -1,0 +1,135 @@
+// Full reports and notices of received replicas: made ready or given up, and made, with the levels of the blocks that they change.
+ghost use Rattle.std.specs.Prelude.{◌≡◌, ◌<◌, ◌^◌, ◌∷◌, [], IfErr, OnOk, OnErr};
+ghost use Rattle.bm_base.specs.declared.refusal.Refusal.TheVariants.{Memory};
+ghost use Rattle.bm_base.specs.State.{Cluster};
+ghost use Rattle.bm_base.specs.Events as events;
+ghost use Rattle.bm_base.specs.Calls as calls;
+ghost use Rattle.bm_arena.specs.Contents.{KeepsEntries};
+ghost use Rattle.bm_arena.specs.Holding.{replicas_of, blocks_of, holdings_of};
+ghost use Rattle.bm_report.specs.Expanded.{told_to};
+ghost use Rattle.bm_report.specs.Midway.{IsOncePerNode};
+ghost use Rattle.bm_report.specs.Ready.{told, IsReady, HasGoodExcess};
+ghost use Rattle.bm_report.specs.Received.{HasReceived};
+ghost use Rattle.bm_levels.specs.Bare.{HasNoneBareOf, MakesNoneBare, MakesBareOnly, IsSameBeside};
+ghost use Rattle.bm_levels.specs.Leveled.{KeepsLevels};
+
+use crate::leveled::LeveledBlocks;
+use bm_base::{BlockId, Entry, Part, Refusal, Stamp, StorageId};
+use bm_report::{Applied, Report};
+use bm_topo::Topology;
+
+impl LeveledBlocks {
+    /// Finds the slot of each number of the part that the entries name, gives an entry to a number that has none, and makes all room that
+    /// the end of the report needs. Nothing that is held changes. `Memory`: then the report is given up, and no new entry stays.
+    pub fn ready_report(
+        &mut self,
+        report: &mut Report,
+        storage: StorageId,
+        entries: &[Entry],
+        part: Part,
+    ) -> Result<(), Refusal>
+        requires part { part.index < part.shards }
+        ensures told { OnOk result (told report.new ≡ told_to part entries.now) }
+        ensures ready { OnOk result (IsReady report.new self.new.arena storage) }
+        ensures fresh { OnOk result (report.new.changed ≡ []) }
+        ensures blocks { blocks_of self.new.arena ≡ blocks_of self.old.arena }
+        ensures replicas { replicas_of self.new.arena ≡ replicas_of self.old.arena }
+        ensures bare { MakesBareOnly (events.is_named (told_to part entries.now))
+            self.old.arena self.new.arena }
+        ensures given_up { OnErr result (MakesNoneBare self.old.arena self.new.arena) }
+        ensures levels { (C : Cluster) → KeepsLevels C self.old self.new }
+        ensures refused { IfErr result (λ e. e ≡ Memory) }
+    {
+        self.arena.lawful();
+        let found = report.ready(&mut self.arena, storage, entries, part);
+        self.arena.lawful();
+        if found.is_err() {
+            report.abort(&mut self.arena);
+            self.arena.lawful();
+            return Err(Refusal::Memory);
+        }
+        if self.kept.grow_to(self.arena.slot_bound()).is_err() {
+            report.abort(&mut self.arena);
+            self.arena.lawful();
+            return Err(Refusal::Memory);
+        }
+        Ok(())
+    }
+
+    /// Gives up a report that was made ready: the entries of the numbers that it names which have neither a block nor a replica
+    /// go, and it names none any more. Nothing that is held changes. Takes no memory.
+    pub fn abort_report(&mut self, report: &mut Report)
+        ensures told { told report.new ≡ [] }
+        ensures blocks { blocks_of self.new.arena ≡ blocks_of self.old.arena }
+        ensures replicas { replicas_of self.new.arena ≡ replicas_of self.old.arena }
+        ensures bare { MakesNoneBare self.old.arena self.new.arena }
+        ensures left { HasNoneBareOf (events.is_named (told report.old)) self.new.arena }
+        ensures levels { (C : Cluster) → KeepsLevels C self.old self.new }
+    {
+        self.arena.lawful();
+        report.abort(&mut self.arena);
+        self.arena.lawful();
+    }
+
+    /// A replica of a block was received on a storage, for which the report was made ready by its one entry: it is there, and leaves
+    /// the other storages of the node. Takes no memory.
+    pub fn receive(
+        &mut self,
+        report: &Report,
+        topology: &Topology,
+        storage: StorageId,
+        id: BlockId,
+        stamp: Stamp,
+    ) -> Applied
+        requires told { told report.now ≡ record { id = id; stamp = stamp } ∷ [] }
+        requires ready { IsReady report.now self.old.arena storage }
+        requires once { IsOncePerNode topology.now.cluster (replicas_of self.old.arena) }
+        ensures received { HasReceived topology.now.cluster storage id stamp
+            self.old.arena self.new.arena result }
+        ensures levels { KeepsLevels topology.now.cluster self.old self.new }
+    {
+        self.arena.lawful();
+        let Some(slot) = self.arena.find(id) else {
+            unreachable!();
+        };
+        let was = self.kept.kept_at(slot);
+        let applied = report.apply_received(&mut self.arena, topology, storage, id, stamp);
+        self.kept.judge_from_in(topology, &self.arena, slot, was);
+        applied
+    }
+
+    /// Makes the replicas on a storage those of the report that was made ready, and judges the blocks that changed: none where all that
+    /// is named stands already. Takes no memory.
+    pub fn apply_report(
+        &mut self,
+        report: &mut Report,
+        topology: &Topology,
+        storage: StorageId,
+    ) -> Applied
+        requires ready { IsReady report.old self.old.arena storage }
+        requires fresh { report.old.changed ≡ [] }
+        requires once { IsOncePerNode topology.now.cluster (replicas_of self.old.arena) }
+        requires good { HasGoodExcess (replicas_of self.old.arena) }
+        ensures replicas { replicas_of self.new.arena
+            ≡ (events.report topology.now.cluster (holdings_of self.old.arena) storage
+            (told report.old)).replicas }
+        ensures blocks { blocks_of self.new.arena ≡ blocks_of self.old.arena }
+        ensures entries { KeepsEntries self.old.arena self.new.arena }
+        ensures once { IsOncePerNode topology.now.cluster (replicas_of self.new.arena) }
+        ensures good { HasGoodExcess (replicas_of self.new.arena) }
+        ensures changed { IsSameBeside report.new.changed self.old.arena self.new.arena }
+        ensures told { told report.new ≡ told report.old }
+        ensures added { result.added
+            ≡ calls.new_replicas (replicas_of self.old.arena) (replicas_of self.new.arena) }
+        ensures removed { result.removed
+            ≡ calls.new_replicas (replicas_of self.new.arena) (replicas_of self.old.arena) }
+        ensures few { (result.added < 2 ^ 100) × (result.removed < 2 ^ 100) }
+        ensures levels { KeepsLevels topology.now.cluster self.old self.new }
+    {
+        self.arena.lawful();
+        let applied = report.apply_full(&mut self.arena, topology, storage);
+        self.kept
+            .judge_all_in(topology, &self.arena, report.changed());
+        applied
+    }
+}

@@ -1,0 +1,76 @@
+// The slots at which a round has to look.
+ghost use Rattle.std.specs.Prelude.{◌≡◌, ◌∷◌, length, Some};
+ghost use Rattle.bm_base.specs.Lists.{has};
+ghost use Rattle.bm_base.specs.SlotLists.{Distinct};
+ghost use Rattle.bm_queues.specs.Walks.{slots_from, IsOn, IsPast};
+ghost use Rattle.bm_levels.specs.Kept.{IsUnsettled, HasRoomForEach, KeepsRoom, AreJudgedIn, IsSameOutside};
+
+use crate::kept::KeptLevels;
+use bm_arena::{Arena, Slot};
+use bm_queues::Walk;
+use bm_topo::Topology;
+
+impl KeptLevels {
+    /// How many slots are unsettled.
+    pub(crate) fn unsettled_count(&self) -> usize
+        ensures { result ≡ length self.now.unsettled.slots }
+    {
+        self.unsettled.len()
+    }
+
+    /// The first of the unsettled slots, from which on all are to come.
+    pub(crate) fn first_unsettled(&self) -> Option<Slot>
+        ensures on { IsOn result self.now.unsettled.slots }
+        ensures rest { slots_from self.now.unsettled.slots result ≡ self.now.unsettled.slots }
+    {
+        self.unsettled.first()
+    }
+
+    /// The slot behind an unsettled one. From there on those are to come that stand behind it: the slot itself may be judged without
+    /// a change to them.
+    pub(crate) fn next_unsettled(&self, slot: Slot) -> Option<Slot>
+        requires { IsUnsettled self.now slot }
+        ensures on { IsOn result self.now.unsettled.slots }
+        ensures rest { slots_from self.now.unsettled.slots (Some slot)
+            ≡ slot ∷ slots_from self.now.unsettled.slots result }
+        ensures past { IsPast slot result self.now.unsettled.slots }
+    {
+        self.unsettled.lawful();
+        self.unsettled.next(slot)
+    }
+
+    /// Whether a round has to look at a slot.
+    pub fn is_unsettled(&self, slot: Slot) -> bool
+        ensures { result ≡ has self.now.unsettled.slots slot }
+    {
+        self.unsettled.lawful();
+        slot < self.unsettled.room() && self.unsettled.contains(slot)
+    }
+
+    /// The slots at which a round has to look, in any order.
+    pub fn unsettled(&self) -> Walk<'_>
+        ensures slots { result ≡ self.now.unsettled.slots }
+        ensures once { Distinct result }
+    {
+        self.unsettled.lawful();
+        self.unsettled.walk()
+    }
+
+    /// Judges the blocks at the unsettled slots anew. A slot leaves the set where its block is settled now; so the one behind it is
+    /// taken before it is judged.
+    pub(crate) fn judge_unsettled(&mut self, topology: &Topology, arena: &Arena)
+        requires room { HasRoomForEach self.old self.old.unsettled.slots }
+        ensures judged { AreJudgedIn topology.now.cluster arena.now
+            self.old.unsettled.slots self.new }
+        ensures others { IsSameOutside self.old.unsettled.slots self.old self.new }
+        ensures room { KeepsRoom self.old self.new }
+    {
+        let mut at = self.first_unsettled();
+        for _step in 0..self.unsettled_count() {
+            if let Some(slot) = at {
+                at = self.next_unsettled(slot);
+                self.judge_in(topology, arena, slot);
+            }
+        }
+    }
+}

@@ -1,0 +1,10 @@
+pub mod Reading
+pub mod TextLemmas
+pub mod Plain
+pub mod Sound
+pub mod AskingData
+pub mod AskingText
+pub mod AskingSound
+pub mod AskingRead
+pub mod AskingBack
+pub mod ReadOps

@@ -1,0 +1,135 @@
+// The text of an answer.
+ghost use Rattle.std.specs.Prelude.{◌≡◌, IfOk, string_bytes};
+ghost use Rattle.bm_lines.specs.Print.{answer_text, head_text, done_text, refused_text, round_text, refusal_name, yes_item};
+
+use crate::print_items::{
+    write_blocks, write_level, write_nodes, write_replica_ids, write_replicas, write_storages,
+};
+use bm_base::{Answer, Call, Commands, Done, Refusal};
+use std::alloc::{AllocError, Global};
+
+/// The name of a refusal, as it stands in an output line.
+fn name_of(refusal: Refusal) -> &'static str
+    ensures { result.now ≡ refusal_name refusal }
+{
+    match refusal {
+        Refusal::UnknownNode => "UnknownNode",
+        Refusal::NodeKnown => "NodeKnown",
+        Refusal::UnknownStorage => "UnknownStorage",
+        Refusal::StorageKnown => "StorageKnown",
+        Refusal::UnknownBlock => "UnknownBlock",
+        Refusal::BlockKnown => "BlockKnown",
+        Refusal::StillStored => "StillStored",
+        Refusal::BadReplication => "BadReplication",
+        Refusal::OldGeneration => "OldGeneration",
+        Refusal::TooMany => "TooMany",
+        Refusal::NotItsStorage => "NotItsStorage",
+        Refusal::RoundsSpent => "RoundsSpent",
+        Refusal::CallsSpent => "CallsSpent",
+        Refusal::Memory => "Memory",
+        Refusal::BadConfig => "BadConfig",
+    }
+}
+
+/// The item of an answer that is yes or no.
+fn yes_item(is_so: bool) -> &'static str
+    ensures { result.now ≡ yes_item is_so }
+{
+    if is_so { "; yes" } else { "; no" }
+}
+
+/// The line of an answer to a call, without its line end.
+pub fn answer_line(alloc: Global, call: &Call, answer: &Answer) -> Result<String, AllocError>
+    ensures { IfOk result (λ s. string_bytes s ≡ answer_text call.now answer.now) }
+{
+    match answer {
+        Answer::Done(done) => done_line(alloc, done),
+        Answer::Refused(refusal) => refused_line(alloc, *refusal),
+        Answer::Commanded(commands) => round_line(alloc, commands),
+        Answer::Number(_) => Ok(String::new(alloc)),
+        Answer::Replicas(replicas) => {
+            let mut line = head_of(alloc, call)?;
+            write_replicas(&mut line, replicas.as_slice())?;
+            Ok(line)
+        }
+        Answer::ReplicaIds(ids) => {
+            let mut line = head_of(alloc, call)?;
+            write_replica_ids(&mut line, ids.as_slice())?;
+            Ok(line)
+        }
+        Answer::Blocks(blocks) => {
+            let mut line = head_of(alloc, call)?;
+            write_blocks(&mut line, blocks.as_slice())?;
+            Ok(line)
+        }
+        Answer::Storages(storages) => {
+            let mut line = head_of(alloc, call)?;
+            write_storages(&mut line, storages.as_slice())?;
+            Ok(line)
+        }
+        Answer::LevelIs(level) => {
+            let mut line = head_of(alloc, call)?;
+            write_level(&mut line, *level)?;
+            Ok(line)
+        }
+        Answer::IsRetired(is_so) => {
+            let mut line = head_of(alloc, call)?;
+            line.push_str(yes_item(*is_so))?;
+            Ok(line)
+        }
+    }
+}
+
+fn done_line(alloc: Global, done: &Done) -> Result<String, AllocError>
+    ensures { IfOk result (λ s. string_bytes s ≡ done_text done.now) }
+{
+    let added = done.added;
+    let removed = done.removed;
+    format!(in alloc; "ok {added} {removed}")
+}
+
+fn refused_line(alloc: Global, refusal: Refusal) -> Result<String, AllocError>
+    ensures { IfOk result (λ s. string_bytes s ≡ refused_text refusal) }
+{
+    let number = refusal.number();
+    let name = name_of(refusal);
+    format!(in alloc; "refused {number} {name}")
+}
+
+fn round_line(alloc: Global, commands: &Commands) -> Result<String, AllocError>
+    ensures { IfOk result (λ s. string_bytes s ≡ round_text commands.now) }
+{
+    let round = commands.round;
+    let mut line = format!(in alloc; "round {round}")?;
+    write_nodes(&mut line, commands.nodes.as_slice())?;
+    Ok(line)
+}
+
+/// How the answer to a query begins.
+fn head_of(alloc: Global, call: &Call) -> Result<String, AllocError>
+    ensures { IfOk result (λ s. string_bytes s ≡ head_text call.now) }
+{
+    match call {
+        Call::Replicas => String::from_str(alloc, "replicas"),
+        Call::Corrupt => String::from_str(alloc, "corrupt"),
+        Call::Excess => String::from_str(alloc, "excess"),
+        Call::Missing => String::from_str(alloc, "missing"),
+        Call::BlocksOn(storage) => {
+            let number = storage.0;
+            format!(in alloc; "storage {number}")
+        }
+        Call::Places(id) => {
+            let number = id.0;
+            format!(in alloc; "places {number}")
+        }
+        Call::LevelOf(id) => {
+            let number = id.0;
+            format!(in alloc; "level {number}")
+        }
+        Call::Retired(node) => {
+            let number = node.0;
+            format!(in alloc; "retired {number}")
+        }
+        Call::Apply(_) | Call::Round | Call::Calls | Call::Rounds => Ok(String::new(alloc)),
+    }
+}

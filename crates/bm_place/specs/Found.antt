@@ -1,0 +1,55 @@
+-- What the choices of a round find.
+use Rattle.std.specs.Prelude.{◌≡◌, ◌<◌, ◌≤◌, ◌+◌, ℕ, true, false, nat_lt, List, Option, Some}
+use Rattle.std.specs.Option.{IfSome}
+use Rattle.bm_base.specs.declared.level.Level.{Level}
+use Rattle.bm_base.specs.declared.commands.Transfer.{Transfer}
+use Rattle.bm_base.specs.Map.{Map, by_number, get, keys, revise_at}
+use Rattle.bm_base.specs.State.{Cluster}
+use Rattle.bm_base.specs.Lists.{has}
+use Rattle.bm_base.specs.Replicas.{node_of, has_storage, is_draining}
+use Rattle.bm_base.specs.Excess.{remaining}
+use Rattle.bm_base.specs.Transfers.{least_source_by, source_cmp, stream_limit, least_target_by, target_cmp, is_target, scheduled_to}
+use Rattle.bm_place.specs.declared.scheduled.Target.{Target}
+use Rattle.bm_place.specs.Least.{IsLeastOf}
+use Rattle.bm_place.specs.Tables.{count_at}
+use Rattle.bm_place.specs.Sources.{Senders, sender_table, transfers_by, streams_by, max_transfers, TakesDrained}
+use Rattle.bm_place.specs.Targets.{target_table, LeavesRack}
+
+-- the source that was found among these storages, where `sends` says of how many transfers each node is the source
+pub record IsLeastSource (C : Cluster) (sends : ℕ → ℕ) (urgency : Level) (usable : List ℕ) (found : Option ℕ) : Type 0 where
+  -- the one that the definition chooses
+  pub choice : found ≡ least_source_by C (streams_by C sends) urgency usable
+  -- it may send, and none that may goes before it
+  pub least : IsLeastOf (source_cmp C (streams_by C sends)) (λ s. nat_lt (streams_by C sends s) (stream_limit urgency (is_draining C s))) usable found
+  pub drained_first : TakesDrained C (streams_by C sends) usable found
+
+-- the target that was found among the storages of a cluster, where `sent` says how many bytes are sent to each
+pub record IsLeastTarget (C : Cluster) (sent : ℕ → ℕ) (urgency : Level) (holders barred : List ℕ) (len : ℕ) (found : Option ℕ) : Type 0 where
+  -- the one that the definition chooses
+  pub choice : found ≡ least_target_by C sent urgency holders barred len
+  -- it may be taken, and none that may goes before it
+  pub least : IsLeastOf (target_cmp C sent holders) (is_target C sent urgency holders barred len) (keys C.storages) found
+  pub room : IfSome found (λ s. len + sent s ≤ remaining C s)
+  pub unbarred_node : IfSome found (λ s. (b n : ℕ) → has barred b ≡ true → node_of C b ≡ Some n → has_storage C n s ≡ false)
+  pub not_draining : IfSome found (λ s. is_draining C s ≡ false)
+  pub other_rack : LeavesRack C sent urgency holders barred len found
+
+-- the table of sources where these transfers are chosen
+abbrev pub senders_with : Cluster → List Transfer → Senders
+senders_with C chosen = sender_table C (transfers_by C chosen)
+
+-- the table of targets where these transfers are chosen
+abbrev pub targets_with : Cluster → List Transfer → Map by_number Target
+targets_with C chosen = target_table C (scheduled_to chosen)
+
+-- one transfer more from a storage can be counted, if it is there
+abbrev pub IsCountable : Senders → ℕ → Type 0
+IsCountable S s = IfSome (get S.nodes s) (λ n. count_at S.counts n < max_transfers)
+
+-- so many bytes more fit on a storage, if it is there
+abbrev pub HasRoomFor : Map by_number Target → ℕ → ℕ → Type 0
+HasRoomFor rows len s = IfSome (get rows s) (λ t. len + t.scheduled ≤ t.remaining)
+
+-- so many bytes more are sent to a storage
+abbrev pub with_sent : Map by_number Target → ℕ → ℕ → Map by_number Target
+with_sent rows s len = revise_at rows s (λ t. record t { scheduled = t.scheduled + len })

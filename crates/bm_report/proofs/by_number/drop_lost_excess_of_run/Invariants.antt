@@ -1,0 +1,16 @@
+use Rattle.std.proofs.Common.{◌≡◌, ◌+◌, ◌-◌}
+use Rattle.bm_base.specs.Entries.{told_by}
+use Rattle.bm_base.specs.Shards.{shard_of}
+use Rattle.bm_report.specs.Expanded.{of_part, told_from}
+use Rattle.bm_report.proofs.ByNumber.{HasExcessToDrop}
+use Rattle.bm_report.proofs.by_number.drop_lost_excess_of_run.Given as goal
+
+abbrev pub invariant-loop-next : goal.invariant-loop-next
+invariant-loop-next l =
+    record {
+      own : shard_of l.next l.part.shards ≡ l.part.index;
+      left : HasExcessToDrop l.storage (of_part l.part (told_by l.entry)) l.initial.arena (of_part l.part (told_from l.entry l.next)) l.arena;
+    }
+
+abbrev pub decreases-loop-next : goal.decreases-loop-next
+decreases-loop-next l = l.last + 1 - l.next

@@ -1,0 +1,20 @@
+use Rattle.std.proofs.Common.{◌≡◌, ℕ, true, false, ◌++◌, map, drop}
+use Rattle.bm_arena.specs.Contents.{slot_of}
+use Rattle.bm_base.specs.Events.{is_named}
+use Rattle.bm_report.specs.Midway.{AreHere, HaveRoom, told_of}
+use Rattle.bm_report.specs.Aborted.{NamesNew}
+use Rattle.bm_report.specs.Expanded.{IsPrepared, of_part, told_to}
+use Rattle.bm_base.specs.Entries.{expanded}
+use Rattle.bm_report.proofs.look_up.look_up_chunk.Given as goal
+
+abbrev pub invariant-loop-place : goal.invariant-loop-place
+invariant-loop-place l =
+    record {
+      fresh : NamesNew l.initial.arena l.arena l.initial.named.items l.named.items;
+      kept : IsPrepared l.initial.arena l.arena;
+      here : AreHere l.arena l.named.items;
+      room : HaveRoom l.arena l.storage l.named.items;
+      others : (b : ℕ) → is_named (told_to l.part l.chunk) b ≡ false → slot_of l.arena b ≡ slot_of l.initial.arena b;
+      rest : (b : ℕ) → is_named (of_part l.part (expanded (drop l.place l.chunk))) b ≡ true → is_named (told_to l.part l.chunk) b ≡ true;
+      named : map told_of l.named.items ++ of_part l.part (expanded (drop l.place l.chunk)) ≡ map told_of l.initial.named.items ++ told_to l.part l.chunk;
+    }

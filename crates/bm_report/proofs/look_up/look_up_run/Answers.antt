@@ -1,0 +1,55 @@
+use Rattle.std.proofs.Common.{◌≡◌, ◌+◌, ◌%◌, ◌≤◌, ◌++◌, ◌∷◌, [], true, map, sym, ap, ◌∙◌, arith}
+use Rattle.std.proofs.Math.Nat.{add-mod_right}
+use Rattle.bm_base.specs.declared.event.Entry.{Entry}
+use Rattle.bm_report.specs.Expanded.{of_part, told_from}
+use Rattle.bm_base.specs.Events.{is_named}
+use Rattle.bm_report.specs.Midway.{told_of}
+use Rattle.std.proofs.Common.{refl}
+use Rattle.bm_report.proofs.Aborts.{naming-none, naming-chain}
+use Rattle.bm_report.proofs.Prepared.{prepared-none, prepared-chain, seen-prepared}
+use Rattle.bm_report.proofs.Running.{told_first, run_step}
+use Rattle.bm_report.proofs.Naming.{named_apart, next_named, later_named}
+use Rattle.bm_report.proofs.look_up.look_up_run.Goals as goal
+
+pub loop-next-init : goal.loop-next-init
+loop-next-init c =
+    let from : c.entry.inside.0.0 ≡ c.args.entry.now.from = ap (λ (e : Entry). e.from) c.entry.view_is in
+    let first_is = told_first c.args.part c.args.entry.now c.first_of_part-next.result c.requires.index c.first_of_part-next.ensures.of_part (omega (arith, from, c.first_of_part-next.ensures.from)) (omega (arith, from, c.first_of_part-next.ensures.near)) in record {
+      fresh = naming-none c.args.arena.now c.args.arena.now c.args.named.now.items c.args.named.now.items (λ b. refl) refl;
+      kept = prepared-none c.args.arena.now;
+      here = c.requires.here;
+      room = c.requires.room;
+      known = c.requires.known;
+      others = λ b out. refl;
+      rest = λ b in_it. ap (λ l. is_named l b) first_is ∙ in_it;
+      own = c.first_of_part-next.ensures.of_part;
+      named = sym (ap (λ l. map told_of c.args.named.now.items ++ l) first_is);
+    }
+
+pub loop-next-preserved : goal.loop-next-preserved
+loop-next-preserved c =
+    let to : c.from-last.result ≡ c.args.entry.now.to = c.from-last.ensures ∙ ap (λ (e : Entry). e.to) c.entry.view_is in
+    let within : c.loop-next.next ≤ c.args.entry.now.to = omega (arith, c.loop-next-test.true, to) in record {
+      fresh = naming-chain c.args.arena.now c.loop-next.arena c.look_up_one.new.arena c.args.named.now.items c.loop-next.named.items c.look_up_one.new.named.items c.loop-next.invariant.fresh c.look_up_one.ensures.fresh;
+      kept = prepared-chain c.args.arena.now c.loop-next.arena c.look_up_one.new.arena c.loop-next.invariant.kept c.look_up_one.ensures.kept;
+      here = c.in_ok-look_up_one.ensures.here;
+      room = c.in_ok-look_up_one.ensures.room;
+      known = seen-prepared c.loop-next.arena c.look_up_one.new.arena c.args.known.now c.lawful.ensures c.look_up_one.ensures.kept c.loop-next.invariant.known;
+      others = λ b out. c.look_up_one.ensures.others b (λ same. named_apart _ b out (c.loop-next.invariant.rest b (next_named c.args.part c.args.entry.now c.loop-next.next b c.requires.index c.loop-next.invariant.own within same))) ∙ c.loop-next.invariant.others b out;
+      rest = λ b in_it.
+          let at : is_named (of_part c.args.part (told_from c.args.entry.now (c.loop-next.next + c.args.part.shards))) b ≡ true = ap (λ k. is_named (of_part c.args.part (told_from c.args.entry.now (c.loop-next.next + k))) b) (sym c.from-next.ensures) ∙ in_it in
+          c.loop-next.invariant.rest b (later_named c.args.part c.args.entry.now c.loop-next.next b c.requires.index c.loop-next.invariant.own within at);
+      own = ap (λ k. (c.loop-next.next + k) % c.args.part.shards) c.from-next.ensures ∙ add-mod_right c.loop-next.next c.args.part.shards ∙ c.loop-next.invariant.own;
+      named = ap (λ k. map told_of c.look_up_one.new.named.items ++ of_part c.args.part (told_from c.args.entry.now (c.loop-next.next + k))) c.from-next.ensures ∙ run_step c.args.part c.args.entry.now c.loop-next.next (map told_of c.loop-next.named.items) (map told_of c.look_up_one.new.named.items) _ c.requires.index c.loop-next.invariant.own within c.loop-next.invariant.named
+          (c.in_ok-look_up_one.ensures.named ∙ ap (λ (e : Entry). map told_of c.loop-next.named.items ++ record { id = c.loop-next.next; stamp = e.stamp } ∷ []) c.entry.view_is);
+    }
+
+pub returns-in_err-look_up_one-clause-kept : goal.returns-in_err-look_up_one-clause-kept
+returns-in_err-look_up_one-clause-kept c =
+    prepared-chain c.args.arena.now c.loop-next.arena c.look_up_one.new.arena c.loop-next.invariant.kept c.look_up_one.ensures.kept
+
+pub returns-in_err-look_up_one-clause-others : goal.returns-in_err-look_up_one-clause-others
+returns-in_err-look_up_one-clause-others c b out =
+    let to : c.from-last.result ≡ c.args.entry.now.to = c.from-last.ensures ∙ ap (λ (e : Entry). e.to) c.entry.view_is in
+    let within : c.loop-next.next ≤ c.args.entry.now.to = omega (arith, c.loop-next-test.true, to) in
+    c.look_up_one.ensures.others b (λ same. named_apart _ b out (c.loop-next.invariant.rest b (next_named c.args.part c.args.entry.now c.loop-next.next b c.requires.index c.loop-next.invariant.own within same))) ∙ c.loop-next.invariant.others b out

@@ -1,0 +1,26 @@
+use Rattle.std.proofs.Common.{◌≡◌, ◌+◌, ◌-◌, ◌++◌, ℕ, true, false, map}
+use Rattle.bm_base.specs.Events.{is_named}
+use Rattle.bm_arena.specs.Contents.{slot_of}
+use Rattle.bm_base.specs.Entries.{told_by}
+use Rattle.bm_base.specs.Shards.{shard_of}
+use Rattle.bm_report.specs.Midway.{AreHere, HaveRoom, told_of}
+use Rattle.bm_report.specs.Aborted.{NamesNew}
+use Rattle.bm_report.specs.Expanded.{IsPrepared, IsSeen, of_part, told_from}
+use Rattle.bm_report.proofs.look_up.look_up_run.Given as goal
+
+abbrev pub invariant-loop-next : goal.invariant-loop-next
+invariant-loop-next l =
+    record {
+      fresh : NamesNew l.initial.arena l.arena l.initial.named.items l.named.items;
+      kept : IsPrepared l.initial.arena l.arena;
+      here : AreHere l.arena l.named.items;
+      room : HaveRoom l.arena l.storage l.named.items;
+      known : IsSeen l.arena l.known;
+      others : (b : ℕ) → is_named (of_part l.part (told_by l.entry)) b ≡ false → slot_of l.arena b ≡ slot_of l.initial.arena b;
+      rest : (b : ℕ) → is_named (of_part l.part (told_from l.entry l.next)) b ≡ true → is_named (of_part l.part (told_by l.entry)) b ≡ true;
+      own : shard_of l.next l.part.shards ≡ l.part.index;
+      named : map told_of l.named.items ++ of_part l.part (told_from l.entry l.next) ≡ map told_of l.initial.named.items ++ of_part l.part (told_by l.entry);
+    }
+
+abbrev pub decreases-loop-next : goal.decreases-loop-next
+decreases-loop-next l = l.last + 1 - l.next

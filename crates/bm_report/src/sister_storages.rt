@@ -1,0 +1,55 @@
+// Storages of one node: a node keeps one replica of a block, so a new one takes the place of one on a sister storage.
+ghost use Rattle.std.specs.Prelude.{◌≡◌, ℕ, true, false, None, IsSome, IfSome, IfNone};
+ghost use Rattle.bm_base.specs.Replicas as replicas;
+ghost use Rattle.bm_arena.specs.Contents.{marks_at};
+
+use bm_arena::{Arena, Slot};
+use bm_base::{NodeId, StorageId};
+use bm_topo::Topology;
+
+#[tactic(auto, unfolding(bm_base::specs::Replicas::has_storage))]
+fn has_storage(topology: &Topology, node: NodeId, storage: StorageId) -> bool
+    ensures { result ≡ replicas.has_storage topology.now.cluster node storage }
+{
+    match topology.node_of(storage) {
+        Some(its_node) => its_node == node,
+        None => false,
+    }
+}
+
+/// Whether two storages are different ones of one node.
+#[tactic(auto, unfolding(bm_base::specs::Replicas::are_sisters))]
+pub(crate) fn are_sisters(topology: &Topology, a: StorageId, b: StorageId) -> bool
+    ensures { result ≡ replicas.are_sisters topology.now.cluster a b }
+{
+    if b == a {
+        return false;
+    }
+    match topology.node_of(a) {
+        Some(node) => has_storage(topology, node, b),
+        None => false,
+    }
+}
+
+/// Another storage of the node on which the block in `slot` has a replica.
+pub(crate) fn sister_of(
+    arena: &Arena,
+    topology: &Topology,
+    slot: Slot,
+    storage: StorageId,
+) -> Option<StorageId>
+    ensures found { IfSome result (λ t. IsSome (marks_at arena.now slot t)
+        × (replicas.are_sisters topology.now.cluster storage t ≡ true)) }
+    ensures none { IfNone result ((t : ℕ)
+        → replicas.are_sisters topology.now.cluster storage t ≡ true
+        → marks_at arena.now slot t ≡ None) }
+{
+    for place in 0..arena.triplet_count(slot) {
+        if let Some((other, _)) = arena.triplet_at(slot, place) {
+            if are_sisters(topology, storage, other) {
+                return Some(other);
+            }
+        }
+    }
+    None
+}

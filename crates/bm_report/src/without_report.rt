@@ -1,0 +1,103 @@
+// A full report without a `Report`: nothing is kept between the look-up of its numbers and its end.
+//
+// Only tests make these calls; they stay, and `by_number.rt` for them, as part of this crate's public surface.
+ghost use Rattle.std.specs.Prelude.{◌≡◌, ◌<◌, ◌≤◌, ◌+◌, ℕ, length, None, Some, OnOk, IfErr, IsTrue, false, ◌≢◌};
+ghost use Rattle.bm_base.specs.declared.refusal.Refusal.TheVariants.{Memory};
+ghost use Rattle.bm_base.specs.declared.limits.TheConstants.{MAX_NUMBERS};
+ghost use Rattle.bm_base.specs.Entries.{numbers_in};
+ghost use Rattle.bm_base.specs.Events as events;
+ghost use Rattle.bm_base.specs.Calls as calls;
+ghost use Rattle.bm_arena.specs.Contents.{block_at, slot_of, marks_at, KeepsEntries};
+ghost use Rattle.bm_arena.specs.Holding.{replicas_of, blocks_of, holdings_of};
+ghost use Rattle.bm_report.specs.Midway.{IsOncePerNode, count_ups};
+ghost use Rattle.bm_report.specs.Expanded.{IsPrepared, told_to};
+ghost use Rattle.bm_report.specs.Ready.{HasPlaces, HasGoodExcess};
+
+use crate::by_number::{drop_lost_excess_by_number, enter_entries, sweep_behind};
+use crate::look_up::look_up;
+use crate::tally::Tally;
+use crate::types::{Applied, Named};
+use bm_arena::Arena;
+use bm_base::{Entry, Part, Refusal, StorageId};
+use bm_topo::Topology;
+
+/// Gives an entry to each number of the part that the entries name and that has none, and makes all room that `apply_full`, or
+/// `apply_received` of one of the numbers, needs. Nothing that is held changes. `Memory`: then `abort` drops the entries that are
+/// new.
+pub fn ready(
+    arena: &mut Arena,
+    storage: StorageId,
+    entries: &[Entry],
+    part: Part,
+) -> Result<(), Refusal>
+    requires part { part.index < part.shards }
+    ensures ready { OnOk result (HasPlaces arena.new storage (told_to part entries.now)) }
+    ensures kept { IsPrepared arena.old arena.new }
+    ensures others { (b : ℕ) → events.is_named (told_to part entries.now) b ≡ false
+        → slot_of arena.new b ≡ slot_of arena.old b }
+    ensures refused { IfErr result (λ e. e ≡ Memory) }
+{
+    let mut named: Vec<Named> = Vec::new(arena.allocator());
+    look_up(arena, storage, entries, part, &mut named)?;
+    Ok(())
+}
+
+/// Makes the replicas on a storage those of a full report, for which its numbers of the part were made ready. Each number is looked
+/// up anew, one after another, and no slots are listed: a shard takes `Report`, which is faster. Takes no memory.
+///
+/// The list steps: one for each number of the part that is named, one for each replica that leaves, and two for the delimiter.
+pub fn apply_full(
+    arena: &mut Arena,
+    topology: &Topology,
+    storage: StorageId,
+    entries: &[Entry],
+    part: Part,
+) -> Applied
+    requires part { part.index < part.shards }
+    requires few { numbers_in entries.now ≤ MAX_NUMBERS }
+    requires ready { HasPlaces arena.old storage (told_to part entries.now) }
+    requires once { IsOncePerNode topology.now.cluster (replicas_of arena.old) }
+    requires good { HasGoodExcess (replicas_of arena.old) }
+    requires free { marks_at arena.old arena.old.delimiter storage ≡ None }
+    ensures replicas { replicas_of arena.new
+        ≡ (events.report topology.now.cluster (holdings_of arena.old) storage
+        (told_to part entries.now)).replicas }
+    ensures blocks { blocks_of arena.new ≡ blocks_of arena.old }
+    ensures entries { KeepsEntries arena.old arena.new }
+    ensures once { IsOncePerNode topology.now.cluster (replicas_of arena.new) }
+    ensures good { HasGoodExcess (replicas_of arena.new) }
+    ensures others { (slot : ℕ) → slot ≢ arena.old.delimiter
+        → marks_at arena.old slot storage ≡ None →
+        ((b : ℕ) → IsTrue (events.is_named (told_to part entries.now) b)
+        → slot_of arena.old b ≢ Some slot) → block_at arena.new slot ≡ block_at arena.old slot }
+    ensures free { (t : ℕ)
+        → marks_at arena.new arena.new.delimiter t ≡ marks_at arena.old arena.old.delimiter t }
+    ensures added { result.added
+        ≡ calls.new_replicas (replicas_of arena.old) (replicas_of arena.new) }
+    ensures removed { result.removed
+        ≡ calls.new_replicas (replicas_of arena.new) (replicas_of arena.old) }
+    ensures steps { result.steps ≡ length (told_to part entries.now) + result.removed + 2 }
+    ensures counted { arena.new.steps ≡ count_ups result.steps arena.old.steps }
+{
+    let mut tally = Tally {
+        added: 0,
+        removed: 0,
+        steps: 1,
+        has_lost_excess: false,
+    };
+    arena.lawful();
+    // No list is longer, so the counts have room.
+    let _bound = arena.slot_bound();
+    arena.put_delimiter(storage);
+    enter_entries(arena, topology, storage, entries, part, &mut tally);
+    arena.lawful();
+    sweep_behind(arena, storage, &mut tally);
+    arena.lawful();
+    arena.take_delimiter(storage);
+    drop_lost_excess_by_number(arena, storage, entries, part, tally.has_lost_excess);
+    Applied {
+        added: tally.added,
+        removed: tally.removed,
+        steps: tally.steps + 1,
+    }
+}

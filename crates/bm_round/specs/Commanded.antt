@@ -1,0 +1,37 @@
+-- What a round chooses and commands.
+use Rattle.std.specs.Prelude.{◌≡◌, ◌≤◌, ℕ, true, List, map, filter, length, replicate}
+use Rattle.std.specs.List.{All}
+use Rattle.bm_base.specs.declared.commands.Transfer.{Transfer}
+use Rattle.bm_base.specs.declared.commands.Delete.{Delete}
+use Rattle.bm_base.specs.declared.commands.NodeCommands.{NodeCommands}
+use Rattle.bm_base.specs.declared.round.RoundPart.{RoundPart}
+use Rattle.bm_base.specs.declared.round.Wish.{Wish}
+use Rattle.bm_base.specs.Map.{keys}
+use Rattle.bm_base.specs.State.{Cluster, RoundLimits}
+use Rattle.bm_base.specs.Replicas.{has_storage}
+use Rattle.bm_base.specs.Rounds.{node_commands}
+use Rattle.bm_base.specs.Choices.{chosen_transfers, transfers_over}
+
+-- these are the transfers that are chosen of these parts
+abbrev pub IsChosenOf : RoundLimits → Cluster → List RoundPart → List Transfer → Type 0
+IsChosenOf limits C parts ts = ts ≡ chosen_transfers limits C parts
+
+-- the transfers with those for all copies of a wish
+abbrev pub with_copies : RoundLimits → Cluster → List Transfer → Wish → List Transfer
+with_copies limits C chosen w = transfers_over limits C chosen (replicate w.count w)
+
+-- on the storages of each node there are no more deletes than so many
+abbrev pub HasFewDeletes : Cluster → ℕ → List Delete → Type 0
+HasFewDeletes C most ds = (n : ℕ) → length (filter (λ d. has_storage C n d.storage) ds) ≤ most
+
+-- what each alive node is commanded, where it is anything or not
+abbrev pub commands_by_node : Cluster → List Transfer → List Delete → List NodeCommands
+commands_by_node C ts ds = map (node_commands C ts ds) (keys C.nodes)
+
+-- each transfer has its source on the node that is told of it
+abbrev pub SendsItsOwn : Cluster → NodeCommands → Type 0
+SendsItsOwn C k = All (λ t. has_storage C k.node t.source ≡ true) k.transfers
+
+-- each delete is on a storage of the node that is told of it
+abbrev pub DeletesItsOwn : Cluster → NodeCommands → Type 0
+DeletesItsOwn C k = All (λ d. has_storage C k.node d.storage ≡ true) k.deletes

@@ -1,0 +1,111 @@
+// What is chosen so far in a round, with the tables by which the next transfer is chosen.
+ghost use Rattle.std.specs.Prelude.{◌≡◌, ◌*◌, ◌++◌, ◌∷◌, [], nat_le, length, IfOk, IfErr, OnOk};
+ghost use Rattle.bm_base.specs.declared.refusal.Refusal.TheVariants.{Memory};
+ghost use Rattle.bm_base.specs.Map as map;
+ghost use Rattle.bm_base.specs.State.{Cluster};
+ghost use Rattle.bm_base.specs.Choices as choices;
+ghost use Rattle.bm_place.specs.Found.{IsCountable, HasRoomFor};
+ghost use Rattle.bm_round.specs.Counted.{IsCounted};
+
+use bm_base::{Config, Refusal, StorageId, Transfer, Wish};
+use bm_place::{Scheduled, Streams};
+use bm_topo::Topology;
+use std::alloc::Global;
+
+/// The transfers chosen so far, with what they count to.
+#[derive(Drop)]
+pub(crate) struct ChosenSoFar {
+    pub transfers: Vec<Transfer>,
+    pub streams: Streams,
+    pub scheduled: Scheduled,
+    /// Of the present wish: the storages from which a copy may be made; those that hold a live replica of the block or will; and those on whose
+    /// nodes no copy of it may be put. All three are emptied and filled anew for each wish, so that they take memory only where
+    /// one is longer than all before.
+    pub sources: Vec<StorageId>,
+    pub held: Vec<StorageId>,
+    pub barred: Vec<StorageId>,
+}
+
+impl ChosenSoFar {
+    /// Nothing is chosen yet.
+    pub fn new(alloc: Global, topology: &Topology) -> Result<ChosenSoFar, Refusal>
+        ensures nothing { IfOk result (λ c. c.transfers.items ≡ []) }
+        ensures counted { IfOk result (IsCounted topology.now.cluster) }
+        ensures refused { IfErr result (λ e. e ≡ Memory) }
+    {
+        let streams = Streams::new(alloc, topology)?;
+        let scheduled = Scheduled::new(alloc, topology)?;
+        Ok(ChosenSoFar {
+            transfers: Vec::new(alloc),
+            streams,
+            scheduled,
+            sources: Vec::new(alloc),
+            held: Vec::new(alloc),
+            barred: Vec::new(alloc),
+        })
+    }
+
+    /// Whether the round has as many transfers as it may.
+    pub fn is_full(&self, config: &Config, topology: &Topology) -> bool
+        ensures { result ≡ nat_le (config.now.work * map.len topology.now.cluster.nodes)
+            (length self.now.transfers.items) }
+    {
+        is_full_count(self.transfers.len(), config, topology)
+    }
+
+    /// Turns to a wish, for whose block nothing was chosen yet.
+    pub fn turn_to(&mut self, wish: &Wish) -> Result<(), Refusal>
+        ensures sources { OnOk result (self.new.sources.items ≡ choices.sources_by wish.now) }
+        ensures held { OnOk result (self.new.held.items ≡ wish.now.live ++ wish.now.pending) }
+        ensures barred { OnOk result (self.new.barred.items ≡ wish.now.pairs ++ wish.now.pending) }
+        ensures transfers { self.new.transfers ≡ self.old.transfers }
+        ensures streams { self.new.streams ≡ self.old.streams }
+        ensures scheduled { self.new.scheduled ≡ self.old.scheduled }
+        ensures refused { IfErr result (λ e. e ≡ Memory) }
+    {
+        self.sources.clear();
+        self.sources.extend_from_slice(wish.live.as_slice())?;
+        self.sources.extend_from_slice(wish.drained.as_slice())?;
+        self.held.clear();
+        self.held.extend_from_slice(wish.live.as_slice())?;
+        self.held.extend_from_slice(wish.pending.as_slice())?;
+        self.barred.clear();
+        self.barred.extend_from_slice(wish.pairs.as_slice())?;
+        self.barred.extend_from_slice(wish.pending.as_slice())?;
+        Ok(())
+    }
+
+    /// Adds a transfer for the present wish. Its node may send one more, and its length fits.
+    pub fn add(&mut self, transfer: Transfer) -> Result<(), Refusal>
+        requires countable { IsCountable self.old.streams transfer.source }
+        requires fits { HasRoomFor self.old.scheduled transfer.stamp.len transfer.target }
+        ensures transfers { OnOk result (self.new.transfers.items ≡ self.old.transfers.items
+            ++ transfer ∷ []) }
+        ensures sources { self.new.sources ≡ self.old.sources }
+        ensures held { OnOk result (self.new.held.items ≡ self.old.held.items
+            ++ transfer.target ∷ []) }
+        ensures barred { OnOk result (self.new.barred.items ≡ self.old.barred.items
+            ++ transfer.target ∷ []) }
+        ensures counted { (C : Cluster) → IsCounted C self.old
+            → OnOk result (IsCounted C self.new) }
+        ensures refused { IfErr result (λ e. e ≡ Memory) }
+    {
+        let target = transfer.target;
+        let source = transfer.source;
+        let len = transfer.stamp.len;
+        self.transfers.push(transfer)?;
+        self.held.push(target)?;
+        self.barred.push(target)?;
+        self.streams.add(source);
+        self.scheduled.add(target, len);
+        Ok(())
+    }
+}
+
+/// Whether so many transfers are as many as a round may have.
+pub(crate) fn is_full_count(count: usize, config: &Config, topology: &Topology) -> bool
+    ensures { result ≡ nat_le (config.now.work * map.len topology.now.cluster.nodes) count }
+{
+    let most = u64::from(config.work) * u64::from(topology.alive_nodes());
+    most <= count as u64
+}

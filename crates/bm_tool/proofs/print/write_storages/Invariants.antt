@@ -1,7 +1,0 @@
-use Rattle.std.proofs.Common.{◌≡◌, ◌++◌, string_bytes, take}
-use Rattle.std.specs.List.{flat_map}
-use Rattle.bm_tool.specs.Print.{number_item}
-use Rattle.bm_tool.proofs.print.write_storages.Given as goal
-
-abbrev pub invariant-loop-storage : goal.invariant-loop-storage
-invariant-loop-storage l = string_bytes l.line ≡ string_bytes l.fn.line ++ flat_map number_item (take l.storage-index l.storages)

@@ -1,0 +1,86 @@
+// What DataNodes tell the manager: themselves, what is free on their disks, and what they have done. The dead tell nothing.
+ghost use Rattle.std.specs.Prelude.{◌<◌};
+
+use crate::disks::{Disks, STAMP};
+use crate::orders::Order;
+use crate::shape::Shape;
+use bm_base::{Delete, Event, Items, NodeId, Rack, Remaining, StorageId, Transfer};
+use std::alloc::{AllocError, Global};
+
+/// A node comes with its storages.
+pub fn registration(alloc: Global, shape: Shape, node: u32) -> Result<Event, AllocError>
+    requires { node < shape.nodes }
+{
+    let mut storages = Vec::new(alloc);
+    for place in 0..shape.storages {
+        storages.push(StorageId(shape.storage_at(node, place)))?;
+    }
+    Ok(Event::Register {
+        node: NodeId(node),
+        rack: Rack(shape.rack_of(node)),
+        storages: Items::from_vec(storages),
+    })
+}
+
+/// What a node tells to be free on its disks that are alive. `None` where it has no such disk.
+pub fn heartbeat(
+    alloc: Global,
+    shape: Shape,
+    disks: &Disks,
+    node: u32,
+) -> Result<Option<Event>, AllocError>
+    requires { node < shape.nodes }
+{
+    let mut told = Vec::new(alloc);
+    for place in 0..shape.storages {
+        let storage = StorageId(shape.storage_at(node, place));
+        if disks.is_alive(storage) {
+            let remaining = disks.free_bytes(storage);
+            told.push(Remaining { storage, remaining })?;
+        }
+    }
+    if told.is_empty() {
+        return Ok(None);
+    }
+    Ok(Some(Event::Heartbeat {
+        node: NodeId(node),
+        remaining: Items::from_vec(told),
+    }))
+}
+
+/// Does what was ordered, if that can be done still. The notice of it.
+pub fn carry_out(disks: &mut Disks, order: Order) -> Result<Option<Event>, AllocError> {
+    match order {
+        Order::Copy(transfer) => copy(disks, transfer),
+        Order::Delete(delete) => Ok(remove(disks, delete)),
+    }
+}
+
+/// Both disks have to be alive, and the source has to hold the replica still.
+fn copy(disks: &mut Disks, transfer: Transfer) -> Result<Option<Event>, AllocError> {
+    let Transfer {
+        block,
+        source,
+        target,
+        ..
+    } = transfer;
+    let can_read = disks.is_alive(source) && disks.holds(source, block);
+    if !can_read || !disks.is_alive(target) {
+        return Ok(None);
+    }
+    disks.put(target, block)?;
+    Ok(Some(Event::Received {
+        storage: target,
+        id: block,
+        stamp: STAMP,
+    }))
+}
+
+fn remove(disks: &mut Disks, delete: Delete) -> Option<Event> {
+    let Delete { storage, block } = delete;
+    if !disks.is_alive(storage) {
+        return None;
+    }
+    disks.take(storage, block);
+    Some(Event::Deleted { storage, id: block })
+}

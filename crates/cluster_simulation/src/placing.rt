@@ -1,0 +1,78 @@
+// Where the replicas of a new block stand: each on a node of its own, and on two racks where there are two.
+ghost use Rattle.std.specs.Prelude.{◌<◌, IfSome};
+
+use crate::dice::Dice;
+use crate::shape::Shape;
+use bm_base::StorageId;
+use std::alloc::{AllocError, Global};
+
+/// On which rack the next replica is to stand.
+#[derive(Clone, Copy)]
+enum Wish {
+    AnyRack,
+    OtherThan(u32),
+    SameAs(u32),
+}
+
+impl Wish {
+    /// The first replica stands anywhere, the second on another rack, the third on the rack of the second, and each further one
+    /// anywhere.
+    fn after(shape: Shape, nodes: &[u32]) -> Wish {
+        match nodes {
+            [first] => Wish::OtherThan(shape.rack_of(*first)),
+            [_, second] => Wish::SameAs(shape.rack_of(*second)),
+            _ => Wish::AnyRack,
+        }
+    }
+
+    fn suits(&self, rack: u32) -> bool {
+        match self {
+            Wish::AnyRack => true,
+            Wish::OtherThan(other) => rack != *other,
+            Wish::SameAs(same) => rack == *same,
+        }
+    }
+}
+
+/// The storages of a new block's replicas: as many as are wanted, or one on each node where there are fewer nodes. They are drawn.
+pub fn place(
+    alloc: Global,
+    dice: &mut Dice,
+    shape: Shape,
+    replication: u32,
+) -> Result<Vec<StorageId>, AllocError> {
+    let mut nodes = Vec::new(alloc);
+    let mut storages = Vec::new(alloc);
+    for _ in 0..replication.min(shape.nodes) {
+        let start = dice.below(shape.nodes);
+        if let Some(node) = next_node(shape, start, nodes.as_slice()) {
+            let place = dice.below(shape.storages);
+            nodes.push(node)?;
+            storages.push(StorageId(shape.storage_at(node, place)))?;
+        }
+    }
+    Ok(storages)
+}
+
+/// The node of the next replica: from `start` on the first that suits, or else the first that has no replica yet.
+fn next_node(shape: Shape, start: u32, nodes: &[u32]) -> Option<u32>
+    ensures { IfSome result (λ node. node < shape.nodes) }
+{
+    match free_node(shape, start, nodes, Wish::after(shape, nodes)) {
+        Some(node) => Some(node),
+        None => free_node(shape, start, nodes, Wish::AnyRack),
+    }
+}
+
+/// From `start` on, round the cluster, the first node that has no replica yet and suits.
+fn free_node(shape: Shape, start: u32, nodes: &[u32], wish: Wish) -> Option<u32>
+    ensures { IfSome result (λ node. node < shape.nodes) }
+{
+    for step in 0..shape.nodes {
+        let node = start.wrapping_add(step) % shape.nodes;
+        if !nodes.contains(&node) && wish.suits(shape.rack_of(node)) {
+            return Some(node);
+        }
+    }
+    None
+}

@@ -1,0 +1,96 @@
+// How rounds and counts become points of the picture, in whole numbers.
+ghost use Rattle.std.specs.Prelude.{◌<◌, ◌≤◌};
+
+use crate::counts::{ALL_SERIES, Counts};
+
+/// The field of the lines, in points of the picture.
+pub const LEFT: u64 = 76;
+
+pub const TOP: u64 = 88;
+
+pub const WIDTH: u64 = 550;
+
+pub const HEIGHT: u64 = 270;
+
+pub const RIGHT: u64 = LEFT + WIDTH;
+
+pub const BOTTOM: u64 = TOP + HEIGHT;
+
+/// At most so many steps have marks at each side.
+const STEPS_UP: u64 = 6;
+
+const STEPS_ASIDE: u64 = 10;
+
+/// From one mark to the next.
+const STEPS: [u64; 22] = [
+    1, 2, 5, 10, 20, 50, 100, 200, 500, 1_000, 2_000, 5_000, 10_000, 20_000, 50_000, 100_000,
+    200_000, 500_000, 1_000_000, 2_000_000, 5_000_000, 10_000_000,
+];
+
+/// Each round is as wide as any other, the first at the left and the last at the right; 0 is at the bottom and `most` at the top.
+#[derive(Clone, Copy, Debug, PartialEq, Eq)]
+pub struct Scale {
+    rounds: u64,
+    /// The rounds between two marks.
+    pub round_step: u64,
+    /// The counts between two marks, and how many such steps there are.
+    pub count_step: u64,
+    pub count_steps: u64,
+    most: u64,
+    ghost some_rounds: { 0 < rounds },
+    ghost some_most: { 0 < most },
+}
+
+impl Scale {
+    /// The scale on which all counts of these rounds have room.
+    pub fn new(rows: &[Counts]) -> Scale {
+        let mut greatest = 1u64;
+        for series in ALL_SERIES {
+            greatest = greatest.max(series.greatest(rows));
+        }
+        let rounds = (rows.len() as u64).max(1);
+        let count_step = step_for(greatest, STEPS_UP);
+        let count_steps = greatest.div_ceil(count_step);
+        Scale {
+            rounds,
+            round_step: step_for(rounds, STEPS_ASIDE),
+            count_step,
+            count_steps,
+            most: count_step.saturating_mul(count_steps).max(1),
+        }
+    }
+
+    /// How many rounds there are.
+    pub fn rounds(&self) -> u64 {
+        self.rounds
+    }
+
+    /// Where a round begins, from the left.
+    pub fn x_of(&self, round: u64) -> u64
+        ensures left { LEFT ≤ result }
+        ensures right { result ≤ RIGHT }
+    {
+        let past = round.saturating_sub(1);
+        LEFT + (past.saturating_mul(WIDTH) / self.rounds).min(WIDTH)
+    }
+
+    /// Where a count stands, from the top.
+    pub fn y_of(&self, count: u64) -> u64
+        ensures top { TOP ≤ result }
+        ensures bottom { result ≤ BOTTOM }
+    {
+        BOTTOM - (count.saturating_mul(HEIGHT) / self.most).min(HEIGHT)
+    }
+}
+
+/// The least step by which so many steps reach the greatest number.
+fn step_for(greatest: u64, steps: u64) -> u64
+    ensures { 0 < result }
+{
+    for step in STEPS {
+        if step.saturating_mul(steps) >= greatest {
+            return step.max(1);
+        }
+    }
+    greatest.max(1)
+}

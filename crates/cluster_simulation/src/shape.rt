@@ -1,0 +1,65 @@
+// How large the cluster is, and which storage stands on which node and rack.
+ghost use Rattle.std.specs.Prelude.{◌≡◌, ◌*◌, ◌<◌, ◌≤◌};
+
+/// Nodes, racks, storages and blocks are numbered from 0. Node `n` stands on rack `n % racks`, and its storages are those from
+/// `n * storages` on.
+#[derive(Clone, Copy, Debug, PartialEq, Eq)]
+pub struct Shape {
+    pub nodes: u32,
+    pub racks: u32,
+    /// How many storages each node has.
+    pub storages: u32,
+    ghost nodes_fit: { (1 ≤ nodes) × (nodes ≤ 256) },
+    ghost racks_fit: { (1 ≤ racks) × (racks ≤ 256) },
+    ghost storages_fit: { (1 ≤ storages) × (storages ≤ 16) },
+}
+
+pub const MOST_NODES: u32 = 256;
+
+pub const MOST_RACKS: u32 = 256;
+
+pub const MOST_STORAGES: u32 = 16;
+
+impl Shape {
+    /// Numbers outside their ranges, which the options let through none of, are taken as the nearest within.
+    pub fn new(nodes: u32, racks: u32, storages: u32) -> Shape {
+        Shape {
+            nodes: nodes.clamp(1, MOST_NODES),
+            racks: racks.clamp(1, MOST_RACKS),
+            storages: storages.clamp(1, MOST_STORAGES),
+        }
+    }
+
+    pub fn rack_of(&self, node: u32) -> u32
+        ensures { result < self.now.racks }
+    {
+        node % self.racks
+    }
+
+    pub fn node_of(&self, storage: u32) -> u32 {
+        storage / self.storages
+    }
+
+    /// The storage of a node with this place, which counts from 0.
+    pub fn storage_at(&self, node: u32, place: u32) -> u32
+        requires node { node < self.now.nodes }
+        requires place { place < self.now.storages }
+        ensures { result < self.now.nodes * self.now.storages }
+    {
+        node * self.storages + place
+    }
+
+    /// How many storages the whole cluster has.
+    pub fn all_storages(&self) -> u32
+        ensures { result ≡ self.now.nodes * self.now.storages }
+    {
+        self.nodes * self.storages
+    }
+
+    /// How many racks have a node.
+    pub fn used_racks(&self) -> u32
+        ensures { 0 < result }
+    {
+        self.racks.min(self.nodes)
+    }
+}

@@ -1,0 +1,236 @@
+// The manager and its DataNodes, round by round.
+ghost use Rattle.std.specs.Prelude.{◌≤◌};
+
+use crate::awaited::AwaitedCopies;
+use crate::counting::count_blocks;
+use crate::counts::Counts;
+use crate::datanodes::{carry_out, heartbeat, registration};
+use crate::dice::Dice;
+use crate::disks::{Disks, STAMP};
+use crate::options::Options;
+use crate::orders::Orders;
+use crate::placing::place;
+use crate::story::{Incident, STORY_ROUND};
+use bm_base::{BlockId, Commands, Config, Event, Refusal, StorageId};
+use bm_crew::NoGate;
+use bm_manager::Manager;
+use std::alloc::{AllocError, Global};
+use std::sync::Wait;
+use std::thread::Threads;
+
+/// The whole cluster.
+#[derive(Drop)]
+pub struct Simulation {
+    alloc: Global,
+    options: Options,
+    dice: Dice,
+    incident: Incident,
+    manager: Manager,
+    disks: Disks,
+    orders: Orders,
+    awaited: AwaitedCopies,
+    /// How many calls the manager refused since they were counted last.
+    refused: u64,
+}
+
+impl Simulation {
+    /// All nodes are registered, and all blocks are placed.
+    pub fn new<R: Threads + Wait + Sync>(
+        rt: &R,
+        alloc: Global,
+        options: Options,
+    ) -> Result<Simulation, AllocError> {
+        let mut dice = Dice::new(options.seed);
+        let Ok(manager) = Manager::new(alloc, Config::standard()) else {
+            return Err(AllocError);
+        };
+        let incident = Incident::draw(&mut dice, options.story, options.shape, options.blocks);
+        let replicas = u64::from(options.blocks) * u64::from(options.replication);
+        let mut simulation = Simulation {
+            alloc,
+            options,
+            dice,
+            incident,
+            manager,
+            disks: Disks::new(alloc, options.shape, replicas)?,
+            orders: Orders::new(alloc, options.delay),
+            awaited: AwaitedCopies::new(alloc),
+            refused: 0,
+        };
+        simulation.register_nodes(rt)?;
+        simulation.place_blocks(rt)?;
+        Ok(simulation)
+    }
+
+    pub fn incident(&self) -> Incident {
+        self.incident
+    }
+
+    /// The next round: first DataNodes tell what they have done, then the story may happen, then DataNodes tell what is free, and
+    /// then the manager commands. The counts after it.
+    pub fn next_round<R: Threads + Wait + Sync>(
+        &mut self,
+        rt: &R,
+        round: u32,
+    ) -> Result<Counts, AllocError> {
+        self.carry_out_due(rt, round)?;
+        if round == STORY_ROUND {
+            self.let_happen(rt)?;
+        }
+        self.send_heartbeats(rt)?;
+        let mut counts = Counts::new(round);
+        self.command(rt, &mut counts)?;
+        self.count(&mut counts)?;
+        Ok(counts)
+    }
+
+    /// Tells the manager of an event. A refusal is counted.
+    fn tell<R: Threads + Wait + Sync>(&mut self, rt: &R, event: &Event) -> Result<(), AllocError> {
+        match self.manager.apply(rt, &NoGate, event) {
+            Ok(_) => Ok(()),
+            Err(Refusal::Memory) => Err(AllocError),
+            Err(_) => {
+                self.refused = self.refused.saturating_add(1);
+                Ok(())
+            }
+        }
+    }
+
+    fn register_nodes<R: Threads + Wait + Sync>(&mut self, rt: &R) -> Result<(), AllocError> {
+        let shape = self.options.shape;
+        for node in 0..shape.nodes {
+            self.tell(rt, &registration(self.alloc, shape, node)?)?;
+        }
+        Ok(())
+    }
+
+    fn place_blocks<R: Threads + Wait + Sync>(&mut self, rt: &R) -> Result<(), AllocError> {
+        for number in 0..self.options.blocks {
+            self.place_block(rt, BlockId(u64::from(number)))?;
+        }
+        Ok(())
+    }
+
+    /// A file has a new block, and DataNodes received its replicas.
+    fn place_block<R: Threads + Wait + Sync>(
+        &mut self,
+        rt: &R,
+        id: BlockId,
+    ) -> Result<(), AllocError> {
+        let Options {
+            shape,
+            replication,
+            ..
+        } = self.options;
+        let added = Event::AddBlock {
+            id,
+            stamp: STAMP,
+            repl: replication,
+        };
+        self.tell(rt, &added)?;
+        let storages = place(self.alloc, &mut self.dice, shape, replication)?;
+        self.receive(rt, id, storages.as_slice())?;
+        self.disks.add_block(storages)
+    }
+
+    fn receive<R: Threads + Wait + Sync>(
+        &mut self,
+        rt: &R,
+        id: BlockId,
+        storages: &[StorageId],
+    ) -> Result<(), AllocError> {
+        for storage in storages {
+            let received = Event::Received {
+                storage: *storage,
+                id,
+                stamp: STAMP,
+            };
+            self.tell(rt, &received)?;
+        }
+        Ok(())
+    }
+
+    /// DataNodes do what is due, and tell of it.
+    fn carry_out_due<R: Threads + Wait + Sync>(
+        &mut self,
+        rt: &R,
+        round: u32,
+    ) -> Result<(), AllocError> {
+        for _ in 0..self.orders.len() {
+            let Some(order) = self.orders.next_due(round) else {
+                break;
+            };
+            if let Some(notice) = carry_out(&mut self.disks, order)? {
+                self.tell(rt, &notice)?;
+                self.awaited.take_note(&notice);
+            }
+        }
+        Ok(())
+    }
+
+    /// The story happens, and the manager is told of it.
+    fn let_happen<R: Threads + Wait + Sync>(&mut self, rt: &R) -> Result<(), AllocError> {
+        let shape = self.options.shape;
+        let events = self
+            .incident
+            .events(self.alloc, &mut self.dice, shape, &self.disks)?;
+        for storage in 0..shape.all_storages() {
+            if self.incident.kills(shape, storage) {
+                self.disks.fail(storage);
+            }
+        }
+        for event in &events {
+            self.tell(rt, event)?;
+        }
+        self.awaited.forget_lost(&self.incident, shape);
+        Ok(())
+    }
+
+    fn send_heartbeats<R: Threads + Wait + Sync>(&mut self, rt: &R) -> Result<(), AllocError> {
+        let shape = self.options.shape;
+        for node in 0..shape.nodes {
+            if let Some(event) = heartbeat(self.alloc, shape, &self.disks, node)? {
+                self.tell(rt, &event)?;
+            }
+        }
+        Ok(())
+    }
+
+    /// The manager's round. What it commands is on its way from now on.
+    fn command<R: Threads + Wait + Sync>(
+        &mut self,
+        rt: &R,
+        counts: &mut Counts,
+    ) -> Result<(), AllocError> {
+        let commands = match self.manager.round(rt, &NoGate) {
+            Ok(commands) => commands,
+            Err(Refusal::Memory) => return Err(AllocError),
+            Err(_) => {
+                self.refused = self.refused.saturating_add(1);
+                return Ok(());
+            }
+        };
+        self.hand_out(&commands, counts)
+    }
+
+    fn hand_out(&mut self, commands: &Commands, counts: &mut Counts) -> Result<(), AllocError> {
+        self.awaited
+            .give_up_old(counts.round, Config::standard().pend);
+        self.awaited.add_all(counts.round, commands)?;
+        self.orders.give_all(counts.round, commands)?;
+        counts.add_commands(commands);
+        Ok(())
+    }
+
+    /// What stands now. The refusals are counted anew from here on.
+    fn count(&mut self, counts: &mut Counts) -> Result<(), AllocError> {
+        count_blocks(&self.manager, self.options.blocks, counts)?;
+        counts.pending = self.awaited.count() as u64;
+        counts.refused = self.refused;
+        self.refused = 0;
+        Ok(())
+    }
+}
+
+#[cfg(test)]
+mod tests;

@@ -1,0 +1,10 @@
+-- Lemmas.
+pub mod CutLemmas
+pub mod NameLemmas
+pub mod BlockLemmas
+pub mod RunLemmas
+pub mod TextLemmas
+pub mod ReadLemmas
+pub mod WriteLemmas
+pub mod CallLemmas
+pub mod NamedLemmas

@@ -1,0 +1,50 @@
+-- Names in a set of texts.
+use Rattle.std.proofs.Common.{◌≡◌, ℕ, ◌+◌, Bool, true, false, not, cond, List, [], ◌∷◌, ◌++◌, ◌||◌, map, Some, None, position, String, string_bytes, refl, sym, ap, ◌∙◌}
+use Rattle.std.specs.List.{list_any, position_or_len}
+use Rattle.std.specs.Str.{bytes_eq}
+use Rattle.std.specs.String.{string_eq}
+use Rattle.indexmap.specs.IndexSet.{insert_key}
+use Rattle.fsck_import.specs.Cuts.{Text}
+use Rattle.fsck_import.specs.Names.{is_new, name_number, with_name}
+
+module _ {A B : Type 0} (p : B → Bool) (f : A → B) where
+  pub list_any-map : (xs : List A) → list_any p (map f xs) ≡ list_any (λ x. p (f x)) xs
+  list_any-map [] = refl
+  list_any-map (x ∷ xs) = ap (λ b. p (f x) || b) (list_any-map xs)
+
+  pub position_or_len-map : (xs : List A) → position_or_len p (map f xs) ≡ position_or_len (λ x. p (f x)) xs
+  position_or_len-map [] = refl
+  position_or_len-map (x ∷ xs) = ap (λ n. cond (not (p (f x))) (1 + n) 0) (position_or_len-map xs)
+
+map-push : {A B : Type 0} (f : A → B) (xs : List A) (x : A) → map f (xs ++ x ∷ []) ≡ map f xs ++ f x ∷ []
+map-push f [] x = refl
+map-push f (y ∷ xs) x = ap (λ ys. f y ∷ ys) (map-push f xs x)
+
+some_of_cond : (b : Bool) (n i : ℕ) → cond b (Some n) None ≡ Some i → n ≡ i
+some_of_cond true n i e = cc
+some_of_cond false n i e = cc
+
+-- the place that a look-up found
+pub place-found : {A : Type 0} (p : A → Bool) (xs : List A) (i : ℕ) → Some i ≡ position p xs → i ≡ position_or_len p xs
+place-found p xs i e = sym (some_of_cond _ _ i (sym e))
+
+module _ {Y : Type 0} (keys : List (String Y)) where
+  -- a name that was found
+  pub number-found : (name : Text) (i : ℕ) → Some i ≡ position (λ k. bytes_eq name (string_bytes k)) keys → i + 1 ≡ name_number (map string_bytes keys) name
+  number-found name i e = ap (λ n. n + 1) (place-found _ keys i e ∙ sym (position_or_len-map (bytes_eq name) string_bytes keys))
+
+  pub new-known : (name : Text) (b : Bool) → b ≡ list_any (λ k. bytes_eq name (string_bytes k)) keys → not b ≡ is_new (map string_bytes keys) name
+  new-known name b e = ap not (e ∙ sym (list_any-map (bytes_eq name) string_bytes keys))
+
+  pub names-found : (name : Text) → false ≡ is_new (map string_bytes keys) name → map string_bytes keys ≡ with_name (map string_bytes keys) name
+  names-found name e = rw (← e) refl
+
+  -- a name that was put in
+  pub number-put : (k : String Y) (name : Text) → string_bytes k ≡ name → position_or_len (string_eq k) keys + 1 ≡ name_number (map string_bytes keys) name
+  number-put k name e = ap (λ n. n + 1) (ap (λ t. position_or_len (λ x. bytes_eq t (string_bytes x)) keys) e ∙ sym (position_or_len-map (bytes_eq name) string_bytes keys))
+
+  pub names-put : (k : String Y) (name : Text) → string_bytes k ≡ name → false ≡ list_any (λ k. bytes_eq name (string_bytes k)) keys → map string_bytes (insert_key string_eq keys k) ≡ with_name (map string_bytes keys) name
+  names-put k name e none =
+      let any : list_any (string_eq k) keys ≡ false = ap (λ t. list_any (λ x. bytes_eq t (string_bytes x)) keys) e ∙ sym none in
+      let here : is_new (map string_bytes keys) name ≡ true = sym (new-known name false none) in
+      rw (any, here) (map-push string_bytes keys k ∙ ap (λ t. map string_bytes keys ++ t ∷ []) e)

@@ -1,0 +1,102 @@
+-- What the lines of the text say of a cluster, one after another.
+use Rattle.std.specs.Prelude.{◌≡◌, ⊤, ℕ, ◌-◌, ◌&&◌, max, nat_le, List, [], ◌∷◌, ◌++◌, Option, Some, None, unwrap_or, Result, Ok, Err, fold, if◌then◌else◌}
+use Rattle.std.specs.Str.{is_utf8}
+use Rattle.bm_base.specs.declared.replica.Stamp.{Stamp}
+use Rattle.fsck_import.specs.Cuts.{Text}
+use Rattle.fsck_import.specs.Places.{Place}
+use Rattle.fsck_import.specs.Words.{words_of}
+use Rattle.fsck_import.specs.Lines.{said_by}
+use Rattle.fsck_import.specs.Names.{is_new, name_number, with_name}
+use Rattle.fsck_import.specs.Blocks.{has_block, with_block}
+use Rattle.fsck_import.specs.Rows.{new_row, with_replica_at}
+use Rattle.fsck_import.specs.declared.word.Word.{Word}
+use Rattle.fsck_import.specs.declared.word.Word.TheVariants as word
+use Rattle.fsck_import.specs.declared.line.Said.{Said}
+use Rattle.fsck_import.specs.declared.line.Said.TheVariants as said
+use Rattle.fsck_import.specs.declared.line.BlockTold.{BlockTold}
+use Rattle.fsck_import.specs.declared.line.Refusal.{Refusal}
+use Rattle.fsck_import.specs.declared.line.Refusal.TheVariants as refusal
+use Rattle.fsck_import.specs.declared.fault.LineFault.{LineFault}
+use Rattle.fsck_import.specs.declared.fault.LineFault.TheVariants as fault
+use Rattle.fsck_import.specs.declared.rows.Row.{Row}
+use Rattle.fsck_import.specs.declared.cluster.NodeRow.{NodeRow}
+use Rattle.fsck_import.specs.declared.cluster.Cluster.{Cluster}
+
+-- nothing was said
+abbrev pub no_cluster : Cluster
+no_cluster = record { racks = []; nodes = []; node_rows = []; storages = []; rows = []; blocks = []; target = None }
+
+-- how many replicas of a block are wanted: as many as was told of its file, else as many as are live, and at least one
+abbrev pub wanted : Option ℕ → Option ℕ → ℕ
+wanted (Some count) live = count
+wanted None live = max 1 (unwrap_or live 1)
+
+-- the nodes with that of a place, which stands on the rack of its first place
+abbrev pub with_node : Cluster → Place → List NodeRow
+with_node c p =
+    if is_new c.nodes p.address
+    then c.node_rows ++ record { number = name_number c.nodes p.address; rack = name_number c.racks p.rack } ∷ []
+    else c.node_rows
+
+-- the storages with that of a place, which stands on the node of its first place
+abbrev pub with_storage : Cluster → Place → List Row
+with_storage c p =
+    if is_new c.storages p.storage
+    then c.rows ++ new_row (name_number c.storages p.storage) (name_number c.nodes p.address) ∷ []
+    else c.rows
+
+-- with the replica of a block at one more place, which may be the first of its rack, of its node or of its storage
+abbrev pub with_place : Cluster → ℕ → Stamp → Place → Cluster
+with_place c id stamp p = record c {
+  racks = with_name c.racks p.rack;
+  nodes = with_name c.nodes p.address;
+  node_rows = with_node c p;
+  storages = with_name c.storages p.storage;
+  rows = with_replica_at (with_storage c p) (name_number c.storages p.storage - 1) id stamp;
+}
+
+abbrev pub with_word : ℕ → Stamp → Cluster → Word → Cluster
+with_word id stamp c (word.Place p) = with_place c id stamp p
+with_word id stamp c _ = c
+
+-- with the replicas of a block at all places among these words
+abbrev pub with_places : Cluster → ℕ → Stamp → List Word → Cluster
+with_places c id stamp words = fold (with_word id stamp) c words
+
+-- with a block and its places, which are among the words of its line
+abbrev pub after_block : Cluster → List Word → BlockTold → Result Cluster Refusal
+after_block c words told =
+    let repl = wanted c.target told.live in
+    if nat_le 1 repl && nat_le repl 16
+    then (if has_block c.blocks told.id then Err refusal.NamedTwice
+    else Ok (with_places (record c { blocks = with_block c.blocks told.id (record { stamp = told.stamp; repl = repl }) }) told.id told.stamp words))
+    else Err refusal.BadReplication
+
+-- after what a line of these words says. A heading begins another file; what is wanted of one of its blocks is wanted of all
+abbrev pub after_said : Cluster → List Word → Said → Result Cluster Refusal
+after_said c words said.Nothing = Ok c
+after_said c words (said.Heading target) = Ok (record c { target = target })
+after_said c words (said.Wanted count) = Ok (record c { target = Some count })
+after_said c words (said.Block told) = after_block c words told
+
+-- what comes of a value, where there is one
+abbrev pub after_ok : {A B E : Type 0} → (A → Result B E) → Result A E → Result B E
+after_ok f (Ok x) = f x
+after_ok f (Err why) = Err why
+
+-- after a line of these words
+abbrev pub after_words : Cluster → List Word → Result Cluster Refusal
+after_words c words = after_ok (after_said c words) (said_by words)
+
+-- after one more line
+abbrev pub after_line : Cluster → Text → Result Cluster Refusal
+after_line c line = after_words c (words_of line)
+
+-- after a line of these bytes, which are UTF-8
+abbrev pub after_bytes : Cluster → Text → Result Cluster Refusal
+after_bytes c line = if is_utf8 line then after_line c line else Err refusal.NotText
+
+-- the fault is this refusal, or that memory lacked
+abbrev pub IsCause : {A : Type 0} → LineFault → Result A Refusal → Type 0
+IsCause fault.Memory after = ⊤
+IsCause (fault.Refused why) after = after ≡ Err why

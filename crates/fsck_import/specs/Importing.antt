@@ -1,0 +1,35 @@
+-- What a whole run writes, and why it ends without.
+use Rattle.std.specs.Prelude.{◌≡◌, ⊤, ℕ, false, Option, Result, Ok, Err}
+use Rattle.bm_base.specs.Lists.{has_repeats}
+use Rattle.fsck_import.specs.Cuts.{Text}
+use Rattle.fsck_import.specs.Reading.{cluster_of}
+use Rattle.fsck_import.specs.CallsFor.{calls_for}
+use Rattle.fsck_import.specs.Laws.{AddsFirst, numbers_added, numbers_named}
+use Rattle.fsck_import.specs.Writing.{Tells}
+use Rattle.fsck_import.specs.declared.fault.Unread.{Unread}
+use Rattle.fsck_import.specs.declared.fault.Fault.{Fault}
+use Rattle.fsck_import.specs.declared.fault.Fault.TheVariants as fault
+use Rattle.fsck_import.specs.declared.cluster.Cluster.{Cluster}
+
+-- what was written tells of the cluster of a text
+pub record TellsCluster (text : Text) (remaining : ℕ) (old new : Option Text) : Type 0 where
+  pub cluster : Cluster
+  pub told : cluster_of text ≡ Ok cluster
+  -- the line tool reads the calls for it
+  pub tells : Tells (calls_for cluster remaining) old new
+  -- the blocks that they add are those that the text names, each once
+  pub added : numbers_added (calls_for cluster remaining) ≡ numbers_named text
+  pub once : has_repeats (numbers_named text) ≡ false
+  -- no report stands before an add
+  pub adds_first : AddsFirst (calls_for cluster remaining)
+
+-- a refusal is that of the first line that is refused
+abbrev pub IsRunFault : Fault → Result Cluster Unread → Type 0
+IsRunFault (fault.Refused unread) told = told ≡ Err unread
+IsRunFault _ told = ⊤
+
+-- a run that ends before it writes leaves the writer as it was
+abbrev pub WritesNothing : {W : Type 0} → Fault → W → W → Type 0
+WritesNothing (fault.Refused unread) old new = new ≡ old
+WritesNothing fault.Read old new = new ≡ old
+WritesNothing _ old new = ⊤

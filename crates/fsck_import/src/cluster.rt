@@ -1,0 +1,156 @@
+// What the lines of the text said so far of a cluster.
+ghost use Rattle.std.specs.Prelude.{◌≡◌, Ok, Err, Some, IfOk, OnOk, IfErr};
+ghost use Rattle.fsck_import.specs.Clusters.{no_cluster, wanted, with_place, with_places, after_block, after_said, after_line, after_bytes, IsCause};
+
+use crate::blocks::Blocks;
+use crate::fault::LineFault;
+use crate::line::{BlockTold, Refusal, Said, said_by, words_of};
+use crate::names::Names;
+use crate::place::Place;
+use crate::rows::Rows;
+use crate::word::Word;
+use bm_base::{BlockId, BlockInfo, Items, MAX_REPLICATION, Stamp};
+use std::alloc::{AllocError, Global};
+
+/// A node by its number, and the number of its rack.
+#[derive(Clone, Copy, Drop)]
+pub struct NodeRow {
+    pub number: u32,
+    pub rack: u32,
+}
+
+/// A cluster as it was told so far. Racks, nodes and storages are numbered from 1 in the order in which they were first said.
+#[derive(Drop)]
+pub struct Cluster {
+    pub racks: Names,
+    /// The nodes by host and port.
+    pub nodes: Names,
+    pub node_rows: Items<NodeRow>,
+    pub storages: Names,
+    pub rows: Rows,
+    pub blocks: Blocks,
+    /// How many replicas are wanted of the blocks of the file that is being told, where that was told.
+    pub target: Option<u32>,
+}
+
+impl Cluster {
+    /// Nothing was said.
+    pub fn new(alloc: Global) -> Cluster
+        ensures { result ≡ no_cluster }
+    {
+        Cluster {
+            racks: Names::new(alloc),
+            nodes: Names::new(alloc),
+            node_rows: Items::from_vec(Vec::new(alloc)),
+            storages: Names::new(alloc),
+            rows: Rows::new(alloc),
+            blocks: Blocks::new(alloc),
+            target: None,
+        }
+    }
+
+    /// Takes what one more line says, by its bytes.
+    pub fn take_bytes(&mut self, alloc: Global, line: &[u8]) -> Result<(), LineFault>
+        ensures ok { OnOk result (after_bytes self.old line.now ≡ Ok self.new) }
+        ensures refused { IfErr result (λ f. IsCause f (after_bytes self.old line.now)) }
+    {
+        match str::from_utf8(line) {
+            Ok(text) => self.take_line(alloc, text),
+            Err(_) => Err(LineFault::Refused(Refusal::NotText)),
+        }
+    }
+
+    /// Takes what one more line says.
+    fn take_line(&mut self, alloc: Global, line: &str) -> Result<(), LineFault>
+        ensures ok { OnOk result (after_line self.old line.now ≡ Ok self.new) }
+        ensures refused { IfErr result (λ f. IsCause f (after_line self.old line.now)) }
+    {
+        let words = words_of(alloc, line)?;
+        match said_by(words.as_slice())? {
+            Said::Nothing => {}
+            Said::Heading(target) => self.target = target,
+            Said::Wanted(count) => self.target = Some(count),
+            Said::Block(told) => self.take_block(alloc, told, words.as_slice())?,
+        }
+        Ok(())
+    }
+
+    /// Takes a block and its places, which are among the words of its line.
+    fn take_block(
+        &mut self,
+        alloc: Global,
+        told: BlockTold,
+        words: &[Word],
+    ) -> Result<(), LineFault>
+        ensures ok { OnOk result (after_block self.old words.now told ≡ Ok self.new) }
+        ensures refused { IfErr result (λ f. IsCause f (after_block self.old words.now told)) }
+    {
+        let repl = wanted(self.target, told.live);
+        if repl < 1 || repl > MAX_REPLICATION {
+            return Err(LineFault::Refused(Refusal::BadReplication));
+        }
+        let info = BlockInfo {
+            stamp: told.stamp,
+            repl,
+        };
+        if !self.blocks.add(told.id, info)? {
+            return Err(LineFault::Refused(Refusal::NamedTwice));
+        }
+        self.take_places(alloc, words, told.id, &told.stamp)?;
+        Ok(())
+    }
+
+    /// Takes the replicas of a block at all places among these words.
+    fn take_places(
+        &mut self,
+        alloc: Global,
+        words: &[Word],
+        id: BlockId,
+        stamp: &Stamp,
+    ) -> Result<(), AllocError>
+        ensures { OnOk result (self.new ≡ with_places self.old id stamp.now words.now) }
+    {
+        for word in words {
+            if let Word::Place(place) = word {
+                self.take_place(alloc, place, id, stamp)?;
+            }
+        }
+        Ok(())
+    }
+
+    /// Takes one replica of a block.
+    fn take_place(
+        &mut self,
+        alloc: Global,
+        place: &Place,
+        id: BlockId,
+        stamp: &Stamp,
+    ) -> Result<(), AllocError>
+        ensures { OnOk result (self.new ≡ with_place self.old id stamp.now place.now) }
+    {
+        let rack = self.racks.number_of(alloc, place.rack())?;
+        let node = self.nodes.number_of(alloc, place.address())?;
+        if node.is_new {
+            self.node_rows.push(NodeRow {
+                number: node.number,
+                rack: rack.number,
+            })?;
+        }
+        let storage = self.storages.number_of(alloc, place.storage())?;
+        if storage.is_new {
+            self.rows.push(alloc, storage.number, node.number)?;
+        }
+        self.rows.add(storage.number as usize - 1, id, *stamp)
+    }
+}
+
+/// How many replicas of a block are wanted: as many as was told of its file, else as many as are live, and at least one.
+fn wanted(target: Option<u32>, live: Option<u32>) -> u32
+    ensures { result ≡ wanted target live }
+{
+    match (target, live) {
+        (Some(count), _) => count,
+        (None, Some(count)) if count > 0 => count,
+        _ => 1,
+    }
+}

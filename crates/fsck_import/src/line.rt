@@ -1,0 +1,104 @@
+// What a line of the text says.
+ghost use Rattle.std.specs.Prelude.{◌≡◌, IfOk};
+ghost use Rattle.fsck_import.specs.Words.{words_of};
+ghost use Rattle.fsck_import.specs.Lines.{said_by, said_by_block, said_by_other};
+
+use crate::so_far::{BlockSoFar, LineSoFar};
+use crate::word::{Word, word_of};
+use bm_base::{BlockId, Stamp};
+use std::alloc::{AllocError, Global};
+use thiserror::Error;
+
+/// What a line says.
+#[derive(Drop)]
+pub enum Said {
+    /// Nothing of blocks, of files or of what is wanted.
+    Nothing,
+    /// A file begins, of whose blocks so many replicas are wanted, where that is told.
+    Heading(Option<u32>),
+    /// So many replicas are wanted of a block of this file.
+    Wanted(u32),
+    Block(BlockTold),
+}
+
+/// What the line of a block says of it, its places aside.
+#[derive(Clone, Copy, Drop)]
+pub struct BlockTold {
+    pub id: BlockId,
+    pub stamp: Stamp,
+    /// How many replicas are live, where that is told.
+    pub live: Option<u32>,
+}
+
+/// Why a line is not taken.
+#[derive(Clone, Copy, Debug, PartialEq, Eq, Error)]
+pub enum Refusal {
+    #[error("the line is not UTF-8")]
+    NotText,
+    /// It begins with the index of a block, and does not go on as a block's line.
+    #[error("the line of a block that cannot be read")]
+    NotABlock,
+    #[error("the number of the block is below 0")]
+    NegativeBlock,
+    #[error("the file is erasure coded")]
+    ErasureCoded,
+    #[error("the block was named before")]
+    NamedTwice,
+    #[error("the number of wanted replicas is not between 1 and 16")]
+    BadReplication,
+}
+
+/// The words of a line.
+pub fn words_of(alloc: Global, line: &str) -> Result<Vec<Word<'_>>, AllocError>
+    ensures { IfOk result (λ v. v.items ≡ words_of line.now) }
+{
+    line.split(' ')
+        .filter(|word| !word.is_empty())
+        .map(word_of)
+        .collect(alloc)
+}
+
+/// What a line of these words says.
+pub fn said_by(words: &[Word]) -> Result<Said, Refusal>
+    ensures { result ≡ said_by words.now }
+{
+    match words {
+        [Word::Index, rest @ ..] => said_by_block(rest),
+        _ => said_by_other(words),
+    }
+}
+
+/// What the line of a block says, by the words behind its index.
+fn said_by_block(words: &[Word]) -> Result<Said, Refusal>
+    ensures { result ≡ said_by_block words.now }
+{
+    let told = BlockSoFar::of(words);
+    if told.is_negative {
+        return Err(Refusal::NegativeBlock);
+    }
+    match (told.name, told.len) {
+        (Some((id, generation)), Some(len)) if !told.is_strange => Ok(Said::Block(BlockTold {
+            id,
+            stamp: Stamp { generation, len },
+            live: told.live,
+        })),
+        _ => Err(Refusal::NotABlock),
+    }
+}
+
+/// What any other line says.
+fn said_by_other(words: &[Word]) -> Result<Said, Refusal>
+    ensures { result ≡ said_by_other words.now }
+{
+    let told = LineSoFar::of(words);
+    if !told.is_heading {
+        return Ok(match told.target {
+            Some(count) => Said::Wanted(count),
+            None => Said::Nothing,
+        });
+    }
+    if told.is_erasure_coded {
+        return Err(Refusal::ErasureCoded);
+    }
+    Ok(Said::Heading(told.replication.or(told.target)))
+}

@@ -1,0 +1,72 @@
+// The names of one kind, numbered from 1 in the order in which they were first said.
+ghost use Rattle.std.specs.Prelude.{◌≡◌, ◌+◌, IfOk, OnOk, []};
+ghost use Rattle.fsck_import.specs.Names.{is_new, name_number, with_name};
+
+use indexmap::IndexSet;
+use std::alloc::{AllocError, Global};
+use std::marker::Model;
+
+/// Names, found by hash.
+#[derive(Drop)]
+pub struct Names {
+    set: IndexSet<String>,
+}
+
+impl Model for Names {
+    ghost use Rattle.std.specs.Prelude.{List, map, string_bytes};
+    ghost use Rattle.fsck_import.specs.Cuts.{Text};
+
+    ghost Value = { List Text };
+
+    ghost view = { λ names. map string_bytes names.set.keys };
+}
+
+/// The number of a name, and whether the name was not said before.
+#[derive(Clone, Copy, Drop)]
+pub struct Numbered {
+    pub number: u32,
+    pub is_new: bool,
+}
+
+impl Names {
+    pub fn new(alloc: Global) -> Names
+        ensures { result ≡ [] }
+    {
+        Names {
+            set: IndexSet::new(alloc),
+        }
+    }
+
+    /// The number of a name, which it gets now where it is new. `Err` also past the numbers of 32 bits.
+    pub fn number_of(&mut self, alloc: Global, name: &str) -> Result<Numbered, AllocError>
+        ensures number { IfOk result (λ r. r.number ≡ name_number self.old name.now) }
+        ensures new { IfOk result (λ r. r.is_new ≡ is_new self.old name.now) }
+        ensures names { OnOk result (self.new ≡ with_name self.old name.now) }
+    {
+        let (index, is_new) = self.index_of(alloc, name)?;
+        match u32::try_from(index).ok().and_then(|at| at.checked_add(1)) {
+            Some(number) => Ok(Numbered { number, is_new }),
+            None => Err(AllocError),
+        }
+    }
+
+    /// Where a name stands, and whether it was put there now.
+    fn index_of(&mut self, alloc: Global, name: &str) -> Result<(usize, bool), AllocError>
+        ensures index { IfOk result (λ r. r.0 + 1 ≡ name_number self.old name.now) }
+        ensures new { IfOk result (λ r. r.1 ≡ is_new self.old name.now) }
+        ensures names { OnOk result (self.new ≡ with_name self.old name.now) }
+    {
+        if let Some(index) = self.set.get_index_of(name) {
+            return Ok((index, false));
+        }
+        let key = String::from_str(alloc, name)?;
+        let (index, _) = self.set.insert_full(key)?;
+        Ok((index, true))
+    }
+
+    /// The name of a number; nothing where there is none.
+    pub fn name(&self, number: u32) -> &str {
+        let index = (number as usize).saturating_sub(1);
+        self.set.get_index(index).map_or("", String::as_str)
+    }
+}

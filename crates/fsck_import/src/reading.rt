@@ -1,0 +1,70 @@
+// A whole text, from a reader.
+ghost use Rattle.std.specs.Prelude.{◌≡◌, Ok, Err, IfOk, IfErr, IfSome, OnOk, ◌⊎◌};
+ghost use Rattle.fsck_import.specs.Reading.{cluster_of, without_end, at_line, IsReadFault};
+ghost use Rattle.fsck_import.specs.Clusters.{after_bytes};
+
+use crate::cluster::Cluster;
+use crate::fault::{Fault, LineFault, Unread};
+use std::alloc::Global;
+use std::io;
+use std::io::{BufRead, ErrorKind};
+
+/// The cluster of which a text tells. No more of the text is held than one line.
+pub fn read_cluster<R: BufRead>(alloc: Global, reader: &mut R) -> Result<Cluster, Fault>
+    ensures text { IfOk result
+        (λ c. IfSome (R.remaining reader.old) (λ text. cluster_of text ≡ Ok c)) }
+    ensures refused { IfErr result
+        (λ f. IfSome (R.remaining reader.old) (λ text. IsReadFault f (cluster_of text))) }
+{
+    let mut cluster = Cluster::new(alloc);
+    let mut line = Vec::new(alloc);
+    for number in 1..u64::MAX {
+        line.clear();
+        match reader.read_until(b'\n', &mut line) {
+            Ok(0) => return Ok(cluster),
+            Ok(_) => {}
+            Err(error) => return Err(read_fault(&error)),
+        }
+        let told = without_end(line.as_slice());
+        if let Err(fault) = take_numbered(&mut cluster, alloc, number, told) {
+            return Err(fault);
+        }
+    }
+    Err(Fault::Read)
+}
+
+/// Takes a line, and says its number where it is refused.
+fn take_numbered(
+    cluster: &mut Cluster,
+    alloc: Global,
+    number: u64,
+    line: &[u8],
+) -> Result<(), Fault>
+    ensures ok { OnOk result (at_line number (after_bytes cluster.old line.now) ≡ Ok cluster.new) }
+    ensures refused { IfErr result
+        (λ f. IsReadFault f (at_line number (after_bytes cluster.old line.now))) }
+{
+    match cluster.take_bytes(alloc, line) {
+        Ok(()) => Ok(()),
+        Err(LineFault::Memory) => Err(Fault::Memory),
+        Err(LineFault::Refused(why)) => Err(Fault::Refused(Unread { line: number, why })),
+    }
+}
+
+/// A line without its line end.
+fn without_end(line: &[u8]) -> &[u8]
+    ensures { result.now ≡ without_end line.now }
+{
+    line.strip_suffix(b"\n".as_slice()).unwrap_or(line)
+}
+
+/// Memory that was refused to a read, or a read that failed.
+fn read_fault(error: &io::Error) -> Fault
+    ensures { (result ≡ Fault.Memory) ⊎ (result ≡ Fault.Read) }
+{
+    if error.kind() == ErrorKind::OutOfMemory {
+        Fault::Memory
+    } else {
+        Fault::Read
+    }
+}

@@ -1,0 +1,206 @@
+// What no clause says: that texts as Hadoop writes them are read, what stands in the table of names, and streams that fail. The texts and
+// the lines that come of them are those of examples/fsck, written by hand from the rules in docs/FORMATS.md.
+use crate::fault::{Fault, Unread};
+use crate::import::import;
+use crate::line::Refusal;
+use std::alloc::Global;
+use std::io;
+use std::io::{BufReader, Read, Write};
+use std::test::Fail;
+
+const STORAGES: &str =
+    "Connecting to namenode via http://nn.example.org:9870/fsck?ugi=hdfs&files=1&blocks=1&locations=1&path=%2F
+FSCK started by hdfs (auth:SIMPLE) from /192.0.2.1 for path / at Mon Jan 06 10:00:00 UTC 2020
+
+/ <dir>
+/data <dir>
+/data/two words.txt 300 bytes, replicated: replication=2, 3 block(s):  OK
+0. BP-1:blk_1073741900_2001 len=100 Live_repl=2  [DatanodeInfoWithStorage[10.2.1.1:9866,DS-aa,DISK], DatanodeInfoWithStorage[10.2.1.2:9866,DS-ba,DISK]]
+1. BP-1:blk_1073741901_2002 len=100 Live_repl=2  [DatanodeInfoWithStorage[10.2.1.1:9866,DS-ab,SSD], DatanodeInfoWithStorage[10.2.1.2:9866,DS-ba,DISK]]
+2. BP-1:blk_1073741902_2002 len=100 Live_repl=2  [DatanodeInfoWithStorage[10.2.1.1:9866,DS-ab,SSD], DatanodeInfoWithStorage[10.2.1.2:9866,DS-ba,DISK]]
+
+/data/poor.txt 7 bytes, replicated: replication=3, 1 block(s):  Under replicated BP-1:blk_1073741910_2010. Target Replicas is 3 but found 1 live replica(s), 0 decommissioned replica(s), 0 decommissioning replica(s).
+0. BP-1:blk_1073741910_2010 len=7 Live_repl=1  [DatanodeInfoWithStorage[10.2.1.1:9866,DS-aa,DISK]]
+
+/data/lost.txt 9 bytes, replicated: replication=2, 1 block(s): 
+/data/lost.txt: CORRUPT blockpool BP-1 block blk_1073741911
+ MISSING 1 blocks of total size 9 B
+0. BP-1:blk_1073741911_2011 len=9 MISSING!
+
+
+Status: CORRUPT
+ Number of data-nodes:\t2
+ Number of racks:\t\t1
+ Total dirs:\t\t\t2
+ Total symlinks:\t\t0
+
+Replicated Blocks:
+ Total size:\t316 B
+ Total files:\t3
+ Total blocks (validated):\t5 (avg. block size 63 B)
+ Default replication factor:\t3
+ Average block replication:\t1.4
+ Blocks queued for replication:\t0
+
+Erasure Coded Block Groups:
+ Total size:\t0 B
+ Total files:\t0
+FSCK ended at Mon Jan 06 10:00:00 UTC 2020 in 5 milliseconds
+
+
+The filesystem under path '/' is CORRUPT
+";
+
+const STORAGES_LINES: &str = "{\"op\":\"register\",\"node\":1,\"rack\":1,\"storages\":[1,3]}
+{\"op\":\"register\",\"node\":2,\"rack\":1,\"storages\":[2]}
+{\"op\":\"heartbeat\",\"node\":1,\"remaining\":[[1,500],[3,500]]}
+{\"op\":\"heartbeat\",\"node\":2,\"remaining\":[[2,500]]}
+{\"op\":\"add\",\"id\":1073741900,\"gen\":2001,\"len\":100,\"repl\":2}
+{\"op\":\"add\",\"id\":1073741901,\"gen\":2002,\"len\":100,\"repl\":2}
+{\"op\":\"add\",\"id\":1073741902,\"gen\":2002,\"len\":100,\"repl\":2}
+{\"op\":\"add\",\"id\":1073741910,\"gen\":2010,\"len\":7,\"repl\":3}
+{\"op\":\"add\",\"id\":1073741911,\"gen\":2011,\"len\":9,\"repl\":2}
+{\"op\":\"report\",\"storage\":1,\"blocks\":[[1073741900,2001,100],[1073741910,2010,7]]}
+{\"op\":\"report\",\"storage\":2,\"blocks\":[[1073741900,2001,100],[1073741901,1073741902,2002,100]]}
+{\"op\":\"report\",\"storage\":3,\"blocks\":[[1073741901,1073741902,2002,100]]}
+";
+
+const STORAGES_NAMES: &str = "# node 1 10.2.1.1:9866 rack 1 /default-rack
+# node 2 10.2.1.2:9866 rack 1 /default-rack
+# storage 1 DS-aa node 1 10.2.1.1:9866
+# storage 2 DS-ba node 2 10.2.1.2:9866
+# storage 3 DS-ab node 1 10.2.1.1:9866
+";
+
+const FEW_WORDS: &str = " 0. blk_5_1 len=10 repl=2 [10.3.1.1:50010, 10.3.1.2:50010]
+ 1. blk_6_1 len=10 repl=1
+ 2. blk_7_1 len=10 Live_repl=0 []
+ Under replicated blk_9_1. Target Replicas is 4 but found 2 replica(s).
+ 3. blk_9_1 len=10 repl=1 [/dc1/rack7/DatanodeInfoWithStorage[10.3.1.1:50010,DS-x,DISK]]
+";
+
+const FEW_WORDS_LINES: &str = "{\"op\":\"register\",\"node\":1,\"rack\":1,\"storages\":[1,3]}
+{\"op\":\"register\",\"node\":2,\"rack\":1,\"storages\":[2]}
+{\"op\":\"heartbeat\",\"node\":1,\"remaining\":[[1,1099511627776],[3,1099511627776]]}
+{\"op\":\"heartbeat\",\"node\":2,\"remaining\":[[2,1099511627776]]}
+{\"op\":\"add\",\"id\":5,\"gen\":1,\"len\":10,\"repl\":2}
+{\"op\":\"add\",\"id\":6,\"gen\":1,\"len\":10,\"repl\":1}
+{\"op\":\"add\",\"id\":7,\"gen\":1,\"len\":10,\"repl\":1}
+{\"op\":\"add\",\"id\":9,\"gen\":1,\"len\":10,\"repl\":4}
+{\"op\":\"report\",\"storage\":1,\"blocks\":[[5,1,10]]}
+{\"op\":\"report\",\"storage\":2,\"blocks\":[[5,1,10]]}
+{\"op\":\"report\",\"storage\":3,\"blocks\":[[9,1,10]]}
+";
+
+const REFUSED: [(&str, u64, Refusal); 5] = [
+    (
+        "/a 12 bytes, 1 block(s):  OK\n0. blk_-2932_1001 len=12 repl=1 [10.4.1.1:50010]\n",
+        2,
+        Refusal::NegativeBlock,
+    ),
+    (
+        "/ec <dir>\n/ec/a 12 bytes, erasure-coded: policy=RS-6-3-1024k, 1 block(s):  OK\n",
+        2,
+        Refusal::ErasureCoded,
+    ),
+    (
+        "0. blk_3_1 len=1 repl=1 [10.4.1.1:50010]\n\n0. blk_3_1 len=1 repl=1 [10.4.1.1:50010]\n",
+        3,
+        Refusal::NamedTwice,
+    ),
+    (
+        "/a 1 bytes, replicated: replication=17, 1 block(s):  OK\n0. blk_3_1 len=1 Live_repl=1\n",
+        2,
+        Refusal::BadReplication,
+    ),
+    (
+        "0. blk_3_1 len=1 repl=1 [10.4.1.1:50010(LIVE)]\n",
+        1,
+        Refusal::NotABlock,
+    ),
+];
+
+/// The lines that are written for a text, and the table of names.
+fn imported(alloc: Global, text: &str, remaining: u64) -> Result<(Vec<u8>, Vec<u8>), Fault> {
+    let mut reader = text.as_bytes();
+    let mut lines = Vec::new(alloc);
+    let mut names = Vec::new(alloc);
+    import(alloc, &mut reader, &mut lines, &mut names, remaining)?;
+    Ok((lines, names))
+}
+
+#[test]
+fn a_text_of_hadoop_3_with_storages(rt: HostRuntime) -> Result<(), Fail> {
+    let (lines, names) = imported(rt.alloc(), STORAGES, 500)?;
+    assert!(rt; lines.as_slice() == STORAGES_LINES.as_bytes());
+    assert!(rt; names.as_slice() == STORAGES_NAMES.as_bytes());
+    Ok(())
+}
+
+#[test]
+fn lines_of_blocks_alone_with_less_and_less_told(rt: HostRuntime) -> Result<(), Fail> {
+    let (lines, _) = imported(rt.alloc(), FEW_WORDS, 1_099_511_627_776)?;
+    assert!(rt; lines.as_slice() == FEW_WORDS_LINES.as_bytes());
+    Ok(())
+}
+
+#[test]
+fn the_first_line_that_is_refused_is_named(rt: HostRuntime) {
+    for (text, line, why) in REFUSED {
+        let result = imported(rt.alloc(), text, 1);
+        assert!(rt;
+            matches!(result, Err(Fault::Refused(Unread { line: l, why: w })) if l == line && w == why)
+        );
+    }
+}
+
+/// A reader that fails once it has given its bytes.
+#[derive(Drop)]
+struct Failing<'a> {
+    left: &'a [u8],
+}
+
+impl Read for Failing<'_> {
+    fn read(&mut self, buf: &mut [u8]) -> io::Result<usize> {
+        if self.left.is_empty() {
+            return Err(io::Error::from(io::ErrorKind::Other));
+        }
+        self.left.read(buf)
+    }
+}
+
+/// A writer that fails.
+#[derive(Drop)]
+struct Broken;
+
+impl Write for Broken {
+    fn write(&mut self, _buf: &[u8]) -> io::Result<usize> {
+        Err(io::Error::from(io::ErrorKind::Other))
+    }
+
+    fn flush(&mut self) -> io::Result<()> {
+        Ok(())
+    }
+}
+
+#[test]
+fn a_failed_read_leaves_nothing_written(rt: HostRuntime) -> Result<(), Fail> {
+    let failing = Failing {
+        left: FEW_WORDS.as_bytes(),
+    };
+    let mut reader = BufReader::new(rt.alloc(), failing)?;
+    let mut lines: Vec<u8> = Vec::new(rt.alloc());
+    let mut names: Vec<u8> = Vec::new(rt.alloc());
+    let result = import(rt.alloc(), &mut reader, &mut lines, &mut names, 1);
+    assert_eq!(rt; result, Err(Fault::Read));
+    assert!(rt; lines.is_empty() && names.is_empty());
+    Ok(())
+}
+
+#[test]
+fn a_failed_write_is_told(rt: HostRuntime) {
+    let mut reader = FEW_WORDS.as_bytes();
+    let mut names: Vec<u8> = Vec::new(rt.alloc());
+    let result = import(rt.alloc(), &mut reader, &mut Broken, &mut names, 1);
+    assert_eq!(rt; result, Err(Fault::Write));
+}

@@ -1,0 +1,136 @@
+// What a word of the text says by itself.
+ghost use Rattle.std.specs.Prelude.{◌≡◌, option_map, map};
+ghost use Rattle.fsck_import.specs.Words.{fixed_word, valued_word, name_part, block_named, is_index, other_word, word_of};
+
+use crate::cuts::{cut_at, number_of, small_number_of};
+use crate::place::{Place, before_mark, place_of};
+use bm_base::{BlockId, Gen};
+
+/// What a word says, wherever it stands.
+#[derive(Drop)]
+pub enum Word<'a> {
+    /// The number of a block in its file, and a full stop.
+    Index,
+    /// The name of a block: its number and its generation.
+    Block(BlockId, Gen),
+    /// The name of a block whose number is below 0, as old clusters have them.
+    NegativeBlock,
+    /// A length in bytes.
+    Length(u64),
+    /// How many replicas are live.
+    Live(u32),
+    Place(Place<'a>),
+    /// `MISSING!` and `[]`, by which a block's line says that no place is known.
+    NoPlace,
+    /// How many replicas of a file's blocks are wanted, as its heading says.
+    Replication(u32),
+    /// The file is in cells, not in replicas.
+    ErasureCoded,
+    /// `block(s):`, by which a line is the heading of a file.
+    Heading,
+    /// `Target`, behind which the wanted number of replicas comes.
+    Target,
+    Number(u32),
+    Other,
+}
+
+/// What a word says.
+pub fn word_of(word: &str) -> Word<'_>
+    ensures { result ≡ word_of word.now }
+{
+    match fixed_word(word) {
+        Some(said) => said,
+        None => match cut_at(word, '=') {
+            Some((key, value)) => valued_word(key, value),
+            None => match block_named(name_part(word)) {
+                Some(said) => said,
+                None => other_word(word),
+            },
+        },
+    }
+}
+
+/// A word that is always the same.
+fn fixed_word(word: &str) -> Option<Word<'_>>
+    ensures { result ≡ fixed_word word.now }
+{
+    match word {
+        "MISSING!" | "[]" => Some(Word::NoPlace),
+        "erasure-coded:" => Some(Word::ErasureCoded),
+        "block(s):" | "block(s)," => Some(Word::Heading),
+        "Target" => Some(Word::Target),
+        _ => None,
+    }
+}
+
+/// A name and its value.
+fn valued_word<'a>(key: &'a str, value: &'a str) -> Word<'a>
+    ensures { result ≡ valued_word key.entry.now value.entry.now }
+{
+    match key {
+        "len" => match number_of(value) {
+            Some(len) => Word::Length(len),
+            None => Word::Other,
+        },
+        "repl" | "Live_repl" => match small_number_of(value) {
+            Some(count) => Word::Live(count),
+            None => Word::Other,
+        },
+        "replication" => match small_number_of(before_mark(value, ',')) {
+            Some(count) => Word::Replication(count),
+            None => Word::Other,
+        },
+        _ => Word::Other,
+    }
+}
+
+/// The name of a block, without the pool that it is in.
+fn name_part(word: &str) -> &str
+    ensures { result.now ≡ name_part word.now }
+{
+    match cut_at(word, ':') {
+        Some((_, name)) => name,
+        None => word,
+    }
+}
+
+/// The block of this name, if it is one: `blk`, a number and a generation.
+fn block_named(name: &str) -> Option<Word<'_>>
+    ensures { result ≡ block_named name.now }
+{
+    let (blk, numbers) = cut_at(name, '_')?;
+    let (id, generation) = cut_at(numbers, '_')?;
+    if blk != "blk" {
+        return None;
+    }
+    match cut_at(id, '-') {
+        Some(_) => Some(Word::NegativeBlock),
+        None => Some(Word::Block(BlockId(number_of(id)?), Gen(number_of(generation)?))),
+    }
+}
+
+/// Digits and a full stop.
+fn is_index(word: &str) -> bool
+    ensures { result ≡ is_index word.now }
+{
+    match cut_at(word, '.') {
+        Some((digits, rest)) => rest.is_empty() && number_of(digits).is_some(),
+        None => false,
+    }
+}
+
+/// An index, a number, a place, or anything else.
+fn other_word(word: &str) -> Word<'_>
+    ensures { result ≡ other_word word.now }
+{
+    if is_index(word) {
+        return Word::Index;
+    }
+    if let Some(number) = small_number_of(word) {
+        return Word::Number(number);
+    }
+    match place_of(word) {
+        Some(place) => Word::Place(place),
+        None => Word::Other,
+    }
+}
