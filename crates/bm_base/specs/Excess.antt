@@ -4,6 +4,7 @@ use Rattle.std.specs.Prelude.{ℕ, zero, suc, ◌+◌, ◌-◌, Bool, true, fals
 use Rattle.std.specs.declared.cmp.Ordering.{Ordering}
 use Rattle.std.specs.Ordering.{nat_cmp, ordering_then}
 use Rattle.std.specs.Option.{option_map_or}
+use Rattle.bm_base.specs.declared.replica.Marks.{Marks}
 use Rattle.bm_base.specs.Map.{get, keep, revise}
 use Rattle.bm_base.specs.State.{Cluster, Holdings, State}
 use Rattle.bm_base.specs.Lists.{has, least}
@@ -14,8 +15,11 @@ unfoldable pub without_expired : ℕ → ℕ → Holdings → Holdings
 without_expired pend r H = record H { pending = keep H.pending (λ _ t. not (nat_le pend (r - t))) }
 
 -- a replica in excess counts again where its deletion was not commanded
+abbrev pub counted_again : Marks → Marks
+counted_again m = if m.ordered then m else record m { excess = false }
+
 unfoldable pub without_unordered_excess : Holdings → Holdings
-without_unordered_excess H = record H { replicas = revise H.replicas (λ _ m. if m.ordered then m else record m { excess = false }) }
+without_unordered_excess H = record H { replicas = revise H.replicas (λ _ m. counted_again m) }
 
 -- the remaining bytes of a storage; 0 of an unknown storage
 unfoldable pub remaining : Cluster → ℕ → ℕ

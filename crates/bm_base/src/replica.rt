@@ -1,4 +1,8 @@
 // Blocks and their replicas.
+ghost use Rattle.std.specs.Prelude.{◌≡◌};
+ghost use Rattle.bm_base.specs.Replicas as replicas;
+ghost use Rattle.bm_base.specs.Excess as excess;
+
 use crate::ids::{BlockId, Gen, StorageId};
 
 /// Which version of a block it is, and how long it is.
@@ -30,6 +34,27 @@ pub enum Tag {
     Stray,
 }
 
+impl Tag {
+    pub fn is_good(self) -> bool
+        ensures { result ≡ replicas.is_good self }
+    {
+        matches!(self, Tag::Good)
+    }
+
+    pub fn is_stray(self) -> bool
+        ensures { result ≡ replicas.is_stray self }
+    {
+        matches!(self, Tag::Stray)
+    }
+
+    /// Stale or bad.
+    pub fn is_corrupt(self) -> bool
+        ensures { result ≡ replicas.is_corrupt self }
+    {
+        matches!(self, Tag::Stale | Tag::Bad)
+    }
+}
+
 /// Which replica it is: a block on a storage. The order is by block, then by storage.
 #[derive(Clone, Copy, Debug, PartialEq, Eq, PartialOrd, Ord)]
 pub struct ReplicaId {
@@ -45,6 +70,26 @@ pub struct Marks {
     pub excess: bool,
     /// Its deletion was commanded, and it was not reported since.
     pub ordered: bool,
+}
+
+impl Marks {
+    /// Good, and not in excess.
+    pub fn is_usable(self) -> bool
+        ensures { result ≡ replicas.is_usable self }
+    {
+        self.tag.is_good() && !self.excess
+    }
+
+    /// As a round begins: one in excess counts again where its deletion was not commanded.
+    pub fn counted_again(self) -> Marks
+        ensures { result ≡ excess.counted_again self }
+    {
+        Marks {
+            tag: self.tag,
+            excess: self.excess && self.ordered,
+            ordered: self.ordered,
+        }
+    }
 }
 
 /// A replica as a query shows it.

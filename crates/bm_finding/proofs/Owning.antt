@@ -9,7 +9,7 @@ use Rattle.bm_base.specs.State.{Cluster, Holdings, by_replica, replica_at}
 use Rattle.bm_base.specs.SlotLists.{Among, Distinct}
 use Rattle.bm_base.specs.Lists.{has}
 use Rattle.bm_base.specs.Replicas.{storages_where, is_live_on}
-use Rattle.bm_base.specs.Excess.{without_expired, without_unordered_excess, excess_of, excess_in, marked}
+use Rattle.bm_base.specs.Excess.{without_expired, counted_again, without_unordered_excess, excess_of, excess_in, marked}
 use Rattle.bm_base.specs.RoundParts.{started_holdings}
 use Rattle.bm_base.proofs.MapLaws.{same_map, get-empty, get-insert, get-keep, get-revise, entries-keep}
 use Rattle.bm_base.proofs.Ties.{replica_tie}
@@ -21,7 +21,7 @@ use Rattle.bm_arena.specs.Holding.{replicas_at}
 use Rattle.bm_levels.specs.Held.{holdings_with}
 use Rattle.bm_levels.proofs.Levels.{found_marks, found_info}
 use Rattle.bm_finding.specs.declared.look.Look.{Look}
-use Rattle.bm_finding.specs.Marking.{counted_again, marked_if, put_on, storages_in}
+use Rattle.bm_finding.specs.Marking.{marked_if, put_on, storages_in}
 use Rattle.bm_finding.specs.Looked.{own_replicas, too_many, IsLook}
 
 -- what is kept of a map that was revised is what is kept of it, revised

@@ -4,10 +4,7 @@ use Rattle.bm_base.specs.declared.replica.ReplicaId.{ReplicaId}
 use Rattle.bm_base.specs.declared.replica.Marks.{Marks}
 use Rattle.bm_base.specs.Map.{Map, insert}
 use Rattle.bm_base.specs.State.{by_replica, replica_at}
-
--- a replica in excess counts again where its deletion was not commanded
-abbrev pub counted_again : Marks → Marks
-counted_again m = if m.ordered then m else record m { excess = false }
+use Rattle.bm_base.specs.Excess.{counted_again}
 
 -- one that is too many is in excess
 abbrev pub marked_if : Bool → Marks → Marks

@@ -14,7 +14,7 @@ ghost use Rattle.std.specs.Prelude.{[]};
 
 use crate::replicas::{Usable, contains, fill_counted, marked_replicas, usable_among};
 use bm_arena::{Arena, Slot};
-use bm_base::{BlockId, BlockInfo, Delete, Marks, Refusal, ReplicaId, ReplicaMap, StorageId, Tag};
+use bm_base::{BlockId, BlockInfo, Delete, Marks, Refusal, ReplicaId, ReplicaMap, StorageId};
 use bm_place::excess_of;
 use bm_topo::Topology;
 use std::alloc::{AllocError, Global};
@@ -155,6 +155,6 @@ fn is_to_go(enough: bool, marks: &Marks) -> bool
     if marks.ordered {
         return false;
     }
-    let is_corrupt = matches!(marks.tag, Tag::Stale | Tag::Bad);
-    matches!(marks.tag, Tag::Stray) || marks.excess || is_corrupt && enough
+    let is_corrupt = marks.tag.is_corrupt();
+    marks.tag.is_stray() || marks.excess || is_corrupt && enough
 }

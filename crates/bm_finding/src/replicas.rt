@@ -5,11 +5,11 @@ ghost use Rattle.bm_base.specs.Lists.{has};
 ghost use Rattle.bm_base.specs.Replicas as replicas;
 ghost use Rattle.bm_base.specs.Spread.{spread};
 ghost use Rattle.bm_arena.specs.Holding.{replicas_at};
-ghost use Rattle.bm_finding.specs.Marking.{counted_again, marked_if, put_on, storages_in};
+ghost use Rattle.bm_finding.specs.Marking.{marked_if, put_on, storages_in};
 ghost use Rattle.bm_finding.specs.Looked.{AreUsable};
 
 use bm_arena::{Arena, Slot};
-use bm_base::{BlockId, Marks, Rack, ReplicaId, ReplicaMap, StorageId, StorageIds, Tag};
+use bm_base::{BlockId, Marks, Rack, ReplicaId, ReplicaMap, StorageId, StorageIds};
 use bm_topo::Topology;
 use std::alloc::{AllocError, Global};
 
@@ -33,7 +33,7 @@ pub(crate) fn fill_counted(
     clear(into);
     for place in 0..arena.triplet_count(slot) {
         if let Some((storage, marks)) = arena.triplet_at(slot, place) {
-            into.insert(ReplicaId { block, storage }, counted_again(marks))?;
+            into.insert(ReplicaId { block, storage }, marks.counted_again())?;
         }
     }
     Ok(())
@@ -74,7 +74,7 @@ pub(crate) fn usable_among(
     let mut live = StorageIds::new(alloc);
     let mut drained = StorageIds::new(alloc);
     for (replica, marks) in run {
-        if is_usable(marks) {
+        if marks.is_usable() {
             if topology.is_draining(replica.storage) {
                 drained.push(replica.storage)?;
             } else {
@@ -120,17 +120,6 @@ pub(crate) fn spread_of(topology: &Topology, storages: &[StorageId]) -> usize
     usize::from(first.is_some())
 }
 
-/// A replica in excess counts again where its deletion was not commanded.
-fn counted_again(marks: Marks) -> Marks
-    ensures { result ≡ counted_again marks }
-{
-    Marks {
-        tag: marks.tag,
-        excess: marks.ordered && marks.excess,
-        ordered: marks.ordered,
-    }
-}
-
 fn marked_if(is_excess: bool, marks: Marks) -> Marks
     ensures { result ≡ marked_if is_excess marks }
 {
@@ -139,13 +128,6 @@ fn marked_if(is_excess: bool, marks: Marks) -> Marks
         excess: is_excess || marks.excess,
         ordered: marks.ordered,
     }
-}
-
-/// Good, and not in excess.
-fn is_usable(marks: &Marks) -> bool
-    ensures { result ≡ replicas.is_usable marks.now }
-{
-    matches!(marks.tag, Tag::Good) && !marks.excess
 }
 
 pub(crate) fn contains(storages: &[StorageId], storage: StorageId) -> bool

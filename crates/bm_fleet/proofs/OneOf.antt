@@ -3,7 +3,6 @@ use Rattle.std.specs.Prelude.{◌≡◌, ℕ, zero, suc, ◌+◌, ◌<◌, if◌
 use Rattle.std.proofs.Common.{refl, sym, ap, subst, ◌∙◌, arith, eq-eqb}
 use Rattle.std.proofs.lemmas.Option.{same_Some, slice_get_within}
 use Rattle.bm_base.specs.declared.event.Event.{Event}
-use Rattle.bm_base.specs.declared.event.Event.TheVariants.{Register, Dead, StorageFailed, Heartbeat, Drain, Undrain, FullReport}
 use Rattle.bm_base.specs.declared.event.Done.{Done}
 use Rattle.bm_base.specs.declared.refusal.Refusal.{Refusal}
 use Rattle.bm_base.specs.State.{Cluster, Holdings}
@@ -15,25 +14,13 @@ use Rattle.bm_base.specs.Calls.{done}
 use Rattle.bm_parts.specs.Parts.{block_of, change_part}
 use Rattle.bm_parts.specs.Whole.{whole_of, AreOwn}
 use Rattle.bm_parts.proofs.Wholes.{parts_again}
-use Rattle.bm_parts.proofs.OneShard.{one_block_changes_one_part, one_shard_is_enough}
+use Rattle.bm_parts.proofs.OneShard.{same_cluster, one_block_changes_one_part, one_shard_is_enough}
 use Rattle.bm_parts.proofs.OwnShard.{own_shard_checks}
 use Rattle.bm_shard.specs.Seen.{Seen}
 use Rattle.bm_shard.specs.Standing.{StandsIn, IsSameButRoom}
 use Rattle.bm_fleet.specs.Whole.{parts_of, held_by, AreIndexed, AreShards, EachStandsIn, EachTook}
 use Rattle.bm_fleet.specs.OneShard.{IsChanged, IsMadeAt}
 use Rattle.bm_fleet.proofs.Staying.{count_of, stands_still, are_shards}
-
--- an event on a block leaves the cluster
-same_cluster : (C : Cluster) (e : Event) (b : ℕ) → block_of e ≡ Some b → change_cluster C e ≡ C
-unfolding change_cluster
-same_cluster C (Register n rack ss) b on = cc
-same_cluster C (Dead n) b on = cc
-same_cluster C (StorageFailed s) b on = cc
-same_cluster C (Heartbeat n rs) b on = cc
-same_cluster C (Drain n) b on = cc
-same_cluster C (Undrain n) b on = cc
-same_cluster C (FullReport s es) b on = cc
-same_cluster C e b on = refl
 
 get_part : (ss : List (ℕ × Seen)) (k : ℕ) (s : ℕ × Seen) → slice_get ss k ≡ Some s → slice_get (parts_of ss) k ≡ Some s.1.holdings
 get_part [] k s e = cc

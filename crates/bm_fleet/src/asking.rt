@@ -17,8 +17,9 @@ use crate::joining::joined;
 use crate::listed::{
     lists_of_blocks_on, lists_of_corrupt, lists_of_excess, lists_of_missing, lists_of_replicas,
 };
-use crate::one_shard::{block_of, index_of_shard};
+use crate::one_shard::index_of_shard;
 use bm_base::{BlockId, Event, Items, Level, NodeId, Refusal, Replica, ReplicaId, StorageId};
+use bm_parts::events::block_of;
 use bm_shard::Shard;
 use bm_topo::Topology;
 

@@ -9,9 +9,10 @@ ghost use Rattle.bm_fleet.specs.Whole.{StandsIn, HasTaken};
 
 use crate::changing::change_all;
 use crate::fleet::Fleet;
-use crate::one_shard::{block_of, change_own};
+use crate::one_shard::change_own;
 use bm_base::{Done, Event, Refusal};
 use bm_crew::Gate;
+use bm_parts::events::block_of;
 use bm_topo::Topology;
 use std::sync::Wait;
 use std::thread::Threads;

@@ -58,29 +58,6 @@ pub(crate) fn index_of_shard(id: BlockId, count: usize) -> usize
     shard_of(id, count as u32) as usize
 }
 
-/// The block of an event on one block.
-#[tactic(auto, unfolding(bm_parts::specs::Parts::block_of))]
-pub(crate) fn block_of(event: &Event) -> Option<BlockId>
-    ensures { result ≡ block_of event.now }
-{
-    match event {
-        Event::AddBlock { id, .. }
-        | Event::DeleteBlock { id }
-        | Event::SetReplication { id, .. }
-        | Event::Restamp { id, .. }
-        | Event::Received { id, .. }
-        | Event::Deleted { id, .. }
-        | Event::Corrupt { id, .. } => Some(*id),
-        Event::Register { .. }
-        | Event::Dead { .. }
-        | Event::StorageFailed { .. }
-        | Event::Heartbeat { .. }
-        | Event::Drain { .. }
-        | Event::Undrain { .. }
-        | Event::FullReport { .. } => None,
-    }
-}
-
 /// Changes the shard at a place by an event, or leaves it as it was in all but room.
 fn change_at(
     shards: &mut Vec<(u32, Shard)>,

@@ -9,12 +9,13 @@ use Rattle.bm_base.specs.SlotLists.{Among, Distinct}
 use Rattle.bm_arena.specs.Triplets.{Block}
 use Rattle.bm_arena.specs.Contents.{Contents, block_at}
 use Rattle.bm_arena.specs.Holding.{replicas_at}
-use Rattle.bm_levels.specs.Changes.{as_begun, all_changed, has_block}
+use Rattle.bm_base.specs.Excess.{counted_again}
+use Rattle.bm_levels.specs.Changes.{all_changed, has_block}
 
 -- where these slots are still to go, of all of them each that has gone has its new marks, and each other slot is as before
 pub IsBegun : Contents → Contents → List ℕ → List ℕ → Type 0
 IsBegun a now all left =
-    (slot : ℕ) → (Among slot all × (Among slot left → ⊥) × (replicas_at now slot ≡ all_changed as_begun (replicas_at a slot))) ⊎ ((Among slot all → Among slot left) × (block_at now slot ≡ block_at a slot))
+    (slot : ℕ) → (Among slot all × (Among slot left → ⊥) × (replicas_at now slot ≡ all_changed counted_again (replicas_at a slot))) ⊎ ((Among slot all → Among slot left) × (block_at now slot ≡ block_at a slot))
 
 pub begun_none : (a : Contents) (all : List ℕ) → IsBegun a a all all
 unfolding IsBegun
@@ -23,17 +24,17 @@ begun_none a all = λ slot. inr (λ h. h, refl)
 same_replicas_at : (a now : Contents) (slot : ℕ) → block_at now slot ≡ block_at a slot → replicas_at now slot ≡ replicas_at a slot
 same_replicas_at a now slot same = ap (λ o. option_map_or (λ (b : Block). b.replicas) o []) same
 
-pub begun_more : (a now new : Contents) (all left : List ℕ) (x : ℕ) → Among x all → Distinct (x ∷ left) → IsBegun a now all (x ∷ left) → replicas_at new x ≡ all_changed as_begun (replicas_at now x)
+pub begun_more : (a now new : Contents) (all left : List ℕ) (x : ℕ) → Among x all → Distinct (x ∷ left) → IsBegun a now all (x ∷ left) → replicas_at new x ≡ all_changed counted_again (replicas_at now x)
     → ((other : ℕ) → other ≢ x → block_at new other ≡ block_at now other) → IsBegun a new all left
 unfolding IsBegun
 begun_more a now new all left x there once h changed others = λ slot.
     elim (cases_eq slot x) [
       | inl same ↦
-          let P : ℕ → Type 0 = λ z. (Among z all × (Among z left → ⊥) × (replicas_at new z ≡ all_changed as_begun (replicas_at a z))) ⊎ ((Among z all → Among z left) × (block_at new z ≡ block_at a z)) in
+          let P : ℕ → Type 0 = λ z. (Among z all × (Among z left → ⊥) × (replicas_at new z ≡ all_changed counted_again (replicas_at a z))) ⊎ ((Among z all → Among z left) × (block_at new z ≡ block_at a z)) in
           subst P (sym same)
           (elim (h x) [
             | inl g ↦ absurd (g.1 (inl refl))
-            | inr g ↦ inl (there, once.0, changed ∙ ap (all_changed as_begun) (same_replicas_at a now x g.1))
+            | inr g ↦ inl (there, once.0, changed ∙ ap (all_changed counted_again) (same_replicas_at a now x g.1))
           ])
       | inr differs ↦
           elim (h slot) [
@@ -42,7 +43,7 @@ begun_more a now new all left x there once h changed others = λ slot.
           ]
     ]
 
-pub begun_all : (a now : Contents) (all : List ℕ) → IsBegun a now all [] → (slot : ℕ) → Among slot all → replicas_at now slot ≡ all_changed as_begun (replicas_at a slot)
+pub begun_all : (a now : Contents) (all : List ℕ) → IsBegun a now all [] → (slot : ℕ) → Among slot all → replicas_at now slot ≡ all_changed counted_again (replicas_at a slot)
 unfolding IsBegun
 begun_all a now all h slot there = elim (h slot) [ inl g ↦ g.2 | inr g ↦ absurd (g.0 there) ]
 

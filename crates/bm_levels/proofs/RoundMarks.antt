@@ -15,7 +15,7 @@ use Rattle.bm_base.specs.Map.{Map, get, revise, entries, empty}
 use Rattle.bm_base.specs.State.{Cluster, Holdings, by_replica, replica_at}
 use Rattle.bm_base.specs.Lists.{has}
 use Rattle.bm_base.specs.Replicas.{storages_where}
-use Rattle.bm_base.specs.Excess.{excess_in, without_expired, without_unordered_excess, marked}
+use Rattle.bm_base.specs.Excess.{excess_in, without_expired, counted_again, without_unordered_excess, marked}
 use Rattle.bm_base.specs.RoundParts.{surplus}
 use Rattle.bm_base.proofs.MapLaws.{same_map, get-revise}
 use Rattle.bm_base.proofs.Maps.{entry_passes, passes_entry}
@@ -27,7 +27,7 @@ use Rattle.bm_arena.specs.Holding.{replicas_at, replicas_of, holdings_of}
 use Rattle.bm_arena.proofs.Held.{get-replicas_of}
 use Rattle.bm_levels.specs.Judged.{is_settled_at}
 use Rattle.bm_levels.specs.Held.{holdings_with}
-use Rattle.bm_levels.specs.Changes.{as_begun, as_excess, all_changed, has_replica, has_block}
+use Rattle.bm_levels.specs.Changes.{as_excess, all_changed, has_replica, has_block}
 use Rattle.bm_levels.proofs.Settled.{all_plain_at, few_at}
 use Rattle.bm_levels.proofs.AllMarks.{found_changed, marks_listed}
 
@@ -48,35 +48,35 @@ module _ (a : Contents) (lawful : IsLawful a) (b slot : ℕ) (here : slot_of a b
   }
 
   -- dropping marks of excess changes nothing there
-  pub begun_same : (s : ℕ) → marks_at a slot s ≡ option_map as_begun (marks_at a slot s)
+  pub begun_same : (s : ℕ) → marks_at a slot s ≡ option_map counted_again (marks_at a slot s)
   unfolding holdings_of
   begun_same s = by (marks_at a slot s) refl
     where
-      by : (o : Option Marks) → marks_at a slot s ≡ o → o ≡ option_map as_begun o
+      by : (o : Option Marks) → marks_at a slot s ≡ o → o ≡ option_map counted_again o
       by None e = refl
       by (Some m) e =
           let held : get (replicas_of a) (replica_at b s) ≡ Some m = get-replicas_of a (replica_at b s) ∙ ap (λ o. option_and_then (λ x. marks_at a x s) o) here ∙ e in
           let plain = settled_block.all_plain (replica_at b s) m refl held in
-          ap Some (plain ∙ sym (ap as_begun plain))
+          ap Some (plain ∙ sym (ap counted_again plain))
 
 module _ (a c : Contents) (unsettled : List ℕ) (lawful : IsLawful a) (ids : c.ids ≡ a.ids)
     (settled : (slot : ℕ) → (Among slot unsettled → ⊥) → is_settled_at (block_at a slot) ≡ true)
-    (begun : (slot : ℕ) → Among slot unsettled → replicas_at c slot ≡ all_changed as_begun (replicas_at a slot))
+    (begun : (slot : ℕ) → Among slot unsettled → replicas_at c slot ≡ all_changed counted_again (replicas_at a slot))
     (others : (slot : ℕ) → (Among slot unsettled → ⊥) → block_at c slot ≡ block_at a slot) where
-  begun_at : (b slot s : ℕ) → slot_of a b ≡ Some slot → marks_at c slot s ≡ option_map as_begun (marks_at a slot s)
+  begun_at : (b slot s : ℕ) → slot_of a b ≡ Some slot → marks_at c slot s ≡ option_map counted_again (marks_at a slot s)
   begun_at b slot s here = elim (dec_among slot unsettled) [
-    | inl there ↦ sym (marks_listed c slot s) ∙ ap (λ rs. find_marks rs s) (begun slot there) ∙ found_changed as_begun (replicas_at a slot) s ∙ ap (option_map as_begun) (marks_listed a slot s)
+    | inl there ↦ sym (marks_listed c slot s) ∙ ap (λ rs. find_marks rs s) (begun slot there) ∙ found_changed counted_again (replicas_at a slot) s ∙ ap (option_map counted_again) (marks_listed a slot s)
     | inr absent ↦ ap (λ o. option_and_then (λ (k : Block). find_marks k.replicas s) o) (others slot absent) ∙ begun_same a lawful b slot here (settled slot absent) s
   ]
 
   pub begun_replicas : replicas_of c ≡ (without_unordered_excess (holdings_of a)).replicas
   unfolding without_unordered_excess holdings_of
-  begun_replicas = same_map (replicas_of c) (revise (replicas_of a) (λ _ m. as_begun m)) (λ q.
+  begun_replicas = same_map (replicas_of c) (revise (replicas_of a) (λ _ m. counted_again m)) (λ q.
       get-replicas_of c q ∙ ap (λ l. option_and_then (λ x. marks_at c x q.storage) (lookup (nat_eq q.block) l)) ids
       ∙ by q (slot_of a q.block) refl
-      ∙ sym (get-revise (replicas_of a) (λ _ m. as_begun m) q ∙ ap (option_map as_begun) (get-replicas_of a q)))
+      ∙ sym (get-revise (replicas_of a) (λ _ m. counted_again m) q ∙ ap (option_map counted_again) (get-replicas_of a q)))
     where
-      by : (q : ReplicaId) (o : Option ℕ) → slot_of a q.block ≡ o → option_and_then (λ x. marks_at c x q.storage) o ≡ option_map as_begun (option_and_then (λ x. marks_at a x q.storage) o)
+      by : (q : ReplicaId) (o : Option ℕ) → slot_of a q.block ≡ o → option_and_then (λ x. marks_at c x q.storage) o ≡ option_map counted_again (option_and_then (λ x. marks_at a x q.storage) o)
       by q None e = refl
       by q (Some x) e = begun_at q.block x q.storage e
 

@@ -8,7 +8,7 @@ use Rattle.bm_base.proofs.SlotLists.{dec_among}
 use Rattle.bm_base.specs.Map.{revise}
 use Rattle.bm_base.specs.State.{Cluster, Holdings}
 use Rattle.bm_base.specs.Replicas.{rack_of, is_draining, is_multi_rack}
-use Rattle.bm_base.specs.Excess.{without_unordered_excess, marked}
+use Rattle.bm_base.specs.Excess.{counted_again, without_unordered_excess, marked}
 use Rattle.bm_base.specs.RoundParts.{surplus}
 use Rattle.bm_arena.specs.Triplets.{Block}
 use Rattle.bm_arena.specs.Contents.{Contents, block_at, slot_of, marks_at, find_marks, IsLawful, KeepsEntries}
@@ -18,7 +18,7 @@ use Rattle.bm_arena.proofs.Staying.{entries-chain}
 use Rattle.bm_levels.specs.Judged.{is_settled_at}
 use Rattle.bm_levels.specs.Kept.{Kept, IsUnsettled, HasRoomFor, IsJudged, IsSameAt}
 use Rattle.bm_levels.specs.Leveled.{Leveled, IsLeveled, AreLevels}
-use Rattle.bm_levels.specs.Changes.{as_begun, as_excess, all_changed, has_replica, has_block}
+use Rattle.bm_levels.specs.Changes.{as_excess, all_changed, has_replica, has_block}
 use Rattle.bm_levels.proofs.ManySlots.{known_info, marker_settled, leveled_reported, levels_reported}
 use Rattle.bm_levels.proofs.RoundMarks.{settled_block, begun_replicas, no_surplus, marked_replicas, none_marked}
 
@@ -47,7 +47,7 @@ pub record IsStarted (C : Cluster) (old : Leveled) (c : Contents) : Type 0 where
   pub left : (slot : ℕ) → (IsUnsettled old.kept slot → ⊥) → block_at c slot ≡ block_at old.arena slot
 
 module _ (C : Cluster) (old : Leveled) (lawful : IsLawful old.arena) (h : IsLeveled old) (b c : Contents) (ps : List ReplicaId)
-    (begun : (slot : ℕ) → IsUnsettled old.kept slot → replicas_at b slot ≡ all_changed as_begun (replicas_at old.arena slot))
+    (begun : (slot : ℕ) → IsUnsettled old.kept slot → replicas_at b slot ≡ all_changed counted_again (replicas_at old.arena slot))
     (left_begun : (slot : ℕ) → (IsUnsettled old.kept slot → ⊥) → block_at b slot ≡ block_at old.arena slot) (entries_begun : KeepsEntries old.arena b)
     (excess : replicas_of c ≡ revise (replicas_of b) (λ q m. if has_replica ps q then as_excess m else m))
     (left_marked : (slot : ℕ) → ((x : ℕ) → slot_of b x ≡ Some slot → has_block ps x ≡ false) → block_at c slot ≡ block_at b slot) (entries_marked : KeepsEntries b c)

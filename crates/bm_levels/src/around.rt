@@ -58,14 +58,3 @@ impl<'a> Around<'a> {
         }
     }
 }
-
-/// Whether a storage is one of a node.
-#[tactic(auto, unfolding(bm_base::specs::Replicas::has_storage))]
-pub(crate) fn has_storage(topology: &Topology, node: NodeId, storage: StorageId) -> bool
-    ensures { result ≡ replicas.has_storage topology.now.cluster node storage }
-{
-    match topology.node_of(storage) {
-        Some(its_node) => its_node == node,
-        None => false,
-    }
-}

@@ -17,16 +17,6 @@ const NOT_JUDGED: Judged = Judged {
     is_settled: true,
 };
 
-/// How many of so many blocks are the next chunk.
-fn chunk_len(count: usize) -> usize
-    requires { 0 < count }
-    ensures within { result ≤ count }
-    ensures few { result ≤ 64 }
-    ensures some { 0 < result }
-{
-    if count < CHUNK { count } else { CHUNK }
-}
-
 /// Judges the blocks at the slots of a chunk.
 fn judge_ahead(arena: &Arena, chunk: &[Slot], around: &Around<'_>) -> [Judged; CHUNK]
     requires { length chunk.now ≤ 64 }
@@ -49,7 +39,7 @@ impl KeptLevels {
     {
         let mut rest = slots;
         while !rest.is_empty() {
-            let (chunk, behind) = rest.split_at(chunk_len(rest.len()));
+            let (chunk, behind) = rest.split_at(rest.len().min(CHUNK));
             self.judge_chunk(arena, chunk, around);
             rest = behind;
         }

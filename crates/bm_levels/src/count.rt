@@ -5,7 +5,7 @@ ghost use Rattle.bm_levels.specs.Counted as counted;
 ghost use Rattle.bm_levels.specs.Around.{rack_around, drains_around};
 
 use crate::around::Around;
-use bm_base::{Marks, Rack, StorageId, Tag};
+use bm_base::{Marks, Rack, StorageId};
 
 /// What the replicas of a block come to, as far as they were looked at.
 #[derive(Clone, Copy)]
@@ -42,7 +42,7 @@ impl Count {
             self.old storage marks }
     {
         self.is_plain = self.is_plain && is_plain(marks);
-        if !matches!(marks.tag, Tag::Good) || marks.excess {
+        if !marks.is_usable() {
             return;
         }
         let location = around.location_of(storage);
@@ -83,5 +83,5 @@ impl Count {
 fn is_plain(marks: Marks) -> bool
     ensures { result ≡ judged.is_plain marks }
 {
-    matches!(marks.tag, Tag::Good) && !marks.excess && !marks.ordered
+    marks.is_usable() && !marks.ordered
 }

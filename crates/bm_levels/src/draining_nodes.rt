@@ -7,7 +7,7 @@ ghost use Rattle.bm_levels.specs.Leveled.{AreLevels};
 ghost use Rattle.bm_levels.specs.LevelsBy.{with_draining};
 ghost use Rattle.bm_levels.specs.Around.{AreJudgedOfStorage, AreJudgedOfNode};
 
-use crate::around::{Around, Turning, has_storage};
+use crate::around::{Around, Turning};
 use crate::kept::KeptLevels;
 use crate::leveled::LeveledBlocks;
 use bm_arena::Arena;
@@ -42,7 +42,7 @@ impl KeptLevels {
     {
         for place in 0..around.topology.storage_count() {
             if let Some(storage) = around.topology.storage_at(place) {
-                if has_storage(around.topology, node, storage) {
+                if around.topology.has_storage(node, storage) {
                     self.judge_list(arena, storage, around);
                 }
             }

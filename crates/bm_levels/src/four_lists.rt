@@ -5,7 +5,7 @@ ghost use Rattle.bm_levels.specs.Bare.{MakesNoneBare};
 ghost use Rattle.bm_levels.specs.Leaving.{IsLeaving, MakesNoHead};
 ghost use Rattle.bm_levels.specs.Around.{is_on_node, KeepsLevelsAround};
 
-use crate::around::{Around, has_storage};
+use crate::around::Around;
 use crate::chunks::CHUNK;
 use crate::leveled::LeveledBlocks;
 use bm_arena::{Arena, Walk};
@@ -87,7 +87,7 @@ impl LeveledBlocks {
         let mut count = 0usize;
         for place in 0..around.topology.storage_count() {
             if let Some(storage) = around.topology.storage_at(place) {
-                if has_storage(around.topology, node, storage) {
+                if around.topology.has_storage(node, storage) {
                     four.follow(storage, count == 0);
                     count = (count + 1) % 4;
                     if count == 0 {
@@ -144,7 +144,7 @@ impl LeveledBlocks {
         ensures fewer { MakesNoHead self.old.arena self.new.arena }
         ensures levels { KeepsLevelsAround around.now self.old self.new }
     {
-        if !has_storage(around.topology, node, storage) {
+        if !around.topology.has_storage(node, storage) {
             return 0;
         }
         self.take_some(around, storage) as u128

@@ -11,7 +11,7 @@ ghost use Rattle.bm_levels.specs.Leveled.{AreLevels};
 ghost use Rattle.bm_levels.specs.Leaving.{IsLeaving, HasNoHeads, MakesNoHead};
 ghost use Rattle.bm_levels.specs.Around.{is_on_node, KeepsLevelsAround};
 
-use crate::around::{Around, has_storage};
+use crate::around::Around;
 use crate::leveled::LeveledBlocks;
 use bm_base::{NodeId, StorageId};
 use bm_topo::Topology;
@@ -82,7 +82,7 @@ impl LeveledBlocks {
         let mut removed = self.clear_abreast(around, node);
         for place in 0..around.topology.storage_count() {
             if let Some(storage) = around.topology.storage_at(place) {
-                if has_storage(around.topology, node, storage) {
+                if around.topology.has_storage(node, storage) {
                     removed += self.clear(around, storage) as u128;
                 }
             }

@@ -37,11 +37,7 @@ impl MarkChange {
                 excess: false,
                 ordered: marks.ordered,
             },
-            MarkChange::RoundBegun => Marks {
-                tag: marks.tag,
-                excess: marks.excess && marks.ordered,
-                ordered: marks.ordered,
-            },
+            MarkChange::RoundBegun => marks.counted_again(),
         }
     }
 }

@@ -4,11 +4,12 @@ ghost use Rattle.bm_base.specs.Map.{revise, revise_at};
 ghost use Rattle.bm_base.specs.State.{replica_at};
 ghost use Rattle.bm_base.specs.SlotLists.{Among};
 ghost use Rattle.bm_base.specs.Excess as excess;
+ghost use Rattle.bm_base.specs.Excess.{counted_again};
 ghost use Rattle.bm_base.specs.RoundParts as parts;
 ghost use Rattle.bm_arena.specs.Contents.{block_at, slot_of, KeepsEntries};
 ghost use Rattle.bm_arena.specs.Holding.{replicas_at, replicas_of, blocks_of};
 ghost use Rattle.bm_levels.specs.Bare.{KeepsBlocksOutside};
-ghost use Rattle.bm_levels.specs.Changes.{as_begun, as_excess, as_ordered, all_changed, has_replica, has_block, ordered_by, at_round_start};
+ghost use Rattle.bm_levels.specs.Changes.{as_excess, as_ordered, all_changed, has_replica, has_block, ordered_by, at_round_start};
 ghost use Rattle.bm_levels.specs.Leveled.{KeepsLevels};
 
 use crate::kept::KeptLevels;
@@ -80,7 +81,7 @@ impl LeveledBlocks {
 /// Marks of excess whose delete was not ordered are dropped at each unsettled slot.
 fn begin_marks(arena: &mut Arena, kept: &KeptLevels)
     ensures begun { (slot : ℕ) → Among slot kept.now.unsettled.slots
-        → replicas_at arena.new slot ≡ all_changed as_begun (replicas_at arena.old slot) }
+        → replicas_at arena.new slot ≡ all_changed counted_again (replicas_at arena.old slot) }
     ensures others { KeepsBlocksOutside kept.now.unsettled.slots arena.old arena.new }
     ensures entries { KeepsEntries arena.old arena.new }
 {

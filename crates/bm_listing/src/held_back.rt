@@ -11,30 +11,14 @@ ghost use Rattle.bm_levels.specs.Judged.{storages_at};
 ghost use Rattle.bm_listing.specs.Listed.{lacks_live, waits_at, waits_on, waits_for};
 
 use bm_arena::{Arena, Slot};
-use bm_base::{Marks, NodeId, StorageId, Tag};
+use bm_base::{Marks, NodeId, StorageId};
 use bm_levels::LeveledBlocks;
 use bm_topo::Topology;
-
-#[tactic(auto, unfolding(bm_base::specs::Replicas::has_storage))]
-fn has_storage(topology: &Topology, node: NodeId, storage: StorageId) -> bool
-    ensures { result ≡ replicas.has_storage topology.now.cluster node storage }
-{
-    match topology.node_of(storage) {
-        Some(owner) => owner == node,
-        None => false,
-    }
-}
-
-fn is_usable(marks: Marks) -> bool
-    ensures { result ≡ replicas.is_usable marks }
-{
-    matches!(marks.tag, Tag::Good) && !marks.excess
-}
 
 fn is_live_on(topology: &Topology, storage: StorageId, marks: Marks) -> bool
     ensures { result ≡ replicas.is_live_on topology.now.cluster storage marks }
 {
-    let is_usable = is_usable(marks);
+    let is_usable = marks.is_usable();
     is_usable && !topology.is_draining(storage)
 }
 
@@ -70,7 +54,7 @@ fn waits_at(topology: &Topology, arena: &Arena, storage: StorageId, slot: Slot) 
 {
     match arena.marks(slot, storage) {
         Some(marks) => {
-            let is_usable = is_usable(marks);
+            let is_usable = marks.is_usable();
             is_usable && lacks_live(topology, arena, slot)
         }
         None => false,
@@ -93,7 +77,7 @@ fn waits_on(topology: &Topology, arena: &Arena, storage: StorageId) -> bool
 fn waits_for(topology: &Topology, arena: &Arena, node: NodeId, storage: StorageId) -> bool
     ensures { result ≡ waits_for topology.now.cluster arena.now node storage }
 {
-    if has_storage(topology, node, storage) && topology.is_draining(storage) {
+    if topology.has_storage(node, storage) && topology.is_draining(storage) {
         waits_on(topology, arena, storage)
     } else {
         false

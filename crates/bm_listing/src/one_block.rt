@@ -12,21 +12,9 @@ ghost use Rattle.bm_levels.specs.Held.{holdings_with};
 ghost use Rattle.bm_levels.specs.Judged.{storages_at};
 
 use bm_arena::{Arena, Slot};
-use bm_base::{BlockId, Items, Refusal, StorageId, Tag};
+use bm_base::{BlockId, Items, Refusal, StorageId};
 use bm_levels::LeveledBlocks;
 use std::alloc::Global;
-
-fn is_good(tag: Tag) -> bool
-    ensures { result ≡ replicas.is_good tag }
-{
-    matches!(tag, Tag::Good)
-}
-
-fn is_stray(tag: Tag) -> bool
-    ensures { result ≡ replicas.is_stray tag }
-{
-    matches!(tag, Tag::Stray)
-}
 
 /// Puts the storages of the good replicas at a slot behind those that are there.
 pub(crate) fn push_good(arena: &Arena, slot: Slot, into: &mut Vec<StorageId>) -> Result<(), Refusal>
@@ -36,7 +24,7 @@ pub(crate) fn push_good(arena: &Arena, slot: Slot, into: &mut Vec<StorageId>) ->
 {
     for place in 0..arena.triplet_count(slot) {
         if let Some((storage, marks)) = arena.triplet_at(slot, place) {
-            if is_good(marks.tag) {
+            if marks.tag.is_good() {
                 into.push(storage)?;
             }
         }
@@ -82,7 +70,7 @@ fn has_stray(arena: &Arena, slot: Slot) -> bool
 {
     for place in 0..arena.triplet_count(slot) {
         if let Some((_, marks)) = arena.triplet_at(slot, place) {
-            if is_stray(marks.tag) {
+            if marks.tag.is_stray() {
                 return true;
             }
         }

@@ -12,7 +12,7 @@ ghost use Rattle.bm_levels.specs.Held.{holdings_with};
 ghost use Rattle.bm_listing.specs.Listed.{wants, listed_at, listed_on, replicas_passing};
 
 use bm_arena::{Arena, Slot};
-use bm_base::{Items, Marks, Refusal, Replica, ReplicaId, Tag};
+use bm_base::{Items, Marks, Refusal, Replica, ReplicaId};
 use bm_levels::LeveledBlocks;
 use std::alloc::Global;
 
@@ -31,7 +31,7 @@ fn wants(wanted: Wanted, marks: Marks) -> bool
 {
     match wanted {
         Wanted::All => true,
-        Wanted::Corrupt => matches!(marks.tag, Tag::Stale | Tag::Bad),
+        Wanted::Corrupt => marks.tag.is_corrupt(),
         Wanted::Excess => marks.excess,
     }
 }

@@ -2,13 +2,12 @@
 ghost use Rattle.std.specs.Prelude.{◌≡◌, true, false, None, IfOk, IfErr, OnOk};
 ghost use Rattle.bm_base.specs.Queries as queries;
 ghost use Rattle.bm_base.specs.Levels as levels;
-ghost use Rattle.bm_base.specs.Refusals.{node_refusal, storage_refusal, block_refusal, knows_storage};
+ghost use Rattle.bm_base.specs.Refusals.{node_refusal, storage_refusal, block_refusal};
 ghost use Rattle.bm_base.specs.Answering.{Refuses};
 ghost use Rattle.bm_base.specs.declared.refusal.Refusal.TheVariants.{Memory};
 
 use crate::manager::Manager;
 use bm_base::{BlockId, Items, Level, NodeId, Refusal, Replica, ReplicaId, StorageId};
-use bm_topo::Topology;
 
 impl Manager {
     /// How many calls were accepted, from `first_call` on. Takes no memory.
@@ -56,7 +55,7 @@ impl Manager {
         ensures blocks { IfOk result (λ v. v ≡ queries.blocks_on self.now.holdings storage) }
         ensures refused { IfErr result (Refuses (storage_refusal self.now.cluster storage) true) }
     {
-        if !knows_storage(&self.topology, storage) {
+        if !self.topology.knows_storage(storage) {
             return Err(Refusal::UnknownStorage);
         }
         self.fleet.blocks_on(storage)
@@ -103,11 +102,4 @@ impl Manager {
     {
         self.fleet.level(id)
     }
-}
-
-#[tactic(auto, unfolding(bm_base::specs::Refusals::knows_storage, bm_base::specs::Replicas::node_of))]
-fn knows_storage(topology: &Topology, storage: StorageId) -> bool
-    ensures { result ≡ knows_storage topology.now.cluster storage }
-{
-    topology.node_of(storage).is_some()
 }

@@ -8,7 +8,7 @@ use Rattle.bm_base.specs.declared.event.Done.{Done}
 use Rattle.bm_base.specs.declared.replica.Marks.{Marks}
 use Rattle.bm_base.specs.Map.{Map}
 use Rattle.bm_base.specs.State.{Cluster, Holdings, by_replica}
-use Rattle.bm_base.specs.Events.{change_holdings}
+use Rattle.bm_base.specs.Events.{change_cluster, change_holdings}
 use Rattle.bm_base.specs.Calls.{new_replicas, done}
 use Rattle.bm_base.specs.Shards.{shard_of}
 use Rattle.bm_base.proofs.Differences.{none_new}
@@ -16,6 +16,18 @@ use Rattle.bm_parts.specs.Parts.{block_of, change_part}
 use Rattle.bm_parts.specs.Whole.{EachPart, done_of_all}
 use Rattle.bm_parts.specs.EventLaws as law
 use Rattle.bm_parts.proofs.Changing.{whole_changes_by_event, done_adds_up}
+
+-- an event on a block leaves the cluster
+pub same_cluster : (C : Cluster) (e : Event) (b : ℕ) → block_of e ≡ Some b → change_cluster C e ≡ C
+unfolding change_cluster
+same_cluster C (Register n rack ss) b on = cc
+same_cluster C (Dead n) b on = cc
+same_cluster C (StorageFailed s) b on = cc
+same_cluster C (Heartbeat n rs) b on = cc
+same_cluster C (Drain n) b on = cc
+same_cluster C (Undrain n) b on = cc
+same_cluster C (FullReport s es) b on = cc
+same_cluster C e b on = refl
 
 pub one_block_changes_one_part : law.one_block_changes_one_part
 one_block_changes_one_part C P (Register n rack ss) b index shards is = cc

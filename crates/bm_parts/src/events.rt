@@ -1,7 +1,33 @@
 // Events, made on parts.
 #![tactic(auto)]
 
+ghost use Rattle.std.specs.Prelude.{◌≡◌};
 ghost use Rattle.bm_parts.specs.EventLaws as law;
+ghost use Rattle.bm_parts.specs.Parts.{block_of};
+
+use bm_base::{BlockId, Event};
+
+/// The block of an event on one block; `None` of an event on the cluster, and of a full report.
+pub fn block_of(event: &Event) -> Option<BlockId>
+    ensures { result ≡ block_of event.now }
+{
+    match event {
+        Event::AddBlock { id, .. }
+        | Event::DeleteBlock { id }
+        | Event::SetReplication { id, .. }
+        | Event::Restamp { id, .. }
+        | Event::Received { id, .. }
+        | Event::Deleted { id, .. }
+        | Event::Corrupt { id, .. } => Some(*id),
+        Event::Register { .. }
+        | Event::Dead { .. }
+        | Event::StorageFailed { .. }
+        | Event::Heartbeat { .. }
+        | Event::Drain { .. }
+        | Event::Undrain { .. }
+        | Event::FullReport { .. } => None,
+    }
+}
 
 /// Where an event is made on every part, it is made on the whole.
 pub fn whole_changes_by_event()

@@ -10,7 +10,7 @@ ghost use Rattle.bm_report.specs.Aborted.{NamesNew};
 ghost use Rattle.bm_report.specs.Expanded.{IsPrepared, IsSeen, of_part, told_to};
 ghost use Rattle.bm_report.specs.declared.chunks.TheConstants.{CHUNK};
 
-use crate::chunks::chunk_len;
+use crate::chunks::CHUNK;
 use crate::room_for_replica::make_room;
 use crate::slots_of_numbers::{Known, find_firsts, first_of_part, slot_for};
 use crate::types::Named;
@@ -143,7 +143,7 @@ fn look_up_all(
     named.clear();
     let mut rest = entries;
     while !rest.is_empty() {
-        let (chunk, behind) = rest.split_at(chunk_len(rest.len()));
+        let (chunk, behind) = rest.split_at(rest.len().min(CHUNK));
         look_up_chunk(arena, storage, chunk, part, named)?;
         rest = behind;
     }

@@ -4,18 +4,8 @@ ghost use Rattle.bm_base.specs.Replicas as replicas;
 ghost use Rattle.bm_arena.specs.Contents.{marks_at};
 
 use bm_arena::{Arena, Slot};
-use bm_base::{NodeId, StorageId};
+use bm_base::StorageId;
 use bm_topo::Topology;
-
-#[tactic(auto, unfolding(bm_base::specs::Replicas::has_storage))]
-fn has_storage(topology: &Topology, node: NodeId, storage: StorageId) -> bool
-    ensures { result ≡ replicas.has_storage topology.now.cluster node storage }
-{
-    match topology.node_of(storage) {
-        Some(its_node) => its_node == node,
-        None => false,
-    }
-}
 
 /// Whether two storages are different ones of one node.
 #[tactic(auto, unfolding(bm_base::specs::Replicas::are_sisters))]
@@ -26,7 +16,7 @@ pub(crate) fn are_sisters(topology: &Topology, a: StorageId, b: StorageId) -> bo
         return false;
     }
     match topology.node_of(a) {
-        Some(node) => has_storage(topology, node, b),
+        Some(node) => topology.has_storage(node, b),
         None => false,
     }
 }

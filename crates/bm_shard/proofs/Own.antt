@@ -5,7 +5,6 @@ use Rattle.std.specs.Option.{option_map_or}
 use Rattle.bm_base.specs.declared.ids.Part.{Part}
 use Rattle.bm_base.specs.declared.event.Done.{Done}
 use Rattle.bm_base.specs.declared.event.Event.{Event}
-use Rattle.bm_base.specs.declared.event.Event.TheVariants.{Register, Dead, StorageFailed, Heartbeat, Drain, Undrain, FullReport}
 use Rattle.bm_base.specs.Shards.{shard_of}
 use Rattle.bm_base.specs.State.{Cluster, Holdings}
 use Rattle.bm_base.specs.Map.{get}
@@ -14,7 +13,7 @@ use Rattle.bm_base.specs.Calls.{done}
 use Rattle.bm_base.specs.Events.{change_cluster, change_holdings}
 use Rattle.bm_parts.specs.Parts.{block_of, change_part}
 use Rattle.bm_parts.specs.PlacedLaws.{IsPlaced}
-use Rattle.bm_parts.proofs.OneShard.{one_block_changes_one_part, nothing_done}
+use Rattle.bm_parts.proofs.OneShard.{same_cluster, one_block_changes_one_part, nothing_done}
 use Rattle.bm_shard.specs.Seen.{Seen}
 use Rattle.bm_shard.specs.Changed.{HasChanged, owns}
 use Rattle.bm_shard.specs.Standing.{StandsIn, IsSameButRoom}
@@ -49,18 +48,6 @@ pub by_own : (C : Cluster) (old new : Seen) (answer : Done) (e : Event) (b : ℕ
     → HasChanged C (change_cluster C e) old new (change_holdings C old.holdings e) answer
     → HasChanged C (change_cluster C e) old new (change_part C old.holdings old.part.index old.part.shards e) answer
 by_own C old new answer e b on is h = subst (λ H. HasChanged C (change_cluster C e) old new H answer) (sym (own_changes old.part e C old.holdings b on is)) h
-
--- an event on a block leaves the cluster
-pub same_cluster : (C : Cluster) (e : Event) (b : ℕ) → block_of e ≡ Some b → change_cluster C e ≡ C
-unfolding change_cluster
-same_cluster C (Register n rack ss) b on = cc
-same_cluster C (Dead n) b on = cc
-same_cluster C (StorageFailed s) b on = cc
-same_cluster C (Heartbeat n rs) b on = cc
-same_cluster C (Drain n) b on = cc
-same_cluster C (Undrain n) b on = cc
-same_cluster C (FullReport s es) b on = cc
-same_cluster C e b on = refl
 
 -- an event that is another shard's leaves all but room
 pub left_alone : (C : Cluster) (e : Event) (old new : Seen) → owns old.part e ≡ false → StandsIn C old → IsSameButRoom old new

@@ -158,7 +158,7 @@ fn drop_transfers_to(pending: &mut PendingTransfers, topology: &Topology, node: 
 {
     for place in 0..topology.storage_count() {
         if let Some(storage) = topology.storage_at(place) {
-            if is_on(topology, storage, node) {
+            if topology.has_storage(node, storage) {
                 drop_transfers_on(pending, storage);
             }
         }
@@ -171,15 +171,4 @@ fn drop_transfers_on(pending: &mut PendingTransfers, storage: StorageId)
 {
     let storages = [storage];
     pending.drop_storages(storages.as_slice());
-}
-
-/// Whether a storage is one of a node.
-#[tactic(auto, unfolding(bm_base::specs::Replicas::has_storage))]
-fn is_on(topology: &Topology, storage: StorageId, node: NodeId) -> bool
-    ensures { result ≡ replicas.has_storage topology.now.cluster node storage }
-{
-    match topology.node_of(storage) {
-        Some(its_node) => its_node == node,
-        None => false,
-    }
 }

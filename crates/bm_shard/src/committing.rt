@@ -14,7 +14,8 @@ ghost use Rattle.bm_shard.specs.Standing.{StandsIn};
 
 use crate::one_block::NOTHING;
 use crate::shard::Shard;
-use bm_base::{BlockId, Done, Event, shard_of};
+use bm_base::{Done, Event, shard_of};
+use bm_parts::events::block_of;
 use bm_topo::Topology;
 
 impl Shard {
@@ -120,28 +121,5 @@ fn takes_room(event: &Event) -> bool
         | Event::Restamp { .. }
         | Event::Deleted { .. }
         | Event::Corrupt { .. } => false,
-    }
-}
-
-/// The block of an event on one block.
-#[tactic(auto, unfolding(bm_parts::specs::Parts::block_of))]
-fn block_of(event: &Event) -> Option<BlockId>
-    ensures { result ≡ block_of event.now }
-{
-    match event {
-        Event::AddBlock { id, .. }
-        | Event::DeleteBlock { id }
-        | Event::SetReplication { id, .. }
-        | Event::Restamp { id, .. }
-        | Event::Received { id, .. }
-        | Event::Deleted { id, .. }
-        | Event::Corrupt { id, .. } => Some(*id),
-        Event::Register { .. }
-        | Event::Dead { .. }
-        | Event::StorageFailed { .. }
-        | Event::Heartbeat { .. }
-        | Event::Drain { .. }
-        | Event::Undrain { .. }
-        | Event::FullReport { .. } => None,
     }
 }

@@ -175,23 +175,6 @@ impl Topology {
     {
         self.nodes.get(u64::from(node.0)).is_some()
     }
-
-    #[tactic(auto, unfolding(bm_base::specs::Refusals::knows_storage))]
-    fn knows_storage(&self, storage: StorageId) -> bool
-        ensures { result ≡ knows_storage self.now.cluster storage }
-    {
-        self.storages.get(u64::from(storage.0)).is_some()
-    }
-
-    #[tactic(auto, unfolding(bm_base::specs::Replicas::has_storage))]
-    fn has_storage(&self, node: NodeId, storage: StorageId) -> bool
-        ensures { result ≡ replicas.has_storage self.now.cluster node storage }
-    {
-        match self.node_of(storage) {
-            Some(its_node) => its_node == node,
-            None => false,
-        }
-    }
 }
 
 /// Whether a storage stands twice in a list. A long one is not compared storage by storage, which would take as many steps as its

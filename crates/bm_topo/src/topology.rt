@@ -3,7 +3,7 @@ ghost use Rattle.std.specs.Prelude.{◌≡◌, ◌≤◌, IfOk, IsOk, Some, None
 ghost use Rattle.bm_base.specs.Map as map;
 ghost use Rattle.bm_base.specs.State as state;
 ghost use Rattle.bm_base.specs.Replicas as replicas;
-ghost use Rattle.bm_base.specs.Refusals.{knows_node};
+ghost use Rattle.bm_base.specs.Refusals.{knows_node, knows_storage};
 ghost use Rattle.bm_base.specs.Lawful.{IsLawfulCluster};
 ghost use Rattle.bm_base.specs.declared.limits.TheConstants.{MAX_NODES, MAX_STORAGES};
 ghost use Rattle.bm_topo.specs.Seen.{no_room};
@@ -85,6 +85,25 @@ impl Topology {
         match self.storages.get(u64::from(storage.0)) {
             Some(info) => Some(info.node),
             None => None,
+        }
+    }
+
+    /// Whether a storage is known.
+    #[tactic(auto, unfolding(bm_base::specs::Refusals::knows_storage))]
+    pub fn knows_storage(&self, storage: StorageId) -> bool
+        ensures { result ≡ knows_storage self.now.cluster storage }
+    {
+        self.storages.get(u64::from(storage.0)).is_some()
+    }
+
+    /// Whether a storage is one of a node; not where it is not known.
+    #[tactic(auto, unfolding(bm_base::specs::Replicas::has_storage))]
+    pub fn has_storage(&self, node: NodeId, storage: StorageId) -> bool
+        ensures { result ≡ replicas.has_storage self.now.cluster node storage }
+    {
+        match self.node_of(storage) {
+            Some(its_node) => its_node == node,
+            None => false,
         }
     }
 

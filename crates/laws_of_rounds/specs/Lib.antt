@@ -6,5 +6,4 @@ pub mod Deletes
 pub mod Transfers
 pub mod Rounds
 pub mod Commands
-pub mod Choices
 pub mod Obedience

@@ -4,7 +4,6 @@
 //! does anything: its contract is the law.
 #![tactic(auto)]
 
-pub mod choices;
 pub mod commands;
 pub mod deletes;
 pub mod levels;

@@ -7,3 +7,5 @@ pub mod Reports
 pub mod Refusals
 pub mod Limits
 pub mod Draining
+-- Rows of one small cluster.
+pub mod Choices

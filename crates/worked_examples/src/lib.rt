@@ -4,6 +4,7 @@
 //! manager is proved. No function here does anything: its contract is the example.
 #![tactic(auto)]
 
+pub mod choices;
 pub mod copies;
 pub mod deletes;
 pub mod draining;

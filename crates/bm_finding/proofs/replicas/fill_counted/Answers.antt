@@ -5,7 +5,8 @@ use Rattle.bm_base.specs.State.{by_replica, replica_at}
 use Rattle.bm_arena.specs.Holding.{replicas_at}
 use Rattle.bm_arena.specs.Contents.{block_at}
 use Rattle.bm_levels.proofs.Slots.{next_at, none_at}
-use Rattle.bm_finding.specs.Marking.{counted_again, put_on}
+use Rattle.bm_base.specs.Excess.{counted_again}
+use Rattle.bm_finding.specs.Marking.{put_on}
 use Rattle.bm_finding.proofs.replicas.fill_counted.Goals as goal
 use Rattle.bm_finding.proofs.replicas.fill_counted.Goals.{in-Some+in_ok-insert, in_default}
 

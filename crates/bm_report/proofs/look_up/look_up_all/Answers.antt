@@ -16,7 +16,7 @@ empty_of (x ∷ xs) e = let none = eqb-true (length (x ∷ xs)) 0 e in absurd (o
 
 pub loop-rest-preserved : goal.loop-rest-preserved
 loop-rest-preserved c =
-    let whole : c.split_at.result.0.now ++ c.split_at.result.1.now ≡ c.loop-rest.rest.now = (λ i. c.split_at.ensures.front i ++ c.split_at.ensures.back i) ∙ take-append-drop c.chunk_len.result c.loop-rest.rest.now in record {
+    let whole : c.split_at.result.0.now ++ c.split_at.result.1.now ≡ c.loop-rest.rest.now = (λ i. c.split_at.ensures.front i ++ c.split_at.ensures.back i) ∙ take-append-drop c.min.result c.loop-rest.rest.now in record {
       fresh = naming-chain c.args.arena.now c.loop-rest.arena c.look_up_chunk.new.arena [] c.loop-rest.named.items c.look_up_chunk.new.named.items c.loop-rest.invariant.fresh c.look_up_chunk.ensures.fresh;
       kept = prepared-chain c.args.arena.now c.loop-rest.arena c.look_up_chunk.new.arena c.loop-rest.invariant.kept c.look_up_chunk.ensures.kept;
       here = c.in_ok-look_up_chunk.ensures.here;
@@ -34,5 +34,5 @@ returns-clause-named c =
 
 pub returns-in_err-look_up_chunk-clause-others : goal.returns-in_err-look_up_chunk-clause-others
 returns-in_err-look_up_chunk-clause-others c b out =
-    let whole : c.split_at.result.0.now ++ c.split_at.result.1.now ≡ c.loop-rest.rest.now = (λ i. c.split_at.ensures.front i ++ c.split_at.ensures.back i) ∙ take-append-drop c.chunk_len.result c.loop-rest.rest.now in
+    let whole : c.split_at.result.0.now ++ c.split_at.result.1.now ≡ c.loop-rest.rest.now = (λ i. c.split_at.ensures.front i ++ c.split_at.ensures.back i) ∙ take-append-drop c.min.result c.loop-rest.rest.now in
     c.look_up_chunk.ensures.others b (not_named _ (λ in_it. named_apart _ b out (c.loop-rest.invariant.left b (front_named c.args.part c.split_at.result.0.now c.split_at.result.1.now c.loop-rest.rest.now b whole in_it)))) ∙ c.loop-rest.invariant.others b out

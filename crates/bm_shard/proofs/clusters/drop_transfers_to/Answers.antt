@@ -2,7 +2,7 @@ use Rattle.std.proofs.Common.{◌≡◌, ◌+◌, ◌≤◌, arith, sym, subst, 
 use Rattle.bm_base.specs.Map.{len}
 use Rattle.bm_pending.specs.OnTheWay.{OnTheWay}
 use Rattle.bm_shard.proofs.Transfers.{AreGone, gone_at_first, gone_one, gone_other, gone_past, all_gone}
-use Rattle.bm_shard.proofs.clusters.drop_transfers_to.Goals.{in-Some+then-is_on, in-Some+else-is_on, in_default}
+use Rattle.bm_shard.proofs.clusters.drop_transfers_to.Goals.{in-Some+then-has_storage, in-Some+else-has_storage, in_default}
 use Rattle.bm_shard.proofs.clusters.drop_transfers_to.Goals as goal
 
 pub loop-place-init : goal.loop-place-init
@@ -21,9 +21,9 @@ loop-place-preserved c =
     let place = c.loop-place.place in
     let before = c.loop-place.invariant in
     elim c.match-storage_at.branch [
-      | in-Some+then-is_on w ↦
-          after c w.pending-is (gone_one C n old m place before w.in-Some.storage w.drop_transfers_on.new.pending.map (sym c.storage_at.ensures ∙ w.in-Some.is) (sym w.is_on.ensures ∙ w.if-is_on.true) w.drop_transfers_on.ensures)
-      | in-Some+else-is_on w ↦ after c w.pending-is (gone_other C n old m place before w.in-Some.storage (sym c.storage_at.ensures ∙ w.in-Some.is) (sym w.is_on.ensures ∙ w.if-is_on.false))
+      | in-Some+then-has_storage w ↦
+          after c w.pending-is (gone_one C n old m place before w.in-Some.storage w.drop_transfers_on.new.pending.map (sym c.storage_at.ensures ∙ w.in-Some.is) (sym w.has_storage.ensures ∙ w.if-has_storage.true) w.drop_transfers_on.ensures)
+      | in-Some+else-has_storage w ↦ after c w.pending-is (gone_other C n old m place before w.in-Some.storage (sym c.storage_at.ensures ∙ w.in-Some.is) (sym w.has_storage.ensures ∙ w.if-has_storage.false))
       | in_default w ↦ after c w.pending-is (gone_past C n old m place before (sym c.storage_at.ensures ∙ w.in_default.is))
     ]
 

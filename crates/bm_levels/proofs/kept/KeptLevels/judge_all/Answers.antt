@@ -21,7 +21,7 @@ loop-rest-init c =
 pub judge_chunk-requires-clause-room : goal.judge_chunk-requires-clause-room
 judge_chunk-requires-clause-room c slot there =
     let P : List ℕ → Type 0 = λ l. Among slot l in
-    let whole : c.split_at.result.0.now ++ c.split_at.result.1.now ≡ c.loop-rest.rest.now = (λ i. c.split_at.ensures.front i ++ c.split_at.ensures.back i) ∙ take-append-drop c.chunk_len.result c.loop-rest.rest.now in
+    let whole : c.split_at.result.0.now ++ c.split_at.result.1.now ≡ c.loop-rest.rest.now = (λ i. c.split_at.ensures.front i ++ c.split_at.ensures.back i) ∙ take-append-drop c.min.result c.loop-rest.rest.now in
     c.loop-rest.invariant.room (slot + 1) (c.requires.room slot (c.loop-rest.invariant.listed slot (subst P whole (Among-left slot c.split_at.result.0.now c.split_at.result.1.now there))))
 
 pub loop-rest-preserved : goal.loop-rest-preserved
@@ -33,7 +33,7 @@ loop-rest-preserved c =
     let all = c.args.slots.now in
     let xs = c.split_at.result.0.now in
     let ys = c.split_at.result.1.now in
-    let whole : xs ++ ys ≡ c.loop-rest.rest.now = (λ i. c.split_at.ensures.front i ++ c.split_at.ensures.back i) ∙ take-append-drop c.chunk_len.result c.loop-rest.rest.now in
+    let whole : xs ++ ys ≡ c.loop-rest.rest.now = (λ i. c.split_at.ensures.front i ++ c.split_at.ensures.back i) ∙ take-append-drop c.min.result c.loop-rest.rest.now in
     let P : List ℕ → Type 0 = λ l. IsUnderway (rack_of C) D multi a all l c.args.self.now c.loop-rest.self in
     let listed : (slot : ℕ) → Among slot (xs ++ ys) → Among slot all = λ slot h. c.loop-rest.invariant.listed slot (let Q : List ℕ → Type 0 = λ l. Among slot l in subst Q whole h) in
     record {

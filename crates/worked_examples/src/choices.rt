@@ -1,7 +1,7 @@
 // Computed rows of a round's choices on one small cluster: each tie, and each limit at its edge.
 #![tactic(auto, unfolding(bm_base::specs::Runs::run_of))]
 
-ghost use Rattle.laws_of_rounds.specs.Choices as row;
+ghost use Rattle.worked_examples.specs.Choices as row;
 
 /// A second copy goes to another rack, a third to one of the two racks that hold the block, a fourth to any rack.
 pub fn racks_of_copies()
