@@ -34,6 +34,7 @@ pub mod RoundParts
 pub mod Choices
 -- What calls answer.
 pub mod Refusals
+pub mod Names
 pub mod Configuration
 pub mod Calls
 pub mod AllStates

@@ -1,9 +1,11 @@
 // Blocks and their replicas.
-ghost use Rattle.std.specs.Prelude.{◌≡◌};
+ghost use Rattle.std.specs.Prelude.{◌≡◌, Some};
+ghost use Rattle.bm_base.specs.Names.{tag_name};
 ghost use Rattle.bm_base.specs.Replicas as replicas;
 ghost use Rattle.bm_base.specs.Excess as excess;
 
 use crate::ids::{BlockId, Gen, StorageId};
+use std::fmt;
 
 /// Which version of a block it is, and how long it is.
 #[derive(Clone, Copy, Debug, PartialEq, Eq)]
@@ -52,6 +54,26 @@ impl Tag {
         ensures { result ≡ replicas.is_corrupt self }
     {
         matches!(self, Tag::Stale | Tag::Bad)
+    }
+
+    /// Its name, as the tool prints it and `Display` writes it.
+    pub fn name(self) -> &'static str
+        ensures { result.now ≡ tag_name self }
+    {
+        match self {
+            Tag::Good => "good",
+            Tag::Stale => "stale",
+            Tag::Bad => "bad",
+            Tag::Stray => "stray",
+        }
+    }
+}
+
+impl fmt::Display for Tag {
+    ghost output = { λ tag. Some (tag_name tag) };
+
+    fn fmt<W: fmt::Write>(&self, f: &mut fmt::Formatter<W>) -> fmt::Result {
+        f.write_str(self.name())
     }
 }
 

@@ -2,9 +2,6 @@
 use Rattle.std.specs.Prelude.{ℕ, Bool, true, false, List, [], ◌++◌, Option, Some, None, codes, decimal}
 use Rattle.std.specs.List.{flat_map}
 use Rattle.bm_base.specs.declared.refusal.Refusal.{Refusal}
-use Rattle.bm_base.specs.declared.refusal.Refusal.TheVariants.{UnknownNode, NodeKnown, UnknownStorage, StorageKnown, UnknownBlock, BlockKnown, StillStored, BadReplication, OldGeneration, TooMany, NotItsStorage, RoundsSpent, CallsSpent, Memory, BadConfig}
-use Rattle.bm_base.specs.declared.replica.Tag.{Tag}
-use Rattle.bm_base.specs.declared.replica.Tag.TheVariants.{Good, Stale, Bad, Stray}
 use Rattle.bm_base.specs.declared.replica.ReplicaId.{ReplicaId}
 use Rattle.bm_base.specs.declared.replica.Replica.{Replica}
 use Rattle.bm_base.specs.declared.level.Level.{Level}
@@ -19,29 +16,7 @@ use Rattle.bm_base.specs.declared.call.Call.TheVariants as call
 use Rattle.bm_base.specs.declared.call.Answer.{Answer}
 use Rattle.bm_base.specs.declared.call.Answer.TheVariants as answer
 use Rattle.bm_base.specs.Refusals.{refusal_number}
-
-abbrev pub refusal_name : Refusal → List ℕ
-refusal_name UnknownNode = codes "UnknownNode"
-refusal_name NodeKnown = codes "NodeKnown"
-refusal_name UnknownStorage = codes "UnknownStorage"
-refusal_name StorageKnown = codes "StorageKnown"
-refusal_name UnknownBlock = codes "UnknownBlock"
-refusal_name BlockKnown = codes "BlockKnown"
-refusal_name StillStored = codes "StillStored"
-refusal_name BadReplication = codes "BadReplication"
-refusal_name OldGeneration = codes "OldGeneration"
-refusal_name TooMany = codes "TooMany"
-refusal_name NotItsStorage = codes "NotItsStorage"
-refusal_name RoundsSpent = codes "RoundsSpent"
-refusal_name CallsSpent = codes "CallsSpent"
-refusal_name Memory = codes "Memory"
-refusal_name BadConfig = codes "BadConfig"
-
-abbrev pub tag_name : Tag → List ℕ
-tag_name Good = codes "good"
-tag_name Stale = codes "stale"
-tag_name Bad = codes "bad"
-tag_name Stray = codes "stray"
+use Rattle.bm_base.specs.Names.{refusal_name, tag_name}
 
 -- Items, each behind a semicolon and a space.
 

@@ -1,35 +1,12 @@
 // The text of an answer.
 ghost use Rattle.std.specs.Prelude.{◌≡◌, IfOk, string_bytes};
-ghost use Rattle.bm_lines.specs.Print.{answer_text, head_text, done_text, refused_text, round_text, refusal_name, yes_item};
+ghost use Rattle.bm_lines.specs.Print.{answer_text, head_text, done_text, refused_text, round_text, yes_item};
 
 use crate::print_items::{
     write_blocks, write_level, write_nodes, write_replica_ids, write_replicas, write_storages,
 };
 use bm_base::{Answer, Call, Commands, Done, Refusal};
 use std::alloc::{AllocError, Global};
-
-/// The name of a refusal, as it stands in an output line.
-fn name_of(refusal: Refusal) -> &'static str
-    ensures { result.now ≡ refusal_name refusal }
-{
-    match refusal {
-        Refusal::UnknownNode => "UnknownNode",
-        Refusal::NodeKnown => "NodeKnown",
-        Refusal::UnknownStorage => "UnknownStorage",
-        Refusal::StorageKnown => "StorageKnown",
-        Refusal::UnknownBlock => "UnknownBlock",
-        Refusal::BlockKnown => "BlockKnown",
-        Refusal::StillStored => "StillStored",
-        Refusal::BadReplication => "BadReplication",
-        Refusal::OldGeneration => "OldGeneration",
-        Refusal::TooMany => "TooMany",
-        Refusal::NotItsStorage => "NotItsStorage",
-        Refusal::RoundsSpent => "RoundsSpent",
-        Refusal::CallsSpent => "CallsSpent",
-        Refusal::Memory => "Memory",
-        Refusal::BadConfig => "BadConfig",
-    }
-}
 
 /// The item of an answer that is yes or no.
 fn yes_item(is_so: bool) -> &'static str
@@ -92,7 +69,7 @@ fn refused_line(alloc: Global, refusal: Refusal) -> Result<String, AllocError>
     ensures { IfOk result (λ s. string_bytes s ≡ refused_text refusal) }
 {
     let number = refusal.number();
-    let name = name_of(refusal);
+    let name = refusal.name();
     format!(in alloc; "refused {number} {name}")
 }
 

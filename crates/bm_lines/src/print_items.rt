@@ -1,24 +1,12 @@
 // The items of an answer's line.
 ghost use Rattle.std.specs.Prelude.{◌≡◌, ◌++◌, OnOk, string_bytes};
 ghost use Rattle.std.specs.List.{flat_map};
-ghost use Rattle.bm_lines.specs.Print.{tag_name, number_item, replica_item, replica_id_item, level_item, transfer_item, delete_item, node_items};
+ghost use Rattle.bm_lines.specs.Print.{number_item, replica_item, replica_id_item, level_item, transfer_item, delete_item, node_items};
 
 use bm_base::{
-    BlockId, Delete, Level, NodeCommands, NodeId, Replica, ReplicaId, StorageId, Tag, Transfer,
+    BlockId, Delete, Level, NodeCommands, NodeId, Replica, ReplicaId, StorageId, Transfer,
 };
 use std::alloc::AllocError;
-
-/// The name of a tag.
-fn tag_name(tag: Tag) -> &'static str
-    ensures { result.now ≡ tag_name tag }
-{
-    match tag {
-        Tag::Good => "good",
-        Tag::Stale => "stale",
-        Tag::Bad => "bad",
-        Tag::Stray => "stray",
-    }
-}
 
 pub fn write_replicas(line: &mut String, replicas: &[Replica]) -> Result<(), AllocError>
     ensures { OnOk result (string_bytes line.new ≡ string_bytes line.old
@@ -27,7 +15,7 @@ pub fn write_replicas(line: &mut String, replicas: &[Replica]) -> Result<(), All
     for replica in replicas {
         let block = replica.block.0;
         let storage = replica.storage.0;
-        let tag = tag_name(replica.tag);
+        let tag = replica.tag.name();
         write!(line, "; {block} {storage} {tag}")?;
     }
     Ok(())
