@@ -7,3 +7,4 @@ pub mod CallOf
 pub mod Print
 pub mod Asking
 pub mod Fitting
+pub mod Usual

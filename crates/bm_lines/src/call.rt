@@ -9,6 +9,7 @@ use crate::fields::{entries_field, number_field, remaining_field, small_field, s
 use crate::from_fields as from;
 use crate::from_fields::stamp_fields;
 use crate::op::{Op, op_of};
+use crate::usual::usual_call;
 use bm_base::Call;
 use serde_json::Value;
 use std::alloc::{AllocError, Global};
@@ -17,6 +18,18 @@ use std::alloc::{AllocError, Global};
 pub fn call_of(alloc: Global, line: &[u8]) -> Result<Option<Call>, AllocError>
     ensures call { IfOk result (λ o. o ≡ call_of line.now) }
     // It can be written again: `line_of` asks for no more.
+    ensures has_op { IfOk result (λ o. IfSome o (λ k. has_op k ≡ true)) }
+{
+    match usual_call(alloc, line)? {
+        Some(call) => Ok(Some(call)),
+        None => read_call(alloc, line),
+    }
+}
+
+/// The call that a line of any form asks for.
+#[inline(never)]
+fn read_call(alloc: Global, line: &[u8]) -> Result<Option<Call>, AllocError>
+    ensures call { IfOk result (λ o. o ≡ call_of line.now) }
     ensures has_op { IfOk result (λ o. IfSome o (λ k. has_op k ≡ true)) }
 {
     match value_of(alloc, line)? {

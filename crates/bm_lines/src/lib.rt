@@ -15,6 +15,9 @@ mod print;
 mod print_items;
 #[cfg(test)]
 mod tests;
+mod usual;
+mod usual_entries;
+mod usual_numbers;
 mod writing;
 mod writing_fields;
 
