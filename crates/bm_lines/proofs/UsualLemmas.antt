@@ -67,11 +67,6 @@ unfolding entry_text
 run_of_blocks bytes first second third fourth rest n m g l e a b c d f other from to generation len =
     rw (a, b, c, d, f, from, to, generation, len, ne_eqb n m other) (four (codes "[") (decimal n) (codes ",") (decimal m) (codes ",") (decimal g) (codes ",") (decimal l) (codes "]") rest)
 
--- one more item behind others
-pub with_commas-push : {A : Type 0} (text : A → List ℕ) (xs : List A) (y : A) → 0 < length xs → with_commas text (xs ++ y ∷ []) ≡ with_commas text xs ++ (codes "," ++ text y)
-with_commas-push text [] y some = absurd (omega arith)
-with_commas-push text (x ∷ xs) y some = sym (flat_map_more (λ z. codes "," ++ text z) (text x) xs y)
-
 -- a text between what stands before and behind it, with a rest
 pub in_list : (fields list body after rest : List ℕ) (before behind : List ℕ) → fields ≡ before ++ list → list ≡ body ++ after → after ≡ behind ++ rest → fields ≡ (before ++ (body ++ behind)) ++ rest
 in_list fields list body after rest before behind a b c = rw (a, b, c) (simp append_assoc)

@@ -16,8 +16,10 @@ mod print_items;
 #[cfg(test)]
 mod tests;
 mod usual;
+mod usual_calls;
 mod usual_entries;
 mod usual_numbers;
+mod usual_remaining;
 mod writing;
 mod writing_fields;
 
