@@ -1,16 +1,15 @@
 -- Texts read from their beginning: numbers, entries of a report, and whole lines.
-use Rattle.std.proofs.Common.{◌≡◌, ◌≢◌, ℕ, ◌+◌, ◌-◌, ◌*◌, ◌<◌, ◌≤◌, ◌^◌, List, ◌++◌, Option, Some, None, IfSome, decimal, length, get_or, take, drop, refl, ap, sym, ◌∙◌, arith, ◌==◌, false, true, codes, [], ◌∷◌, append_assoc}
-use Rattle.std.specs.List.{flat_map}
+use Rattle.std.proofs.Common.{◌≡◌, ◌≢◌, ℕ, ◌+◌, ◌-◌, ◌*◌, ◌<◌, ◌≤◌, ◌^◌, List, ◌++◌, Option, Some, None, IfSome, decimal, length, get_or, take, drop, refl, ap, sym, ◌∙◌, arith, codes, append_assoc}
 use Rattle.bm_base.specs.declared.event.Entry.{Entry}
-use Rattle.bm_lines.specs.Asking.{call_fields, line_text, with_commas, entry_text}
+use Rattle.bm_lines.specs.Asking.{call_fields, line_text, entry_text}
 use Rattle.bm_lines.specs.Usual.{Asks}
 use Rattle.bm_base.specs.declared.call.Call.{Call}
 use Rattle.std.specs.Char.{digit_value}
 use Rattle.std.specs.Option.{MatchOption}
 use Rattle.std.specs.Str.Parse.{digits_value, AllDigits}
-use Rattle.std.proofs.lemmas.List.{take-append-drop, length-take-le, get_or-take, take_rest, flat_map_more}
+use Rattle.std.proofs.lemmas.List.{take-append-drop, length-take-le, get_or-take, take_rest}
 use Rattle.std.proofs.lemmas.Str.{digit_value_digit}
-use Rattle.std.proofs.lemmas.Str.Parse.{IsNumeralModel, numerals_by_value, tells_digits}
+use Rattle.std.proofs.lemmas.Str.Parse.{numerals_by_value, tells_digits}
 use Rattle.std.proofs.lemmas.Int.Digits.{digits_more, digits_value_more}
 use Rattle.std.proofs.lemmas.Bool.{eq-eqb, ne_eqb}
 use Rattle.std.proofs.lemmas.Fmt.{decimal-digits_value}

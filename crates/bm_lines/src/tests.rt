@@ -4,3 +4,4 @@ mod events;
 mod questions;
 mod reading;
 mod support;
+mod usual;
