@@ -1,0 +1,18 @@
+-- What a locator that was told of a list knows of it.
+use Rattle.std.proofs.Common.{◌≡◌, ◌≤◌, ℕ, List, [], ◌∷◌, ◌++◌, All, Option, Some, None, IfSome, length, arith, length-append, subst, refl}
+use Rattle.std.proofs.Math.Seq.{get_or-append_seam}
+use Rattle.bm_base.specs.State.{State}
+use Rattle.bm_base.specs.Versions.{Version, version}
+use Rattle.bm_view.specs.History.{last_of}
+
+-- no answer is older than what was told last
+pub last_told : (told : List (List Version)) (one : List Version) (n : ℕ) → All (λ known. (last_of known).calls ≤ n) (told ++ one ∷ []) → (last_of one).calls ≤ n
+last_told told one n h = subst (λ (l : List Version). (last_of l).calls ≤ n) (get_or-append_seam told one [] []) (h (length told) [] (omega (arith, length-append told (one ∷ []))))
+
+pub if_some : {A : Type 0} (o : Option A) (P Q : A → Type 0) → IfSome o P → ((x : A) → P x → Q x) → IfSome o Q
+if_some None P Q h then = tt
+if_some (Some x) P Q h then = then x h
+
+pub calls_of-version : (M : State) → (version M).calls ≡ M.calls
+unfolding version
+calls_of-version M = refl

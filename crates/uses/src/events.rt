@@ -1,0 +1,30 @@
+// Events from lists of the caller's own.
+ghost use Rattle.std.specs.Prelude.{◌≡◌, ◌∷◌, [], IfOk};
+
+use bm_base::{Entry, Event, NodeId, Rack, Remaining, StorageId};
+use std::alloc::{AllocError, Global};
+
+/// What is told of a DataNode that comes with one storage: its rack, what is free on the storage, and what lies there.
+pub fn arrival(
+    alloc: Global,
+    node: NodeId,
+    rack: Rack,
+    storage: StorageId,
+    bytes: u64,
+    entries: &[Entry],
+) -> Result<Vec<Event>, AllocError>
+    ensures { IfOk result (λ told. told.items
+        ≡ Event.Register node rack (storage ∷ [])
+        ∷ Event.Heartbeat node (record { storage = storage; remaining = bytes } ∷ [])
+        ∷ Event.FullReport storage entries.now ∷ []) }
+{
+    let free = Remaining {
+        storage,
+        remaining: bytes,
+    };
+    let mut told = Vec::new(alloc);
+    told.push(Event::register(alloc, node, rack, &[storage])?)?;
+    told.push(Event::heartbeat(alloc, node, &[free])?)?;
+    told.push(Event::full_report(alloc, storage, entries)?)?;
+    Ok(told)
+}

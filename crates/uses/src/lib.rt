@@ -1,0 +1,31 @@
+//! Small callers of the library, each proved, for developers who build on it. Each stands in the page of the crate that it calls.
+//!
+//! | You want | Look at | Page |
+//! |---|---|---|
+//! | events from lists of your own | `arrival` (`events.rt`) | `bm_base/CALLING.md` |
+//! | answers gone over, and printed as the tool does | `replica_lines` (`printing.rt`) | `bm_base/CALLING.md` |
+//! | a NameNode's loop: what was told, then a round, then the commands of each DataNode | `turn`, `for_node` (`name_node.rt`) | `bm_manager/CALLING.md` |
+//! | the answer to a "what if": which blocks are missing if a node dies | `missing_if_dead` (`what_if.rt`) | `bm_manager/CALLING.md` |
+//! | to go on after want of memory | `apply_or_free` (`memory.rt`) | `bm_manager/CALLING.md` |
+//! | a reader that is told of a version | `publish_and_look` (`looking.rt`) | `bm_view/CALLING.md` |
+//! | to read and write the tool's lines | `tidied` (`lines.rt`) | `bm_lines/CALLING.md` |
+//! | to look on at the work of a call | `apply_counted` (`counting.rt`) | `bm_crew/CALLING.md` |
+#![tactic(auto)]
+
+mod counting;
+mod events;
+mod lines;
+mod looking;
+mod memory;
+mod name_node;
+mod printing;
+mod what_if;
+
+pub use counting::{Pieces, apply_counted};
+pub use events::arrival;
+pub use lines::tidied;
+pub use looking::publish_and_look;
+pub use memory::apply_or_free;
+pub use name_node::{for_node, turn};
+pub use printing::replica_lines;
+pub use what_if::{WhatIf, missing_if_dead, replayed};

@@ -1,0 +1,73 @@
+// What would be if a node died: two managers from one list of calls, one of which is told of the death.
+ghost use Rattle.std.specs.Prelude.{◌≡◌, ◌⊎◌, None, Some, IfOk, IfErr, OnOk};
+ghost use Rattle.bm_base.specs.State.{first_state};
+ghost use Rattle.bm_base.specs.Calls.{state_after, after_event};
+ghost use Rattle.bm_base.specs.Configuration.{config_refusal};
+ghost use Rattle.bm_base.specs.Queries.{missing_blocks};
+ghost use Rattle.bm_base.specs.Refusals.{refusal_of};
+ghost use Rattle.bm_base.specs.declared.refusal.Refusal.TheVariants.{Memory};
+
+use bm_base::{Answer, BlockId, Call, Config, Event, Items, NodeId, Refusal};
+use bm_crew::NoGate;
+use bm_manager::Manager;
+use std::alloc::Global;
+use std::sync::Wait;
+use std::thread::Threads;
+
+/// The missing blocks, rising: those of which no replica is usable.
+#[derive(Debug, Drop)]
+pub struct WhatIf {
+    /// As things are.
+    pub as_is: Items<BlockId>,
+    /// If the node died.
+    pub if_dead: Items<BlockId>,
+}
+
+/// A manager that has made these calls. A call that the definition refuses has changed nothing; where memory lacked for one,
+/// there is no manager, but `Memory`.
+pub fn replayed<R: Threads + Wait + Sync>(
+    rt: &R,
+    alloc: Global,
+    config: Config,
+    calls: &[Call],
+) -> Result<Manager, Refusal>
+    ensures allowed { OnOk result (config_refusal config ≡ None) }
+    ensures state { IfOk result (λ m. m ≡ state_after (first_state config) calls.now) }
+    ensures refused { IfErr result (λ e. (e ≡ Memory) ⊎ (config_refusal config ≡ Some e)) }
+{
+    let mut manager = Manager::new(alloc, config)?;
+    for call in calls {
+        let answer = manager.answer(rt, &NoGate, call);
+        if matches!(answer, Answer::Refused(Refusal::Memory)) {
+            return Err(Refusal::Memory);
+        }
+    }
+    Ok(manager)
+}
+
+/// Which blocks are missing after these calls, and which would be if the node died then. Its refusals are those of [`replayed`],
+/// of the death, and `Memory`.
+pub fn missing_if_dead<R: Threads + Wait + Sync>(
+    rt: &R,
+    alloc: Global,
+    config: Config,
+    calls: &[Call],
+    node: NodeId,
+) -> Result<WhatIf, Refusal>
+    ensures as_is { IfOk result (λ found.
+        let state = state_after (first_state config) calls.now in
+        found.as_is ≡ missing_blocks state.cluster state.holdings) }
+    ensures if_dead { IfOk result (λ found.
+        let state = after_event (state_after (first_state config) calls.now) (Event.Dead node) in
+        found.if_dead ≡ missing_blocks state.cluster state.holdings) }
+    ensures alive { OnOk result
+        (refusal_of (state_after (first_state config) calls.now) (Event.Dead node) ≡ None) }
+{
+    let manager = replayed(rt, alloc, config, calls)?;
+    let mut copy = replayed(rt, alloc, config, calls)?;
+    copy.apply(rt, &NoGate, &Event::Dead { node })?;
+    Ok(WhatIf {
+        as_is: manager.missing()?,
+        if_dead: copy.missing()?,
+    })
+}
