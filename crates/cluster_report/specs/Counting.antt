@@ -1,0 +1,29 @@
+-- Replicas counted by tag, and the blocks that they are of.
+use Rattle.std.specs.Prelude.{ℕ, Bool, true, false, not, nat_eq, List, map, filter, count_by}
+use Rattle.std.specs.List.{dedup}
+use Rattle.bm_base.specs.declared.replica.Tag.{Tag}
+use Rattle.bm_base.specs.declared.replica.Tag.TheVariants.{Stale}
+use Rattle.bm_base.specs.declared.replica.Replica.{Replica}
+use Rattle.bm_base.specs.Replicas.{is_good, is_bad, is_stray}
+use Rattle.cluster_report.specs.declared.counting.TagCounts.{TagCounts}
+
+abbrev pub is_stale : Tag → Bool
+is_stale Stale = true
+is_stale _ = false
+
+-- how many of these replicas have each tag
+abbrev pub tags_counted : List Replica → TagCounts
+tags_counted rs = record {
+  good = count_by (λ r. is_good r.tag) rs;
+  stale = count_by (λ r. is_stale r.tag) rs;
+  bad = count_by (λ r. is_bad r.tag) rs;
+  stray = count_by (λ r. is_stray r.tag) rs;
+}
+
+-- the block of each of these replicas but of the stray ones
+abbrev pub known_numbers : List Replica → List ℕ
+known_numbers rs = map (λ r. r.block) (filter (λ r. not (is_stray r.tag)) rs)
+
+-- of equal neighbours one
+abbrev pub blocks_held : List Replica → List ℕ
+blocks_held rs = dedup nat_eq (known_numbers rs)

@@ -1,0 +1,26 @@
+// Why a run ends with no report.
+use std::alloc::AllocError;
+use thiserror::Error;
+
+/// Why there is no report, or an unknown part of it where a write failed.
+#[derive(Clone, Copy, Debug, PartialEq, Eq, Error)]
+pub enum Fault {
+    #[error("memory fault")]
+    Memory,
+    #[error("read fault")]
+    Read,
+    /// A write or the flush failed.
+    #[error("write fault")]
+    Write,
+}
+
+impl From<AllocError> for Fault {
+    ghost use Rattle.std.specs.Prelude.{◌≡◌};
+    ghost use Rattle.cluster_report.specs.declared.fault.Fault.TheVariants.{Memory};
+
+    ghost from_gives = { λ _ e. e ≡ Memory };
+
+    fn from(_error: AllocError) -> Self {
+        Fault::Memory
+    }
+}

@@ -1,0 +1,121 @@
+// How urgent blocks are, counted by level, and the most urgent ones.
+ghost use Rattle.std.specs.Prelude.{◌≡◌, IfOk, map, count_by, filter, is_none};
+ghost use Rattle.bm_base.specs.Levels.{is_at, level};
+ghost use Rattle.cluster_report.specs.Levels.{leveled, levels_counted, most_urgent};
+
+use bm_base::{BlockId, Level};
+use bm_manager::Manager;
+use std::alloc::{AllocError, Global};
+
+/// How many of the most urgent and of the missing blocks are named.
+pub const MOST_NAMED: usize = 10;
+
+/// A block and its level, if it has one.
+#[derive(Clone, Copy, Debug, PartialEq, Eq)]
+pub struct Leveled {
+    pub block: BlockId,
+    pub level: Option<Level>,
+}
+
+/// How many blocks are at each level.
+#[derive(Clone, Copy, Debug, PartialEq, Eq)]
+pub struct LevelCounts {
+    pub highest: usize,
+    pub very_under_replicated: usize,
+    pub under_replicated: usize,
+    pub badly_distributed: usize,
+    pub missing: usize,
+    /// Those that want no replica.
+    pub none: usize,
+}
+
+/// The level of each of these blocks, one question each.
+pub fn levels_of(
+    alloc: Global,
+    manager: &Manager,
+    blocks: &[u64],
+) -> Result<Vec<Leveled>, AllocError>
+    ensures { IfOk result (λ v. v.items
+        ≡ map (leveled manager.now.cluster manager.now.holdings) blocks.now) }
+{
+    let mut levels = Vec::new(alloc);
+    for number in blocks {
+        let block = BlockId(*number);
+        let level = level_in(manager, block);
+        levels.push(Leveled { block, level })?;
+    }
+    Ok(levels)
+}
+
+/// The level of a block; none of one that is not known.
+#[tactic(auto, unfolding(bm_base::specs::Levels::level, bm_base::specs::Refusals::block_refusal, bm_base::specs::Refusals::knows_block))]
+fn level_in(manager: &Manager, block: BlockId) -> Option<Level>
+    ensures { result ≡ level manager.now.cluster manager.now.holdings block }
+{
+    match manager.level(block) {
+        Ok(level) => level,
+        Err(_) => None,
+    }
+}
+
+/// How many of these blocks are at each level, and beside them so many missing ones, in five looks at each. Takes no memory.
+pub fn count_levels(levels: &[Leveled], missing: usize) -> LevelCounts
+    ensures { result ≡ levels_counted levels.now missing }
+{
+    LevelCounts {
+        highest: count_at(levels, Level::Highest),
+        very_under_replicated: count_at(levels, Level::VeryUnderReplicated),
+        under_replicated: count_at(levels, Level::UnderReplicated),
+        badly_distributed: count_at(levels, Level::BadlyDistributed),
+        missing,
+        none: count_none(levels),
+    }
+}
+
+fn count_at(levels: &[Leveled], urgency: Level) -> usize
+    ensures { result ≡ count_by (λ l. is_at urgency l.level) levels.now }
+{
+    levels.iter().filter(|l| is_at(l.level, urgency)).count()
+}
+
+fn count_none(levels: &[Leveled]) -> usize
+    ensures { result ≡ count_by (λ l. is_none l.level) levels.now }
+{
+    levels.iter().filter(|l| l.level.is_none()).count()
+}
+
+/// Whether a level is there and is this one.
+fn is_at(found: Option<Level>, urgency: Level) -> bool
+    ensures { result ≡ is_at urgency found }
+{
+    match found {
+        Some(level) => level.number() == urgency.number(),
+        None => false,
+    }
+}
+
+/// The first of these blocks that want a copy and have one to copy from, by level and then in their order.
+pub fn most_urgent(alloc: Global, levels: &[Leveled]) -> Result<Vec<Leveled>, AllocError>
+    ensures { IfOk result (λ v. v.items ≡ most_urgent levels.now) }
+{
+    let mut urgent = all_at(alloc, levels, Level::Highest)?;
+    let mut next = all_at(alloc, levels, Level::VeryUnderReplicated)?;
+    urgent.append(&mut next)?;
+    let mut next = all_at(alloc, levels, Level::UnderReplicated)?;
+    urgent.append(&mut next)?;
+    let mut next = all_at(alloc, levels, Level::BadlyDistributed)?;
+    urgent.append(&mut next)?;
+    urgent.truncate(MOST_NAMED);
+    Ok(urgent)
+}
+
+/// Those at one level.
+fn all_at(alloc: Global, levels: &[Leveled], urgency: Level) -> Result<Vec<Leveled>, AllocError>
+    ensures { IfOk result (λ v. v.items ≡ filter (λ l. is_at urgency l.level) levels.now) }
+{
+    levels
+        .iter()
+        .filter(|l| is_at(l.level, urgency))
+        .copied()
+        .collect(alloc)
+}

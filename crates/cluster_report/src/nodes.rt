@@ -1,0 +1,159 @@
+// The nodes with their storages, as a report tells of them.
+ghost use Rattle.std.specs.Prelude.{◌≡◌, IfOk, map};
+ghost use Rattle.cluster_report.specs.Nodes.{storage_row, storage_rows, state_of, node_row};
+ghost use Rattle.bm_base.specs.Replicas.{has_storage};
+
+use crate::book::Book;
+use bm_base::{Items, NodeId, Rack, Refusal, StorageId};
+use bm_manager::Manager;
+use bm_topo::Topology;
+use std::alloc::{AllocError, Global};
+
+/// Whether a node is in use.
+#[derive(Clone, Copy, Debug, PartialEq, Eq)]
+pub enum NodeState {
+    Live,
+    /// It is to be taken away, and a block holds it back.
+    Draining,
+    /// It can be taken away.
+    Retired,
+}
+
+#[derive(Clone, Copy, Debug, PartialEq, Eq)]
+pub struct StorageRow {
+    pub storage: StorageId,
+    /// How many replicas it holds, of any tag.
+    pub replicas: usize,
+    /// The bytes that are left on it, as a heartbeat told.
+    pub remaining: u64,
+}
+
+/// A node with its storages, which rise.
+#[derive(Drop)]
+pub struct NodeRow {
+    pub node: NodeId,
+    pub rack: Rack,
+    pub state: NodeState,
+    pub storages: Items<StorageRow>,
+}
+
+/// These nodes: a look at each storage for each node, a question about each storage, which lists the blocks on it, and for a
+/// node that drains one about all blocks.
+pub fn node_rows(
+    alloc: Global,
+    manager: &Manager,
+    book: &Book,
+    nodes: &[NodeId],
+    storages: &[StorageId],
+) -> Result<Items<NodeRow>, Refusal>
+    ensures { IfOk result
+        (λ rows. rows ≡ map (node_row manager.now book.now storages.now) nodes.now) }
+{
+    let mut rows = Vec::new(alloc);
+    for node in nodes {
+        let row = node_row(alloc, manager, book, *node, storages)?;
+        rows.push(row)?;
+    }
+    Ok(Items::from_vec(rows))
+}
+
+/// Every node, rising.
+pub fn all_nodes(alloc: Global, topology: &Topology) -> Result<Vec<NodeId>, AllocError> {
+    let mut nodes = Vec::new(alloc);
+    for place in 0..topology.alive_nodes() {
+        let Some(node) = topology.node_at(place) else {
+            return Ok(nodes);
+        };
+        nodes.push(node)?;
+    }
+    Ok(nodes)
+}
+
+/// Every storage, rising.
+pub fn all_storages(alloc: Global, topology: &Topology) -> Result<Vec<StorageId>, AllocError> {
+    let mut storages = Vec::new(alloc);
+    for place in 0..topology.storage_count() {
+        let Some(storage) = topology.storage_at(place) else {
+            return Ok(storages);
+        };
+        storages.push(storage)?;
+    }
+    Ok(storages)
+}
+
+fn node_row(
+    alloc: Global,
+    manager: &Manager,
+    book: &Book,
+    node: NodeId,
+    storages: &[StorageId],
+) -> Result<NodeRow, Refusal>
+    ensures { IfOk result (λ row. row ≡ node_row manager.now book.now storages.now node) }
+{
+    Ok(NodeRow {
+        node,
+        rack: book.rack_of(node),
+        state: state_of(manager, &book.topology, node)?,
+        storages: storage_rows(alloc, manager, book, node, storages)?,
+    })
+}
+
+fn state_of(manager: &Manager, topology: &Topology, node: NodeId) -> Result<NodeState, Refusal>
+    ensures { IfOk result
+        (λ s. s ≡ state_of manager.now topology.now.cluster node) }
+{
+    if manager.retired(node)? {
+        return Ok(NodeState::Retired);
+    }
+    match topology.node_drains(node) {
+        Some(true) => Ok(NodeState::Draining),
+        Some(false) => Ok(NodeState::Live),
+        None => Err(Refusal::UnknownNode),
+    }
+}
+
+/// Those of these storages that stand on the node.
+fn storage_rows(
+    alloc: Global,
+    manager: &Manager,
+    book: &Book,
+    node: NodeId,
+    storages: &[StorageId],
+) -> Result<Items<StorageRow>, Refusal>
+    ensures { IfOk result (λ rows. rows ≡ storage_rows manager.now book.now.topology.cluster node storages.now) }
+{
+    let mut rows = Vec::new(alloc);
+    for storage in storages {
+        if has_storage(&book.topology, node, *storage) {
+            let row = storage_row(manager, &book.topology, *storage)?;
+            rows.push(row)?;
+        }
+    }
+    Ok(Items::from_vec(rows))
+}
+
+#[tactic(auto, unfolding(bm_base::specs::Replicas::has_storage))]
+fn has_storage(topology: &Topology, node: NodeId, storage: StorageId) -> bool
+    ensures { result ≡ has_storage topology.now.cluster node storage }
+{
+    match topology.node_of(storage) {
+        Some(other) => other == node,
+        None => false,
+    }
+}
+
+#[tactic(auto, unfolding(bm_base::specs::Excess::remaining))]
+fn storage_row(
+    manager: &Manager,
+    topology: &Topology,
+    storage: StorageId,
+) -> Result<StorageRow, Refusal>
+    ensures { IfOk result (λ row. row ≡ storage_row manager.now topology.now.cluster storage) }
+{
+    let blocks = manager.blocks_on(storage)?;
+    Ok(StorageRow {
+        storage,
+        replicas: blocks.as_slice().len(),
+        remaining: topology.remaining(storage).unwrap_or(0),
+    })
+}

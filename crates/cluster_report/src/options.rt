@@ -1,0 +1,57 @@
+// The options of the program: those of the line tool.
+use bm_base::Config;
+use clap::{Arg, ArgAction, ArgMatches, Command, Error, value_parser};
+use std::alloc::{AllocError, Global};
+
+/// The configuration that the words of a command line name, the program's name first: each option at most once, a whole number within
+/// its range. What is not named is standard. An `Err` is a request for help, a command line that is refused, or want of memory.
+pub fn config_of(alloc: Global, words: &[String]) -> Result<Config, Error> {
+    let command = command(alloc)?;
+    let matches = command.try_get_matches_from(words)?;
+    Ok(config_from(&matches))
+}
+
+fn command<'a>(alloc: Global) -> Result<Command<'a>, AllocError> {
+    Command::new(alloc, "cluster_report")
+        .about(
+            "Makes the calls of the line tool's lines, and tells at the end how the cluster stands",
+        )
+        .arg(number(alloc, "shards", "1", 64).help("parts into which the blocks are cut, 1 to 64"))?
+        .arg(number(alloc, "workers", "1", 16).help("threads that work on a call, 1 to 16"))?
+        .arg(number(alloc, "work", "2", 1_000).help(
+            "copies that a round commands for each alive node, 1 to 1,000",
+        ))?
+        .arg(number(alloc, "invalidate", "1000", 1_000_000).help(
+            "deletes that a round commands one node, 1 to 1,000,000",
+        ))?
+        .arg(number(alloc, "pend", "100", 1_000_000).help(
+            "rounds after which a copy is given up, 1 to 1,000,000",
+        ))
+}
+
+/// An option with a whole number from 1 to `most`.
+fn number<'a>(alloc: Global, name: &'a str, standard: &'a str, most: u32) -> Arg<'a> {
+    Arg::new(alloc, name)
+        .action(ArgAction::Set)
+        .long(name)
+        .value_name("N")
+        .value_parser(value_parser!(u32).range(1..=i64::from(most)))
+        .default_value(standard)
+}
+
+fn config_from(matches: &ArgMatches<'_>) -> Config {
+    let standard = Config::standard();
+    Config {
+        shards: number_in(matches, "shards", standard.shards),
+        workers: number_in(matches, "workers", standard.workers),
+        work: number_in(matches, "work", standard.work),
+        invalidate: number_in(matches, "invalidate", standard.invalidate),
+        pend: number_in(matches, "pend", standard.pend),
+        ..standard
+    }
+}
+
+/// The number that was found for an option; `standard` where none was found, which a default value rules out.
+fn number_in(matches: &ArgMatches<'_>, name: &str, standard: u32) -> u32 {
+    matches.get_one::<u32>(name).unwrap_or(standard)
+}
