@@ -29,7 +29,7 @@ pub struct Located {
 /// Says where a block is. It takes no memory and waits for no one.
 ///
 /// A contract sees the list of versions up to the one that it answered from last, the lists that it was told of by
-/// receipts, and the call of `open_view`. All of these are beginnings of one list.
+/// receipts, and the call of `open_view`. Its list goes on from each list that it was told of.
 #[derive(Drop)]
 pub struct Locator {
     seat: Seat,
