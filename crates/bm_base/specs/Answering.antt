@@ -38,13 +38,13 @@ takes_memory (Corrupt s b) = false
 takes_memory _ = true
 
 -- the same of a call
-abbrev pub may_want_memory : Call → Bool
-may_want_memory (call.Apply e) = takes_memory e
-may_want_memory (call.LevelOf b) = false
-may_want_memory (call.Retired n) = false
-may_want_memory call.Calls = false
-may_want_memory call.Rounds = false
-may_want_memory _ = true
+abbrev pub call_takes_memory : Call → Bool
+call_takes_memory (call.Apply e) = takes_memory e
+call_takes_memory (call.LevelOf b) = false
+call_takes_memory (call.Retired n) = false
+call_takes_memory call.Calls = false
+call_takes_memory call.Rounds = false
+call_takes_memory _ = true
 
 abbrev pub is_refused : Answer → Bool
 is_refused (answer.Refused r) = true
@@ -54,7 +54,7 @@ is_refused _ = false
 
 -- An answer that a call may give in a state: that of the step, or want of memory where the step refuses nothing.
 abbrev pub MayAnswer : (State → Call → Answer × State) → State → Call → Answer → Type 0
-MayAnswer step M k a = (a ≡ (step M k).0) ⊎ (IsTrue (may_want_memory k && not (is_refused (step M k).0)) × (a ≡ answer.Refused Memory))
+MayAnswer step M k a = (a ≡ (step M k).0) ⊎ (IsTrue (call_takes_memory k && not (is_refused (step M k).0)) × (a ≡ answer.Refused Memory))
 
 -- the state after a call that gave this answer: that of the step, but for want of memory
 abbrev pub state_left : (State → Call → Answer × State) → State → Call → Answer → State

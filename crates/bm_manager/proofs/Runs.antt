@@ -14,7 +14,7 @@ use Rattle.bm_base.specs.Queries.{all_replicas, corrupt_replicas, excess_replica
 use Rattle.bm_base.specs.Calls.{step, refused_or, done_by, after_event, counted}
 use Rattle.bm_base.specs.Refusals.{refusal_of, round_refusal, node_refusal, storage_refusal, block_refusal}
 use Rattle.bm_base.specs.Rounds.{whole_round}
-use Rattle.bm_base.specs.Answering.{Refuses, MayAnswer, state_left, may_want_memory, is_refused, wants_memory}
+use Rattle.bm_base.specs.Answering.{Refuses, MayAnswer, state_left, call_takes_memory, is_refused, wants_memory}
 
 -- a call whose definition refuses by o, and else answers x.0 and leaves x.1
 module _ (M : State) (k : Call) (o : Option Refusal) (x : Answer × State) (s : step M k ≡ refused_or M o x) where
@@ -24,14 +24,14 @@ module _ (M : State) (k : Call) (o : Option Refusal) (x : Answer × State) (s : 
   pub ok_left : (N : State) → o ≡ None → N ≡ x.1 → N ≡ (step M k).1
   ok_left N none is = is ∙ sym (ap (λ y. y.1) (s ∙ ap (λ q. refused_or M q x) none))
 
-  err_answer_by : (q : Option Refusal) (b : Bool) → o ≡ q → may_want_memory k ≡ b → (r : Refusal) → is_refused x.0 ≡ false → Refuses q b r → MayAnswer step M k (answer.Refused r)
+  err_answer_by : (q : Option Refusal) (b : Bool) → o ≡ q → call_takes_memory k ≡ b → (r : Refusal) → is_refused x.0 ≡ false → Refuses q b r → MayAnswer step M k (answer.Refused r)
   err_answer_by None true e may r fine h =
       inr ((λ i. may i && not (is_refused (s i).0)) ∙ ap (λ p. not (is_refused (refused_or M p x).0)) e ∙ ap not fine, ap answer.Refused h)
   err_answer_by None false e may r fine h = absurd h
   err_answer_by (Some t) b e may r fine h = inl (ap answer.Refused h ∙ sym (ap (λ y. y.0) (s ∙ ap (λ p. refused_or M p x) e)))
 
-  pub err_answer : (r : Refusal) → is_refused x.0 ≡ false → Refuses o (may_want_memory k) r → MayAnswer step M k (answer.Refused r)
-  err_answer r fine h = err_answer_by o (may_want_memory k) refl refl r fine h
+  pub err_answer : (r : Refusal) → is_refused x.0 ≡ false → Refuses o (call_takes_memory k) r → MayAnswer step M k (answer.Refused r)
+  err_answer r fine h = err_answer_by o (call_takes_memory k) refl refl r fine h
 
   same_either : (b : Bool) (y : State) → y ≡ M → M ≡ (if b then M else y)
   same_either true y e = refl
@@ -42,14 +42,14 @@ module _ (M : State) (k : Call) (o : Option Refusal) (x : Answer × State) (s : 
   err_left_by None false e r h = absurd h
   err_left_by (Some t) b e r h = same_either (wants_memory (answer.Refused r)) (step M k).1 (ap (λ y. y.1) (s ∙ ap (λ p. refused_or M p x) e))
 
-  pub err_left : (N : State) (r : Refusal) → Refuses o (may_want_memory k) r → N ≡ M → N ≡ state_left step M k (answer.Refused r)
-  err_left N r h is = is ∙ err_left_by o (may_want_memory k) refl r h
+  pub err_left : (N : State) (r : Refusal) → Refuses o (call_takes_memory k) r → N ≡ M → N ≡ state_left step M k (answer.Refused r)
+  err_left N r h is = is ∙ err_left_by o (call_takes_memory k) refl r h
 
 -- a call that the definition never refuses: its answer, and want of memory
 pub step_answer : (M : State) (k : Call) (a : Answer) (x : Answer × State) → step M k ≡ x → a ≡ x.0 → MayAnswer step M k a
 step_answer M k a x s is = inl (is ∙ sym (ap (λ y. y.0) s))
 
-pub memory_answer : (M : State) (k : Call) (x : Answer × State) → step M k ≡ x → may_want_memory k ≡ true → is_refused x.0 ≡ false → {r : Refusal} → r ≡ Memory
+pub memory_answer : (M : State) (k : Call) (x : Answer × State) → step M k ≡ x → call_takes_memory k ≡ true → is_refused x.0 ≡ false → {r : Refusal} → r ≡ Memory
     → MayAnswer step M k (answer.Refused r)
 memory_answer M k x s may fine e = inr ((λ i. may i && not (is_refused (s i).0)) ∙ ap not fine, ap answer.Refused e)
 
