@@ -43,7 +43,7 @@ use Rattle.bm_levels.specs.Kept.{level_of_slot}
 use Rattle.bm_levels.specs.Leveled.{Leveled, IsLeveled, AreLevels}
 use Rattle.bm_levels.proofs.Levels.{level_is_at_slot}
 use Rattle.bm_levels.proofs.Settled.{all_plain_at, few_at}
-use Rattle.bm_finding.specs.declared.found.Found.{Found}
+use Rattle.bm_finding.specs.declared.visiting.Found.{Found}
 use Rattle.bm_levels.proofs.Alike.{among_has}
 use Rattle.bm_finding.specs.Visits.{visits, key_at, is_told}
 use Rattle.bm_finding.specs.Gathering.{id_at, wishes_at, HasFound, IsInOrder}

@@ -18,7 +18,7 @@ use Rattle.bm_levels.specs.Held.{holdings_with}
 use Rattle.bm_pending.specs.OnTheWay.{OnTheWay}
 use Rattle.bm_pending.specs.Remaining.{targets_left}
 use Rattle.bm_finding.specs.declared.look.Look.{Look}
-use Rattle.bm_finding.specs.declared.found.Found.{Found}
+use Rattle.bm_finding.specs.declared.visiting.Found.{Found}
 use Rattle.bm_finding.specs.declared.replicas.Usable.{Usable}
 use Rattle.bm_finding.specs.Marking.{storages_in}
 use Rattle.bm_finding.specs.Looked.{replicas_on, deletes_of, IsLook, AreUsable}

@@ -15,7 +15,7 @@ use Rattle.bm_arena.specs.Triplets.{Block}
 use Rattle.bm_arena.specs.Contents.{Contents, block_at}
 use Rattle.bm_finding.specs.Looked.{own_replicas, too_many, replicas_on, deletes_of}
 use Rattle.bm_finding.specs.Wanting.{wish_in}
-use Rattle.bm_finding.specs.declared.found.Found.{Found}
+use Rattle.bm_finding.specs.declared.visiting.Found.{Found}
 
 -- the number of the block at a slot
 abbrev pub id_at : Contents → ℕ → ℕ

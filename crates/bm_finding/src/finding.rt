@@ -9,9 +9,9 @@ ghost use Rattle.bm_arena.specs.Holding.{replicas_of};
 ghost use Rattle.bm_levels.specs.Leveled.{AreLevels};
 ghost use Rattle.bm_levels.specs.Held.{holdings_with};
 
-use crate::found::Start;
 use crate::slots::{keyed_before, slots_to_visit, sort_slots};
 use crate::sorting::{sort_deletes, sort_excess, sort_wishes};
+use crate::visiting::Start;
 use bm_base::{Items, Refusal, RoundPart};
 use bm_levels::LeveledBlocks;
 use bm_parts::merge::Key;

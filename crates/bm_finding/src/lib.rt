@@ -7,7 +7,6 @@
 #![tactic(auto)]
 
 mod finding;
-mod found;
 mod guess;
 mod keys;
 mod look;
@@ -16,6 +15,7 @@ mod slots;
 mod sorting;
 #[cfg(test)]
 mod tests;
+mod visiting;
 mod wishing;
 
 pub use finding::find_round;

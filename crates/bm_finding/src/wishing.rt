@@ -9,10 +9,10 @@ ghost use Rattle.bm_pending.specs.Remaining.{targets_left};
 ghost use Rattle.bm_finding.specs.Marking.{storages_in};
 ghost use Rattle.bm_finding.specs.Wanting.{count_at, wish_by};
 
-use crate::found::Start;
 use crate::keys::is_before;
 use crate::look::Look;
 use crate::replicas::{Usable, spread_of, storages_of};
+use crate::visiting::Start;
 use bm_base::{BlockId, Level, Refusal, StorageId, StorageIds, Wish, level_of};
 use bm_topo::Topology;
 use std::alloc::Global;

@@ -59,22 +59,22 @@ module _ (f : Marks → Marks) (again : (x : Marks) → f (f x) ≡ f x) (m : Ma
       ∙ sym (get-revise m (λ q x. if ((k.storage == q.storage) && (k.block == q.block)) || p q then f x else x) q))
 
 -- the deletes of a part
-abbrev pub ordered_by : ℕ → ℕ → List Delete → ReplicaId → Marks → Marks
-ordered_by index shards ds q m = if is_commanded (own_deletes index shards ds) q then record m { ordered = true } else m
+abbrev pub with_deletes_ordered : ℕ → ℕ → List Delete → ReplicaId → Marks → Marks
+with_deletes_ordered index shards ds q m = if is_commanded (own_deletes index shards ds) q then record m { ordered = true } else m
 
 module _ (m : Map by_replica Marks) (index shards : ℕ) where
-  pub order_end : revise m (ordered_by index shards []) ≡ m
+  pub order_end : revise m (with_deletes_ordered index shards []) ≡ m
   unfolding is_commanded
   order_end = flag_none as_ordered (λ x. refl) m (λ q. false) (λ q. refl)
 
   pub order_own : (d : Delete) (ds : List Delete) → (shard_of d.block shards == index) ≡ true
-      → revise (revise_at m (replica_at d.block d.storage) as_ordered) (ordered_by index shards ds) ≡ revise m (ordered_by index shards (d ∷ ds))
+      → revise (revise_at m (replica_at d.block d.storage) as_ordered) (with_deletes_ordered index shards ds) ≡ revise m (with_deletes_ordered index shards (d ∷ ds))
   unfolding is_commanded
   order_own d ds own =
       flag_next as_ordered (λ x. refl) m (λ q. is_commanded (own_deletes index shards ds) q) (replica_at d.block d.storage)
       ∙ sym (ap (λ t. revise m (λ q x. if is_commanded (if t then d ∷ own_deletes index shards ds else own_deletes index shards ds) q then record x { ordered = true } else x)) own)
 
-  pub order_other : (d : Delete) (ds : List Delete) → (shard_of d.block shards == index) ≡ false → revise m (ordered_by index shards ds) ≡ revise m (ordered_by index shards (d ∷ ds))
+  pub order_other : (d : Delete) (ds : List Delete) → (shard_of d.block shards == index) ≡ false → revise m (with_deletes_ordered index shards ds) ≡ revise m (with_deletes_ordered index shards (d ∷ ds))
   order_other d ds other =
       sym (ap (λ t. revise m (λ q x. if is_commanded (if t then d ∷ own_deletes index shards ds else own_deletes index shards ds) q then record x { ordered = true } else x)) other)
 

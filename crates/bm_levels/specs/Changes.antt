@@ -53,5 +53,5 @@ abbrev pub as_ordered : Marks → Marks
 as_ordered m = record m { ordered = true }
 
 -- the marks of a replica once these deletes are ordered
-abbrev pub ordered_by : List Delete → ReplicaId → Marks → Marks
-ordered_by ds q m = if is_commanded ds q then as_ordered m else m
+abbrev pub with_deletes_ordered : List Delete → ReplicaId → Marks → Marks
+with_deletes_ordered ds q m = if is_commanded ds q then as_ordered m else m

@@ -17,7 +17,7 @@ use bm_topo::Topology;
 impl LeveledBlocks {
     /// A node begins or ceases to drain: the blocks with a replica on its storages are judged anew. Nothing that is held changes.
     /// Takes no memory. A look at each storage of the cluster, and at the blocks on those of the node.
-    pub fn turn(&mut self, topology: &Topology, node: NodeId, drains: bool)
+    pub fn set_draining(&mut self, topology: &Topology, node: NodeId, drains: bool)
         ensures arena { self.new.arena ≡ self.old.arena }
         ensures levels { AreLevels topology.now.cluster self.old
             → AreLevels (with_draining topology.now.cluster node drains) self.new }

@@ -6,7 +6,7 @@ ghost use Rattle.bm_levels.specs.Leaving.{IsLeaving, MakesNoHead};
 ghost use Rattle.bm_levels.specs.Around.{is_on_node, KeepsLevelsAround};
 
 use crate::around::Around;
-use crate::chunks::CHUNK;
+use crate::judging_chunks::CHUNK;
 use crate::leveled::LeveledBlocks;
 use bm_arena::{Arena, Walk};
 use bm_base::{NodeId, StorageId};
@@ -57,7 +57,7 @@ fn step(walk: &mut Walk<'_>) -> usize
 }
 
 /// Counts the slots in the lists of four storages, none behind the 64th of a list. It goes over the lists side by side.
-fn count_ahead(arena: &Arena, four: &Four) -> usize
+fn read_ahead(arena: &Arena, four: &Four) -> usize
     ensures { result
         ≤ length (list_of arena.now four.now.first) + length (list_of arena.now four.now.second)
         + length (list_of arena.now four.now.third) + length (list_of arena.now four.now.fourth) }
@@ -113,31 +113,31 @@ impl LeveledBlocks {
         let mut removed = 0;
         for pass in 0..self.arena().slot_bound() / CHUNK + 1 {
             prove!(removed <= pass as u128 * 256);
-            if count_ahead(self.arena(), four) == 0 {
+            if read_ahead(self.arena(), four) == 0 {
                 return removed;
             }
-            removed += self.take_some_of_four(around, node, four);
+            removed += self.remove_some_of_four(around, node, four);
         }
         removed
     }
 
     /// Takes out replicas on those of four storages that are a node's, some on each; answers how many left.
-    fn take_some_of_four(&mut self, around: &Around<'_>, node: NodeId, four: &Four) -> u128
+    fn remove_some_of_four(&mut self, around: &Around<'_>, node: NodeId, four: &Four) -> u128
         ensures left { IsLeaving (is_on_node around.now node) self.old.arena self.new.arena result }
         ensures few { result ≤ 256 }
         ensures bare { MakesNoneBare self.old.arena self.new.arena }
         ensures fewer { MakesNoHead self.old.arena self.new.arena }
         ensures levels { KeepsLevelsAround around.now self.old self.new }
     {
-        let first = self.take_some_of(around, node, four.first);
-        let second = self.take_some_of(around, node, four.second);
-        let third = self.take_some_of(around, node, four.third);
-        let fourth = self.take_some_of(around, node, four.fourth);
+        let first = self.remove_some_of(around, node, four.first);
+        let second = self.remove_some_of(around, node, four.second);
+        let third = self.remove_some_of(around, node, four.third);
+        let fourth = self.remove_some_of(around, node, four.fourth);
         first + second + third + fourth
     }
 
     /// Takes out replicas on a storage, if it is the node's: of some blocks, the first ones in its list; answers how many left.
-    fn take_some_of(&mut self, around: &Around<'_>, node: NodeId, storage: StorageId) -> u128
+    fn remove_some_of(&mut self, around: &Around<'_>, node: NodeId, storage: StorageId) -> u128
         ensures left { IsLeaving (is_on_node around.now node) self.old.arena self.new.arena result }
         ensures few { result ≤ 64 }
         ensures bare { MakesNoneBare self.old.arena self.new.arena }
@@ -147,6 +147,6 @@ impl LeveledBlocks {
         if !around.topology.has_storage(node, storage) {
             return 0;
         }
-        self.take_some(around, storage) as u128
+        self.remove_some(around, storage) as u128
     }
 }

@@ -81,7 +81,7 @@ fn level_when_turned(
     blocks: &mut LeveledBlocks,
     drains: bool,
 ) -> Option<Level> {
-    blocks.turn(topology, NodeId(1), drains);
+    blocks.set_draining(topology, NodeId(1), drains);
     blocks.level(ID)
 }
 

@@ -9,11 +9,11 @@
 mod around;
 mod bare_entries;
 mod block_events;
-mod chunks;
 mod count;
 mod draining_nodes;
 mod four_lists;
 mod judging;
+mod judging_chunks;
 mod judging_slots;
 mod kept;
 mod leaving_storages;

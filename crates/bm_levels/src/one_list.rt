@@ -7,7 +7,7 @@ ghost use Rattle.bm_levels.specs.Leaving.{IsLeavingStorage, HasFirstSlots, Drops
 ghost use Rattle.bm_levels.specs.Around.{KeepsLevelsAround};
 
 use crate::around::Around;
-use crate::chunks::CHUNK;
+use crate::judging_chunks::CHUNK;
 use crate::leveled::LeveledBlocks;
 use bm_arena::{Arena, Slot};
 use bm_base::StorageId;
@@ -62,7 +62,7 @@ impl LeveledBlocks {
         let bound = self.arena().slot_bound();
         let mut removed = 0;
         while !self.arena().is_list_empty(storage) {
-            let count = self.take_some(around, storage);
+            let count = self.remove_some(around, storage);
             prove!(count <= bound - removed);
             removed += count;
         }
@@ -71,7 +71,7 @@ impl LeveledBlocks {
     }
 
     /// Takes out the replicas on a storage of some blocks, the first ones in its list; answers how many left.
-    pub(crate) fn take_some(&mut self, around: &Around<'_>, storage: StorageId) -> usize
+    pub(crate) fn remove_some(&mut self, around: &Around<'_>, storage: StorageId) -> usize
         ensures left { IsLeavingStorage storage self.old.arena self.new.arena result }
         ensures list { length (list_of self.old.arena storage)
             ≡ result + length (list_of self.new.arena storage) }
@@ -83,13 +83,13 @@ impl LeveledBlocks {
     {
         let mut slots = [0; CHUNK];
         let count = first_slots(self.arena(), storage, slots.as_mut_slice());
-        self.take_first(around, storage, &slots[..count]);
+        self.remove_first(around, storage, &slots[..count]);
         count
     }
 
     /// Takes out the replicas on a storage of the first blocks in its list, and drops their entries that have neither a block nor
     /// another replica.
-    fn take_first(&mut self, around: &Around<'_>, storage: StorageId, slots: &[Slot])
+    fn remove_first(&mut self, around: &Around<'_>, storage: StorageId, slots: &[Slot])
         requires { HasFirstSlots self.old.arena storage slots.now }
         ensures left { IsLeavingStorage storage self.old.arena self.new.arena (length slots.now) }
         ensures list { DropsFirstSlots storage slots.now self.old.arena self.new.arena }
@@ -97,12 +97,12 @@ impl LeveledBlocks {
         ensures fewer { MakesNoHead self.old.arena self.new.arena }
         ensures levels { KeepsLevelsAround around.now self.old self.new }
     {
-        self.take_out(around, storage, slots);
+        self.remove_listed(around, storage, slots);
         self.drop_each(slots);
     }
 
     /// Takes out the replicas on a storage of the first blocks in its list, and judges these blocks anew.
-    fn take_out(&mut self, around: &Around<'_>, storage: StorageId, slots: &[Slot])
+    fn remove_listed(&mut self, around: &Around<'_>, storage: StorageId, slots: &[Slot])
         requires { HasFirstSlots self.old.arena storage slots.now }
         ensures left { IsLeavingStorage storage self.old.arena self.new.arena (length slots.now) }
         ensures list { DropsFirstSlots storage slots.now self.old.arena self.new.arena }

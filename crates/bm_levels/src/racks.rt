@@ -12,7 +12,7 @@ use bm_topo::Topology;
 impl LeveledBlocks {
     /// The cluster changes otherwise for no replica that is held: all blocks are judged anew where the alive nodes come to stand on two
     /// racks or more, or no longer do. Takes no memory.
-    pub fn see_racks(&mut self, topology: &Topology, multi: bool)
+    pub fn judge_for_racks(&mut self, topology: &Topology, multi: bool)
         ensures arena { self.new.arena ≡ self.old.arena }
         ensures levels { (D : Cluster) → multi ≡ replicas.is_multi_rack D
             → IsSameForHeld topology.now.cluster D self.old.arena

@@ -9,7 +9,7 @@ ghost use Rattle.bm_base.specs.RoundParts as parts;
 ghost use Rattle.bm_arena.specs.Contents.{block_at, slot_of, KeepsEntries};
 ghost use Rattle.bm_arena.specs.Holding.{replicas_at, replicas_of, blocks_of};
 ghost use Rattle.bm_levels.specs.Bare.{KeepsBlocksOutside};
-ghost use Rattle.bm_levels.specs.Changes.{as_excess, as_ordered, all_changed, has_replica, has_block, ordered_by, at_round_start};
+ghost use Rattle.bm_levels.specs.Changes.{as_excess, as_ordered, all_changed, has_replica, has_block, with_deletes_ordered, at_round_start};
 ghost use Rattle.bm_levels.specs.Leveled.{KeepsLevels};
 
 use crate::kept::KeptLevels;
@@ -22,11 +22,11 @@ use bm_topo::Topology;
 impl LeveledBlocks {
     /// As a round ends: the replicas of the part's own numbers that are commanded to be deleted are ordered. A look-up, and a
     /// judgement of the block, for each delete of the part. Takes no memory.
-    pub fn order(&mut self, topology: &Topology, deletes: &[Delete], part: Part)
+    pub fn mark_ordered(&mut self, topology: &Topology, deletes: &[Delete], part: Part)
         requires part { part.index < part.shards }
         ensures replicas { replicas_of self.new.arena
             ≡ revise (replicas_of self.old.arena)
-            (ordered_by (parts.own_deletes part.index part.shards deletes.now)) }
+            (with_deletes_ordered (parts.own_deletes part.index part.shards deletes.now)) }
         ensures blocks { blocks_of self.new.arena ≡ blocks_of self.old.arena }
         ensures numbers { self.new.arena.ids ≡ self.old.arena.ids }
         ensures levels { KeepsLevels topology.now.cluster self.old self.new }
@@ -62,7 +62,7 @@ impl LeveledBlocks {
     /// As a round begins: marks of excess whose delete was not ordered are dropped, and the replicas of `surplus` are in excess. Goes
     /// over the replicas of the unsettled blocks twice, and looks up each of `surplus`; settled blocks are not looked at. Takes no
     /// memory.
-    pub fn remark(&mut self, topology: &Topology, surplus: &[ReplicaId])
+    pub fn mark_excess_anew(&mut self, topology: &Topology, surplus: &[ReplicaId])
         requires surplus { surplus.now
             ≡ parts.surplus topology.now.cluster (at_round_start self.old.arena) }
         ensures replicas { replicas_of self.new.arena

@@ -19,7 +19,7 @@ pub fn entries_then<'l>(
     let Some(list) = after(fields, b",\"blocks\":[") else {
         return Ok(None);
     };
-    let Some((entries, rest)) = listed(alloc, list)? else {
+    let Some((entries, rest)) = entry_list(alloc, list)? else {
         return Ok(None);
     };
     let Some(end) = after(rest, b"]") else {
@@ -29,7 +29,10 @@ pub fn entries_then<'l>(
 }
 
 /// Entries with commas between them, and what stands behind them.
-fn listed<'l>(alloc: Global, list: &'l [u8]) -> Result<Option<(Vec<Entry>, &'l [u8])>, AllocError>
+fn entry_list<'l>(
+    alloc: Global,
+    list: &'l [u8],
+) -> Result<Option<(Vec<Entry>, &'l [u8])>, AllocError>
     ensures text { IfOk result
         (λ o. IfSome o (λ p. list.now ≡ with_commas entry_text p.0.items ++ p.1.now)) }
     ensures fits { IfOk result (λ o. IfSome o (λ p. All FitsEntry p.0.items)) }

@@ -19,7 +19,7 @@ pub fn remaining_then<'l>(
     let Some(list) = after(fields, b",\"remaining\":[") else {
         return Ok(None);
     };
-    let Some((told, rest)) = listed(alloc, list)? else {
+    let Some((told, rest)) = remaining_list(alloc, list)? else {
         return Ok(None);
     };
     let Some(end) = after(rest, b"]") else {
@@ -29,7 +29,7 @@ pub fn remaining_then<'l>(
 }
 
 /// Such items with commas between them, and what stands behind them.
-fn listed<'l>(
+fn remaining_list<'l>(
     alloc: Global,
     list: &'l [u8],
 ) -> Result<Option<(Vec<Remaining>, &'l [u8])>, AllocError>

@@ -112,7 +112,7 @@ pub(crate) fn drop_storages_in(blocks: &mut Blocks, storages: &[StorageId])
 }
 
 /// Takes the blocks with no target out.
-pub(crate) fn shed(blocks: &mut Blocks)
+pub(crate) fn drop_empty_rooms(blocks: &mut Blocks)
     ensures targets { (q : ℕ) → targets_at blocks.new.entries q ≡ targets_at blocks.old.entries q }
     ensures kept { (q : ℕ) → targets_at blocks.old.entries q ≢ []
         → room_at blocks.new.entries q ≡ room_at blocks.old.entries q }

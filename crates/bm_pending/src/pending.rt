@@ -10,8 +10,8 @@ ghost use Rattle.bm_pending.specs.Remaining as remaining;
 ghost use Rattle.bm_pending.specs.OnTheWay.{room, blocks_in, targets_of, is_expired, expired_of};
 
 use crate::by_block::{
-    Blocks, drop_block, drop_expired_in, drop_in, drop_storages_in, find_in, put_in, reserve_in,
-    shed, targets_in,
+    Blocks, drop_block, drop_empty_rooms, drop_expired_in, drop_in, drop_storages_in, find_in,
+    put_in, reserve_in, targets_in,
 };
 use crate::left::left_among;
 use crate::listing::{entries_in, expired_in, push_storages};
@@ -25,7 +25,7 @@ use std::marker::Model;
 /// A contract sees them as a map from block and target storage to the round of the command, and for each block how many more of its
 /// transfers need no memory. Only `reserve`, `reserve_own` and the calls that answer with a list take memory. A call on one block is one hash,
 /// but for `reserve` of a block that is not there, and a look along its few targets. A block whose last transfer is taken out
-/// keeps its room until `shed`, which is to be called at the end of each round.
+/// keeps its room until `drop_empty_rooms`, which is to be called at the end of each round.
 #[derive(Drop)]
 pub struct PendingTransfers {
     by_block: Blocks,
@@ -114,13 +114,13 @@ impl PendingTransfers {
     }
 
     /// Gives up the room of the blocks with no transfer, in one pass over the blocks. Takes no memory.
-    pub fn shed(&mut self)
+    pub fn drop_empty_rooms(&mut self)
         ensures map { self.new.map ≡ self.old.map }
         ensures kept { (block : ℕ) → targets_of self.old block ≢ []
             → room self.new block ≡ room self.old block }
         ensures freed { (block : ℕ) → targets_of self.old block ≡ [] → room self.new block ≡ 0 }
     {
-        shed(&mut self.by_block);
+        drop_empty_rooms(&mut self.by_block);
     }
 
     /// The round of a transfer, if it is there.

@@ -7,7 +7,7 @@ ghost use Rattle.bm_arena.specs.Contents.{block_at, marks_at, list_of, HasHead, 
 ghost use Rattle.bm_arena.specs.Holding.{replicas_of, blocks_of, holdings_of};
 ghost use Rattle.bm_report.specs.Midway.{AreHere, HaveRoom, IsOncePerNode, IsExcessGood, told_of, count_ups, AllStand};
 
-use crate::chunks::enter_all;
+use crate::entering_chunks::enter_all;
 use crate::sweeping::{drop_lost_excess, sweep};
 use crate::tally::Tally;
 use crate::types::{Applied, Named};

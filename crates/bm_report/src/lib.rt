@@ -9,8 +9,8 @@
 mod aborting;
 mod applying;
 mod by_number;
-mod chunks;
 mod entering;
+mod entering_chunks;
 mod look_up;
 mod marking;
 mod notices;

@@ -8,9 +8,9 @@ ghost use Rattle.bm_base.specs.Shards.{shard_of};
 ghost use Rattle.bm_report.specs.Midway.{AreHere, HaveRoom, told_of};
 ghost use Rattle.bm_report.specs.Aborted.{NamesNew};
 ghost use Rattle.bm_report.specs.Expanded.{IsPrepared, IsSeen, of_part, told_to};
-ghost use Rattle.bm_report.specs.declared.chunks.TheConstants.{CHUNK};
+ghost use Rattle.bm_report.specs.declared.entering_chunks.TheConstants.{CHUNK};
 
-use crate::chunks::CHUNK;
+use crate::entering_chunks::CHUNK;
 use crate::room_for_replica::make_room;
 use crate::slots_of_numbers::{Known, find_firsts, first_of_part, slot_for};
 use crate::types::Named;

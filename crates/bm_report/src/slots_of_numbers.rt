@@ -5,9 +5,9 @@ ghost use Rattle.bm_base.specs.Shards.{shard_of};
 ghost use Rattle.bm_arena.specs.Contents.{slot_of, HasRoom};
 ghost use Rattle.bm_report.specs.declared.slots_of_numbers.Known.{Known};
 ghost use Rattle.bm_report.specs.Expanded.{IsPrepared, IsSeen};
-ghost use Rattle.bm_report.specs.declared.chunks.TheConstants.{CHUNK};
+ghost use Rattle.bm_report.specs.declared.entering_chunks.TheConstants.{CHUNK};
 
-use crate::chunks::CHUNK;
+use crate::entering_chunks::CHUNK;
 use bm_arena::{Arena, Slot};
 use bm_base::{BlockId, Entry, Part, Refusal, shard_of};
 

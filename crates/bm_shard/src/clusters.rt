@@ -61,7 +61,7 @@ impl Shard {
     }
 
     /// A node begins or ceases to drain. Where it begins to, the transfers to its storages leave.
-    pub(crate) fn turn(&mut self, topology: &Topology, node: NodeId, drains: bool) -> Done
+    pub(crate) fn set_draining(&mut self, topology: &Topology, node: NodeId, drains: bool) -> Done
         requires none { HasNoneBare self.old }
         ensures changed { HasChanged topology.now.cluster
             (if drains then events.drain topology.now.cluster node
@@ -74,7 +74,7 @@ impl Shard {
         self.prepared = Prepared::Nothing;
         self.blocks.lawful();
         self.blocks.arena().lawful();
-        self.blocks.turn(topology, node, drains);
+        self.blocks.set_draining(topology, node, drains);
         self.blocks.arena().lawful();
         turn_transfers(&mut self.pending, topology, node, drains);
         NOTHING
@@ -108,7 +108,7 @@ impl Shard {
         topology.lawful();
         self.blocks.lawful();
         self.blocks.arena().lawful();
-        self.blocks.see_racks(topology, multi);
+        self.blocks.judge_for_racks(topology, multi);
         self.blocks.arena().lawful();
         NOTHING
     }

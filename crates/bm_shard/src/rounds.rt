@@ -122,9 +122,10 @@ impl Shard {
         self.blocks.lawful();
         self.blocks.arena().lawful();
         self.pending.drop_expired(self.pend, round);
-        self.blocks.remark(topology, part.excess.as_slice());
         self.blocks
-            .order(topology, chosen.deletes.as_slice(), self.part);
+            .mark_excess_anew(topology, part.excess.as_slice());
+        self.blocks
+            .mark_ordered(topology, chosen.deletes.as_slice(), self.part);
         self.blocks.arena().lawful();
         insert_own(
             &mut self.pending,
@@ -132,7 +133,7 @@ impl Shard {
             self.part,
             round,
         );
-        self.pending.shed();
+        self.pending.drop_empty_rooms();
         self.round = round;
     }
 
@@ -141,6 +142,6 @@ impl Shard {
         ensures same { IsSameButRoom self.old self.new }
         ensures entries { self.new.room.entries ≡ self.old.room.entries }
     {
-        self.pending.shed();
+        self.pending.drop_empty_rooms();
     }
 }

@@ -33,13 +33,15 @@ use whole_run::run;
 
 /// Reads the options, and makes the run that they ask for.
 fn main(rt: HostRuntime) -> ExitCode {
-    ExitCode::from(status_of(ended(&rt)))
+    ExitCode::from(status_of(end_of_run(&rt)))
 }
 
-fn ended<R: Env + Input + Print + Eprint + AllocGlobal + Threads + Wait + Sync>(rt: &R) -> End {
+fn end_of_run<R: Env + Input + Print + Eprint + AllocGlobal + Threads + Wait + Sync>(
+    rt: &R,
+) -> End {
     match words_of(rt) {
-        Ok(words) => asked(rt, words.as_slice()),
-        Err(error) if error.kind() == io::ErrorKind::OutOfMemory => faulted(rt, Fault::Memory),
+        Ok(words) => run_of_words(rt, words.as_slice()),
+        Err(error) if error.kind() == io::ErrorKind::OutOfMemory => tell_fault(rt, Fault::Memory),
         Err(_) => {
             let _ = rt.eprintln("error: an argument is not UTF-8");
             End::Misused
@@ -58,27 +60,27 @@ fn words_of<R: Env + AllocGlobal>(rt: &R) -> io::Result<Vec<String>> {
     Ok(words)
 }
 
-fn asked<R: Input + Print + Eprint + AllocGlobal + Threads + Wait + Sync>(
+fn run_of_words<R: Input + Print + Eprint + AllocGlobal + Threads + Wait + Sync>(
     rt: &R,
     words: &[String],
 ) -> End
     ensures { EndsBy (refusals_of (map string_bytes words.now)) result }
 {
     match config_of(rt.alloc(), words) {
-        Ok(config) => match answer_all(rt, &config) {
+        Ok(config) => match run_on_streams(rt, &config) {
             Ok(_) => End::Answered,
-            Err(fault) => faulted(rt, fault),
+            Err(fault) => tell_fault(rt, fault),
         },
-        Err(error) => told(rt, &error),
+        Err(error) => tell_error(rt, &error),
     }
 }
 
 /// Says why there is no run.
-fn told<R: Print + Eprint>(rt: &R, error: &Error) -> End
+fn tell_error<R: Print + Eprint>(rt: &R, error: &Error) -> End
     ensures { result ≡ end_of (kind_of error.now) }
 {
     if matches!(error.kind(), ErrorKind::OutOfMemory) {
-        return faulted(rt, Fault::Memory);
+        return tell_fault(rt, Fault::Memory);
     }
     let _ = error.print(rt);
     if error.use_stderr() {
@@ -88,7 +90,7 @@ fn told<R: Print + Eprint>(rt: &R, error: &Error) -> End
     }
 }
 
-fn faulted<R: Eprint>(rt: &R, fault: Fault) -> End
+fn tell_fault<R: Eprint>(rt: &R, fault: Fault) -> End
     ensures { result ≡ End.Faulted fault }
 {
     let _ = rt.eprintln(fault_text(fault));
@@ -96,7 +98,7 @@ fn faulted<R: Eprint>(rt: &R, fault: Fault) -> End
 }
 
 /// The whole run, from standard input to standard output.
-fn answer_all<R: Input + Print + AllocGlobal + Threads + Wait + Sync>(
+fn run_on_streams<R: Input + Print + AllocGlobal + Threads + Wait + Sync>(
     rt: &R,
     config: &Config,
 ) -> Result<Summary, Fault> {

@@ -26,9 +26,9 @@ pub fn go_over<R: Eprint>(rt: &R, alloc: Global) -> Result<Tally, Refusal> {
         pending.drop_storages([StorageId(1)].as_slice());
         counts_are(&pending, size, 1, &mut tally);
         insert_again(&mut pending, size, &mut tally);
-        pending.shed();
+        pending.drop_empty_rooms();
         remove_all(&mut pending, size, &mut tally);
-        pending.shed();
+        pending.drop_empty_rooms();
         ended(rt, "transfers");
     }
     Ok(tally)

@@ -56,11 +56,11 @@ returns-in-Heartbeat-clause-changed c = subst (λ e. Changes c.args.topology.now
 
 pub returns-in-Drain-clause-changed : goal.returns-in-Drain-clause-changed
 unfolding change_cluster change_holdings
-returns-in-Drain-clause-changed c = subst (λ e. Changes c.args.topology.now.cluster c.args.self.now c.turn.new.self c.turn.result e) (sym c.in-Drain.is) c.turn.ensures.changed
+returns-in-Drain-clause-changed c = subst (λ e. Changes c.args.topology.now.cluster c.args.self.now c.set_draining.new.self c.set_draining.result e) (sym c.in-Drain.is) c.set_draining.ensures.changed
 
 pub returns-in-Undrain-clause-changed : goal.returns-in-Undrain-clause-changed
 unfolding change_cluster change_holdings
-returns-in-Undrain-clause-changed c = subst (λ e. Changes c.args.topology.now.cluster c.args.self.now c.turn-in-Undrain.new.self c.turn-in-Undrain.result e) (sym c.in-Undrain.is) c.turn-in-Undrain.ensures.changed
+returns-in-Undrain-clause-changed c = subst (λ e. Changes c.args.topology.now.cluster c.args.self.now c.set_draining-in-Undrain.new.self c.set_draining-in-Undrain.result e) (sym c.in-Undrain.is) c.set_draining-in-Undrain.ensures.changed
 
 pub returns-in-AddBlock-clause-changed : goal.returns-in-AddBlock-clause-changed
 unfolding change_cluster change_holdings

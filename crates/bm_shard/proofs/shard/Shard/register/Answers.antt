@@ -23,15 +23,15 @@ returns-clause-changed c =
     let P : Seen → Type 0 = λ s. IsPlaced C s.holdings in
     let placed = subst P (sym c.self.view_is) c.requires.placed in
     let same = same_beside C old.blocks.arena old.pending.map c.args.node c.args.rack c.args.storages.now c.lawful.ensures placed c.requires.cluster in
-    changed_seen C D old.blocks c.see_racks.new.self old.pending.map old.pending.map (subst (λ a. IsLawful a) c.arena.ensures c.lawful-3.ensures) c.lawful-2.ensures (subst (λ a. IsLawful a) c.arena-2.ensures c.lawful-4.ensures)
-    (c.see_racks.ensures.levels D c.requires.multi same) old.part old.round old.pend _ _ (λ H. H) _ c.args.self.now c.self.view_is
-    (ap (λ a. holdings_with a old.pending.map) c.see_racks.ensures.arena) (λ i. record { added = sym none i; removed = sym none i })
+    changed_seen C D old.blocks c.judge_for_racks.new.self old.pending.map old.pending.map (subst (λ a. IsLawful a) c.arena.ensures c.lawful-3.ensures) c.lawful-2.ensures (subst (λ a. IsLawful a) c.arena-2.ensures c.lawful-4.ensures)
+    (c.judge_for_racks.ensures.levels D c.requires.multi same) old.part old.round old.pend _ _ (λ H. H) _ c.args.self.now c.self.view_is
+    (ap (λ a. holdings_with a old.pending.map) c.judge_for_racks.ensures.arena) (λ i. record { added = sym none i; removed = sym none i })
 
-none : (c : goal.After-lawful-4) → HasNoneBare c.see_racks.new.self.arena
-none c = none_kept c.self.inside.blocks c.self.inside.pending.map c.self.inside.part c.self.inside.round c.self.inside.pend _ _ c.see_racks.new.self c.args.self.now c.self.view_is c.requires.none (same_bare c.self.inside.blocks.arena c.see_racks.new.self.arena c.see_racks.ensures.arena)
+none : (c : goal.After-lawful-4) → HasNoneBare c.judge_for_racks.new.self.arena
+none c = none_kept c.self.inside.blocks c.self.inside.pending.map c.self.inside.part c.self.inside.round c.self.inside.pend _ _ c.judge_for_racks.new.self c.args.self.now c.self.view_is c.requires.none (same_bare c.self.inside.blocks.arena c.judge_for_racks.new.self.arena c.judge_for_racks.ensures.arena)
 
 pub invariant_of-self : goal.invariant_of-self
 invariant_of-self c = record { index = c.self.invariant.index; ready = λ s e. absurd (none_looked_up s e); fresh = λ s e. absurd (none_looked_up s e); bare = λ b h. absurd (none c b h) }
 
 pub returns-clause-bare : goal.returns-clause-bare
-returns-clause-bare c = none_outside c.see_racks.new.self c.self.inside.pending.map c.self.inside.part c.self.inside.round c.self.inside.pend _ _ (none c)
+returns-clause-bare c = none_outside c.judge_for_racks.new.self c.self.inside.pending.map c.self.inside.part c.self.inside.round c.self.inside.pend _ _ (none c)

@@ -1,0 +1,17 @@
+use Rattle.std.proofs.Common.{◌≡◌, ◌+◌, ◌≤◌, length, vec_len}
+use Rattle.std.specs.Prelude.{vec_capacity}
+use Rattle.bm_report.specs.Midway.{IsUnderway, IsListed, AllStand}
+use Rattle.bm_report.proofs.entering_chunks.enter_all.Given as goal
+
+abbrev pub decreases-loop-rest : goal.decreases-loop-rest
+decreases-loop-rest l = length l.rest
+
+abbrev pub invariant-loop-rest : goal.invariant-loop-rest
+invariant-loop-rest l =
+    record {
+      underway : IsUnderway l.topology.cluster l.storage l.named l.rest l.initial.arena l.arena l.initial.tally l.tally;
+      quiet : AllStand l.initial.arena l.storage l.named → (l.arena.blocks ≡ l.initial.arena.blocks) × (l.changed.items ≡ l.initial.changed.items) × AllStand l.initial.arena l.storage l.rest;
+      listed : IsListed l.initial.arena l.arena l.initial.changed.items l.changed.items;
+      space : vec_len l.changed + length l.rest ≤ vec_len l.initial.changed + length l.named;
+      capacity : vec_capacity l.changed ≡ vec_capacity l.initial.changed;
+    }
