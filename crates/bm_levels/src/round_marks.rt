@@ -33,13 +33,13 @@ impl LeveledBlocks {
     {
         for delete in deletes {
             if shard_of(delete.block, part.shards) == part.index {
-                self.order_one(topology, delete.storage, delete.block);
+                self.mark_one_ordered(topology, delete.storage, delete.block);
             }
         }
     }
 
     /// The delete of a replica is ordered, if it is there.
-    fn order_one(&mut self, topology: &Topology, storage: StorageId, id: BlockId)
+    fn mark_one_ordered(&mut self, topology: &Topology, storage: StorageId, id: BlockId)
         ensures replicas { replicas_of self.new.arena
             ≡ revise_at (replicas_of self.old.arena) (replica_at id storage) as_ordered }
         ensures blocks { blocks_of self.new.arena ≡ blocks_of self.old.arena }

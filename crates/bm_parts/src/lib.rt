@@ -11,7 +11,7 @@
 //! - `placed`: where replicas stand, and which are in excess
 //! - `merge`: sorted lists merged into one
 //!
-//! Only `merge` has a function that does something; the contract of each other is a law.
+//! Only the functions of `merge` and `events::block_of` do something; the contract of each other is a law.
 #![tactic(auto)]
 
 pub mod events;

@@ -76,7 +76,7 @@ impl Shard {
         self.blocks.arena().lawful();
         self.blocks.set_draining(topology, node, drains);
         self.blocks.arena().lawful();
-        turn_transfers(&mut self.pending, topology, node, drains);
+        drop_drained_transfers(&mut self.pending, topology, node, drains);
         NOTHING
     }
 
@@ -131,7 +131,12 @@ impl Shard {
 }
 
 /// Where a node begins to drain that did not yet, the transfers to its storages leave.
-fn turn_transfers(pending: &mut PendingTransfers, topology: &Topology, node: NodeId, drains: bool)
+fn drop_drained_transfers(
+    pending: &mut PendingTransfers,
+    topology: &Topology,
+    node: NodeId,
+    drains: bool,
+)
     ensures { pending.new.map
         ≡ (if drains && not (replicas.drains topology.now.cluster node) then keep pending.old.map
         (λ q _. not (replicas.has_storage topology.now.cluster node q.storage))

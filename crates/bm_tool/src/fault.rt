@@ -1,3 +1,4 @@
+// Why a run ends early, and what the process says of it then.
 ghost use Rattle.std.specs.Prelude.{◌≡◌};
 ghost use Rattle.bm_tool.specs.declared.fault.Fault.TheVariants.{Memory};
 

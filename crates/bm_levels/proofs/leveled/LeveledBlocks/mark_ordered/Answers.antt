@@ -24,7 +24,7 @@ loop-delete-preserved c =
     elim c.if-shard_of-part.branch [
       | then-shard_of-part w ↦
           let own = eq-eqb _ _ (sym c.shard_of.ensures ∙ w.if-shard_of-part.true) in
-          let g = w.order_one.ensures in
+          let g = w.mark_one_ordered.ensures in
           let P : Leveled → Type 0 = λ v. AreLevels c.args.topology.now.cluster c.args.self.now → AreLevels c.args.topology.now.cluster v in
           record {
             replicas = ap (λ (v : Leveled). revise (replicas_of v.arena) (with_deletes_ordered index shards (drop (i + 1) ds))) w.self-is

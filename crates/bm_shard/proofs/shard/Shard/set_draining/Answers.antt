@@ -17,18 +17,18 @@ returns-clause-changed c =
     let n = c.args.node in
     let d = c.args.drains in
     let new = c.set_draining.new.self in
-    let Q = c.turn_transfers.new.pending.map in
+    let Q = c.drop_drained_transfers.new.pending.map in
     changed_seen C (if d then drain C n else undrain C n) old.blocks new old.pending.map Q
     (subst (λ a. IsLawful a) c.arena.ensures c.lawful-2.ensures) c.lawful.ensures (subst (λ a. IsLawful a) c.arena-2.ensures c.lawful-3.ensures)
     c.set_draining.ensures.levels old.part old.round old.pend _ _ (λ H. if d then begun_to_drain C H n else H) _ c.args.self.now c.self.view_is
-    (turned C old.blocks.arena new.arena old.pending.map Q n d c.set_draining.ensures.arena c.turn_transfers.ensures)
+    (turned C old.blocks.arena new.arena old.pending.map Q n d c.set_draining.ensures.arena c.drop_drained_transfers.ensures)
     (nothing_came C (holdings_with old.blocks.arena old.pending.map) n d)
 
-none : (c : goal.After-turn_transfers) → HasNoneBare c.set_draining.new.self.arena
+none : (c : goal.After-drop_drained_transfers) → HasNoneBare c.set_draining.new.self.arena
 none c = none_kept c.self.inside.blocks c.self.inside.pending.map c.self.inside.part c.self.inside.round c.self.inside.pend _ _ c.set_draining.new.self c.args.self.now c.self.view_is c.requires.none (same_bare c.self.inside.blocks.arena c.set_draining.new.self.arena c.set_draining.ensures.arena)
 
 pub invariant_of-self : goal.invariant_of-self
 invariant_of-self c = record { index = c.self.invariant.index; ready = λ s e. absurd (none_looked_up s e); fresh = λ s e. absurd (none_looked_up s e); bare = λ b h. absurd (none c b h) }
 
 pub returns-clause-bare : goal.returns-clause-bare
-returns-clause-bare c = none_outside c.set_draining.new.self c.turn_transfers.new.pending.map c.self.inside.part c.self.inside.round c.self.inside.pend _ _ (none c)
+returns-clause-bare c = none_outside c.set_draining.new.self c.drop_drained_transfers.new.pending.map c.self.inside.part c.self.inside.round c.self.inside.pend _ _ (none c)

@@ -5,7 +5,7 @@ use Rattle.bm_levels.specs.Changes.{as_ordered}
 use Rattle.bm_base.proofs.Replacing.{no_change}
 use Rattle.bm_arena.specs.Holding.{replicas_of}
 use Rattle.bm_levels.proofs.Revising.{put_changed, replica_absent}
-use Rattle.bm_levels.proofs.leveled.LeveledBlocks.order_one.Goals as goal
+use Rattle.bm_levels.proofs.leveled.LeveledBlocks.mark_one_ordered.Goals as goal
 
 pub returns-in_default-clause-replicas : goal.returns-in_default-clause-replicas
 returns-in_default-clause-replicas c =
