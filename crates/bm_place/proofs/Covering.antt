@@ -1,72 +1,80 @@
--- The foremost of some targets stand for all of them.
+-- The first targets of the nodes, by node, stand for all of them.
 use Rattle.std.specs.Prelude.{◌⊎◌}
-use Rattle.std.proofs.Common.{◌≡◌, Bool, true, false, cond, List, [], ◌∷◌, refl, inl, inr, sym, subst}
+use Rattle.std.specs.Ordering.{eq_by_cmp, nat_cmp}
+use Rattle.std.specs.Option.{option_map_or}
+use Rattle.std.proofs.Common.{◌≡◌, ℕ, Bool, true, false, cond, List, [], ◌∷◌, Option, Some, None, refl, inl, inr, sym, ap, subst, ◌∙◌}
+use Rattle.std.proofs.lemmas.Option.{same_Some, none-some}
+use Rattle.bm_base.specs.Map.{Map, by_number, empty, get, insert}
+use Rattle.bm_base.proofs.Maps.{same_key, get_inserted, get_here, get_elsewhere}
+use Rattle.bm_base.proofs.MapLaws.{get-empty}
 use Rattle.bm_place.specs.declared.scheduled.Target.{Target}
-use Rattle.bm_place.specs.Foremost.{IsAmong, are_alike, goes_before, better, with_target, with_targets, StandsFor}
-use Rattle.bm_place.proofs.Alike.{stands_itself, better_new, better_old}
+use Rattle.bm_place.specs.Foremost.{IsAmong, goes_before, first_at, with_first, with_firsts}
+use Rattle.bm_place.proofs.Alike.{ranks, not_before_itself}
 
--- those that stand for some targets are of these
-pub record Covers (M : Target → Type 0) (cs : List Target) : Type 0 where
-  pub known : (c : Target) → IsAmong cs c → M c
-  pub first : (t : Target) → M t → (c : Target) × IsAmong cs c × StandsFor c t
+-- what is true of the first targets of the nodes of some targets
+pub record AreFirst (M : Target → Type 0) (firsts : Map by_number Target) : Type 0 where
+  -- they are of these, each by its node
+  pub known : (n : ℕ) (c : Target) → get firsts n ≡ Some c → M c × (c.node ≡ Some n)
+  -- for each that has a node there is one
+  pub first : (t : Target) (n : ℕ) → M t → t.node ≡ Some n → (c : Target) × (get firsts n ≡ Some c) × (goes_before t c ≡ false)
 
 abbrev IsOneMore : (Target → Type 0) → Target → Target → Type 0
 IsOneMore M t x = (t ≡ x) ⊎ M x
 
-among_entered : (cs : List Target) (t c : Target) → IsAmong (with_target cs t) c → IsOneMore (IsAmong cs) t c
-among_entered [] t c h = h
-among_entered (d ∷ cs) t c h = by (are_alike d t) h (among_entered cs t c)
-  where
-    of_better : (b : Bool) → cond b t d ≡ c → IsOneMore (IsAmong (d ∷ cs)) t c
-    of_better true e = inl e
-    of_better false e = inr (inl e)
+module _ (M : Target → Type 0) (firsts : Map by_number Target) (t : Target) (h : AreFirst M firsts) where
+  -- it is entered
+  inserted : (n : ℕ) → t.node ≡ Some n → ((c : Target) → get firsts n ≡ Some c → goes_before t c ≡ true) → AreFirst (IsOneMore M t) (insert firsts n t)
+  inserted n on before = record { known = λ m c is. known m c is; first = λ x m of at. first_of x m of at }
+    where
+      known : (m : ℕ) (c : Target) → get (insert firsts n t) m ≡ Some c → IsOneMore M t c × (c.node ≡ Some m)
+      known m c is =
+          elim (get_inserted firsts n t m c is) [
+            | inl new ↦ (inl new.1, ap (λ (c : Target). c.node) (sym new.1) ∙ on ∙ ap Some (sym new.0))
+            | inr old ↦ let k = h.known m c old.1 in (inr k.0, k.1)
+          ]
 
-    by : (b : Bool) → IsAmong (cond b (better t d ∷ cs) (d ∷ with_target cs t)) c → (IsAmong (with_target cs t) c → IsOneMore (IsAmong cs) t c) → IsOneMore (IsAmong (d ∷ cs)) t c
-    by true (inl e) rest = of_better (goes_before t d) e
-    by true (inr there) rest = inr (inr there)
-    by false (inl e) rest = inr (inl e)
-    by false (inr there) rest = elim (rest there) [ inl e ↦ inl e | inr h ↦ inr (inr h) ]
+      first_old : (x : Target) (m : ℕ) (b : Bool) → eq_by_cmp nat_cmp m n ≡ b → (c : Target) → get firsts m ≡ Some c → goes_before x c ≡ false → (c : Target) × (get (insert firsts n t) m ≡ Some c) × (goes_before x c ≡ false)
+      first_old x m true same c is less =
+          let key = same_key by_number m n same in
+          (t, ap (get (insert firsts n t)) key ∙ get_here firsts n t, ranks.chain x c t less (ranks.one_way t c (before c (ap (get firsts) (sym key) ∙ is))))
+      first_old x m false other c is less = (c, get_elsewhere firsts n t m other ∙ is, less)
 
--- what is stood for still is
-abbrev IsStoodFor : List Target → Target → Type 0
-IsStoodFor cs x = (c : Target) × IsAmong cs c × StandsFor c x
+      first_of : (x : Target) (m : ℕ) → IsOneMore M t x → x.node ≡ Some m → (c : Target) × (get (insert firsts n t) m ≡ Some c) × (goes_before x c ≡ false)
+      first_of x m (inl e) at =
+          let key = same_Some m n (sym at ∙ ap (λ (x : Target). x.node) (sym e) ∙ on) in
+          (t, ap (get (insert firsts n t)) key ∙ get_here firsts n t, subst (λ x. goes_before x t ≡ false) e (not_before_itself t))
+      first_of x m (inr of) at = let old = h.first x m of at in first_old x m (eq_by_cmp nat_cmp m n) refl old.0 old.1 old.2
 
-behind : (d : Target) (cs : List Target) (x : Target) → IsStoodFor cs x → IsStoodFor (d ∷ cs) x
-behind d cs x h = (h.0, inr h.1, h.2)
+  -- one that stands for it is there already
+  left_out : ((n : ℕ) → t.node ≡ Some n → (c : Target) × (get firsts n ≡ Some c) × (goes_before t c ≡ false)) → AreFirst (IsOneMore M t) firsts
+  left_out there = record { known = λ m c is. known m c is; first = λ x m of at. first_of x m of at }
+    where
+      known : (m : ℕ) (c : Target) → get firsts m ≡ Some c → IsOneMore M t c × (c.node ≡ Some m)
+      known m c is = let k = h.known m c is in (inr k.0, k.1)
 
-in_front : (d : Target) (cs : List Target) (x : Target) → StandsFor d x → IsStoodFor (d ∷ cs) x
-in_front d cs x h = (d, inl refl, h)
+      first_of : (x : Target) (m : ℕ) → IsOneMore M t x → x.node ≡ Some m → (c : Target) × (get firsts m ≡ Some c) × (goes_before x c ≡ false)
+      first_of x m (inl e) at =
+          let c = there m (ap (λ (x : Target). x.node) e ∙ at) in
+          (c.0, c.1, subst (λ x. goes_before x c.0 ≡ false) e c.2)
+      first_of x m (inr of) at = h.first x m of at
 
-stood_for_still : (cs : List Target) (t x c : Target) → IsAmong cs c → StandsFor c x → IsStoodFor (with_target cs t) x
-stood_for_still [] t x c there stands = absurd there
-stood_for_still (d ∷ cs) t x c there stands = by (are_alike d t) refl there (λ h. stood_for_still cs t x c h stands)
-  where
-    by : (b : Bool) → are_alike d t ≡ b → (d ≡ c) ⊎ IsAmong cs c → (IsAmong cs c → IsStoodFor (with_target cs t) x) → IsStoodFor (cond b (better t d ∷ cs) (d ∷ with_target cs t)) x
-    by true same (inl e) rest = in_front (better t d) cs x (better_old t d x same (subst (λ c. StandsFor c x) (sym e) stands))
-    by true same (inr h) rest = (c, inr h, stands)
-    by false same (inl e) rest = in_front d (with_target cs t) x (subst (λ c. StandsFor c x) (sym e) stands)
-    by false same (inr h) rest = behind d (with_target cs t) x (rest h)
+  one_entered : AreFirst (IsOneMore M t) (with_first firsts t)
+  one_entered = by t.node refl
+    where
+      found : (n : ℕ) → t.node ≡ Some n → (o : Option Target) → get firsts n ≡ o → AreFirst (IsOneMore M t) (first_at firsts n t o)
+      found n on None is = inserted n on (λ c e. absurd (none-some c (sym is ∙ e)))
+      found n on (Some c) is = tested (goes_before t c) refl
+        where
+          tested : (b : Bool) → goes_before t c ≡ b → AreFirst (IsOneMore M t) (cond b (insert firsts n t) firsts)
+          tested true e = inserted n on (λ d is_d. subst (λ d. goes_before t d ≡ true) (same_Some c d (sym is ∙ is_d)) e)
+          tested false e = left_out (λ m at. (c, ap (get firsts) (same_Some m n (sym at ∙ on)) ∙ is, e))
 
-entered_stood_for : (cs : List Target) (t : Target) → IsStoodFor (with_target cs t) t
-entered_stood_for [] t = in_front t [] t (stands_itself t)
-entered_stood_for (d ∷ cs) t = by (are_alike d t) refl (entered_stood_for cs t)
-  where
-    by : (b : Bool) → are_alike d t ≡ b → IsStoodFor (with_target cs t) t → IsStoodFor (cond b (better t d ∷ cs) (d ∷ with_target cs t)) t
-    by true same rest = in_front (better t d) cs t (better_new t d same)
-    by false same rest = behind d (with_target cs t) t rest
+      by : (o : Option ℕ) → t.node ≡ o → AreFirst (IsOneMore M t) (option_map_or (λ n. first_at firsts n t (get firsts n)) o firsts)
+      by None none = left_out (λ n on. absurd (none-some n (sym none ∙ on)))
+      by (Some n) on = found n on (get firsts n) refl
 
-one_entered : (M : Target → Type 0) (cs : List Target) (t : Target) → Covers M cs → Covers (IsOneMore M t) (with_target cs t)
-one_entered M cs t h = record {
-  known = λ c there. elim (among_entered cs t c there) [ inl e ↦ inl e | inr old ↦ inr (h.known c old) ];
-  first = λ x. first x;
-}
-  where
-    first : (x : Target) → IsOneMore M t x → IsStoodFor (with_target cs t) x
-    first x (inl e) = subst (IsStoodFor (with_target cs t)) e (entered_stood_for cs t)
-    first x (inr m) = let old = h.first x m in stood_for_still cs t x old.0 old.1 old.2
-
-regrouped : (M : Target → Type 0) (t : Target) (ts cs : List Target) → Covers (λ x. IsOneMore M t x ⊎ IsAmong ts x) cs → Covers (λ x. M x ⊎ IsAmong (t ∷ ts) x) cs
-regrouped M t ts cs h = record { known = λ c there. to c (h.known c there); first = λ x m. h.first x (from x m) }
+regrouped : (M : Target → Type 0) (t : Target) (ts : List Target) (firsts : Map by_number Target) → AreFirst (λ x. IsOneMore M t x ⊎ IsAmong ts x) firsts → AreFirst (λ x. M x ⊎ IsAmong (t ∷ ts) x) firsts
+regrouped M t ts firsts h = record { known = λ n c is. let k = h.known n c is in (to c k.0, k.1); first = λ x n m on. h.first x n (from x m) on }
   where
     to : (x : Target) → IsOneMore M t x ⊎ IsAmong ts x → M x ⊎ IsAmong (t ∷ ts) x
     to x (inl (inl e)) = inr (inl e)
@@ -78,12 +86,13 @@ regrouped M t ts cs h = record { known = λ c there. to c (h.known c there); fir
     from x (inr (inl e)) = inl (inl e)
     from x (inr (inr there)) = inr there
 
-all_entered : (M : Target → Type 0) (ts cs : List Target) → Covers M cs → Covers (λ x. M x ⊎ IsAmong ts x) (with_targets cs ts)
-all_entered M [] cs h = record { known = λ c there. inl (h.known c there); first = λ x m. h.first x (elim m [ inl m ↦ m | inr none ↦ absurd none ]) }
-all_entered M (t ∷ ts) cs h = regrouped M t ts (with_targets (with_target cs t) ts) (all_entered (IsOneMore M t) ts (with_target cs t) (one_entered M cs t h))
+all_entered : (M : Target → Type 0) (ts : List Target) (firsts : Map by_number Target) → AreFirst M firsts → AreFirst (λ x. M x ⊎ IsAmong ts x) (with_firsts firsts ts)
+all_entered M [] firsts h = record { known = λ n c is. let k = h.known n c is in (inl k.0, k.1); first = λ x n m on. h.first x n (elim m [ inl m ↦ m | inr none ↦ absurd none ]) on }
+all_entered M (t ∷ ts) firsts h = regrouped M t ts (with_firsts (with_first firsts t) ts) (all_entered (IsOneMore M t) ts (with_first firsts t) (one_entered M firsts t h))
 
--- what entering some targets one by one makes of none stands for them
-pub covered : (ts : List Target) → Covers (IsAmong ts) (with_targets [] ts)
+-- what entering some targets one by one makes of none
+pub covered : (ts : List Target) → AreFirst (IsAmong ts) (with_firsts empty ts)
 covered ts =
-    let h = all_entered (λ _. ⊥) ts [] (record { known = λ c none. none; first = λ x none. absurd none }) in
-    record { known = λ c there. elim (h.known c there) [ inl none ↦ absurd none | inr m ↦ m ]; first = λ x m. h.first x (inr m) }
+    let none : AreFirst (λ _. ⊥) (empty {o = by_number}) = record { known = λ n c is. absurd (none-some c (sym (get-empty by_number n) ∙ is)); first = λ x n none on. absurd none } in
+    let h = all_entered (λ _. ⊥) ts empty none in
+    record { known = λ n c is. let k = h.known n c is in (elim k.0 [ inl none ↦ absurd none | inr m ↦ m ], k.1); first = λ x n m on. h.first x n (inr m) on }

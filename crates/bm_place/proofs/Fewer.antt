@@ -5,13 +5,12 @@ use Rattle.std.specs.FinMap.{nat_cmp-IsAntisymmetric}
 use Rattle.std.specs.declared.cmp.Ordering.{Ordering}
 use Rattle.std.specs.declared.cmp.Ordering.TheVariants.{Less, Equal, Greater}
 use Rattle.std.specs.Cmp.{IsTotalOrder, IsStrictWeakOrder, nat_cmp_total}
-use Rattle.std.proofs.Common.{◌≡◌, ◌≤◌, ◌+◌, ℕ, Bool, true, false, not, cond, ◌&&◌, ◌==◌, List, [], ◌∷◌, map, filter, drop, length, Option, Some, None, refl, inl, inr, sym, ap, subst, ◌∙◌, arith, true≢false}
+use Rattle.std.proofs.Common.{◌≡◌, ◌≤◌, ◌+◌, ℕ, Bool, true, false, not, cond, ◌&&◌, ◌==◌, List, [], ◌∷◌, map, filter, Option, Some, None, refl, inl, inr, sym, ap, subst, ◌∙◌, arith, true≢false}
 use Rattle.std.proofs.lemmas.Bool.{eqb-true, eq-eqb, leb-true}
 use Rattle.std.proofs.lemmas.Bool.Decides.{nat_tests}
 use Rattle.std.proofs.lemmas.Cmp.{tied_itself}
 use Rattle.std.proofs.lemmas.List.MinMax.{ranks_by}
 use Rattle.std.proofs.lemmas.Option.{cond_some}
-use Rattle.std.proofs.lemmas.List.{at_drop_all}
 use Rattle.bm_base.specs.declared.level.Level.{Level}
 use Rattle.bm_base.specs.declared.level.Level.TheVariants.{BadlyDistributed}
 use Rattle.bm_base.specs.Levels.{is_at}
@@ -25,12 +24,11 @@ use Rattle.bm_place.specs.Least.{IsLeastOf}
 use Rattle.bm_place.specs.Scan.{scan}
 use Rattle.bm_place.specs.Standing.{standing_of, class_in, is_one}
 use Rattle.bm_place.specs.Targets.{room_on, target_at, target_table, cmp_targets, is_free, is_barred_by}
-use Rattle.bm_place.specs.Foremost.{IsAmong, AreForemost, HasNoRoom, goes_before, cmp_alike}
+use Rattle.bm_place.specs.Foremost.{IsAmong, AreForemost, goes_before, cmp_alike}
 use Rattle.bm_place.proofs.Alike.{IsLike, like, more_room}
 use Rattle.bm_place.proofs.Best.{least-bears}
 use Rattle.bm_place.proofs.Choosing.{scan-found}
 use Rattle.bm_place.proofs.Taking.{target_cmp_total, ordered_as, tested_as}
-use Rattle.bm_place.proofs.Telling.{parts}
 use Rattle.bm_place.proofs.Tables.{get-table}
 
 -- The least of fewer numbers.
@@ -162,15 +160,13 @@ module _ (C : Cluster) (sent : ℕ → ℕ) (urgency : Level) (holders barred : 
     storage_again None = refl
     storage_again (Some s) = refl
 
-    -- a scan that has nothing left has found the target
-    pub target_found : (w : Standing) (best : Option Target) (i : ℕ) → w ≡ standing_of C holders → length cs ≤ i
-        → scan (cmp_targets w) (is_free C w urgency barred len) best (drop i cs) ≡ scan (cmp_targets w) (is_free C w urgency barred len) None cs
+    -- what the scan of all ends at is the target
+    pub target_found : (w : Standing) (best : Option Target) → w ≡ standing_of C holders → scan (cmp_targets w) (is_free C w urgency barred len) None cs ≡ best
         → option_map (λ (t : Target). t.storage) best ≡ least_target_by C sent urgency holders barred len
-    target_found w best i stands all inv =
+    target_found w best stands inv =
         let v = standing_of C holders in
         ap (option_map (λ (t : Target). t.storage)) (
-        sym (at_drop_all (λ xs. scan (cmp_targets w) (is_free C w urgency barred len) best xs) cs i all)
-        ∙ inv
+        sym inv
         ∙ ap (λ w. scan (cmp_targets w) (is_free C w urgency barred len) None cs) stands
         ∙ ap (scan (cmp_targets v) (is_free C v urgency barred len) None) (sym all_made)
         ∙ scan-found (target_at C sent) (cmp_targets v) (is_free C v urgency barred len) (target_cmp C sent holders) (is_target C sent urgency holders barred len) (target_cmp_total C sent holders)
@@ -178,24 +174,3 @@ module _ (C : Cluster) (sent : ℕ → ℕ) (urgency : Level) (holders barred : 
         )
         ∙ storage_again (least (target_cmp C sent holders) (filter (is_target C sent urgency holders barred len) storages))
         ∙ least_of_fewer
-
-  -- where no storage has room none is found
-  pub none_found : HasNoRoom (target_table C sent) len → None ≡ least_target_by C sent urgency holders barred len
-  unfolding least_target_by
-  none_found none =
-      let order = target_cmp C sent holders in
-      let total = target_cmp_total C sent holders in
-      let test = is_target C sent urgency holders barred len in
-      same_least order total exact test (keys C.storages) (keys C.storages) (λ s h. h) (λ s h may. absurd (true≢false (sym may ∙ fails s h))) None (least order (filter test (keys C.storages))) fails
-      (least-bears order total test (keys C.storages))
-    where
-      fails : (s : ℕ) → has (keys C.storages) s ≡ true → is_target C sent urgency holders barred len s ≡ false
-      fails s there = by (is_target C sent urgency holders barred len s) refl
-        where
-          by : (b : Bool) → is_target C sent urgency holders barred len s ≡ b → is_target C sent urgency holders barred len s ≡ false
-          by false e = e
-          by true e =
-              let t = target_at C sent s in
-              let may = parts C sent urgency holders barred len s e in
-              let less = none s t (get-table (target_at C sent) (keys C.storages) s ∙ ap (λ b. cond b (Some t) None) there) may.1 in
-              absurd (omega arith)

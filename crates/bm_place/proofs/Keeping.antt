@@ -1,21 +1,27 @@
 -- What is true of a table of storages and its foremost targets, when it is made.
-use Rattle.std.specs.Prelude.{◌⊎◌}
+use Rattle.std.specs.Prelude.{◌⊎◌, option_map, option_and_then}
+use Rattle.std.specs.Option.{option_map_or}
 use Rattle.std.specs.Ordering.{eq_by_cmp, nat_cmp}
-use Rattle.std.specs.FinMap.{find}
-use Rattle.std.proofs.Common.{◌≡◌, ◌≤◌, ◌<◌, ℕ, Bool, true, false, not, nat_lt, cond, ◌&&◌, List, [], ◌∷◌, map, Some, refl, inl, inr, sym, ap, subst, ◌∙◌, arith}
-use Rattle.std.proofs.lemmas.Bool.Decides.{nat_tests}
-use Rattle.std.proofs.lemmas.Option.{same_Some, cond_some}
+use Rattle.std.specs.FinMap.{find, is_sorted}
+use Rattle.std.specs.FinMap.Entries.{below_all}
+use Rattle.std.proofs.Common.{◌≡◌, ◌≤◌, ℕ, Bool, true, false, cond, List, [], ◌∷◌, map, Option, Some, None, is_some, refl, inl, inr, sym, ap, subst, ◌∙◌, T, arith}
+use Rattle.std.proofs.lemmas.Option.{same_Some, cond_some, none-some}
+use Rattle.bm_base.specs.Conjunction.{first, second}
 use Rattle.bm_base.specs.Lists.{has}
-use Rattle.bm_base.specs.Map.{Map, by_number, get, entries, keys}
+use Rattle.bm_base.specs.Map.{Map, by_number, empty, get, entries, keys}
+use Rattle.bm_base.specs.declared.storage.StorageInfo.{StorageInfo}
 use Rattle.bm_base.specs.State.{Cluster}
-use Rattle.bm_base.proofs.Each.{Each}
-use Rattle.bm_base.proofs.Maps.{each_entry}
+use Rattle.bm_base.specs.Replicas.{node_of, rack_of, is_draining, drains}
+use Rattle.bm_base.proofs.Each.{Each, each_then}
+use Rattle.bm_base.proofs.Maps.{each_entry, each_found, key_itself}
+use Rattle.bm_base.proofs.MapLaws.{find_below}
 use Rattle.bm_place.specs.declared.scheduled.Target.{Target}
-use Rattle.bm_place.specs.Targets.{room_on, target_at, target_table}
-use Rattle.bm_place.specs.Foremost.{IsAmong, AreForemost, IsKept, HasNoRoom, with_targets, greatest_room}
-use Rattle.bm_place.proofs.Tables.{get-table}
-use Rattle.bm_place.proofs.Alike.{like, more_room}
-use Rattle.bm_place.proofs.Covering.{covered}
+use Rattle.bm_place.specs.Targets.{target_at, target_table}
+use Rattle.bm_place.specs.Foremost.{IsAmong, AreForemost, IsKept, StandsFor, are_alike, with_firsts, foremost_in_order}
+use Rattle.bm_place.proofs.Tables.{get-table, has-keys}
+use Rattle.bm_place.proofs.Alike.{IsLike, like, alike}
+use Rattle.bm_place.proofs.Covering.{AreFirst, covered}
+use Rattle.bm_place.proofs.Ordered.{AreApart, all_ordered, among_all, all_among}
 
 pub among_mapped : {X Y : Type 0} (f : X → Y) (xs : List X) (y : Y) → IsAmong (map f xs) y → (x : X) × IsAmong xs x × (f x ≡ y)
 among_mapped f [] y none = absurd none
@@ -48,6 +54,31 @@ pub row_among : (rows : Map by_number Target) (s : ℕ) (t : Target) → get row
 unfolding get entries
 row_among rows s t is = found_among rows.list s t is
 
+pub entries_sorted : (m : Map by_number Target) → T (is_sorted nat_cmp (entries m))
+unfolding entries
+entries_sorted m = m.sorted
+
+-- targets of different nodes are not alike
+apart_of : (es : List (ℕ × Target)) → T (is_sorted nat_cmp es) → Each (λ e. e.1.node ≡ Some e.0) es → AreApart (map (λ e. e.1) es)
+apart_of [] sorted on = tt
+apart_of (e ∷ es) sorted on = (λ d there. other d there, apart_of es (second (below_all nat_cmp e.0 es) (is_sorted nat_cmp es) sorted) on.1)
+  where
+    other : (d : Target) → IsAmong (map (λ e. e.1) es) d → are_alike e.1 d ≡ false
+    other d there =
+        let x = among_mapped (λ (e : ℕ × Target). e.1) es d there in
+        let is = each_among (λ (e : ℕ × Target). find nat_cmp e.0 es ≡ Some e.1) es x.0 (each_found nat_cmp by_number.same (key_itself by_number) es (second (below_all nat_cmp e.0 es) (is_sorted nat_cmp es) sorted)) x.1 in
+        let at = each_among (λ (e : ℕ × Target). e.1.node ≡ Some e.0) es x.0 on.1 x.1 in
+        by (are_alike e.1 d) refl x.0 is (ap (λ (t : Target). t.node) (sym x.2) ∙ at)
+      where
+        none : find nat_cmp e.0 es ≡ None
+        none = find_below nat_cmp e.0 es (first (below_all nat_cmp e.0 es) (is_sorted nat_cmp es) sorted)
+
+        by : (b : Bool) → are_alike e.1 d ≡ b → (x : ℕ × Target) → find nat_cmp x.0 es ≡ Some x.1 → d.node ≡ Some x.0 → are_alike e.1 d ≡ false
+        by false f x is at = f
+        by true f x is at =
+            let key = same_Some e.0 x.0 (sym on.0 ∙ (like e.1 d f).node ∙ at) in
+            absurd (none-some x.1 (sym none ∙ ap (λ n. find nat_cmp n es) key ∙ is))
+
 module _ (rows : Map by_number Target) (at_storage : (s : ℕ) (t : Target) → get rows s ≡ Some t → t.storage ≡ s) where
   pub among_rows : (t : Target) → IsAmong (rows_of rows) t → get rows t.storage ≡ Some t
   among_rows t there =
@@ -55,63 +86,82 @@ module _ (rows : Map by_number Target) (at_storage : (s : ℕ) (t : Target) → 
       let is = each_among (λ (e : ℕ × Target). get rows e.0 ≡ Some e.1) (entries rows) h.0 (each_entry rows) h.1 in
       ap (get rows) (ap (λ (u : Target). u.storage) (sym h.2) ∙ at_storage h.0.0 h.0.1 is) ∙ is ∙ ap Some h.2
 
-  pub are_foremost : ((s : ℕ) (t : Target) → get rows s ≡ Some t → t.scheduled ≤ t.remaining) → AreForemost rows (with_targets [] (rows_of rows))
-  are_foremost within =
-      let all = covered (rows_of rows) in
-      record {
-        known = λ c there. among_rows c (all.known c there);
-        first = λ t is. all.first t (row_among rows t.storage t is);
-        within = λ c there. within c.storage c (among_rows c (all.known c there));
-      }
+  pub are_foremost : ((s : ℕ) (t : Target) → get rows s ≡ Some t → t.scheduled ≤ t.remaining) → ((t : Target) → IsAmong (rows_of rows) t → (n : ℕ) × (t.node ≡ Some n))
+      → ((s t : Target) → IsAmong (rows_of rows) s → IsAmong (rows_of rows) t → s.node ≡ t.node → are_alike s t ≡ true) → AreForemost rows (foremost_in_order (rows_of rows))
+  are_foremost within on_node alike_on = record {
+    known = λ c there. among_rows c (of_rows c there);
+    first = λ t is. first_of t (row_among rows t.storage t is);
+    within = λ c there. within c.storage c (among_rows c (of_rows c there));
+    ordered = all_ordered (rows_of firsts) [] (apart_of (entries firsts) (entries_sorted firsts) (each_then (λ e. get firsts e.0 ≡ Some e.1) (λ e. e.1.node ≡ Some e.0) (entries firsts) (each_entry firsts) (λ e is. (all.known e.0 e.1 is).1))) (λ t c there none. absurd none) tt;
+  }
+    where
+      firsts : Map by_number Target
+      firsts = with_firsts empty (rows_of rows)
 
--- The greatest room.
+      all : AreFirst (IsAmong (rows_of rows)) firsts
+      all = covered (rows_of rows)
 
-no_less : (n : ℕ) (cs : List Target) → n ≤ greatest_room n cs
-no_less n [] = omega arith
-no_less n (c ∷ cs) = by (not c.is_draining && nat_lt n (room_on c)) refl (λ m. no_less m cs)
-  where
-    by : (b : Bool) → (not c.is_draining && nat_lt n (room_on c)) ≡ b → ((m : ℕ) → m ≤ greatest_room m cs) → n ≤ greatest_room (cond b (room_on c) n) cs
-    by true e rest = let least = rest (room_on c) in let more : n ≤ room_on c = grind (arith, nat_tests) in omega arith
-    by false e rest = rest n
+      of_firsts : (c : Target) → IsAmong (rows_of firsts) c → IsAmong (rows_of rows) c
+      of_firsts c there =
+          let e = among_mapped (λ (e : ℕ × Target). e.1) (entries firsts) c there in
+          subst (IsAmong (rows_of rows)) e.2 (all.known e.0.0 e.0.1 (each_among (λ (e : ℕ × Target). get firsts e.0 ≡ Some e.1) (entries firsts) e.0 (each_entry firsts) e.1)).0
 
-pub greatest_bounds : (n : ℕ) (cs : List Target) (c : Target) → IsAmong cs c → c.is_draining ≡ false → room_on c ≤ greatest_room n cs
-greatest_bounds n [] c none keeps = absurd none
-greatest_bounds n (d ∷ cs) c (inr there) keeps = greatest_bounds (cond (not d.is_draining && nat_lt n (room_on d)) (room_on d) n) cs c there keeps
-greatest_bounds n (d ∷ cs) c (inl e) keeps = subst (λ (c : Target). room_on c ≤ greatest_room n (d ∷ cs)) e (by (nat_lt n (room_on d)) refl)
-  where
-    of_head : (not d.is_draining && nat_lt n (room_on d)) ≡ nat_lt n (room_on d)
-    of_head = ap (λ b. not b && nat_lt n (room_on d)) (ap (λ (t : Target). t.is_draining) e ∙ keeps)
+      of_rows : (c : Target) → IsAmong (foremost_in_order (rows_of rows)) c → IsAmong (rows_of rows) c
+      of_rows c there = elim (among_all (rows_of firsts) [] c there) [ inl h ↦ of_firsts c h | inr none ↦ absurd none ]
 
-    by : (b : Bool) → nat_lt n (room_on d) ≡ b → room_on d ≤ greatest_room (cond (not d.is_draining && nat_lt n (room_on d)) (room_on d) n) cs
-    by true f = subst (λ b. room_on d ≤ greatest_room (cond b (room_on d) n) cs) (sym (of_head ∙ f)) (no_less (room_on d) cs)
-    by false f =
-        let least = no_less n cs in
-        let less : room_on d ≤ n = grind (arith, nat_tests) in
-        let most : room_on d ≤ greatest_room n cs = omega arith in
-        subst (λ b. room_on d ≤ greatest_room (cond b (room_on d) n) cs) (sym (of_head ∙ f)) most
-
--- where a length is greater than the greatest room, no storage has room for it
-pub has_no_room : (rows : Map by_number Target) (cs : List Target) (most len : ℕ) → IsKept rows cs most → most < len → HasNoRoom rows len
-has_no_room rows cs most len kept more s t is keeps =
-    let itself = ap (get rows) (kept.at_storage s t is) ∙ is in
-    let h = kept.foremost.first t itself in
-    let bound = kept.bounded h.0 h.1 ((like h.0 t h.2.alike).is_draining ∙ keeps) in
-    let less = more_room h.0 t h.2.before in
-    omega arith
+      first_of : (t : Target) → IsAmong (rows_of rows) t → (c : Target) × IsAmong (foremost_in_order (rows_of rows)) c × StandsFor c t
+      first_of t there =
+          let n = on_node t there in
+          let c = all.first t n.0 there n.1 in
+          let k = all.known n.0 c.0 c.1 in (
+            c.0,
+            all_among (rows_of firsts) [] c.0 (inl (row_among firsts n.0 c.0 c.1)),
+            record { alike = alike_on c.0 t k.0 there (k.1 ∙ sym n.1); before = c.2 },
+          )
 
 -- A table of a cluster to whose storages nothing is sent yet.
 
-row_made : (C : Cluster) (s : ℕ) (t : Target) → get (target_table C (λ _. 0)) s ≡ Some t → target_at C (λ _. 0) s ≡ t
-row_made C s t is = (cond_some (has (keys C.storages) s) (target_at C (λ _. 0) s) t (sym (get-table (target_at C (λ _. 0)) (keys C.storages) s) ∙ is)).1
+row_made : (C : Cluster) (s : ℕ) (t : Target) → get (target_table C (λ _. 0)) s ≡ Some t → (target_at C (λ _. 0) s ≡ t) × (has (keys C.storages) s ≡ true)
+row_made C s t is = let h = cond_some (has (keys C.storages) s) (target_at C (λ _. 0) s) t (sym (get-table (target_at C (λ _. 0)) (keys C.storages) s) ∙ is) in (h.1, h.0)
 
-pub kept_made : (C : Cluster) (rows : Map by_number Target) (cs : List Target) (most : ℕ) → rows ≡ target_table C (λ _. 0) → cs ≡ with_targets [] (rows_of rows) → most ≡ greatest_room 0 cs → IsKept rows cs most
-kept_made C rows cs most made foremost greatest =
-    let row : (s : ℕ) (t : Target) → get rows s ≡ Some t → target_at C (λ _. 0) s ≡ t = λ s t is. row_made C s t (ap (λ m. get m s) (sym made) ∙ is) in
-    let at_storage : (s : ℕ) (t : Target) → get rows s ≡ Some t → t.storage ≡ s = λ s t is. ap (λ (t : Target). t.storage) (sym (row s t is)) in
-    let within : (s : ℕ) (t : Target) → get rows s ≡ Some t → t.scheduled ≤ t.remaining = λ s t is. subst (λ (t : Target). t.scheduled ≤ t.remaining) (row s t is) (omega arith) in
-    subst (IsKept rows cs) (sym greatest) (record {
+on_node : (C : Cluster) (s : ℕ) → has (keys C.storages) s ≡ true → (n : ℕ) × (node_of C s ≡ Some n)
+unfolding node_of
+on_node C s there = by (get C.storages s) (sym (has-keys C.storages s) ∙ there)
+  where
+    by : (o : Option StorageInfo) → is_some o ≡ true → (n : ℕ) × (option_map (λ (i : StorageInfo). i.node) o ≡ Some n)
+    by None none = cc
+    by (Some i) e = (i.node, refl)
+
+alike_on : (C : Cluster) (a b : ℕ) → node_of C a ≡ node_of C b → IsLike (target_at C (λ _. 0) a) (target_at C (λ _. 0) b)
+unfolding rack_of is_draining
+alike_on C a b same = record { node = same; rack = ap (option_and_then (get C.nodes)) same; is_draining = ap (λ o. option_map_or (drains C) o false) same }
+
+pub kept_made : (C : Cluster) (rows : Map by_number Target) (cs : List Target) → rows ≡ target_table C (λ _. 0) → cs ≡ foremost_in_order (rows_of rows) → IsKept rows cs
+kept_made C rows cs made foremost =
+    record {
       at_storage = at_storage;
       within = within;
-      foremost = subst (AreForemost rows) (sym foremost) (are_foremost rows at_storage within);
-      bounded = λ c h keeps. greatest_bounds 0 cs c h keeps;
-    })
+      foremost = subst (AreForemost rows) (sym foremost) (are_foremost rows at_storage within node one);
+    }
+  where
+    row : (s : ℕ) (t : Target) → get rows s ≡ Some t → (target_at C (λ _. 0) s ≡ t) × (has (keys C.storages) s ≡ true)
+    row s t is = row_made C s t (ap (λ m. get m s) (sym made) ∙ is)
+
+    at_storage : (s : ℕ) (t : Target) → get rows s ≡ Some t → t.storage ≡ s
+    at_storage s t is = ap (λ (t : Target). t.storage) (sym (row s t is).0)
+
+    within : (s : ℕ) (t : Target) → get rows s ≡ Some t → t.scheduled ≤ t.remaining
+    within s t is = subst (λ (t : Target). t.scheduled ≤ t.remaining) (row s t is).0 (omega arith)
+
+    node : (t : Target) → IsAmong (rows_of rows) t → (n : ℕ) × (t.node ≡ Some n)
+    node t there =
+        let r = row t.storage t (among_rows rows at_storage t there) in
+        let n = on_node C t.storage r.1 in
+        (n.0, ap (λ (t : Target). t.node) (sym r.0) ∙ n.1)
+
+    one : (s t : Target) → IsAmong (rows_of rows) s → IsAmong (rows_of rows) t → s.node ≡ t.node → are_alike s t ≡ true
+    one s t there_s there_t same =
+        let a = (row s.storage s (among_rows rows at_storage s there_s)).0 in
+        let b = (row t.storage t (among_rows rows at_storage t there_t)).0 in
+        (λ i. are_alike (sym a i) (sym b i))
+        ∙ alike (target_at C (λ _. 0) s.storage) (target_at C (λ _. 0) t.storage) (alike_on C s.storage t.storage (ap (λ (t : Target). t.node) a ∙ same ∙ ap (λ (t : Target). t.node) (sym b)))

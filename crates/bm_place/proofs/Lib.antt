@@ -9,6 +9,8 @@ pub mod Keeping
 pub mod Spanning
 pub mod Renewing
 pub mod Fewer
+pub mod Walking
+pub mod Ordered
 pub mod Covering
 pub mod Counting
 pub mod Entering

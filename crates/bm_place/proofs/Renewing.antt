@@ -1,10 +1,11 @@
 -- One transfer more leaves a table of storages and its foremost targets true.
-use Rattle.std.specs.Prelude.{◌⊎◌, ◌+◌, ◌==◌, option_map}
+use Rattle.std.specs.Prelude.{◌⊎◌, ◌+◌, ◌==◌, option_map, position, slice_get}
 use Rattle.std.specs.Option.{IfSome}
 use Rattle.std.specs.Ordering.{eq_by_cmp, nat_cmp}
-use Rattle.std.proofs.Common.{◌≡◌, ◌≤◌, ℕ, Bool, true, false, cond, List, map, Option, Some, None, refl, inl, inr, sym, ap, subst, ◌∙◌, arith}
+use Rattle.std.proofs.Common.{◌≡◌, ◌≤◌, ℕ, Bool, true, false, cond, List, get_or, Option, Some, None, refl, inl, inr, sym, ap, subst, ◌∙◌, arith, true≢false}
 use Rattle.std.proofs.lemmas.Bool.{eqb-true}
-use Rattle.std.proofs.lemmas.Option.{same_Some, none-some}
+use Rattle.std.proofs.lemmas.List.Quantifiers.{position-Some}
+use Rattle.std.proofs.lemmas.Option.{same_Some, none-some, slice_get-get_or, slice_get_within}
 use Rattle.bm_base.specs.Map.{Map, by_number, get, revise_at}
 use Rattle.bm_base.proofs.MapLaws.{get-revise}
 use Rattle.bm_base.proofs.Maps.{get_revised}
@@ -13,10 +14,12 @@ use Rattle.bm_base.proofs.Replacing.{no_change}
 use Rattle.bm_place.specs.declared.scheduled.Target.{Target}
 use Rattle.bm_place.specs.Targets.{room_on}
 use Rattle.bm_place.specs.Scan.{scan}
-use Rattle.bm_place.specs.Foremost.{IsAmong, IsKept, StandsFor, are_alike, cmp_alike, greatest_room, put_for}
+use Rattle.bm_place.specs.Foremost.{IsAmong, IsKept, StandsFor, are_alike, goes_before, cmp_alike, put_back}
 use Rattle.bm_place.proofs.Alike.{IsLike, like, alike, like_back, like_then, like_itself, less_room, ranks}
 use Rattle.bm_place.proofs.Scanning.{found}
-use Rattle.bm_place.proofs.Keeping.{rows_of, among_mapped, among_map, row_among, among_rows, greatest_bounds}
+use Rattle.bm_place.proofs.Keeping.{rows_of, row_among, among_rows}
+use Rattle.bm_place.proofs.Entering.{none_passes}
+use Rattle.bm_place.proofs.Ordered.{without, among_put, put_among, of_without, here_or_without, among_at, apart_without, only_alike, put_in_order}
 
 -- so many bytes more are sent to a target
 abbrev pub sent_more : ℕ → Target → Target
@@ -58,9 +61,7 @@ module _ (rows : Map by_number Target) (target len : ℕ) where
     before = ranks.chain (cond b (sent_more len x) x) x c (less_room (cond b (sent_more len x) x) x (same_storage b x) (no_more_room b x)) h.before;
   }
 
-  module _ (cs : List Target) (most : ℕ) (row best : Target) (kept : IsKept rows cs most) (fits : IfSome (get rows target) (λ t. len + t.scheduled ≤ t.remaining))
-      (there : get added target ≡ Some row) (ts : List Target) (part : (t : Target) → IsAmong ts t → IsAmong (rows_of added) t) (all : (t : Target) → IsAmong (rows_of added) t → are_alike t row ≡ true → IsAmong ts t)
-      (is : scan cmp_alike (λ c. are_alike c row) (Some row) ts ≡ Some best) where
+  module _ (cs : List Target) (kept : IsKept rows cs) (fits : IfSome (get rows target) (λ t. len + t.scheduled ≤ t.remaining)) where
     at_storage : (s : ℕ) (t : Target) → get added s ≡ Some t → t.storage ≡ s
     at_storage s t e = let h = row_before s t e in ap (λ (t : Target). t.storage) (sym h.2) ∙ same_storage (s == target) h.0 ∙ kept.at_storage s h.0 h.1
 
@@ -73,82 +74,133 @@ module _ (rows : Map by_number Target) (target len : ℕ) where
             subst (λ (t : Target). t.scheduled ≤ t.remaining) more (omega arith)
         by false same x at other = subst (λ (t : Target). t.scheduled ≤ t.remaining) other (kept.within s x at)
 
-    facts : (row ≡ best) ⊎ IsAmong ts best
-    facts = (found (λ c. are_alike c row) row best ts is).among
-
-    best_known : get added best.storage ≡ Some best
-    best_known = elim facts [
-      | inl e ↦ ap (λ (t : Target). get added t.storage) (sym e) ∙ ap (get added) (at_storage target row there) ∙ there ∙ ap Some e
-      | inr among ↦ among_rows added at_storage best (part best among)
-    ]
-
-    best_like : IsLike best row
-    best_like = like best row ((found (λ c. are_alike c row) row best ts is).passes (alike row row (like_itself row)))
-
-    -- what is like the row is stood for by the best
-    stood_for_by_best : (s : ℕ) (t : Target) → get added s ≡ Some t → IsLike t row → StandsFor best t
-    stood_for_by_best s t e h = record {
-      alike = alike best t (like_then best row t best_like (like_back t row h));
-      before = (found (λ c. are_alike c row) row best ts is).all t (all t (row_among added s t e) (alike t row h)) (alike t row h);
-    }
-
-    known : (c : Target) → IsAmong (map (put_for target best) cs) c → get added c.storage ≡ Some c
-    known c h = let d = among_mapped (put_for target best) cs c h in by (d.0.storage == target) d.0 refl d.1 d.2
-      where
-        by : (b : Bool) (d : Target) → (d.storage == target) ≡ b → IsAmong cs d → cond b best d ≡ c → get added c.storage ≡ Some c
-        by true d other among e = subst (λ (c : Target). get added c.storage ≡ Some c) e best_known
-        by false d other among e =
-            let old = row_after d.storage d (kept.foremost.known d among) ∙ ap (λ b. Some (cond b (sent_more len d) d)) other in
-            subst (λ (c : Target). get added c.storage ≡ Some c) e old
-
-    -- the foremost of the target's node is like the row
-    like_row : (c : Target) → get rows c.storage ≡ Some c → c.storage ≡ target → IsLike c row
-    like_row c is same =
-        let h = row_before target row there in
-        let one = same_Some c h.0 (sym is ∙ ap (get rows) same ∙ h.1) in
-        subst (λ c. IsLike c row) (sym one) (subst (IsLike h.0) h.2 (like_back (cond (target == target) (sent_more len h.0) h.0) h.0 (like_before (target == target) h.0)))
-
-    put_among : (b : Bool) (c : Target) → (c.storage == target) ≡ b → IsAmong cs c → IsAmong (map (put_for target best) cs) (cond b best c)
-    put_among b c is among = subst (λ b. IsAmong (map (put_for target best) cs) (cond b best c)) is (among_map (put_for target best) cs c among)
-
-    first : (t : Target) → get added t.storage ≡ Some t → (c : Target) × IsAmong (map (put_for target best) cs) c × StandsFor c t
-    first t e =
+    -- what stands for a row stands for it still
+    still_first : (t : Target) → get added t.storage ≡ Some t → (c : Target) × IsAmong cs c × StandsFor c t
+    still_first t e =
         let h = row_before t.storage t e in
         let old = kept.foremost.first h.0 (ap (get rows) (kept.at_storage t.storage h.0 h.1) ∙ h.1) in
-        let stands = subst (StandsFor old.0) h.2 (stands_still (t.storage == target) old.0 h.0 old.2) in
-        by old.0 (old.0.storage == target) refl old.1 stands
-      where
-        by : (c : Target) (b : Bool) → (c.storage == target) ≡ b → IsAmong cs c → StandsFor c t → (c : Target) × IsAmong (map (put_for target best) cs) c × StandsFor c t
-        by c true same among stands =
-            let alike_row = like_row c (kept.foremost.known c among) (eqb-true c.storage target same) in
-            (best, put_among true c same among, stood_for_by_best t.storage t e (like_then t c row (like_back c t (like c t stands.alike)) alike_row))
-        by c false other among stands = (c, put_among false c other among, stands)
+        (old.0, old.1, subst (StandsFor old.0) h.2 (stands_still (t.storage == target) old.0 h.0 old.2))
 
-    -- where the target's row is the best of its node in the place of the target
-    pub kept_added : IsKept added (map (put_for target best) cs) (greatest_room 0 (map (put_for target best) cs))
-    kept_added = record {
+    -- another than the target is as it was
+    still_known : (c : Target) → IsAmong cs c → (c.storage == target) ≡ false → get added c.storage ≡ Some c
+    still_known c among other = row_after c.storage c (kept.foremost.known c among) ∙ ap (λ b. Some (cond b (sent_more len c) c)) other
+
+    -- where the target is not among the foremost, they are the foremost still
+    pub kept_apart : ((c : Target) → IsAmong cs c → (c.storage == target) ≡ false) → IsKept added cs
+    kept_apart apart = record {
       at_storage = λ s t e. at_storage s t e;
       within = λ s t e. within s t e;
-      foremost = record { known = λ c h. known c h; first = λ t e. first t e; within = λ c h. within c.storage c (known c h) };
-      bounded = λ c h keeps. greatest_bounds 0 (map (put_for target best) cs) c h keeps;
+      foremost =
+          record {
+            known = λ c among. still_known c among (apart c among);
+            first = λ t e. still_first t e;
+            within = λ c among. within c.storage c (still_known c among (apart c among));
+            ordered = kept.foremost.ordered;
+          };
     }
 
+    module _ (place : ℕ) (row old best : Target) (there : get added target ≡ Some row) (at : slice_get cs place ≡ Some old) (of_target : old.storage ≡ target) (ts : List Target) (part : (t : Target) → IsAmong ts t → IsAmong (rows_of added) t)
+        (all : (t : Target) → IsAmong (rows_of added) t → are_alike t row ≡ true → IsAmong ts t) (is : scan cmp_alike (λ c. are_alike c row) (Some row) ts ≡ Some best) where
+      facts : (row ≡ best) ⊎ IsAmong ts best
+      facts = (found (λ c. are_alike c row) row best ts is).among
+
+      best_known : get added best.storage ≡ Some best
+      best_known = elim facts [
+        | inl e ↦ ap (λ (t : Target). get added t.storage) (sym e) ∙ ap (get added) (at_storage target row there) ∙ there ∙ ap Some e
+        | inr among ↦ among_rows added at_storage best (part best among)
+      ]
+
+      best_like : IsLike best row
+      best_like = like best row ((found (λ c. are_alike c row) row best ts is).passes (alike row row (like_itself row)))
+
+      -- what is like the row is stood for by the best
+      stood_for_by_best : (s : ℕ) (t : Target) → get added s ≡ Some t → IsLike t row → StandsFor best t
+      stood_for_by_best s t e h = record {
+        alike = alike best t (like_then best row t best_like (like_back t row h));
+        before = (found (λ c. are_alike c row) row best ts is).all t (all t (row_among added s t e) (alike t row h)) (alike t row h);
+      }
+
+      old_among : IsAmong cs old
+      old_among = among_at place cs old at
+
+      -- the one at the place is like the row
+      old_like : IsLike old row
+      old_like =
+          let h = row_before target row there in
+          let one = same_Some old h.0 (sym (kept.foremost.known old old_among) ∙ ap (get rows) of_target ∙ h.1) in
+          subst (λ c. IsLike c row) (sym one) (subst (IsLike h.0) h.2 (like_back (cond (target == target) (sent_more len h.0) h.0) h.0 (like_before (target == target) h.0)))
+
+      -- the best stood behind the one at the place before, and has no more room now
+      not_before_old : goes_before best old ≡ false
+      not_before_old =
+          let first = still_first best best_known in
+          let like_old = like_then old row best old_like (like_back best row best_like) in
+          let one = only_alike place cs old first.0 kept.foremost.ordered at first.1 (alike old first.0 (like_then old best first.0 like_old (like_back first.0 best (like first.0 best first.2.alike)))) in
+          subst (λ c. goes_before best c ≡ false) (sym one) first.2.before
+
+      -- the others are of other storages
+      other_storage : (c : Target) → IsAmong (without place cs) c → (c.storage == target) ≡ false
+      other_storage c among = by (c.storage == target) refl
+        where
+          by : (b : Bool) → (c.storage == target) ≡ b → (c.storage == target) ≡ false
+          by false e = e
+          by true e =
+              let one = same_Some old c (sym (kept.foremost.known old old_among) ∙ ap (get rows) (of_target ∙ sym (eqb-true c.storage target e)) ∙ kept.foremost.known c (of_without place cs c among)) in
+              absurd (true≢false (sym (alike old c (subst (IsLike old) one (like_itself old))) ∙ apart_without place cs old c kept.foremost.ordered at among))
+
+      known : (c : Target) → IsAmong (put_back best place cs) c → get added c.storage ≡ Some c
+      known c among =
+          elim (among_put place cs best c among) [
+            | inl e ↦ subst (λ (c : Target). get added c.storage ≡ Some c) e best_known
+            | inr other ↦ still_known c (of_without place cs c other) (other_storage c other)
+          ]
+
+      first_of : (t : Target) → get added t.storage ≡ Some t → (c : Target) × IsAmong (put_back best place cs) c × StandsFor c t
+      first_of t e =
+          let h = still_first t e in
+          elim (here_or_without place cs old h.0 at h.1) [
+            | inl same ↦
+                let stands = subst (λ c. StandsFor c t) (sym same) h.2 in
+                (best, put_among place cs best best (slice_get_within cs place old at) (inl refl), stood_for_by_best t.storage t e (like_then t old row (like_back old t (like old t stands.alike)) old_like))
+            | inr other ↦ (h.0, put_among place cs best h.0 (slice_get_within cs place old at) (inr other), h.2)
+          ]
+
+      -- where the best of the target's node comes in the place of the target
+      pub kept_added : IsKept added (put_back best place cs)
+      kept_added = record {
+        at_storage = λ s t e. at_storage s t e;
+        within = λ s t e. within s t e;
+        foremost =
+            record {
+              known = λ c h. known c h;
+              first = λ t e. first_of t e;
+              within = λ c h. within c.storage c (known c h);
+              ordered = put_in_order place cs old best kept.foremost.ordered at (alike old best (like_then old row best old_like (like_back best row best_like))) not_before_old;
+            };
+      }
+
 -- the same of what is equal to these
-pub kept_renewed : (old new : Map by_number Target) (target len : ℕ) (cs ds ts : List Target) (most : ℕ) (row best : Target) → IsKept old cs most → IfSome (get old target) (λ t. len + t.scheduled ≤ t.remaining)
-    → new ≡ revise_at old target (sent_more len) → get new target ≡ Some row → ((t : Target) → IsAmong ts t → IsAmong (rows_of new) t) → ((t : Target) → IsAmong (rows_of new) t → are_alike t row ≡ true → IsAmong ts t)
-    → scan cmp_alike (λ c. are_alike c row) (Some row) ts ≡ Some best → ds ≡ map (put_for target best) cs → IsKept new ds (greatest_room 0 ds)
-kept_renewed old new target len cs ds ts most row best kept fits made there part all is put =
-    let there = ap (λ m. get m target) (sym made) ∙ there in
+pub kept_renewed : (old new : Map by_number Target) (target len : ℕ) (cs ds ts : List Target) (row best : Target) (place : ℕ) → IsKept old cs → IfSome (get old target) (λ t. len + t.scheduled ≤ t.remaining)
+    → new ≡ revise_at old target (sent_more len) → get new target ≡ Some row → position (λ c. c.storage == target) cs ≡ Some place → ((t : Target) → IsAmong ts t → IsAmong (rows_of new) t)
+    → ((t : Target) → IsAmong (rows_of new) t → are_alike t row ≡ true → IsAmong ts t) → scan cmp_alike (λ c. are_alike c row) (Some row) ts ≡ Some best → ds ≡ put_back best place cs → IsKept new ds
+kept_renewed old new target len cs ds ts row best place kept fits made there placed part all is put =
+    let at_row = ap (λ m. get m target) (sym made) ∙ there in
     let part = subst (λ m. (t : Target) → IsAmong ts t → IsAmong (rows_of m) t) made part in
     let all = subst (λ m. (t : Target) → IsAmong (rows_of m) t → are_alike t row ≡ true → IsAmong ts t) made all in
-    subst (λ m. IsKept m ds (greatest_room 0 ds)) (sym made)
-    (subst (λ xs. IsKept (added old target len) xs (greatest_room 0 xs)) (sym put) (kept_added old target len cs most row best kept fits there ts part all is))
+    let p = position-Some (λ (c : Target). c.storage == target) cs place row placed in
+    let c = get_or cs place row in
+    subst (λ m. IsKept m ds) (sym made)
+    (subst (IsKept (added old target len)) (sym put) (kept_added old target len cs kept fits place row c best at_row (slice_get-get_or cs place row p.0) (eqb-true c.storage target p.1) ts part all is))
+
+-- where the target is not among the foremost, or is unknown
+pub kept_same : (old new : Map by_number Target) (target len : ℕ) (cs : List Target) → IsKept old cs → IfSome (get old target) (λ t. len + t.scheduled ≤ t.remaining) → new ≡ revise_at old target (sent_more len)
+    → position (λ c. c.storage == target) cs ≡ None → IsKept new cs
+kept_same old new target len cs kept fits made none = subst (λ m. IsKept m cs) (sym made) (kept_apart old target len cs kept fits (λ c there. none_passes (λ (c : Target). c.storage == target) cs none c there))
 
 -- of an unknown storage nothing changes
-pub kept_same : (old new : Map by_number Target) (target len : ℕ) (cs : List Target) (most : ℕ) → IsKept old cs most → new ≡ revise_at old target (sent_more len) → get new target ≡ None → IsKept new cs (greatest_room 0 cs)
-kept_same old new target len cs most kept made none =
-    subst (λ m. IsKept m cs (greatest_room 0 cs)) (no_change old target (sent_more len) (by (get old target) refl) ∙ sym made)
-    (record { at_storage = kept.at_storage; within = kept.within; foremost = kept.foremost; bounded = λ c h keeps. greatest_bounds 0 cs c h keeps })
+pub kept_unknown : (old new : Map by_number Target) (target len : ℕ) (cs : List Target) → IsKept old cs → new ≡ revise_at old target (sent_more len) → get new target ≡ None → IsKept new cs
+kept_unknown old new target len cs kept made none =
+    subst (λ m. IsKept m cs) (no_change old target (sent_more len) (by (get old target) refl) ∙ sym made) kept
   where
     by : (o : Option Target) → get old target ≡ o → get old target ≡ None
     by None e = e

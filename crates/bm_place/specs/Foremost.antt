@@ -1,10 +1,10 @@
 -- The targets that go before the others of their nodes.
-use Rattle.std.specs.Prelude.{◌≡◌, ◌≤◌, ◌<◌, ℕ, Bool, true, false, not, nat_lt, ◌&&◌, ◌==◌, ◌⊎◌, if◌then◌else◌, List, [], ◌∷◌, Some}
+use Rattle.std.specs.Prelude.{◌≡◌, ◌≤◌, ℕ, zero, suc, Bool, true, false, ◌&&◌, ◌==◌, ◌⊎◌, if◌then◌else◌, List, [], ◌∷◌, map, Option, Some, None}
 use Rattle.std.specs.declared.cmp.Ordering.{Ordering}
 use Rattle.std.specs.Ordering.{nat_cmp, ordering_then, is_lt}
 use Rattle.std.specs.Bool.{beq}
-use Rattle.std.specs.Option.{option_eq}
-use Rattle.bm_base.specs.Map.{Map, by_number, get}
+use Rattle.std.specs.Option.{option_eq, option_map_or}
+use Rattle.bm_base.specs.Map.{Map, by_number, empty, entries, get, insert}
 use Rattle.bm_place.specs.declared.scheduled.Target.{Target}
 use Rattle.bm_place.specs.Targets.{room_on}
 
@@ -29,29 +29,54 @@ goes_before s t = is_lt (cmp_alike s t)
 abbrev pub better : Target → Target → Target
 better s t = if goes_before s t then s else t
 
--- a target among others, of which no two are alike: in the place of its like, where it goes before that
-abbrev pub with_target : List Target → Target → List Target
-with_target [] t = t ∷ []
-with_target (c ∷ cs) t = if are_alike c t then better t c ∷ cs else c ∷ with_target cs t
+-- the first targets of the nodes, by node, with a target of node n more, where c is the one so far
+abbrev pub first_at : Map by_number Target → ℕ → Target → Option Target → Map by_number Target
+first_at firsts n t None = insert firsts n t
+first_at firsts n t (Some c) = if goes_before t c then insert firsts n t else firsts
+
+-- the same with a target more; nothing changes for one that has no node
+abbrev pub with_first : Map by_number Target → Target → Map by_number Target
+with_first firsts t = option_map_or (λ n. first_at firsts n t (get firsts n)) t.node firsts
 
 -- the same with each of these
-abbrev pub with_targets : List Target → List Target → List Target
-with_targets cs [] = cs
-with_targets cs (t ∷ ts) = with_targets (with_target cs t) ts
+abbrev pub with_firsts : Map by_number Target → List Target → Map by_number Target
+with_firsts firsts [] = firsts
+with_firsts firsts (t ∷ ts) = with_firsts (with_first firsts t) ts
 
--- another target in the place of the one of a storage
-abbrev pub put_for : ℕ → Target → Target → Target
-put_for s best c = if c.storage == s then best else c
+-- a target among others: behind those that go before it
+abbrev pub with_in_order : List Target → Target → List Target
+with_in_order [] t = t ∷ []
+with_in_order (c ∷ cs) t = if goes_before c t then c ∷ with_in_order cs t else t ∷ c ∷ cs
 
--- the greatest of a number and the rooms of those that do not drain
-abbrev pub greatest_room : ℕ → List Target → ℕ
-greatest_room n [] = n
-greatest_room n (c ∷ cs) = greatest_room (if not c.is_draining && nat_lt n (room_on c) then room_on c else n) cs
+-- the same with each of these
+abbrev pub all_in_order : List Target → List Target → List Target
+all_in_order cs [] = cs
+all_in_order cs (t ∷ ts) = all_in_order (with_in_order cs t) ts
+
+-- the first of these targets of each node, in order
+abbrev pub foremost_in_order : List Target → List Target
+foremost_in_order ts = all_in_order [] (map (λ e. e.1) (entries (with_firsts empty ts)))
+
+-- a target in the place of the one at a place, and from there behind those that go before it
+abbrev pub put_back : Target → ℕ → List Target → List Target
+put_back t i [] = []
+put_back t zero (c ∷ cs) = with_in_order cs t
+put_back t (suc i) (c ∷ cs) = c ∷ put_back t i cs
 
 -- that a target may stand for another: they are alike, and the other does not go before it
 pub record StandsFor (c t : Target) : Type 0 where
   pub alike : are_alike c t ≡ true
   pub before : goes_before t c ≡ false
+
+-- that d may stand behind c: it does not go before it, and they are not alike
+pub record IsBehind (d c : Target) : Type 0 where
+  pub order : goes_before d c ≡ false
+  pub other : are_alike c d ≡ false
+
+-- that these targets stand in order, no two of them alike
+abbrev pub IsInOrder : List Target → Type 0
+IsInOrder [] = Unit {0}
+IsInOrder (c ∷ cs) = ((d : Target) → IsAmong cs d → IsBehind d c) × IsInOrder cs
 
 -- Some targets of a table of storages that stand for all of them.
 pub record AreForemost (rows : Map by_number Target) (cs : List Target) : Type 0 where
@@ -61,16 +86,12 @@ pub record AreForemost (rows : Map by_number Target) (cs : List Target) : Type 0
   pub first : (t : Target) → get rows t.storage ≡ Some t → (c : Target) × IsAmong cs c × StandsFor c t
   -- no more is sent to a storage than remains on it
   pub within : (c : Target) → IsAmong cs c → c.scheduled ≤ c.remaining
+  -- they stand in order
+  pub ordered : IsInOrder cs
 
--- What is true of a table of storages, its foremost targets and their greatest room.
-pub record IsKept (rows : Map by_number Target) (cs : List Target) (most : ℕ) : Type 0 where
+-- What is true of a table of storages and its foremost targets.
+pub record IsKept (rows : Map by_number Target) (cs : List Target) : Type 0 where
   -- each row is at the number of its storage, and no more is sent to a storage than remains on it
   pub at_storage : (s : ℕ) (t : Target) → get rows s ≡ Some t → t.storage ≡ s
   pub within : (s : ℕ) (t : Target) → get rows s ≡ Some t → t.scheduled ≤ t.remaining
   pub foremost : AreForemost rows cs
-  -- none that does not drain has more room
-  pub bounded : (c : Target) → IsAmong cs c → c.is_draining ≡ false → room_on c ≤ most
-
--- that no row that does not drain has so much room
-abbrev pub HasNoRoom : Map by_number Target → ℕ → Type 0
-HasNoRoom rows len = (s : ℕ) (t : Target) → get rows s ≡ Some t → t.is_draining ≡ false → room_on t < len

@@ -28,7 +28,7 @@ widened (Some s) i = record { from = if nat_le s.from i then s.from else i; to =
 abbrev pub with_row : Map by_number Span → Target → ℕ → Map by_number Span
 with_row spans t i = option_map_or (λ n. insert spans n (widened (get spans n) i)) t.node spans
 
--- What is true of a table of storages, its foremost targets, their greatest room, and the spans of its rows.
-pub record IsIndexed (rows : Map by_number Target) (cs : List Target) (most : ℕ) (spans : Map by_number Span) : Type 0 where
-  pub kept : IsKept rows cs most
+-- What is true of a table of storages, its foremost targets, and the spans of its rows.
+pub record IsIndexed (rows : Map by_number Target) (cs : List Target) (spans : Map by_number Span) : Type 0 where
+  pub kept : IsKept rows cs
   pub spanned : AreSpanned (entries rows) spans

@@ -1,51 +1,76 @@
 // The targets that go before the others of their nodes.
-ghost use Rattle.std.specs.Prelude.{◌≡◌, ◌<◌, [], map, length, slice_index_or, slice_set, Some, position, IfOk, OnOk};
+ghost use Rattle.std.specs.Prelude.{◌≡◌, ◌<◌, ◌==◌, not, [], map, length, Some, position, IfOk, OnOk};
+ghost use Rattle.bm_base.specs.Map as table;
 ghost use Rattle.bm_place.specs.Foremost as nodes;
 ghost use Rattle.bm_place.specs.Scan as scanned;
 ghost use Rattle.bm_place.specs.Targets as targets;
 
 use crate::scheduled::Target;
-use bm_base::StorageId;
+use bm_base::{NumberMap, StorageId};
 use std::alloc::{AllocError, Global};
 
-/// Of the targets of each node the one that goes before the others. Goes over them once, and for each over the nodes so far.
+/// Of the targets of each node the one that goes before the others, in their order. Goes over them once, by a look-up or two each,
+/// and sorts those of the nodes.
 pub fn foremost_of(alloc: Global, rows: &[(u64, Target)]) -> Result<Vec<Target>, AllocError>
-    ensures { IfOk result (λ v. v.items ≡ nodes.with_targets [] (map (λ e. e.1) rows.now)) }
+    ensures { IfOk result (λ v. v.items ≡ nodes.foremost_in_order (map (λ e. e.1) rows.now)) }
+{
+    let firsts = firsts_of(alloc, rows)?;
+    sorted(alloc, firsts.entries())
+}
+
+/// By node the one of its targets that goes before the others.
+fn firsts_of(alloc: Global, rows: &[(u64, Target)]) -> Result<NumberMap<Target>, AllocError>
+    ensures { IfOk result (λ m. m.map ≡ nodes.with_firsts table.empty (map (λ e. e.1) rows.now)) }
+{
+    let mut firsts = NumberMap::new(alloc);
+    for row in rows {
+        enter(&mut firsts, &row.1)?;
+    }
+    Ok(firsts)
+}
+
+/// Enters a target where its node has none, or in the place of its node's, where it goes before that; nothing for one with no node.
+fn enter(firsts: &mut NumberMap<Target>, target: &Target) -> Result<(), AllocError>
+    ensures { OnOk result (firsts.new.map ≡ nodes.with_first firsts.old.map target.now) }
+{
+    let Some(node) = target.node else {
+        return Ok(());
+    };
+    match firsts.get(u64::from(node.0)) {
+        Some(first) if !goes_before(target, &first) => Ok(()),
+        _ => firsts.insert(u64::from(node.0), *target),
+    }
+}
+
+/// These targets in their order.
+fn sorted(alloc: Global, firsts: &[(u64, Target)]) -> Result<Vec<Target>, AllocError>
+    ensures { IfOk result (λ v. v.items ≡ nodes.all_in_order [] (map (λ e. e.1) firsts.now)) }
 {
     let mut foremost = Vec::new(alloc);
-    for row in rows {
-        enter(&mut foremost, &row.1)?;
+    for first in firsts {
+        insert(&mut foremost, &first.1)?;
     }
     Ok(foremost)
 }
 
-/// Enters a target: in the place of its node's, where it goes before that, or behind all where its node has none.
-fn enter(foremost: &mut Vec<Target>, target: &Target) -> Result<(), AllocError>
-    ensures { OnOk result (foremost.new.items ≡ nodes.with_target foremost.old.items target.now) }
+/// Puts a target behind those that go before it.
+fn insert(foremost: &mut Vec<Target>, target: &Target) -> Result<(), AllocError>
+    ensures { OnOk result (foremost.new.items ≡ nodes.with_in_order foremost.old.items target.now) }
 {
-    match place_of(foremost, target) {
-        Some(place) => foremost[place] = better(target, &foremost[place]),
+    match place_for(foremost, target) {
+        Some(place) => foremost.insert(place, *target)?,
         None => foremost.push(*target)?,
     }
     Ok(())
 }
 
-/// The place of the target of the same node.
-fn place_of(foremost: &[Target], target: &Target) -> Option<usize>
-    ensures { result ≡ position (λ c. nodes.are_alike c target.now) foremost.now }
+/// The first place whose target does not go before this one.
+fn place_for(foremost: &[Target], target: &Target) -> Option<usize>
+    ensures { result ≡ position (λ c. not (nodes.goes_before c target.now)) foremost.now }
 {
-    foremost.iter().position(|other| are_alike(other, target))
-}
-
-/// Of two targets of one node the one that goes before the other.
-fn better(one: &Target, other: &Target) -> Target
-    ensures { result ≡ nodes.better one.now other.now }
-{
-    if goes_before(one, other) {
-        *one
-    } else {
-        *other
-    }
+    foremost
+        .iter()
+        .position(|other| !goes_before(other, target))
 }
 
 /// Of a target and the rows of its node the one that goes before the others. Goes over the rows once.
@@ -62,38 +87,24 @@ pub fn foremost_beside(target: Target, rows: &[(u64, Target)]) -> Target
     best
 }
 
-/// Puts another target in the place of that of this storage.
-pub fn put_for(foremost: &mut Vec<Target>, storage: StorageId, best: &Target)
-    ensures { foremost.new.items ≡ map (nodes.put_for storage best.now) foremost.old.items }
+/// The place of the target of this storage.
+pub fn place_of(foremost: &[Target], storage: StorageId) -> Option<usize>
+    ensures { result ≡ position (λ c. c.storage == storage) foremost.now }
 {
-    for place in 0..foremost.len() {
-        put_at(foremost, place, storage, best);
-    }
+    foremost.iter().position(|other| other.storage == storage)
 }
 
-/// Puts another target at a place, if that of this storage stands there. Any other is not even written again.
-fn put_at(foremost: &mut Vec<Target>, place: usize, storage: StorageId, best: &Target)
+/// Puts another target in the place of the one at a place, and from there behind those that go before it. Those move up.
+pub fn put_back(foremost: &mut Vec<Target>, place: usize, target: &Target)
     requires { place < length foremost.old.items }
-    ensures { (x : Target) → x ≡ slice_index_or foremost.old.items place x
-        → foremost.new.items ≡ slice_set foremost.old.items place (nodes.put_for storage best.now x) }
+    ensures { foremost.new.items ≡ nodes.put_back target.now place foremost.old.items }
 {
-    if foremost[place].storage != storage {
-        return;
+    let mut at = place;
+    while at + 1 < foremost.len() && goes_before(&foremost[at + 1], target) {
+        foremost[at] = foremost[at + 1];
+        at += 1;
     }
-    foremost[place] = *best;
-}
-
-/// The greatest room of the targets that do not drain; 0 where there is none.
-pub fn greatest_room(foremost: &[Target]) -> u64
-    ensures { result ≡ nodes.greatest_room 0 foremost.now }
-{
-    let mut most = 0;
-    for target in foremost {
-        if !target.is_draining && most < room_on(target) {
-            most = room_on(target);
-        }
-    }
-    most
+    foremost[at] = *target;
 }
 
 /// Whether two targets are of one node. Those of one node have one rack, and drain together.

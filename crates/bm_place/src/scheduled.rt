@@ -9,12 +9,11 @@ ghost use Rattle.bm_base.specs.Excess.{remaining};
 ghost use Rattle.bm_base.specs.Transfers as transfers;
 ghost use Rattle.bm_place.specs.Targets as targets;
 ghost use Rattle.bm_place.specs.Found.{HasRoomFor, with_sent, targets_with};
-ghost use Rattle.bm_place.specs.Foremost as nodes;
-ghost use Rattle.bm_place.specs.Foremost.{AreForemost, HasNoRoom, IsKept};
+ghost use Rattle.bm_place.specs.Foremost.{AreForemost, IsKept};
 ghost use Rattle.bm_place.specs.Spans.{AreSpanned};
 ghost use Rattle.bm_place.specs.declared.scheduled.Target.{Target};
 
-use crate::foremost::{foremost_beside, foremost_of, greatest_room, put_for};
+use crate::foremost::{foremost_beside, foremost_of, place_of, put_back};
 use crate::spans::{Span, rows_near, spans_of};
 use bm_base::{NodeId, NumberMap, Rack, Refusal, StorageId};
 use bm_topo::Topology;
@@ -40,10 +39,9 @@ pub struct Target {
 #[derive(Drop)]
 pub struct Scheduled {
     pub(crate) rows: NumberMap<Target>,
-    /// Of the storages of each node the one with most room, and of these the least: no other is the target of a copy.
+    /// Of the storages of each node the one with most room, and of these the least: no other is the target of a copy. They stand in
+    /// this order too, so that the first that will do is the target.
     foremost: Vec<Target>,
-    /// No storage whose node does not drain has more room.
-    greatest_room: u64,
     /// By node: between which places of the rows all its storages stand.
     spans: NumberMap<Span>,
 }
@@ -62,12 +60,12 @@ impl Model for Scheduled {
 
     ghost use Rattle.bm_place.specs.Spans.{IsIndexed};
 
-    ghost invariant = { λ s. IsIndexed s.rows.map s.foremost.items s.greatest_room s.spans.map };
+    ghost invariant = { λ s. IsIndexed s.rows.map s.foremost.items s.spans.map };
 }
 
 impl Scheduled {
     /// Nothing is sent yet to any storage of the cluster. `Memory` where a growth of the tables is refused. Goes over the
-    /// storages of the cluster once, by a few look-ups and over the nodes so far for each.
+    /// storages of the cluster once, by a few look-ups each, and sorts one of each node.
     pub fn new(alloc: Global, topology: &Topology) -> Result<Scheduled, Refusal>
         ensures none_yet { IfOk result
             (λ t. t ≡ targets.target_table topology.now.cluster (λ _. 0)) }
@@ -78,18 +76,17 @@ impl Scheduled {
         let listed = rows.entries();
         let foremost = foremost_of(alloc, listed)?;
         let spans = spans_of(alloc, listed)?;
-        let greatest_room = greatest_room(&foremost);
         Ok(Scheduled {
             rows,
             foremost,
-            greatest_room,
             spans,
         })
     }
 
     /// Counts `len` bytes more as sent to `target`, which has room for them, as what [`least_target`](crate::least_target) just
-    /// found for this length; nothing for an unknown storage. A few look-ups, and goes once over the nodes of the cluster and over
-    /// the storages whose numbers lie between the least and the greatest of the node's. Takes no memory.
+    /// found for this length; nothing for an unknown storage. A few look-ups, and goes once over the storages whose numbers lie
+    /// between the least and the greatest of the node's, over the foremost storages with more room than the target, and over those
+    /// behind which it moves. Takes no memory.
     pub fn add(&mut self, target: StorageId, len: u64)
         requires fits { HasRoomFor self.old len target }
         ensures after { self.new ≡ with_sent self.old target len }
@@ -101,21 +98,13 @@ impl Scheduled {
     {
         add_to(&mut self.rows, target, len);
         renew(&mut self.foremost, &self.rows, &self.spans, target);
-        self.greatest_room = greatest_room(&self.foremost);
     }
 
-    /// The foremost storage of each node: of its storages the one with most room, and of these the least.
+    /// The foremost storage of each node: of its storages the one with most room, and of these the least. In this order too.
     pub(crate) fn foremost(&self) -> &[Target]
         ensures { AreForemost self.now result.now }
     {
         &self.foremost
-    }
-
-    /// Whether a storage may have room for so many bytes. Where it says no, none has.
-    pub(crate) fn may_fit(&self, len: u64) -> bool
-        ensures { result ≡ false → HasNoRoom self.now len }
-    {
-        len <= self.greatest_room
     }
 }
 
@@ -144,23 +133,27 @@ fn add_to(rows: &mut NumberMap<Target>, target: StorageId, len: u64)
     }
 }
 
-/// The foremost storages, where more bytes were sent to one: in its place comes what is foremost on its node now.
+/// The foremost storages, where more bytes were sent to one: in its place comes what is foremost on its node now, and moves back
+/// behind those that go before it. Any other storage of the node goes before none of them still.
 fn renew(
     foremost: &mut Vec<Target>,
     rows: &NumberMap<Target>,
     spans: &NumberMap<Span>,
     target: StorageId,
 )
-    ensures { (old : map.Map map.by_number Target) (most len : ℕ)
-        → IsKept old foremost.old.items most → HasRoomFor old len target
+    ensures { (old : map.Map map.by_number Target) (len : ℕ)
+        → IsKept old foremost.old.items → HasRoomFor old len target
         → rows.now.map ≡ with_sent old target len
         → AreSpanned (map.entries rows.now.map) spans.now.map
-        → IsKept rows.now.map foremost.new.items (nodes.greatest_room 0 foremost.new.items) }
+        → IsKept rows.now.map foremost.new.items }
 {
+    let Some(place) = place_of(foremost, target) else {
+        return;
+    };
     if let Some(row) = rows.get(u64::from(target.0)) {
         let near = rows_near(rows.entries(), spans, &row);
         let best = foremost_beside(row, near);
-        put_for(foremost, target, &best);
+        put_back(foremost, place, &best);
     }
 }
 

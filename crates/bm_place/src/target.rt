@@ -21,10 +21,10 @@ use bm_topo::Topology;
 /// where `held` is just two storages on two racks, these racks go first. Then more room, then the lesser storage. `None` only
 /// where none may be taken.
 ///
-/// `scheduled` was made of the same cluster; else nothing is said of the answer. Where `len` is more than the greatest room, it
-/// ends at once. Else it goes over `held` once, by a look-up each, and over the nodes of the cluster once, at the foremost storage
-/// of each: room, class and whether the node drains take constant time, and whether the node is barred is asked last, only where
-/// the storage would be taken, by a look-up for each of `barred`. Takes no memory.
+/// `scheduled` was made of the same cluster; else nothing is said of the answer. It goes over `held` once, by a look-up each, and
+/// then over the foremost storages of the nodes, from the one with most room on, to the first of the better class that may be taken,
+/// or where the length fits no longer. At each of them room, class and whether the node drains take constant time, and whether the
+/// node is barred is asked last, only where the storage would be taken, by a look-up for each of `barred`. Takes no memory.
 pub fn least_target(
     held: &[StorageId],
     barred: &[StorageId],
@@ -45,7 +45,8 @@ pub fn least_target(
     least_fitting(held, barred, len, level, topology, scheduled)
 }
 
-/// The same: none where no storage has room, else the least of the foremost storages.
+/// The same, in the order of the foremost storages: it ends at the first of the better class that may be taken, and where no
+/// further one has room.
 fn least_fitting(
     held: &[StorageId],
     barred: &[StorageId],
@@ -58,14 +59,17 @@ fn least_fitting(
         → result ≡ transfers.least_target_by topology.now.cluster sent level held.now
         barred.now len }
 {
-    if !scheduled.may_fit(len) {
-        return None;
-    }
     let standing = Standing::of(held, topology);
     let targets = scheduled.foremost();
     let mut best = None;
     for target in targets {
+        if room_on(target) < len {
+            return storage_of(&best);
+        }
         if is_taken(target, &best, &standing, topology, barred, len, level) {
+            if standing.class_of(target.rack) == 0 {
+                return Some(target.storage);
+            }
             best = Some(*target);
         }
     }

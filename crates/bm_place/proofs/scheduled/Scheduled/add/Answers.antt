@@ -4,7 +4,6 @@ use Rattle.bm_base.specs.Map.{entries, get, revise_at}
 use Rattle.bm_base.specs.Transfers.{scheduled_to}
 use Rattle.bm_place.specs.declared.scheduled.Target.{Target}
 use Rattle.bm_place.specs.Targets.{target_table}
-use Rattle.bm_place.specs.Foremost.{IsKept, greatest_room}
 use Rattle.bm_place.specs.Spans.{AreSpanned}
 use Rattle.bm_place.proofs.Spanning.{spanned_added}
 use Rattle.bm_place.proofs.Counting.{targets-more, targets-chosen}
@@ -27,8 +26,6 @@ invariant_of-self c =
     let fits = subst (λ rows. IfSome (get rows c.args.target) (λ (t : Target). c.args.len + t.scheduled ≤ t.remaining)) (sym c.self.view_is) c.requires.fits in
     let spanned = subst (λ rows. AreSpanned (entries rows) inside.spans.map) (sym c.add_to.ensures) (spanned_added inside.rows.map inside.spans.map c.args.target c.args.len c.self.invariant.spanned) in
     record {
-      kept =
-          subst (IsKept c.add_to.new.rows.map c.renew.new.foremost.items) (sym (c.greatest_room-self-inside.ensures ∙ ap (greatest_room 0) c.deref.ensures.value))
-          (c.renew.ensures inside.rows.map inside.greatest_room c.args.len c.self.invariant.kept fits c.add_to.ensures spanned);
+      kept = c.renew.ensures inside.rows.map c.args.len c.self.invariant.kept fits c.add_to.ensures spanned;
       spanned = spanned;
     }

@@ -1,6 +1,6 @@
-use Rattle.std.proofs.Common.{[], ap, map, subst, ◌∙◌}
+use Rattle.std.proofs.Common.{ap, map, subst, ◌∙◌}
 use Rattle.bm_base.specs.Transfers.{scheduled_to}
-use Rattle.bm_place.specs.Foremost.{greatest_room, with_targets}
+use Rattle.bm_place.specs.Foremost.{foremost_in_order}
 use Rattle.bm_place.specs.Spans.{AreSpanned}
 use Rattle.bm_place.proofs.Keeping.{kept_made}
 use Rattle.bm_place.proofs.scheduled.Scheduled.new.Goals as goal
@@ -9,9 +9,8 @@ pub invariant_of-result : goal.invariant_of-result
 invariant_of-result c =
     record {
       kept =
-          kept_made c.args.topology.now.cluster c.in_ok-rows.rows.map c.in_ok-foremost.foremost.items c.greatest_room-greatest_room.result c.in_ok-rows.ensures
-          (c.in_ok-foremost.ensures ∙ ap (λ es. with_targets [] (map (λ e. e.1) es)) c.entries-listed.ensures)
-          (c.greatest_room-greatest_room.ensures ∙ ap (greatest_room 0) c.deref.ensures.value);
+          kept_made c.args.topology.now.cluster c.in_ok-rows.rows.map c.in_ok-foremost.foremost.items c.in_ok-rows.ensures
+          (c.in_ok-foremost.ensures ∙ ap (λ es. foremost_in_order (map (λ e. e.1) es)) c.entries-listed.ensures);
       spanned = subst (λ es. AreSpanned es c.in_ok-spans.spans.map) c.entries-listed.ensures c.in_ok-spans.ensures;
     }
 

@@ -1,0 +1,211 @@
+-- Targets that stand in order, and one that is put among them.
+use Rattle.std.specs.Prelude.{◌⊎◌, slice_get}
+use Rattle.std.proofs.Common.{◌≡◌, ◌<◌, ◌≤◌, ◌+◌, ℕ, zero, suc, Bool, true, false, cond, List, [], ◌∷◌, length, drop, set, Some, refl, inl, inr, sym, ap, subst, ◌∙◌, arith, true≢false}
+use Rattle.std.proofs.lemmas.Option.{same_Some}
+use Rattle.bm_place.specs.declared.scheduled.Target.{Target}
+use Rattle.bm_place.specs.Foremost.{IsAmong, are_alike, goes_before, with_in_order, all_in_order, put_back, IsBehind, IsInOrder}
+use Rattle.bm_place.proofs.Alike.{like, alike, like_back, like_then, ranks}
+
+-- that no two of these are alike
+abbrev pub AreApart : List Target → Type 0
+AreApart [] = Unit {0}
+AreApart (t ∷ ts) = ((d : Target) → IsAmong ts d → are_alike t d ≡ false) × AreApart ts
+
+pub not_alike_back : (s t : Target) → are_alike s t ≡ false → are_alike t s ≡ false
+not_alike_back s t e = by (are_alike t s) refl
+  where
+    by : (b : Bool) → are_alike t s ≡ b → are_alike t s ≡ false
+    by false f = f
+    by true f = absurd (true≢false (sym (alike s t (like_back t s (like t s f))) ∙ e))
+
+-- what is alike to one is alike to no other than that
+not_alike_too : (s t u : Target) → are_alike s t ≡ true → are_alike s u ≡ false → are_alike t u ≡ false
+not_alike_too s t u same e = by (are_alike t u) refl
+  where
+    by : (b : Bool) → are_alike t u ≡ b → are_alike t u ≡ false
+    by false f = f
+    by true f = absurd (true≢false (sym (alike s u (like_then s t u (like s t same) (like t u f))) ∙ e))
+
+-- A target behind those that go before it.
+
+pub among_entered : (cs : List Target) (t x : Target) → IsAmong (with_in_order cs t) x → (t ≡ x) ⊎ IsAmong cs x
+among_entered [] t x h = h
+among_entered (c ∷ cs) t x h = by (goes_before c t) h (among_entered cs t x)
+  where
+    by : (b : Bool) → IsAmong (cond b (c ∷ with_in_order cs t) (t ∷ c ∷ cs)) x → (IsAmong (with_in_order cs t) x → (t ≡ x) ⊎ IsAmong cs x) → (t ≡ x) ⊎ ((c ≡ x) ⊎ IsAmong cs x)
+    by true (inl e) rest = inr (inl e)
+    by true (inr h) rest = elim (rest h) [ inl e ↦ inl e | inr there ↦ inr (inr there) ]
+    by false h rest = h
+
+pub entered_among : (cs : List Target) (t x : Target) → (t ≡ x) ⊎ IsAmong cs x → IsAmong (with_in_order cs t) x
+entered_among [] t x h = h
+entered_among (c ∷ cs) t x h = by (goes_before c t) h (entered_among cs t x)
+  where
+    by : (b : Bool) → (t ≡ x) ⊎ ((c ≡ x) ⊎ IsAmong cs x) → ((t ≡ x) ⊎ IsAmong cs x → IsAmong (with_in_order cs t) x) → IsAmong (cond b (c ∷ with_in_order cs t) (t ∷ c ∷ cs)) x
+    by true (inl e) rest = inr (rest (inl e))
+    by true (inr (inl e)) rest = inl e
+    by true (inr (inr there)) rest = inr (rest (inr there))
+    by false h rest = h
+
+entered_in_order : (cs : List Target) (t : Target) → IsInOrder cs → ((c : Target) → IsAmong cs c → are_alike t c ≡ false) → IsInOrder (with_in_order cs t)
+entered_in_order [] t h apart = (λ d none. absurd none, tt)
+entered_in_order (c ∷ cs) t h apart = by (goes_before c t) refl (entered_in_order cs t h.1 (λ d there. apart d (inr there)))
+  where
+    behind : goes_before c t ≡ true → (d : Target) → IsAmong (with_in_order cs t) d → IsBehind d c
+    behind e d there =
+        elim (among_entered cs t d there) [
+          | inl same ↦ subst (λ d. IsBehind d c) same (record { order = ranks.one_way c t e; other = not_alike_back t c (apart c (inl refl)) })
+          | inr old ↦ h.0 d old
+        ]
+
+    in_front : goes_before c t ≡ false → (d : Target) → IsAmong (c ∷ cs) d → IsBehind d t
+    in_front e d (inl same) = subst (λ d. IsBehind d t) same (record { order = e; other = apart c (inl refl) })
+    in_front e d (inr there) = record { order = ranks.chain d c t (h.0 d there).order e; other = apart d (inr there) }
+
+    by : (b : Bool) → goes_before c t ≡ b → IsInOrder (with_in_order cs t) → IsInOrder (cond b (c ∷ with_in_order cs t) (t ∷ c ∷ cs))
+    by true e rest = (λ d there. behind e d there, rest)
+    by false e rest = (λ d there. in_front e d there, h)
+
+-- All of some targets, put in order one after another.
+
+pub all_ordered : (ts cs : List Target) → AreApart ts → ((t c : Target) → IsAmong ts t → IsAmong cs c → are_alike t c ≡ false) → IsInOrder cs → IsInOrder (all_in_order cs ts)
+all_ordered [] cs apart other h = h
+all_ordered (t ∷ ts) cs apart other h = all_ordered ts (with_in_order cs t) apart.1 (λ u c there among. still u c there among) (entered_in_order cs t h (λ c there. other t c (inl refl) there))
+  where
+    still : (u c : Target) → IsAmong ts u → IsAmong (with_in_order cs t) c → are_alike u c ≡ false
+    still u c there among =
+        elim (among_entered cs t c among) [
+          | inl same ↦ subst (λ c. are_alike u c ≡ false) same (not_alike_back t u (apart.0 u there))
+          | inr old ↦ other u c (inr there) old
+        ]
+
+pub among_all : (ts cs : List Target) (x : Target) → IsAmong (all_in_order cs ts) x → IsAmong ts x ⊎ IsAmong cs x
+among_all [] cs x h = inr h
+among_all (t ∷ ts) cs x h =
+    elim (among_all ts (with_in_order cs t) x h) [
+      | inl there ↦ inl (inr there)
+      | inr there ↦ elim (among_entered cs t x there) [ inl e ↦ inl (inl e) | inr old ↦ inr old ]
+    ]
+
+pub all_among : (ts cs : List Target) (x : Target) → IsAmong ts x ⊎ IsAmong cs x → IsAmong (all_in_order cs ts) x
+all_among [] cs x (inl none) = absurd none
+all_among [] cs x (inr h) = h
+all_among (t ∷ ts) cs x h = all_among ts (with_in_order cs t) x (by h)
+  where
+    by : ((t ≡ x) ⊎ IsAmong ts x) ⊎ IsAmong cs x → IsAmong ts x ⊎ IsAmong (with_in_order cs t) x
+    by (inl (inl e)) = inr (entered_among cs t x (inl e))
+    by (inl (inr there)) = inl there
+    by (inr old) = inr (entered_among cs t x (inr old))
+
+-- A target in the place of another.
+
+-- the others than the one at a place
+abbrev pub without : ℕ → List Target → List Target
+without i [] = []
+without zero (c ∷ cs) = cs
+without (suc i) (c ∷ cs) = c ∷ without i cs
+
+pub among_put : (i : ℕ) (cs : List Target) (t x : Target) → IsAmong (put_back t i cs) x → (t ≡ x) ⊎ IsAmong (without i cs) x
+among_put i [] t x none = absurd none
+among_put zero (c ∷ cs) t x h = among_entered cs t x h
+among_put (suc i) (c ∷ cs) t x (inl e) = inr (inl e)
+among_put (suc i) (c ∷ cs) t x (inr h) = elim (among_put i cs t x h) [ inl e ↦ inl e | inr there ↦ inr (inr there) ]
+
+pub put_among : (i : ℕ) (cs : List Target) (t x : Target) → i < length cs → (t ≡ x) ⊎ IsAmong (without i cs) x → IsAmong (put_back t i cs) x
+put_among i [] t x within h = absurd (omega arith)
+put_among zero (c ∷ cs) t x within h = entered_among cs t x h
+put_among (suc i) (c ∷ cs) t x within (inl e) = inr (put_among i cs t x (omega arith) (inl e))
+put_among (suc i) (c ∷ cs) t x within (inr (inl e)) = inl e
+put_among (suc i) (c ∷ cs) t x within (inr (inr there)) = inr (put_among i cs t x (omega arith) (inr there))
+
+pub of_without : (i : ℕ) (cs : List Target) (x : Target) → IsAmong (without i cs) x → IsAmong cs x
+of_without i [] x none = absurd none
+of_without zero (c ∷ cs) x h = inr h
+of_without (suc i) (c ∷ cs) x (inl e) = inl e
+of_without (suc i) (c ∷ cs) x (inr h) = inr (of_without i cs x h)
+
+pub here_or_without : (i : ℕ) (cs : List Target) (c x : Target) → slice_get cs i ≡ Some c → IsAmong cs x → (c ≡ x) ⊎ IsAmong (without i cs) x
+here_or_without i [] c x at none = absurd none
+here_or_without zero (d ∷ cs) c x at (inl e) = inl (sym (same_Some d c at) ∙ e)
+here_or_without zero (d ∷ cs) c x at (inr h) = inr h
+here_or_without (suc i) (d ∷ cs) c x at (inl e) = inr (inl e)
+here_or_without (suc i) (d ∷ cs) c x at (inr h) = elim (here_or_without i cs c x at h) [ inl e ↦ inl e | inr there ↦ inr (inr there) ]
+
+pub among_at : (i : ℕ) (cs : List Target) (c : Target) → slice_get cs i ≡ Some c → IsAmong cs c
+among_at i [] c at = cc
+among_at zero (d ∷ cs) c at = inl (same_Some d c at)
+among_at (suc i) (d ∷ cs) c at = inr (among_at i cs c at)
+
+-- the others are not alike to the one at the place
+pub apart_without : (i : ℕ) (cs : List Target) (c x : Target) → IsInOrder cs → slice_get cs i ≡ Some c → IsAmong (without i cs) x → are_alike c x ≡ false
+apart_without i [] c x h at none = absurd none
+apart_without zero (d ∷ cs) c x h at there = subst (λ d. are_alike d x ≡ false) (same_Some d c at) (h.0 x there).other
+apart_without (suc i) (d ∷ cs) c x h at (inl e) = subst (λ x. are_alike c x ≡ false) e (not_alike_back d c (h.0 c (among_at i cs c at)).other)
+apart_without (suc i) (d ∷ cs) c x h at (inr there) = apart_without i cs c x h.1 at there
+
+-- one that is alike to the one at the place is that one
+pub only_alike : (i : ℕ) (cs : List Target) (c x : Target) → IsInOrder cs → slice_get cs i ≡ Some c → IsAmong cs x → are_alike c x ≡ true → c ≡ x
+only_alike i cs c x h at there same =
+    elim (here_or_without i cs c x at there) [
+      | inl e ↦ e
+      | inr other ↦ absurd (true≢false (sym same ∙ apart_without i cs c x h at other))
+    ]
+
+-- one that is alike to the one in whose place it comes, and does not go before it
+pub put_in_order : (i : ℕ) (cs : List Target) (c t : Target) → IsInOrder cs → slice_get cs i ≡ Some c → are_alike c t ≡ true → goes_before t c ≡ false → IsInOrder (put_back t i cs)
+put_in_order i [] c t h at same less = tt
+put_in_order zero (d ∷ cs) c t h at same less = entered_in_order cs t h.1 (λ x there. not_alike_too c t x same (apart_without zero (d ∷ cs) c x h at there))
+put_in_order (suc i) (d ∷ cs) c t h at same less = (λ x there. behind x there, put_in_order i cs c t h.1 at same less)
+  where
+    behind : (x : Target) → IsAmong (put_back t i cs) x → IsBehind x d
+    behind x there =
+        elim (among_put i cs t x there) [
+          | inl e ↦
+              let old = h.0 c (among_at i cs c at) in
+              subst (λ x. IsBehind x d) e (record { order = ranks.chain t c d less old.order; other = not_alike_back t d (not_alike_too c t d same (not_alike_back d c old.other)) })
+          | inr old ↦ h.0 x (of_without i cs x old)
+        ]
+
+-- Those that move up one by one.
+
+put_moved : (i : ℕ) (cs : List Target) (t d : Target) → slice_get cs (suc i) ≡ Some d → goes_before d t ≡ true → put_back t (suc i) (set cs i d) ≡ put_back t i cs
+put_moved i [] t d at before = cc
+put_moved zero (b ∷ []) t d at before = cc
+put_moved zero (b ∷ c ∷ cs) t d at before = by c (same_Some c d at)
+  where
+    by : (c : Target) → c ≡ d → put_back t 1 (set (b ∷ c ∷ cs) 0 d) ≡ put_back t 0 (b ∷ c ∷ cs)
+    by c e = ap (λ c. c ∷ with_in_order cs t) (sym e) ∙ sym (ap (λ b. cond b (c ∷ with_in_order cs t) (t ∷ c ∷ cs)) (ap (λ c. goes_before c t) e ∙ before))
+put_moved (suc i) (c ∷ cs) t d at before = ap (λ xs. c ∷ xs) (put_moved i cs t d at before)
+
+pub put_next : (i : ℕ) (cs : List Target) (t d : Target) → slice_get cs (i + 1) ≡ Some d → goes_before d t ≡ true → put_back t (i + 1) (set cs i d) ≡ put_back t i cs
+put_next i cs t d at before =
+    let one : suc i ≡ i + 1 = omega arith in
+    subst (λ j. put_back t j (set cs i d) ≡ put_back t i cs) one (put_moved i cs t d (ap (slice_get cs) one ∙ at) before)
+
+-- at the end it takes the place
+pub put_last : (i : ℕ) (cs : List Target) (t : Target) → i < length cs → length cs ≤ i + 1 → put_back t i cs ≡ set cs i t
+put_last i [] t within last = refl
+put_last zero (c ∷ []) t within last = refl
+put_last zero (c ∷ d ∷ cs) t within last = absurd (omega arith)
+put_last (suc i) (c ∷ cs) t within last = ap (λ xs. c ∷ xs) (put_last i cs t (omega arith) (omega arith))
+
+put_above : (i : ℕ) (cs : List Target) (t d : Target) → slice_get cs (suc i) ≡ Some d → goes_before d t ≡ false → put_back t i cs ≡ set cs i t
+put_above i [] t d at not_before = refl
+put_above zero (b ∷ []) t d at not_before = refl
+put_above zero (b ∷ c ∷ cs) t d at not_before = ap (λ b. cond b (c ∷ with_in_order cs t) (t ∷ c ∷ cs)) (ap (λ c. goes_before c t) (same_Some c d at) ∙ not_before)
+put_above (suc i) (c ∷ cs) t d at not_before = ap (λ xs. c ∷ xs) (put_above i cs t d at not_before)
+
+-- before one that does not go before it too
+pub put_here : (i : ℕ) (cs : List Target) (t d : Target) → slice_get cs (i + 1) ≡ Some d → goes_before d t ≡ false → put_back t i cs ≡ set cs i t
+put_here i cs t d at not_before = let one : suc i ≡ i + 1 = omega arith in put_above i cs t d (ap (slice_get cs) one ∙ at) not_before
+
+-- what stands behind a place does not go before what stands there
+pub behind_at : (i : ℕ) (cs : List Target) (c d : Target) → IsInOrder cs → slice_get cs i ≡ Some c → IsAmong (drop (suc i) cs) d → goes_before d c ≡ false
+behind_at i [] c d h at there = cc
+behind_at zero (b ∷ cs) c d h at there = subst (λ b. goes_before d b ≡ false) (same_Some b c at) (h.0 d there).order
+behind_at (suc i) (b ∷ cs) c d h at there = behind_at i cs c d h.1 at there
+
+-- What is true while others move up: what is left to do makes of them now what all makes of them as they were.
+pub record IsMovedTo (t : Target) (place : ℕ) (before : List Target) (i : ℕ) (now : List Target) : Type 0 where
+  pub within : i < length now
+  pub same : put_back t i now ≡ put_back t place before
