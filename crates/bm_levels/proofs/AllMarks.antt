@@ -1,5 +1,6 @@
 -- The marks of all replicas of one block, changed one after another.
 --     changed_first, change_next, change_end      the first so many changed, one more, and all
+--     change_none, unchanged_step                 one more whose marks stay as they are
 --     keeps_itself, keeps_then                    what a change of one block keeps, and two of them
 --     block_replicas, block_known                 what is held where the marks of all replicas at a slot changed
 use Rattle.std.specs.Prelude.{◌≡◌, ◌≢◌, ℕ, zero, suc, ◌+◌, ◌≤◌, true, false, ◌==◌, if◌then◌else◌, List, [], ◌∷◌, length, map, slice_get, Option, Some, None, option_map, option_and_then}
@@ -49,6 +50,15 @@ module _ (f : Marks → Marks) where
       let apart : x.0 ≢ r.0 = λ same. d.0 (let P : ℕ → Type 0 = λ z. Among z (keys_at rs) in subst P (sym same) (left_listed n rs r e)) in
       ap (λ b. if b then (x.0, f r.1) ∷ changed_first f n rs else (x.0, f x.1) ∷ change_marks (changed_first f n rs) r.0 (f r.1)) (ne_eqb x.0 r.0 apart)
       ∙ ap (λ xs. (x.0, f x.1) ∷ xs) (change_next n rs r d.1 e)
+
+  pub change_none : (n : ℕ) (rs : List (ℕ × Marks)) (r : ℕ × Marks) → slice_get (changed_first f n rs) n ≡ Some r → f r.1 ≡ r.1
+      → changed_first f n rs ≡ changed_first f (suc n) rs
+  change_none zero [] r e same = cc
+  change_none zero (x ∷ rs) r e same =
+      let is : x ≡ r = (cc) in
+      ap (λ (m : Marks). (x.0, m) ∷ rs) (ap (λ (z : ℕ × Marks). z.1) is ∙ sym same ∙ ap (λ (z : ℕ × Marks). f z.1) (sym is))
+  change_none (suc n) [] r e same = refl
+  change_none (suc n) (x ∷ rs) r e same = ap (λ xs. (x.0, f x.1) ∷ xs) (change_none n rs r e same)
 
   pub change_end : (n : ℕ) (rs : List (ℕ × Marks)) → length rs ≤ n → changed_first f n rs ≡ all_changed f rs
   change_end zero [] h = refl
@@ -101,6 +111,19 @@ changed_step f a b c slot n s m new lawful is before there after =
     written : (o : Option Block) → option_map_or (λ (k : Block). k.replicas) (option_map (with_marks s (f m)) o) [] ≡ change_marks (option_map_or (λ (k : Block). k.replicas) o []) s (f m)
     written None = refl
     written (Some k) = refl
+
+-- one more is changed where the change of the replica at the next place leaves its marks as they are
+pub unchanged_step : (f : Marks → Marks) (a b : Contents) (slot n s : ℕ) (m new : Marks) → new ≡ f m → new ≡ m → replicas_at b slot ≡ changed_first f n (replicas_at a slot)
+    → option_and_then (λ (k : Block). slice_get k.replicas n) (block_at b slot) ≡ Some (s, m)
+    → replicas_at b slot ≡ changed_first f (n + 1) (replicas_at a slot)
+unchanged_step f a b slot n s m new is same before there =
+    let at : slice_get (changed_first f n (replicas_at a slot)) n ≡ Some (s, m) = sym (ap (λ rs. slice_get rs n) before) ∙ listed (block_at b slot) ∙ there in
+    let one_more : suc n ≡ n + 1 = omega arith in
+    before ∙ change_none f n (replicas_at a slot) (s, m) at (sym is ∙ same) ∙ ap (λ k. changed_first f k (replicas_at a slot)) one_more
+  where
+    listed : (o : Option Block) → slice_get (option_map_or (λ (k : Block). k.replicas) o []) n ≡ option_and_then (λ (k : Block). slice_get k.replicas n) o
+    listed None = refl
+    listed (Some k) = refl
 
 pub keeps_itself : (slot : ℕ) (a : Contents) → KeepsAllBut slot a a
 keeps_itself slot a = record { lists = refl; blocks = λ other ne. refl; room = λ other. refl; ids = refl; delimiter = refl; steps = refl; bound = refl }

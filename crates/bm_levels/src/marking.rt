@@ -1,5 +1,5 @@
 // The marks of all replicas of one block, changed alike.
-ghost use Rattle.std.specs.Prelude.{◌≡◌, if◌then◌else◌};
+ghost use Rattle.std.specs.Prelude.{◌≡◌, true, if◌then◌else◌};
 ghost use Rattle.bm_base.specs.declared.replica.Tag.TheVariants.{Stale};
 ghost use Rattle.bm_base.specs.Replicas.{is_good};
 ghost use Rattle.bm_arena.specs.Contents.{block_at, known_of, KeepsAllBut, IsLawful};
@@ -52,7 +52,15 @@ fn tag_after_restamp(tag: Tag) -> Tag
     }
 }
 
-/// Changes the marks of each replica of the block at a slot; nothing else changes. Takes no memory.
+/// Whether two have the same marks.
+fn are_same(a: Marks, b: Marks) -> bool
+    ensures { result ≡ true → a ≡ b }
+{
+    a == b
+}
+
+/// Changes the marks of each replica of the block at a slot; nothing else changes. Marks that stay as they are are not written again.
+/// Takes no memory.
 pub(crate) fn change_marks(arena: &mut Arena, slot: Slot, change: MarkChange)
     ensures replicas { replicas_at arena.new slot
         ≡ all_changed (changed change) (replicas_at arena.old slot) }
@@ -63,7 +71,10 @@ pub(crate) fn change_marks(arena: &mut Arena, slot: Slot, change: MarkChange)
     arena.lawful();
     for place in 0..arena.triplet_count(slot) {
         if let Some((storage, marks)) = arena.triplet_at(slot, place) {
-            arena.set_marks(slot, storage, change.apply(marks));
+            let after = change.apply(marks);
+            if !are_same(after, marks) {
+                arena.set_marks(slot, storage, after);
+            }
         }
     }
     arena.lawful();

@@ -4,9 +4,9 @@ use Rattle.bm_arena.specs.Contents.{Contents, block_at, known_of, KeepsAllBut}
 use Rattle.bm_arena.specs.Holding.{replicas_at}
 use Rattle.bm_levels.specs.Changes.{changed}
 use Rattle.bm_levels.proofs.Slots.{none_at}
-use Rattle.bm_levels.proofs.AllMarks.{keeps_itself, keeps_then, changed_step, change_end, change_count, count_at}
+use Rattle.bm_levels.proofs.AllMarks.{keeps_itself, keeps_then, changed_step, unchanged_step, change_end, change_count, count_at}
 use Rattle.bm_levels.proofs.marking.change_marks.Goals as goal
-use Rattle.bm_levels.proofs.marking.change_marks.Goals.{in-Some, in_default}
+use Rattle.bm_levels.proofs.marking.change_marks.Goals.{in-Some+then-not-are_same, in-Some+else-not-are_same, in_default}
 
 pub loop-place-init : goal.loop-place-init
 loop-place-init c = record { replicas = refl; known = refl; rest = keeps_itself c.args.slot c.args.arena.now }
@@ -18,14 +18,22 @@ loop-place-preserved c =
     let i = c.loop-place.place in
     let h = c.loop-place.invariant in
     elim c.match-triplet_at.branch [
-      | in-Some w ↦
+      | in-Some+then-not-are_same w ↦
           let g = w.set_marks.ensures in
           let K : Contents → Type 0 = λ a. KeepsAllBut slot c.loop-place.arena a in
           record {
             replicas = ap (λ (a : Contents). replicas_at a slot) w.arena-is
-                ∙ changed_step f c.args.arena.now c.loop-place.arena w.set_marks.new.self slot i _ _ w.apply.result c.lawful.ensures w.apply.ensures h.replicas (sym w.in-Some.ensures) g.after;
+                ∙ changed_step f c.args.arena.now c.loop-place.arena w.set_marks.new.self slot i _ _ w.apply-after.result c.lawful.ensures w.apply-after.ensures h.replicas (sym w.in-Some.ensures) g.after;
             known = ap (λ (a : Contents). known_of (block_at a slot)) w.arena-is ∙ g.known ∙ h.known;
             rest = keeps_then slot c.args.arena.now c.loop-place.arena c.match-triplet_at.arena h.rest (subst K (sym w.arena-is) g.rest);
+          }
+      | in-Some+else-not-are_same w ↦
+          let K : Contents → Type 0 = λ a. KeepsAllBut slot c.loop-place.arena a in
+          record {
+            replicas = ap (λ (a : Contents). replicas_at a slot) w.arena-is
+                ∙ unchanged_step f c.args.arena.now c.loop-place.arena slot i _ _ w.apply-after.result w.apply-after.ensures (w.are_same.ensures w.if-not-are_same.false) h.replicas (sym w.in-Some.ensures);
+            known = ap (λ (a : Contents). known_of (block_at a slot)) w.arena-is ∙ h.known;
+            rest = keeps_then slot c.args.arena.now c.loop-place.arena c.match-triplet_at.arena h.rest (subst K (sym w.arena-is) (keeps_itself slot c.loop-place.arena));
           }
       | in_default w ↦
           let few = ap length h.replicas ∙ change_count f i (replicas_at c.args.arena.now slot) in
