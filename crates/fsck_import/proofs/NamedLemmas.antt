@@ -12,8 +12,9 @@ use Rattle.bm_lines.specs.Lines.{lines_of}
 use Rattle.fsck_import.specs.Cuts.{Text}
 use Rattle.fsck_import.specs.Blocks.{has_block, with_block}
 use Rattle.fsck_import.specs.Words.{words_of}
-use Rattle.fsck_import.specs.Lines.{said_by}
-use Rattle.fsck_import.specs.Clusters.{no_cluster, wanted, with_word, with_places, after_block, after_said, after_line, after_bytes, after_ok}
+use Rattle.fsck_import.specs.Lines.{line_said}
+use Rattle.fsck_import.specs.Clusters.{no_cluster, wanted, with_word, with_places, after_block, after_said, after_placed, at_end, is_whole, after_line, after_bytes, after_ok}
+use Rattle.fsck_import.specs.Parts.{may_stand}
 use Rattle.fsck_import.specs.Reading.{after_lines, at_line, cluster_of}
 use Rattle.fsck_import.specs.Laws.{number_said, number_in, numbers_named}
 use Rattle.fsck_import.specs.declared.word.Word.{Word}
@@ -106,20 +107,30 @@ block_grows c d words told = by _ (has_block c.blocks told.id) refl
     by false b new e = absurd (err_is_not_ok _ d e)
 
 said_grows : (c d : Cluster) (words : List Word) (s : Said) → after_said c words s ≡ Ok d → GrowsBy c d (number_said (Ok s))
+said_grows c d words said.Blank e = same_blocks c d (sym (ap (λ x. x.blocks) (same_ok c d e)))
 said_grows c d words said.Nothing e = same_blocks c d (sym (ap (λ x. x.blocks) (same_ok c d e)))
 said_grows c d words (said.Heading target) e = same_blocks c d (sym (ap (λ x. x.blocks) (same_ok _ d e)))
 said_grows c d words (said.Wanted count) e = same_blocks c d (sym (ap (λ x. x.blocks) (same_ok _ d e)))
 said_grows c d words (said.Block told) e = block_grows c d words told e
+said_grows c d words said.Summary e = same_blocks c d (sym (ap (λ x. x.blocks) (same_ok _ d e)))
+said_grows c d words said.Last e = same_blocks c d (sym (ap (λ x. x.blocks) (same_ok _ d e)))
 
-words_grow : (c d : Cluster) (words : List Word) (r : Result Said Refusal) → after_ok (after_said c words) r ≡ Ok d → GrowsBy c d (number_said r)
-words_grow c d words (Ok s) e = said_grows c d words s e
+placed_grows : (c d : Cluster) (words : List Word) (s : Said) → after_placed c words s ≡ Ok d → GrowsBy c d (number_said (Ok s))
+placed_grows c d words s = by (may_stand c.part s)
+  where
+    by : (b : Bool) → (if b then after_said c words s else Err refusal.OutOfPlace) ≡ Ok d → GrowsBy c d (number_said (Ok s))
+    by true e = said_grows c d words s e
+    by false e = absurd (err_is_not_ok _ d e)
+
+words_grow : (c d : Cluster) (words : List Word) (r : Result Said Refusal) → after_ok (after_placed c words) r ≡ Ok d → GrowsBy c d (number_said r)
+words_grow c d words (Ok s) e = placed_grows c d words s e
 words_grow c d words (Err why) e = absurd (err_is_not_ok why d e)
 
 line_grows : (c d : Cluster) (line : Text) → after_bytes c line ≡ Ok d → GrowsBy c d (number_in line)
 line_grows c d line = by (is_utf8 line)
   where
     by : (b : Bool) → (if b then after_line c line else Err refusal.NotText) ≡ Ok d → GrowsBy c d (number_in line)
-    by true e = words_grow c d (words_of line) (said_by (words_of line)) e
+    by true e = words_grow c d (words_of line) (line_said line (words_of line)) e
     by false e = absurd (err_is_not_ok _ d e)
 
 both_grow : (c e d : Cluster) (xs ys : List ℕ) → GrowsBy c e xs → GrowsBy e d ys → GrowsBy c d (xs ++ ys)
@@ -134,8 +145,15 @@ next_grows : (n : ℕ) (c d : Cluster) (line : Text) (lines : List Text) (r : Re
 next_grows n c d line lines (Ok e) first next h = both_grow c e d _ _ (first e refl) (next e h)
 next_grows n c d line lines (Err why) first next h = absurd (err_is_not_ok _ d h)
 
+end_keeps : (n : ℕ) (c d : Cluster) → at_line n (at_end c) ≡ Ok d → c ≡ d
+end_keeps n c d = by (is_whole c.part)
+  where
+    by : (b : Bool) → at_line n (if b then Ok c else Err refusal.CutOff) ≡ Ok d → c ≡ d
+    by true e = same_ok c d e
+    by false e = absurd (err_is_not_ok _ d e)
+
 lines_grow : (n : ℕ) (c d : Cluster) (lines : List Text) → after_lines n c lines ≡ Ok d → GrowsBy c d (flat_map number_in lines)
-lines_grow n c d [] e = same_blocks c d (sym (ap (λ x. x.blocks) (same_ok c d e)))
+lines_grow n c d [] e = same_blocks c d (sym (ap (λ x. x.blocks) (end_keeps n c d e)))
 lines_grow n c d (line ∷ lines) e =
     next_grows n c d line lines (after_bytes c line) (λ m h. line_grows c m line h) (λ m h. lines_grow (n + 1) m d lines h) e
 

@@ -7,7 +7,7 @@ use Rattle.bm_base.specs.declared.event.Event.TheVariants.{AddBlock, FullReport}
 use Rattle.bm_lines.specs.Lines.{lines_of}
 use Rattle.fsck_import.specs.Cuts.{Text}
 use Rattle.fsck_import.specs.Words.{words_of}
-use Rattle.fsck_import.specs.Lines.{said_by}
+use Rattle.fsck_import.specs.Lines.{line_said}
 use Rattle.fsck_import.specs.declared.line.Said.{Said}
 use Rattle.fsck_import.specs.declared.line.Said.TheVariants as said
 use Rattle.fsck_import.specs.declared.line.Refusal.{Refusal}
@@ -18,7 +18,7 @@ number_said (Ok (said.Block told)) = told.id ∷ []
 number_said _ = []
 
 abbrev pub number_in : Text → List ℕ
-number_in line = number_said (said_by (words_of line))
+number_in line = number_said (line_said line (words_of line))
 
 -- the numbers of the blocks that the lines of a text name, in order
 abbrev pub numbers_named : Text → List ℕ

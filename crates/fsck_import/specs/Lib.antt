@@ -4,6 +4,7 @@ pub mod Places
 pub mod Words
 pub mod SoFar
 pub mod Lines
+pub mod Parts
 pub mod Names
 pub mod Runs
 pub mod Blocks

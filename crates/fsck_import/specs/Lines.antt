@@ -1,6 +1,8 @@
 -- What a line of the text says.
-use Rattle.std.specs.Prelude.{ℕ, not, List, ◌∷◌, Option, Some, Result, Ok, Err, fold, if◌then◌else◌}
+use Rattle.std.specs.Prelude.{ℕ, not, List, [], ◌∷◌, Option, Some, Result, Ok, Err, fold, if◌then◌else◌}
 use Rattle.std.specs.Option.{option_or, option_map_or}
+use Rattle.fsck_import.specs.Cuts.{Text}
+use Rattle.fsck_import.specs.Parts.{is_summary, is_last}
 use Rattle.fsck_import.specs.SoFar.{block_with, line_with, nothing_of_block, nothing_of_line}
 use Rattle.fsck_import.specs.declared.word.Word.{Word}
 use Rattle.fsck_import.specs.declared.word.Word.TheVariants as word
@@ -38,5 +40,12 @@ said_by_other words = said_of_line (fold line_with nothing_of_line words)
 
 -- what a line of these words says: it is the line of a block where it begins with an index
 abbrev pub said_by : List Word → Result Said Refusal
+said_by [] = Ok said.Blank
 said_by (word.Index ∷ words) = said_by_block words
 said_by words = said_by_other words
+
+-- what a line says, of which these are the words
+abbrev pub line_said : Text → List Word → Result Said Refusal
+line_said line words =
+    if is_summary line then Ok said.Summary
+    else (if is_last line then Ok said.Last else said_by words)

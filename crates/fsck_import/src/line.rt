@@ -1,8 +1,9 @@
 // What a line of the text says.
 ghost use Rattle.std.specs.Prelude.{◌≡◌, IfOk};
 ghost use Rattle.fsck_import.specs.Words.{words_of};
-ghost use Rattle.fsck_import.specs.Lines.{said_by, said_by_block, said_by_other};
+ghost use Rattle.fsck_import.specs.Lines.{line_said, said_by, said_by_block, said_by_other};
 
+use crate::part::{is_last, is_summary};
 use crate::so_far::{BlockSoFar, LineSoFar};
 use crate::word::{Word, word_of};
 use bm_base::{BlockId, Stamp};
@@ -12,6 +13,8 @@ use thiserror::Error;
 /// What a line says.
 #[derive(Drop)]
 pub enum Said {
+    /// It has no words.
+    Blank,
     /// Nothing of blocks, of files or of what is wanted.
     Nothing,
     /// A file begins, of whose blocks so many replicas are wanted, where that is told.
@@ -19,6 +22,10 @@ pub enum Said {
     /// So many replicas are wanted of a block of this file.
     Wanted(u32),
     Block(BlockTold),
+    /// The summary begins.
+    Summary,
+    /// It is fsck's last line.
+    Last,
 }
 
 /// What the line of a block says of it, its places aside.
@@ -46,6 +53,11 @@ pub enum Refusal {
     NamedTwice,
     #[error("the number of wanted replicas is not between 1 and 16")]
     BadReplication,
+    /// What files hold behind the summary's first line, the last line before it, or anything behind the last line.
+    #[error("the line may not stand in this part of the text")]
+    OutOfPlace,
+    #[error("the text ends before the last line of fsck")]
+    CutOff,
 }
 
 /// The words of a line.
@@ -58,11 +70,25 @@ pub fn words_of(alloc: Global, line: &str) -> Result<Vec<Word<'_>>, AllocError>
         .collect(alloc)
 }
 
+/// What a line says, of which these are the words.
+pub fn line_said(line: &str, words: &[Word]) -> Result<Said, Refusal>
+    ensures { result ≡ line_said line.now words.now }
+{
+    if is_summary(line) {
+        return Ok(Said::Summary);
+    }
+    if is_last(line) {
+        return Ok(Said::Last);
+    }
+    said_by(words)
+}
+
 /// What a line of these words says.
-pub fn said_by(words: &[Word]) -> Result<Said, Refusal>
+fn said_by(words: &[Word]) -> Result<Said, Refusal>
     ensures { result ≡ said_by words.now }
 {
     match words {
+        [] => Ok(Said::Blank),
         [Word::Index, rest @ ..] => said_by_block(rest),
         _ => said_by_other(words),
     }

@@ -12,6 +12,7 @@ mod line;
 mod name_table;
 mod names;
 mod options;
+mod part;
 mod place;
 mod reading;
 mod rows;

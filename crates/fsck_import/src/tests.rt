@@ -77,6 +77,8 @@ const FEW_WORDS: &str = " 0. blk_5_1 len=10 repl=2 [10.3.1.1:50010, 10.3.1.2:500
  2. blk_7_1 len=10 Live_repl=0 []
  Under replicated blk_9_1. Target Replicas is 4 but found 2 replica(s).
  3. blk_9_1 len=10 repl=1 [/dc1/rack7/DatanodeInfoWithStorage[10.3.1.1:50010,DS-x,DISK]]
+Status: HEALTHY
+The filesystem under path '/two words' is HEALTHY
 ";
 
 const FEW_WORDS_LINES: &str = "{\"op\":\"register\",\"node\":1,\"rack\":1,\"storages\":[1,3]}
@@ -92,7 +94,7 @@ const FEW_WORDS_LINES: &str = "{\"op\":\"register\",\"node\":1,\"rack\":1,\"stor
 {\"op\":\"report\",\"storage\":3,\"blocks\":[[9,1,10]]}
 ";
 
-const REFUSED: [(&str, u64, Refusal); 5] = [
+const REFUSED: [(&str, u64, Refusal); 11] = [
     (
         "/a 12 bytes, 1 block(s):  OK\n0. blk_-2932_1001 len=12 repl=1 [10.4.1.1:50010]\n",
         2,
@@ -117,6 +119,32 @@ const REFUSED: [(&str, u64, Refusal); 5] = [
         "0. blk_3_1 len=1 repl=1 [10.4.1.1:50010(LIVE)]\n",
         1,
         Refusal::NotABlock,
+    ),
+    ("", 1, Refusal::CutOff),
+    (
+        "0. blk_3_1 len=1 repl=1\nStatus: HEALTHY\n Total size:\t1 B\n",
+        4,
+        Refusal::CutOff,
+    ),
+    (
+        "0. blk_3_1 len=1 repl=1\nStatus: HEALTHY\nThe filesystem under path '/' is HEALTH",
+        4,
+        Refusal::CutOff,
+    ),
+    (
+        "The filesystem under path '/' is HEALTHY\n",
+        1,
+        Refusal::OutOfPlace,
+    ),
+    (
+        "Status: CORRUPT\n0. blk_3_1 len=1 repl=1\n",
+        2,
+        Refusal::OutOfPlace,
+    ),
+    (
+        "Status: CORRUPT\nThe filesystem under path '/a' is CORRUPT\n\n/b <dir>\n",
+        4,
+        Refusal::OutOfPlace,
     ),
 ];
 
