@@ -59,7 +59,7 @@ with_place c id stamp p = record c {
 }
 
 abbrev pub with_word : ℕ → Stamp → Cluster → Word → Cluster
-with_word id stamp c (word.Place p) = with_place c id stamp p
+with_word id stamp c (word.Place p) = with_place c id stamp p.place
 with_word id stamp c _ = c
 
 -- with the replicas of a block at all places among these words

@@ -1,6 +1,7 @@
 -- What the text of fsck says, and the calls that tell it.
 pub mod Cuts
 pub mod Places
+pub mod PlaceLists
 pub mod Words
 pub mod SoFar
 pub mod Lines

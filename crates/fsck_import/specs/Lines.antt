@@ -3,6 +3,7 @@ use Rattle.std.specs.Prelude.{ℕ, not, List, [], ◌∷◌, Option, Some, Resul
 use Rattle.std.specs.Option.{option_or, option_map_or}
 use Rattle.fsck_import.specs.Cuts.{Text}
 use Rattle.fsck_import.specs.Parts.{is_summary, is_last}
+use Rattle.fsck_import.specs.PlaceLists.{is_list}
 use Rattle.fsck_import.specs.SoFar.{block_with, line_with, nothing_of_block, nothing_of_line}
 use Rattle.fsck_import.specs.declared.word.Word.{Word}
 use Rattle.fsck_import.specs.declared.word.Word.TheVariants as word
@@ -22,7 +23,8 @@ block_told _ _ live = Err refusal.NotABlock
 abbrev pub said_of_block : BlockSoFar → Result Said Refusal
 said_of_block told =
     if told.is_negative then Err refusal.NegativeBlock
-    else (if told.is_strange then Err refusal.NotABlock else block_told told.name told.len told.live)
+    else (if told.is_strange then Err refusal.NotABlock
+    else (if is_list told.list then block_told told.name told.len told.live else Err refusal.NotPlaces))
 
 -- the line of a block, by the words behind its index: it names the block and tells its length, and each further word is one of its kind
 abbrev pub said_by_block : List Word → Result Said Refusal

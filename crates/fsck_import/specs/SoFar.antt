@@ -2,19 +2,22 @@
 use Rattle.std.specs.Prelude.{◌&&◌, true, false, Some, None, is_none, if◌then◌else◌}
 use Rattle.fsck_import.specs.declared.word.Word.{Word}
 use Rattle.fsck_import.specs.declared.word.Word.TheVariants as word
+use Rattle.fsck_import.specs.PlaceLists.{list_with}
+use Rattle.fsck_import.specs.declared.place_list.ListSoFar.TheVariants as list
 use Rattle.fsck_import.specs.declared.so_far.BlockSoFar.{BlockSoFar}
 use Rattle.fsck_import.specs.declared.so_far.LineSoFar.{LineSoFar}
 
 abbrev pub nothing_of_block : BlockSoFar
-nothing_of_block = record { name = None; len = None; live = None; is_negative = false; is_strange = false }
+nothing_of_block = record { name = None; len = None; live = None; is_negative = false; list = list.Absent; is_strange = false }
 
--- with one more word of a block's line: its name, its length, how many replicas are live, and places, which stand for themselves
+-- with one more word of a block's line: its name, its length, how many replicas are live, and a list of places
 abbrev pub block_with : BlockSoFar → Word → BlockSoFar
 block_with told (word.Block id generation) = record told { name = Some (id, generation) }
 block_with told (word.Length len) = record told { len = Some len }
 block_with told (word.Live count) = record told { live = Some count }
 block_with told word.NegativeBlock = record told { is_negative = true }
-block_with told (word.Place place) = told
+block_with told (word.Place place) = record told { list = list_with told.list place }
+block_with told word.NotAPlace = record told { list = list.Broken }
 block_with told word.NoPlace = told
 block_with told _ = record told { is_strange = true }
 

@@ -140,8 +140,8 @@ impl Cluster {
         ensures { OnOk result (self.new ≡ with_places self.old id stamp.now words.now) }
     {
         for word in words {
-            if let Word::Place(place) = word {
-                self.take_place(alloc, place, id, stamp)?;
+            if let Word::Place(listed) = word {
+                self.take_place(alloc, &listed.place, id, stamp)?;
             }
         }
         Ok(())

@@ -45,6 +45,9 @@ pub enum Refusal {
     /// It begins with the index of a block, and does not go on as a block's line.
     #[error("the line of a block that cannot be read")]
     NotABlock,
+    /// A word of a list that is no place, or places with something else than a comma and a space between them.
+    #[error("the places of the block cannot be read")]
+    NotPlaces,
     #[error("the number of the block is below 0")]
     NegativeBlock,
     #[error("the file is erasure coded")]
@@ -102,8 +105,14 @@ fn said_by_block(words: &[Word]) -> Result<Said, Refusal>
     if told.is_negative {
         return Err(Refusal::NegativeBlock);
     }
+    if told.is_strange {
+        return Err(Refusal::NotABlock);
+    }
+    if !told.list.is_list() {
+        return Err(Refusal::NotPlaces);
+    }
     match (told.name, told.len) {
-        (Some((id, generation)), Some(len)) if !told.is_strange => Ok(Said::Block(BlockTold {
+        (Some((id, generation)), Some(len)) => Ok(Said::Block(BlockTold {
             id,
             stamp: Stamp { generation, len },
             live: told.live,

@@ -14,6 +14,7 @@ mod names;
 mod options;
 mod part;
 mod place;
+mod place_list;
 mod reading;
 mod rows;
 mod runs;

@@ -2,6 +2,7 @@
 ghost use Rattle.std.specs.Prelude.{◌≡◌, fold};
 ghost use Rattle.fsck_import.specs.SoFar.{nothing_of_block, block_with, nothing_of_line, line_with};
 
+use crate::place_list::ListSoFar;
 use crate::word::Word;
 use bm_base::{BlockId, Gen};
 
@@ -14,6 +15,7 @@ pub struct BlockSoFar {
     /// How many replicas are live.
     pub live: Option<u32>,
     pub is_negative: bool,
+    pub list: ListSoFar,
     /// Some word is none of a block's line.
     pub is_strange: bool,
 }
@@ -28,6 +30,7 @@ impl BlockSoFar {
             len: None,
             live: None,
             is_negative: false,
+            list: ListSoFar::Absent,
             is_strange: false,
         };
         for word in words {
@@ -56,7 +59,15 @@ impl BlockSoFar {
                 is_negative: true,
                 ..self
             },
-            Word::Place(_) | Word::NoPlace => self,
+            Word::Place(place) => BlockSoFar {
+                list: self.list.with(place),
+                ..self
+            },
+            Word::NotAPlace => BlockSoFar {
+                list: ListSoFar::Broken,
+                ..self
+            },
+            Word::NoPlace => self,
             _ => BlockSoFar {
                 is_strange: true,
                 ..self
