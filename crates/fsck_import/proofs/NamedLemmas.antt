@@ -11,6 +11,7 @@ use Rattle.bm_base.specs.declared.replica.Stamp.{Stamp}
 use Rattle.bm_lines.specs.Lines.{lines_of}
 use Rattle.fsck_import.specs.Cuts.{Text}
 use Rattle.fsck_import.specs.Blocks.{has_block, with_block}
+use Rattle.fsck_import.specs.PlaceLists.{repeats_storage}
 use Rattle.fsck_import.specs.Words.{words_of}
 use Rattle.fsck_import.specs.Lines.{line_said}
 use Rattle.fsck_import.specs.Clusters.{no_cluster, wanted, with_word, with_places, after_block, after_said, after_placed, at_end, is_whole, after_line, after_bytes, after_ok}
@@ -94,17 +95,19 @@ err_is_not_ok : {A E : Type 0} (x : E) (y : A) → ◌≡◌ {A = Result A E} (E
 err_is_not_ok x y e = cc
 
 block_grows : (c d : Cluster) (words : List Word) (told : BlockTold) → after_block c words told ≡ Ok d → GrowsBy c d (told.id ∷ [])
-block_grows c d words told = by _ (has_block c.blocks told.id) refl
+block_grows c d words told = by _ (repeats_storage [] words) (has_block c.blocks told.id) refl
   where
-    by : (a b : Bool) → has_block c.blocks told.id ≡ b
-        → (if a then (if b then Err refusal.NamedTwice
-        else Ok (with_places (record c { blocks = with_block c.blocks told.id (record { stamp = told.stamp; repl = wanted c.target told.live }) }) told.id told.stamp words))
+    by : (a t b : Bool) → has_block c.blocks told.id ≡ b
+        → (if a then (if t then Err refusal.StorageTwice
+        else (if b then Err refusal.NamedTwice
+        else Ok (with_places (record c { blocks = with_block c.blocks told.id (record { stamp = told.stamp; repl = wanted c.target told.live }) }) told.id told.stamp words)))
         else Err refusal.BadReplication) ≡ Ok d
         → GrowsBy c d (told.id ∷ [])
-    by true false new e = one_block c d told.id (record { stamp = told.stamp; repl = wanted c.target told.live })
+    by true false false new e = one_block c d told.id (record { stamp = told.stamp; repl = wanted c.target told.live })
         (sym (ap (λ x. x.blocks) (same_ok _ d e)) ∙ places_keep told.id told.stamp _ words) new
-    by true true new e = absurd (err_is_not_ok _ d e)
-    by false b new e = absurd (err_is_not_ok _ d e)
+    by true false true new e = absurd (err_is_not_ok _ d e)
+    by true true b new e = absurd (err_is_not_ok _ d e)
+    by false t b new e = absurd (err_is_not_ok _ d e)
 
 said_grows : (c d : Cluster) (words : List Word) (s : Said) → after_said c words s ≡ Ok d → GrowsBy c d (number_said (Ok s))
 said_grows c d words said.Blank e = same_blocks c d (sym (ap (λ x. x.blocks) (same_ok c d e)))

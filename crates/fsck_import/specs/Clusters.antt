@@ -4,6 +4,7 @@ use Rattle.std.specs.Str.{is_utf8}
 use Rattle.bm_base.specs.declared.replica.Stamp.{Stamp}
 use Rattle.fsck_import.specs.Cuts.{Text}
 use Rattle.fsck_import.specs.Places.{Place}
+use Rattle.fsck_import.specs.PlaceLists.{repeats_storage}
 use Rattle.fsck_import.specs.Words.{words_of}
 use Rattle.fsck_import.specs.Lines.{line_said}
 use Rattle.fsck_import.specs.Parts.{may_stand}
@@ -71,8 +72,9 @@ abbrev pub after_block : Cluster → List Word → BlockTold → Result Cluster 
 after_block c words told =
     let repl = wanted c.target told.live in
     if nat_le 1 repl && nat_le repl 16
-    then (if has_block c.blocks told.id then Err refusal.NamedTwice
-    else Ok (with_places (record c { blocks = with_block c.blocks told.id (record { stamp = told.stamp; repl = repl }) }) told.id told.stamp words))
+    then (if repeats_storage [] words then Err refusal.StorageTwice
+    else (if has_block c.blocks told.id then Err refusal.NamedTwice
+    else Ok (with_places (record c { blocks = with_block c.blocks told.id (record { stamp = told.stamp; repl = repl }) }) told.id told.stamp words)))
     else Err refusal.BadReplication
 
 -- after what a line of these words says. A heading begins another file; what is wanted of one of its blocks is wanted of all

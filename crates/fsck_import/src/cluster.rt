@@ -8,6 +8,7 @@ use crate::line::{BlockTold, Refusal, Said, line_said, words_of};
 use crate::names::Names;
 use crate::part::{Part, may_stand};
 use crate::place::Place;
+use crate::place_list::repeats_storage;
 use crate::rows::Rows;
 use crate::word::Word;
 use bm_base::{BlockId, BlockInfo, Items, MAX_REPLICATION, Stamp};
@@ -117,6 +118,9 @@ impl Cluster {
         let repl = wanted(self.target, told.live);
         if repl < 1 || repl > MAX_REPLICATION {
             return Err(LineFault::Refused(Refusal::BadReplication));
+        }
+        if repeats_storage(alloc, words)? {
+            return Err(LineFault::Refused(Refusal::StorageTwice));
         }
         let info = BlockInfo {
             stamp: told.stamp,

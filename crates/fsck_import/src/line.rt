@@ -54,6 +54,8 @@ pub enum Refusal {
     ErasureCoded,
     #[error("the block was named before")]
     NamedTwice,
+    #[error("two places of the block have one storage")]
+    StorageTwice,
     #[error("the number of wanted replicas is not between 1 and 16")]
     BadReplication,
     /// What files hold behind the summary's first line, the last line before it, or anything behind the last line.

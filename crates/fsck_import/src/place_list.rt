@@ -1,8 +1,11 @@
 // The list of a block's places.
-ghost use Rattle.std.specs.Prelude.{◌≡◌, option_map};
-ghost use Rattle.fsck_import.specs.PlaceLists.{opened, ended, list_behind, list_with, is_list};
+ghost use Rattle.std.specs.Prelude.{◌≡◌, IfOk, [], option_map};
+ghost use Rattle.fsck_import.specs.PlaceLists.{opened, ended, repeats_storage, list_behind, list_with, is_list};
 
+use crate::names::Names;
 use crate::place::{Place, before_last, behind_first};
+use crate::word::Word;
+use std::alloc::{AllocError, Global};
 
 /// A place as a word of a list tells it.
 #[derive(Drop)]
@@ -32,6 +35,21 @@ pub fn ended(word: &str) -> Option<(&str, bool)>
         Some(text) => Some((text, true)),
         None => Some((before_last(word, ',')?, false)),
     }
+}
+
+/// Whether two of the places among these words have one storage.
+pub fn repeats_storage(alloc: Global, words: &[Word]) -> Result<bool, AllocError>
+    ensures { IfOk result (λ repeats. repeats ≡ repeats_storage [] words.now) }
+{
+    let mut names = Names::new(alloc);
+    for word in words {
+        if let Word::Place(listed) = word {
+            if !names.number_of(alloc, listed.place.storage())?.is_new {
+                return Ok(true);
+            }
+        }
+    }
+    Ok(false)
 }
 
 /// How much of the list of a block's places was told.

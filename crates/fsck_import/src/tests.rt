@@ -94,7 +94,7 @@ const FEW_WORDS_LINES: &str = "{\"op\":\"register\",\"node\":1,\"rack\":1,\"stor
 {\"op\":\"report\",\"storage\":3,\"blocks\":[[9,1,10]]}
 ";
 
-const REFUSED: [(&str, u64, Refusal); 17] = [
+const REFUSED: [(&str, u64, Refusal); 19] = [
     (
         "/a 12 bytes, 1 block(s):  OK\n0. blk_-2932_1001 len=12 repl=1 [10.4.1.1:50010]\n",
         2,
@@ -149,6 +149,16 @@ const REFUSED: [(&str, u64, Refusal); 17] = [
         "0. blk_3_1 len=1 repl=2 [10.4.1.1:9866, \n",
         1,
         Refusal::NotPlaces,
+    ),
+    (
+        "0. blk_3_1 len=1 repl=2 [/r/10.4.1.1:9866, /r/10.4.1.1:9866]\n",
+        1,
+        Refusal::StorageTwice,
+    ),
+    (
+        "0. blk_3_1 len=1 repl=2 [DatanodeInfoWithStorage[10.4.1.1:9866,DS-a,SSD], DatanodeInfoWithStorage[10.4.1.1:9866,DS-a,DISK]]\n",
+        1,
+        Refusal::StorageTwice,
     ),
     ("", 1, Refusal::CutOff),
     (
