@@ -13,7 +13,7 @@ use Rattle.fsck_import.specs.Cuts.{Text}
 use Rattle.fsck_import.specs.Blocks.{has_block, with_block}
 use Rattle.fsck_import.specs.PlaceLists.{repeats_storage}
 use Rattle.fsck_import.specs.Words.{words_of}
-use Rattle.fsck_import.specs.Lines.{line_said}
+use Rattle.fsck_import.specs.Lines.{differ, line_said}
 use Rattle.fsck_import.specs.Clusters.{no_cluster, wanted, with_word, with_places, after_block, after_said, after_placed, at_end, is_whole, after_line, after_bytes, after_ok}
 use Rattle.fsck_import.specs.Parts.{may_stand}
 use Rattle.fsck_import.specs.Reading.{after_lines, at_line, cluster_of}
@@ -109,11 +109,15 @@ block_grows c d words told = by _ (repeats_storage [] words) (has_block c.blocks
     by true true b new e = absurd (err_is_not_ok _ d e)
     by false t b new e = absurd (err_is_not_ok _ d e)
 
+wanted_grows : (c d : Cluster) (count : ℕ) (b : Bool) → (if b then Err refusal.TwoTargets else Ok (record c { target = Some count })) ≡ Ok d → GrowsBy c d []
+wanted_grows c d count true e = absurd (err_is_not_ok _ d e)
+wanted_grows c d count false e = same_blocks c d (sym (ap (λ x. x.blocks) (same_ok _ d e)))
+
 said_grows : (c d : Cluster) (words : List Word) (s : Said) → after_said c words s ≡ Ok d → GrowsBy c d (number_said (Ok s))
 said_grows c d words said.Blank e = same_blocks c d (sym (ap (λ x. x.blocks) (same_ok c d e)))
 said_grows c d words said.Nothing e = same_blocks c d (sym (ap (λ x. x.blocks) (same_ok c d e)))
 said_grows c d words (said.Heading target) e = same_blocks c d (sym (ap (λ x. x.blocks) (same_ok _ d e)))
-said_grows c d words (said.Wanted count) e = same_blocks c d (sym (ap (λ x. x.blocks) (same_ok _ d e)))
+said_grows c d words (said.Wanted count) e = wanted_grows c d count (differ c.target (Some count)) e
 said_grows c d words (said.Block told) e = block_grows c d words told e
 said_grows c d words said.Summary e = same_blocks c d (sym (ap (λ x. x.blocks) (same_ok _ d e)))
 said_grows c d words said.Last e = same_blocks c d (sym (ap (λ x. x.blocks) (same_ok _ d e)))

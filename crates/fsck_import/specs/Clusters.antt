@@ -6,7 +6,7 @@ use Rattle.fsck_import.specs.Cuts.{Text}
 use Rattle.fsck_import.specs.Places.{Place}
 use Rattle.fsck_import.specs.PlaceLists.{repeats_storage}
 use Rattle.fsck_import.specs.Words.{words_of}
-use Rattle.fsck_import.specs.Lines.{line_said}
+use Rattle.fsck_import.specs.Lines.{differ, line_said}
 use Rattle.fsck_import.specs.Parts.{may_stand}
 use Rattle.fsck_import.specs.Names.{is_new, name_number, with_name}
 use Rattle.fsck_import.specs.Blocks.{has_block, with_block}
@@ -77,12 +77,13 @@ after_block c words told =
     else Ok (with_places (record c { blocks = with_block c.blocks told.id (record { stamp = told.stamp; repl = repl }) }) told.id told.stamp words)))
     else Err refusal.BadReplication
 
--- after what a line of these words says. A heading begins another file; what is wanted of one of its blocks is wanted of all
+-- after what a line of these words says. A heading begins another file; what is wanted of one of its blocks is wanted of all, and told alike
 abbrev pub after_said : Cluster → List Word → Said → Result Cluster Refusal
 after_said c words said.Blank = Ok c
 after_said c words said.Nothing = Ok c
 after_said c words (said.Heading target) = Ok (record c { target = target })
-after_said c words (said.Wanted count) = Ok (record c { target = Some count })
+after_said c words (said.Wanted count) =
+    if differ c.target (Some count) then Err refusal.TwoTargets else Ok (record c { target = Some count })
 after_said c words (said.Block told) = after_block c words told
 after_said c words said.Summary = Ok (record c { part = part.Summary })
 after_said c words said.Last = Ok (record c { part = part.Behind })

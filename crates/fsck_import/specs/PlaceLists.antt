@@ -35,6 +35,11 @@ list_with list.Absent place = if place.opens then list_behind place else list.Br
 list_with list.Begun place = if place.opens then list.Broken else list_behind place
 list_with _ place = list.Broken
 
+-- something of a list was told
+abbrev pub is_begun : ListSoFar → Bool
+is_begun list.Absent = false
+is_begun _ = true
+
 -- a list of places, or nothing
 abbrev pub is_list : ListSoFar → Bool
 is_list list.Absent = true

@@ -17,8 +17,12 @@ fixed_word text =
     else (if bytes_eq text (codes "erasure-coded:") then Some word.ErasureCoded
     else (if bytes_eq text (codes "block(s):") then Some word.Heading
     else (if bytes_eq text (codes "block(s),") then Some word.Heading
+    else (if bytes_eq text (codes "bytes,") then Some word.Bytes
+    else (if bytes_eq text (codes "Under") then Some word.Under
     else (if bytes_eq text (codes "Target") then Some word.Target
-    else None)))))
+    else (if bytes_eq text (codes "Replicas") then Some word.Joining
+    else (if bytes_eq text (codes "is") then Some word.Joining
+    else None)))))))))
 
 -- what this says of a number, or nothing where there is none
 abbrev pub said_of : (ℕ → Word) → Option ℕ → Word
@@ -30,7 +34,7 @@ valued_word key value =
     if bytes_eq key (codes "len") then said_of word.Length (number_of value)
     else (if bytes_eq key (codes "repl") then said_of word.Live (small_number_of value)
     else (if bytes_eq key (codes "Live_repl") then said_of word.Live (small_number_of value)
-    else (if bytes_eq key (codes "replication") then said_of word.Replication (small_number_of (before_mark 44 value))
+    else (if bytes_eq key (codes "replication") then option_map_or word.Replication (small_number_of (before_mark 44 value)) word.NotANumber
     else word.Other)))
 
 -- the name of a block, without the pool, which ends at the first colon, 58

@@ -4,7 +4,7 @@ ghost use Rattle.fsck_import.specs.Clusters.{no_cluster, wanted, with_place, wit
 
 use crate::blocks::Blocks;
 use crate::fault::LineFault;
-use crate::line::{BlockTold, Refusal, Said, line_said, words_of};
+use crate::line::{BlockTold, Refusal, Said, differ, line_said, words_of};
 use crate::names::Names;
 use crate::part::{Part, may_stand};
 use crate::place::Place;
@@ -86,6 +86,9 @@ impl Cluster {
         match said {
             Said::Blank | Said::Nothing => {}
             Said::Heading(target) => self.target = target,
+            Said::Wanted(count) if differ(self.target, Some(count)) => {
+                return Err(LineFault::Refused(Refusal::TwoTargets));
+            }
             Said::Wanted(count) => self.target = Some(count),
             Said::Block(told) => self.take_block(alloc, told, words)?,
             Said::Summary => self.part = Part::Summary,

@@ -1,6 +1,6 @@
 // The list of a block's places.
 ghost use Rattle.std.specs.Prelude.{◌≡◌, IfOk, [], option_map};
-ghost use Rattle.fsck_import.specs.PlaceLists.{opened, ended, repeats_storage, list_behind, list_with, is_list};
+ghost use Rattle.fsck_import.specs.PlaceLists.{opened, ended, repeats_storage, list_behind, list_with, is_begun, is_list};
 
 use crate::names::Names;
 use crate::place::{Place, before_last, behind_first};
@@ -75,6 +75,13 @@ impl ListSoFar {
             ListSoFar::Begun if !place.opens => behind(place),
             _ => ListSoFar::Broken,
         }
+    }
+
+    /// Whether something of a list was told.
+    pub fn is_begun(self) -> bool
+        ensures { result ≡ is_begun self }
+    {
+        !matches!(self, ListSoFar::Absent)
     }
 
     /// Whether it is a list of places, or nothing.

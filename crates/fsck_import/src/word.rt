@@ -28,12 +28,20 @@ pub enum Word<'a> {
     NoPlace,
     /// How many replicas of a file's blocks are wanted, as its heading says.
     Replication(u32),
+    /// What should say that, and does not.
+    NotANumber,
     /// The file is in cells, not in replicas.
     ErasureCoded,
     /// `block(s):`, by which a line is the heading of a file.
     Heading,
+    /// `bytes,`, which ends the path and the length of a file in its heading.
+    Bytes,
+    /// `Under`, with which a line begins that tells of a block with too few replicas.
+    Under,
     /// `Target`, behind which the wanted number of replicas comes.
     Target,
+    /// `Replicas` and `is`, which stand between `Target` and its number.
+    Joining,
     Number(u32),
     Other,
 }
@@ -62,7 +70,10 @@ fn fixed_word(word: &str) -> Option<Word<'_>>
         "MISSING!" | "[]" => Some(Word::NoPlace),
         "erasure-coded:" => Some(Word::ErasureCoded),
         "block(s):" | "block(s)," => Some(Word::Heading),
+        "bytes," => Some(Word::Bytes),
+        "Under" => Some(Word::Under),
         "Target" => Some(Word::Target),
+        "Replicas" | "is" => Some(Word::Joining),
         _ => None,
     }
 }
@@ -82,7 +93,7 @@ fn valued_word<'a>(key: &'a str, value: &'a str) -> Word<'a>
         },
         "replication" => match small_number_of(before_mark(value, ',')) {
             Some(count) => Word::Replication(count),
-            None => Word::Other,
+            None => Word::NotANumber,
         },
         _ => Word::Other,
     }
