@@ -7,4 +7,6 @@ pub mod TextLemmas
 pub mod ReadLemmas
 pub mod WriteLemmas
 pub mod CallLemmas
+pub mod ReplicaLemmas
+pub mod ToldLemmas
 pub mod NamedLemmas

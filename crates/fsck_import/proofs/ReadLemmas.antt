@@ -1,11 +1,11 @@
 -- One more line of a text that is known.
-use Rattle.std.proofs.Common.{◌≡◌, ℕ, ◌+◌, ◌<◌, [], ◌∷◌, ◌++◌, Option, Some, None, IfSome, Result, Ok, length, arith, refl, sym, ap, subst, ◌∙◌}
+use Rattle.std.proofs.Common.{◌≡◌, ℕ, ◌+◌, ◌<◌, [], ◌∷◌, ◌++◌, Option, Some, None, IfSome, IfOk, IfErr, Result, Ok, Err, length, arith, refl, sym, ap, subst, ◌∙◌}
 use Rattle.std.specs.Io.BufRead.{take_through, drop_through}
 use Rattle.std.specs.Io.KnownBytes.{IsAtEnd}
 use Rattle.bm_lines.specs.Lines.{lines_of}
 use Rattle.fsck_import.specs.Cuts.{Text}
-use Rattle.fsck_import.specs.Clusters.{after_bytes, after_ok}
-use Rattle.fsck_import.specs.Reading.{after_lines, at_line, without_end, IsReadFault}
+use Rattle.fsck_import.specs.Clusters.{after_bytes, after_ok, at_end}
+use Rattle.fsck_import.specs.Reading.{cluster_of, after_lines, at_line, without_end, IsReadFault}
 use Rattle.fsck_import.specs.declared.cluster.Cluster.{Cluster}
 use Rattle.fsck_import.specs.declared.fault.Unread.{Unread}
 use Rattle.fsck_import.specs.declared.fault.Fault.{Fault}
@@ -24,10 +24,20 @@ unfolding lines_of
 lines_of-none = refl
 
 -- at the end of the text nothing is left to take
-pub end_told : (o : Option Text) (rest : Text) (n : ℕ) (c : Cluster) → o ≡ Some rest → IsAtEnd o → after_lines n c (lines_of rest) ≡ Ok c
+pub end_told : (o : Option Text) (rest : Text) (n : ℕ) (c : Cluster) → o ≡ Some rest → IsAtEnd o → after_lines n c (lines_of rest) ≡ at_line n (at_end c)
 end_told o rest n c e h =
     let empty : rest ≡ [] = subst IsAtEnd e h in
     ap (λ t. after_lines n c (lines_of t)) empty ∙ ap (after_lines n c) lines_of-none
+
+-- what comes of the end of a text, where the text tells it too
+module _ (after : Result Cluster Unread) (o : Option Text) (told : (text : Text) → o ≡ Some text → cluster_of text ≡ after) where
+  pub end_text : (r : Result Cluster Fault) → IfOk r (λ c. after ≡ Ok c) → IfOk r (λ c. IfSome o (λ text. cluster_of text ≡ Ok c))
+  end_text (Ok c) h = each_some o (λ text e. told text e ∙ h)
+  end_text (Err f) h = tt
+
+  pub end_refused : (r : Result Cluster Fault) → IfErr r (λ f. IsReadFault f after) → IfErr r (λ f. IfSome o (λ text. IsReadFault f (cluster_of text)))
+  end_refused (Ok c) h = tt
+  end_refused (Err f) h = each_some o (λ text e. subst (IsReadFault f) (sym (told text e)) h)
 
 -- what a read of a line leaves, and which line it is
 pub record Reads (rest line : Text) (left : Option Text) : Type 0 where

@@ -1,11 +1,13 @@
 -- What the lines of the text say of a cluster, one after another.
-use Rattle.std.specs.Prelude.{◌≡◌, ⊤, ℕ, ◌-◌, ◌&&◌, max, nat_le, List, [], ◌∷◌, ◌++◌, Option, Some, None, unwrap_or, Result, Ok, Err, fold, if◌then◌else◌}
+use Rattle.std.specs.Prelude.{◌≡◌, ⊤, ℕ, ◌-◌, ◌&&◌, Bool, true, false, max, nat_le, List, [], ◌∷◌, ◌++◌, Option, Some, None, unwrap_or, Result, Ok, Err, fold, if◌then◌else◌}
 use Rattle.std.specs.Str.{is_utf8}
 use Rattle.bm_base.specs.declared.replica.Stamp.{Stamp}
 use Rattle.fsck_import.specs.Cuts.{Text}
 use Rattle.fsck_import.specs.Places.{Place}
+use Rattle.fsck_import.specs.PlaceLists.{repeats_storage}
 use Rattle.fsck_import.specs.Words.{words_of}
-use Rattle.fsck_import.specs.Lines.{said_by}
+use Rattle.fsck_import.specs.Lines.{differ, line_said}
+use Rattle.fsck_import.specs.Parts.{may_stand}
 use Rattle.fsck_import.specs.Names.{is_new, name_number, with_name}
 use Rattle.fsck_import.specs.Blocks.{has_block, with_block}
 use Rattle.fsck_import.specs.Rows.{new_row, with_replica_at}
@@ -16,6 +18,8 @@ use Rattle.fsck_import.specs.declared.line.Said.TheVariants as said
 use Rattle.fsck_import.specs.declared.line.BlockTold.{BlockTold}
 use Rattle.fsck_import.specs.declared.line.Refusal.{Refusal}
 use Rattle.fsck_import.specs.declared.line.Refusal.TheVariants as refusal
+use Rattle.fsck_import.specs.declared.part.Part.{Part}
+use Rattle.fsck_import.specs.declared.part.Part.TheVariants as part
 use Rattle.fsck_import.specs.declared.fault.LineFault.{LineFault}
 use Rattle.fsck_import.specs.declared.fault.LineFault.TheVariants as fault
 use Rattle.fsck_import.specs.declared.rows.Row.{Row}
@@ -24,7 +28,7 @@ use Rattle.fsck_import.specs.declared.cluster.Cluster.{Cluster}
 
 -- nothing was said
 abbrev pub no_cluster : Cluster
-no_cluster = record { racks = []; nodes = []; node_rows = []; storages = []; rows = []; blocks = []; target = None }
+no_cluster = record { racks = []; nodes = []; node_rows = []; storages = []; rows = []; blocks = []; target = None; part = part.Files }
 
 -- how many replicas of a block are wanted: as many as was told of its file, else as many as are live, and at least one
 abbrev pub wanted : Option ℕ → Option ℕ → ℕ
@@ -56,7 +60,7 @@ with_place c id stamp p = record c {
 }
 
 abbrev pub with_word : ℕ → Stamp → Cluster → Word → Cluster
-with_word id stamp c (word.Place p) = with_place c id stamp p
+with_word id stamp c (word.Place p) = with_place c id stamp p.place
 with_word id stamp c _ = c
 
 -- with the replicas of a block at all places among these words
@@ -68,33 +72,46 @@ abbrev pub after_block : Cluster → List Word → BlockTold → Result Cluster 
 after_block c words told =
     let repl = wanted c.target told.live in
     if nat_le 1 repl && nat_le repl 16
-    then (if has_block c.blocks told.id then Err refusal.NamedTwice
-    else Ok (with_places (record c { blocks = with_block c.blocks told.id (record { stamp = told.stamp; repl = repl }) }) told.id told.stamp words))
+    then (if repeats_storage [] words then Err refusal.StorageTwice
+    else (if has_block c.blocks told.id then Err refusal.NamedTwice
+    else Ok (with_places (record c { blocks = with_block c.blocks told.id (record { stamp = told.stamp; repl = repl }) }) told.id told.stamp words)))
     else Err refusal.BadReplication
 
--- after what a line of these words says. A heading begins another file; what is wanted of one of its blocks is wanted of all
+-- after what a line of these words says. A heading begins another file; what is wanted of one of its blocks is wanted of all, and told alike
 abbrev pub after_said : Cluster → List Word → Said → Result Cluster Refusal
+after_said c words said.Blank = Ok c
 after_said c words said.Nothing = Ok c
 after_said c words (said.Heading target) = Ok (record c { target = target })
-after_said c words (said.Wanted count) = Ok (record c { target = Some count })
+after_said c words (said.Wanted count) =
+    if differ c.target (Some count) then Err refusal.TwoTargets else Ok (record c { target = Some count })
 after_said c words (said.Block told) = after_block c words told
+after_said c words said.Summary = Ok (record c { part = part.Summary })
+after_said c words said.Last = Ok (record c { part = part.Behind })
+
+-- the same where such a line may stand in this part of the text
+abbrev pub after_placed : Cluster → List Word → Said → Result Cluster Refusal
+after_placed c words s = if may_stand c.part s then after_said c words s else Err refusal.OutOfPlace
 
 -- what comes of a value, where there is one
 abbrev pub after_ok : {A B E : Type 0} → (A → Result B E) → Result A E → Result B E
 after_ok f (Ok x) = f x
 after_ok f (Err why) = Err why
 
--- after a line of these words
-abbrev pub after_words : Cluster → List Word → Result Cluster Refusal
-after_words c words = after_ok (after_said c words) (said_by words)
-
 -- after one more line
 abbrev pub after_line : Cluster → Text → Result Cluster Refusal
-after_line c line = after_words c (words_of line)
+after_line c line = after_ok (after_placed c (words_of line)) (line_said line (words_of line))
 
 -- after a line of these bytes, which are UTF-8
 abbrev pub after_bytes : Cluster → Text → Result Cluster Refusal
 after_bytes c line = if is_utf8 line then after_line c line else Err refusal.NotText
+
+abbrev pub is_whole : Part → Bool
+is_whole part.Behind = true
+is_whole _ = false
+
+-- at the end of the text, where its last line was told
+abbrev pub at_end : Cluster → Result Cluster Refusal
+at_end c = if is_whole c.part then Ok c else Err refusal.CutOff
 
 -- the fault is this refusal, or that memory lacked
 abbrev pub IsCause : {A : Type 0} → LineFault → Result A Refusal → Type 0

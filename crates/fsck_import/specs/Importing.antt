@@ -1,10 +1,11 @@
 -- What a whole run writes, and why it ends without.
 use Rattle.std.specs.Prelude.{◌≡◌, ⊤, ℕ, false, Option, Result, Ok, Err}
+use Rattle.std.specs.List.Sorted.{IsPermutation}
 use Rattle.bm_base.specs.Lists.{has_repeats}
 use Rattle.fsck_import.specs.Cuts.{Text}
 use Rattle.fsck_import.specs.Reading.{cluster_of}
 use Rattle.fsck_import.specs.CallsFor.{calls_for}
-use Rattle.fsck_import.specs.Laws.{AddsFirst, numbers_added, numbers_named}
+use Rattle.fsck_import.specs.Laws.{AddsFirst, EachOnce, numbers_added, numbers_named, replicas_told, replicas_reported}
 use Rattle.fsck_import.specs.Writing.{Tells}
 use Rattle.fsck_import.specs.declared.fault.Unread.{Unread}
 use Rattle.fsck_import.specs.declared.fault.Fault.{Fault}
@@ -22,6 +23,9 @@ pub record TellsCluster (text : Text) (remaining : ℕ) (old new : Option Text) 
   pub once : has_repeats (numbers_named text) ≡ false
   -- no report stands before an add
   pub adds_first : AddsFirst (calls_for cluster remaining)
+  -- the replicas that they report are those that the text's places tell, and none is reported twice
+  pub reported : IsPermutation (replicas_told text) (replicas_reported cluster.storages (calls_for cluster remaining))
+  pub reported_once : EachOnce (replicas_reported cluster.storages (calls_for cluster remaining))
 
 -- a refusal is that of the first line that is refused
 abbrev pub IsRunFault : Fault → Result Cluster Unread → Type 0

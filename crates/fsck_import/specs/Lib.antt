@@ -1,10 +1,12 @@
 -- What the text of fsck says, and the calls that tell it.
 pub mod Cuts
 pub mod Places
+pub mod Names
+pub mod PlaceLists
 pub mod Words
 pub mod SoFar
 pub mod Lines
-pub mod Names
+pub mod Parts
 pub mod Runs
 pub mod Blocks
 pub mod Rows

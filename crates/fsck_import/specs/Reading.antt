@@ -2,7 +2,7 @@
 use Rattle.std.specs.Prelude.{◌≡◌, ⊤, ℕ, ◌+◌, ◌==◌, List, [], ◌∷◌, Result, Ok, Err, if◌then◌else◌}
 use Rattle.bm_lines.specs.Lines.{lines_of}
 use Rattle.fsck_import.specs.Cuts.{Text}
-use Rattle.fsck_import.specs.Clusters.{no_cluster, after_bytes, after_ok}
+use Rattle.fsck_import.specs.Clusters.{no_cluster, after_bytes, after_ok, at_end}
 use Rattle.fsck_import.specs.declared.line.Refusal.{Refusal}
 use Rattle.fsck_import.specs.declared.fault.Unread.{Unread}
 use Rattle.fsck_import.specs.declared.cluster.Cluster.{Cluster}
@@ -14,9 +14,9 @@ abbrev pub at_line : ℕ → Result Cluster Refusal → Result Cluster Unread
 at_line n (Ok c) = Ok c
 at_line n (Err why) = Err (record { line = n; why = why })
 
--- after these lines, of which the first is numbered n; the first that is refused ends it
+-- after these lines, of which the first is numbered n; the first that is refused ends it, or that none comes where more is awaited
 abbrev pub after_lines : ℕ → Cluster → List Text → Result Cluster Unread
-after_lines n c [] = Ok c
+after_lines n c [] = at_line n (at_end c)
 after_lines n c (line ∷ lines) = after_ok (λ d. after_lines (n + 1) d lines) (at_line n (after_bytes c line))
 
 -- the cluster of which a text tells

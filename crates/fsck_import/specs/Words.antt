@@ -5,6 +5,7 @@ use Rattle.std.specs.Option.{option_map_or}
 use Rattle.std.specs.Str.{bytes_eq}
 use Rattle.fsck_import.specs.Cuts.{Text, cut_at, number_of, small_number_of}
 use Rattle.fsck_import.specs.Places.{is_empty, before_mark, place_of}
+use Rattle.fsck_import.specs.PlaceLists.{opened, ended}
 use Rattle.fsck_import.specs.declared.word.Word.{Word}
 use Rattle.fsck_import.specs.declared.word.Word.TheVariants as word
 
@@ -16,8 +17,12 @@ fixed_word text =
     else (if bytes_eq text (codes "erasure-coded:") then Some word.ErasureCoded
     else (if bytes_eq text (codes "block(s):") then Some word.Heading
     else (if bytes_eq text (codes "block(s),") then Some word.Heading
+    else (if bytes_eq text (codes "bytes,") then Some word.Bytes
+    else (if bytes_eq text (codes "Under") then Some word.Under
     else (if bytes_eq text (codes "Target") then Some word.Target
-    else None)))))
+    else (if bytes_eq text (codes "Replicas") then Some word.Joining
+    else (if bytes_eq text (codes "is") then Some word.Joining
+    else None)))))))))
 
 -- what this says of a number, or nothing where there is none
 abbrev pub said_of : (ℕ → Word) → Option ℕ → Word
@@ -29,7 +34,7 @@ valued_word key value =
     if bytes_eq key (codes "len") then said_of word.Length (number_of value)
     else (if bytes_eq key (codes "repl") then said_of word.Live (small_number_of value)
     else (if bytes_eq key (codes "Live_repl") then said_of word.Live (small_number_of value)
-    else (if bytes_eq key (codes "replication") then said_of word.Replication (small_number_of (before_mark 44 value))
+    else (if bytes_eq key (codes "replication") then option_map_or word.Replication (small_number_of (before_mark 44 value)) word.NotANumber
     else word.Other)))
 
 -- the name of a block, without the pool, which ends at the first colon, 58
@@ -53,11 +58,19 @@ block_named name =
 abbrev pub is_index : Text → Bool
 is_index text = option_map_or (λ p. is_empty p.1 && is_some (number_of p.0)) (cut_at 46 text) false
 
--- an index, a number, a place, or anything else
+-- a place in a list, by its text and whether brackets open and close the list there
+abbrev pub listed_by : Bool → Text × Bool → Word
+listed_by opens rest = option_map_or (λ place. word.Place (record { place = place; opens = opens; closes = rest.1 })) (place_of rest.0) word.NotAPlace
+
+-- a word of a list of places: with what stands behind the bracket that may begin it, and without what ends it, it is a place
+abbrev pub listed_word : Text → Option Word
+listed_word text = option_map (listed_by (opened text).1) (ended (opened text).0)
+
+-- an index, a number, a word of a list, or anything else
 abbrev pub other_word : Text → Word
 other_word text =
     if is_index text then word.Index
-    else option_map_or word.Number (small_number_of text) (option_map_or word.Place (place_of text) word.Other)
+    else option_map_or word.Number (small_number_of text) (option_map_or (λ w. w) (listed_word text) word.Other)
 
 -- what a word says; its name ends at an equals sign, 61
 abbrev pub word_of : Text → Word

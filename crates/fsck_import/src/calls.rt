@@ -21,6 +21,7 @@ impl Cluster {
             rows,
             blocks,
             target: _,
+            part: _,
         } = self;
         let nodes = node_rows.as_slice();
         let mut calls = registers(alloc, nodes, rows.as_slice())?;

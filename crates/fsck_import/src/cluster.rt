@@ -1,12 +1,14 @@
 // What the lines of the text said so far of a cluster.
 ghost use Rattle.std.specs.Prelude.{◌≡◌, Ok, Err, Some, IfOk, OnOk, IfErr};
-ghost use Rattle.fsck_import.specs.Clusters.{no_cluster, wanted, with_place, with_places, after_block, after_said, after_line, after_bytes, IsCause};
+ghost use Rattle.fsck_import.specs.Clusters.{no_cluster, wanted, with_place, with_places, after_block, after_said, after_line, after_bytes, at_end, IsCause};
 
 use crate::blocks::Blocks;
 use crate::fault::LineFault;
-use crate::line::{BlockTold, Refusal, Said, said_by, words_of};
+use crate::line::{BlockTold, Refusal, Said, differ, line_said, words_of};
 use crate::names::Names;
+use crate::part::{Part, may_stand};
 use crate::place::Place;
+use crate::place_list::repeats_storage;
 use crate::rows::Rows;
 use crate::word::Word;
 use bm_base::{BlockId, BlockInfo, Items, MAX_REPLICATION, Stamp};
@@ -31,6 +33,8 @@ pub struct Cluster {
     pub blocks: Blocks,
     /// How many replicas are wanted of the blocks of the file that is being told, where that was told.
     pub target: Option<u32>,
+    /// The part of the text in which the next line stands.
+    pub part: Part,
 }
 
 impl Cluster {
@@ -46,6 +50,7 @@ impl Cluster {
             rows: Rows::new(alloc),
             blocks: Blocks::new(alloc),
             target: None,
+            part: Part::Files,
         }
     }
 
@@ -66,13 +71,41 @@ impl Cluster {
         ensures refused { IfErr result (λ f. IsCause f (after_line self.old line.now)) }
     {
         let words = words_of(alloc, line)?;
-        match said_by(words.as_slice())? {
-            Said::Nothing => {}
+        let said = line_said(line, words.as_slice())?;
+        if !may_stand(self.part, &said) {
+            return Err(LineFault::Refused(Refusal::OutOfPlace));
+        }
+        self.take_said(alloc, said, words.as_slice())
+    }
+
+    /// Takes what a line of these words says, which may stand where it stands.
+    fn take_said(&mut self, alloc: Global, said: Said, words: &[Word]) -> Result<(), LineFault>
+        ensures ok { OnOk result (after_said self.old words.now said ≡ Ok self.new) }
+        ensures refused { IfErr result (λ f. IsCause f (after_said self.old words.now said)) }
+    {
+        match said {
+            Said::Blank | Said::Nothing => {}
             Said::Heading(target) => self.target = target,
+            Said::Wanted(count) if differ(self.target, Some(count)) => {
+                return Err(LineFault::Refused(Refusal::TwoTargets));
+            }
             Said::Wanted(count) => self.target = Some(count),
-            Said::Block(told) => self.take_block(alloc, told, words.as_slice())?,
+            Said::Block(told) => self.take_block(alloc, told, words)?,
+            Said::Summary => self.part = Part::Summary,
+            Said::Last => self.part = Part::Behind,
         }
         Ok(())
+    }
+
+    /// The whole cluster, at the end of the text.
+    pub fn at_end(self) -> Result<Cluster, Refusal>
+        ensures { result ≡ at_end self }
+    {
+        if self.part == Part::Behind {
+            Ok(self)
+        } else {
+            Err(Refusal::CutOff)
+        }
     }
 
     /// Takes a block and its places, which are among the words of its line.
@@ -88,6 +121,9 @@ impl Cluster {
         let repl = wanted(self.target, told.live);
         if repl < 1 || repl > MAX_REPLICATION {
             return Err(LineFault::Refused(Refusal::BadReplication));
+        }
+        if repeats_storage(alloc, words)? {
+            return Err(LineFault::Refused(Refusal::StorageTwice));
         }
         let info = BlockInfo {
             stamp: told.stamp,
@@ -111,8 +147,8 @@ impl Cluster {
         ensures { OnOk result (self.new ≡ with_places self.old id stamp.now words.now) }
     {
         for word in words {
-            if let Word::Place(place) = word {
-                self.take_place(alloc, place, id, stamp)?;
+            if let Word::Place(listed) = word {
+                self.take_place(alloc, &listed.place, id, stamp)?;
             }
         }
         Ok(())

@@ -1,8 +1,9 @@
 // What a line of the text says.
 ghost use Rattle.std.specs.Prelude.{◌≡◌, IfOk};
 ghost use Rattle.fsck_import.specs.Words.{words_of};
-ghost use Rattle.fsck_import.specs.Lines.{said_by, said_by_block, said_by_other};
+ghost use Rattle.fsck_import.specs.Lines.{line_said, said_by, said_by_block, said_by_problem, said_by_heading, fault_of, differ};
 
+use crate::part::{is_last, is_summary};
 use crate::so_far::{BlockSoFar, LineSoFar};
 use crate::word::{Word, word_of};
 use bm_base::{BlockId, Stamp};
@@ -12,6 +13,8 @@ use thiserror::Error;
 /// What a line says.
 #[derive(Drop)]
 pub enum Said {
+    /// It has no words.
+    Blank,
     /// Nothing of blocks, of files or of what is wanted.
     Nothing,
     /// A file begins, of whose blocks so many replicas are wanted, where that is told.
@@ -19,6 +22,10 @@ pub enum Said {
     /// So many replicas are wanted of a block of this file.
     Wanted(u32),
     Block(BlockTold),
+    /// The summary begins.
+    Summary,
+    /// It is fsck's last line.
+    Last,
 }
 
 /// What the line of a block says of it, its places aside.
@@ -38,14 +45,32 @@ pub enum Refusal {
     /// It begins with the index of a block, and does not go on as a block's line.
     #[error("the line of a block that cannot be read")]
     NotABlock,
+    /// A word of a list that is no place, or places with something else than a comma and a space between them.
+    #[error("the places of the block cannot be read")]
+    NotPlaces,
+    #[error("the name, the length, the live replicas or the wanted ones are told twice")]
+    ToldTwice,
+    #[error("places of the block are told, and that there is none")]
+    PlaceAndNone,
+    #[error("the number of wanted replicas cannot be read")]
+    NotATarget,
+    #[error("two numbers of wanted replicas for one file")]
+    TwoTargets,
     #[error("the number of the block is below 0")]
     NegativeBlock,
     #[error("the file is erasure coded")]
     ErasureCoded,
     #[error("the block was named before")]
     NamedTwice,
+    #[error("two places of the block have one storage")]
+    StorageTwice,
     #[error("the number of wanted replicas is not between 1 and 16")]
     BadReplication,
+    /// What files hold behind the summary's first line, the last line before it, or anything behind the last line.
+    #[error("the line may not stand in this part of the text")]
+    OutOfPlace,
+    #[error("the text ends before the last line of fsck")]
+    CutOff,
 }
 
 /// The words of a line.
@@ -58,13 +83,28 @@ pub fn words_of(alloc: Global, line: &str) -> Result<Vec<Word<'_>>, AllocError>
         .collect(alloc)
 }
 
+/// What a line says, of which these are the words.
+pub fn line_said(line: &str, words: &[Word]) -> Result<Said, Refusal>
+    ensures { result ≡ line_said line.now words.now }
+{
+    if is_summary(line) {
+        return Ok(Said::Summary);
+    }
+    if is_last(line) {
+        return Ok(Said::Last);
+    }
+    said_by(words)
+}
+
 /// What a line of these words says.
-pub fn said_by(words: &[Word]) -> Result<Said, Refusal>
+fn said_by(words: &[Word]) -> Result<Said, Refusal>
     ensures { result ≡ said_by words.now }
 {
     match words {
+        [] => Ok(Said::Blank),
         [Word::Index, rest @ ..] => said_by_block(rest),
-        _ => said_by_other(words),
+        [Word::Under, rest @ ..] => said_by_problem(rest),
+        _ => said_by_heading(words),
     }
 }
 
@@ -76,8 +116,20 @@ fn said_by_block(words: &[Word]) -> Result<Said, Refusal>
     if told.is_negative {
         return Err(Refusal::NegativeBlock);
     }
+    if told.is_strange {
+        return Err(Refusal::NotABlock);
+    }
+    if told.is_twice {
+        return Err(Refusal::ToldTwice);
+    }
+    if !told.list.is_list() {
+        return Err(Refusal::NotPlaces);
+    }
+    if told.is_none && told.list.is_begun() {
+        return Err(Refusal::PlaceAndNone);
+    }
     match (told.name, told.len) {
-        (Some((id, generation)), Some(len)) if !told.is_strange => Ok(Said::Block(BlockTold {
+        (Some((id, generation)), Some(len)) => Ok(Said::Block(BlockTold {
             id,
             stamp: Stamp { generation, len },
             live: told.live,
@@ -86,19 +138,59 @@ fn said_by_block(words: &[Word]) -> Result<Said, Refusal>
     }
 }
 
-/// What any other line says.
-fn said_by_other(words: &[Word]) -> Result<Said, Refusal>
-    ensures { result ≡ said_by_other words.now }
+/// What a line says that tells of a problem, by the words behind its first.
+fn said_by_problem(words: &[Word]) -> Result<Said, Refusal>
+    ensures { result ≡ said_by_problem words.now }
+{
+    let told = LineSoFar::of(words);
+    if let Some(why) = fault_of(told) {
+        return Err(why);
+    }
+    Ok(match told.target {
+        Some(count) => Said::Wanted(count),
+        None => Said::Nothing,
+    })
+}
+
+/// What any other line says, which may be a heading.
+fn said_by_heading(words: &[Word]) -> Result<Said, Refusal>
+    ensures { result ≡ said_by_heading words.now }
 {
     let told = LineSoFar::of(words);
     if !told.is_heading {
-        return Ok(match told.target {
-            Some(count) => Said::Wanted(count),
-            None => Said::Nothing,
-        });
+        return Ok(Said::Nothing);
     }
     if told.is_erasure_coded {
         return Err(Refusal::ErasureCoded);
     }
+    if let Some(why) = fault_of(told) {
+        return Err(why);
+    }
+    if differ(told.replication, told.target) {
+        return Err(Refusal::TwoTargets);
+    }
     Ok(Said::Heading(told.replication.or(told.target)))
+}
+
+/// Why what a line tells of wanted replicas is not taken.
+fn fault_of(told: LineSoFar) -> Option<Refusal>
+    ensures { result ≡ fault_of told }
+{
+    if told.is_strange || told.awaits() {
+        return Some(Refusal::NotATarget);
+    }
+    if told.is_twice {
+        return Some(Refusal::ToldTwice);
+    }
+    None
+}
+
+/// Whether two numbers were told for one thing.
+pub fn differ(first: Option<u32>, second: Option<u32>) -> bool
+    ensures { result ≡ differ first second }
+{
+    match (first, second) {
+        (Some(a), Some(b)) => a != b,
+        _ => false,
+    }
 }

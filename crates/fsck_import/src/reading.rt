@@ -1,7 +1,7 @@
 // A whole text, from a reader.
 ghost use Rattle.std.specs.Prelude.{◌≡◌, Ok, Err, IfOk, IfErr, IfSome, OnOk, ◌⊎◌};
 ghost use Rattle.fsck_import.specs.Reading.{cluster_of, without_end, at_line, IsReadFault};
-ghost use Rattle.fsck_import.specs.Clusters.{after_bytes};
+ghost use Rattle.fsck_import.specs.Clusters.{after_bytes, at_end};
 
 use crate::cluster::Cluster;
 use crate::fault::{Fault, LineFault, Unread};
@@ -21,7 +21,7 @@ pub fn read_cluster<R: BufRead>(alloc: Global, reader: &mut R) -> Result<Cluster
     for number in 1..u64::MAX {
         line.clear();
         match reader.read_until(b'\n', &mut line) {
-            Ok(0) => return Ok(cluster),
+            Ok(0) => return ended(cluster, number),
             Ok(_) => {}
             Err(error) => return Err(read_fault(&error)),
         }
@@ -48,6 +48,17 @@ fn take_numbered(
         Ok(()) => Ok(()),
         Err(LineFault::Memory) => Err(Fault::Memory),
         Err(LineFault::Refused(why)) => Err(Fault::Refused(Unread { line: number, why })),
+    }
+}
+
+/// The cluster at the end of the text, where a line of this number would come next.
+fn ended(cluster: Cluster, number: u64) -> Result<Cluster, Fault>
+    ensures text { IfOk result (λ c. at_line number (at_end cluster) ≡ Ok c) }
+    ensures refused { IfErr result (λ f. IsReadFault f (at_line number (at_end cluster))) }
+{
+    match cluster.at_end() {
+        Ok(whole) => Ok(whole),
+        Err(why) => Err(Fault::Refused(Unread { line: number, why })),
     }
 }
 

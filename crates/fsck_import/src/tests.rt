@@ -77,6 +77,8 @@ const FEW_WORDS: &str = " 0. blk_5_1 len=10 repl=2 [10.3.1.1:50010, 10.3.1.2:500
  2. blk_7_1 len=10 Live_repl=0 []
  Under replicated blk_9_1. Target Replicas is 4 but found 2 replica(s).
  3. blk_9_1 len=10 repl=1 [/dc1/rack7/DatanodeInfoWithStorage[10.3.1.1:50010,DS-x,DISK]]
+Status: HEALTHY
+The filesystem under path '/two words' is HEALTHY
 ";
 
 const FEW_WORDS_LINES: &str = "{\"op\":\"register\",\"node\":1,\"rack\":1,\"storages\":[1,3]}
@@ -92,7 +94,7 @@ const FEW_WORDS_LINES: &str = "{\"op\":\"register\",\"node\":1,\"rack\":1,\"stor
 {\"op\":\"report\",\"storage\":3,\"blocks\":[[9,1,10]]}
 ";
 
-const REFUSED: [(&str, u64, Refusal); 5] = [
+const REFUSED: [(&str, u64, Refusal); 29] = [
     (
         "/a 12 bytes, 1 block(s):  OK\n0. blk_-2932_1001 len=12 repl=1 [10.4.1.1:50010]\n",
         2,
@@ -116,9 +118,131 @@ const REFUSED: [(&str, u64, Refusal); 5] = [
     (
         "0. blk_3_1 len=1 repl=1 [10.4.1.1:50010(LIVE)]\n",
         1,
-        Refusal::NotABlock,
+        Refusal::NotPlaces,
+    ),
+    (
+        "0. blk_3_1 len=1 repl=1 [DatanodeInfoWithStorage[10.4.1.1:9866,DS-a,DISK](CORRUPT)]\n",
+        1,
+        Refusal::NotPlaces,
+    ),
+    (
+        "0. blk_3_1 len=1 repl=1 [DatanodeInfoWithStorage[10.4.1.1:9866,DS-a,DISK(LIVE)]]\n",
+        1,
+        Refusal::NotPlaces,
+    ),
+    (
+        "0. blk_3_1 len=1 repl=2 [/r/10.4.1.1:9866/r/10.4.1.2:9866]\n",
+        1,
+        Refusal::NotPlaces,
+    ),
+    (
+        "0. blk_3_1 len=1 repl=2 [10.4.1.1:9866,10.4.1.2:9866]\n",
+        1,
+        Refusal::NotPlaces,
+    ),
+    (
+        "0. blk_3_1 len=1 repl=2 [10.4.1.1:9866] [10.4.1.2:9866]\n",
+        1,
+        Refusal::NotPlaces,
+    ),
+    (
+        "0. blk_3_1 len=1 repl=2 [10.4.1.1:9866, \n",
+        1,
+        Refusal::NotPlaces,
+    ),
+    (
+        "0. blk_3_1 len=1 repl=2 [/r/10.4.1.1:9866, /r/10.4.1.1:9866]\n",
+        1,
+        Refusal::StorageTwice,
+    ),
+    (
+        "0. blk_3_1 len=1 repl=2 [DatanodeInfoWithStorage[10.4.1.1:9866,DS-a,SSD], DatanodeInfoWithStorage[10.4.1.1:9866,DS-a,DISK]]\n",
+        1,
+        Refusal::StorageTwice,
+    ),
+    ("0. blk_3_1 blk_4_1 len=1 repl=1\n", 1, Refusal::ToldTwice),
+    ("0. blk_3_1 len=1 len=1\n", 1, Refusal::ToldTwice),
+    (
+        "0. blk_3_1 len=1 repl=1 Live_repl=2\n",
+        1,
+        Refusal::ToldTwice,
+    ),
+    (
+        "0. blk_3_1 len=1 repl=1 [10.4.1.1:9866] MISSING!\n",
+        1,
+        Refusal::PlaceAndNone,
+    ),
+    (
+        "/a 1 bytes, replicated: replication=3, replication=2, 1 block(s):  OK\n",
+        1,
+        Refusal::ToldTwice,
+    ),
+    (
+        "/a 1 bytes, 1 block(s):  Under replicated blk_3_1. Target Replicas is 3 and Target Replicas is 3\n",
+        1,
+        Refusal::ToldTwice,
+    ),
+    (
+        "Under replicated blk_3_1. Target Replicas is 4294967296 but found 2 replica(s)\n",
+        1,
+        Refusal::NotATarget,
+    ),
+    (
+        "/a 1 bytes, replicated: replication=3, 1 block(s):  Under replicated blk_3_1. Target Replicas is 2 but found 1\n",
+        1,
+        Refusal::TwoTargets,
+    ),
+    (
+        "/a 2 bytes, 2 block(s):  Under replicated blk_3_1. Target Replicas is 3 but found 1\n Under replicated blk_4_1. Target Replicas is 2 but found 1\n",
+        2,
+        Refusal::TwoTargets,
+    ),
+    (
+        "/a 1 bytes, replicated: replication=two, 1 block(s):  OK\n",
+        1,
+        Refusal::NotATarget,
+    ),
+    ("", 1, Refusal::CutOff),
+    (
+        "0. blk_3_1 len=1 repl=1\nStatus: HEALTHY\n Total size:\t1 B\n",
+        4,
+        Refusal::CutOff,
+    ),
+    (
+        "0. blk_3_1 len=1 repl=1\nStatus: HEALTHY\nThe filesystem under path '/' is HEALTH",
+        4,
+        Refusal::CutOff,
+    ),
+    (
+        "The filesystem under path '/' is HEALTHY\n",
+        1,
+        Refusal::OutOfPlace,
+    ),
+    (
+        "Status: CORRUPT\n0. blk_3_1 len=1 repl=1\n",
+        2,
+        Refusal::OutOfPlace,
+    ),
+    (
+        "Status: CORRUPT\nThe filesystem under path '/a' is CORRUPT\n\n/b <dir>\n",
+        4,
+        Refusal::OutOfPlace,
     ),
 ];
+
+/// The path of a file has words of a heading in it, which say nothing.
+const ODD_PATH: &str =
+    "/replication=9 Target 8 bytes, 1 block(s): x 5 bytes, replicated: replication=2, 1 block(s):  OK
+0. blk_5_1 len=5 Live_repl=1 [10.3.1.1:50010]
+Status: HEALTHY
+The filesystem under path '/' is HEALTHY
+";
+
+const ODD_PATH_LINES: &str = "{\"op\":\"register\",\"node\":1,\"rack\":1,\"storages\":[1]}
+{\"op\":\"heartbeat\",\"node\":1,\"remaining\":[[1,9]]}
+{\"op\":\"add\",\"id\":5,\"gen\":1,\"len\":5,\"repl\":2}
+{\"op\":\"report\",\"storage\":1,\"blocks\":[[5,1,5]]}
+";
 
 /// The lines that are written for a text, and the table of names.
 fn imported(alloc: Global, text: &str, remaining: u64) -> Result<(Vec<u8>, Vec<u8>), Fault> {
@@ -141,6 +265,13 @@ fn a_text_of_hadoop_3_with_storages(rt: HostRuntime) -> Result<(), Fail> {
 fn lines_of_blocks_alone_with_less_and_less_told(rt: HostRuntime) -> Result<(), Fail> {
     let (lines, _) = imported(rt.alloc(), FEW_WORDS, 1_099_511_627_776)?;
     assert!(rt; lines.as_slice() == FEW_WORDS_LINES.as_bytes());
+    Ok(())
+}
+
+#[test]
+fn a_path_with_words_of_a_heading(rt: HostRuntime) -> Result<(), Fail> {
+    let (lines, _) = imported(rt.alloc(), ODD_PATH, 9)?;
+    assert!(rt; lines.as_slice() == ODD_PATH_LINES.as_bytes());
     Ok(())
 }
 

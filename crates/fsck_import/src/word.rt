@@ -1,9 +1,10 @@
 // What a word of the text says by itself.
 ghost use Rattle.std.specs.Prelude.{◌≡◌, option_map, map};
-ghost use Rattle.fsck_import.specs.Words.{fixed_word, valued_word, name_part, block_named, is_index, other_word, word_of};
+ghost use Rattle.fsck_import.specs.Words.{fixed_word, valued_word, name_part, block_named, is_index, listed_word, other_word, word_of};
 
 use crate::cuts::{cut_at, number_of, small_number_of};
-use crate::place::{Place, before_mark, place_of};
+use crate::place::{before_mark, place_of};
+use crate::place_list::{Listed, ended, opened};
 use bm_base::{BlockId, Gen};
 
 /// What a word says, wherever it stands.
@@ -19,17 +20,28 @@ pub enum Word<'a> {
     Length(u64),
     /// How many replicas are live.
     Live(u32),
-    Place(Place<'a>),
+    /// A place in the list of a block's places.
+    Place(Listed<'a>),
+    /// A word that ends as one of such a list, and is no place.
+    NotAPlace,
     /// `MISSING!` and `[]`, by which a block's line says that no place is known.
     NoPlace,
     /// How many replicas of a file's blocks are wanted, as its heading says.
     Replication(u32),
+    /// What should say that, and does not.
+    NotANumber,
     /// The file is in cells, not in replicas.
     ErasureCoded,
     /// `block(s):`, by which a line is the heading of a file.
     Heading,
+    /// `bytes,`, which ends the path and the length of a file in its heading.
+    Bytes,
+    /// `Under`, with which a line begins that tells of a block with too few replicas.
+    Under,
     /// `Target`, behind which the wanted number of replicas comes.
     Target,
+    /// `Replicas` and `is`, which stand between `Target` and its number.
+    Joining,
     Number(u32),
     Other,
 }
@@ -58,7 +70,10 @@ fn fixed_word(word: &str) -> Option<Word<'_>>
         "MISSING!" | "[]" => Some(Word::NoPlace),
         "erasure-coded:" => Some(Word::ErasureCoded),
         "block(s):" | "block(s)," => Some(Word::Heading),
+        "bytes," => Some(Word::Bytes),
+        "Under" => Some(Word::Under),
         "Target" => Some(Word::Target),
+        "Replicas" | "is" => Some(Word::Joining),
         _ => None,
     }
 }
@@ -78,7 +93,7 @@ fn valued_word<'a>(key: &'a str, value: &'a str) -> Word<'a>
         },
         "replication" => match small_number_of(before_mark(value, ',')) {
             Some(count) => Word::Replication(count),
-            None => Word::Other,
+            None => Word::NotANumber,
         },
         _ => Word::Other,
     }
@@ -119,7 +134,23 @@ fn is_index(word: &str) -> bool
     }
 }
 
-/// An index, a number, a place, or anything else.
+/// A word of a list of places, if it ends as one.
+fn listed_word(word: &str) -> Option<Word<'_>>
+    ensures { result ≡ listed_word word.now }
+{
+    let (rest, opens) = opened(word);
+    let (text, closes) = ended(rest)?;
+    match place_of(text) {
+        Some(place) => Some(Word::Place(Listed {
+            place,
+            opens,
+            closes,
+        })),
+        None => Some(Word::NotAPlace),
+    }
+}
+
+/// An index, a number, a word of a list, or anything else.
 fn other_word(word: &str) -> Word<'_>
     ensures { result ≡ other_word word.now }
 {
@@ -129,8 +160,8 @@ fn other_word(word: &str) -> Word<'_>
     if let Some(number) = small_number_of(word) {
         return Word::Number(number);
     }
-    match place_of(word) {
-        Some(place) => Word::Place(place),
+    match listed_word(word) {
+        Some(said) => said,
         None => Word::Other,
     }
 }
