@@ -3,7 +3,7 @@ use Rattle.std.specs.Prelude.{nat_le, nat_lt, slice_get, option_and_then}
 use Rattle.std.specs.Option.{option_map_or}
 use Rattle.std.specs.Ordering.{eq_by_cmp, nat_cmp}
 use Rattle.std.proofs.lemmas.Bool.Decides.{nat_tests}
-use Rattle.std.proofs.Common.{◌≡◌, ◌≤◌, ◌<◌, ◌-◌, ◌+◌, ℕ, zero, suc, Bool, true, false, cond, List, [], ◌∷◌, take, drop, length, true≢false, Option, Some, None, refl, inl, inr, sym, ap, subst, ◌∙◌, arith}
+use Rattle.std.proofs.Common.{◌≡◌, ◌≤◌, ◌<◌, ◌-◌, ℕ, zero, suc, Bool, true, false, cond, List, [], ◌∷◌, take, drop, length, true≢false, Option, Some, None, refl, inl, inr, sym, ap, subst, ◌∙◌, arith}
 use Rattle.std.proofs.lemmas.Option.{same_Some, slice_get_within}
 use Rattle.bm_base.specs.Map.{Map, by_number, get, insert}
 use Rattle.bm_base.proofs.MapLaws.{get-insert}
@@ -11,7 +11,7 @@ use Rattle.bm_base.proofs.Maps.{same_key, key_itself}
 use Rattle.bm_place.specs.declared.seats.Seat.{Seat}
 use Rattle.bm_place.specs.declared.spans.Span.{Span}
 use Rattle.bm_place.specs.Foremost.{IsAmong}
-use Rattle.bm_place.specs.Spans.{IsWithin, AreSpannedTo, AreSpanned, widened, with_place}
+use Rattle.bm_place.specs.Spans.{IsWithin, IsEndOf, AreSpannedTo, AreSpanned, widened, with_places}
 
 -- Elements and places.
 
@@ -44,51 +44,45 @@ all_within seats spans node s is spanned e h on = let p = place_among seats e h 
     by None is i here on = cc
     by (Some n) is i here on = let w = subst (IsWithin i) is (spanned i e n here on) in among_range seats s.from s.to i e here w.0 w.1
 
--- Spans that are made storage by storage.
+-- Spans that are made by the storages that stand side by side.
 
-within_widened : (o : Option Span) (i k : ℕ) → i ≤ k → (i < k → IsWithin i o) → IsWithin i (Some (widened o k))
-within_widened None i k most before = (by (nat_lt i k) refl, omega arith)
+within_widened : (o : Option Span) (i from to : ℕ) → i < to → (i < from → IsWithin i o) → IsWithin i (Some (widened o from to))
+within_widened None i from to less before = (by (nat_lt i from) refl, less)
   where
-    by : (b : Bool) → nat_lt i k ≡ b → k ≤ i
+    by : (b : Bool) → nat_lt i from ≡ b → from ≤ i
     by true e = absurd (before (grind (arith, nat_tests)))
     by false e = grind (arith, nat_tests)
-within_widened (Some s) i k most before = (by (nat_le s.from k) refl (nat_lt i k) refl, omega arith)
+within_widened (Some s) i from to less before = (by (nat_le s.from from) refl (nat_lt i from) refl, less)
   where
-    by : (b : Bool) → nat_le s.from k ≡ b → (u : Bool) → nat_lt i k ≡ u → cond b s.from k ≤ i
-    by true e true f = let less : i < k = grind (arith, nat_tests) in (before less).0
+    by : (b : Bool) → nat_le s.from from ≡ b → (u : Bool) → nat_lt i from ≡ u → cond b s.from from ≤ i
+    by true e true f = let less : i < from = grind (arith, nat_tests) in (before less).0
     by true e false f = grind (arith, nat_tests)
-    by false e true f = let less : i < k = grind (arith, nat_tests) in let w = before less in grind (arith, nat_tests)
+    by false e true f = let less : i < from = grind (arith, nat_tests) in let w = before less in grind (arith, nat_tests)
     by false e false f = grind (arith, nat_tests)
 
-same_seat : (seats : List Seat) (i k : ℕ) (e seat : Seat) → slice_get seats i ≡ Some e → slice_get seats k ≡ Some seat → i ≡ k → e ≡ seat
-same_seat seats i k e seat there is same = same_Some e seat (sym there ∙ ap (slice_get seats) same ∙ is)
-
-pub spanned_more : (k : ℕ) (seats : List Seat) (spans : Map by_number Span) (seat : Seat) → slice_get seats k ≡ Some seat → AreSpannedTo k seats spans → AreSpannedTo (k + 1) seats (with_place spans seat.node k)
-spanned_more k seats spans seat is spanned i e n less there on = by seat.node refl (nat_lt i k) refl
+pub spanned_more : (from to : ℕ) (seats : List Seat) (spans : Map by_number Span) (seat : Seat) → slice_get seats from ≡ Some seat → IsEndOf seats from to → AreSpannedTo from seats spans → AreSpannedTo to seats (with_places spans seat.node from to)
+spanned_more from to seats spans seat is end spanned i e n less there on = by seat.node refl (nat_lt i from) refl
   where
-    node_at : i ≡ k → (o : Option ℕ) → seat.node ≡ o → Some n ≡ o
-    node_at same o at = sym on ∙ ap (λ (e : Seat). e.node) (same_seat seats i k e seat there is same) ∙ at
-
-    at_end : nat_lt i k ≡ false → i ≡ k
-    at_end f = grind (arith, nat_tests)
-
-    before : nat_lt i k ≡ true → i < k
+    before : nat_lt i from ≡ true → i < from
     before f = grind (arith, nat_tests)
 
-    inserted : (m : ℕ) (b : Bool) → eq_by_cmp nat_cmp n m ≡ b → seat.node ≡ Some m → IsWithin i (cond b (Some (widened (get spans m) k)) (get spans n))
-    inserted m true same at = within_widened (get spans m) i k (omega arith) (λ f. subst (λ n. IsWithin i (get spans n)) (same_key by_number n m same) (spanned i e n f there on))
-    inserted m false other at = behind (nat_lt i k) refl
+    node_at : nat_lt i from ≡ false → (o : Option ℕ) → seat.node ≡ o → Some n ≡ o
+    node_at f o at = let most : from ≤ i = grind (arith, nat_tests) in sym on ∙ end.same i e seat most less is there ∙ at
+
+    inserted : (m : ℕ) (b : Bool) → eq_by_cmp nat_cmp n m ≡ b → seat.node ≡ Some m → IsWithin i (cond b (Some (widened (get spans m) from to)) (get spans n))
+    inserted m true same at = within_widened (get spans m) i from to less (λ f. subst (λ n. IsWithin i (get spans n)) (same_key by_number n m same) (spanned i e n f there on))
+    inserted m false other at = behind (nat_lt i from) refl
       where
-        behind : (u : Bool) → nat_lt i k ≡ u → IsWithin i (get spans n)
+        behind : (u : Bool) → nat_lt i from ≡ u → IsWithin i (get spans n)
         behind true f = spanned i e n (before f) there on
         behind false f =
-            let same = same_Some n m (node_at (at_end f) (Some m) at) in
+            let same = same_Some n m (node_at f (Some m) at) in
             absurd (true≢false (sym (key_itself by_number n) ∙ ap (eq_by_cmp nat_cmp n) same ∙ other))
 
-    by : (o : Option ℕ) → seat.node ≡ o → (u : Bool) → nat_lt i k ≡ u → IsWithin i (get (option_map_or (λ n. insert spans n (widened (get spans n) k)) o spans) n)
+    by : (o : Option ℕ) → seat.node ≡ o → (u : Bool) → nat_lt i from ≡ u → IsWithin i (get (option_map_or (λ n. insert spans n (widened (get spans n) from to)) o spans) n)
     by None at true f = spanned i e n (before f) there on
-    by None at false f = let none = node_at (at_end f) None at in cc
-    by (Some m) at u f = subst (IsWithin i) (sym (get-insert spans m (widened (get spans m) k) n)) (inserted m (eq_by_cmp nat_cmp n m) refl at)
+    by None at false f = let none = node_at f None at in cc
+    by (Some m) at u f = subst (IsWithin i) (sym (get-insert spans m (widened (get spans m) from to) n)) (inserted m (eq_by_cmp nat_cmp n m) refl at)
 
 -- none is left behind the last
 pub all_spanned : (k : ℕ) (seats : List Seat) (spans : Map by_number Span) → length seats ≤ k → AreSpannedTo k seats spans → AreSpanned seats spans

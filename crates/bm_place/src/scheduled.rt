@@ -124,6 +124,7 @@ fn rows_of(alloc: Global, topology: &Topology) -> Result<NumberMap<Target>, Allo
     ensures { IfOk result (λ rows. rows.map ≡ targets.target_table topology.now.cluster (λ _. 0)) }
 {
     let mut rows = NumberMap::new(alloc);
+    rows.reserve(topology.storage_count() as usize)?;
     for place in 0..topology.storage_count() {
         let Some(storage) = topology.storage_at(place) else {
             return Ok(rows);

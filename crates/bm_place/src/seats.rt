@@ -27,7 +27,7 @@ pub fn seats_of(alloc: Global, rows: &[(u64, Target)]) -> Result<Vec<Seat>, Allo
 fn listed(alloc: Global, rows: &[(u64, Target)]) -> Result<Vec<Seat>, AllocError>
     ensures { IfOk result (λ v. v.items ≡ map (λ e. seating.seat_of e.1) rows.now) }
 {
-    let mut seats = Vec::new(alloc);
+    let mut seats = Vec::with_capacity(alloc, rows.len())?;
     for row in rows {
         seats.push(Seat {
             node: row.1.node,

@@ -1,5 +1,5 @@
 // Where the storages of each node stand among all.
-ghost use Rattle.std.specs.Prelude.{◌≡◌, ◌<◌, IfOk, OnOk, option_and_then};
+ghost use Rattle.std.specs.Prelude.{◌≡◌, ◌<◌, length, IfOk, OnOk, option_and_then};
 ghost use Rattle.bm_base.specs.Map as table;
 ghost use Rattle.bm_place.specs.Foremost.{IsAmong};
 ghost use Rattle.bm_place.specs.Spans as places;
@@ -16,43 +16,62 @@ pub struct Span {
     pub to: usize,
 }
 
-/// The places from the first storage of each node to its last. Goes over the storages once, by two look-ups each.
+/// The places from the first storage of each node to its last. Goes over the storages once, by two look-ups where those of another
+/// node begin.
 pub fn spans_of(alloc: Global, seats: &[Seat]) -> Result<NumberMap<Span>, AllocError>
     ensures { IfOk result (λ m. places.AreSpanned seats.now m.map) }
 {
     let mut spans = NumberMap::new(alloc);
-    for place in 0..seats.len() {
-        enter(&mut spans, seats[place].node, place)?;
+    let mut from = 0;
+    while from < seats.len() {
+        let to = end_of(seats, from);
+        enter(&mut spans, seats[from].node, from, to)?;
+        from = to;
     }
     Ok(spans)
 }
 
-/// Enters the place of a storage of this node, behind those so far; nothing for one with no node.
-fn enter(spans: &mut NumberMap<Span>, node: Option<NodeId>, place: usize) -> Result<(), AllocError>
-    requires { place < usize.MAX }
-    ensures { OnOk result (spans.new.map ≡ places.with_place spans.old.map node place) }
+/// The place behind the storages of one node that stand side by side from this place on.
+fn end_of(seats: &[Seat], from: usize) -> usize
+    requires { from < length seats.now }
+    ensures { places.IsEndOf seats.now from result }
+{
+    let node = seats[from].node;
+    let mut to = from + 1;
+    while to < seats.len() && seats[to].node == node {
+        to += 1;
+    }
+    to
+}
+
+/// Enters the places of storages of this node, behind those so far; nothing for ones with no node.
+fn enter(
+    spans: &mut NumberMap<Span>,
+    node: Option<NodeId>,
+    from: usize,
+    to: usize,
+) -> Result<(), AllocError>
+    ensures { OnOk result (spans.new.map ≡ places.with_places spans.old.map node from to) }
 {
     match node {
         Some(node) => {
-            let span = widened(spans.get(u64::from(node.0)), place);
+            let span = widened(spans.get(u64::from(node.0)), from, to);
             spans.insert(u64::from(node.0), span)
         }
         None => Ok(()),
     }
 }
 
-/// A span with one place more, behind it, or of that place alone.
-fn widened(span: Option<Span>, place: usize) -> Span
-    requires { place < usize.MAX }
-    ensures { result ≡ places.widened span place }
+/// A span with further places, behind it, or of these places alone.
+fn widened(span: Option<Span>, from: usize, to: usize) -> Span
+    ensures { result ≡ places.widened span from to }
 {
-    let from = match span {
-        Some(span) if span.from <= place => span.from,
-        _ => place,
-    };
-    Span {
-        from,
-        to: place + 1,
+    match span {
+        Some(span) if span.from <= from => Span {
+            from: span.from,
+            to,
+        },
+        _ => Span { from, to },
     }
 }
 
