@@ -1,5 +1,5 @@
 -- One transfer more leaves a table of storages and its foremost targets true.
-use Rattle.std.specs.Prelude.{◌⊎◌, ◌+◌, ◌==◌, option_map, position, slice_get}
+use Rattle.std.specs.Prelude.{◌⊎◌, ◌+◌, ◌==◌, option_map, filter_map, position, slice_get}
 use Rattle.std.specs.Option.{IfSome}
 use Rattle.std.specs.Ordering.{eq_by_cmp, nat_cmp}
 use Rattle.std.proofs.Common.{◌≡◌, ◌≤◌, ℕ, Bool, true, false, cond, List, get_or, Option, Some, None, refl, inl, inr, sym, ap, subst, ◌∙◌, arith, true≢false}
@@ -12,12 +12,14 @@ use Rattle.bm_base.proofs.Maps.{get_revised}
 use Rattle.bm_base.proofs.Ties.{number_tie}
 use Rattle.bm_base.proofs.Replacing.{no_change}
 use Rattle.bm_place.specs.declared.scheduled.Target.{Target}
+use Rattle.bm_place.specs.declared.seats.Seat.{Seat}
 use Rattle.bm_place.specs.Targets.{room_on}
+use Rattle.bm_place.specs.Seats.{seat_of, AreSeated}
 use Rattle.bm_place.specs.Scan.{scan}
 use Rattle.bm_place.specs.Foremost.{IsAmong, IsKept, StandsFor, are_alike, goes_before, cmp_alike, put_back}
 use Rattle.bm_place.proofs.Alike.{IsLike, like, alike, like_back, like_then, like_itself, less_room, ranks}
 use Rattle.bm_place.proofs.Scanning.{found}
-use Rattle.bm_place.proofs.Keeping.{rows_of, row_among, among_rows}
+use Rattle.bm_place.proofs.Seating.{made_among, of_made}
 use Rattle.bm_place.proofs.Entering.{none_passes}
 use Rattle.bm_place.proofs.Ordered.{without, among_put, put_among, of_without, here_or_without, among_at, apart_without, only_alike, put_in_order}
 
@@ -30,7 +32,7 @@ module _ (rows : Map by_number Target) (target len : ℕ) where
   added = revise_at rows target (sent_more len)
 
   -- what a row was before
-  row_before : (s : ℕ) (t : Target) → get added s ≡ Some t → (x : Target) × (get rows s ≡ Some x) × (cond (s == target) (sent_more len x) x ≡ t)
+  pub row_before : (s : ℕ) (t : Target) → get added s ≡ Some t → (x : Target) × (get rows s ≡ Some x) × (cond (s == target) (sent_more len x) x ≡ t)
   unfolding revise_at
   row_before s t is =
       let h = get_revised rows (λ q x. cond (eq_by_cmp nat_cmp q target) (sent_more len x) x) s t is in
@@ -99,15 +101,15 @@ module _ (rows : Map by_number Target) (target len : ℕ) where
           };
     }
 
-    module _ (place : ℕ) (row old best : Target) (there : get added target ≡ Some row) (at : slice_get cs place ≡ Some old) (of_target : old.storage ≡ target) (ts : List Target) (part : (t : Target) → IsAmong ts t → IsAmong (rows_of added) t)
-        (all : (t : Target) → IsAmong (rows_of added) t → are_alike t row ≡ true → IsAmong ts t) (is : scan cmp_alike (λ c. are_alike c row) (Some row) ts ≡ Some best) where
+    module _ (place : ℕ) (row old best : Target) (there : get added target ≡ Some row) (at : slice_get cs place ≡ Some old) (of_target : old.storage ≡ target) (ts : List Target) (part : (t : Target) → IsAmong ts t → get added t.storage ≡ Some t)
+        (all : (s : ℕ) (t : Target) → get added s ≡ Some t → are_alike t row ≡ true → IsAmong ts t) (is : scan cmp_alike (λ c. are_alike c row) (Some row) ts ≡ Some best) where
       facts : (row ≡ best) ⊎ IsAmong ts best
       facts = (found (λ c. are_alike c row) row best ts is).among
 
       best_known : get added best.storage ≡ Some best
       best_known = elim facts [
         | inl e ↦ ap (λ (t : Target). get added t.storage) (sym e) ∙ ap (get added) (at_storage target row there) ∙ there ∙ ap Some e
-        | inr among ↦ among_rows added at_storage best (part best among)
+        | inr among ↦ part best among
       ]
 
       best_like : IsLike best row
@@ -117,7 +119,7 @@ module _ (rows : Map by_number Target) (target len : ℕ) where
       stood_for_by_best : (s : ℕ) (t : Target) → get added s ≡ Some t → IsLike t row → StandsFor best t
       stood_for_by_best s t e h = record {
         alike = alike best t (like_then best row t best_like (like_back t row h));
-        before = (found (λ c. are_alike c row) row best ts is).all t (all t (row_among added s t e) (alike t row h)) (alike t row h);
+        before = (found (λ c. are_alike c row) row best ts is).all t (all s t e (alike t row h)) (alike t row h);
       }
 
       old_among : IsAmong cs old
@@ -179,18 +181,42 @@ module _ (rows : Map by_number Target) (target len : ℕ) where
             };
       }
 
--- the same of what is equal to these
-pub kept_renewed : (old new : Map by_number Target) (target len : ℕ) (cs ds ts : List Target) (row best : Target) (place : ℕ) → IsKept old cs → IfSome (get old target) (λ t. len + t.scheduled ≤ t.remaining)
-    → new ≡ revise_at old target (sent_more len) → get new target ≡ Some row → position (λ c. c.storage == target) cs ≡ Some place → ((t : Target) → IsAmong ts t → IsAmong (rows_of new) t)
-    → ((t : Target) → IsAmong (rows_of new) t → are_alike t row ≡ true → IsAmong ts t) → scan cmp_alike (λ c. are_alike c row) (Some row) ts ≡ Some best → ds ≡ put_back best place cs → IsKept new ds
-kept_renewed old new target len cs ds ts row best place kept fits made there placed part all is put =
-    let at_row = ap (λ m. get m target) (sym made) ∙ there in
-    let part = subst (λ m. (t : Target) → IsAmong ts t → IsAmong (rows_of m) t) made part in
-    let all = subst (λ m. (t : Target) → IsAmong (rows_of m) t → are_alike t row ≡ true → IsAmong ts t) made all in
+  -- the storages stay where they are seated
+  pub seated_added : (seats : List Seat) → AreSeated rows seats → AreSeated added seats
+  seated_added seats seated s t is = let h = row_before s t is in subst (λ t. IsAmong seats (seat_of t)) h.2 (by (s == target) h.0 (seated s h.0 h.1))
+    where
+      by : (b : Bool) (x : Target) → IsAmong seats (seat_of x) → IsAmong seats (seat_of (cond b (sent_more len x) x))
+      by true x h = h
+      by false x h = h
+
+-- the same of what is equal to these, where the best is sought among the storages of the node
+pub kept_renewed : (old new : Map by_number Target) (target len : ℕ) (cs ds : List Target) (seats near : List Seat) (row best : Target) (place : ℕ) → IsKept old cs → IfSome (get old target) (λ t. len + t.scheduled ≤ t.remaining)
+    → new ≡ revise_at old target (sent_more len) → get new target ≡ Some row → position (λ c. c.storage == target) cs ≡ Some place → AreSeated new seats → ((e : Seat) → IsAmong seats e → e.node ≡ row.node → IsAmong near e)
+    → scan cmp_alike (λ c. are_alike c row) (Some row) (filter_map (λ e. get new e.storage) near) ≡ Some best → ds ≡ put_back best place cs → IsKept new ds
+kept_renewed old new target len cs ds seats near row best place kept fits made there placed seated nearby is put =
     let p = position-Some (λ (c : Target). c.storage == target) cs place row placed in
     let c = get_or cs place row in
     subst (λ m. IsKept m ds) (sym made)
-    (subst (IsKept (added old target len)) (sym put) (kept_added old target len cs kept fits place row c best at_row (slice_get-get_or cs place row p.0) (eqb-true c.storage target p.1) ts part all is))
+    (subst (IsKept (added old target len)) (sym put) (kept_added old target len cs kept fits place row c best (ap (λ m. get m target) (sym made) ∙ there) (slice_get-get_or cs place row p.0) (eqb-true c.storage target p.1) ts part all (ap (λ m. scan cmp_alike (λ c. are_alike c row) (Some row) (filter_map (λ (e : Seat). get m e.storage) near)) (sym made) ∙ is)))
+  where
+    rows : Map by_number Target
+    rows = added old target len
+
+    ts : List Target
+    ts = filter_map (λ (e : Seat). get rows e.storage) near
+
+    stands_at : (s : ℕ) (t : Target) → get rows s ≡ Some t → t.storage ≡ s
+    stands_at s t e = at_storage old target len cs kept fits s t e
+
+    part : (t : Target) → IsAmong ts t → get rows t.storage ≡ Some t
+    part t h =
+        let e = of_made (λ (e : Seat). get rows e.storage) near t h in
+        ap (get rows) (stands_at e.0.storage t e.1) ∙ e.1
+
+    all : (s : ℕ) (t : Target) → get rows s ≡ Some t → are_alike t row ≡ true → IsAmong ts t
+    all s t e same =
+        let seat = subst (λ m. AreSeated m seats) made seated s t e in
+        made_among (λ (e : Seat). get rows e.storage) near (seat_of t) t (nearby (seat_of t) seat (like t row same).node) (ap (get rows) (stands_at s t e) ∙ e)
 
 -- where the target is not among the foremost, or is unknown
 pub kept_same : (old new : Map by_number Target) (target len : ℕ) (cs : List Target) → IsKept old cs → IfSome (get old target) (λ t. len + t.scheduled ≤ t.remaining) → new ≡ revise_at old target (sent_more len)

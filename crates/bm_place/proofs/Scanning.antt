@@ -1,10 +1,11 @@
 -- A scan that starts from a target ends at one that goes before all that pass.
 use Rattle.std.specs.Prelude.{◌⊎◌}
-use Rattle.std.proofs.Common.{◌≡◌, Bool, true, false, cond, ◌&&◌, List, [], ◌∷◌, Some, refl, inl, inr, sym, ap, subst, ◌∙◌}
+use Rattle.std.specs.List.{cons_option}
+use Rattle.std.proofs.Common.{◌≡◌, Bool, true, false, cond, ◌&&◌, List, [], ◌∷◌, Option, Some, None, refl, inl, inr, sym, ap, subst, ◌∙◌}
 use Rattle.std.proofs.lemmas.Option.{same_Some}
 use Rattle.bm_place.specs.declared.scheduled.Target.{Target}
 use Rattle.bm_place.specs.Scan.{scan}
-use Rattle.bm_place.specs.Foremost.{IsAmong, cmp_alike, goes_before}
+use Rattle.bm_place.specs.Foremost.{IsAmong, are_alike, better_of, cmp_alike, goes_before}
 use Rattle.bm_place.proofs.Alike.{ranks, not_before_itself}
 
 module _ (p : Target → Bool) where
@@ -50,3 +51,12 @@ module _ (p : Target → Bool) where
       by true true e f is with_x with_b = taken b x r xs e f (with_x is)
       by true false e f is with_x with_b = passed_by b x r xs (λ _. f) (with_b is)
       by false u e f is with_x with_b = passed_by b x r xs (λ t. cc) (with_b is)
+
+-- with one more, which may be missing
+pub scan-more : (t b : Target) (o : Option Target) (xs : List Target) → scan cmp_alike (λ c. are_alike c t) (Some b) (cons_option o xs) ≡ scan cmp_alike (λ c. are_alike c t) (Some (better_of b t o)) xs
+scan-more t b None xs = refl
+scan-more t b (Some c) xs = ap (λ o. scan cmp_alike (λ c. are_alike c t) o xs) (by (are_alike c t && goes_before c b))
+  where
+    by : (u : Bool) → cond u (Some c) (Some b) ≡ Some (cond u c b)
+    by true = refl
+    by false = refl

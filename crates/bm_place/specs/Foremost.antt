@@ -29,6 +29,11 @@ goes_before s t = is_lt (cmp_alike s t)
 abbrev pub better : Target → Target → Target
 better s t = if goes_before s t then s else t
 
+-- another than the best so far, if it is like the target and goes before the best; else that
+abbrev pub better_of : Target → Target → Option Target → Target
+better_of best t None = best
+better_of best t (Some c) = if are_alike c t && goes_before c best then c else best
+
 -- the first targets of the nodes, by node, with a target of node n more, where c is the one so far
 abbrev pub first_at : Map by_number Target → ℕ → Target → Option Target → Map by_number Target
 first_at firsts n t None = insert firsts n t

@@ -10,4 +10,5 @@ pub mod Few
 pub mod Standing
 pub mod Candidates
 pub mod Foremost
+pub mod Seats
 pub mod Spans

@@ -1,11 +1,12 @@
 // The targets that go before the others of their nodes.
-ghost use Rattle.std.specs.Prelude.{◌≡◌, ◌<◌, ◌==◌, not, [], map, length, Some, position, IfOk, OnOk};
+ghost use Rattle.std.specs.Prelude.{◌≡◌, ◌<◌, ◌==◌, not, [], map, filter_map, length, Some, position, IfOk, OnOk};
 ghost use Rattle.bm_base.specs.Map as table;
 ghost use Rattle.bm_place.specs.Foremost as nodes;
 ghost use Rattle.bm_place.specs.Scan as scanned;
 ghost use Rattle.bm_place.specs.Targets as targets;
 
 use crate::scheduled::Target;
+use crate::seats::Seat;
 use bm_base::{NumberMap, StorageId};
 use std::alloc::{AllocError, Global};
 
@@ -73,18 +74,26 @@ fn place_for(foremost: &[Target], target: &Target) -> Option<usize>
         .position(|other| !goes_before(other, target))
 }
 
-/// Of a target and the rows of its node the one that goes before the others. Goes over the rows once.
-pub fn foremost_beside(target: Target, rows: &[(u64, Target)]) -> Target
-    ensures { scanned.scan nodes.cmp_alike
-        (λ c. nodes.are_alike c target) (Some target) (map (λ e. e.1) rows.now) ≡ Some result }
+/// Of a target and the rows of some storages the one of the target's node that goes before the others. Looks up each storage once.
+pub fn foremost_beside(target: Target, rows: &NumberMap<Target>, near: &[Seat]) -> Target
+    ensures { scanned.scan nodes.cmp_alike (λ c. nodes.are_alike c target) (Some target)
+        (filter_map (λ e. table.get rows.now.map e.storage) near.now) ≡ Some result }
 {
     let mut best = target;
-    for row in rows {
-        if are_alike(&row.1, &target) && goes_before(&row.1, &best) {
-            best = row.1;
-        }
+    for seat in near {
+        best = better_of(&best, &target, rows.get(u64::from(seat.storage.0)));
     }
     best
+}
+
+/// The other one, if it is of the target's node and goes before the best so far; else that.
+fn better_of(best: &Target, target: &Target, other: Option<Target>) -> Target
+    ensures { result ≡ nodes.better_of best.now target.now other }
+{
+    match other {
+        Some(other) if are_alike(&other, target) && goes_before(&other, best) => other,
+        _ => *best,
+    }
 }
 
 /// The place of the target of this storage.

@@ -10,6 +10,7 @@ mod excess;
 mod few;
 mod foremost;
 mod scheduled;
+mod seats;
 mod source;
 mod spans;
 mod standing;

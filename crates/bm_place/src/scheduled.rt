@@ -10,11 +10,13 @@ ghost use Rattle.bm_base.specs.Transfers as transfers;
 ghost use Rattle.bm_place.specs.Targets as targets;
 ghost use Rattle.bm_place.specs.Found.{HasRoomFor, with_sent, targets_with};
 ghost use Rattle.bm_place.specs.Foremost.{AreForemost, IsKept};
+ghost use Rattle.bm_place.specs.Seats.{AreSeated};
 ghost use Rattle.bm_place.specs.Spans.{AreSpanned};
 ghost use Rattle.bm_place.specs.declared.scheduled.Target.{Target};
 
 use crate::foremost::{foremost_beside, foremost_of, place_of, put_back};
-use crate::spans::{Span, rows_near, spans_of};
+use crate::seats::{Seat, seats_of};
+use crate::spans::{Span, seats_near, spans_of};
 use bm_base::{NodeId, NumberMap, Rack, Refusal, StorageId};
 use bm_topo::Topology;
 use std::alloc::{AllocError, Global};
@@ -42,7 +44,9 @@ pub struct Scheduled {
     /// Of the storages of each node the one with most room, and of these the least: no other is the target of a copy. They stand in
     /// this order too, so that the first that will do is the target.
     foremost: Vec<Target>,
-    /// By node: between which places of the rows all its storages stand.
+    /// All storages, those of a node side by side.
+    seats: Vec<Seat>,
+    /// By node: between which places of these all its storages stand.
     spans: NumberMap<Span>,
 }
 
@@ -60,12 +64,12 @@ impl Model for Scheduled {
 
     ghost use Rattle.bm_place.specs.Spans.{IsIndexed};
 
-    ghost invariant = { λ s. IsIndexed s.rows.map s.foremost.items s.spans.map };
+    ghost invariant = { λ s. IsIndexed s.rows.map s.foremost.items s.seats.items s.spans.map };
 }
 
 impl Scheduled {
     /// Nothing is sent yet to any storage of the cluster. `Memory` where a growth of the tables is refused. Goes over the
-    /// storages of the cluster once, by a few look-ups each, and sorts one of each node.
+    /// storages of the cluster once, by a few look-ups each, and sorts them by their nodes, and one of each node by room.
     pub fn new(alloc: Global, topology: &Topology) -> Result<Scheduled, Refusal>
         ensures none_yet { IfOk result
             (λ t. t ≡ targets.target_table topology.now.cluster (λ _. 0)) }
@@ -75,18 +79,19 @@ impl Scheduled {
         let rows = rows_of(alloc, topology)?;
         let listed = rows.entries();
         let foremost = foremost_of(alloc, listed)?;
-        let spans = spans_of(alloc, listed)?;
+        let seats = seats_of(alloc, listed)?;
+        let spans = spans_of(alloc, &seats)?;
         Ok(Scheduled {
             rows,
             foremost,
+            seats,
             spans,
         })
     }
 
     /// Counts `len` bytes more as sent to `target`, which has room for them, as what [`least_target`](crate::least_target) just
-    /// found for this length; nothing for an unknown storage. A few look-ups, and goes once over the storages whose numbers lie
-    /// between the least and the greatest of the node's, over the foremost storages with more room than the target, and over those
-    /// behind which it moves. Takes no memory.
+    /// found for this length; nothing for an unknown storage. A few look-ups, one for each storage of the node, and goes once over the
+    /// foremost storages that go before the target, and over those behind which it moves. Takes no memory.
     pub fn add(&mut self, target: StorageId, len: u64)
         requires fits { HasRoomFor self.old len target }
         ensures after { self.new ≡ with_sent self.old target len }
@@ -97,7 +102,13 @@ impl Scheduled {
             → self.old ≡ targets_with C chosen → self.new ≡ targets_with C (chosen ++ t ∷ []) }
     {
         add_to(&mut self.rows, target, len);
-        renew(&mut self.foremost, &self.rows, &self.spans, target);
+        renew(
+            &mut self.foremost,
+            &self.rows,
+            &self.seats,
+            &self.spans,
+            target,
+        );
     }
 
     /// The foremost storage of each node: of its storages the one with most room, and of these the least. In this order too.
@@ -113,6 +124,7 @@ fn rows_of(alloc: Global, topology: &Topology) -> Result<NumberMap<Target>, Allo
     ensures { IfOk result (λ rows. rows.map ≡ targets.target_table topology.now.cluster (λ _. 0)) }
 {
     let mut rows = NumberMap::new(alloc);
+    rows.reserve(topology.storage_count() as usize)?;
     for place in 0..topology.storage_count() {
         let Some(storage) = topology.storage_at(place) else {
             return Ok(rows);
@@ -138,21 +150,22 @@ fn add_to(rows: &mut NumberMap<Target>, target: StorageId, len: u64)
 fn renew(
     foremost: &mut Vec<Target>,
     rows: &NumberMap<Target>,
+    seats: &[Seat],
     spans: &NumberMap<Span>,
     target: StorageId,
 )
     ensures { (old : map.Map map.by_number Target) (len : ℕ)
         → IsKept old foremost.old.items → HasRoomFor old len target
         → rows.now.map ≡ with_sent old target len
-        → AreSpanned (map.entries rows.now.map) spans.now.map
+        → AreSeated rows.now.map seats.now → AreSpanned seats.now spans.now.map
         → IsKept rows.now.map foremost.new.items }
 {
     let Some(place) = place_of(foremost, target) else {
         return;
     };
     if let Some(row) = rows.get(u64::from(target.0)) {
-        let near = rows_near(rows.entries(), spans, &row);
-        let best = foremost_beside(row, near);
+        let near = seats_near(seats, spans, row.node);
+        let best = foremost_beside(row, rows, near);
         put_back(foremost, place, &best);
     }
 }
@@ -161,11 +174,12 @@ fn renew(
 fn target_at(topology: &Topology, storage: StorageId) -> Target
     ensures { result ≡ targets.target_at topology.now.cluster (λ _. 0) storage }
 {
+    let location = topology.location_of(storage);
     Target {
         storage,
-        node: topology.node_of(storage),
-        rack: topology.rack_of(storage),
-        is_draining: topology.is_draining(storage),
+        node: location.node,
+        rack: location.rack,
+        is_draining: location.drains,
         remaining: remaining_on(topology, storage),
         scheduled: 0,
     }

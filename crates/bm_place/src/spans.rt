@@ -1,11 +1,11 @@
-// Where the rows of each node stand in a list of rows.
-ghost use Rattle.std.specs.Prelude.{◌≡◌, ◌<◌, map, true, IfOk, OnOk, option_and_then};
+// Where the storages of each node stand among all.
+ghost use Rattle.std.specs.Prelude.{◌≡◌, ◌<◌, length, IfOk, OnOk, option_and_then};
 ghost use Rattle.bm_base.specs.Map as table;
-ghost use Rattle.bm_place.specs.Foremost.{IsAmong, are_alike};
+ghost use Rattle.bm_place.specs.Foremost.{IsAmong};
 ghost use Rattle.bm_place.specs.Spans as places;
-ghost use Rattle.bm_place.specs.declared.scheduled.Target.{Target};
+ghost use Rattle.bm_place.specs.declared.seats.Seat.{Seat};
 
-use crate::scheduled::Target;
+use crate::seats::Seat;
 use bm_base::{NodeId, NumberMap};
 use std::alloc::{AllocError, Global};
 
@@ -16,61 +16,77 @@ pub struct Span {
     pub to: usize,
 }
 
-/// The places from the first row of each node to its last. Goes over the rows once, by two look-ups each.
-pub fn spans_of(alloc: Global, rows: &[(u64, Target)]) -> Result<NumberMap<Span>, AllocError>
-    ensures { IfOk result (λ m. places.AreSpanned rows.now m.map) }
+/// The places from the first storage of each node to its last. Goes over the storages once, by two look-ups where those of another
+/// node begin.
+pub fn spans_of(alloc: Global, seats: &[Seat]) -> Result<NumberMap<Span>, AllocError>
+    ensures { IfOk result (λ m. places.AreSpanned seats.now m.map) }
 {
     let mut spans = NumberMap::new(alloc);
-    for place in 0..rows.len() {
-        enter(&mut spans, &rows[place].1, place)?;
+    let mut from = 0;
+    while from < seats.len() {
+        let to = end_of(seats, from);
+        enter(&mut spans, seats[from].node, from, to)?;
+        from = to;
     }
     Ok(spans)
 }
 
-/// Enters the place of a row, behind those so far; nothing for a row with no node.
-fn enter(spans: &mut NumberMap<Span>, target: &Target, place: usize) -> Result<(), AllocError>
-    requires { place < usize.MAX }
-    ensures { OnOk result (spans.new.map ≡ places.with_row spans.old.map target.now place) }
+/// The place behind the storages of one node that stand side by side from this place on.
+fn end_of(seats: &[Seat], from: usize) -> usize
+    requires { from < length seats.now }
+    ensures { places.IsEndOf seats.now from result }
 {
-    match target.node {
+    let node = seats[from].node;
+    let mut to = from + 1;
+    while to < seats.len() && seats[to].node == node {
+        to += 1;
+    }
+    to
+}
+
+/// Enters the places of storages of this node, behind those so far; nothing for ones with no node.
+fn enter(
+    spans: &mut NumberMap<Span>,
+    node: Option<NodeId>,
+    from: usize,
+    to: usize,
+) -> Result<(), AllocError>
+    ensures { OnOk result (spans.new.map ≡ places.with_places spans.old.map node from to) }
+{
+    match node {
         Some(node) => {
-            let span = widened(spans.get(u64::from(node.0)), place);
+            let span = widened(spans.get(u64::from(node.0)), from, to);
             spans.insert(u64::from(node.0), span)
         }
         None => Ok(()),
     }
 }
 
-/// A span with one place more, behind it, or of that place alone.
-fn widened(span: Option<Span>, place: usize) -> Span
-    requires { place < usize.MAX }
-    ensures { result ≡ places.widened span place }
+/// A span with further places, behind it, or of these places alone.
+fn widened(span: Option<Span>, from: usize, to: usize) -> Span
+    ensures { result ≡ places.widened span from to }
 {
-    let from = match span {
-        Some(span) if span.from <= place => span.from,
-        _ => place,
-    };
-    Span {
-        from,
-        to: place + 1,
+    match span {
+        Some(span) if span.from <= from => Span {
+            from: span.from,
+            to,
+        },
+        _ => Span { from, to },
     }
 }
 
-/// Of some rows those among which all of a target's node are.
-pub fn rows_near<'a>(
-    rows: &'a [(u64, Target)],
+/// Of some storages those among which all of this node are.
+pub fn seats_near<'a>(
+    seats: &'a [Seat],
     spans: &NumberMap<Span>,
-    target: &Target,
-) -> &'a [(u64, Target)]
-    ensures part { (t : Target) → IsAmong (map (λ e. e.1) result.now) t
-        → IsAmong (map (λ e. e.1) rows.now) t }
-    ensures all { places.AreSpanned rows.now spans.now.map → (t : Target)
-        → IsAmong (map (λ e. e.1) rows.now) t → are_alike t target.now ≡ true
-        → IsAmong (map (λ e. e.1) result.now) t }
+    node: Option<NodeId>,
+) -> &'a [Seat]
+    ensures { places.AreSpanned seats.now spans.now.map → (e : Seat)
+        → IsAmong seats.now e → e.node ≡ node → IsAmong result.now e }
 {
-    match span_of(spans, target.node) {
-        Some(span) if span.from <= span.to && span.to <= rows.len() => &rows[span.from..span.to],
-        _ => rows,
+    match span_of(spans, node) {
+        Some(span) if span.from <= span.to && span.to <= seats.len() => &seats[span.from..span.to],
+        _ => seats,
     }
 }
 

@@ -1,29 +1,22 @@
-use Rattle.std.proofs.Common.{◌≡◌, ℕ, Some, None, true, ap, sym, subst, ◌==◌, ◌∙◌, map, position}
+use Rattle.std.proofs.Common.{◌≡◌, Some, None, ap, sym, ◌==◌, ◌∙◌, position}
 use Rattle.bm_base.specs.Map.{get}
 use Rattle.bm_place.specs.declared.scheduled.Target.{Target}
-use Rattle.bm_place.specs.Spans.{AreSpanned}
-use Rattle.bm_place.specs.Foremost as nodes
-use Rattle.bm_place.specs.Foremost.{IsAmong}
 use Rattle.bm_place.proofs.Renewing.{kept_renewed, kept_same, kept_unknown}
 use Rattle.bm_place.proofs.scheduled.renew.Goals as goal
 
 pub returns-in_default : goal.returns-in_default
-returns-in_default c old len kept fits is spanned =
+returns-in_default c old len kept fits is seated spanned =
     let none : position (λ (t : Target). t.storage == c.args.target) c.args.foremost.now.items ≡ None = sym (c.in_default.ensures ∙ ap (position (λ (t : Target). t.storage == c.args.target)) c.deref.ensures.value) in
     kept_same old c.args.rows.now.map c.args.target len c.args.foremost.now.items kept fits is none
 
 pub returns-in-Some-get : goal.returns-in-Some-get
-returns-in-Some-get c old len kept fits is spanned =
+returns-in-Some-get c old len kept fits is seated spanned =
     let row = c.in-Some-get.row in
     let place : position (λ (t : Target). t.storage == c.args.target) c.args.foremost.now.items ≡ Some c.in-Some.place = sym (c.in-Some.ensures ∙ ap (position (λ (t : Target). t.storage == c.args.target)) c.deref.ensures.value) in
     let there = sym (c.get.ensures ∙ ap (get c.args.rows.now.map) (c.from.ensures ∙ c.target.view_is)) ∙ c.in-Some-get.is in
-    let ts = map (λ (e : ℕ × Target). e.1) c.rows_near-near.result.now in
-    let part = subst (λ es. (t : Target) → IsAmong ts t → IsAmong (map (λ e. e.1) es) t) c.entries.ensures c.rows_near-near.ensures.part in
-    let all =
-    subst (λ es. (t : Target) → IsAmong (map (λ e. e.1) es) t → nodes.are_alike t row ≡ true → IsAmong ts t) c.entries.ensures (c.rows_near-near.ensures.all (subst (λ es. AreSpanned es c.args.spans.now.map) (sym c.entries.ensures) spanned)) in
-    kept_renewed old c.args.rows.now.map c.args.target len c.args.foremost.now.items c.put_back.new.foremost.items ts row c.foremost_beside-best.result c.in-Some.place kept fits is there place part all
-    c.foremost_beside-best.ensures c.put_back.ensures
+    kept_renewed old c.args.rows.now.map c.args.target len c.args.foremost.now.items c.put_back.new.foremost.items c.args.seats.now c.seats_near-near.result.now row c.foremost_beside-best.result c.in-Some.place kept fits is
+    there place seated (c.seats_near-near.ensures spanned) c.foremost_beside-best.ensures c.put_back.ensures
 
 pub returns-in_default-get : goal.returns-in_default-get
-returns-in_default-get c old len kept fits is spanned =
+returns-in_default-get c old len kept fits is seated spanned =
     kept_unknown old c.args.rows.now.map c.args.target len c.args.foremost.now.items kept is (sym (c.get.ensures ∙ ap (get c.args.rows.now.map) (c.from.ensures ∙ c.target.view_is)) ∙ c.in_default-get.is)

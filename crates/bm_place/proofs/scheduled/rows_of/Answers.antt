@@ -7,7 +7,7 @@ use Rattle.bm_place.proofs.scheduled.rows_of.Goals as goal
 
 pub loop-place-init : goal.loop-place-init
 unfolding table
-loop-place-init c = ap (λ m. insert_all m (listed (target_at c.args.topology.now.cluster (λ _. 0)) (keys c.args.topology.now.cluster.storages))) c.new-rows.ensures.empty
+loop-place-init c = ap (λ m. insert_all m (listed (target_at c.args.topology.now.cluster (λ _. 0)) (keys c.args.topology.now.cluster.storages))) (c.reserve.ensures.same ∙ c.new-rows.ensures.empty)
 
 pub loop-place-preserved : goal.loop-place-preserved
 loop-place-preserved c =

@@ -1,16 +1,16 @@
-use Rattle.std.proofs.Common.{◌<◌, ◌+◌, length, get_or, sym, subst, arith}
+use Rattle.std.proofs.Common.{get_or, sym, subst}
 use Rattle.std.proofs.lemmas.Option.{slice_get-get_or}
 use Rattle.bm_place.specs.Spans.{AreSpannedTo}
 use Rattle.bm_place.proofs.Spanning.{spanned_more, all_spanned}
 use Rattle.bm_place.proofs.spans.spans_of.Goals as goal
 
-pub loop-place-preserved : goal.loop-place-preserved
-loop-place-preserved c =
-    let rows = c.args.rows.now in
-    let k = c.loop-place.place in
-    let within : k < length rows = omega arith in
-    subst (AreSpannedTo (k + 1) rows) (sym c.in_ok-enter.ensures)
-    (spanned_more k rows c.loop-place.spans.map (get_or rows k c.index-rows-place.result) (slice_get-get_or rows k c.index-rows-place.result within) c.loop-place.invariant)
+pub loop-from-preserved : goal.loop-from-preserved
+loop-from-preserved c =
+    let seats = c.args.seats.now in
+    let from = c.loop-from.from in
+    let to = c.end_of-to.result in
+    subst (AreSpannedTo to seats) (sym c.in_ok-enter.ensures)
+    (spanned_more from to seats c.loop-from.spans.map (get_or seats from c.index-seats-from.result) (slice_get-get_or seats from c.index-seats-from.result c.loop-from-test.true) c.end_of-to.ensures c.loop-from.invariant)
 
 pub returns : goal.returns
-returns c = all_spanned c.loop-place.place c.args.rows.now c.loop-place.spans.map c.loop-place-test.false c.loop-place.invariant
+returns c = all_spanned c.loop-from.from c.args.seats.now c.loop-from.spans.map c.loop-from-test.false c.loop-from.invariant

@@ -1,11 +1,12 @@
 use Rattle.std.proofs.Common.{ap, sym, subst, ◌+◌, ◌≤◌, ◌∙◌}
 use Rattle.std.specs.Option.{IfSome}
-use Rattle.bm_base.specs.Map.{entries, get, revise_at}
+use Rattle.bm_base.specs.Map.{get, revise_at}
 use Rattle.bm_base.specs.Transfers.{scheduled_to}
 use Rattle.bm_place.specs.declared.scheduled.Target.{Target}
 use Rattle.bm_place.specs.Targets.{target_table}
 use Rattle.bm_place.specs.Spans.{AreSpanned}
-use Rattle.bm_place.proofs.Spanning.{spanned_added}
+use Rattle.bm_place.specs.Seats.{AreSeated}
+use Rattle.bm_place.proofs.Renewing.{seated_added}
 use Rattle.bm_place.proofs.Counting.{targets-more, targets-chosen}
 use Rattle.bm_place.proofs.scheduled.Scheduled.add.Goals as goal
 
@@ -24,8 +25,11 @@ pub invariant_of-self : goal.invariant_of-self
 invariant_of-self c =
     let inside = c.self.inside in
     let fits = subst (λ rows. IfSome (get rows c.args.target) (λ (t : Target). c.args.len + t.scheduled ≤ t.remaining)) (sym c.self.view_is) c.requires.fits in
-    let spanned = subst (λ rows. AreSpanned (entries rows) inside.spans.map) (sym c.add_to.ensures) (spanned_added inside.rows.map inside.spans.map c.args.target c.args.len c.self.invariant.spanned) in
+    let seated = subst (λ rows. AreSeated rows inside.seats.items) (sym c.add_to.ensures) (seated_added inside.rows.map c.args.target c.args.len inside.seats.items c.self.invariant.seated) in
     record {
-      kept = c.renew.ensures inside.rows.map c.args.len c.self.invariant.kept fits c.add_to.ensures spanned;
-      spanned = spanned;
+      kept =
+          c.renew.ensures inside.rows.map c.args.len c.self.invariant.kept fits c.add_to.ensures (subst (AreSeated c.add_to.new.rows.map) (sym c.deref.ensures.value) seated)
+          (subst (λ es. AreSpanned es inside.spans.map) (sym c.deref.ensures.value) c.self.invariant.spanned);
+      seated = seated;
+      spanned = c.self.invariant.spanned;
     }
