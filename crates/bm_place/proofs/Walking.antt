@@ -1,5 +1,6 @@
 -- A walk along the foremost targets in their order may end before the last of them.
 use Rattle.std.specs.Prelude.{slice_get, nat_le}
+use Rattle.std.specs.Option.{IfSome}
 use Rattle.std.specs.Ordering.{is_lt, nat_cmp, ordering_then}
 use Rattle.std.specs.declared.cmp.Ordering.{Ordering}
 use Rattle.std.specs.declared.cmp.Ordering.TheVariants.{Less, Equal, Greater}
@@ -87,3 +88,27 @@ module _ (C : Cluster) (w : Standing) (urgency : Level) (barred : List ℕ) (len
   -- none is left behind the last
   pub ends_behind : (cs : List Target) (i : ℕ) (best : Option Target) → length cs ≤ i → scan order may best (drop i cs) ≡ scan order may None cs → scan order may None cs ≡ best
   ends_behind cs i best all inv = sym inv ∙ at_drop_all (λ xs. scan order may best xs) cs i all
+
+-- What is true on the way along the foremost targets: what is left makes of the best so far what all make of none, and does not go before it.
+pub record IsWalked (R : Target → Target → Ordering) (p : Target → Bool) (cs : List Target) (i : ℕ) (best : Option Target) : Type 0 where
+  pub scanned : scan R p best (drop i cs) ≡ scan R p None cs
+  pub behind : (d : Target) → IsAmong (drop i cs) d → IfSome best (λ b. goes_before d b ≡ false)
+
+module _ (R : Target → Target → Ordering) (p : Target → Bool) (cs : List Target) (i : ℕ) (t : Target) (at : slice_get cs i ≡ Some t) (best : Option Target) (walked : IsWalked R p cs i best) where
+  pub here_behind : IfSome best (λ b. goes_before t b ≡ false)
+  here_behind = walked.behind t (subst (λ xs. IsAmong xs t) (sym (drop-next cs i t at)) (inl refl))
+
+  one_further : scan R p (cond (p t && is_better R best t) (Some t) best) (drop (i + 1) cs) ≡ scan R p None cs
+  one_further = sym (ap (scan R p best) (drop-next cs i t at)) ∙ walked.scanned
+
+  pub walked_past : (p t && is_better R best t) ≡ false → IsWalked R p cs (i + 1) best
+  walked_past not_taken = record {
+    scanned = ap (λ b. scan R p (cond b (Some t) best) (drop (i + 1) cs)) (sym not_taken) ∙ one_further;
+    behind = λ d there. walked.behind d (subst (λ xs. IsAmong xs d) (sym (drop-next cs i t at)) (inr there));
+  }
+
+  pub walked_with : IsInOrder cs → (p t && is_better R best t) ≡ true → IsWalked R p cs (i + 1) (Some t)
+  walked_with ordered taken = record {
+    scanned = ap (λ b. scan R p (cond b (Some t) best) (drop (i + 1) cs)) (sym taken) ∙ one_further;
+    behind = λ d there. let one : i + 1 ≡ suc i = omega arith in behind_at i cs t d ordered at (subst (λ j. IsAmong (drop j cs) d) one there);
+  }

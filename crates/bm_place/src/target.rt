@@ -1,10 +1,11 @@
 // The target of a copy.
-ghost use Rattle.std.specs.Prelude.{◌≡◌, ◌&&◌, ℕ, List, option_map};
+ghost use Rattle.std.specs.Prelude.{◌≡◌, ◌&&◌, false, ℕ, List, option_map};
 ghost use Rattle.std.specs.Option.{IfSome};
 ghost use Rattle.bm_base.specs.declared.commands.Transfer.{Transfer};
 ghost use Rattle.bm_base.specs.Transfers as transfers;
 ghost use Rattle.bm_place.specs.Found.{IsLeastTarget, HasRoomFor, targets_with};
 ghost use Rattle.bm_place.specs.Targets as targets;
+ghost use Rattle.bm_place.specs.Foremost as nodes;
 ghost use Rattle.bm_place.specs.Scan as scanned;
 
 use crate::foremost::room_on;
@@ -85,7 +86,7 @@ fn storage_of(target: &Option<Target>) -> Option<StorageId>
     }
 }
 
-/// Whether a target may be taken, and comes before the best so far.
+/// Whether a target may be taken, and comes before the best so far, before which it does not go.
 fn is_taken(
     target: &Target,
     best: &Option<Target>,
@@ -95,11 +96,12 @@ fn is_taken(
     len: u64,
     level: Level,
 ) -> bool
+    requires { IfSome best.now (λ b. nodes.goes_before target.now b ≡ false) }
     ensures { result ≡ (targets.is_free topology.now.cluster standing.now level barred.now len
         target.now && scanned.is_better (targets.cmp_targets standing.now) best.now target.now) }
 {
-    is_open(target, standing, len, level)
-        && is_better(target, best, standing)
+    is_better(target, best, standing)
+        && is_open(target, standing, len, level)
         && !is_barred(target, topology, barred)
 }
 
@@ -119,20 +121,13 @@ fn is_open(target: &Target, standing: &Standing, len: u64, level: Level) -> bool
         && standing.class_of(target.rack) == 1)
 }
 
-/// Whether a target comes before the best so far.
+/// Whether a target comes before the best so far. Where it does not go before that, it does so by its class alone.
 fn is_better(target: &Target, best: &Option<Target>, standing: &Standing) -> bool
+    requires { IfSome best.now (λ b. nodes.goes_before target.now b ≡ false) }
     ensures { result ≡ scanned.is_better (targets.cmp_targets standing.now) best.now target.now }
 {
     match best {
-        Some(best) => {
-            let class = standing.class_of(target.rack);
-            let best_class = standing.class_of(best.rack);
-            class
-                .cmp(&best_class)
-                .then(room_on(best).cmp(&room_on(target)))
-                .then(target.storage.cmp(&best.storage))
-                .is_lt()
-        }
+        Some(best) => standing.class_of(target.rack) < standing.class_of(best.rack),
         None => true,
     }
 }

@@ -358,7 +358,7 @@ struct Target<'a> {
     chosen: Option<u32>,
 }
 
-static TARGETS: [Target<'static>; 15] = [
+static TARGETS: [Target<'static>; 18] = [
     // The most room on another rack.
     Target {
         free: FOUR_NODES,
@@ -482,6 +482,39 @@ static TARGETS: [Target<'static>; 15] = [
         len: 10,
         level: Level::UnderReplicated,
         chosen: Some(11),
+    },
+    // The other storage of a node, where bytes are sent to one of them.
+    Target {
+        free: [1000, 1000, 1000, 1000, 9000, 0],
+        draining: &[],
+        filled: &[(5, 10)],
+        held: &[11],
+        barred: &[11],
+        len: 10,
+        level: Level::Highest,
+        chosen: Some(6),
+    },
+    // Another node, where both have less room than it.
+    Target {
+        free: [1000, 1000, 1000, 1000, 9000, 0],
+        draining: &[],
+        filled: &[(5, 8500), (6, 8600)],
+        held: &[11],
+        barred: &[11],
+        len: 10,
+        level: Level::Highest,
+        chosen: Some(31),
+    },
+    // A third rack, where none of the two has room.
+    Target {
+        free: [1000, 1000, 1000, 1000, 9000, 0],
+        draining: &[],
+        filled: &[],
+        held: &[11, 31],
+        barred: &[11, 31],
+        len: 2000,
+        level: Level::UnderReplicated,
+        chosen: Some(5),
     },
     // A storage of a node that drains is no target.
     Target {
