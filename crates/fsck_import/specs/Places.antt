@@ -14,10 +14,6 @@ pub record Place : Type 0 where
 abbrev pub is_empty : Text → Bool
 is_empty text = length text == 0
 
--- what stands before the first such mark, or the whole text
-abbrev pub before_mark : ℕ → Text → Text
-before_mark mark text = option_map_or (λ p. p.0) (cut_at mark text) text
-
 -- what stands behind a mark that begins a text
 abbrev pub behind_first : ℕ → Text → Option Text
 behind_first mark text = option_and_then (λ p. if is_empty p.0 then Some p.1 else None) (cut_at mark text)
