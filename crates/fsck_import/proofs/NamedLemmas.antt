@@ -16,7 +16,7 @@ use Rattle.fsck_import.specs.Blocks.{has_block, with_block}
 use Rattle.fsck_import.specs.PlaceLists.{repeats_storage}
 use Rattle.fsck_import.specs.Words.{words_of}
 use Rattle.fsck_import.specs.Lines.{differ, line_said}
-use Rattle.fsck_import.specs.Clusters.{no_cluster, wanted, with_word, with_places, after_block, after_said, after_placed, at_end, is_whole, after_line, after_bytes, after_ok}
+use Rattle.fsck_import.specs.Clusters.{no_cluster, wanted, with_word, with_places, are_there, in_place, after_block, after_said, after_placed, at_end, is_whole, after_line, after_bytes, after_ok}
 use Rattle.fsck_import.specs.Parts.{may_stand}
 use Rattle.fsck_import.specs.Reading.{after_lines, at_line, cluster_of}
 use Rattle.fsck_import.specs.Laws.{Replica, EachOnce, number_said, number_in, numbers_named, replica_at, replicas_said, replicas_in, replicas_told, replicas_reported}
@@ -112,18 +112,28 @@ err_is_not_ok x y e = cc
 at_ok : (c m d : Cluster) (numbers : List ℕ) (replicas : List Replica) → ◌≡◌ {A = Result Cluster Refusal} (Ok m) (Ok d) → GrowsBy c m numbers replicas → GrowsBy c d numbers replicas
 at_ok c m d numbers replicas e h = subst (λ x. GrowsBy c x numbers replicas) (same_ok m d e) h
 
+in_place_is : (words : List Word) (m d : Cluster) → in_place words m ≡ Ok d → m ≡ d
+in_place_is words m d = by (are_there m words)
+  where
+    by : (b : Bool) → (if b then Ok m else Err refusal.Elsewhere) ≡ Ok d → m ≡ d
+    by true e = same_ok m d e
+    by false e = absurd (err_is_not_ok _ d e)
+
+abbrev pub with_named : Cluster → BlockTold → Cluster
+with_named c told = record c { blocks = with_block c.blocks told.id (record { stamp = told.stamp; repl = wanted c.target told.live }); part = part.Blocks }
+
 block_grows : (c d : Cluster) (words : List Word) (told : BlockTold) → after_block c words told ≡ Ok d → GrowsBy c d (told.id ∷ []) (flat_map (replica_at told.id told.stamp) words)
 block_grows c d words told = by _ (repeats_storage [] words) (has_block c.blocks told.id) refl refl
   where
     by : (a t b : Bool) → repeats_storage [] words ≡ t → has_block c.blocks told.id ≡ b
         → (if a then (if t then Err refusal.StorageTwice
         else (if b then Err refusal.NamedTwice
-        else Ok (with_places (record c { blocks = with_block c.blocks told.id (record { stamp = told.stamp; repl = wanted c.target told.live }) }) told.id told.stamp words)))
+        else in_place words (with_places (with_named c told) told.id told.stamp words)))
         else Err refusal.BadReplication) ≡ Ok d
         → GrowsBy c d (told.id ∷ []) (flat_map (replica_at told.id told.stamp) words)
-    by true false false once new e = at_ok c _ d _ _ e
-        (one_block c (record c { blocks = with_block c.blocks told.id (record { stamp = told.stamp; repl = wanted c.target told.live }) }) words told.id
-        (record { stamp = told.stamp; repl = wanted c.target told.live }) refl refl refl new once)
+    by true false false once new e = subst (λ x. GrowsBy c x (told.id ∷ []) (flat_map (replica_at told.id told.stamp) words))
+        (in_place_is words (with_places (with_named c told) told.id told.stamp words) d e)
+        (one_block c (with_named c told) words told.id (record { stamp = told.stamp; repl = wanted c.target told.live }) refl refl refl new once)
     by true false true once new e = absurd (err_is_not_ok _ d e)
     by true true b once new e = absurd (err_is_not_ok _ d e)
     by false t b once new e = absurd (err_is_not_ok _ d e)
@@ -135,7 +145,7 @@ wanted_grows c d count false e = at_ok c _ d _ _ e (same_blocks c (record c { ta
 said_grows : (c d : Cluster) (words : List Word) (s : Said) → after_said c words s ≡ Ok d → GrowsBy c d (number_said (Ok s)) (replicas_said words (Ok s))
 said_grows c d words said.Blank e = at_ok c c d _ _ e (same_blocks c c refl refl refl)
 said_grows c d words said.Nothing e = at_ok c c d _ _ e (same_blocks c c refl refl refl)
-said_grows c d words (said.Heading target) e = at_ok c _ d _ _ e (same_blocks c (record c { target = target }) refl refl refl)
+said_grows c d words (said.Heading target) e = at_ok c _ d _ _ e (same_blocks c (record c { target = target; part = part.Files }) refl refl refl)
 said_grows c d words (said.Wanted count) e = wanted_grows c d count (differ c.target (Some count)) e
 said_grows c d words (said.Block told) e = block_grows c d words told e
 said_grows c d words said.Summary e = at_ok c _ d _ _ e (same_blocks c (record c { part = part.Summary }) refl refl refl)

@@ -10,7 +10,7 @@ use Rattle.std.proofs.lemmas.Slice.Eq.{bytes_eq-Decides}
 use Rattle.std.proofs.lemmas.List.{append-nil}
 use Rattle.std.proofs.lemmas.List.Folds.{list_any-append}
 use Rattle.std.proofs.lemmas.List.Sums.{sum_by-cons, sum_by-append}
-use Rattle.std.proofs.lemmas.List.Sorted.{IsPermutation-refl, IsPermutation-trans, IsPermutation-append_left, sum_by-IsPermutation}
+use Rattle.std.proofs.lemmas.List.Sorted.{IsPermutation-trans, IsPermutation-append_left, sum_by-IsPermutation}
 use Rattle.bm_base.specs.Entries.{expanded}
 use Rattle.bm_base.specs.declared.call.Call.{Call}
 use Rattle.bm_base.specs.declared.replica.Stamp.{Stamp}
@@ -18,7 +18,6 @@ use Rattle.fsck_import.specs.Blocks.{add}
 use Rattle.fsck_import.specs.CallsFor.{register, heartbeat, report, calls_for}
 use Rattle.fsck_import.specs.Clusters.{with_word, with_place, with_places}
 use Rattle.fsck_import.specs.Cuts.{Text}
-use Rattle.fsck_import.specs.Names.{is_new, with_name}
 use Rattle.fsck_import.specs.PlaceLists.{repeats_storage}
 use Rattle.fsck_import.specs.Places.{Place}
 use Rattle.fsck_import.specs.Rows.{new_row, with_replica_at}

@@ -1,6 +1,7 @@
 -- What the lines of the text say of a cluster, one after another.
-use Rattle.std.specs.Prelude.{◌≡◌, ⊤, ℕ, ◌-◌, ◌&&◌, Bool, true, false, max, nat_le, List, [], ◌∷◌, ◌++◌, Option, Some, None, unwrap_or, Result, Ok, Err, fold, if◌then◌else◌}
-use Rattle.std.specs.Str.{is_utf8}
+use Rattle.std.specs.Prelude.{◌≡◌, ⊤, ℕ, ◌-◌, ◌&&◌, Bool, true, false, max, nat_le, List, [], ◌∷◌, ◌++◌, Option, Some, None, unwrap_or, option_and_then, position, slice_get, Result, Ok, Err, fold, if◌then◌else◌}
+use Rattle.std.specs.Option.{option_map_or}
+use Rattle.std.specs.Str.{is_utf8, bytes_eq}
 use Rattle.bm_base.specs.declared.replica.Stamp.{Stamp}
 use Rattle.fsck_import.specs.Cuts.{Text}
 use Rattle.fsck_import.specs.Places.{Place}
@@ -8,7 +9,7 @@ use Rattle.fsck_import.specs.PlaceLists.{repeats_storage}
 use Rattle.fsck_import.specs.Words.{words_of}
 use Rattle.fsck_import.specs.Lines.{differ, line_said}
 use Rattle.fsck_import.specs.Parts.{may_stand}
-use Rattle.fsck_import.specs.Names.{is_new, name_number, with_name}
+use Rattle.fsck_import.specs.Names.{is_new, name_number, name_of, with_name}
 use Rattle.fsck_import.specs.Blocks.{has_block, with_block}
 use Rattle.fsck_import.specs.Rows.{new_row, with_replica_at}
 use Rattle.fsck_import.specs.declared.word.Word.{Word}
@@ -67,6 +68,32 @@ with_word id stamp c _ = c
 abbrev pub with_places : Cluster → ℕ → Stamp → List Word → Cluster
 with_places c id stamp words = fold (with_word id stamp) c words
 
+-- the storage of this name
+abbrev pub row_of : Cluster → Text → Option Row
+row_of c name = option_and_then (λ index. slice_get c.rows index) (position (bytes_eq name) c.storages)
+
+-- the rack of the node of this number
+abbrev pub rack_at : Cluster → ℕ → ℕ
+rack_at c node = option_map_or (λ row. row.rack) (slice_get c.node_rows (node - 1)) 0
+
+-- whether this storage is on the node of a place, and that node on its rack
+abbrev pub is_on : Cluster → Place → Row → Bool
+is_on c p row = bytes_eq (name_of c.nodes row.node) p.address && bytes_eq (name_of c.racks (rack_at c row.node)) p.rack
+
+-- whether a place is where its storage is
+abbrev pub is_there : Cluster → Place → Bool
+is_there c p = option_map_or (is_on c p) (row_of c p.storage) false
+
+-- whether all places among these words are
+abbrev pub are_there : Cluster → List Word → Bool
+are_there c [] = true
+are_there c (word.Place p ∷ words) = is_there c p.place && are_there c words
+are_there c (w ∷ words) = are_there c words
+
+-- the cluster in which they are
+abbrev pub in_place : List Word → Cluster → Result Cluster Refusal
+in_place words c = if are_there c words then Ok c else Err refusal.Elsewhere
+
 -- with a block and its places, which are among the words of its line
 abbrev pub after_block : Cluster → List Word → BlockTold → Result Cluster Refusal
 after_block c words told =
@@ -74,14 +101,14 @@ after_block c words told =
     if nat_le 1 repl && nat_le repl 16
     then (if repeats_storage [] words then Err refusal.StorageTwice
     else (if has_block c.blocks told.id then Err refusal.NamedTwice
-    else Ok (with_places (record c { blocks = with_block c.blocks told.id (record { stamp = told.stamp; repl = repl }) }) told.id told.stamp words)))
+    else in_place words (with_places (record c { blocks = with_block c.blocks told.id (record { stamp = told.stamp; repl = repl }); part = part.Blocks }) told.id told.stamp words)))
     else Err refusal.BadReplication
 
 -- after what a line of these words says. A heading begins another file; what is wanted of one of its blocks is wanted of all, and told alike
 abbrev pub after_said : Cluster → List Word → Said → Result Cluster Refusal
 after_said c words said.Blank = Ok c
 after_said c words said.Nothing = Ok c
-after_said c words (said.Heading target) = Ok (record c { target = target })
+after_said c words (said.Heading target) = Ok (record c { target = target; part = part.Files })
 after_said c words (said.Wanted count) =
     if differ c.target (Some count) then Err refusal.TwoTargets else Ok (record c { target = Some count })
 after_said c words (said.Block told) = after_block c words told

@@ -1,6 +1,6 @@
 -- What holds of the calls for a cluster: each block that a text names is added once, all adds stand before the first report, and each place that
 -- a text tells is reported once.
-use Rattle.std.specs.Prelude.{◌≡◌, ◌≤◌, ◌-◌, ◌&&◌, ℕ, Bool, true, false, nat_eq, List, [], ◌∷◌, ◌++◌, map, count_by, slice_index_or, Result, Ok}
+use Rattle.std.specs.Prelude.{◌≡◌, ◌≤◌, ◌&&◌, ℕ, Bool, true, false, nat_eq, List, [], ◌∷◌, ◌++◌, map, count_by, Result, Ok}
 use Rattle.std.specs.List.{flat_map, list_any}
 use Rattle.std.specs.Str.{bytes_eq}
 use Rattle.bm_base.specs.Entries.{Told, expanded}
@@ -10,6 +10,7 @@ use Rattle.bm_base.specs.declared.call.Call.TheVariants as call
 use Rattle.bm_base.specs.declared.event.Event.TheVariants.{AddBlock, FullReport}
 use Rattle.bm_lines.specs.Lines.{lines_of}
 use Rattle.fsck_import.specs.Cuts.{Text}
+use Rattle.fsck_import.specs.Names.{name_of}
 use Rattle.fsck_import.specs.Words.{words_of}
 use Rattle.fsck_import.specs.Lines.{line_said}
 use Rattle.fsck_import.specs.declared.word.Word.{Word}
@@ -71,10 +72,6 @@ replicas_in line = replicas_said (words_of line) (line_said line (words_of line)
 -- the replicas that the places of a text tell, in order
 abbrev pub replicas_told : Text → List Replica
 replicas_told text = flat_map replicas_in (lines_of text)
-
--- the name of this number, of names that are numbered from 1
-abbrev pub name_of : List Text → ℕ → Text
-name_of names number = slice_index_or names (number - 1) []
 
 abbrev pub on_storage : Text → Told → Replica
 on_storage storage told = record { storage = storage; told = told }

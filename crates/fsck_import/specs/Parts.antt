@@ -24,10 +24,14 @@ is_last line =
     begins line (codes "The filesystem under path '")
     && (ends line (codes "' is HEALTHY") || ends line (codes "' is CORRUPT"))
 
--- whether a line that says this may stand in this part: the last line behind a summary, where files are told no more, and nothing behind the last line
+-- whether a line that says this may stand in this part: what is wanted of the blocks of a file before them, the last line behind a summary, where files
+-- are told no more, and nothing behind the last line
 abbrev pub may_stand : Part → Said → Bool
 may_stand part.Files said.Last = false
 may_stand part.Files _ = true
+may_stand part.Blocks said.Last = false
+may_stand part.Blocks (said.Wanted count) = false
+may_stand part.Blocks _ = true
 may_stand part.Summary said.Blank = true
 may_stand part.Summary said.Nothing = true
 may_stand part.Summary said.Last = true

@@ -1,5 +1,5 @@
 -- Where a replica lies, as a word of a block's line tells it.
-use Rattle.std.specs.Prelude.{ℕ, ◌==◌, ◌&&◌, ◌||◌, Bool, true, false, not, Option, Some, None, is_some, is_none, option_map, option_and_then, if◌then◌else◌, length, codes}
+use Rattle.std.specs.Prelude.{ℕ, ◌==◌, ◌&&◌, ◌||◌, Bool, false, not, Option, Some, None, is_some, is_none, option_map, option_and_then, if◌then◌else◌, length, codes}
 use Rattle.std.specs.List.{list_any}
 use Rattle.std.specs.Option.{option_map_or}
 use Rattle.std.specs.Str.{bytes_eq}
@@ -13,10 +13,6 @@ pub record Place : Type 0 where
 
 abbrev pub is_empty : Text → Bool
 is_empty text = length text == 0
-
--- what stands before the first such mark, or the whole text
-abbrev pub before_mark : ℕ → Text → Text
-before_mark mark text = option_map_or (λ p. p.0) (cut_at mark text) text
 
 -- what stands behind a mark that begins a text
 abbrev pub behind_first : ℕ → Text → Option Text

@@ -1,10 +1,10 @@
 -- What a word of the text says by itself.
-use Rattle.std.specs.Prelude.{ℕ, ◌==◌, ◌&&◌, Bool, false, Option, Some, None, is_some, option_and_then, option_map, if◌then◌else◌, codes, List, map, filter, not}
+use Rattle.std.specs.Prelude.{ℕ, ◌==◌, ◌&&◌, Bool, false, Option, Some, None, is_some, option_and_then, option_map, unwrap_or, if◌then◌else◌, codes, List, map, filter, not}
 use Rattle.std.specs.List.{slice_split}
 use Rattle.std.specs.Option.{option_map_or}
 use Rattle.std.specs.Str.{bytes_eq}
 use Rattle.fsck_import.specs.Cuts.{Text, cut_at, number_of, small_number_of}
-use Rattle.fsck_import.specs.Places.{is_empty, before_mark, place_of}
+use Rattle.fsck_import.specs.Places.{is_empty, before_last, place_of}
 use Rattle.fsck_import.specs.PlaceLists.{opened, ended}
 use Rattle.fsck_import.specs.declared.word.Word.{Word}
 use Rattle.fsck_import.specs.declared.word.Word.TheVariants as word
@@ -28,13 +28,13 @@ fixed_word text =
 abbrev pub said_of : (ℕ → Word) → Option ℕ → Word
 said_of says number = option_map_or says number word.Other
 
--- a name and its value; the one of a heading ends with a comma, 44
+-- a name and its value; behind the one of a heading a comma, 44, may stand
 abbrev pub valued_word : Text → Text → Word
 valued_word key value =
     if bytes_eq key (codes "len") then said_of word.Length (number_of value)
     else (if bytes_eq key (codes "repl") then said_of word.Live (small_number_of value)
     else (if bytes_eq key (codes "Live_repl") then said_of word.Live (small_number_of value)
-    else (if bytes_eq key (codes "replication") then option_map_or word.Replication (small_number_of (before_mark 44 value)) word.NotANumber
+    else (if bytes_eq key (codes "replication") then option_map_or word.Replication (small_number_of (unwrap_or (before_last 44 value) value)) word.NotANumber
     else word.Other)))
 
 -- the name of a block, without the pool, which ends at the first colon, 58

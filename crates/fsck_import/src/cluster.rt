@@ -1,6 +1,6 @@
 // What the lines of the text said so far of a cluster.
-ghost use Rattle.std.specs.Prelude.{◌≡◌, Ok, Err, Some, IfOk, OnOk, IfErr};
-ghost use Rattle.fsck_import.specs.Clusters.{no_cluster, wanted, with_place, with_places, after_block, after_said, after_line, after_bytes, at_end, IsCause};
+ghost use Rattle.std.specs.Prelude.{◌≡◌, Ok, Err, Some, IfOk, OnOk, IfErr, option_copied};
+ghost use Rattle.fsck_import.specs.Clusters.{no_cluster, wanted, with_place, with_places, row_of, rack_at, is_on, is_there, are_there, after_block, after_said, after_line, after_bytes, at_end, IsCause};
 
 use crate::blocks::Blocks;
 use crate::fault::LineFault;
@@ -9,7 +9,7 @@ use crate::names::Names;
 use crate::part::{Part, may_stand};
 use crate::place::Place;
 use crate::place_list::repeats_storage;
-use crate::rows::Rows;
+use crate::rows::{Row, Rows};
 use crate::word::Word;
 use bm_base::{BlockId, BlockInfo, Items, MAX_REPLICATION, Stamp};
 use std::alloc::{AllocError, Global};
@@ -85,7 +85,10 @@ impl Cluster {
     {
         match said {
             Said::Blank | Said::Nothing => {}
-            Said::Heading(target) => self.target = target,
+            Said::Heading(target) => {
+                self.target = target;
+                self.part = Part::Files;
+            }
             Said::Wanted(count) if differ(self.target, Some(count)) => {
                 return Err(LineFault::Refused(Refusal::TwoTargets));
             }
@@ -132,8 +135,65 @@ impl Cluster {
         if !self.blocks.add(told.id, info)? {
             return Err(LineFault::Refused(Refusal::NamedTwice));
         }
+        self.part = Part::Blocks;
         self.take_places(alloc, words, told.id, &told.stamp)?;
+        if !self.are_there(words) {
+            return Err(LineFault::Refused(Refusal::Elsewhere));
+        }
         Ok(())
+    }
+
+    /// Whether all places among these words are where their storages are.
+    fn are_there(&self, words: &[Word]) -> bool
+        ensures { result ≡ are_there self.now words.now }
+    {
+        for word in words {
+            if let Word::Place(listed) = word {
+                if !self.is_there(&listed.place) {
+                    return false;
+                }
+            }
+        }
+        true
+    }
+
+    /// Whether a place is where its storage is.
+    fn is_there(&self, place: &Place) -> bool
+        ensures { result ≡ is_there self.now place.now }
+    {
+        match self.row_of(place.storage()) {
+            Some(row) => self.is_on(place, row),
+            None => false,
+        }
+    }
+
+    /// The storage of a name.
+    fn row_of(&self, name: &str) -> Option<&Row>
+        ensures { option_copied result ≡ row_of self.now name.now }
+    {
+        self.rows.as_slice().get(self.storages.index(name)?)
+    }
+
+    /// Whether a storage is on the node of a place, and that node on its rack.
+    fn is_on(&self, place: &Place, row: &Row) -> bool
+        ensures { result ≡ is_on self.now place.now row.now }
+    {
+        self.nodes.name(row.node) == place.address()
+            && self.racks.name(self.rack_at(row.node)) == place.rack()
+    }
+
+    /// The rack of the node of a number.
+    fn rack_at(&self, node: u32) -> u32
+        ensures { result ≡ rack_at self.now node }
+    {
+        match self
+            .node_rows
+            .as_slice()
+            .get((node as usize).saturating_sub(1))
+        {
+            Some(row) => row.rack,
+            None => 0,
+        }
     }
 
     /// Takes the replicas of a block at all places among these words.

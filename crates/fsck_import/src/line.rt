@@ -64,6 +64,8 @@ pub enum Refusal {
     NamedTwice,
     #[error("two places of the block have one storage")]
     StorageTwice,
+    #[error("a storage is told on another node than before, or a node on another rack")]
+    Elsewhere,
     #[error("the number of wanted replicas is not between 1 and 16")]
     BadReplication,
     /// What files hold behind the summary's first line, the last line before it, or anything behind the last line.

@@ -1,6 +1,6 @@
 // The names of one kind, numbered from 1 in the order in which they were first said.
-ghost use Rattle.std.specs.Prelude.{◌≡◌, ◌+◌, IfOk, OnOk, []};
-ghost use Rattle.fsck_import.specs.Names.{is_new, name_number, with_name};
+ghost use Rattle.std.specs.Prelude.{◌≡◌, ◌+◌, IfOk, OnOk, [], position, bytes_eq};
+ghost use Rattle.fsck_import.specs.Names.{is_new, name_number, name_of, with_name};
 
 use indexmap::IndexSet;
 use std::alloc::{AllocError, Global};
@@ -64,9 +64,20 @@ impl Names {
         Ok((index, true))
     }
 
+    /// Where a name stands, if it was said.
+    pub fn index(&self, name: &str) -> Option<usize>
+        ensures { result ≡ position (bytes_eq name.now) self.now }
+    {
+        self.set.get_index_of(name)
+    }
+
     /// The name of a number; nothing where there is none.
-    pub fn name(&self, number: u32) -> &str {
-        let index = (number as usize).saturating_sub(1);
-        self.set.get_index(index).map_or("", String::as_str)
+    pub fn name(&self, number: u32) -> &str
+        ensures { result.now ≡ name_of self.now number }
+    {
+        match self.set.get_index((number as usize).saturating_sub(1)) {
+            Some(name) => name.as_str(),
+            None => "",
+        }
     }
 }

@@ -14,8 +14,10 @@ const LAST_CORRUPT: &str = "' is CORRUPT";
 /// Where in the text a line stands.
 #[derive(Clone, Copy, Debug, PartialEq, Eq, Drop)]
 pub enum Part {
-    /// Files with their blocks are told.
+    /// A file is told, or what stands before files.
     Files,
+    /// The blocks of a file are told.
+    Blocks,
     /// Numbers of the whole are told.
     Summary,
     /// The last line was told.
@@ -53,8 +55,8 @@ pub fn may_stand(part: Part, said: &Said) -> bool
     ensures { result ≡ may_stand part said.now }
 {
     match (part, said) {
-        (Part::Files, Said::Last) => false,
-        (Part::Files, _) => true,
+        (Part::Files | Part::Blocks, Said::Last) | (Part::Blocks, Said::Wanted(_)) => false,
+        (Part::Files | Part::Blocks, _) => true,
         (Part::Summary, Said::Blank | Said::Nothing | Said::Last) => true,
         (Part::Summary, _) => false,
         (Part::Behind, Said::Blank) => true,

@@ -1,6 +1,6 @@
 // Where a replica lies, as a word of a block's line tells it.
 ghost use Rattle.std.specs.Prelude.{◌≡◌, ◌<◌, option_map};
-ghost use Rattle.fsck_import.specs.Places.{before_mark, behind_first, before_last, is_mark, has_mark, is_plain, is_rack, is_name, rack_of, address_of, is_address, is_kind, plain_place, place_on, place_by, stored_place, place_of, Place};
+ghost use Rattle.fsck_import.specs.Places.{behind_first, before_last, is_mark, has_mark, is_plain, is_rack, is_name, rack_of, address_of, is_address, is_kind, plain_place, place_on, place_by, stored_place, place_of, Place};
 
 use crate::cuts::{cut_at, last_cut_at, number_of};
 use std::marker::Model;
@@ -54,17 +54,6 @@ pub fn place_of(text: &str) -> Option<Place<'_>>
     match cut_at(text, '[') {
         Some((path, inner)) => stored_place(path, inner),
         None => plain_place(text),
-    }
-}
-
-/// What stands before the first such mark, or the whole text.
-pub fn before_mark(text: &str, mark: char) -> &str
-    requires { mark < 128 }
-    ensures { result.now ≡ before_mark mark text.now }
-{
-    match cut_at(text, mark) {
-        Some((before, _)) => before,
-        None => text,
     }
 }
 

@@ -75,16 +75,19 @@ const STORAGES_NAMES: &str = "# node 1 10.2.1.1:9866 rack 1 /default-rack
 const FEW_WORDS: &str = " 0. blk_5_1 len=10 repl=2 [10.3.1.1:50010, 10.3.1.2:50010]
  1. blk_6_1 len=10 repl=1
  2. blk_7_1 len=10 Live_repl=0 []
+/x 10 bytes, 1 block(s):
  Under replicated blk_9_1. Target Replicas is 4 but found 2 replica(s).
- 3. blk_9_1 len=10 repl=1 [/dc1/rack7/DatanodeInfoWithStorage[10.3.1.1:50010,DS-x,DISK]]
+ 3. blk_9_1 len=10 repl=1 [/dc1/rack7/DatanodeInfoWithStorage[10.3.1.3:50010,DS-x,DISK]]
 Status: HEALTHY
 The filesystem under path '/two words' is HEALTHY
 ";
 
-const FEW_WORDS_LINES: &str = "{\"op\":\"register\",\"node\":1,\"rack\":1,\"storages\":[1,3]}
+const FEW_WORDS_LINES: &str = "{\"op\":\"register\",\"node\":1,\"rack\":1,\"storages\":[1]}
 {\"op\":\"register\",\"node\":2,\"rack\":1,\"storages\":[2]}
-{\"op\":\"heartbeat\",\"node\":1,\"remaining\":[[1,1099511627776],[3,1099511627776]]}
+{\"op\":\"register\",\"node\":3,\"rack\":2,\"storages\":[3]}
+{\"op\":\"heartbeat\",\"node\":1,\"remaining\":[[1,1099511627776]]}
 {\"op\":\"heartbeat\",\"node\":2,\"remaining\":[[2,1099511627776]]}
+{\"op\":\"heartbeat\",\"node\":3,\"remaining\":[[3,1099511627776]]}
 {\"op\":\"add\",\"id\":5,\"gen\":1,\"len\":10,\"repl\":2}
 {\"op\":\"add\",\"id\":6,\"gen\":1,\"len\":10,\"repl\":1}
 {\"op\":\"add\",\"id\":7,\"gen\":1,\"len\":10,\"repl\":1}
@@ -94,7 +97,7 @@ const FEW_WORDS_LINES: &str = "{\"op\":\"register\",\"node\":1,\"rack\":1,\"stor
 {\"op\":\"report\",\"storage\":3,\"blocks\":[[9,1,10]]}
 ";
 
-const REFUSED: [(&str, u64, Refusal); 29] = [
+const REFUSED: [(&str, u64, Refusal); 33] = [
     (
         "/a 12 bytes, 1 block(s):  OK\n0. blk_-2932_1001 len=12 repl=1 [10.4.1.1:50010]\n",
         2,
@@ -199,6 +202,26 @@ const REFUSED: [(&str, u64, Refusal); 29] = [
     ),
     (
         "/a 1 bytes, replicated: replication=two, 1 block(s):  OK\n",
+        1,
+        Refusal::NotATarget,
+    ),
+    (
+        "0. blk_3_1 len=1 [/r1/10.4.1.1:9866]\n1. blk_4_1 len=1 [/r2/10.4.1.1:9866]\n",
+        2,
+        Refusal::Elsewhere,
+    ),
+    (
+        "0. blk_3_1 len=1 [DatanodeInfoWithStorage[10.4.1.1:9866,DS-a,SSD]]\n1. blk_4_1 len=1 [DatanodeInfoWithStorage[10.4.1.2:9866,DS-a,SSD]]\n",
+        2,
+        Refusal::Elsewhere,
+    ),
+    (
+        "0. blk_3_1 len=1 repl=1\n Under replicated blk_4_1. Target Replicas is 4 but found 1\n",
+        2,
+        Refusal::OutOfPlace,
+    ),
+    (
+        "/a 1 bytes, replicated: replication=2,3 1 block(s):  OK\n",
         1,
         Refusal::NotATarget,
     ),

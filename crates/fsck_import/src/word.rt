@@ -3,7 +3,7 @@ ghost use Rattle.std.specs.Prelude.{◌≡◌, option_map, map};
 ghost use Rattle.fsck_import.specs.Words.{fixed_word, valued_word, name_part, block_named, is_index, listed_word, other_word, word_of};
 
 use crate::cuts::{cut_at, number_of, small_number_of};
-use crate::place::{before_mark, place_of};
+use crate::place::{before_last, place_of};
 use crate::place_list::{Listed, ended, opened};
 use bm_base::{BlockId, Gen};
 
@@ -91,7 +91,7 @@ fn valued_word<'a>(key: &'a str, value: &'a str) -> Word<'a>
             Some(count) => Word::Live(count),
             None => Word::Other,
         },
-        "replication" => match small_number_of(before_mark(value, ',')) {
+        "replication" => match small_number_of(before_last(value, ',').unwrap_or(value)) {
             Some(count) => Word::Replication(count),
             None => Word::NotANumber,
         },
