@@ -1,2 +1,3 @@
 -- Lemmas of the callers.
+mod Stops
 mod Told

@@ -8,10 +8,12 @@
 //! | the answer to a "what if": which blocks are missing if a node dies | `missing_if_dead` (`what_if.rt`) | `bm_manager/CALLING.md` |
 //! | to go on after want of memory | `apply_or_free` (`memory.rt`) | `bm_manager/CALLING.md` |
 //! | a reader that is told of a version | `publish_and_look` (`looking.rt`) | `bm_view/CALLING.md` |
+//! | changes, and a reader beside them in a thread of its own | `apply_beside_reader` (`beside.rt`) | `bm_view/CALLING.md` |
 //! | to read and write the tool's lines | `tidied` (`lines.rt`) | `bm_lines/CALLING.md` |
 //! | to look on at the work of a call | `apply_counted` (`counting.rt`) | `bm_crew/CALLING.md` |
 #![tactic(auto)]
 
+mod beside;
 mod counting;
 mod events;
 mod lines;
@@ -19,8 +21,11 @@ mod looking;
 mod memory;
 mod name_node;
 mod printing;
+#[cfg(test)]
+mod tests;
 mod what_if;
 
+pub use beside::{Seen, SideBySide, apply_beside_reader};
 pub use counting::{Pieces, apply_counted};
 pub use events::arrival;
 pub use lines::tidied;

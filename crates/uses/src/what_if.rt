@@ -45,8 +45,8 @@ pub fn replayed<R: Threads + Wait + Sync>(
     Ok(manager)
 }
 
-/// Which blocks are missing after these calls, and which would be if the node died then. Its refusals are those of [`replayed`],
-/// of the death, and `Memory`.
+/// Which blocks are missing after these calls, and which would be if the node died then. It is refused as [`replayed`] is, and where
+/// the death is: `UnknownNode`, and `CallsSpent`.
 pub fn missing_if_dead<R: Threads + Wait + Sync>(
     rt: &R,
     alloc: Global,
@@ -62,6 +62,9 @@ pub fn missing_if_dead<R: Threads + Wait + Sync>(
         found.if_dead ≡ missing_blocks state.cluster state.holdings) }
     ensures alive { OnOk result
         (refusal_of (state_after (first_state config) calls.now) (Event.Dead node) ≡ None) }
+    ensures refused { IfErr result (λ e.
+        let death = refusal_of (state_after (first_state config) calls.now) (Event.Dead node) in
+        (e ≡ Memory) ⊎ ((config_refusal config ≡ Some e) ⊎ (death ≡ Some e))) }
 {
     let manager = replayed(rt, alloc, config, calls)?;
     let mut copy = replayed(rt, alloc, config, calls)?;
