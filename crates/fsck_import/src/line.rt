@@ -68,7 +68,8 @@ pub enum Refusal {
     Elsewhere,
     #[error("the number of wanted replicas is not between 1 and 16")]
     BadReplication,
-    /// What files hold behind the summary's first line, the last line before it, or anything behind the last line.
+    /// What files hold behind the summary's first line, a wanted number behind a file's blocks, the last line before the summary, or
+    /// anything behind the last line.
     #[error("the line may not stand in this part of the text")]
     OutOfPlace,
     #[error("the text ends before the last line of fsck")]
