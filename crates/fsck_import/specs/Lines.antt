@@ -1,5 +1,5 @@
 -- What a line of the text says.
-use Rattle.std.specs.Prelude.{ℕ, ◌==◌, ◌&&◌, ◌||◌, Bool, false, not, List, [], ◌∷◌, Option, Some, None, Result, Ok, Err, fold, if◌then◌else◌}
+use Rattle.std.specs.Prelude.{ℕ, ◌==◌, ◌&&◌, ◌||◌, Bool, false, not, nat_le, List, [], ◌∷◌, Option, Some, None, Result, Ok, Err, fold, if◌then◌else◌}
 use Rattle.std.specs.Option.{option_or, option_map_or}
 use Rattle.fsck_import.specs.Cuts.{Text}
 use Rattle.fsck_import.specs.Parts.{is_summary, is_last}
@@ -20,6 +20,10 @@ block_told (Some name) (Some len) live =
     Ok (said.Block (record { id = name.0; stamp = record { generation = name.1; len = len }; live = live }))
 block_told _ _ live = Err refusal.NotABlock
 
+-- whether a replica may be live: one or more are told to be, or neither how many nor that there is no place
+abbrev pub may_be_live : Option ℕ → Bool → Bool
+may_be_live live is_none = option_map_or (nat_le 1) live (not is_none)
+
 abbrev pub said_of_block : BlockSoFar → Result Said Refusal
 said_of_block told =
     if told.is_negative then Err refusal.NegativeBlock
@@ -27,7 +31,8 @@ said_of_block told =
     else (if told.is_twice then Err refusal.ToldTwice
     else (if not (is_list told.list) then Err refusal.NotPlaces
     else (if told.is_none && is_begun told.list then Err refusal.PlaceAndNone
-    else block_told told.name told.len told.live))))
+    else (if not (is_begun told.list) && may_be_live told.live told.is_none then Err refusal.LiveNoPlace
+    else block_told told.name told.len told.live)))))
 
 -- the line of a block, by the words behind its index: it names the block and tells its length, and each further word is one of its kind
 abbrev pub said_by_block : List Word → Result Said Refusal

@@ -1,7 +1,7 @@
 // What a line of the text says.
 ghost use Rattle.std.specs.Prelude.{◌≡◌, IfOk};
 ghost use Rattle.fsck_import.specs.Words.{words_of};
-ghost use Rattle.fsck_import.specs.Lines.{line_said, said_by, said_by_block, said_by_problem, said_by_heading, fault_of, differ};
+ghost use Rattle.fsck_import.specs.Lines.{line_said, said_by, said_by_block, said_by_problem, said_by_heading, may_be_live, fault_of, differ};
 
 use crate::part::{is_last, is_summary};
 use crate::so_far::{BlockSoFar, LineSoFar};
@@ -52,6 +52,9 @@ pub enum Refusal {
     ToldTwice,
     #[error("places of the block are told, and that there is none")]
     PlaceAndNone,
+    /// So many replicas are live, or it is not told how many, and the line has no list of places.
+    #[error("a replica of the block may be live, and no place is told")]
+    LiveNoPlace,
     #[error("the number of wanted replicas cannot be read")]
     NotATarget,
     #[error("two numbers of wanted replicas for one file")]
@@ -131,6 +134,9 @@ fn said_by_block(words: &[Word]) -> Result<Said, Refusal>
     if told.is_none && told.list.is_begun() {
         return Err(Refusal::PlaceAndNone);
     }
+    if !told.list.is_begun() && may_be_live(told.live, told.is_none) {
+        return Err(Refusal::LiveNoPlace);
+    }
     match (told.name, told.len) {
         (Some((id, generation)), Some(len)) => Ok(Said::Block(BlockTold {
             id,
@@ -138,6 +144,16 @@ fn said_by_block(words: &[Word]) -> Result<Said, Refusal>
             live: told.live,
         })),
         _ => Err(Refusal::NotABlock),
+    }
+}
+
+/// Whether a replica of a block may be live, where so many are, if that is told, and it may be told that there is no place.
+fn may_be_live(live: Option<u32>, is_none: bool) -> bool
+    ensures { result ≡ may_be_live live is_none }
+{
+    match live {
+        Some(count) => count >= 1,
+        None => !is_none,
     }
 }
 

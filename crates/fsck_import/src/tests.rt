@@ -73,7 +73,7 @@ const STORAGES_NAMES: &str = "# node 1 10.2.1.1:9866 rack 1 /default-rack
 ";
 
 const FEW_WORDS: &str = " 0. blk_5_1 len=10 repl=2 [10.3.1.1:50010, 10.3.1.2:50010]
- 1. blk_6_1 len=10 repl=1
+ 1. blk_6_1 len=10 MISSING!
  2. blk_7_1 len=10 Live_repl=0 []
 /x 10 bytes, 1 block(s):
  Under replicated blk_9_1. Target Replicas is 4 but found 2 replica(s).
@@ -97,7 +97,7 @@ const FEW_WORDS_LINES: &str = "{\"op\":\"register\",\"node\":1,\"rack\":1,\"stor
 {\"op\":\"report\",\"storage\":3,\"blocks\":[[9,1,10]]}
 ";
 
-const REFUSED: [(&str, u64, Refusal); 33] = [
+const REFUSED: [(&str, u64, Refusal); 37] = [
     (
         "/a 12 bytes, 1 block(s):  OK\n0. blk_-2932_1001 len=12 repl=1 [10.4.1.1:50010]\n",
         2,
@@ -114,7 +114,7 @@ const REFUSED: [(&str, u64, Refusal); 33] = [
         Refusal::NamedTwice,
     ),
     (
-        "/a 1 bytes, replicated: replication=17, 1 block(s):  OK\n0. blk_3_1 len=1 Live_repl=1\n",
+        "/a 1 bytes, replicated: replication=17, 1 block(s):  OK\n0. blk_3_1 len=1 Live_repl=1 [10.4.1.1:50010]\n",
         2,
         Refusal::BadReplication,
     ),
@@ -176,6 +176,26 @@ const REFUSED: [(&str, u64, Refusal); 33] = [
         Refusal::PlaceAndNone,
     ),
     (
+        "/a 1 bytes, 1 block(s):  OK\n0. blk_3_1 len=1 repl=1\n",
+        2,
+        Refusal::LiveNoPlace,
+    ),
+    (
+        "/a 1 bytes, 1 block(s):  OK\n0. blk_3_1 len=1 Live_repl=2 []\n",
+        2,
+        Refusal::LiveNoPlace,
+    ),
+    (
+        "/a 1 bytes, 1 block(s):  OK\n0. blk_3_1 len=1 Live_repl=1 MISSING!\n",
+        2,
+        Refusal::LiveNoPlace,
+    ),
+    (
+        "/a 1 bytes, 1 block(s):  OK\n0. blk_3_1 len=1\n",
+        2,
+        Refusal::LiveNoPlace,
+    ),
+    (
         "/a 1 bytes, replicated: replication=3, replication=2, 1 block(s):  OK\n",
         1,
         Refusal::ToldTwice,
@@ -216,8 +236,8 @@ const REFUSED: [(&str, u64, Refusal); 33] = [
         Refusal::Elsewhere,
     ),
     (
-        "0. blk_3_1 len=1 repl=1\n Under replicated blk_4_1. Target Replicas is 4 but found 1\n",
-        2,
+        "/a 2 bytes, 2 block(s):  OK\n0. blk_3_1 len=1 repl=1 [10.4.1.1:50010]\n Under replicated blk_4_1. Target Replicas is 4 but found 1\n",
+        3,
         Refusal::OutOfPlace,
     ),
     (
@@ -227,13 +247,13 @@ const REFUSED: [(&str, u64, Refusal); 33] = [
     ),
     ("", 1, Refusal::CutOff),
     (
-        "0. blk_3_1 len=1 repl=1\nStatus: HEALTHY\n Total size:\t1 B\n",
-        4,
+        "/a 1 bytes, 1 block(s):  OK\n0. blk_3_1 len=1 repl=1 [10.4.1.1:50010]\nStatus: HEALTHY\n Total size:\t1 B\n",
+        5,
         Refusal::CutOff,
     ),
     (
-        "0. blk_3_1 len=1 repl=1\nStatus: HEALTHY\nThe filesystem under path '/' is HEALTH",
-        4,
+        "/a 1 bytes, 1 block(s):  OK\n0. blk_3_1 len=1 repl=1 [10.4.1.1:50010]\nStatus: HEALTHY\nThe filesystem under path '/' is HEALTH",
+        5,
         Refusal::CutOff,
     ),
     (
@@ -242,7 +262,7 @@ const REFUSED: [(&str, u64, Refusal); 33] = [
         Refusal::OutOfPlace,
     ),
     (
-        "Status: CORRUPT\n0. blk_3_1 len=1 repl=1\n",
+        "Status: CORRUPT\n0. blk_3_1 len=1 repl=1 [10.4.1.1:50010]\n",
         2,
         Refusal::OutOfPlace,
     ),
