@@ -1,1 +1,9 @@
 -- Lemmas.
+pub mod Taking
+-- Lines.
+pub mod LineLemmas
+pub mod ReadLemmas
+-- The copies on their way, and all of the state after a call.
+pub mod SentLemmas
+pub mod CopyLemmas
+pub mod StepLemmas

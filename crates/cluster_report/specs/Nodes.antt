@@ -1,33 +1,32 @@
 -- The nodes of a state with their storages, as a report tells of them.
 use Rattle.std.specs.Prelude.{ℕ, List, map, filter, length, unwrap_or, if◌then◌else◌}
 use Rattle.bm_base.specs.Map.{get}
-use Rattle.bm_base.specs.State.{Cluster, State}
+use Rattle.bm_base.specs.State.{State}
 use Rattle.bm_base.specs.Replicas.{has_storage, drains}
 use Rattle.bm_base.specs.Excess.{remaining}
 use Rattle.bm_base.specs.Queries.{blocks_on, is_retired}
-use Rattle.cluster_report.specs.declared.book.Book.{Book}
 use Rattle.cluster_report.specs.declared.nodes.NodeState.{NodeState}
 use Rattle.cluster_report.specs.declared.nodes.NodeState.TheVariants.{Live, Draining, Retired}
 use Rattle.cluster_report.specs.declared.nodes.StorageRow.{StorageRow}
 use Rattle.cluster_report.specs.declared.nodes.NodeRow.{NodeRow}
 
--- a storage: how many replicas of a state it holds, of any tag, and the bytes that are left on it in a cluster
-abbrev pub storage_row : State → Cluster → ℕ → StorageRow
-storage_row M C s = record { storage = s; replicas = length (blocks_on M.holdings s); remaining = remaining C s }
+-- a storage: how many replicas it holds, of any tag, and the bytes that are left on it
+abbrev pub storage_row : State → ℕ → StorageRow
+storage_row M s = record { storage = s; replicas = length (blocks_on M.holdings s); remaining = remaining M.cluster s }
 
 -- those of these storages that stand on a node
-abbrev pub storage_rows : State → Cluster → ℕ → List ℕ → List StorageRow
-storage_rows M C n ss = map (storage_row M C) (filter (has_storage C n) ss)
+abbrev pub storage_rows : State → ℕ → List ℕ → List StorageRow
+storage_rows M n ss = map (storage_row M) (filter (has_storage M.cluster n) ss)
 
 -- retired where it can be taken away; else it drains, or it is live
-abbrev pub state_of : State → Cluster → ℕ → NodeState
-state_of M C n = if is_retired M.cluster M.holdings n then Retired else if drains C n then Draining else Live
+abbrev pub state_of : State → ℕ → NodeState
+state_of M n = if is_retired M.cluster M.holdings n then Retired else if drains M.cluster n then Draining else Live
 
--- a node, by what the book has of the cluster, with those of these storages that stand on it
-abbrev pub node_row : State → Book → List ℕ → ℕ → NodeRow
-node_row M book ss n = record {
+-- a node, with those of these storages that stand on it
+abbrev pub node_row : State → List ℕ → ℕ → NodeRow
+node_row M ss n = record {
   node = n;
-  rack = unwrap_or (get book.racks.map n) 0;
-  state = state_of M book.topology.cluster n;
-  storages = storage_rows M book.topology.cluster n ss;
+  rack = unwrap_or (get M.cluster.nodes n) 0;
+  state = state_of M n;
+  storages = storage_rows M n ss;
 }

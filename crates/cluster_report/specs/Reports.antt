@@ -1,12 +1,11 @@
 -- What a report says of a state.
-use Rattle.std.specs.Prelude.{ℕ, List, map, length, take}
-use Rattle.bm_base.specs.Map.{len}
+use Rattle.std.specs.Prelude.{List, map, length, take}
+use Rattle.bm_base.specs.Map.{keys, len}
 use Rattle.bm_base.specs.State.{State}
 use Rattle.bm_base.specs.Queries.{all_replicas, excess_replicas, missing_blocks}
 use Rattle.cluster_report.specs.Counting.{tags_counted, blocks_held}
 use Rattle.cluster_report.specs.Levels.{leveled, levels_counted, most_urgent}
 use Rattle.cluster_report.specs.Nodes.{node_row}
-use Rattle.cluster_report.specs.declared.book.Book.{Book}
 use Rattle.cluster_report.specs.declared.levels.Leveled.{Leveled}
 use Rattle.cluster_report.specs.declared.report.Report.{Report}
 
@@ -14,16 +13,16 @@ use Rattle.cluster_report.specs.declared.report.Report.{Report}
 abbrev pub levels_held : State → List Leveled
 levels_held M = map (leveled M.cluster M.holdings) (blocks_held (all_replicas M.holdings))
 
--- how the cluster of a state stands, by the book beside it, and with these nodes and storages
-abbrev pub report_of : State → Book → List ℕ → List ℕ → Report
-report_of M book nodes storages = record {
+-- how the cluster of a state stands
+abbrev pub report_of : State → Report
+report_of M = record {
   calls = M.calls;
   round = M.round;
-  nodes = map (node_row M book storages) nodes;
+  nodes = map (node_row M (keys M.cluster.storages)) (keys M.cluster.nodes);
   levels = levels_counted (levels_held M) (length (missing_blocks M.cluster M.holdings));
   tags = tags_counted (all_replicas M.holdings);
   excess = length (excess_replicas M.holdings);
-  transfers = len book.transfers.copies;
+  transfers = len M.holdings.pending;
   missing = take 10 (missing_blocks M.cluster M.holdings);
   urgent = most_urgent (levels_held M);
 }

@@ -1,5 +1,5 @@
 -- The text of a report: a line for each fact. A line ends with the byte 10.
-use Rattle.std.specs.Prelude.{ℕ, ◌+◌, List, [], ◌∷◌, ◌++◌, Option, Some, None, codes, decimal, length, sum_by}
+use Rattle.std.specs.Prelude.{ℕ, ◌+◌, List, [], ◌++◌, Option, Some, None, codes, decimal, length, sum_by}
 use Rattle.std.specs.List.{flat_map}
 use Rattle.bm_base.specs.declared.level.Level.{Level}
 use Rattle.bm_base.specs.Levels.{level_number}
@@ -13,7 +13,7 @@ use Rattle.cluster_report.specs.declared.nodes.NodeRow.{NodeRow}
 use Rattle.cluster_report.specs.declared.report.Report.{Report}
 
 -- what is counted, and how many there are
-abbrev pub count_line : List ℕ → ℕ → List ℕ
+unfoldable pub count_line : List ℕ → ℕ → List ℕ
 count_line what n = what ++ (codes " " ++ (decimal n ++ codes "\n"))
 
 abbrev pub state_word : NodeState → List ℕ
@@ -21,27 +21,31 @@ state_word Live = codes "live"
 state_word Draining = codes "draining"
 state_word Retired = codes "retired"
 
--- a node: its rack and state, how many storages it has, and what they hold together
-abbrev pub node_line : NodeRow → List ℕ
-node_line row =
-    codes "node " ++ (decimal row.node ++ (codes " rack " ++ (decimal row.rack ++ (codes " " ++ (state_word row.state
-    ++ (codes " storages " ++ (decimal (length row.storages)
-    ++ (codes " replicas " ++ (decimal (sum_by (λ s. s.replicas) row.storages)
-    ++ (codes " remaining " ++ (decimal (sum_by (λ s. s.remaining) row.storages) ++ codes "\n")))))))))))
+-- how many storages there are, and what they hold together
+unfoldable pub held_text : List StorageRow → List ℕ
+held_text ss =
+    codes " storages " ++ (decimal (length ss)
+    ++ (codes " replicas " ++ (decimal (sum_by (λ s. s.replicas) ss)
+    ++ (codes " remaining " ++ (decimal (sum_by (λ s. s.remaining) ss) ++ codes "\n")))))
 
-abbrev pub storage_line : StorageRow → List ℕ
+-- a node: its rack and state, and what it holds
+unfoldable pub node_line : NodeRow → List ℕ
+node_line row =
+    codes "node " ++ (decimal row.node ++ (codes " rack " ++ (decimal row.rack ++ (codes " " ++ (state_word row.state ++ held_text row.storages)))))
+
+unfoldable pub storage_line : StorageRow → List ℕ
 storage_line row =
     codes "storage " ++ (decimal row.storage ++ (codes " replicas " ++ (decimal row.replicas ++ (codes " remaining " ++ (decimal row.remaining ++ codes "\n")))))
 
 -- a node, and then its storages
-abbrev pub node_text : NodeRow → List ℕ
+unfoldable pub node_text : NodeRow → List ℕ
 node_text row = node_line row ++ flat_map storage_line row.storages
 
 abbrev pub all_blocks : LevelCounts → ℕ
 all_blocks ls = ls.highest + ls.very_under_replicated + ls.under_replicated + ls.badly_distributed + ls.missing + ls.none
 
 -- how many blocks there are, and how many at each level
-abbrev pub levels_text : LevelCounts → List ℕ
+unfoldable pub levels_text : LevelCounts → List ℕ
 levels_text ls =
     count_line (codes "blocks") (all_blocks ls)
     ++ (count_line (codes "level 0") ls.highest
@@ -55,7 +59,7 @@ abbrev pub all_replicas : TagCounts → ℕ
 all_replicas ts = ts.good + ts.stale + ts.bad + ts.stray
 
 -- how many replicas there are, and how many of each tag
-abbrev pub tags_text : TagCounts → List ℕ
+unfoldable pub tags_text : TagCounts → List ℕ
 tags_text ts =
     count_line (codes "replicas") (all_replicas ts)
     ++ (count_line (codes "good") ts.good
@@ -63,7 +67,7 @@ tags_text ts =
     ++ (count_line (codes "bad") ts.bad
     ++ count_line (codes "stray") ts.stray)))
 
-abbrev pub missing_line : ℕ → List ℕ
+unfoldable pub missing_line : ℕ → List ℕ
 missing_line b = codes "missing block " ++ (decimal b ++ codes "\n")
 
 abbrev pub urgent_text : ℕ → Option Level → List ℕ
@@ -71,19 +75,25 @@ urgent_text b None = []
 urgent_text b (Some urgency) = codes "urgent block " ++ (decimal b ++ (codes " level " ++ (decimal (level_number urgency) ++ codes "\n")))
 
 -- a block without a level has no line
-abbrev pub urgent_line : Leveled → List ℕ
+unfoldable pub urgent_line : Leveled → List ℕ
 urgent_line l = urgent_text l.block l.level
 
--- the lines of a report
-abbrev pub report_text : Report → List ℕ
-report_text r =
+-- how many calls were accepted and rounds taken, and the nodes
+unfoldable pub cluster_text : Report → List ℕ
+cluster_text r =
     count_line (codes "calls") r.calls
     ++ (count_line (codes "rounds") r.round
     ++ (count_line (codes "nodes") (length r.nodes)
-    ++ (flat_map node_text r.nodes
-    ++ (levels_text r.levels
-    ++ (tags_text r.tags
-    ++ (count_line (codes "excess") r.excess
+    ++ flat_map node_text r.nodes))
+
+-- how many replicas are in excess and how many copies on their way, and the blocks that are named
+unfoldable pub work_text : Report → List ℕ
+work_text r =
+    count_line (codes "excess") r.excess
     ++ (count_line (codes "transfers") r.transfers
     ++ (flat_map missing_line r.missing
-    ++ flat_map urgent_line r.urgent))))))))
+    ++ flat_map urgent_line r.urgent))
+
+-- the lines of a report
+unfoldable pub report_text : Report → List ℕ
+report_text r = cluster_text r ++ (levels_text r.levels ++ (tags_text r.tags ++ work_text r))

@@ -1,9 +1,13 @@
 // What the manager cannot be asked: its nodes and storages, and the copies on their way, as the accepted calls tell of them.
-ghost use Rattle.std.specs.Prelude.{◌≡◌, unwrap_or};
+ghost use Rattle.std.specs.Prelude.{◌≡◌, IfOk, OnOk, OnErr, unwrap_or};
 ghost use Rattle.bm_base.specs.Map as map;
+ghost use Rattle.bm_base.specs.State.{Cluster, Holdings, empty_cluster};
+ghost use Rattle.bm_base.specs.Events.{change_cluster, change_holdings};
+ghost use Rattle.bm_base.specs.Refusals.{first_of, cluster_checks};
+ghost use Rattle.cluster_report.specs.Books.{IsAccepted, cluster_after, AreCopiesAfter};
 
 use crate::transfers::Transfers;
-use bm_base::{Config, Event, NodeId, NumberMap, Rack, Refusal};
+use bm_base::{Answer, Call, Config, Event, NodeId, NumberMap, Rack, Refusal};
 use bm_topo::Topology;
 use std::alloc::{AllocError, Global};
 
@@ -13,11 +17,17 @@ pub struct Book {
     pub topology: Topology,
     pub racks: NumberMap<Rack>,
     pub transfers: Transfers,
+    ghost on_racks: { racks.map ≡ topology.cluster.nodes },
 }
 
 impl Book {
     /// Nothing was told.
-    pub fn new(alloc: Global, config: &Config) -> Result<Book, Refusal> {
+    #[tactic(auto, unfolding(bm_base::specs::State::empty_cluster))]
+    pub fn new(alloc: Global, config: &Config) -> Result<Book, Refusal>
+        ensures cluster { IfOk result (λ b. b.topology.cluster ≡ empty_cluster) }
+        ensures copies { IfOk result (λ b. b.transfers.copies ≡ map.empty) }
+        ensures pend { IfOk result (λ b. b.transfers.pend ≡ config.now.pend) }
+    {
         Ok(Book {
             topology: Topology::new(alloc)?,
             racks: NumberMap::new(alloc),
@@ -25,38 +35,77 @@ impl Book {
         })
     }
 
-    /// The manager accepted an event, so that no check refuses it. Its transfers cost a look at each copy that is on its way, where the event takes any away; the
-    /// rest at most a look at each node and each storage.
-    pub fn take_event(&mut self, event: &Event) -> Result<(), Refusal> {
-        self.topology.check(event)?;
-        self.transfers.take_event(&self.topology, event);
-        self.take_rack(event)?;
-        self.topology.prepare(event)?;
-        self.topology.commit(event);
-        Ok(())
+    /// Notes what a call and its answer say of nodes, storages and copies.
+    pub fn take(&mut self, call: &Call, answer: &Answer) -> Result<(), AllocError>
+        requires { IsAccepted self.old.topology.cluster call.now answer.now }
+        ensures cluster { OnOk result (self.new.topology.cluster
+            ≡ cluster_after self.old.topology.cluster call.now answer.now) }
+        ensures copies { OnOk result (AreCopiesAfter self.old.topology.cluster
+            self.old.transfers call.now answer.now self.new.transfers) }
+        ensures pend { OnOk result (self.new.transfers.pend ≡ self.old.transfers.pend) }
+    {
+        match (call, answer) {
+            (Call::Apply(event), Answer::Done(_)) => self.take_event(event),
+            (Call::Round, Answer::Commanded(commands)) => self.transfers.take_round(commands),
+            _ => Ok(()),
+        }
     }
 
-    /// A node comes to its rack, or leaves it.
-    fn take_rack(&mut self, event: &Event) -> Result<(), AllocError>
-        ensures { self.new.topology ≡ self.old.topology }
+    /// The manager accepted an event. Its transfers cost a look at each copy that is on its way, where the event takes any away; the
+    /// rest at most a look at each node and each storage.
+    fn take_event(&mut self, event: &Event) -> Result<(), AllocError>
+        requires { first_of (cluster_checks self.old.topology.cluster event.now) ≡ None }
+        ensures cluster { OnOk result (self.new.topology.cluster
+            ≡ change_cluster self.old.topology.cluster event.now) }
+        ensures copies { OnOk result ((H : Holdings) → self.old.transfers.copies ≡ H.pending
+            → self.new.transfers.copies
+            ≡ (change_holdings self.old.topology.cluster H event.now).pending) }
+        ensures pend { OnOk result (self.new.transfers.pend ≡ self.old.transfers.pend) }
     {
-        match event {
-            Event::Register { node, rack, .. } => {
-                self.racks.insert(u64::from(node.0), *rack)?;
-            }
-            Event::Dead { node } => self.racks.remove(u64::from(node.0)),
-            _ => {}
+        if self.topology.prepare(event).is_err() {
+            return Err(AllocError);
         }
+        take_rack(&mut self.racks, event)?;
+        self.transfers.take_event(&self.topology, event);
+        self.topology.commit(event);
         Ok(())
     }
 
     /// The rack of a node; 0 of a node that is not known.
     pub fn rack_of(&self, node: NodeId) -> Rack
-        ensures { result ≡ unwrap_or (map.get self.now.racks.map node) 0 }
+        ensures { result ≡ unwrap_or (map.get self.now.topology.cluster.nodes node) 0 }
     {
         match self.racks.get(u64::from(node.0)) {
             Some(rack) => rack,
             None => Rack(0),
         }
+    }
+}
+
+/// A node comes to its rack, or leaves it.
+#[tactic(auto, unfolding(bm_base::specs::Events::change_cluster, bm_base::specs::Events::register, bm_base::specs::Events::without_node, bm_base::specs::Events::without_storage, bm_base::specs::Events::heartbeat, bm_base::specs::Events::drain, bm_base::specs::Events::undrain))]
+fn take_rack(racks: &mut NumberMap<Rack>, event: &Event) -> Result<(), AllocError>
+    ensures ok { OnOk result ((C : Cluster) → racks.old.map ≡ C.nodes
+        → racks.new.map ≡ (change_cluster C event.now).nodes) }
+    ensures err { OnErr result (racks.new.map ≡ racks.old.map) }
+{
+    match event {
+        Event::Register { node, rack, .. } => racks.insert(u64::from(node.0), *rack),
+        Event::Dead { node } => {
+            racks.remove(u64::from(node.0));
+            Ok(())
+        }
+        Event::StorageFailed { .. }
+        | Event::Heartbeat { .. }
+        | Event::Drain { .. }
+        | Event::Undrain { .. }
+        | Event::AddBlock { .. }
+        | Event::DeleteBlock { .. }
+        | Event::SetReplication { .. }
+        | Event::Restamp { .. }
+        | Event::Received { .. }
+        | Event::Deleted { .. }
+        | Event::Corrupt { .. }
+        | Event::FullReport { .. } => Ok(()),
     }
 }

@@ -1,7 +1,7 @@
 // The nodes with their storages, as a report tells of them.
 ghost use Rattle.std.specs.Prelude.{◌≡◌, IfOk, map};
+ghost use Rattle.bm_base.specs.Map as map_of;
 ghost use Rattle.cluster_report.specs.Nodes.{storage_row, storage_rows, state_of, node_row};
-ghost use Rattle.bm_base.specs.Replicas.{has_storage};
 
 use crate::book::Book;
 use bm_base::{Items, NodeId, Rack, Refusal, StorageId};
@@ -46,8 +46,8 @@ pub fn node_rows(
     nodes: &[NodeId],
     storages: &[StorageId],
 ) -> Result<Items<NodeRow>, Refusal>
-    ensures { IfOk result
-        (λ rows. rows ≡ map (node_row manager.now book.now storages.now) nodes.now) }
+    requires { book.now.topology.cluster ≡ manager.now.cluster }
+    ensures { IfOk result (λ rows. rows ≡ map (node_row manager.now storages.now) nodes.now) }
 {
     let mut rows = Vec::new(alloc);
     for node in nodes {
@@ -58,7 +58,9 @@ pub fn node_rows(
 }
 
 /// Every node, rising.
-pub fn all_nodes(alloc: Global, topology: &Topology) -> Result<Vec<NodeId>, AllocError> {
+pub fn all_nodes(alloc: Global, topology: &Topology) -> Result<Vec<NodeId>, AllocError>
+    ensures { IfOk result (λ v. v.items ≡ map_of.keys topology.now.cluster.nodes) }
+{
     let mut nodes = Vec::new(alloc);
     for place in 0..topology.alive_nodes() {
         let Some(node) = topology.node_at(place) else {
@@ -70,7 +72,9 @@ pub fn all_nodes(alloc: Global, topology: &Topology) -> Result<Vec<NodeId>, Allo
 }
 
 /// Every storage, rising.
-pub fn all_storages(alloc: Global, topology: &Topology) -> Result<Vec<StorageId>, AllocError> {
+pub fn all_storages(alloc: Global, topology: &Topology) -> Result<Vec<StorageId>, AllocError>
+    ensures { IfOk result (λ v. v.items ≡ map_of.keys topology.now.cluster.storages) }
+{
     let mut storages = Vec::new(alloc);
     for place in 0..topology.storage_count() {
         let Some(storage) = topology.storage_at(place) else {
@@ -88,19 +92,20 @@ fn node_row(
     node: NodeId,
     storages: &[StorageId],
 ) -> Result<NodeRow, Refusal>
-    ensures { IfOk result (λ row. row ≡ node_row manager.now book.now storages.now node) }
+    requires { book.now.topology.cluster ≡ manager.now.cluster }
+    ensures { IfOk result (λ row. row ≡ node_row manager.now storages.now node) }
 {
     Ok(NodeRow {
         node,
         rack: book.rack_of(node),
         state: state_of(manager, &book.topology, node)?,
-        storages: storage_rows(alloc, manager, book, node, storages)?,
+        storages: storage_rows(alloc, manager, &book.topology, node, storages)?,
     })
 }
 
 fn state_of(manager: &Manager, topology: &Topology, node: NodeId) -> Result<NodeState, Refusal>
-    ensures { IfOk result
-        (λ s. s ≡ state_of manager.now topology.now.cluster node) }
+    requires { topology.now.cluster ≡ manager.now.cluster }
+    ensures { IfOk result (λ s. s ≡ state_of manager.now node) }
 {
     if manager.retired(node)? {
         return Ok(NodeState::Retired);
@@ -116,30 +121,21 @@ fn state_of(manager: &Manager, topology: &Topology, node: NodeId) -> Result<Node
 fn storage_rows(
     alloc: Global,
     manager: &Manager,
-    book: &Book,
+    topology: &Topology,
     node: NodeId,
     storages: &[StorageId],
 ) -> Result<Items<StorageRow>, Refusal>
-    ensures { IfOk result (λ rows. rows ≡ storage_rows manager.now book.now.topology.cluster node storages.now) }
+    requires { topology.now.cluster ≡ manager.now.cluster }
+    ensures { IfOk result (λ rows. rows ≡ storage_rows manager.now node storages.now) }
 {
     let mut rows = Vec::new(alloc);
     for storage in storages {
-        if has_storage(&book.topology, node, *storage) {
-            let row = storage_row(manager, &book.topology, *storage)?;
+        if topology.has_storage(node, *storage) {
+            let row = storage_row(manager, topology, *storage)?;
             rows.push(row)?;
         }
     }
     Ok(Items::from_vec(rows))
-}
-
-#[tactic(auto, unfolding(bm_base::specs::Replicas::has_storage))]
-fn has_storage(topology: &Topology, node: NodeId, storage: StorageId) -> bool
-    ensures { result ≡ has_storage topology.now.cluster node storage }
-{
-    match topology.node_of(storage) {
-        Some(other) => other == node,
-        None => false,
-    }
 }
 
 #[tactic(auto, unfolding(bm_base::specs::Excess::remaining))]
@@ -148,7 +144,8 @@ fn storage_row(
     topology: &Topology,
     storage: StorageId,
 ) -> Result<StorageRow, Refusal>
-    ensures { IfOk result (λ row. row ≡ storage_row manager.now topology.now.cluster storage) }
+    requires { topology.now.cluster ≡ manager.now.cluster }
+    ensures { IfOk result (λ row. row ≡ storage_row manager.now storage) }
 {
     let blocks = manager.blocks_on(storage)?;
     Ok(StorageRow {

@@ -1,4 +1,10 @@
 // The lines of the input, one after another.
+ghost use Rattle.std.specs.Prelude.{◌≡◌, ◌⊎◌, Some, IfOk, OnOk, IfSome, is_none};
+ghost use Rattle.std.specs.Io.KnownBytes.{Appends};
+ghost use Rattle.bm_lines.specs.Lines.{lines_of};
+ghost use Rattle.cluster_report.specs.Sessions.{IsInStep};
+ghost use Rattle.cluster_report.specs.Reading.{without_end, told, after_line, after_lines, all_accepted, note_text, notes_text};
+
 use crate::fault::Fault;
 use crate::session::Session;
 use std::alloc::Global;
@@ -15,7 +21,17 @@ pub fn read_lines<R: BufRead, N: Write, H: Threads + Wait + Sync>(
     session: &mut Session,
     reader: &mut R,
     notes: &mut N,
-) -> Result<bool, Fault> {
+) -> Result<bool, Fault>
+    requires { IsInStep session.old }
+    ensures state { OnOk result (IfSome (R.remaining reader.old) (λ input.
+        session.new.manager ≡ after_lines session.old.manager (lines_of input))) }
+    ensures accepted { IfOk result (λ all. IfSome (R.remaining reader.old) (λ input.
+        all ≡ all_accepted session.old.manager (lines_of input))) }
+    ensures notes { OnOk result (IfSome (R.remaining reader.old) (λ input.
+        Appends (N.contents notes.old) (N.contents notes.new)
+        (notes_text 1 session.old.manager (lines_of input)))) }
+    ensures in_step { OnOk result (IsInStep session.new) }
+{
     let mut all_accepted = true;
     let mut line = Vec::new(alloc);
     for number in 1..u64::MAX {
@@ -40,24 +56,48 @@ fn take_line<N: Write, H: Threads + Wait + Sync>(
     notes: &mut N,
     number: u64,
     line: &[u8],
-) -> Result<bool, Fault> {
-    let Some(why) = session.take_line(rt, line)? else {
-        return Ok(true);
-    };
+) -> Result<bool, Fault>
+    requires { IsInStep session.old }
+    ensures state { OnOk result (session.new.manager
+        ≡ after_line session.old.manager line.now) }
+    ensures accepted { IfOk result (λ is. is ≡ is_none (told session.old.manager line.now)) }
+    ensures notes { OnOk result (Appends (N.contents notes.old) (N.contents notes.new)
+        (note_text number (told session.old.manager line.now))) }
+    ensures in_step { OnOk result (IsInStep session.new) }
+{
+    match session.take_line(rt, line)? {
+        Some(why) => {
+            write_note(alloc, notes, number, why.as_str())?;
+            Ok(false)
+        }
+        None => Ok(true),
+    }
+}
+
+/// The note on a line that is refused.
+#[tactic(auto, unfolding(crate::specs::Reading::note_text))]
+fn write_note<N: Write>(alloc: Global, notes: &mut N, number: u64, why: &str) -> Result<(), Fault>
+    ensures { OnOk result (Appends (N.contents notes.old) (N.contents notes.new)
+        (note_text number (Some why.now))) }
+{
     let note = format!(in alloc; "line {number}: {why}\n")?;
     if notes.write_all(note.as_bytes()).is_err() {
         return Err(Fault::Write);
     }
-    Ok(false)
+    Ok(())
 }
 
 /// A line without its line end.
-fn without_end(line: &[u8]) -> &[u8] {
+fn without_end(line: &[u8]) -> &[u8]
+    ensures { result.now ≡ without_end line.now }
+{
     line.strip_suffix(b"\n".as_slice()).unwrap_or(line)
 }
 
 /// Memory that was refused to a read, or a read that failed.
-fn read_fault(error: &io::Error) -> Fault {
+fn read_fault(error: &io::Error) -> Fault
+    ensures { (result ≡ Fault.Memory) ⊎ (result ≡ Fault.Read) }
+{
     if error.kind() == ErrorKind::OutOfMemory {
         Fault::Memory
     } else {

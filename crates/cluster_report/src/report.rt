@@ -1,12 +1,13 @@
 // The whole report, counted.
 ghost use Rattle.std.specs.Prelude.{◌≡◌, IfOk, take};
 ghost use Rattle.cluster_report.specs.Reports.{report_of};
+ghost use Rattle.cluster_report.specs.Sessions.{Follows};
 
 use crate::book::Book;
 use crate::counting::{TagCounts, count_tags, held_blocks};
 use crate::levels::{LevelCounts, Leveled, MOST_NAMED, count_levels, levels_of, most_urgent};
-use crate::nodes::{NodeRow, node_rows};
-use bm_base::{BlockId, Items, NodeId, Refusal, StorageId};
+use crate::nodes::{NodeRow, all_nodes, all_storages, node_rows};
+use bm_base::{BlockId, Items, Refusal};
 use bm_manager::Manager;
 use std::alloc::Global;
 
@@ -28,17 +29,12 @@ pub struct Report {
     pub urgent: Items<Leveled>,
 }
 
-/// How the cluster of a manager stands. The manager is asked for all replicas at once, which takes the memory of the list; for those in
-/// excess, and for the missing blocks; for the level of each block that has a replica; and, for each node, as `node_rows` says.
-pub fn report_of(
-    alloc: Global,
-    manager: &Manager,
-    book: &Book,
-    nodes: &[NodeId],
-    storages: &[StorageId],
-) -> Result<Report, Refusal>
-    ensures { IfOk result
-        (λ r. r ≡ report_of manager.now book.now nodes.now storages.now) }
+/// How the cluster of a manager stands, by the book beside it. The manager is asked for all replicas at once, which takes the memory
+/// of the list; for those in excess, and for the missing blocks; for the level of each block that has a replica; and, for each node,
+/// as `node_rows` says.
+pub fn report_of(alloc: Global, manager: &Manager, book: &Book) -> Result<Report, Refusal>
+    requires { Follows book.now manager.now }
+    ensures { IfOk result (λ r. r ≡ report_of manager.now) }
 {
     let replicas = manager.replicas()?;
     let excess = manager.excess()?;
@@ -48,7 +44,7 @@ pub fn report_of(
     Ok(Report {
         calls: manager.calls(),
         round: manager.rounds(),
-        nodes: node_rows(alloc, manager, book, nodes, storages)?,
+        nodes: nodes_of(alloc, manager, book)?,
         levels: count_levels(levels.as_slice(), missing.as_slice().len()),
         tags: count_tags(replicas.as_slice()),
         excess: excess.as_slice().len(),
@@ -56,6 +52,16 @@ pub fn report_of(
         missing: first_of(missing),
         urgent: Items::from_vec(most_urgent(alloc, levels.as_slice())?),
     })
+}
+
+/// Every node with every storage of it.
+fn nodes_of(alloc: Global, manager: &Manager, book: &Book) -> Result<Items<NodeRow>, Refusal>
+    requires { book.now.topology.cluster ≡ manager.now.cluster }
+    ensures { IfOk result (λ rows. rows ≡ (report_of manager.now).nodes) }
+{
+    let nodes = all_nodes(alloc, &book.topology)?;
+    let storages = all_storages(alloc, &book.topology)?;
+    node_rows(alloc, manager, book, nodes.as_slice(), storages.as_slice())
 }
 
 /// The first of these blocks.

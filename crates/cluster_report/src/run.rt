@@ -1,17 +1,24 @@
 // A whole run, from a reader to a writer.
+ghost use Rattle.std.specs.Prelude.{◌≡◌, IfOk, IfErr, IfSome, OnOk, string_bytes};
+ghost use Rattle.std.specs.Io.KnownBytes.{Appends};
+ghost use Rattle.cluster_report.specs.Sessions.{IsInStep};
+ghost use Rattle.cluster_report.specs.Reports.{report_of};
+ghost use Rattle.cluster_report.specs.Running.{report_on, is_accepted, notes_on, WritesNothing};
+ghost use Rattle.cluster_report.specs.Text.{report_text};
+
 use crate::fault::Fault;
-use crate::nodes::{all_nodes, all_storages};
 use crate::reading::read_lines;
 use crate::report::report_of;
 use crate::session::Session;
 use crate::text::report_text;
-use bm_base::{Config, Refusal};
-use std::alloc::Global;
+use bm_base::Config;
+use std::alloc::{AllocError, Global};
 use std::io::{BufRead, Write};
 use std::sync::Wait;
 use std::thread::Threads;
 
-/// Makes the calls of all lines, and then writes how the cluster stands. Answers whether every line was accepted.
+/// Makes the calls of all lines, and then writes how the cluster stands. Answers whether every line was accepted. Nothing is written of
+/// the report before all lines were read.
 pub fn run<R: BufRead, W: Write, N: Write, H: Threads + Wait + Sync>(
     rt: &H,
     alloc: Global,
@@ -19,34 +26,48 @@ pub fn run<R: BufRead, W: Write, N: Write, H: Threads + Wait + Sync>(
     writer: &mut W,
     notes: &mut N,
     config: &Config,
-) -> Result<bool, Fault> {
+) -> Result<bool, Fault>
+    // Where the reader tells its bytes, the report is that of the state after all calls that their lines ask for.
+    ensures text { OnOk result (IfSome (R.remaining reader.old) (λ input.
+        Appends (W.contents writer.old) (W.contents writer.new) (report_on config.now input))) }
+    ensures accepted { IfOk result (λ all. IfSome (R.remaining reader.old) (λ input.
+        all ≡ is_accepted config.now input)) }
+    // Each line that was refused is told by its number, and no other.
+    ensures notes { OnOk result (IfSome (R.remaining reader.old) (λ input.
+        Appends (N.contents notes.old) (N.contents notes.new) (notes_on config.now input))) }
+    // Where a read fails or memory lacks, the writer is as it was.
+    ensures nothing_written { IfErr result (λ f. WritesNothing f writer.old writer.new) }
+{
     let Ok(mut session) = Session::new(alloc, config) else {
         return Err(Fault::Memory);
     };
     let all_accepted = read_lines(rt, alloc, &mut session, reader, notes)?;
     let text = text_of(alloc, &session)?;
-    if writer.write_all(text.as_bytes()).is_err() {
+    write_report(writer, text.as_bytes())?;
+    Ok(all_accepted)
+}
+
+/// Writes all of it, and flushes.
+fn write_report<W: Write>(writer: &mut W, text: &[u8]) -> Result<(), Fault>
+    ensures ok { OnOk result (Appends (W.contents writer.old) (W.contents writer.new) text.now) }
+    ensures err { IfErr result (λ f. f ≡ Fault.Write) }
+{
+    if writer.write_all(text).is_err() {
         return Err(Fault::Write);
     }
     if writer.flush().is_err() {
         return Err(Fault::Write);
     }
-    Ok(all_accepted)
+    Ok(())
 }
 
 /// The text of the report. What the manager refuses here is refused for want of memory.
-fn text_of(alloc: Global, session: &Session) -> Result<String, Fault> {
-    let book = &session.book;
-    let nodes = all_nodes(alloc, &book.topology)?;
-    let storages = all_storages(alloc, &book.topology)?;
-    match report_of(
-        alloc,
-        &session.manager,
-        book,
-        nodes.as_slice(),
-        storages.as_slice(),
-    ) {
-        Ok(report) => Ok(report_text(alloc, &report)?),
-        Err(_) => Err(Fault::Memory),
+fn text_of(alloc: Global, session: &Session) -> Result<String, AllocError>
+    requires { IsInStep session.now }
+    ensures { IfOk result (λ s. string_bytes s ≡ report_text (report_of session.now.manager)) }
+{
+    match report_of(alloc, &session.manager, &session.book) {
+        Ok(report) => report_text(alloc, &report),
+        Err(_) => Err(AllocError),
     }
 }

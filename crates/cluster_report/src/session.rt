@@ -1,7 +1,13 @@
 // The manager and the book beside it, one line after another.
+ghost use Rattle.std.specs.Prelude.{◌≡◌, Some, IfOk, OnOk, option_map, string_bytes};
+ghost use Rattle.bm_base.specs.State.{first_state};
+ghost use Rattle.bm_base.specs.Calls.{step};
+ghost use Rattle.bm_base.specs.Answering.{wants_memory};
+ghost use Rattle.cluster_report.specs.Sessions.{IsInStep};
+ghost use Rattle.cluster_report.specs.Reading.{told, told_of, after_line};
 
 use crate::book::Book;
-use bm_base::{Answer, Call, Config, Event, Refusal};
+use bm_base::{Answer, Call, Config, Refusal};
 use bm_crew::NoGate;
 use bm_lines::{MAX_LINE, answer_line, call_of};
 use bm_manager::Manager;
@@ -19,7 +25,11 @@ pub struct Session {
 
 impl Session {
     /// No line was read.
-    pub fn new(alloc: Global, config: &Config) -> Result<Session, Refusal> {
+    #[tactic(auto, unfolding(bm_base::specs::State::empty_holdings))]
+    pub fn new(alloc: Global, config: &Config) -> Result<Session, Refusal>
+        ensures state { IfOk result (λ s. s.manager ≡ first_state config.now) }
+        ensures in_step { IfOk result IsInStep }
+    {
         Ok(Session {
             alloc,
             manager: Manager::new(alloc, *config)?,
@@ -28,60 +38,71 @@ impl Session {
     }
 
     /// Makes the call that a line asks for. Where none is made, what the line tool answers.
+    #[tactic(auto, unfolding(crate::specs::Reading::told, crate::specs::Reading::after_line))]
     pub fn take_line<H: Threads + Wait + Sync>(
         &mut self,
         rt: &H,
         line: &[u8],
-    ) -> Result<Option<String>, AllocError> {
+    ) -> Result<Option<String>, AllocError>
+        requires { IsInStep self.old }
+        ensures told { IfOk result (λ o. option_map string_bytes o
+            ≡ told self.old.manager line.now) }
+        ensures state { OnOk result (self.new.manager ≡ after_line self.old.manager line.now) }
+        ensures in_step { OnOk result (IsInStep self.new) }
+    {
         if line.len() > MAX_LINE {
-            return told(self.alloc, "refused 21 LongLine");
+            return text_of(self.alloc, "refused 21 LongLine");
         }
-        let Some(call) = call_of(self.alloc, line)? else {
-            return told(self.alloc, "refused 20 BadLine");
-        };
-        match self.take_call(rt, &call) {
-            Ok(()) => Ok(None),
-            Err(Refusal::Memory) => Err(AllocError),
-            Err(refusal) => {
-                let text = answer_line(self.alloc, &call, &Answer::Refused(refusal))?;
-                Ok(Some(text))
-            }
+        match call_of(self.alloc, line)? {
+            Some(call) => self.take_call(rt, &call),
+            None => text_of(self.alloc, "refused 20 BadLine"),
         }
     }
 
-    /// Makes a call, and notes in the book what it says of nodes, storages and copies.
-    fn take_call<H: Threads + Wait + Sync>(&mut self, rt: &H, call: &Call) -> Result<(), Refusal> {
-        match call {
-            Call::Apply(event) => self.take_event(rt, event),
-            Call::Round => self.take_round(rt),
-            query => self.ask(rt, query),
-        }
-    }
-
-    fn take_event<H: Threads + Wait + Sync>(
+    /// Makes a call, and notes in the book what it says. What is told of its answer.
+    fn take_call<H: Threads + Wait + Sync>(
         &mut self,
         rt: &H,
-        event: &Event,
-    ) -> Result<(), Refusal> {
-        self.manager.apply(rt, &NoGate, event)?;
-        self.book.take_event(event)
-    }
-
-    fn take_round<H: Threads + Wait + Sync>(&mut self, rt: &H) -> Result<(), Refusal> {
-        let commands = self.manager.round(rt, &NoGate)?;
-        self.book.transfers.take_round(&commands)?;
-        Ok(())
-    }
-
-    /// Asks a question, whose answer is not told.
-    fn ask<H: Threads + Wait + Sync>(&mut self, rt: &H, query: &Call) -> Result<(), Refusal> {
-        match self.manager.answer(rt, &NoGate, query) {
-            Answer::Refused(refusal) => Err(refusal),
-            _ => Ok(()),
+        call: &Call,
+    ) -> Result<Option<String>, AllocError>
+        requires { IsInStep self.old }
+        ensures told { IfOk result (λ o. option_map string_bytes o
+            ≡ told_of call.now (step self.old.manager call.now).0) }
+        ensures state { OnOk result (self.new.manager ≡ (step self.old.manager call.now).1) }
+        ensures in_step { OnOk result (IsInStep self.new) }
+    {
+        self.manager.lawful();
+        let answer = self.manager.answer(rt, &NoGate, call);
+        if wants_memory(&answer) {
+            return Err(AllocError);
         }
+        self.book.take(call, &answer)?;
+        told_of(self.alloc, call, &answer)
     }
 }
 
-fn told(alloc: Global, text: &str) -> Result<Option<String>, AllocError> {
-    Ok(Some(String::from_str(alloc, text)?))
+fn wants_memory(answer: &Answer) -> bool
+    ensures { result ≡ wants_memory answer.now }
+{
+    matches!(answer, Answer::Refused(Refusal::Memory))
+}
+
+/// The text of a refusal; nothing of another answer.
+fn told_of(alloc: Global, call: &Call, answer: &Answer) -> Result<Option<String>, AllocError>
+    ensures { IfOk result (λ o. option_map string_bytes o ≡ told_of call.now answer.now) }
+{
+    match answer {
+        Answer::Refused(_) => {
+            let text = answer_line(alloc, call, answer)?;
+            Ok(Some(text))
+        }
+        _ => Ok(None),
+    }
+}
+
+fn text_of(alloc: Global, text: &str) -> Result<Option<String>, AllocError>
+    ensures { IfOk result (λ o. option_map string_bytes o ≡ Some text.now) }
+{
+    let text = String::from_str(alloc, text)?;
+    Ok(Some(text))
 }

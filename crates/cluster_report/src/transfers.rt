@@ -1,7 +1,14 @@
 // The copies on their way: commanded, not come, and not given up. The manager answers no question about them, so they are kept here by
 // its rules.
-ghost use Rattle.std.specs.Prelude.{◌≡◌};
-ghost use Rattle.bm_base.specs.Map as map;
+ghost use Rattle.std.specs.Prelude.{◌≡◌, ◌==◌, ◌&&◌, ◌-◌, OnOk, None, true, not, nat_le, map, if◌then◌else◌};
+ghost use Rattle.std.specs.List.{flat_map, list_any};
+ghost use Rattle.bm_base.specs.Map as map_of;
+ghost use Rattle.bm_base.specs.State.{Holdings, replica_at};
+ghost use Rattle.bm_base.specs.Entries.{expanded};
+ghost use Rattle.bm_base.specs.Events.{change_holdings, is_named};
+ghost use Rattle.bm_base.specs.Refusals.{first_of, cluster_checks, knows_node};
+ghost use Rattle.bm_base.specs.Replicas.{drains, has_storage};
+ghost use Rattle.cluster_report.specs.Copies.{commanded_to};
 
 use bm_base::{
     BlockId, Commands, Entry, Event, NodeCommands, NodeId, ReplicaId, ReplicaMap, StorageId,
@@ -19,7 +26,10 @@ pub struct Transfers {
 
 impl Transfers {
     /// None yet. Takes no memory.
-    pub fn new(alloc: Global, pend: u32) -> Transfers {
+    pub fn new(alloc: Global, pend: u32) -> Transfers
+        ensures copies { result.copies ≡ map_of.empty }
+        ensures pend { result.pend ≡ pend }
+    {
         Transfers {
             copies: ReplicaMap::new(alloc),
             pend,
@@ -27,14 +37,20 @@ impl Transfers {
     }
 
     pub fn count(&self) -> usize
-        ensures { result ≡ map.len self.now.copies }
+        ensures { result ≡ map_of.len self.now.copies }
     {
         self.copies.len()
     }
 
     /// Forgets the copies that an accepted event takes away, where the cluster is as it was before it. An event that takes some away costs
     /// a look at each.
-    pub fn take_event(&mut self, topology: &Topology, event: &Event) {
+    #[tactic(auto, unfolding(bm_base::specs::Events::change_holdings, bm_base::specs::Events::without_storages, bm_base::specs::Events::begun_to_drain, bm_base::specs::Events::add_block, bm_base::specs::Events::delete_block, bm_base::specs::Events::without_pending, bm_base::specs::Events::revise_block, bm_base::specs::Events::set_replication, bm_base::specs::Events::restamp, bm_base::specs::Events::enter, bm_base::specs::Events::remove_replica, bm_base::specs::Events::make_bad, bm_base::specs::Events::report, bm_base::specs::Refusals::cluster_checks))]
+    pub fn take_event(&mut self, topology: &Topology, event: &Event)
+        requires { first_of (cluster_checks topology.now.cluster event.now) ≡ None }
+        ensures copies { (H : Holdings) → self.old.copies ≡ H.pending
+            → self.new.copies ≡ (change_holdings topology.now.cluster H event.now).pending }
+        ensures pend { self.new.pend ≡ self.old.pend }
+    {
         match event {
             Event::Dead { node } => self.forget_node(topology, *node),
             Event::Drain { node } => self.begin_to_drain(topology, *node),
@@ -44,40 +60,78 @@ impl Transfers {
             Event::FullReport { storage, entries } => {
                 self.arrive_all(*storage, entries.as_slice());
             }
-            _ => {}
+            Event::Register { .. }
+            | Event::Heartbeat { .. }
+            | Event::Undrain { .. }
+            | Event::AddBlock { .. }
+            | Event::SetReplication { .. }
+            | Event::Deleted { .. }
+            | Event::Corrupt { .. } => {}
         }
     }
 
-    fn begin_to_drain(&mut self, topology: &Topology, node: NodeId) {
+    fn begin_to_drain(&mut self, topology: &Topology, node: NodeId)
+        requires { knows_node topology.now.cluster node ≡ true }
+        ensures copies { self.new.copies ≡ (if drains topology.now.cluster node
+            then self.old.copies else map_of.keep self.old.copies
+            (λ q _. not (has_storage topology.now.cluster node q.storage))) }
+        ensures pend { self.new.pend ≡ self.old.pend }
+    {
         if topology.node_drains(node) != Some(true) {
             self.forget_node(topology, node);
         }
     }
 
-    fn forget_node(&mut self, topology: &Topology, node: NodeId) {
+    fn forget_node(&mut self, topology: &Topology, node: NodeId)
+        ensures copies { self.new.copies ≡ map_of.keep self.old.copies
+            (λ q _. not (has_storage topology.now.cluster node q.storage)) }
+        ensures pend { self.new.pend ≡ self.old.pend }
+    {
         self.copies
-            .retain(|copy| !has_storage(topology, node, copy.0.storage));
+            .retain(|copy| !topology.has_storage(node, copy.0.storage));
     }
 
-    fn forget_storage(&mut self, storage: StorageId) {
+    fn forget_storage(&mut self, storage: StorageId)
+        ensures copies { self.new.copies ≡ map_of.keep self.old.copies
+            (λ q _. not (q.storage == storage)) }
+        ensures pend { self.new.pend ≡ self.old.pend }
+    {
         self.copies.retain(|copy| copy.0.storage != storage);
     }
 
-    fn forget_block(&mut self, block: BlockId) {
+    fn forget_block(&mut self, block: BlockId)
+        ensures copies { self.new.copies ≡ map_of.keep self.old.copies
+            (λ q _. not (q.block == block)) }
+        ensures pend { self.new.pend ≡ self.old.pend }
+    {
         self.copies.retain(|copy| copy.0.block != block);
     }
 
-    fn arrive(&mut self, storage: StorageId, block: BlockId) {
+    fn arrive(&mut self, storage: StorageId, block: BlockId)
+        ensures copies { self.new.copies
+            ≡ map_of.remove self.old.copies (replica_at block storage) }
+        ensures pend { self.new.pend ≡ self.old.pend }
+    {
         self.copies.remove(ReplicaId { block, storage });
     }
 
     /// All that a report names has come to the storage.
-    fn arrive_all(&mut self, storage: StorageId, entries: &[Entry]) {
+    fn arrive_all(&mut self, storage: StorageId, entries: &[Entry])
+        ensures copies { self.new.copies ≡ map_of.keep self.old.copies
+            (λ q _. not ((q.storage == storage) && is_named (expanded entries.now) q.block)) }
+        ensures pend { self.new.pend ≡ self.old.pend }
+    {
         self.copies.retain(|copy| !(copy.0.storage == storage && is_named(entries, copy.0.block)));
     }
 
     /// The manager took a round: copies that are too old are given up, and those that it commands are on their way.
-    pub fn take_round(&mut self, commands: &Commands) -> Result<(), AllocError> {
+    pub fn take_round(&mut self, commands: &Commands) -> Result<(), AllocError>
+        ensures copies { OnOk result (self.new.copies ≡ map_of.insert_all
+            (map_of.keep self.old.copies
+            (λ _ r. not (nat_le self.old.pend (commands.now.round - r))))
+            (flat_map (commanded_to commands.now.round) commands.now.nodes)) }
+        ensures pend { self.new.pend ≡ self.old.pend }
+    {
         let round = commands.round;
         self.give_up_old(round);
         for node in commands.nodes.as_slice() {
@@ -87,13 +141,21 @@ impl Transfers {
     }
 
     /// Forgets the copies that were commanded so many rounds ago.
-    fn give_up_old(&mut self, round: u64) {
+    fn give_up_old(&mut self, round: u64)
+        ensures copies { self.new.copies ≡ map_of.keep self.old.copies
+            (λ _ r. not (nat_le self.old.pend (round - r))) }
+        ensures pend { self.new.pend ≡ self.old.pend }
+    {
         let pend = u64::from(self.pend);
         self.copies
             .retain(|copy| !(pend <= round.saturating_sub(copy.1)));
     }
 
-    fn add_node(&mut self, round: u64, commands: &NodeCommands) -> Result<(), AllocError> {
+    fn add_node(&mut self, round: u64, commands: &NodeCommands) -> Result<(), AllocError>
+        ensures copies { OnOk result (self.new.copies
+            ≡ map_of.insert_all self.old.copies (commanded_to round commands.now)) }
+        ensures pend { self.new.pend ≡ self.old.pend }
+    {
         for transfer in commands.transfers.as_slice() {
             let copy = ReplicaId {
                 block: transfer.block,
@@ -105,16 +167,16 @@ impl Transfers {
     }
 }
 
-fn has_storage(topology: &Topology, node: NodeId, storage: StorageId) -> bool {
-    match topology.node_of(storage) {
-        Some(other) => other == node,
-        None => false,
-    }
+/// Whether an entry names the block.
+fn is_named(entries: &[Entry], block: BlockId) -> bool
+    ensures { result ≡ list_any (λ e. nat_le e.from block && nat_le block e.to) entries.now }
+{
+    entries.iter().any(|entry| names(entry, block))
 }
 
-/// Whether an entry names the block.
-fn is_named(entries: &[Entry], block: BlockId) -> bool {
-    entries
-        .iter()
-        .any(|entry| entry.from <= block && block <= entry.to)
+/// Whether the block is in the entry's run.
+fn names(entry: &Entry, block: BlockId) -> bool
+    ensures { result ≡ (nat_le entry.now.from block && nat_le block entry.now.to) }
+{
+    entry.from <= block && block <= entry.to
 }

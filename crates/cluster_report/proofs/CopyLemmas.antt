@@ -1,0 +1,154 @@
+-- The copies on their way, after a round.
+use Rattle.std.proofs.Common.{◌≡◌, ℕ, ◌+◌, ◌-◌, ◌<◌, Bool, true, false, cond, not, ◌&&◌, ◌||◌, Option, Some, List, [], ◌∷◌, ◌++◌, map, filter, length, take, get_or, refl, ap, sym, ◌∙◌, append-nil, arith}
+use Rattle.std.specs.Prelude.{nat_lt, nat_le}
+use Rattle.std.specs.Ordering.{eq_by_cmp}
+use Rattle.std.specs.List.{flat_map, list_any}
+use Rattle.std.proofs.lemmas.Bool.{lt-ltb}
+use Rattle.std.proofs.lemmas.List.{take_more, map-append}
+use Rattle.std.proofs.lemmas.List.Folds.{list_any-append}
+use Rattle.std.proofs.lemmas.Grind.{flat_map-append}
+use Rattle.bm_base.specs.declared.replica.ReplicaId.{ReplicaId}
+use Rattle.bm_base.specs.declared.commands.Transfer.{Transfer}
+use Rattle.bm_base.specs.declared.commands.Delete.{Delete}
+use Rattle.bm_base.specs.Map.{Map, Order, get, insert, insert_all, keep, keys}
+use Rattle.bm_base.specs.State.{Cluster, State, by_replica, replica_at}
+use Rattle.bm_base.specs.Replicas.{has_storage}
+use Rattle.bm_base.specs.Excess.{begun, started, marked, without_unordered_excess, without_expired}
+use Rattle.bm_base.specs.Transfers.{transfers}
+use Rattle.bm_base.specs.Deletes.{deletes}
+use Rattle.bm_base.specs.Rounds.{node_commands, has_commands, commands_of, finished, whole_round}
+use Rattle.bm_base.specs.Lawful.{IsLawful}
+use Rattle.bm_base.proofs.MapLaws.{same_map, get-insert}
+use Rattle.bm_base.proofs.Each.{Each, each_of, each_mapped, each_flat, each_any}
+use Rattle.bm_base.proofs.Listed.{or_left, or_right, and_second, any_filter, any_map, any_weaker, any_agree}
+use Rattle.cluster_report.specs.Copies.{commanded_to}
+use Rattle.cluster_report.proofs.SentLemmas.{each_sent}
+
+first_or_later : {X : Type 0} (a b : Bool) (v : X) (old : Option X) → cond b (Some v) (cond a (Some v) old) ≡ cond (a || b) (Some v) old
+first_or_later true true v old = refl
+first_or_later true false v old = refl
+first_or_later false b v old = refl
+
+module _ {K X : Type 0} {o : Order K} where
+  insert_all-append : (m : Map o X) (xs ys : List (K × X)) → insert_all m (xs ++ ys) ≡ insert_all (insert_all m xs) ys
+  insert_all-append m [] ys = refl
+  insert_all-append m (x ∷ xs) ys = insert_all-append (insert m x.0 x.1) xs ys
+
+  -- one more is put
+  pub insert_more : {Y : Type 0} (m : Map o X) (f : Y → K × X) (ys : List Y) (i : ℕ) (y : Y) → i < length ys → get_or ys i y ≡ y
+      → insert_all m (map f (take (i + 1) ys)) ≡ insert (insert_all m (map f (take i ys))) (f y).0 (f y).1
+  insert_more m f ys i y low is =
+      ap (λ zs. insert_all m (map f zs)) (take_more ys i y low)
+      ∙ ap (λ z. insert_all m (map f (take i ys ++ z ∷ []))) is
+      ∙ ap (insert_all m) (map-append f (take i ys) (y ∷ []))
+      ∙ insert_all-append m (map f (take i ys)) (f y ∷ [])
+
+  -- all of one more are put
+  pub insert_more_all : {Y : Type 0} (m : Map o X) (f : Y → List (K × X)) (ys : List Y) (i : ℕ) (y : Y) → i < length ys → get_or ys i y ≡ y
+      → insert_all m (flat_map f (take (i + 1) ys)) ≡ insert_all (insert_all m (flat_map f (take i ys))) (f y)
+  insert_more_all m f ys i y low is =
+      ap (λ zs. insert_all m (flat_map f zs)) (take_more ys i y low)
+      ∙ ap (λ z. insert_all m (flat_map f (take i ys ++ z ∷ []))) is
+      ∙ ap (insert_all m) (flat_map-append f (take i ys) (y ∷ []))
+      ∙ insert_all-append m (flat_map f (take i ys)) (f y ++ [])
+      ∙ ap (insert_all (insert_all m (flat_map f (take i ys)))) (append-nil (f y))
+
+  -- where all values that are put are one
+  get_insert_all : (m : Map o X) (v : X) (es : List (K × X)) (q : K) → Each (λ e. e.1 ≡ v) es → get (insert_all m es) q ≡ cond (list_any (λ e. eq_by_cmp o.cmp q e.0) es) (Some v) (get m q)
+  get_insert_all m v [] q h = refl
+  get_insert_all m v (e ∷ es) q h =
+      get_insert_all (insert m e.0 e.1) v es q h.1
+      ∙ ap (cond (list_any (λ d. eq_by_cmp o.cmp q d.0) es) (Some v)) (get-insert m e.0 e.1 q ∙ ap (λ x. cond (eq_by_cmp o.cmp q e.0) (Some x) (get m q)) h.0)
+      ∙ first_or_later (eq_by_cmp o.cmp q e.0) (list_any (λ d. eq_by_cmp o.cmp q d.0) es) v (get m q)
+
+  -- one value is put at keys of which the lists have the same
+  insert_alike : (m : Map o X) (v : X) (xs ys : List (K × X)) → Each (λ e. e.1 ≡ v) xs → Each (λ e. e.1 ≡ v) ys
+      → ((p : K × X → Bool) → list_any p xs ≡ list_any p ys) → insert_all m xs ≡ insert_all m ys
+  insert_alike m v xs ys all_xs all_ys same =
+      same_map (insert_all m xs) (insert_all m ys) (λ q.
+      get_insert_all m v xs q all_xs ∙ ap (λ b. cond b (Some v) (get m q)) (same (λ e. eq_by_cmp o.cmp q e.0)) ∙ sym (get_insert_all m v ys q all_ys))
+
+-- ---- what the nodes are told, all together
+
+same_truth : (a b : Bool) → (a ≡ true → b ≡ true) → (b ≡ true → a ≡ true) → a ≡ b
+same_truth true b f g = sym (f refl)
+same_truth false true f g = g refl
+same_truth false false f g = refl
+
+both_true : (a b : Bool) → a ≡ true → b ≡ true → (a && b) ≡ true
+both_true true b e h = h
+both_true false b e h = e
+
+or_second : (a b : Bool) → a ≡ false → (a || b) ≡ true → b ≡ true
+or_second true b e h = cc
+or_second false b e h = h
+
+any_flat : {X Y : Type 0} (p : Y → Bool) (f : X → List Y) (xs : List X) → list_any p (flat_map f xs) ≡ list_any (λ x. list_any p (f x)) xs
+any_flat p f [] = refl
+any_flat p f (x ∷ xs) = list_any-append p (f x) (flat_map f xs) ∙ ap (λ b. list_any p (f x) || b) (any_flat p f xs)
+
+module _ (C : Cluster) (ns : List ℕ) (p : Transfer → Bool) where
+  abbrev told_to : List Transfer → ℕ → Bool
+  told_to ts n = list_any (λ t. has_storage C n t.source && p t) ts
+
+  told_one : (t : Transfer) (ts : List Transfer) (b : Bool) → p t ≡ b → list_any (λ n. has_storage C n t.source) ns ≡ true → (p t || list_any p ts) ≡ true
+      → (list_any p ts ≡ true → list_any (told_to ts) ns ≡ true) → list_any (told_to (t ∷ ts)) ns ≡ true
+  told_one t ts true e at h rest =
+      any_weaker (λ n. has_storage C n t.source) (told_to (t ∷ ts)) (λ n k. or_left (has_storage C n t.source && p t) (told_to ts n) (both_true _ _ k e)) ns at
+  told_one t ts false e at h rest =
+      any_weaker (told_to ts) (told_to (t ∷ ts)) (λ n k. or_right (has_storage C n t.source && p t) (told_to ts n) k) ns (rest (or_second (p t) (list_any p ts) e h))
+
+  told : (ts : List Transfer) → Each (λ t. list_any (λ n. has_storage C n t.source) ns ≡ true) ts → list_any p ts ≡ true → list_any (told_to ts) ns ≡ true
+  told [] h e = cc
+  told (t ∷ ts) h e = told_one t ts (p t) refl h.0 e (told ts h.1)
+
+  of_told : (ts : List Transfer) → list_any (told_to ts) ns ≡ true → list_any p ts ≡ true
+  of_told ts e =
+      let n = each_any (λ _. Unit {0}) (told_to ts) ns (each_of (λ _. Unit {0}) ns (λ _. tt)) e in
+      any_weaker (λ t. has_storage C n.0 t.source && p t) p (λ t k. and_second (has_storage C n.0 t.source) (p t) k) ts n.2
+
+some_commands : {X Y : Type 0} (p : Y → Bool) (f : X → Y) (xs : List X) (n : ℕ) → (nat_lt 0 (length xs + n) && list_any p (map f xs)) ≡ list_any p (map f xs)
+some_commands p f [] n = and_false (nat_lt 0 (0 + n))
+  where
+    and_false : (b : Bool) → (b && false) ≡ false
+    and_false true = refl
+    and_false false = refl
+some_commands p f (x ∷ xs) n = ap (λ b. b && list_any p (map f (x ∷ xs))) (lt-ltb 0 (length (x ∷ xs) + n) (omega arith))
+
+module _ (C : Cluster) (r : ℕ) (ts : List Transfer) (ds : List Delete) where
+  abbrev sent : Transfer → ReplicaId × ℕ
+  sent t = (replica_at t.block t.target, r)
+
+  one_told : (p : ReplicaId × ℕ → Bool) (n : ℕ) → (has_commands (node_commands C ts ds n) && list_any p (commanded_to r (node_commands C ts ds n))) ≡ list_any (λ t. has_storage C n t.source && p (sent t)) ts
+  unfolding node_commands
+  one_told p n =
+      some_commands p sent (filter (λ t. has_storage C n t.source) ts) _
+      ∙ any_map p sent (filter (λ t. has_storage C n t.source) ts)
+      ∙ any_filter (λ t. p (sent t)) (λ t. has_storage C n t.source) ts
+
+  all_told : (p : ReplicaId × ℕ → Bool) (ns : List ℕ) → Each (λ t. list_any (λ n. has_storage C n t.source) ns ≡ true) ts
+      → list_any p (flat_map (commanded_to r) (filter has_commands (map (node_commands C ts ds) ns))) ≡ list_any p (map sent ts)
+  all_told p ns each =
+      any_flat p (commanded_to r) (filter has_commands (map (node_commands C ts ds) ns))
+      ∙ any_filter (λ k. list_any p (commanded_to r k)) has_commands (map (node_commands C ts ds) ns)
+      ∙ any_map (λ k. has_commands k && list_any p (commanded_to r k)) (node_commands C ts ds) ns
+      ∙ any_agree _ (λ n. list_any (λ t. has_storage C n t.source && p (sent t)) ts) (one_told p) ns
+      ∙ same_truth _ _ (of_told C ns (λ t. p (sent t)) ts) (told C ns (λ t. p (sent t)) ts each)
+      ∙ sym (any_map p sent ts)
+
+  all_put : (m : Map by_replica ℕ) (ns : List ℕ) → Each (λ t. list_any (λ n. has_storage C n t.source) ns ≡ true) ts
+      → insert_all m (flat_map (commanded_to r) (filter has_commands (map (node_commands C ts ds) ns))) ≡ insert_all m (map sent ts)
+  all_put m ns each =
+      insert_alike m r _ _
+      (each_flat (λ e. e.1 ≡ r) (commanded_to r) (filter has_commands (map (node_commands C ts ds) ns))
+      (each_of _ (filter has_commands (map (node_commands C ts ds) ns)) (λ k. each_mapped (λ e. e.1 ≡ r) sent k.transfers (each_of _ k.transfers (λ t. refl)))))
+      (each_mapped (λ e. e.1 ≡ r) sent ts (each_of _ ts (λ t. refl)))
+      (λ p. all_told p ns each)
+
+-- the copies that a round leaves on their way, from what it commands
+pub round_copies : (M : State) → IsLawful M
+    → insert_all (keep M.holdings.pending (λ _ r. not (nat_le M.limits.pend ((whole_round M).0.round - r)))) (flat_map (commanded_to (whole_round M).0.round) (whole_round M).0.nodes)
+    ≡ (whole_round M).1.holdings.pending
+unfolding whole_round started begun marked without_unordered_excess without_expired commands_of finished
+round_copies M L =
+    all_put M.cluster (M.round + 1) (transfers M.limits M.cluster (started M).holdings) (deletes M.limits M.cluster (started M).holdings) _ (keys M.cluster.nodes) (each_sent M L)

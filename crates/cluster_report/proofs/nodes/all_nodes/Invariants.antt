@@ -1,0 +1,6 @@
+use Rattle.std.proofs.Common.{◌≡◌, take}
+use Rattle.bm_base.specs.Map.{keys}
+use Rattle.cluster_report.proofs.nodes.all_nodes.Given as goal
+
+abbrev pub invariant-loop-place : goal.invariant-loop-place
+invariant-loop-place l = l.nodes.items ≡ take l.place (keys l.topology.cluster.nodes)

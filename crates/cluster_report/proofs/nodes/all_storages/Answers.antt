@@ -1,0 +1,16 @@
+use Rattle.std.proofs.Common.{◌++◌, [], ◌∷◌, ap, sym, ◌∙◌, arith}
+use Rattle.bm_base.specs.Map.{keys}
+use Rattle.cluster_report.proofs.Taking.{take_next, take_keys}
+use Rattle.cluster_report.proofs.nodes.all_storages.Goals as goal
+
+pub loop-place-preserved : goal.loop-place-preserved
+loop-place-preserved c =
+    let all = keys c.args.topology.now.cluster.storages in
+    c.in_ok-push.ensures.items
+    ∙ ap (λ xs. xs ++ c.in-Some.storage ∷ []) c.loop-place.invariant
+    ∙ sym (take_next all c.loop-place.place c.in-Some.storage (sym c.storage_at.ensures ∙ c.in-Some.is))
+
+pub returns : goal.returns
+returns c =
+    c.loop-place.invariant
+    ∙ take_keys c.args.topology.now.cluster.storages c.loop-place.place (omega (arith, c.storage_count-place-end.ensures.count, c.loop-place-test.false))

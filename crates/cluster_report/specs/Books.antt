@@ -1,0 +1,31 @@
+-- What the book beside a manager has of its state.
+use Rattle.std.specs.Prelude.{◌≡◌, ⊤, ◌-◌, None, not, nat_le}
+use Rattle.std.specs.List.{flat_map}
+use Rattle.bm_base.specs.declared.call.Call.{Call}
+use Rattle.bm_base.specs.declared.call.Call.TheVariants as call
+use Rattle.bm_base.specs.declared.call.Answer.{Answer}
+use Rattle.bm_base.specs.declared.call.Answer.TheVariants as answer
+use Rattle.bm_base.specs.Map.{keep, insert_all}
+use Rattle.bm_base.specs.State.{Cluster, Holdings}
+use Rattle.bm_base.specs.Events.{change_cluster, change_holdings}
+use Rattle.bm_base.specs.Refusals.{first_of, cluster_checks}
+use Rattle.cluster_report.specs.Copies.{commanded_to}
+use Rattle.cluster_report.specs.declared.transfers.Transfers.{Transfers}
+
+-- no check on the cluster refuses an event that was accepted
+abbrev pub IsAccepted : Cluster → Call → Answer → Type 0
+IsAccepted C (call.Apply e) (answer.Done d) = first_of (cluster_checks C e) ≡ None
+IsAccepted C _ _ = ⊤
+
+-- what an accepted event makes of a cluster; no other call changes it
+abbrev pub cluster_after : Cluster → Call → Answer → Cluster
+cluster_after C (call.Apply e) (answer.Done d) = change_cluster C e
+cluster_after C _ _ = C
+
+-- What an accepted event and a round make of the copies on their way, where the cluster is C: some are taken away or have come; some
+-- are given up, and those that are commanded are added. No other call changes them.
+abbrev pub AreCopiesAfter : Cluster → Transfers → Call → Answer → Transfers → Type 0
+AreCopiesAfter C old (call.Apply e) (answer.Done d) new = (H : Holdings) → old.copies ≡ H.pending → new.copies ≡ (change_holdings C H e).pending
+AreCopiesAfter C old call.Round (answer.Commanded told) new =
+    new.copies ≡ insert_all (keep old.copies (λ _ r. not (nat_le old.pend (told.round - r)))) (flat_map (commanded_to told.round) told.nodes)
+AreCopiesAfter C old _ _ new = new.copies ≡ old.copies

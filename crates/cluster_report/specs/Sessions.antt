@@ -1,0 +1,15 @@
+-- A session between two lines.
+use Rattle.std.specs.Prelude.{◌≡◌}
+use Rattle.bm_base.specs.State.{State}
+use Rattle.cluster_report.specs.declared.book.Book.{Book}
+use Rattle.cluster_report.specs.declared.session.Session.{Session}
+
+-- the book has the cluster and the copies on their way of a state
+pub record Follows (book : Book) (M : State) : Type 0 where
+  pub cluster : book.topology.cluster ≡ M.cluster
+  pub copies : book.transfers.copies ≡ M.holdings.pending
+  pub pend : book.transfers.pend ≡ M.limits.pend
+
+-- the book follows the manager
+abbrev pub IsInStep : Session → Type 0
+IsInStep s = Follows s.book s.manager
