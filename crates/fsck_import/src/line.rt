@@ -17,8 +17,8 @@ pub enum Said {
     Blank,
     /// Nothing of blocks, of files or of what is wanted.
     Nothing,
-    /// A file begins, of whose blocks so many replicas are wanted, where that is told.
-    Heading(Option<u32>),
+    /// A file begins.
+    Heading(FileTold),
     /// So many replicas are wanted of a block of this file.
     Wanted(u32),
     Block(BlockTold),
@@ -28,9 +28,20 @@ pub enum Said {
     Last,
 }
 
+/// What the heading of a file says of it.
+#[derive(Clone, Copy, Drop)]
+pub struct FileTold {
+    /// How many blocks it has, where that is told.
+    pub blocks: Option<u32>,
+    /// How many replicas are wanted of each, where that is told.
+    pub target: Option<u32>,
+}
+
 /// What the line of a block says of it, its places aside.
 #[derive(Clone, Copy, Drop)]
 pub struct BlockTold {
+    /// How many blocks of its file are before it.
+    pub index: u64,
     pub id: BlockId,
     pub stamp: Stamp,
     /// How many replicas are live, where that is told.
@@ -63,6 +74,14 @@ pub enum Refusal {
     NegativeBlock,
     #[error("the file is erasure coded")]
     ErasureCoded,
+    #[error("no heading of a file stands before the block")]
+    NoHeading,
+    /// Another index than that of the next block of the file, or more blocks than its heading announces.
+    #[error("the index is not that of the next block of the file")]
+    NotNext,
+    /// At the next heading or the summary.
+    #[error("fewer blocks of the file before were told than its heading announces")]
+    BlockLeftOut,
     #[error("the block was named before")]
     NamedTwice,
     #[error("two places of the block have one storage")]
@@ -107,15 +126,17 @@ fn said_by(words: &[Word]) -> Result<Said, Refusal>
 {
     match words {
         [] => Ok(Said::Blank),
-        [Word::Index, rest @ ..] => said_by_block(rest),
-        [Word::Under, rest @ ..] => said_by_problem(rest),
-        _ => said_by_heading(words),
+        [first, rest @ ..] => match first {
+            Word::Index(index) => said_by_block(*index, rest),
+            Word::Under => said_by_problem(rest),
+            _ => said_by_heading(words),
+        },
     }
 }
 
-/// What the line of a block says, by the words behind its index.
-fn said_by_block(words: &[Word]) -> Result<Said, Refusal>
-    ensures { result ≡ said_by_block words.now }
+/// What the line of a block of this index says, by the words behind it.
+fn said_by_block(index: u64, words: &[Word]) -> Result<Said, Refusal>
+    ensures { result ≡ said_by_block index words.now }
 {
     let told = BlockSoFar::of(words);
     if told.is_negative {
@@ -138,6 +159,7 @@ fn said_by_block(words: &[Word]) -> Result<Said, Refusal>
     }
     match (told.name, told.len) {
         (Some((id, generation)), Some(len)) => Ok(Said::Block(BlockTold {
+            index,
             id,
             stamp: Stamp { generation, len },
             live: told.live,
@@ -187,7 +209,10 @@ fn said_by_heading(words: &[Word]) -> Result<Said, Refusal>
     if differ(told.replication, told.target) {
         return Err(Refusal::TwoTargets);
     }
-    Ok(Said::Heading(told.replication.or(told.target)))
+    Ok(Said::Heading(FileTold {
+        blocks: told.blocks,
+        target: told.replication.or(told.target),
+    }))
 }
 
 /// Why what a line tells of wanted replicas is not taken.

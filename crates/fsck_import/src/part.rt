@@ -14,7 +14,9 @@ const LAST_CORRUPT: &str = "' is CORRUPT";
 /// Where in the text a line stands.
 #[derive(Clone, Copy, Debug, PartialEq, Eq, Drop)]
 pub enum Part {
-    /// A file is told, or what stands before files.
+    /// No file was told yet.
+    Before,
+    /// A file is told, and none of its blocks.
     Files,
     /// The blocks of a file are told.
     Blocks,
@@ -55,8 +57,9 @@ pub fn may_stand(part: Part, said: &Said) -> bool
     ensures { result ≡ may_stand part said.now }
 {
     match (part, said) {
-        (Part::Files | Part::Blocks, Said::Last) | (Part::Blocks, Said::Wanted(_)) => false,
-        (Part::Files | Part::Blocks, _) => true,
+        (Part::Before | Part::Files | Part::Blocks, Said::Last) => false,
+        (Part::Before | Part::Blocks, Said::Wanted(_)) => false,
+        (Part::Before | Part::Files | Part::Blocks, _) => true,
         (Part::Summary, Said::Blank | Said::Nothing | Said::Last) => true,
         (Part::Summary, _) => false,
         (Part::Behind, Said::Blank) => true,
