@@ -156,6 +156,7 @@ file_grows c m d false f g h e = at_ok c m d _ _ e (same_blocks c m f g h)
 said_grows : (c d : Cluster) (words : List Word) (s : Said) → after_said c words s ≡ Ok d → GrowsBy c d (number_said (Ok s)) (replicas_said words (Ok s))
 said_grows c d words said.Blank e = at_ok c c d _ _ e (same_blocks c c refl refl refl)
 said_grows c d words said.Nothing e = at_ok c c d _ _ e (same_blocks c c refl refl refl)
+said_grows c d words said.First e = at_ok c _ d _ _ e (same_blocks c (record c { part = part.Begun }) refl refl refl)
 said_grows c d words (said.Heading told) e = file_grows c _ d (lacks_blocks c) refl refl refl e
 said_grows c d words (said.Wanted count) e = wanted_grows c d count (differ c.target (Some count)) e
 said_grows c d words (said.Block told) e = next_block_grows c d words told (is_before c.part) (is_next c told.index) e

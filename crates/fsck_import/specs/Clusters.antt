@@ -137,6 +137,7 @@ after_files c = if lacks_blocks c then Err refusal.BlockLeftOut else Ok (record 
 abbrev pub after_said : Cluster → List Word → Said → Result Cluster Refusal
 after_said c words said.Blank = Ok c
 after_said c words said.Nothing = Ok c
+after_said c words said.First = Ok (record c { part = part.Begun })
 after_said c words (said.Heading told) = after_heading c told
 after_said c words (said.Wanted count) =
     if differ c.target (Some count) then Err refusal.TwoTargets else Ok (record c { target = Some count })

@@ -2,7 +2,7 @@
 use Rattle.std.specs.Prelude.{ℕ, ◌==◌, ◌&&◌, ◌||◌, Bool, false, not, nat_le, List, [], ◌∷◌, Option, Some, None, Result, Ok, Err, fold, if◌then◌else◌}
 use Rattle.std.specs.Option.{option_or, option_map_or}
 use Rattle.fsck_import.specs.Cuts.{Text}
-use Rattle.fsck_import.specs.Parts.{is_summary, is_last}
+use Rattle.fsck_import.specs.Parts.{is_first, is_summary, is_last}
 use Rattle.fsck_import.specs.PlaceLists.{is_list, is_begun}
 use Rattle.fsck_import.specs.SoFar.{block_with, line_with, awaits, nothing_of_block, nothing_of_line}
 use Rattle.fsck_import.specs.declared.word.Word.{Word}
@@ -83,5 +83,6 @@ said_by words = said_by_heading words
 -- what a line says, of which these are the words
 abbrev pub line_said : Text → List Word → Result Said Refusal
 line_said line words =
-    if is_summary line then Ok said.Summary
-    else (if is_last line then Ok said.Last else said_by words)
+    if is_first line then Ok said.First
+    else (if is_summary line then Ok said.Summary
+    else (if is_last line then Ok said.Last else said_by words))

@@ -6,7 +6,7 @@ use crate::blocks::Blocks;
 use crate::fault::LineFault;
 use crate::line::{BlockTold, FileTold, Refusal, Said, differ, line_said, words_of};
 use crate::names::Names;
-use crate::part::{Part, may_stand};
+use crate::part::{Part, is_before, may_stand};
 use crate::place::Place;
 use crate::place_list::repeats_storage;
 use crate::rows::{Row, Rows};
@@ -91,6 +91,7 @@ impl Cluster {
     {
         match said {
             Said::Blank | Said::Nothing => {}
+            Said::First => self.part = Part::Begun,
             Said::Heading(told) => self.take_heading(told)?,
             Said::Wanted(count) if differ(self.target, Some(count)) => {
                 return Err(LineFault::Refused(Refusal::TwoTargets));
@@ -176,7 +177,7 @@ impl Cluster {
         ensures ok { OnOk result (after_next self.old words.now told ≡ Ok self.new) }
         ensures refused { IfErr result (λ f. IsCause f (after_next self.old words.now told)) }
     {
-        if self.part == Part::Before {
+        if is_before(self.part) {
             return Err(LineFault::Refused(Refusal::NoHeading));
         }
         if !self.is_next(told.index) {

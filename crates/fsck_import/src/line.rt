@@ -3,7 +3,7 @@ ghost use Rattle.std.specs.Prelude.{◌≡◌, IfOk};
 ghost use Rattle.fsck_import.specs.Words.{words_of};
 ghost use Rattle.fsck_import.specs.Lines.{line_said, said_by, said_by_block, said_by_problem, said_by_heading, may_be_live, fault_of, differ};
 
-use crate::part::{is_last, is_summary};
+use crate::part::{is_first, is_last, is_summary};
 use crate::so_far::{BlockSoFar, LineSoFar};
 use crate::word::{Word, word_of};
 use bm_base::{BlockId, Stamp};
@@ -22,6 +22,8 @@ pub enum Said {
     /// So many replicas are wanted of a block of this file.
     Wanted(u32),
     Block(BlockTold),
+    /// It is fsck's first line.
+    First,
     /// The summary begins.
     Summary,
     /// It is fsck's last line.
@@ -90,7 +92,7 @@ pub enum Refusal {
     Elsewhere,
     #[error("the number of wanted replicas is not between 1 and 16")]
     BadReplication,
-    /// What files hold behind the summary's first line, the last line before it, or anything behind the last line.
+    /// fsck's first line behind itself or a file, what files hold behind the summary's first line, the last line before it, or anything behind the last line.
     #[error("the line may not stand in this part of the text")]
     OutOfPlace,
     #[error("the text ends before the last line of fsck")]
@@ -111,6 +113,9 @@ pub fn words_of(alloc: Global, line: &str) -> Result<Vec<Word<'_>>, AllocError>
 pub fn line_said(line: &str, words: &[Word]) -> Result<Said, Refusal>
     ensures { result ≡ line_said line.now words.now }
 {
+    if is_first(line) {
+        return Ok(Said::First);
+    }
     if is_summary(line) {
         return Ok(Said::Summary);
     }

@@ -98,7 +98,7 @@ const FEW_WORDS_LINES: &str = "{\"op\":\"register\",\"node\":1,\"rack\":1,\"stor
 {\"op\":\"report\",\"storage\":3,\"blocks\":[[9,1,10]]}
 ";
 
-const REFUSED: [(&str, u64, Refusal); 46] = [
+const REFUSED: [(&str, u64, Refusal); 49] = [
     (
         "/a 12 bytes, 1 block(s):  OK\n0. blk_-2932_1001 len=12 repl=1 [10.4.1.1:50010]\n",
         2,
@@ -285,6 +285,21 @@ const REFUSED: [(&str, u64, Refusal); 46] = [
         "/a 1 bytes, 1 block(s):  OK\n\nStatus: HEALTHY\n",
         3,
         Refusal::BlockLeftOut,
+    ),
+    (
+        "FSCK started by hdfs from /192.0.2.1 for path / at Mon Jan 06\n/ <dir>\n\nFSCK started by hdfs from /192.0.2.1 for path / at Mon Jan 06\n",
+        4,
+        Refusal::OutOfPlace,
+    ),
+    (
+        "/a 0 bytes, 0 block(s):  OK\nFSCK started by hdfs from /192.0.2.1 for path / at Mon Jan 06\n",
+        2,
+        Refusal::OutOfPlace,
+    ),
+    (
+        "FSCK started by hdfs from /192.0.2.1 for path / at Mon Jan 06\n/a 1 bytes, 1 block(s):  OK\n0. blk_3_1 len=1 repl=1 [10.4.1.1:50010]\nFSCK started by hdfs from /192.0.2.1 for path / at Mon Jan 06\n",
+        4,
+        Refusal::OutOfPlace,
     ),
     (
         "/a 1 bytes, replicated: replication=2,3 1 block(s):  OK\n",
