@@ -16,8 +16,8 @@ use Rattle.fsck_import.specs.Blocks.{has_block, with_block}
 use Rattle.fsck_import.specs.PlaceLists.{repeats_storage}
 use Rattle.fsck_import.specs.Words.{words_of}
 use Rattle.fsck_import.specs.Lines.{differ, line_said}
-use Rattle.fsck_import.specs.Clusters.{no_cluster, wanted, with_word, with_places, are_there, in_place, after_block, after_said, after_placed, at_end, is_whole, after_line, after_bytes, after_ok}
-use Rattle.fsck_import.specs.Parts.{may_stand}
+use Rattle.fsck_import.specs.Clusters.{no_cluster, wanted, with_word, with_places, are_there, in_place, is_next, lacks_blocks, after_block, after_next, after_said, after_placed, at_end, is_whole, after_line, after_bytes, after_ok}
+use Rattle.fsck_import.specs.Parts.{may_stand, is_before}
 use Rattle.fsck_import.specs.Reading.{after_lines, at_line, cluster_of}
 use Rattle.fsck_import.specs.Laws.{Replica, EachOnce, number_said, number_in, numbers_named, replica_at, replicas_said, replicas_in, replicas_told, replicas_reported}
 use Rattle.fsck_import.specs.declared.word.Word.{Word}
@@ -142,13 +142,25 @@ wanted_grows : (c d : Cluster) (count : ℕ) (b : Bool) → (if b then Err refus
 wanted_grows c d count true e = absurd (err_is_not_ok _ d e)
 wanted_grows c d count false e = at_ok c _ d _ _ e (same_blocks c (record c { target = Some count }) refl refl refl)
 
+next_block_grows : (c d : Cluster) (words : List Word) (told : BlockTold) (a b : Bool)
+    → (if a then Err refusal.NoHeading else (if b then after_block c words told else Err refusal.NotNext)) ≡ Ok d → GrowsBy c d (told.id ∷ []) (flat_map (replica_at told.id told.stamp) words)
+next_block_grows c d words told true b e = absurd (err_is_not_ok _ d e)
+next_block_grows c d words told false false e = absurd (err_is_not_ok _ d e)
+next_block_grows c d words told false true e = block_grows c d words told e
+
+file_grows : (c m d : Cluster) (b : Bool) → m.blocks ≡ c.blocks → m.rows ≡ c.rows → m.storages ≡ c.storages
+    → (if b then Err refusal.BlockLeftOut else Ok m) ≡ Ok d → GrowsBy c d [] []
+file_grows c m d true f g h e = absurd (err_is_not_ok _ d e)
+file_grows c m d false f g h e = at_ok c m d _ _ e (same_blocks c m f g h)
+
 said_grows : (c d : Cluster) (words : List Word) (s : Said) → after_said c words s ≡ Ok d → GrowsBy c d (number_said (Ok s)) (replicas_said words (Ok s))
 said_grows c d words said.Blank e = at_ok c c d _ _ e (same_blocks c c refl refl refl)
 said_grows c d words said.Nothing e = at_ok c c d _ _ e (same_blocks c c refl refl refl)
-said_grows c d words (said.Heading target) e = at_ok c _ d _ _ e (same_blocks c (record c { target = target; part = part.Files }) refl refl refl)
+said_grows c d words said.First e = at_ok c _ d _ _ e (same_blocks c (record c { part = part.Begun }) refl refl refl)
+said_grows c d words (said.Heading told) e = file_grows c _ d (lacks_blocks c) refl refl refl e
 said_grows c d words (said.Wanted count) e = wanted_grows c d count (differ c.target (Some count)) e
-said_grows c d words (said.Block told) e = block_grows c d words told e
-said_grows c d words said.Summary e = at_ok c _ d _ _ e (same_blocks c (record c { part = part.Summary }) refl refl refl)
+said_grows c d words (said.Block told) e = next_block_grows c d words told (is_before c.part) (is_next c told.index) e
+said_grows c d words said.Summary e = file_grows c _ d (lacks_blocks c) refl refl refl e
 said_grows c d words said.Last e = at_ok c _ d _ _ e (same_blocks c (record c { part = part.Behind }) refl refl refl)
 
 placed_grows : (c d : Cluster) (words : List Word) (s : Said) → after_placed c words s ≡ Ok d → GrowsBy c d (number_said (Ok s)) (replicas_said words (Ok s))

@@ -1,5 +1,5 @@
 -- What the lines of the text say of a cluster, one after another.
-use Rattle.std.specs.Prelude.{◌≡◌, ⊤, ℕ, ◌-◌, ◌&&◌, Bool, true, false, max, nat_le, List, [], ◌∷◌, ◌++◌, Option, Some, None, unwrap_or, option_and_then, position, slice_get, Result, Ok, Err, fold, if◌then◌else◌}
+use Rattle.std.specs.Prelude.{◌≡◌, ⊤, ℕ, ◌-◌, ◌==◌, ◌&&◌, Bool, true, false, max, nat_le, nat_lt, length, List, [], ◌∷◌, ◌++◌, Option, Some, None, unwrap_or, option_and_then, position, slice_get, Result, Ok, Err, fold, if◌then◌else◌}
 use Rattle.std.specs.Option.{option_map_or}
 use Rattle.std.specs.Str.{is_utf8, bytes_eq}
 use Rattle.bm_base.specs.declared.replica.Stamp.{Stamp}
@@ -8,7 +8,7 @@ use Rattle.fsck_import.specs.Places.{Place}
 use Rattle.fsck_import.specs.PlaceLists.{repeats_storage}
 use Rattle.fsck_import.specs.Words.{words_of}
 use Rattle.fsck_import.specs.Lines.{differ, line_said}
-use Rattle.fsck_import.specs.Parts.{may_stand}
+use Rattle.fsck_import.specs.Parts.{may_stand, is_before}
 use Rattle.fsck_import.specs.Names.{is_new, name_number, name_of, with_name}
 use Rattle.fsck_import.specs.Blocks.{has_block, with_block}
 use Rattle.fsck_import.specs.Rows.{new_row, with_replica_at}
@@ -16,6 +16,7 @@ use Rattle.fsck_import.specs.declared.word.Word.{Word}
 use Rattle.fsck_import.specs.declared.word.Word.TheVariants as word
 use Rattle.fsck_import.specs.declared.line.Said.{Said}
 use Rattle.fsck_import.specs.declared.line.Said.TheVariants as said
+use Rattle.fsck_import.specs.declared.line.FileTold.{FileTold}
 use Rattle.fsck_import.specs.declared.line.BlockTold.{BlockTold}
 use Rattle.fsck_import.specs.declared.line.Refusal.{Refusal}
 use Rattle.fsck_import.specs.declared.line.Refusal.TheVariants as refusal
@@ -29,7 +30,7 @@ use Rattle.fsck_import.specs.declared.cluster.Cluster.{Cluster}
 
 -- nothing was said
 abbrev pub no_cluster : Cluster
-no_cluster = record { racks = []; nodes = []; node_rows = []; storages = []; rows = []; blocks = []; target = None; part = part.Files }
+no_cluster = record { racks = []; nodes = []; node_rows = []; storages = []; rows = []; blocks = []; target = None; announced = None; before = 0; part = part.Before }
 
 -- how many replicas of a block are wanted: as many as was told of its file, else as many as are live, and at least one
 abbrev pub wanted : Option ℕ → Option ℕ → ℕ
@@ -104,15 +105,44 @@ after_block c words told =
     else in_place words (with_places (record c { blocks = with_block c.blocks told.id (record { stamp = told.stamp; repl = repl }); part = part.Blocks }) told.id told.stamp words)))
     else Err refusal.BadReplication
 
--- after what a line of these words says. A heading begins another file; what is wanted of one of its blocks is wanted of all, and told alike
+-- how many blocks of the file were told
+abbrev pub seen : Cluster → ℕ
+seen c = length c.blocks - c.before
+
+-- whether a block of this index is the next of the file, which has no more of them than its heading announces
+abbrev pub is_next : Cluster → ℕ → Bool
+is_next c index = index == seen c && option_map_or (nat_lt index) c.announced true
+
+-- whether fewer blocks of the file were told than its heading announces
+abbrev pub lacks_blocks : Cluster → Bool
+lacks_blocks c = option_map_or (nat_lt (seen c)) c.announced false
+
+-- with a block, which is the next behind the heading of its file
+abbrev pub after_next : Cluster → List Word → BlockTold → Result Cluster Refusal
+after_next c words told =
+    if is_before c.part then Err refusal.NoHeading
+    else (if is_next c told.index then after_block c words told else Err refusal.NotNext)
+
+-- with the beginning of another file, where that before was told to its end
+abbrev pub after_heading : Cluster → FileTold → Result Cluster Refusal
+after_heading c told =
+    if lacks_blocks c then Err refusal.BlockLeftOut
+    else Ok (record c { target = told.target; announced = told.blocks; before = length c.blocks; part = part.Files })
+
+-- with the summary begun, where the last file was told to its end
+abbrev pub after_files : Cluster → Result Cluster Refusal
+after_files c = if lacks_blocks c then Err refusal.BlockLeftOut else Ok (record c { part = part.Summary })
+
+-- after what a line of these words says. What is wanted of one of its blocks is wanted of all, and told alike
 abbrev pub after_said : Cluster → List Word → Said → Result Cluster Refusal
 after_said c words said.Blank = Ok c
 after_said c words said.Nothing = Ok c
-after_said c words (said.Heading target) = Ok (record c { target = target; part = part.Files })
+after_said c words said.First = Ok (record c { part = part.Begun })
+after_said c words (said.Heading told) = after_heading c told
 after_said c words (said.Wanted count) =
     if differ c.target (Some count) then Err refusal.TwoTargets else Ok (record c { target = Some count })
-after_said c words (said.Block told) = after_block c words told
-after_said c words said.Summary = Ok (record c { part = part.Summary })
+after_said c words (said.Block told) = after_next c words told
+after_said c words said.Summary = after_files c
 after_said c words said.Last = Ok (record c { part = part.Behind })
 
 -- the same where such a line may stand in this part of the text

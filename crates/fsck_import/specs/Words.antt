@@ -54,9 +54,9 @@ abbrev pub block_named : Text → Option Word
 block_named name =
     option_and_then (λ p. option_and_then (λ q. if bytes_eq p.0 (codes "blk") then block_with q.0 q.1 else None) (cut_at 95 p.1)) (cut_at 95 name)
 
--- digits and a full stop, 46
-abbrev pub is_index : Text → Bool
-is_index text = option_map_or (λ p. is_empty p.1 && is_some (number_of p.0)) (cut_at 46 text) false
+-- the index that digits and a full stop, 46, write
+abbrev pub index_of : Text → Option ℕ
+index_of text = option_and_then (λ p. if is_empty p.1 then number_of p.0 else None) (cut_at 46 text)
 
 -- a place in a list, by its text and whether brackets open and close the list there
 abbrev pub listed_by : Bool → Text × Bool → Word
@@ -69,8 +69,8 @@ listed_word text = option_map (listed_by (opened text).1) (ended (opened text).0
 -- an index, a number, a word of a list, or anything else
 abbrev pub other_word : Text → Word
 other_word text =
-    if is_index text then word.Index
-    else option_map_or word.Number (small_number_of text) (option_map_or (λ w. w) (listed_word text) word.Other)
+    option_map_or word.Index (index_of text)
+    (option_map_or word.Number (small_number_of text) (option_map_or (λ w. w) (listed_word text) word.Other))
 
 -- what a word says; its name ends at an equals sign, 61
 abbrev pub word_of : Text → Word

@@ -1,5 +1,5 @@
 // The blocks that were named, in order.
-ghost use Rattle.std.specs.Prelude.{◌≡◌, ◌++◌, ◌∷◌, [], not, IfOk, if◌then◌else◌, map};
+ghost use Rattle.std.specs.Prelude.{◌≡◌, length, ◌++◌, ◌∷◌, [], not, IfOk, if◌then◌else◌, map};
 ghost use Rattle.fsck_import.specs.Blocks.{add, has_block, with_block};
 
 use bm_base::{BlockId, BlockInfo, Call, Event};
@@ -29,6 +29,13 @@ impl Blocks {
         Blocks {
             map: IndexMap::new(alloc),
         }
+    }
+
+    /// How many there are.
+    pub fn len(&self) -> usize
+        ensures { result ≡ length self.now }
+    {
+        self.map.len()
     }
 
     /// Adds a block, and says whether it was not there. One that was stays as it was.

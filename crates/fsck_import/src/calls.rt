@@ -21,6 +21,8 @@ impl Cluster {
             rows,
             blocks,
             target: _,
+            announced: _,
+            before: _,
             part: _,
         } = self;
         let nodes = node_rows.as_slice();

@@ -1,12 +1,12 @@
 // What the lines of the text said so far of a cluster.
 ghost use Rattle.std.specs.Prelude.{◌≡◌, Ok, Err, Some, IfOk, OnOk, IfErr, option_copied};
-ghost use Rattle.fsck_import.specs.Clusters.{no_cluster, wanted, with_place, with_places, row_of, rack_at, is_on, is_there, are_there, after_block, after_said, after_line, after_bytes, at_end, IsCause};
+ghost use Rattle.fsck_import.specs.Clusters.{no_cluster, wanted, with_place, with_places, row_of, rack_at, is_on, is_there, are_there, seen, is_next, lacks_blocks, after_block, after_next, after_heading, after_files, after_said, after_line, after_bytes, at_end, IsCause};
 
 use crate::blocks::Blocks;
 use crate::fault::LineFault;
-use crate::line::{BlockTold, Refusal, Said, differ, line_said, words_of};
+use crate::line::{BlockTold, FileTold, Refusal, Said, differ, line_said, words_of};
 use crate::names::Names;
-use crate::part::{Part, may_stand};
+use crate::part::{Part, is_before, may_stand};
 use crate::place::Place;
 use crate::place_list::repeats_storage;
 use crate::rows::{Row, Rows};
@@ -33,6 +33,10 @@ pub struct Cluster {
     pub blocks: Blocks,
     /// How many replicas are wanted of the blocks of the file that is being told, where that was told.
     pub target: Option<u32>,
+    /// How many blocks the heading of that file announces, where that was told.
+    pub announced: Option<u32>,
+    /// How many blocks were told before that file.
+    pub before: usize,
     /// The part of the text in which the next line stands.
     pub part: Part,
 }
@@ -50,7 +54,9 @@ impl Cluster {
             rows: Rows::new(alloc),
             blocks: Blocks::new(alloc),
             target: None,
-            part: Part::Files,
+            announced: None,
+            before: 0,
+            part: Part::Before,
         }
     }
 
@@ -85,16 +91,14 @@ impl Cluster {
     {
         match said {
             Said::Blank | Said::Nothing => {}
-            Said::Heading(target) => {
-                self.target = target;
-                self.part = Part::Files;
-            }
+            Said::First => self.part = Part::Begun,
+            Said::Heading(told) => self.take_heading(told)?,
             Said::Wanted(count) if differ(self.target, Some(count)) => {
                 return Err(LineFault::Refused(Refusal::TwoTargets));
             }
             Said::Wanted(count) => self.target = Some(count),
-            Said::Block(told) => self.take_block(alloc, told, words)?,
-            Said::Summary => self.part = Part::Summary,
+            Said::Block(told) => self.take_next(alloc, told, words)?,
+            Said::Summary => self.end_files()?,
             Said::Last => self.part = Part::Behind,
         }
         Ok(())
@@ -109,6 +113,77 @@ impl Cluster {
         } else {
             Err(Refusal::CutOff)
         }
+    }
+
+    /// Takes the heading of a file.
+    fn take_heading(&mut self, told: FileTold) -> Result<(), LineFault>
+        ensures ok { OnOk result (after_heading self.old told ≡ Ok self.new) }
+        ensures refused { IfErr result (λ f. IsCause f (after_heading self.old told)) }
+    {
+        if self.lacks_blocks() {
+            return Err(LineFault::Refused(Refusal::BlockLeftOut));
+        }
+        self.target = told.target;
+        self.announced = told.blocks;
+        self.before = self.blocks.len();
+        self.part = Part::Files;
+        Ok(())
+    }
+
+    /// Takes the beginning of the summary.
+    fn end_files(&mut self) -> Result<(), LineFault>
+        ensures ok { OnOk result (after_files self.old ≡ Ok self.new) }
+        ensures refused { IfErr result (λ f. IsCause f (after_files self.old)) }
+    {
+        if self.lacks_blocks() {
+            return Err(LineFault::Refused(Refusal::BlockLeftOut));
+        }
+        self.part = Part::Summary;
+        Ok(())
+    }
+
+    /// How many blocks of the file were told.
+    fn seen(&self) -> usize
+        ensures { result ≡ seen self.now }
+    {
+        self.blocks.len().saturating_sub(self.before)
+    }
+
+    /// Whether a block of this index is the next of the file.
+    fn is_next(&self, index: u64) -> bool
+        ensures { result ≡ is_next self.now index }
+    {
+        if index != self.seen() as u64 {
+            return false;
+        }
+        match self.announced {
+            Some(count) => index < u64::from(count),
+            None => true,
+        }
+    }
+
+    /// Whether fewer blocks of the file were told than its heading announces.
+    fn lacks_blocks(&self) -> bool
+        ensures { result ≡ lacks_blocks self.now }
+    {
+        match self.announced {
+            Some(count) => self.seen() < count as usize,
+            None => false,
+        }
+    }
+
+    /// Takes a block and its places, where it is the next behind the heading of its file.
+    fn take_next(&mut self, alloc: Global, told: BlockTold, words: &[Word]) -> Result<(), LineFault>
+        ensures ok { OnOk result (after_next self.old words.now told ≡ Ok self.new) }
+        ensures refused { IfErr result (λ f. IsCause f (after_next self.old words.now told)) }
+    {
+        if is_before(self.part) {
+            return Err(LineFault::Refused(Refusal::NoHeading));
+        }
+        if !self.is_next(told.index) {
+            return Err(LineFault::Refused(Refusal::NotNext));
+        }
+        self.take_block(alloc, told, words)
     }
 
     /// Takes a block and its places, which are among the words of its line.

@@ -3,7 +3,7 @@ ghost use Rattle.std.specs.Prelude.{◌≡◌, IfOk};
 ghost use Rattle.fsck_import.specs.Words.{words_of};
 ghost use Rattle.fsck_import.specs.Lines.{line_said, said_by, said_by_block, said_by_problem, said_by_heading, may_be_live, fault_of, differ};
 
-use crate::part::{is_last, is_summary};
+use crate::part::{is_first, is_last, is_summary};
 use crate::so_far::{BlockSoFar, LineSoFar};
 use crate::word::{Word, word_of};
 use bm_base::{BlockId, Stamp};
@@ -17,20 +17,33 @@ pub enum Said {
     Blank,
     /// Nothing of blocks, of files or of what is wanted.
     Nothing,
-    /// A file begins, of whose blocks so many replicas are wanted, where that is told.
-    Heading(Option<u32>),
+    /// A file begins.
+    Heading(FileTold),
     /// So many replicas are wanted of a block of this file.
     Wanted(u32),
     Block(BlockTold),
+    /// It is fsck's first line.
+    First,
     /// The summary begins.
     Summary,
     /// It is fsck's last line.
     Last,
 }
 
+/// What the heading of a file says of it.
+#[derive(Clone, Copy, Drop)]
+pub struct FileTold {
+    /// How many blocks it has, where that is told.
+    pub blocks: Option<u32>,
+    /// How many replicas are wanted of each, where that is told.
+    pub target: Option<u32>,
+}
+
 /// What the line of a block says of it, its places aside.
 #[derive(Clone, Copy, Drop)]
 pub struct BlockTold {
+    /// How many blocks of its file are before it.
+    pub index: u64,
     pub id: BlockId,
     pub stamp: Stamp,
     /// How many replicas are live, where that is told.
@@ -63,6 +76,14 @@ pub enum Refusal {
     NegativeBlock,
     #[error("the file is erasure coded")]
     ErasureCoded,
+    #[error("no heading of a file stands before the block")]
+    NoHeading,
+    /// Another index than that of the next block of the file, or more blocks than its heading announces.
+    #[error("the index is not that of the next block of the file")]
+    NotNext,
+    /// At the next heading or the summary.
+    #[error("fewer blocks of the file before were told than its heading announces")]
+    BlockLeftOut,
     #[error("the block was named before")]
     NamedTwice,
     #[error("two places of the block have one storage")]
@@ -71,8 +92,8 @@ pub enum Refusal {
     Elsewhere,
     #[error("the number of wanted replicas is not between 1 and 16")]
     BadReplication,
-    /// What files hold behind the summary's first line, a wanted number behind a file's blocks, the last line before the summary, or
-    /// anything behind the last line.
+    /// fsck's first line behind itself or a file, what files hold behind the summary's first line, a wanted number behind a file's
+    /// blocks, the last line before the summary, or anything behind the last line.
     #[error("the line may not stand in this part of the text")]
     OutOfPlace,
     #[error("the text ends before the last line of fsck")]
@@ -93,6 +114,9 @@ pub fn words_of(alloc: Global, line: &str) -> Result<Vec<Word<'_>>, AllocError>
 pub fn line_said(line: &str, words: &[Word]) -> Result<Said, Refusal>
     ensures { result ≡ line_said line.now words.now }
 {
+    if is_first(line) {
+        return Ok(Said::First);
+    }
     if is_summary(line) {
         return Ok(Said::Summary);
     }
@@ -108,15 +132,17 @@ fn said_by(words: &[Word]) -> Result<Said, Refusal>
 {
     match words {
         [] => Ok(Said::Blank),
-        [Word::Index, rest @ ..] => said_by_block(rest),
-        [Word::Under, rest @ ..] => said_by_problem(rest),
-        _ => said_by_heading(words),
+        [first, rest @ ..] => match first {
+            Word::Index(index) => said_by_block(*index, rest),
+            Word::Under => said_by_problem(rest),
+            _ => said_by_heading(words),
+        },
     }
 }
 
-/// What the line of a block says, by the words behind its index.
-fn said_by_block(words: &[Word]) -> Result<Said, Refusal>
-    ensures { result ≡ said_by_block words.now }
+/// What the line of a block of this index says, by the words behind it.
+fn said_by_block(index: u64, words: &[Word]) -> Result<Said, Refusal>
+    ensures { result ≡ said_by_block index words.now }
 {
     let told = BlockSoFar::of(words);
     if told.is_negative {
@@ -139,6 +165,7 @@ fn said_by_block(words: &[Word]) -> Result<Said, Refusal>
     }
     match (told.name, told.len) {
         (Some((id, generation)), Some(len)) => Ok(Said::Block(BlockTold {
+            index,
             id,
             stamp: Stamp { generation, len },
             live: told.live,
@@ -188,7 +215,10 @@ fn said_by_heading(words: &[Word]) -> Result<Said, Refusal>
     if differ(told.replication, told.target) {
         return Err(Refusal::TwoTargets);
     }
-    Ok(Said::Heading(told.replication.or(told.target)))
+    Ok(Said::Heading(FileTold {
+        blocks: told.blocks,
+        target: told.replication.or(told.target),
+    }))
 }
 
 /// Why what a line tells of wanted replicas is not taken.

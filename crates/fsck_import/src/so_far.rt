@@ -1,6 +1,6 @@
 // What the words of a line said so far, one after another.
 ghost use Rattle.std.specs.Prelude.{◌≡◌, fold};
-ghost use Rattle.fsck_import.specs.SoFar.{nothing_of_block, told_twice, block_with, beginning, nothing_of_line, awaits, line_with};
+ghost use Rattle.fsck_import.specs.SoFar.{nothing_of_block, told_twice, block_with, beginning, nothing_of_line, awaits, number_told, said_with, line_with};
 ghost use Rattle.fsck_import.specs.declared.word.Word.TheVariants.{Replication, Target};
 
 use crate::place_list::ListSoFar;
@@ -105,6 +105,10 @@ pub struct LineSoFar {
     /// A length was told, which ends the path of a file.
     pub is_file: bool,
     pub is_heading: bool,
+    /// The number that the last word was.
+    pub last: Option<u32>,
+    /// How many blocks a heading says the file has.
+    pub blocks: Option<u32>,
     pub is_erasure_coded: bool,
     /// How many replicas a heading says are wanted.
     pub replication: Option<u32>,
@@ -137,6 +141,8 @@ impl LineSoFar {
         LineSoFar {
             is_file,
             is_heading: false,
+            last: None,
+            blocks: None,
             is_erasure_coded: false,
             replication: None,
             is_target: false,
@@ -156,11 +162,22 @@ impl LineSoFar {
     fn with(self, word: &Word) -> LineSoFar
         ensures { result ≡ line_with self word.now }
     {
+        let told = self.with_said(word);
+        LineSoFar {
+            last: number_told(word),
+            ..told
+        }
+    }
+
+    fn with_said(self, word: &Word) -> LineSoFar
+        ensures { result ≡ said_with self word.now }
+    {
         match word {
             // What stood before was the path of the file.
             Word::Bytes => LineSoFar::beginning(true),
             Word::Heading => LineSoFar {
                 is_heading: self.is_file,
+                blocks: self.last,
                 is_target: false,
                 target: None,
                 ..self
@@ -188,7 +205,7 @@ impl LineSoFar {
     }
 
     fn with_replication(self, count: u32) -> LineSoFar
-        ensures { result ≡ line_with self (Replication count) }
+        ensures { result ≡ said_with self (Replication count) }
     {
         if self.replication.is_some() {
             LineSoFar {
@@ -204,7 +221,7 @@ impl LineSoFar {
     }
 
     fn with_target(self) -> LineSoFar
-        ensures { result ≡ line_with self Target }
+        ensures { result ≡ said_with self Target }
     {
         if self.is_target {
             LineSoFar {
@@ -217,5 +234,15 @@ impl LineSoFar {
                 ..self
             }
         }
+    }
+}
+
+/// The number that a word is.
+fn number_told(word: &Word) -> Option<u32>
+    ensures { result ≡ number_told word.now }
+{
+    match word {
+        Word::Number(count) => Some(*count),
+        _ => None,
     }
 }

@@ -72,12 +72,13 @@ const STORAGES_NAMES: &str = "# node 1 10.2.1.1:9866 rack 1 /default-rack
 # storage 3 DS-ab node 1 10.2.1.1:9866
 ";
 
-const FEW_WORDS: &str = " 0. blk_5_1 len=10 repl=2 [10.3.1.1:50010, 10.3.1.2:50010]
+const FEW_WORDS: &str = "/v 30 bytes, 3 block(s):
+ 0. blk_5_1 len=10 repl=2 [10.3.1.1:50010, 10.3.1.2:50010]
  1. blk_6_1 len=10 MISSING!
  2. blk_7_1 len=10 Live_repl=0 []
 /x 10 bytes, 1 block(s):
  Under replicated blk_9_1. Target Replicas is 4 but found 2 replica(s).
- 3. blk_9_1 len=10 repl=1 [/dc1/rack7/DatanodeInfoWithStorage[10.3.1.3:50010,DS-x,DISK]]
+ 0. blk_9_1 len=10 repl=1 [/dc1/rack7/DatanodeInfoWithStorage[10.3.1.3:50010,DS-x,DISK]]
 Status: HEALTHY
 The filesystem under path '/two words' is HEALTHY
 ";
@@ -97,7 +98,7 @@ const FEW_WORDS_LINES: &str = "{\"op\":\"register\",\"node\":1,\"rack\":1,\"stor
 {\"op\":\"report\",\"storage\":3,\"blocks\":[[9,1,10]]}
 ";
 
-const REFUSED: [(&str, u64, Refusal); 37] = [
+const REFUSED: [(&str, u64, Refusal); 49] = [
     (
         "/a 12 bytes, 1 block(s):  OK\n0. blk_-2932_1001 len=12 repl=1 [10.4.1.1:50010]\n",
         2,
@@ -109,8 +110,8 @@ const REFUSED: [(&str, u64, Refusal); 37] = [
         Refusal::ErasureCoded,
     ),
     (
-        "0. blk_3_1 len=1 repl=1 [10.4.1.1:50010]\n\n0. blk_3_1 len=1 repl=1 [10.4.1.1:50010]\n",
-        3,
+        "/a 2 bytes, 2 block(s):  OK\n0. blk_3_1 len=1 repl=1 [10.4.1.1:50010]\n\n1. blk_3_1 len=1 repl=1 [10.4.1.1:50010]\n",
+        4,
         Refusal::NamedTwice,
     ),
     (
@@ -154,13 +155,13 @@ const REFUSED: [(&str, u64, Refusal); 37] = [
         Refusal::NotPlaces,
     ),
     (
-        "0. blk_3_1 len=1 repl=2 [/r/10.4.1.1:9866, /r/10.4.1.1:9866]\n",
-        1,
+        "/a 1 bytes, 1 block(s):  OK\n0. blk_3_1 len=1 repl=2 [/r/10.4.1.1:9866, /r/10.4.1.1:9866]\n",
+        2,
         Refusal::StorageTwice,
     ),
     (
-        "0. blk_3_1 len=1 repl=2 [DatanodeInfoWithStorage[10.4.1.1:9866,DS-a,SSD], DatanodeInfoWithStorage[10.4.1.1:9866,DS-a,DISK]]\n",
-        1,
+        "/a 1 bytes, 1 block(s):  OK\n0. blk_3_1 len=1 repl=2 [DatanodeInfoWithStorage[10.4.1.1:9866,DS-a,SSD], DatanodeInfoWithStorage[10.4.1.1:9866,DS-a,DISK]]\n",
+        2,
         Refusal::StorageTwice,
     ),
     ("0. blk_3_1 blk_4_1 len=1 repl=1\n", 1, Refusal::ToldTwice),
@@ -226,18 +227,78 @@ const REFUSED: [(&str, u64, Refusal); 37] = [
         Refusal::NotATarget,
     ),
     (
-        "0. blk_3_1 len=1 [/r1/10.4.1.1:9866]\n1. blk_4_1 len=1 [/r2/10.4.1.1:9866]\n",
-        2,
+        "/a 2 bytes, 2 block(s):  OK\n0. blk_3_1 len=1 [/r1/10.4.1.1:9866]\n1. blk_4_1 len=1 [/r2/10.4.1.1:9866]\n",
+        3,
         Refusal::Elsewhere,
     ),
     (
-        "0. blk_3_1 len=1 [DatanodeInfoWithStorage[10.4.1.1:9866,DS-a,SSD]]\n1. blk_4_1 len=1 [DatanodeInfoWithStorage[10.4.1.2:9866,DS-a,SSD]]\n",
-        2,
+        "/a 2 bytes, 2 block(s):  OK\n0. blk_3_1 len=1 [DatanodeInfoWithStorage[10.4.1.1:9866,DS-a,SSD]]\n1. blk_4_1 len=1 [DatanodeInfoWithStorage[10.4.1.2:9866,DS-a,SSD]]\n",
+        3,
         Refusal::Elsewhere,
     ),
     (
         "/a 2 bytes, 2 block(s):  OK\n0. blk_3_1 len=1 repl=1 [10.4.1.1:50010]\n Under replicated blk_4_1. Target Replicas is 4 but found 1\n",
         3,
+        Refusal::OutOfPlace,
+    ),
+    (
+        " Under replicated blk_4_1. Target Replicas is 4 but found 1\n",
+        1,
+        Refusal::OutOfPlace,
+    ),
+    (
+        "/a <dir>\n0. blk_3_1 len=1 repl=1 [10.4.1.1:50010]\n",
+        2,
+        Refusal::NoHeading,
+    ),
+    (
+        "/a 2 bytes, 2 block(s):  OK\n1. blk_4_1 len=1 repl=1 [10.4.1.1:50010]\n",
+        2,
+        Refusal::NotNext,
+    ),
+    (
+        "/a 3 bytes, 3 block(s):  OK\n0. blk_3_1 len=1 repl=1 [10.4.1.1:50010]\n2. blk_5_1 len=1 repl=1 [10.4.1.1:50010]\n",
+        3,
+        Refusal::NotNext,
+    ),
+    (
+        "/a 1 bytes, 1 block(s):  OK\n0. blk_3_1 len=1 repl=1 [10.4.1.1:50010]\n\n0. blk_4_1 len=1 repl=1 [10.4.1.1:50010]\n",
+        4,
+        Refusal::NotNext,
+    ),
+    (
+        "/a 1 bytes, 1 block(s):  OK\n0. blk_3_1 len=1 repl=1 [10.4.1.1:50010]\n1. blk_4_1 len=1 repl=1 [10.4.1.1:50010]\n",
+        3,
+        Refusal::NotNext,
+    ),
+    (
+        "/a 9 bytes, block(s):\n0. blk_3_1 len=1 repl=1 [10.4.1.1:50010]\n2. blk_4_1 len=1 repl=1 [10.4.1.1:50010]\n",
+        3,
+        Refusal::NotNext,
+    ),
+    (
+        "/a 2 bytes, 2 block(s):  OK\n0. blk_3_1 len=1 repl=1 [10.4.1.1:50010]\n\n/b 1 bytes, 1 block(s):  OK\n",
+        4,
+        Refusal::BlockLeftOut,
+    ),
+    (
+        "/a 1 bytes, 1 block(s):  OK\n\nStatus: HEALTHY\n",
+        3,
+        Refusal::BlockLeftOut,
+    ),
+    (
+        "FSCK started by hdfs from /192.0.2.1 for path / at Mon Jan 06\n/ <dir>\n\nFSCK started by hdfs from /192.0.2.1 for path / at Mon Jan 06\n",
+        4,
+        Refusal::OutOfPlace,
+    ),
+    (
+        "/a 0 bytes, 0 block(s):  OK\nFSCK started by hdfs from /192.0.2.1 for path / at Mon Jan 06\n",
+        2,
+        Refusal::OutOfPlace,
+    ),
+    (
+        "FSCK started by hdfs from /192.0.2.1 for path / at Mon Jan 06\n/a 1 bytes, 1 block(s):  OK\n0. blk_3_1 len=1 repl=1 [10.4.1.1:50010]\nFSCK started by hdfs from /192.0.2.1 for path / at Mon Jan 06\n",
+        4,
         Refusal::OutOfPlace,
     ),
     (
@@ -287,6 +348,20 @@ const ODD_PATH_LINES: &str = "{\"op\":\"register\",\"node\":1,\"rack\":1,\"stora
 {\"op\":\"report\",\"storage\":1,\"blocks\":[[5,1,5]]}
 ";
 
+/// Files of no blocks, and of a number that is not announced.
+const UNTOLD: &str = "/e 0 bytes, 0 block(s):  OK
+
+/y 10 bytes, block(s):
+0. blk_5_1 len=5 MISSING!
+1. blk_6_1 len=5 MISSING!
+Status: CORRUPT
+The filesystem under path '/' is CORRUPT
+";
+
+const UNTOLD_LINES: &str = "{\"op\":\"add\",\"id\":5,\"gen\":1,\"len\":5,\"repl\":1}
+{\"op\":\"add\",\"id\":6,\"gen\":1,\"len\":5,\"repl\":1}
+";
+
 /// The lines that are written for a text, and the table of names.
 fn imported(alloc: Global, text: &str, remaining: u64) -> Result<(Vec<u8>, Vec<u8>), Fault> {
     let mut reader = text.as_bytes();
@@ -305,7 +380,7 @@ fn a_text_of_hadoop_3_with_storages(rt: HostRuntime) -> Result<(), Fail> {
 }
 
 #[test]
-fn lines_of_blocks_alone_with_less_and_less_told(rt: HostRuntime) -> Result<(), Fail> {
+fn lines_of_files_and_blocks_with_less_and_less_told(rt: HostRuntime) -> Result<(), Fail> {
     let (lines, _) = imported(rt.alloc(), FEW_WORDS, 1_099_511_627_776)?;
     assert!(rt; lines.as_slice() == FEW_WORDS_LINES.as_bytes());
     Ok(())
@@ -315,6 +390,13 @@ fn lines_of_blocks_alone_with_less_and_less_told(rt: HostRuntime) -> Result<(), 
 fn a_path_with_words_of_a_heading(rt: HostRuntime) -> Result<(), Fail> {
     let (lines, _) = imported(rt.alloc(), ODD_PATH, 9)?;
     assert!(rt; lines.as_slice() == ODD_PATH_LINES.as_bytes());
+    Ok(())
+}
+
+#[test]
+fn files_of_no_blocks_and_of_a_number_that_is_not_told(rt: HostRuntime) -> Result<(), Fail> {
+    let (lines, _) = imported(rt.alloc(), UNTOLD, 9)?;
+    assert!(rt; lines.as_slice() == UNTOLD_LINES.as_bytes());
     Ok(())
 }
 

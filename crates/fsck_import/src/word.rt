@@ -1,6 +1,6 @@
 // What a word of the text says by itself.
 ghost use Rattle.std.specs.Prelude.{◌≡◌, option_map, map};
-ghost use Rattle.fsck_import.specs.Words.{fixed_word, valued_word, name_part, block_named, is_index, listed_word, other_word, word_of};
+ghost use Rattle.fsck_import.specs.Words.{fixed_word, valued_word, name_part, block_named, index_of, listed_word, other_word, word_of};
 
 use crate::cuts::{cut_at, number_of, small_number_of};
 use crate::place::{before_last, place_of};
@@ -11,7 +11,7 @@ use bm_base::{BlockId, Gen};
 #[derive(Drop)]
 pub enum Word<'a> {
     /// The number of a block in its file, and a full stop.
-    Index,
+    Index(u64),
     /// The name of a block: its number and its generation.
     Block(BlockId, Gen),
     /// The name of a block whose number is below 0, as old clusters have them.
@@ -124,13 +124,15 @@ fn block_named(name: &str) -> Option<Word<'_>>
     }
 }
 
-/// Digits and a full stop.
-fn is_index(word: &str) -> bool
-    ensures { result ≡ is_index word.now }
+/// The index that digits and a full stop write.
+fn index_of(word: &str) -> Option<u64>
+    ensures { result ≡ index_of word.now }
 {
-    match cut_at(word, '.') {
-        Some((digits, rest)) => rest.is_empty() && number_of(digits).is_some(),
-        None => false,
+    let (digits, rest) = cut_at(word, '.')?;
+    if rest.is_empty() {
+        number_of(digits)
+    } else {
+        None
     }
 }
 
@@ -154,8 +156,8 @@ fn listed_word(word: &str) -> Option<Word<'_>>
 fn other_word(word: &str) -> Word<'_>
     ensures { result ≡ other_word word.now }
 {
-    if is_index(word) {
-        return Word::Index;
+    if let Some(index) = index_of(word) {
+        return Word::Index(index);
     }
     if let Some(number) = small_number_of(word) {
         return Word::Number(number);
