@@ -1,3 +1,4 @@
 -- Lemmas of the callers.
+mod Refused
 mod Stops
 mod Told
