@@ -24,7 +24,8 @@ mod marking;
 mod one_list;
 mod racks;
 mod reports;
-mod round_marks;
+mod round_begins;
+mod round_ends;
 #[cfg(test)]
 mod tests;
 mod unsettled;
