@@ -26,3 +26,4 @@ pub mod Beginning
 pub mod RoundStart
 pub mod Bare
 pub mod Unlinking
+pub mod Wishes
