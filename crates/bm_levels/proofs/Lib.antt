@@ -26,3 +26,4 @@ pub mod Going
 pub mod RoundStart
 pub mod Bare
 pub mod Unlinking
+pub mod Wishes
