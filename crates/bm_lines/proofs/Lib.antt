@@ -8,4 +8,7 @@ pub mod AskingSound
 pub mod AskingRead
 pub mod AskingBack
 pub mod ReadOps
+pub mod Turns
+pub mod Values
+pub mod Kept
 pub mod UsualLemmas
