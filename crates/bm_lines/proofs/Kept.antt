@@ -11,7 +11,7 @@ use Rattle.bm_lines.specs.declared.rows.Row.{Row}
 use Rattle.bm_lines.specs.declared.rows.Row.TheVariants as row
 use Rattle.bm_lines.specs.Op.{op_of}
 use Rattle.bm_lines.specs.Fields.{number_in, small_in, each, listed, entry_among, entry_in, remaining_among, remaining_in}
-use Rattle.bm_lines.specs.Reading.{row_among, row_in, row_with, row_entry, row_remaining, with_item, after, Becomes, Knows}
+use Rattle.bm_lines.specs.Reading.{row_among, row_in, row_with, row_entry, row_remaining, with_item, each_in, after, Becomes, Knows}
 
 -- ---- rows
 
@@ -33,6 +33,9 @@ entry_of_row (a ∷ b ∷ c ∷ d ∷ e ∷ ds) = refl
 
 abbrev row_or : Option Items → Row
 row_or o = unwrap_or (option_map (λ items. row_among (listed items)) o) row.Other
+
+pub row_in-none : (d : Data) → as_array d ≡ None → row.Other ≡ row_in d
+row_in-none d e = ap row_or (sym e)
 
 entry_of : (o : Option Items) → row_entry (row_or o) ≡ option_and_then (λ items. entry_among (listed items)) o
 entry_of None = refl
@@ -80,6 +83,9 @@ module _ {A : Type 0} (f : Data → Option A) where
   each-more [] d = first_item (f d)
   each-more (e ∷ ds) d = behind_first (f e) (each f ds) _ (f d) (each-more ds d)
 
+pub each_in-none : {A : Type 0} (f : Data → Option A) (d : Data) → as_array d ≡ None → None ≡ each_in f d
+each_in-none f d e = ap (option_and_then (λ items. each f (listed items))) (sym e)
+
 -- ---- fields
 
 field_put : {A : Type 0} (g : Option Data → A) (q k : List ℕ) (d : Data) (ms : Members) (x : A) → x ≡ g (get_member q ms) → after q k (g (Some d)) x ≡ g (get_member q (put k d ms))
@@ -89,20 +95,20 @@ field_put g q k d ms x e = go (bytes_eq k q) refl
     go true same = ap g (sym (ap (λ n. get_member n (put k d ms)) (sym ((bytes_eq-Decides k q).0 same)) ∙ get_member-put k d ms))
     go false other = e ∙ ap g (sym (get_member-put_other q k d ms (λ same. absurd (true≢false (sym ((bytes_eq-Decides k q).1 (sym same)) ∙ other)))))
 
+abbrev list_in : {A : Type 0} → (Data → Option A) → Option Data → Option (List A)
+list_in f o = option_and_then (λ items. each f (listed items)) (option_and_then as_array o)
+
 pub knows_more : (old new : Fields) (k : List ℕ) (d : Data) (ms : Members) → Becomes old new k d → Knows old (object ms) → Knows new (object (put k d ms))
-knows_more old new k d ms becomes known =
-    let number = λ (o : Option Data). option_and_then number_in o in
-    let list = λ {A : Type 0} (f : Data → Option A) (o : Option Data). option_and_then (λ items. each f (listed items)) (option_and_then as_array o) in
-    record {
-      op = becomes.op ∙ field_put (λ o. option_and_then op_of (option_and_then as_str o)) (codes "op") k d ms _ known.op;
-      node = ap (λ n. n.node) becomes.numbers ∙ field_put number (codes "node") k d ms _ known.node;
-      storage = ap (λ n. n.storage) becomes.numbers ∙ field_put number (codes "storage") k d ms _ known.storage;
-      id = ap (λ n. n.id) becomes.numbers ∙ field_put number (codes "id") k d ms _ known.id;
-      repl = ap (λ n. n.repl) becomes.numbers ∙ field_put number (codes "repl") k d ms _ known.repl;
-      rack = ap (λ n. n.rack) becomes.numbers ∙ field_put number (codes "rack") k d ms _ known.rack;
-      generation = ap (λ n. n.generation) becomes.numbers ∙ field_put number (codes "gen") k d ms _ known.generation;
-      len = ap (λ n. n.len) becomes.numbers ∙ field_put number (codes "len") k d ms _ known.len;
-      storages = becomes.storages ∙ field_put (list small_in) (codes "storages") k d ms _ known.storages;
-      remaining = becomes.remaining ∙ field_put (list remaining_in) (codes "remaining") k d ms _ known.remaining;
-      blocks = becomes.blocks ∙ field_put (list entry_in) (codes "blocks") k d ms _ known.blocks
-    }
+knows_more old new k d ms becomes known = record {
+    op = becomes.op ∙ field_put (λ o. option_and_then op_of (option_and_then as_str o)) (codes "op") k d ms _ known.op;
+    node = ap (λ n. n.node) becomes.numbers ∙ field_put (option_and_then number_in) (codes "node") k d ms _ known.node;
+    storage = ap (λ n. n.storage) becomes.numbers ∙ field_put (option_and_then number_in) (codes "storage") k d ms _ known.storage;
+    id = ap (λ n. n.id) becomes.numbers ∙ field_put (option_and_then number_in) (codes "id") k d ms _ known.id;
+    repl = ap (λ n. n.repl) becomes.numbers ∙ field_put (option_and_then number_in) (codes "repl") k d ms _ known.repl;
+    rack = ap (λ n. n.rack) becomes.numbers ∙ field_put (option_and_then number_in) (codes "rack") k d ms _ known.rack;
+    generation = ap (λ n. n.generation) becomes.numbers ∙ field_put (option_and_then number_in) (codes "gen") k d ms _ known.generation;
+    len = ap (λ n. n.len) becomes.numbers ∙ field_put (option_and_then number_in) (codes "len") k d ms _ known.len;
+    storages = becomes.storages ∙ field_put (list_in small_in) (codes "storages") k d ms _ known.storages;
+    remaining = becomes.remaining ∙ field_put (list_in remaining_in) (codes "remaining") k d ms _ known.remaining;
+    blocks = becomes.blocks ∙ field_put (list_in entry_in) (codes "blocks") k d ms _ known.blocks
+  }

@@ -1,6 +1,8 @@
 -- What the tokens that a value begins with say of it, and the turns of the loops over items and members.
-use Rattle.std.proofs.Common.{◌≡◌, ℕ, zero, suc, ◌-◌, ◌<◌, ◌≤◌, List, [], ◌∷◌, ◌++◌, length, Bool, true, false, true≢false, Option, Some, None, option_map, refl, sym, ap, ◌∙◌, arith}
-use Rattle.std.specs.Prelude.{Result, Ok, Err, OnErr}
+use Rattle.std.proofs.Common.{◌≡◌, ◌≢◌, ℕ, zero, suc, ◌-◌, ◌<◌, ◌≤◌, List, [], ◌∷◌, ◌++◌, length, Bool, true, false, true≢false, Option, Some, None, option_map, refl, sym, ap, ◌∙◌, arith}
+use Rattle.std.specs.Prelude.{Result, Ok, Err, OnErr, IfErr}
+use Rattle.json.specs.declared.error.Error.{Error}
+use Rattle.json.specs.declared.error.Error.TheVariants.{OutOfMemory}
 use Rattle.json.specs.Token.{Token}
 use Rattle.json.specs.Json as json
 use Rattle.json.specs.Json.{parse_map, after_end_array, read_key, value}
@@ -27,6 +29,10 @@ value_or a e = ap (value_of a) e
 pub on_err : {A E P : Type 0} (r : Result A E) → P → OnErr r P
 on_err (Ok a) p = tt
 on_err (Err e) p = p
+
+pub unless_memory : {A P : Type 0} (r : Result A Error) → P → IfErr r (λ e. e ≢ OutOfMemory → P)
+unless_memory (Ok a) p = tt
+unless_memory (Err e) p = λ _. p
 
 pub at_string : (depth : ℕ) (s : List ℕ) (ts : List Token) → value_at depth (Token.string s ∷ ts) ≡ Some (string s, ts)
 at_string depth s ts = ap (converted of_json) (value_is depth (Token.string s ∷ ts))
@@ -128,6 +134,18 @@ no_array depth (Token.number s) ts r d e other = ap as_array (begun depth (Token
 no_array depth (Token.boolean b) ts r d e other = ap as_array (begun depth (Token.boolean b) ts r d e)
 no_array depth Token.null ts r d e other = ap as_array (begun depth Token.null ts r d e)
 no_array depth Token.bad ts r d e other = absurd (begun depth Token.bad ts r d e)
+
+-- what holds of such a value holds of it
+pub takes_also : (depth : ℕ) (old r : List Token) (P Q : Data → Type 0) → ((d : Data) → P d → Q d) → Takes depth old P r → Takes depth old Q r
+takes_also depth old r P Q also took = (took.0, took.1, also took.0 took.2)
+
+-- an array by its items
+pub takes_array : (depth : ℕ) (old now r : List Token) (P : List Data → Type 0) (Q : Data → Type 0) → (0 < depth) × (old ≡ Token.begin_array ∷ now)
+    → ((ds : Items) → P (listed ds) → Q (array ds)) → TakesItems (depth - 1) now P r → Takes depth old Q r
+takes_array depth old now r P Q opened also took = (array took.0, ap (value_at depth) opened.1 ∙ at_array depth now opened.0 ∙ ap (parse_map array) took.1, also took.0 took.2)
+
+pub array_refused : (depth : ℕ) (old now : List Token) → (0 < depth) × (old ≡ Token.begin_array ∷ now) → items_at (depth - 1) (length now) now ≡ None → value_at depth old ≡ None
+array_refused depth old now opened none = ap (value_at depth) opened.1 ∙ at_array depth now opened.0 ∙ ap (parse_map array) none
 
 -- ---- items
 

@@ -57,7 +57,8 @@ fn storages_among(
     let mut storages = Some(Vec::new(alloc));
     'items: while !reader.take_end_array() {
         let number = number_in(reader, depth)?;
-        storages = with_item(storages, storage_of(number))?;
+        let storage = storage_of(number);
+        storages = with_item(storages, storage)?;
     }
     Ok(storages)
 }
@@ -100,7 +101,8 @@ fn remaining_among(
     let mut told = Some(Vec::new(alloc));
     'items: while !reader.take_end_array() {
         let row = row_in(reader, depth)?;
-        told = with_item(told, row.remaining())?;
+        let remaining = row.remaining();
+        told = with_item(told, remaining)?;
     }
     Ok(told)
 }
@@ -138,7 +140,8 @@ fn entries_among(
     let mut entries = Some(Vec::new(alloc));
     'items: while !reader.take_end_array() {
         let row = row_in(reader, depth)?;
-        entries = with_item(entries, row.entry())?;
+        let entry = row.entry();
+        entries = with_item(entries, entry)?;
     }
     Ok(entries)
 }

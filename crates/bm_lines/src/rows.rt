@@ -77,7 +77,8 @@ fn row_among(reader: &mut Reader<'_>, depth: usize) -> Result<Row, Invalid>
 {
     let mut row = Row::Zero;
     'items: while !reader.take_end_array() {
-        row = row.with(number_in(reader, depth)?);
+        let number = number_in(reader, depth)?;
+        row = row.with(number);
     }
     Ok(row)
 }
