@@ -11,4 +11,5 @@ pub mod ReadOps
 pub mod Turns
 pub mod Values
 pub mod Kept
+pub mod Whole
 pub mod UsualLemmas
