@@ -1,4 +1,4 @@
-use Rattle.std.proofs.Common.{◌≡◌, ◌≢◌, Some, None, option_and_then, ap, ◌∙◌, arith}
+use Rattle.std.proofs.Common.{◌≡◌, ◌≢◌, None, option_and_then, ◌∙◌, arith}
 use Rattle.json.specs.declared.error.Error.TheVariants.{OutOfMemory}
 use Rattle.serde_json.specs.Read.{read}
 use Rattle.bm_lines.specs.CallOf.{call_in}

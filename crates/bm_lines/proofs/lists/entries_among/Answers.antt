@@ -1,4 +1,4 @@
-use Rattle.std.proofs.Common.{◌≡◌, None, option_and_then, ap, ap₂, ◌∙◌, arith}
+use Rattle.std.proofs.Common.{◌≡◌, None, ap, ap₂, ◌∙◌, arith}
 use Rattle.json.specs.Json.{after_end_array}
 use Rattle.bm_lines.specs.Fields.{entry_in}
 use Rattle.bm_lines.specs.Reading.{with_item, row_entry}
