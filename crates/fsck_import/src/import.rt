@@ -12,8 +12,8 @@ use crate::writing::write_calls;
 use std::alloc::Global;
 use std::io::{BufRead, Write};
 
-/// Reads a whole text, and then writes a table of names and the lines that tell of its cluster, with so many bytes remaining on each storage.
-/// Nothing is written before all of the text was read, and no line before the whole table.
+/// Reads a whole text, and then writes a table of names, and the lines that tell of its cluster, with so many bytes remaining on each
+/// storage. Nothing is written before all of the text was read, and no line before the whole table.
 pub fn import<R: BufRead, W: Write, N: Destination>(
     alloc: Global,
     reader: &mut R,
