@@ -10,3 +10,5 @@ pub mod CallLemmas
 pub mod ReplicaLemmas
 pub mod ToldLemmas
 pub mod NamedLemmas
+pub mod TableLemmas
+pub mod OptionLemmas

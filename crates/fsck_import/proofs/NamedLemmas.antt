@@ -16,7 +16,7 @@ use Rattle.fsck_import.specs.Blocks.{has_block, with_block}
 use Rattle.fsck_import.specs.PlaceLists.{repeats_storage}
 use Rattle.fsck_import.specs.Words.{words_of}
 use Rattle.fsck_import.specs.Lines.{differ, line_said}
-use Rattle.fsck_import.specs.Clusters.{no_cluster, wanted, with_word, with_places, are_there, in_place, is_next, lacks_blocks, after_block, after_next, after_said, after_placed, at_end, is_whole, after_line, after_bytes, after_ok}
+use Rattle.fsck_import.specs.Clusters.{no_cluster, wanted, with_word, with_places, are_there, in_place, is_next, lacks_blocks, after_block, after_said, after_placed, at_end, is_whole, after_line, after_bytes, after_ok}
 use Rattle.fsck_import.specs.Parts.{may_stand, is_before}
 use Rattle.fsck_import.specs.Reading.{after_lines, at_line, cluster_of}
 use Rattle.fsck_import.specs.Laws.{Replica, EachOnce, number_said, number_in, numbers_named, replica_at, replicas_said, replicas_in, replicas_told, replicas_reported}
@@ -255,6 +255,7 @@ write_fault (fault.Refused unread) t h = absurd h
 write_fault fault.Memory t h = tt
 write_fault fault.Read t h = tt
 write_fault fault.Write t h = tt
+write_fault fault.Table t h = absurd h
 write_fault fault.LongReport t h = tt
 
 pub writes_nothing : {W : Type 0} (f : Fault) (old new : W) → IsWriteFault f → WritesNothing f old new
@@ -262,4 +263,5 @@ writes_nothing (fault.Refused unread) old new h = absurd h
 writes_nothing fault.Memory old new h = tt
 writes_nothing fault.Read old new h = absurd h
 writes_nothing fault.Write old new h = tt
+writes_nothing fault.Table old new h = absurd h
 writes_nothing fault.LongReport old new h = tt

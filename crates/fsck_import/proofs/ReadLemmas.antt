@@ -71,6 +71,7 @@ still_refused (fault.Refused unread) g r h = ap (after_ok g) h
 still_refused fault.Memory g r h = h
 still_refused fault.Read g r h = h
 still_refused fault.Write g r h = h
+still_refused fault.Table g r h = h
 still_refused fault.LongReport g r h = h
 
 -- where a line is refused, all of them are

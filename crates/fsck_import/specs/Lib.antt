@@ -14,6 +14,7 @@ pub mod Clusters
 pub mod CallsFor
 pub mod Reading
 pub mod Writing
+pub mod NameTable
 pub mod Laws
 pub mod Importing
 pub mod Options

@@ -35,4 +35,5 @@ IsReadFault (fault.Refused unread) told = told ≡ Err unread
 IsReadFault fault.Memory told = ⊤
 IsReadFault fault.Read told = ⊤
 IsReadFault fault.Write told = ⊥
+IsReadFault fault.Table told = ⊥
 IsReadFault fault.LongReport told = ⊥

@@ -1,5 +1,5 @@
 -- What a word of the text says by itself.
-use Rattle.std.specs.Prelude.{ℕ, ◌==◌, ◌&&◌, Bool, false, Option, Some, None, is_some, option_and_then, option_map, unwrap_or, if◌then◌else◌, codes, List, map, filter, not}
+use Rattle.std.specs.Prelude.{ℕ, ◌==◌, Bool, Option, Some, None, option_and_then, option_map, unwrap_or, if◌then◌else◌, codes, List, map, filter, not}
 use Rattle.std.specs.List.{slice_split}
 use Rattle.std.specs.Option.{option_map_or}
 use Rattle.std.specs.Str.{bytes_eq}

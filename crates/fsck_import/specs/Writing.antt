@@ -34,4 +34,11 @@ pub record Tells (calls : List Call) (old new : Option Text) : Type 0 where
 abbrev pub IsWriteFault : Fault → Type 0
 IsWriteFault (fault.Refused unread) = ⊥
 IsWriteFault fault.Read = ⊥
+IsWriteFault fault.Table = ⊥
 IsWriteFault _ = ⊤
+
+-- a fault of the table of names: a write fails, or the file cannot be opened or written
+abbrev pub IsTableFault : Fault → Type 0
+IsTableFault fault.Write = ⊤
+IsTableFault fault.Table = ⊤
+IsTableFault _ = ⊥

@@ -42,6 +42,9 @@ pub enum Fault {
     /// A write or the flush failed.
     #[error("write fault")]
     Write,
+    /// The file for the table of names could not be opened or written.
+    #[error("the table of names cannot be written")]
+    Table,
     #[error("{0}")]
     Refused(Unread),
     /// A report is longer than a line of the tool may be.

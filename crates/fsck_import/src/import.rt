@@ -1,18 +1,20 @@
 // A whole run, from a reader to a writer.
 ghost use Rattle.std.specs.Prelude.{◌≡◌, Ok, IfSome, IfErr, OnOk};
 ghost use Rattle.fsck_import.specs.Reading.{cluster_of};
+ghost use Rattle.fsck_import.specs.NameTable.{TellsNames};
 ghost use Rattle.fsck_import.specs.Importing.{TellsCluster, IsRunFault, WritesNothing};
 
+use crate::destination::Destination;
 use crate::fault::Fault;
-use crate::name_table::write_names;
+use crate::name_table::table_of;
 use crate::reading::read_cluster;
 use crate::writing::write_calls;
 use std::alloc::Global;
 use std::io::{BufRead, Write};
 
-/// Reads a whole text, and then writes the lines that tell of its cluster, with so many bytes remaining on each storage, and a table of names.
-/// Nothing is written before all of the text was read.
-pub fn import<R: BufRead, W: Write, N: Write>(
+/// Reads a whole text, and then writes a table of names, and the lines that tell of its cluster, with so many bytes remaining on each
+/// storage. Nothing is written before all of the text was read, and no line before the whole table.
+pub fn import<R: BufRead, W: Write, N: Destination>(
     alloc: Global,
     reader: &mut R,
     writer: &mut W,
@@ -21,13 +23,17 @@ pub fn import<R: BufRead, W: Write, N: Write>(
 ) -> Result<(), Fault>
     ensures tells { OnOk result (IfSome (R.remaining reader.old) (λ text.
         TellsCluster text remaining (W.contents writer.old) (W.contents writer.new))) }
+    ensures named { OnOk result (IfSome (R.remaining reader.old) (λ text.
+        TellsNames text (N.contents names.old) (N.contents names.new))) }
     ensures refused { IfErr result
         (λ f. IfSome (R.remaining reader.old) (λ text. IsRunFault f (cluster_of text))) }
-    // Where a line is refused or a read fails, the writer is as it was.
+    // Where a line is refused or a read fails, the writer is as it was, and so is what takes the names.
     ensures nothing_written { IfErr result (λ f. WritesNothing f writer.old writer.new) }
+    ensures nothing_named { IfErr result (λ f. WritesNothing f names.old names.new) }
 {
     let cluster = read_cluster(alloc, reader)?;
-    if let Err(fault) = write_names(alloc, names, &cluster) {
+    let table = table_of(alloc, &cluster)?;
+    if let Err(fault) = names.put(table.as_str()) {
         return Err(fault);
     }
     let calls = cluster.into_calls(alloc, remaining)?;

@@ -1,11 +1,12 @@
 //! Reads what `hdfs fsck / -files -blocks -locations -racks` wrote from standard input, and writes the lines to standard output that
-//! tell the line tool of that cluster.
+//! tell the line tool of that cluster. Which number stands for which name goes to standard error, or into a file.
 #![tactic(auto)]
 
 mod blocks;
 mod calls;
 mod cluster;
 mod cuts;
+mod destination;
 mod fault;
 mod import;
 mod line;
@@ -22,29 +23,48 @@ mod so_far;
 mod word;
 mod writing;
 
+use clap::Error;
+use clap::error::ErrorKind;
+use destination::{Destination, Stream, TableFile};
 use fault::Fault;
 use import::import;
-use options::remaining_of;
+use options::{Asked, asked_by};
 use std::alloc::Global;
 use std::env::Env;
 use std::io::{BufReader, BufWriter};
 use std::process::ExitCode;
+use std::rt::Files;
 use std::{env, io};
 
-const USAGE: &str = "usage: fsck_import [--remaining BYTES] < FSCK > LINES 2> NAMES";
+const DONE: u8 = 0;
+
+const FAULTED: u8 = 1;
+
+const MISUSED: u8 = 2;
 
 fn main(rt: HostRuntime) -> ExitCode {
-    match words_of(&rt) {
-        Ok(words) => asked(&rt, &rt.stderr(), words.as_slice()),
-        Err(error) if error.kind() == io::ErrorKind::OutOfMemory => faulted(&rt, Fault::Memory),
-        Err(_) => misused(&rt),
+    ExitCode::from(status_of(&rt, &rt.stderr()))
+}
+
+/// Reads the options, and makes the run that they ask for.
+fn status_of<R: Env + Input + Print + Eprint + Files + AllocGlobal, N: Print>(
+    rt: &R,
+    notes: &N,
+) -> u8 {
+    match words_of(rt) {
+        Ok(words) => asked_status(rt, notes, words.as_slice()),
+        Err(error) if error.kind() == io::ErrorKind::OutOfMemory => say_fault(rt, Fault::Memory),
+        Err(_) => {
+            let _ = rt.eprintln("error: an argument is not UTF-8");
+            MISUSED
+        }
     }
 }
 
-/// The words behind the program's name.
+/// The words of the command line. Each is pushed, so that no refused growth is passed over.
 fn words_of<R: Env + AllocGlobal>(rt: &R) -> io::Result<Vec<String>> {
     let mut words = Vec::new(rt.alloc());
-    for word in env::args(rt)?.skip(1) {
+    for word in env::args(rt)? {
         if words.push(word).is_err() {
             return Err(io::Error::from(io::ErrorKind::OutOfMemory));
         }
@@ -52,24 +72,72 @@ fn words_of<R: Env + AllocGlobal>(rt: &R) -> io::Result<Vec<String>> {
     Ok(words)
 }
 
-fn asked<R: Input + Print + Eprint + AllocGlobal, N: Print>(
+fn asked_status<R: Input + Print + Eprint + Files + AllocGlobal, N: Print>(
     rt: &R,
-    names: &N,
+    notes: &N,
     words: &[String],
-) -> ExitCode {
-    let Some(remaining) = remaining_of(words) else {
-        return misused(rt);
-    };
-    match run(rt, names, remaining) {
-        Ok(()) => ExitCode::SUCCESS,
-        Err(fault) => faulted(rt, fault),
+) -> u8 {
+    match asked_by(rt.alloc(), words) {
+        Ok(asked) => run_status(rt, notes, &asked),
+        Err(error) => say_error(rt, &error),
     }
 }
 
-/// The whole run, from standard input to standard output, with the names on standard error.
-fn run<R: Input + Print + AllocGlobal, N: Print>(
+/// Says why there is no run.
+fn say_error<R: Print + Eprint>(rt: &R, error: &Error) -> u8 {
+    if matches!(error.kind(), ErrorKind::OutOfMemory) {
+        return say_fault(rt, Fault::Memory);
+    }
+    let _ = error.print(rt);
+    if error.use_stderr() { MISUSED } else { DONE }
+}
+
+fn say_fault<R: Eprint>(rt: &R, fault: Fault) -> u8 {
+    let _ = rt.eprintln(format_args!("fsck_import: {fault}"));
+    FAULTED
+}
+
+/// The run, with the table of names where the words ask for it.
+fn run_status<R: Input + Print + Eprint + Files + AllocGlobal, N: Print>(
     rt: &R,
-    names: &N,
+    notes: &N,
+    asked: &Asked<'_>,
+) -> u8 {
+    match asked.names {
+        Some(path) => run_with_file(rt, path, asked.remaining),
+        None => {
+            let mut names = Stream {
+                writer: io::writer(notes),
+            };
+            match run(rt, &mut names, asked.remaining) {
+                Ok(()) => DONE,
+                Err(fault) => say_fault(rt, fault),
+            }
+        }
+    }
+}
+
+/// The run with the table of names in a file.
+fn run_with_file<R: Input + Print + Eprint + Files + AllocGlobal>(
+    rt: &R,
+    path: &str,
+    remaining: u64,
+) -> u8 {
+    let mut names = TableFile::new(rt, path);
+    match (run(rt, &mut names, remaining), names.error()) {
+        (Ok(()), _) => DONE,
+        (Err(fault), Some(error)) => {
+            let _ = rt.eprintln(format_args!("fsck_import: {fault} to {path}: {error}"));
+            FAULTED
+        }
+        (Err(fault), None) => say_fault(rt, fault),
+    }
+}
+
+/// From standard input to standard output.
+fn run<R: Input + Print + AllocGlobal, N: Destination>(
+    rt: &R,
+    names: &mut N,
     remaining: u64,
 ) -> Result<(), Fault> {
     let alloc: Global = rt.alloc();
@@ -79,18 +147,7 @@ fn run<R: Input + Print + AllocGlobal, N: Print>(
     let Ok(mut writer) = BufWriter::new(alloc, io::writer(rt)) else {
         return Err(Fault::Memory);
     };
-    let mut table = io::writer(names);
-    import(alloc, &mut reader, &mut writer, &mut table, remaining)
-}
-
-fn misused<R: Eprint>(rt: &R) -> ExitCode {
-    let _ = rt.eprintln(USAGE);
-    ExitCode::from(2)
-}
-
-fn faulted<R: Eprint>(rt: &R, fault: Fault) -> ExitCode {
-    let _ = rt.eprintln(format_args!("fsck_import: {fault}"));
-    ExitCode::FAILURE
+    import(alloc, &mut reader, &mut writer, names, remaining)
 }
 
 #[cfg(test)]

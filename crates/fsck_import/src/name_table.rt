@@ -1,37 +1,63 @@
 // The table of names: which number stands for which rack, node and storage.
-ghost use Rattle.std.specs.Prelude.{IfErr};
-ghost use Rattle.fsck_import.specs.Writing.{IsWriteFault};
+ghost use Rattle.std.specs.Prelude.{◌≡◌, ◌++◌, IfOk, OnOk, string_bytes};
+ghost use Rattle.std.specs.List.{flat_map};
+ghost use Rattle.fsck_import.specs.NameTable.{node_line, storage_line, table_of};
 
-use crate::cluster::Cluster;
-use crate::fault::Fault;
-use std::alloc::Global;
-use std::io::Write;
+use crate::cluster::{Cluster, NodeRow};
+use crate::rows::Row;
+use std::alloc::{AllocError, Global};
 
-/// Writes a comment for each node and each storage, in the order of their numbers.
-pub fn write_names<N: Write>(alloc: Global, names: &mut N, cluster: &Cluster) -> Result<(), Fault>
-    ensures { IfErr result IsWriteFault }
+/// A comment for each node and each storage, in the order of their numbers.
+#[tactic(auto, unfolding(crate::specs::NameTable::table_of))]
+pub fn table_of(alloc: Global, cluster: &Cluster) -> Result<String, AllocError>
+    ensures { IfOk result (λ s. string_bytes s ≡ table_of cluster.now) }
+{
+    let mut text = String::new(alloc);
+    write_nodes(&mut text, cluster)?;
+    write_storages(&mut text, cluster)?;
+    Ok(text)
+}
+
+fn write_nodes(text: &mut String, cluster: &Cluster) -> Result<(), AllocError>
+    ensures { OnOk result (string_bytes text.new ≡ string_bytes text.old
+        ++ flat_map (node_line cluster.now) cluster.now.node_rows) }
 {
     for node in cluster.node_rows.as_slice() {
-        let address = cluster.nodes.name(node.number);
-        let rack = cluster.racks.name(node.rack);
-        let line = format!(in alloc;
-            "# node {} {address} rack {} {rack}\n",
-            node.number, node.rack
-        )?;
-        if names.write_all(line.as_bytes()).is_err() {
-            return Err(Fault::Write);
-        }
-    }
-    for row in cluster.rows.as_slice() {
-        let storage = cluster.storages.name(row.number);
-        let address = cluster.nodes.name(row.node);
-        let line = format!(in alloc;
-            "# storage {} {storage} node {} {address}\n",
-            row.number, row.node
-        )?;
-        if names.write_all(line.as_bytes()).is_err() {
-            return Err(Fault::Write);
-        }
+        write_node(text, cluster, node)?;
     }
     Ok(())
+}
+
+#[tactic(auto, unfolding(crate::specs::NameTable::node_line))]
+fn write_node(text: &mut String, cluster: &Cluster, row: &NodeRow) -> Result<(), AllocError>
+    ensures { OnOk result (string_bytes text.new ≡ string_bytes text.old
+        ++ node_line cluster.now row.now) }
+{
+    let number = row.number;
+    let address = cluster.nodes.name(number);
+    let rack = row.rack;
+    let rack_name = cluster.racks.name(rack);
+    write!(text, "# node {number} {address} rack {rack} {rack_name}\n")
+}
+
+fn write_storages(text: &mut String, cluster: &Cluster) -> Result<(), AllocError>
+    ensures { OnOk result (string_bytes text.new ≡ string_bytes text.old
+        ++ flat_map (storage_line cluster.now) cluster.now.rows) }
+{
+    for row in cluster.rows.as_slice() {
+        write_storage(text, cluster, row)?;
+    }
+    Ok(())
+}
+
+#[tactic(auto, unfolding(crate::specs::NameTable::storage_line))]
+fn write_storage(text: &mut String, cluster: &Cluster, row: &Row) -> Result<(), AllocError>
+    ensures { OnOk result (string_bytes text.new ≡ string_bytes text.old
+        ++ storage_line cluster.now row.now) }
+{
+    let number = row.number;
+    let storage = cluster.storages.name(number);
+    let node = row.node;
+    let address = cluster.nodes.name(node);
+    write!(text, "# storage {number} {storage} node {node} {address}\n")
 }

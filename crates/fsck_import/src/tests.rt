@@ -1,5 +1,6 @@
 // What no clause says: that texts as Hadoop writes them are read, what stands in the table of names, and streams that fail. The texts and
 // the lines that come of them are those of examples/fsck, written by hand from the rules in docs/FORMATS.md.
+use crate::destination::Stream;
 use crate::fault::{Fault, Unread};
 use crate::import::import;
 use crate::line::Refusal;
@@ -362,13 +363,19 @@ const UNTOLD_LINES: &str = "{\"op\":\"add\",\"id\":5,\"gen\":1,\"len\":5,\"repl\
 {\"op\":\"add\",\"id\":6,\"gen\":1,\"len\":5,\"repl\":1}
 ";
 
+fn no_names(alloc: Global) -> Stream<Vec<u8>> {
+    Stream {
+        writer: Vec::new(alloc),
+    }
+}
+
 /// The lines that are written for a text, and the table of names.
 fn imported(alloc: Global, text: &str, remaining: u64) -> Result<(Vec<u8>, Vec<u8>), Fault> {
     let mut reader = text.as_bytes();
     let mut lines = Vec::new(alloc);
-    let mut names = Vec::new(alloc);
+    let mut names = no_names(alloc);
     import(alloc, &mut reader, &mut lines, &mut names, remaining)?;
-    Ok((lines, names))
+    Ok((lines, names.writer))
 }
 
 #[test]
@@ -446,17 +453,27 @@ fn a_failed_read_leaves_nothing_written(rt: HostRuntime) -> Result<(), Fail> {
     };
     let mut reader = BufReader::new(rt.alloc(), failing)?;
     let mut lines: Vec<u8> = Vec::new(rt.alloc());
-    let mut names: Vec<u8> = Vec::new(rt.alloc());
+    let mut names = no_names(rt.alloc());
     let result = import(rt.alloc(), &mut reader, &mut lines, &mut names, 1);
     assert_eq!(rt; result, Err(Fault::Read));
-    assert!(rt; lines.is_empty() && names.is_empty());
+    assert!(rt; lines.is_empty() && names.writer.is_empty());
     Ok(())
 }
 
 #[test]
 fn a_failed_write_is_told(rt: HostRuntime) {
     let mut reader = FEW_WORDS.as_bytes();
-    let mut names: Vec<u8> = Vec::new(rt.alloc());
+    let mut names = no_names(rt.alloc());
     let result = import(rt.alloc(), &mut reader, &mut Broken, &mut names, 1);
     assert_eq!(rt; result, Err(Fault::Write));
+}
+
+#[test]
+fn no_line_comes_where_the_names_cannot_be_written(rt: HostRuntime) {
+    let mut reader = FEW_WORDS.as_bytes();
+    let mut lines: Vec<u8> = Vec::new(rt.alloc());
+    let mut names = Stream { writer: Broken };
+    let result = import(rt.alloc(), &mut reader, &mut lines, &mut names, 1);
+    assert_eq!(rt; result, Err(Fault::Write));
+    assert!(rt; lines.is_empty());
 }

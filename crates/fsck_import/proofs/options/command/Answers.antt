@@ -1,0 +1,19 @@
+-- The command as it is built up, an option at a time.
+use Rattle.std.proofs.Common.{◌≡◌, ◌∙◌, ap, ap₂, codes, false}
+use Rattle.std.proofs.lemmas.Result.{IfOk-weaker}
+use Rattle.clap.specs.Built.{AddsArg}
+use Rattle.clap.specs.Walk.{Rule, rule_of}
+use Rattle.clap.specs.Simple.{App, app_of, app_of_fields, new_app, with_rule}
+use Rattle.clap.specs.declared.builder.arg.Arg.{Arg}
+use Rattle.clap.specs.declared.builder.command.Command.{Command}
+use Rattle.fsck_import.proofs.options.command.Goals as goal
+
+added : (old new : Command) (a : Arg) (app : App) (rule : Rule) → AddsArg old a new → a.global ≡ false → app_of old ≡ app → rule_of a ≡ rule
+    → app_of new ≡ with_rule app rule
+added old new a app rule h local before is = h.shape local ∙ ap₂ with_rule before is
+
+pub returns : goal.returns
+returns c =
+    let s0 : app_of c.about.result ≡ new_app (codes "fsck_import") = ap app_of_fields c.about.ensures ∙ c.new.ensures.app in
+    let s1 = added _ _ _ _ _ c.in_ok-arg.ensures c.option.ensures.local s0 c.option.ensures.rule in
+    IfOk-weaker c.arg-2.result _ _ (λ r h. added _ _ _ _ _ h c.option-2.ensures.local s1 c.option-2.ensures.rule) c.arg-2.ensures
