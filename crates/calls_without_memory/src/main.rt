@@ -14,6 +14,7 @@ mod managers;
 mod reports;
 mod runs;
 mod slots;
+mod sparse_sets;
 mod tally;
 mod transfers;
 mod views;
@@ -41,6 +42,7 @@ fn go_over_tables<R: Print + Eprint>(rt: &R, alloc: Global) -> Result<(), Refusa
     tell(rt, "arenas", arenas::go_over(rt, alloc)?);
     tell(rt, "levels", slots::go_over_levels(rt, alloc)?);
     tell(rt, "sets", slots::go_over_sets(rt, alloc)?);
+    tell(rt, "sparse sets", sparse_sets::go_over(rt, alloc)?);
     tell(rt, "transfers", transfers::go_over(rt, alloc)?);
     tell(rt, "reports", reports::go_over(rt, alloc)?);
     tell(rt, "clusters", clusters::go_over(rt, alloc)?);
