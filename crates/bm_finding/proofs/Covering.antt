@@ -1,6 +1,5 @@
 -- What a round finds of the blocks at which it looks is all that it finds.
-use Rattle.std.specs.Prelude.{◌≡◌, ◌≢◌, ℕ, Bool, true, false, nat_lt, if◌then◌else◌, List, [], ◌∷◌, map, filter, Option, Some, None, IsSome, is_some, IsTrue, option_and_then}
-use Rattle.std.specs.List.{flat_map}
+use Rattle.std.specs.Prelude.{◌≡◌, ◌≢◌, ℕ, Bool, true, false, nat_lt, if◌then◌else◌, List, [], ◌∷◌, map, Option, Some, None, IsSome, is_some, IsTrue, option_and_then}
 use Rattle.std.specs.List.Sorted.{IsPermutation}
 use Rattle.std.proofs.Common.{◌⊎◌, inl, inr, refl, sym, ap, subst, ◌∙◌}
 use Rattle.std.proofs.lemmas.Bool.{cases_Bool, false≢true}
@@ -24,8 +23,7 @@ use Rattle.bm_base.specs.Excess.{without_expired, without_unordered_excess, mark
 use Rattle.bm_base.specs.RoundParts.{started_holdings, expired, round_part, wish_of, wish_at, wish_key, delete_key}
 use Rattle.bm_base.proofs.Maps.{get_revised}
 use Rattle.bm_base.proofs.Options.{there, is_there, chained}
-use Rattle.bm_base.proofs.RisingParts.{wish_is, filter_flat_map}
-use Rattle.bm_base.proofs.Listed.{or_left, or_right}
+use Rattle.bm_base.proofs.RisingParts.{wish_is}
 use Rattle.bm_arena.specs.Triplets.{Block}
 use Rattle.bm_arena.specs.Contents.{Contents, block_at, slot_of, marks_at, IsLawful}
 use Rattle.bm_arena.specs.Holding.{info_at, replicas_of}
@@ -44,14 +42,13 @@ use Rattle.bm_levels.specs.Leveled.{Leveled, IsLeveled, AreLevels}
 use Rattle.bm_levels.proofs.Levels.{level_is_at_slot}
 use Rattle.bm_levels.proofs.Settled.{all_plain_at, few_at}
 use Rattle.bm_finding.specs.declared.visiting.Found.{Found}
-use Rattle.bm_levels.proofs.Alike.{among_has}
-use Rattle.bm_finding.specs.Visits.{visits, key_at, is_told}
+use Rattle.bm_finding.specs.Visits.{visits, key_at, keyed_at}
 use Rattle.bm_finding.specs.Gathering.{id_at, wishes_at, HasFound, IsInOrder}
 use Rattle.bm_finding.proofs.Collecting.{gathered_of}
 use Rattle.bm_finding.proofs.Listing.{excess_listed, wishes_listed, deletes_listed, wish_level}
 use Rattle.bm_finding.proofs.Passing.{Passing, passing_listed, passing_gathered}
 use Rattle.bm_finding.proofs.Permuted.{among_moved, among_before, distinct_moved}
-use Rattle.bm_finding.proofs.Visited.{AreListed, among_filtered, among_passing, distinct_filtered, mapped_among, distinct_mapped, visits_once, visit_known, unsettled_visited, level_visited}
+use Rattle.bm_finding.proofs.Visited.{AreListed, mapped_among, visit_known, ids_once, unsettled_visited, level_visited}
 
 module _ (v : Leveled) (lawful : IsLawful v.arena) (leveled : IsLeveled v) (is : AreListed v.kept) (C : Cluster) (levels : AreLevels C v) (pend r : ℕ) (pending : Map by_replica ℕ) where
   abbrev a : Contents
@@ -123,9 +120,9 @@ module _ (v : Leveled) (lawful : IsLawful v.arena) (leveled : IsLeveled v) (is :
 
   -- Where a round looks at some of the slots, in any order.
 
-  module _ (bound : Option (ℕ × ℕ)) (keyed : List ((ℕ × ℕ) × ℕ)) (moved : IsPermutation (map (λ s. (key_at v.kept v.arena s, s)) (filter (is_told v.kept v.arena bound) (visits v.kept))) keyed) where
+  module _ (bound : Option (ℕ × ℕ)) (keyed : List ((ℕ × ℕ) × ℕ)) (moved : IsPermutation (map (keyed_at v.kept v.arena) (visits v.kept v.arena bound)) keyed) where
     abbrev told : List ℕ
-    told = filter (is_told v.kept a bound) (visits v.kept)
+    told = visits v.kept a bound
 
     abbrev ids : List ℕ
     ids = map (λ (e : (ℕ × ℕ) × ℕ). id_at a e.1) keyed
@@ -146,18 +143,15 @@ module _ (v : Leveled) (lawful : IsLawful v.arena) (leveled : IsLeveled v) (is :
 
     -- each of these slots is that of its block's number
     pub told_known : (slot : ℕ) → Among slot (map (λ (e : (ℕ × ℕ) × ℕ). e.1) keyed) → slot_of a (id_at a slot) ≡ Some slot
-    told_known slot h = visit_known v lawful leveled is slot (among_filtered (is_told v.kept a bound) slot (visits v.kept) (among_before told (map (λ (e : (ℕ × ℕ) × ℕ). e.1) keyed) slots_moved slot h)).0
+    told_known slot h = visit_known v lawful leveled is bound slot (among_before told (map (λ (e : (ℕ × ℕ) × ℕ). e.1) keyed) slots_moved slot h)
 
     once : Distinct ids
-    once =
-        distinct_moved (map (id_at a) told) ids ids_moved
-        (distinct_mapped (id_at a) (slot_of a) told (distinct_filtered (is_told v.kept a bound) (visits v.kept) (visits_once v.kept is))
-        (λ slot h. visit_known v lawful leveled is slot (among_filtered (is_told v.kept a bound) slot (visits v.kept) h).0))
+    once = distinct_moved (map (id_at a) told) ids ids_moved (ids_once v lawful leveled is bound)
 
-    visited_id : (b slot : ℕ) → slot_of a b ≡ Some slot → Among slot (visits v.kept) → is_told v.kept a bound slot ≡ true → Among b ids
-    visited_id b slot here h passes =
+    visited_id : (b slot : ℕ) → slot_of a b ≡ Some slot → Among slot told → Among b ids
+    visited_id b slot here h =
         among_moved (map (id_at a) told) ids ids_moved b
-        (let P : ℕ → Type 0 = λ c. Among c (map (id_at a) told) in subst P (own_id b slot here) (mapped_among (id_at a) slot told (among_passing (is_told v.kept a bound) slot (visits v.kept) h passes)))
+        (let P : ℕ → Type 0 = λ c. Among c (map (id_at a) told) in subst P (own_id b slot here) (mapped_among (id_at a) slot told h))
 
     -- a block with a number is settled, or a round looks at it
     settled_or : (b slot : ℕ) → slot_of a b ≡ Some slot → IsSettled H b ⊎ Among b ids
@@ -165,7 +159,7 @@ module _ (v : Leveled) (lawful : IsLawful v.arena) (leveled : IsLeveled v) (is :
         elim (cases_Bool (is_settled_at (block_at a slot))) [
           | inl settled ↦ inl (settled_there b slot here settled)
           | inr loose ↦ (let there = (leveled.unsettled slot).1 loose in
-              inr (visited_id b slot here (unsettled_visited v.kept is slot there) (or_right (is_before bound (key_at v.kept a slot)) (has v.kept.unsettled.slots slot) (among_has v.kept.unsettled.slots slot there))))
+              inr (visited_id b slot here (unsettled_visited v.kept is a bound slot there)))
         ]
 
     covers_excess : (q : ReplicaId) → IsTooMany C U q → Among q.block ids
@@ -197,8 +191,7 @@ module _ (v : Leveled) (lawful : IsLawful v.arena) (leveled : IsLeveled v) (is :
               let at : level_of_slot v.kept slot.0 ≡ Some w.level =
               levels slot.0 ∙ sym (ap (option_and_then (λ s. level_in C (block_at a s))) slot.1) ∙ sym (level_is_at_slot C a pending w.block lawful) ∙ sym (settled_is_left C pend r H w.block settled).3 ∙ wish_level C pend r H w.level w.block w wished in
               let key : key_at v.kept a slot.0 ≡ wish_key w = (λ j. (option_map_or level_number (at j) 5, own_id w.block slot.0 slot.1 j)) in
-              visited_id w.block slot.0 slot.1 (level_visited v.kept is w.level slot.0 (wish_usable w.level w.block w wished) at)
-              (or_left (is_before bound (key_at v.kept a slot.0)) (has v.kept.unsettled.slots slot.0) (ap (is_before bound) key ∙ early)))
+              visited_id w.block slot.0 slot.1 (level_visited v.kept is a bound w.level slot.0 (wish_usable w.level w.block w wished) at (ap (is_before bound) key ∙ early)))
           | inr visited ↦ visited
         ]
 

@@ -1,32 +1,29 @@
 -- The slots at which a round looks: each is met once, and no other block has anything to be found.
-use Rattle.std.specs.Prelude.{◌≡◌, ◌≢◌, ◌↔◌, ℕ, Bool, true, false, not, List, [], ◌∷◌, ◌++◌, map, filter, Option, Some, None, option_and_then}
+use Rattle.std.specs.Prelude.{◌≡◌, ◌≢◌, ℕ, Bool, true, false, not, ◌&&◌, List, [], ◌∷◌, ◌++◌, map, filter, Option, Some, None, option_and_then}
 use Rattle.std.specs.Option.{option_map_or}
 use Rattle.std.proofs.Common.{◌⊎◌, cond, inl, inr, refl, sym, ap, subst, ◌∙◌}
-use Rattle.std.proofs.lemmas.Bool.{cases_Bool, true≢false}
+use Rattle.std.proofs.lemmas.Bool.{cases_Bool, true≢false, and_from}
 use Rattle.bm_base.specs.declared.level.Level.{Level}
 use Rattle.bm_base.specs.declared.level.Level.TheVariants.{Highest, VeryUnderReplicated, UnderReplicated, BadlyDistributed, NoUsableReplica}
 use Rattle.bm_base.specs.SlotLists.{Among, Distinct}
 use Rattle.bm_base.specs.Lists.{has}
-use Rattle.bm_queues.specs.Levels.{slots_of}
 use Rattle.bm_arena.specs.Triplets.{Block}
 use Rattle.bm_arena.specs.Contents.{Contents, block_at, slot_of, IsLawful}
 use Rattle.bm_arena.specs.Holding.{info_at}
 use Rattle.bm_arena.proofs.Replicas.{Among-append, Among-left}
 use Rattle.bm_levels.specs.Judged.{is_settled_at}
-use Rattle.bm_levels.specs.Kept.{Kept, level_of_slot, IsUnsettled}
+use Rattle.bm_levels.specs.Kept.{Kept, level_of_slot, IsUnsettled, AreWishing, wishes_copies}
 use Rattle.bm_levels.specs.Leveled.{Leveled, IsLeveled}
 use Rattle.bm_levels.proofs.Alike.{has_among, among_has}
 use Rattle.bm_levels.proofs.ManySlots.{marker_settled}
-use Rattle.bm_finding.specs.Visits.{settled_at, visits}
+use Rattle.bm_parts.specs.Before.{is_before}
+use Rattle.bm_finding.specs.Visits.{visits, key_at, is_told}
 use Rattle.bm_finding.specs.Gathering.{id_at}
 
 -- Lists with no slot in common.
 
 abbrev AreApart : List ℕ → List ℕ → Type 0
 AreApart xs ys = (z : ℕ) → Among z xs → Among z ys → ⊥
-
-apart_appended : (xs ys zs : List ℕ) → AreApart xs zs → AreApart ys zs → AreApart (xs ++ ys) zs
-apart_appended xs ys zs f g z there h = elim (Among-append z xs ys there) [ inl l ↦ f z l h | inr r ↦ g z r h ]
 
 distinct_appended : (xs ys : List ℕ) → Distinct xs → Distinct ys → AreApart xs ys → Distinct (xs ++ ys)
 distinct_appended [] ys d e apart = e
@@ -82,104 +79,69 @@ module _ (f : ℕ → ℕ) where
       same : (x y : ℕ) → Some x ≡ Some y → x ≡ y
       same x y e = cc
 
-one_level : (k l : Level) (o : Option Level) → o ≡ Some k → o ≡ Some l → k ≡ l
-one_level k l o e f = by (sym e ∙ f)
-  where
-    by : Some k ≡ Some l → k ≡ l
-    by g = cc
-
 -- The slots at which a round looks.
 
--- what is known of the lists of slots
+-- where copies are wished for there is a level
+level_wishing : (o : Option Level) → wishes_copies o ≡ true → (l : Level) × (o ≡ Some l)
+level_wishing None e = absurd (true≢false (sym e))
+level_wishing (Some l) e = (l, refl)
+
+wishing_at : (l : Level) → l ≢ NoUsableReplica → wishes_copies (Some l) ≡ true
+wishing_at Highest wanted = refl
+wishing_at VeryUnderReplicated wanted = refl
+wishing_at UnderReplicated wanted = refl
+wishing_at BadlyDistributed wanted = refl
+wishing_at NoUsableReplica wanted = absurd (wanted refl)
+
+latter : (s t : Bool) → (s && t) ≡ true → t ≡ true
+latter true t e = e
+latter false t e = absurd (true≢false (sym e))
+
+-- what is known of the sets of slots
 pub record AreListed (K : Kept) : Type 0 where
-  pub listed : (l : Level) (slot : ℕ) → Among slot (slots_of K.levels l) ↔ (level_of_slot K slot ≡ Some l)
-  pub once : (l : Level) → Distinct (slots_of K.levels l)
   pub unsettled : Distinct K.unsettled.slots
+  pub wishing : AreWishing K K.wishing.slots
+  pub once : Distinct K.wishing.slots
 
 module _ (K : Kept) (is : AreListed K) where
   abbrev u : List ℕ
   u = K.unsettled.slots
 
-  abbrev is_left : ℕ → Bool
-  is_left slot = not (has u slot)
+  module _ (a : Contents) (bound : Option (ℕ × ℕ)) where
+    abbrev settled : List ℕ
+    settled = filter (is_told K a bound) K.wishing.slots
 
-  at_its_level : (l : Level) (slot : ℕ) → Among slot (settled_at K l) → level_of_slot K slot ≡ Some l
-  at_its_level l slot h = (is.listed l slot).0 (among_filtered is_left slot (slots_of K.levels l) h).0
+    settled_apart : AreApart u settled
+    settled_apart z here there = true≢false (sym (among_has u z here) ∙ by (has u z) (latter (is_before bound (key_at K a z)) (not (has u z)) (among_filtered (is_told K a bound) z K.wishing.slots there).1))
+      where
+        by : (t : Bool) → not t ≡ true → t ≡ false
+        by true e = absurd (true≢false (sym e))
+        by false e = refl
 
-  unsettled_apart : (l : Level) → AreApart u (settled_at K l)
-  unsettled_apart l z here there = true≢false (sym (among_has u z here) ∙ by (has u z) (among_filtered is_left z (slots_of K.levels l) there).1)
-    where
-      by : (t : Bool) → not t ≡ true → t ≡ false
-      by true e = absurd (true≢false (sym e))
-      by false e = refl
+    pub visits_once : Distinct (visits K a bound)
+    visits_once = distinct_appended u settled is.unsettled (distinct_filtered (is_told K a bound) K.wishing.slots is.once) settled_apart
 
-  levels_apart : (k l : Level) → k ≢ l → AreApart (settled_at K k) (settled_at K l)
-  levels_apart k l other z here there = other (one_level k l (level_of_slot K z) (at_its_level k z here) (at_its_level l z there))
+    pub unsettled_visited : (slot : ℕ) → IsUnsettled K slot → Among slot (visits K a bound)
+    unsettled_visited slot h = Among-left slot u settled h
 
-  once_at : (l : Level) → Distinct (settled_at K l)
-  once_at l = distinct_filtered is_left (slots_of K.levels l) (is.once l)
+    pub level_visited : (l : Level) (slot : ℕ) → l ≢ NoUsableReplica → level_of_slot K slot ≡ Some l → is_before bound (key_at K a slot) ≡ true → Among slot (visits K a bound)
+    level_visited l slot wanted at early =
+        elim (cases_Bool (has u slot)) [
+          | inl there ↦ unsettled_visited slot (has_among u slot there)
+          | inr none ↦
+              among_right slot u settled (among_passing (is_told K a bound) slot K.wishing.slots ((is.wishing slot).1 (ap wishes_copies at ∙ wishing_at l wanted))
+              (and_from (is_before bound (key_at K a slot)) (not (has u slot)) early (ap not none)))
+        ]
 
-  pub visits_once : Distinct (visits K)
-  visits_once =
-      let h = settled_at K Highest in
-      let v = settled_at K VeryUnderReplicated in
-      let n = settled_at K UnderReplicated in
-      let b = settled_at K BadlyDistributed in
-      distinct_appended (((u ++ h) ++ v) ++ n) b
-      (distinct_appended ((u ++ h) ++ v) n
-      (distinct_appended (u ++ h) v (distinct_appended u h is.unsettled (once_at Highest) (unsettled_apart Highest)) (once_at VeryUnderReplicated)
-      (apart_appended u h v (unsettled_apart VeryUnderReplicated) (levels_apart Highest VeryUnderReplicated (λ e. cc))))
-      (once_at UnderReplicated)
-      (apart_appended (u ++ h) v n (apart_appended u h n (unsettled_apart UnderReplicated) (levels_apart Highest UnderReplicated (λ e. cc))) (levels_apart VeryUnderReplicated UnderReplicated (λ e. cc))))
-      (once_at BadlyDistributed)
-      (apart_appended ((u ++ h) ++ v) n b
-      (apart_appended (u ++ h) v b (apart_appended u h b (unsettled_apart BadlyDistributed) (levels_apart Highest BadlyDistributed (λ e. cc))) (levels_apart VeryUnderReplicated BadlyDistributed (λ e. cc)))
-      (levels_apart UnderReplicated BadlyDistributed (λ e. cc)))
+    -- each is unsettled, or has a level
+    visit_is : (slot : ℕ) → Among slot (visits K a bound) → IsUnsettled K slot ⊎ ((l : Level) × (level_of_slot K slot ≡ Some l))
+    visit_is slot h =
+        elim (Among-append slot u settled h) [
+          | inl loose ↦ inl loose
+          | inr wishing ↦ inr (level_wishing (level_of_slot K slot) ((is.wishing slot).0 (among_filtered (is_told K a bound) slot K.wishing.slots wishing).0))
+        ]
 
-  pub unsettled_visited : (slot : ℕ) → IsUnsettled K slot → Among slot (visits K)
-  unsettled_visited slot h =
-      Among-left slot (((u ++ settled_at K Highest) ++ settled_at K VeryUnderReplicated) ++ settled_at K UnderReplicated) (settled_at K BadlyDistributed)
-      (Among-left slot ((u ++ settled_at K Highest) ++ settled_at K VeryUnderReplicated) (settled_at K UnderReplicated)
-      (Among-left slot (u ++ settled_at K Highest) (settled_at K VeryUnderReplicated) (Among-left slot u (settled_at K Highest) h)))
-
-  settled_visited : (l : Level) (slot : ℕ) → l ≢ NoUsableReplica → Among slot (settled_at K l) → Among slot (visits K)
-  settled_visited Highest slot wanted h =
-      Among-left slot (((u ++ settled_at K Highest) ++ settled_at K VeryUnderReplicated) ++ settled_at K UnderReplicated) (settled_at K BadlyDistributed)
-      (Among-left slot ((u ++ settled_at K Highest) ++ settled_at K VeryUnderReplicated) (settled_at K UnderReplicated)
-      (Among-left slot (u ++ settled_at K Highest) (settled_at K VeryUnderReplicated) (among_right slot u (settled_at K Highest) h)))
-  settled_visited VeryUnderReplicated slot wanted h =
-      Among-left slot (((u ++ settled_at K Highest) ++ settled_at K VeryUnderReplicated) ++ settled_at K UnderReplicated) (settled_at K BadlyDistributed)
-      (Among-left slot ((u ++ settled_at K Highest) ++ settled_at K VeryUnderReplicated) (settled_at K UnderReplicated) (among_right slot (u ++ settled_at K Highest) (settled_at K VeryUnderReplicated) h))
-  settled_visited UnderReplicated slot wanted h =
-      Among-left slot (((u ++ settled_at K Highest) ++ settled_at K VeryUnderReplicated) ++ settled_at K UnderReplicated) (settled_at K BadlyDistributed)
-      (among_right slot ((u ++ settled_at K Highest) ++ settled_at K VeryUnderReplicated) (settled_at K UnderReplicated) h)
-  settled_visited BadlyDistributed slot wanted h = among_right slot (((u ++ settled_at K Highest) ++ settled_at K VeryUnderReplicated) ++ settled_at K UnderReplicated) (settled_at K BadlyDistributed) h
-  settled_visited NoUsableReplica slot wanted h = absurd (wanted refl)
-
-  pub level_visited : (l : Level) (slot : ℕ) → l ≢ NoUsableReplica → level_of_slot K slot ≡ Some l → Among slot (visits K)
-  level_visited l slot wanted at =
-      elim (cases_Bool (has u slot)) [
-        | inl there ↦ unsettled_visited slot (has_among u slot there)
-        | inr none ↦ settled_visited l slot wanted (among_passing is_left slot (slots_of K.levels l) ((is.listed l slot).1 at) (ap not none))
-      ]
-
-  -- each is unsettled, or has a level
-  visit_is : (slot : ℕ) → Among slot (visits K) → IsUnsettled K slot ⊎ ((l : Level) × (level_of_slot K slot ≡ Some l))
-  visit_is slot h =
-      elim (Among-append slot (((u ++ settled_at K Highest) ++ settled_at K VeryUnderReplicated) ++ settled_at K UnderReplicated) (settled_at K BadlyDistributed) h) [
-        | inr b ↦ inr (BadlyDistributed, at_its_level BadlyDistributed slot b)
-        | inl g ↦
-            elim (Among-append slot ((u ++ settled_at K Highest) ++ settled_at K VeryUnderReplicated) (settled_at K UnderReplicated) g) [
-              | inr n ↦ inr (UnderReplicated, at_its_level UnderReplicated slot n)
-              | inl f ↦
-                  elim (Among-append slot (u ++ settled_at K Highest) (settled_at K VeryUnderReplicated) f) [
-                    | inr v ↦ inr (VeryUnderReplicated, at_its_level VeryUnderReplicated slot v)
-                    | inl e ↦ elim (Among-append slot u (settled_at K Highest) e) [ inl d ↦ inl d | inr k ↦ inr (Highest, at_its_level Highest slot k) ]
-                  ]
-            ]
-      ]
-
-module _ (v : Leveled) (lawful : IsLawful v.arena) (leveled : IsLeveled v) (is : AreListed v.kept) where
+module _ (v : Leveled) (lawful : IsLawful v.arena) (leveled : IsLeveled v) (is : AreListed v.kept) (bound : Option (ℕ × ℕ)) where
   abbrev a : Contents
   a = v.arena
 
@@ -202,14 +164,14 @@ module _ (v : Leveled) (lawful : IsLawful v.arena) (leveled : IsLeveled v) (is :
       never e = cc
 
   -- a slot at which a round looks is that of its block's number
-  pub visit_known : (slot : ℕ) → Among slot (visits v.kept) → slot_of a (id_at a slot) ≡ Some slot
+  pub visit_known : (slot : ℕ) → Among slot (visits v.kept a bound) → slot_of a (id_at a slot) ≡ Some slot
   visit_known slot h =
-      elim (visit_is v.kept is slot h) [
+      elim (visit_is v.kept is a bound slot h) [
         | inl loose ↦ let e = (leveled.unsettled slot).0 loose in known_at slot (unsettled_known slot e) (block_at a slot) refl (unsettled_held slot e)
         | inr at ↦
             known_at slot (λ same. level_info slot at.0 at.1 (ap (info_at a) same ∙ leveled.blank)) (block_at a slot) refl
             (λ none. level_info slot at.0 at.1 (ap (λ (o : Option Block). option_and_then (λ (b : Block). b.info) o) none))
       ]
 
-  pub ids_once : Distinct (map (id_at a) (visits v.kept))
-  ids_once = distinct_mapped (id_at a) (slot_of a) (visits v.kept) (visits_once v.kept is) visit_known
+  pub ids_once : Distinct (map (id_at a) (visits v.kept a bound))
+  ids_once = distinct_mapped (id_at a) (slot_of a) (visits v.kept a bound) (visits_once v.kept is a bound) visit_known

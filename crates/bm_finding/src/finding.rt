@@ -9,7 +9,7 @@ ghost use Rattle.bm_arena.specs.Holding.{replicas_of};
 ghost use Rattle.bm_levels.specs.Leveled.{AreLevels};
 ghost use Rattle.bm_levels.specs.Held.{holdings_with};
 
-use crate::slots::{keyed_before, slots_to_visit, sort_slots};
+use crate::slots::{slots_to_visit, sort_slots};
 use crate::sorting::{sort_deletes, sort_excess, sort_wishes};
 use crate::visiting::Start;
 use bm_base::{Items, Refusal, RoundPart};
@@ -24,8 +24,9 @@ use std::alloc::Global;
 /// there is one. An `Err` is want of memory.
 ///
 /// It looks at the blocks that are not settled, and at those before the bound at a level at which copies are wished for, and goes over
-/// the transfers on their way once; so its cost does not grow with the number of the other blocks, but for a step for each that is at
-/// such a level. Each block that it looks at costs a few looks at each of its replicas, and what is found is sorted.
+/// the transfers on their way once; so its cost does not grow with the number of the other blocks, but for one step of dense memory, and
+/// a look at the level and the number, for each that is at such a level. Each block that it looks at costs a few looks at each of its
+/// replicas, and what is found is sorted.
 pub fn find_round(
     alloc: Global,
     blocks: &LeveledBlocks,
@@ -55,10 +56,9 @@ pub fn find_round(
         round,
         bound,
     };
-    let slots = slots_to_visit(alloc, blocks.kept())?;
-    let mut keyed = keyed_before(alloc, blocks.kept(), blocks.arena(), &slots, bound)?;
-    sort_slots(&mut keyed)?;
-    let mut found = start.visit_all(alloc, &keyed)?;
+    let mut slots = slots_to_visit(alloc, blocks.kept(), blocks.arena(), bound)?;
+    sort_slots(&mut slots)?;
+    let mut found = start.visit_all(alloc, &slots)?;
     sort_excess(&mut found.excess)?;
     sort_wishes(&mut found.wishes)?;
     sort_deletes(&mut found.deletes)?;

@@ -6,7 +6,7 @@ ghost use Rattle.bm_base.specs.Replicas.{node_of};
 ghost use Rattle.bm_arena.specs.Holding.{replicas_of};
 ghost use Rattle.bm_levels.specs.Leveled.{AreLevels};
 
-use crate::find_round;
+use crate::{find_round, likely_bound};
 use bm_base::{
     BlockId, BlockInfo, Entry, Event, Gen, Items, Level, NodeId, Part, Rack, RoundPart, Stamp,
     StorageId, Wish,
@@ -151,4 +151,21 @@ fn a_transfer_counts_until_it_is_too_old(rt: HostRuntime) {
     assert!(rt; told(&young) == Some((1, 1, 0)));
     let old = find_round(alloc, &blocks, &pending, &topology, 5, 6, None).expect(&rt, "memory");
     assert!(rt; told(&old) == Some((2, 0, 1)));
+}
+
+/// Block 7 alone wishes, at the most urgent level: its key is the bound before which none does, and there is no bound before which one
+/// does. With a transfer on its way it counts as one that wishes for none.
+#[test]
+fn a_bound_is_guessed(rt: HostRuntime) {
+    let alloc = rt.alloc();
+    let topology = four_nodes(&rt, alloc);
+    let blocks = block_with_one(&rt, alloc, &topology);
+    let pending = PendingTransfers::new(alloc);
+    let before_all = likely_bound(alloc, &blocks, &pending, 0).expect(&rt, "memory");
+    assert!(rt; before_all == Some((0, 7)));
+    let behind_one = likely_bound(alloc, &blocks, &pending, 1).expect(&rt, "memory");
+    assert!(rt; behind_one.is_none());
+    let pending = one_on_its_way(&rt, alloc);
+    let none_wishes = likely_bound(alloc, &blocks, &pending, 0).expect(&rt, "memory");
+    assert!(rt; none_wishes.is_none());
 }

@@ -1,82 +1,93 @@
--- Going over the unsettled slots and judging each, where the slot behind one is taken before it is judged.
+-- Going over the unsettled slots and dropping marks at each, where the slot behind one is taken before its block is judged.
 use Rattle.std.specs.Prelude.{◌≡◌, ◌≢◌, ◌+◌, ◌<◌, ◌≤◌, ℕ, List, [], ◌∷◌, length, Option, Some, None}
 use Rattle.std.proofs.Common.{refl, sym, ap, subst, ◌∙◌, arith, inl, inr}
-use Rattle.bm_base.specs.SlotLists.{Among}
-use Rattle.bm_base.specs.State.{Cluster}
-use Rattle.bm_base.specs.Replicas.{rack_of, is_draining, is_multi_rack}
-use Rattle.bm_arena.specs.Contents.{Contents, block_at}
+use Rattle.bm_base.specs.Excess.{counted_again}
+use Rattle.bm_base.specs.SlotLists.{Among, Distinct}
 use Rattle.bm_queues.specs.Walks.{slots_from, IsOn, IsPast}
-use Rattle.bm_levels.specs.Kept.{Kept, HasRoomFor, IsJudged, IsSameAt, KeepsAhead}
-use Rattle.bm_levels.proofs.Keeping.{IsUnderway, underway_none, underway_more, underway_judged, underway_others}
+use Rattle.bm_arena.specs.Contents.{Contents, block_at, KeepsEntries}
+use Rattle.bm_arena.specs.Holding.{replicas_at}
+use Rattle.bm_arena.proofs.Staying.{entries-none, entries-chain}
+use Rattle.bm_levels.specs.Changes.{all_changed}
+use Rattle.bm_levels.specs.Kept.{KeepsAhead}
+use Rattle.bm_levels.specs.Leveled.{Leveled}
+use Rattle.bm_levels.proofs.Beginning.{IsBegun, begun_none, begun_more, begun_all, begun_others}
 
--- One stands at a slot, or at the end, after so many steps: the slots from there on are still to be judged, and no more steps are
--- needed than there are left.
-pub record IsGoing (C : Cluster) (a : Contents) (old now : Kept) (at : Option ℕ) (step end : ℕ) : Type 0 where
-  pub underway : IsUnderway (rack_of C) (is_draining C) (is_multi_rack C) a old.unsettled.slots (slots_from now.unsettled.slots at) old now
-  pub on : IsOn at now.unsettled.slots
-  pub few : step + length (slots_from now.unsettled.slots at) ≤ end
-  pub listed : (z : ℕ) → Among z (slots_from now.unsettled.slots at) → Among z old.unsettled.slots
-  pub room : (bound : ℕ) → HasRoomFor old bound → HasRoomFor now bound
+abbrev unsettled_in : Leveled → List ℕ
+unsettled_in v = v.kept.unsettled.slots
 
-module _ (C : Cluster) (a : Contents) (K : Kept) where
-  pub going_first : (at : Option ℕ) (end : ℕ) → IsOn at K.unsettled.slots → slots_from K.unsettled.slots at ≡ K.unsettled.slots → end ≡ length K.unsettled.slots → IsGoing C a K K at 0 end
-  going_first at end on all count =
-      let P : List ℕ → Type 0 = λ xs. IsUnderway (rack_of C) (is_draining C) (is_multi_rack C) a K.unsettled.slots xs K K in
-      let many = ap length all in
-      record {
-        underway = subst P (sym all) (underway_none (rack_of C) (is_draining C) (is_multi_rack C) a K.unsettled.slots K);
-        on = on;
-        few = omega (arith, many, count);
-        listed = λ z h. let Q : List ℕ → Type 0 = λ xs. Among z xs in subst Q all h;
-        room = λ bound h. h;
-      }
+-- One stands at a slot, or at the end, after so many steps: the slots from there on are still to go, and no more steps are needed than
+-- there are left.
+pub record IsGoing (old now : Leveled) (at : Option ℕ) (step end : ℕ) : Type 0 where
+  pub begun : IsBegun old.arena now.arena (unsettled_in old) (slots_from (unsettled_in now) at)
+  pub once : Distinct (slots_from (unsettled_in now) at)
+  pub on : IsOn at (unsettled_in now)
+  pub few : step + length (slots_from (unsettled_in now) at) ≤ end
+  pub listed : (z : ℕ) → Among z (slots_from (unsettled_in now) at) → Among z (unsettled_in old)
+  pub entries : KeepsEntries old.arena now.arena
 
-  module _ (L : Kept) (at : Option ℕ) (step end : ℕ) (h : IsGoing C a K L at step end) where
-    -- one stands at a slot
-    module _ (x : ℕ) (then : Option ℕ) (here : at ≡ Some x) (next : slots_from L.unsettled.slots (Some x) ≡ x ∷ slots_from L.unsettled.slots then) where
-      left_is : slots_from L.unsettled.slots at ≡ x ∷ slots_from L.unsettled.slots then
-      left_is = ap (slots_from L.unsettled.slots) here ∙ next
+pub going_first : (v : Leveled) (at : Option ℕ) (end : ℕ) → Distinct (unsettled_in v) → IsOn at (unsettled_in v) → slots_from (unsettled_in v) at ≡ unsettled_in v → end ≡ length (unsettled_in v)
+    → IsGoing v v at 0 end
+going_first v at end once on all count =
+    let P : List ℕ → Type 0 = λ xs. IsBegun v.arena v.arena (unsettled_in v) xs in
+    let Q : List ℕ → Type 0 = λ xs. Distinct xs in
+    let many = ap length all in
+    record {
+      begun = subst P (sym all) (begun_none v.arena (unsettled_in v));
+      once = subst Q (sym all) once;
+      on = on;
+      few = omega (arith, many, count);
+      listed = λ z h. let R : List ℕ → Type 0 = λ xs. Among z xs in subst R all h;
+      entries = entries-none v.arena;
+    }
 
-      pub going_listed : Among x K.unsettled.slots
-      going_listed = let P : List ℕ → Type 0 = λ xs. Among x xs in h.listed x (subst P (sym left_is) (inl refl))
+module _ (old now : Leveled) (at : Option ℕ) (step end : ℕ) (h : IsGoing old now at step end) where
+  -- one stands at a slot
+  module _ (x : ℕ) (then : Option ℕ) (here : at ≡ Some x) (next : slots_from (unsettled_in now) (Some x) ≡ x ∷ slots_from (unsettled_in now) then) where
+    left_is : slots_from (unsettled_in now) at ≡ x ∷ slots_from (unsettled_in now) then
+    left_is = ap (slots_from (unsettled_in now)) here ∙ next
 
-      pub going_more : (M : Kept) → IsOn then L.unsettled.slots → IsPast x then L.unsettled.slots → IsJudged (rack_of C) (is_draining C) (is_multi_rack C) (block_at a x) M x
-          → ((other : ℕ) → other ≢ x → IsSameAt L M other) → KeepsAhead x L.unsettled.slots M.unsettled.slots → ((bound : ℕ) → HasRoomFor L bound → HasRoomFor M bound)
-          → IsGoing C a K M then (step + 1) end
-      going_more M on past judged others ahead room =
-          let P : List ℕ → Type 0 = λ xs. IsUnderway (rack_of C) (is_draining C) (is_multi_rack C) a K.unsettled.slots xs K L in
-          let Q : List ℕ → Type 0 = λ xs. IsUnderway (rack_of C) (is_draining C) (is_multi_rack C) a K.unsettled.slots xs K M in
-          let still = ahead.rest then past in
-          let many = ap length left_is in
-          let as_many = ap length still in
-          let few = h.few in
-          record {
-            underway = subst Q (sym still)
-                (underway_more (rack_of C) (is_draining C) (is_multi_rack C) a K.unsettled.slots (slots_from L.unsettled.slots then) x K L M going_listed (subst P left_is h.underway) judged others);
-            on = ahead.on then past on;
-            few = omega (arith, few, many, as_many);
-            listed = λ z there. let R : List ℕ → Type 0 = λ xs. Among z xs in h.listed z (subst R (sym left_is) (inr (subst R still there)));
-            room = λ bound r. room bound (h.room bound r);
-          }
+    going_listed : Among x (unsettled_in old)
+    going_listed = let P : List ℕ → Type 0 = λ xs. Among x xs in h.listed x (subst P (sym left_is) (inl refl))
 
-    -- or at the end
-    pub going_none : at ≡ None → step < end → IsGoing C a K L at (step + 1) end
-    going_none none lt =
-        let empty : length (slots_from L.unsettled.slots at) ≡ 0 = ap (λ o. length (slots_from L.unsettled.slots o)) none in
-        record { underway = h.underway; on = h.on; few = omega (arith, empty, lt); listed = h.listed; room = h.room }
+    pub going_more : (new : Leveled) → IsOn then (unsettled_in now) → IsPast x then (unsettled_in now)
+        → replicas_at new.arena x ≡ all_changed counted_again (replicas_at now.arena x) → ((other : ℕ) → other ≢ x → block_at new.arena other ≡ block_at now.arena other)
+        → KeepsEntries now.arena new.arena → KeepsAhead x (unsettled_in now) (unsettled_in new) → IsGoing old new then (step + 1) end
+    going_more new on past changed others entries ahead =
+        let P : List ℕ → Type 0 = λ xs. IsBegun old.arena now.arena (unsettled_in old) xs in
+        let Q : List ℕ → Type 0 = λ xs. IsBegun old.arena new.arena (unsettled_in old) xs in
+        let D : List ℕ → Type 0 = λ xs. Distinct xs in
+        let once : Distinct (x ∷ slots_from (unsettled_in now) then) = subst D left_is h.once in
+        let still = ahead.rest then past in
+        let many = ap length left_is in
+        let as_many = ap length still in
+        let few = h.few in
+        record {
+          begun = subst Q (sym still) (begun_more old.arena now.arena new.arena (unsettled_in old) (slots_from (unsettled_in now) then) x going_listed once (subst P left_is h.begun) changed others);
+          once = subst D (sym still) once.1;
+          on = ahead.on then past on;
+          few = omega (arith, few, many, as_many);
+          listed = λ z there. let R : List ℕ → Type 0 = λ xs. Among z xs in h.listed z (subst R (sym left_is) (inr (subst R still there)));
+          entries = entries-chain old.arena now.arena new.arena h.entries entries;
+        }
 
-    -- after all steps
-    all_gone : end ≤ step → slots_from L.unsettled.slots at ≡ []
-    all_gone past = by (slots_from L.unsettled.slots at) h.few
-      where
-        by : (xs : List ℕ) → step + length xs ≤ end → xs ≡ []
-        by [] few = refl
-        by (x ∷ xs) few = absurd (omega (arith, few, past))
+  -- or at the end
+  pub going_none : at ≡ None → step < end → IsGoing old now at (step + 1) end
+  going_none none lt =
+      let empty : length (slots_from (unsettled_in now) at) ≡ 0 = ap (λ o. length (slots_from (unsettled_in now) o)) none in
+      record { begun = h.begun; once = h.once; on = h.on; few = omega (arith, empty, lt); listed = h.listed; entries = h.entries }
 
-    pub going_judged : end ≤ step → (slot : ℕ) → Among slot K.unsettled.slots → IsJudged (rack_of C) (is_draining C) (is_multi_rack C) (block_at a slot) L slot
-    going_judged past =
-        let P : List ℕ → Type 0 = λ xs. IsUnderway (rack_of C) (is_draining C) (is_multi_rack C) a K.unsettled.slots xs K L in
-        underway_judged (rack_of C) (is_draining C) (is_multi_rack C) a K.unsettled.slots K L (subst P (all_gone past) h.underway)
+  -- after all steps
+  all_gone : end ≤ step → slots_from (unsettled_in now) at ≡ []
+  all_gone past = by (slots_from (unsettled_in now) at) h.few
+    where
+      by : (xs : List ℕ) → step + length xs ≤ end → xs ≡ []
+      by [] few = refl
+      by (x ∷ xs) few = absurd (omega (arith, few, past))
 
-    pub going_others : (slot : ℕ) → (Among slot K.unsettled.slots → ⊥) → IsSameAt K L slot
-    going_others = underway_others (rack_of C) (is_draining C) (is_multi_rack C) a K.unsettled.slots (slots_from L.unsettled.slots at) K L h.underway
+  pub going_begun : end ≤ step → (slot : ℕ) → Among slot (unsettled_in old) → replicas_at now.arena slot ≡ all_changed counted_again (replicas_at old.arena slot)
+  going_begun past =
+      let P : List ℕ → Type 0 = λ xs. IsBegun old.arena now.arena (unsettled_in old) xs in
+      begun_all old.arena now.arena (unsettled_in old) (subst P (all_gone past) h.begun)
+
+  pub going_others : (slot : ℕ) → (Among slot (unsettled_in old) → ⊥) → block_at now.arena slot ≡ block_at old.arena slot
+  going_others = begun_others old.arena now.arena (unsettled_in old) (slots_from (unsettled_in now) at) h.begun

@@ -21,8 +21,9 @@ pub mod AllMarks
 pub mod Revising
 pub mod Flagging
 pub mod RoundMarks
-pub mod Going
 pub mod Beginning
+pub mod Going
 pub mod RoundStart
 pub mod Bare
 pub mod Unlinking
+pub mod Wishes

@@ -1,4 +1,4 @@
--- As a round begins: what is held after its marks, and all that holds between calls once the unsettled slots are judged anew.
+-- As a round begins: what is held after its marks.
 use Rattle.std.specs.Prelude.{◌≡◌, ◌≢◌, ℕ, ◌+◌, true, false, if◌then◌else◌, List, Option, Some, None, IsSome, nat_eq, option_and_then}
 use Rattle.std.specs.Map.{lookup}
 use Rattle.std.proofs.Common.{refl, sym, ap, ◌∙◌, inl, inr, ◌⊎◌}
@@ -11,15 +11,16 @@ use Rattle.bm_base.specs.Replicas.{rack_of, is_draining, is_multi_rack}
 use Rattle.bm_base.specs.Excess.{counted_again, without_unordered_excess, marked}
 use Rattle.bm_base.specs.RoundParts.{surplus}
 use Rattle.bm_arena.specs.Triplets.{Block}
-use Rattle.bm_arena.specs.Contents.{Contents, block_at, slot_of, marks_at, find_marks, IsLawful, KeepsEntries}
+use Rattle.bm_arena.specs.Contents.{Contents, block_at, slot_of, marks_at, find_marks, IsLawful, KeepsAllBut, KeepsEntries}
 use Rattle.bm_arena.specs.Holding.{replicas_at, replicas_of, blocks_of, info_at, holdings_of}
 use Rattle.bm_arena.proofs.Held.{same_blocks, under}
 use Rattle.bm_arena.proofs.Staying.{entries-chain}
 use Rattle.bm_levels.specs.Judged.{is_settled_at}
-use Rattle.bm_levels.specs.Kept.{Kept, IsUnsettled, HasRoomFor, IsJudged, IsSameAt}
-use Rattle.bm_levels.specs.Leveled.{Leveled, IsLeveled, AreLevels}
+use Rattle.bm_levels.specs.Kept.{IsUnsettled, HasRoomFor}
+use Rattle.bm_levels.specs.Leveled.{Leveled, IsLeveled}
 use Rattle.bm_levels.specs.Changes.{as_excess, all_changed, has_replica, has_block}
-use Rattle.bm_levels.proofs.ManySlots.{known_info, marker_settled, leveled_reported, levels_reported}
+use Rattle.bm_levels.proofs.ManySlots.{known_info, marker_settled}
+use Rattle.bm_levels.proofs.OneSlot.{IsChangedAt}
 use Rattle.bm_levels.proofs.RoundMarks.{settled_block, begun_replicas, no_surplus, marked_replicas, none_marked}
 
 -- a slot that is not settled is held
@@ -38,6 +39,18 @@ entries_blocks a c keeps =
 -- there is room for each slot that is judged
 pub start_room : (old : Leveled) → IsLeveled old → (slot : ℕ) → IsUnsettled old.kept slot → HasRoomFor old.kept (slot + 1)
 start_room old h slot there = h.room slot (unsettled_held (block_at old.arena slot) ((h.unsettled slot).0 there))
+
+-- an unsettled slot is not the delimiter's, and is held
+pub changed_there : (old : Leveled) → IsLeveled old → (a : Contents) (slot : ℕ) → IsUnsettled old.kept slot → KeepsAllBut slot old.arena a → IsChangedAt old.arena a slot
+changed_there old h a slot there rest =
+    let marker = old.arena.delimiter in
+    let unsettled = (h.unsettled slot).0 there in
+    record {
+      blocks = rest.blocks;
+      delimiter = rest.delimiter;
+      apart = λ same. true≢false (sym (marker_settled (block_at old.arena marker) h.free h.blank) ∙ ap (λ z. is_settled_at (block_at old.arena z)) (sym same) ∙ unsettled);
+      held = unsettled_held (block_at old.arena slot) unsettled;
+    }
 
 -- what a round's marks make of an arena: marks of excess anew, and no change at settled slots
 pub record IsStarted (C : Cluster) (old : Leveled) (c : Contents) : Type 0 where
@@ -84,25 +97,3 @@ module _ (C : Cluster) (old : Leveled) (lawful : IsLawful old.arena) (h : IsLeve
 
   pub started : IsStarted C old c
   started = record { replicas = start_replicas; blocks = start_blocks; entries = entries; left = left }
-
--- the unsettled slots are judged anew
-module _ (C : Cluster) (old : Leveled) (c : Contents) (h : IsLeveled old) (s : IsStarted C old c) (K : Kept)
-    (judged : (slot : ℕ) → IsUnsettled old.kept slot → IsJudged (rack_of C) (is_draining C) (is_multi_rack C) (block_at c slot) K slot)
-    (others : (slot : ℕ) → (IsUnsettled old.kept slot → ⊥) → IsSameAt old.kept K slot) where
-  abbrev marker : ℕ
-  marker = old.arena.delimiter
-
-  marker_absent : IsUnsettled old.kept marker → ⊥
-  marker_absent there = true≢false (sym (marker_settled (block_at old.arena marker) h.free h.blank) ∙ (h.unsettled marker).0 there)
-
-  free_left : (t : ℕ) → marks_at c c.delimiter t ≡ marks_at old.arena marker t
-  free_left t = ap (λ d. marks_at c d t) s.entries.delimiter ∙ ap (λ o. option_and_then (λ (k : Block). find_marks k.replicas t) o) (s.left marker marker_absent)
-
-  each : (slot : ℕ) → slot ≢ marker → (IsJudged (rack_of C) (is_draining C) (is_multi_rack C) (block_at c slot) K slot) ⊎ ((block_at c slot ≡ block_at old.arena slot) × IsSameAt old.kept K slot)
-  each slot ne = elim (dec_among slot old.kept.unsettled.slots) [ inl there ↦ inl (judged slot there) | inr absent ↦ inr (s.left slot absent, others slot absent) ]
-
-  pub start_leveled : ((bound : ℕ) → HasRoomFor old.kept bound → HasRoomFor K bound) → IsLeveled (record { arena = c; kept = K })
-  start_leveled room = leveled_reported C old c K s.entries.delimiter free_left s.entries.known each (others marker marker_absent) h room
-
-  pub start_levels : AreLevels C old → AreLevels C (record { arena = c; kept = K })
-  start_levels = levels_reported C old c K s.entries.delimiter free_left s.entries.known each (others marker marker_absent) h

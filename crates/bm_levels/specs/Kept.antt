@@ -1,6 +1,7 @@
 -- What is kept of blocks beside their replicas, by slot.
-use Rattle.std.specs.Prelude.{◌≡◌, ◌↔◌, ℕ, ◌+◌, ◌<◌, ◌≤◌, Bool, false, List, length, map, Option, Some, slice_get, slice_index_or}
+use Rattle.std.specs.Prelude.{◌≡◌, ◌↔◌, ℕ, ◌+◌, ◌<◌, ◌≤◌, Bool, true, false, List, length, map, Option, Some, None, slice_get, slice_index_or}
 use Rattle.bm_base.specs.declared.level.Level.{Level}
+use Rattle.bm_base.specs.declared.level.Level.TheVariants.{NoUsableReplica}
 use Rattle.bm_base.specs.SlotLists.{Among}
 use Rattle.bm_base.specs.State.{Cluster}
 use Rattle.bm_base.specs.Replicas.{rack_of, is_draining, is_multi_rack}
@@ -12,10 +13,22 @@ use Rattle.bm_arena.specs.Contents.{Contents, block_at}
 use Rattle.bm_levels.specs.declared.judging.Judged.{Judged}
 use Rattle.bm_levels.specs.Judged.{level_by, is_settled_at}
 
--- the levels of the slots, and the slots at which a round has to look
+-- the levels of the slots, the slots at which a round has to look, and those at a level at which copies are wished for
 pub record Kept : Type 0 where
   pub levels : Levels
   pub unsettled : Members
+  pub wishing : Members
+
+-- copies of a block are wished for at each level but the one without a usable replica
+abbrev pub wishes_copies : Option Level → Bool
+wishes_copies None = false
+wishes_copies (Some NoUsableReplica) = false
+wishes_copies (Some _) = true
+
+-- the set is that of the slots at such a level, with room for each slot that has a level
+pub record HasWishing (levels : Levels) (wishing : Members) : Type 0 where
+  pub exact : (slot : ℕ) → Among slot wishing.slots ↔ (wishes_copies (level_at levels slot) ≡ true)
+  pub room : length levels.levels ≤ wishing.room
 
 abbrev pub level_of_slot : Kept → ℕ → Option Level
 level_of_slot K slot = level_at K.levels slot
@@ -41,6 +54,10 @@ KeepsRoom old new = (bound : ℕ) → HasRoomFor old bound → HasRoomFor new bo
 -- these are just the slots at a level
 abbrev pub AreSlotsAt : Kept → Level → List ℕ → Type 0
 AreSlotsAt K l slots = (slot : ℕ) → Among slot slots ↔ (level_of_slot K slot ≡ Some l)
+
+-- these are just the slots at a level at which copies are wished for
+abbrev pub AreWishing : Kept → List ℕ → Type 0
+AreWishing K slots = (slot : ℕ) → Among slot slots ↔ (wishes_copies (level_of_slot K slot) ≡ true)
 
 -- a slot is kept as the block that stands there is judged
 pub record IsJudged (rack : ℕ → Option ℕ) (draining : ℕ → Bool) (multi : Bool) (o : Option Block) (K : Kept) (slot : ℕ) : Type 0 where

@@ -4,12 +4,13 @@ ghost use Rattle.bm_base.specs.declared.refusal.Refusal.TheVariants.{Memory};
 ghost use Rattle.bm_base.specs.declared.level.Level.{Level};
 ghost use Rattle.bm_base.specs.SlotLists.{Distinct};
 ghost use Rattle.bm_queues.specs.Levels as queues;
-ghost use Rattle.bm_levels.specs.Kept.{level_of_slot, IsUnsettled, HasRoomFor, HasRoomAt, KeepsRoom, AreSlotsAt, IsKeptAs, IsSameAt, KeepsAhead};
+ghost use Rattle.bm_levels.specs.Kept.{level_of_slot, IsUnsettled, HasRoomFor, HasRoomAt, KeepsRoom, AreSlotsAt, AreWishing, IsKeptAs, IsSameAt, KeepsAhead};
 
 use crate::judging::Judged;
+use crate::wishing::set_level;
 use bm_arena::Slot;
 use bm_base::{Level, Refusal};
-use bm_queues::{LevelLists, SlotSet, Walk};
+use bm_queues::{LevelLists, SlotSet, SparseSet, Walk};
 use std::alloc::Global;
 use std::marker::Model;
 
@@ -26,7 +27,8 @@ fn ahead_of(bound: usize) -> usize
     if bound < FAR { bound + AHEAD } else { bound }
 }
 
-/// The level of each block, and the set of the blocks that are not settled, both by the slots of an arena.
+/// The level of each block, the set of those at a level at which copies are wished for, and the set of the blocks that are not settled,
+/// all by the slots of an arena.
 ///
 /// A block is settled if all its replicas are good ones with no mark, and no more of them are there than are wanted: a round marks
 /// none of them and deletes none. Blocks that wait for a delete that was ordered stay unsettled until it is reported.
@@ -34,14 +36,18 @@ fn ahead_of(bound: usize) -> usize
 pub struct KeptLevels {
     pub(crate) levels: LevelLists,
     pub(crate) unsettled: SlotSet,
+    // Just the slots that `levels` has at a level at which copies are wished for.
+    pub(crate) wishing: SparseSet,
 }
 
 impl Model for KeptLevels {
-    ghost use Rattle.bm_levels.specs.Kept.{Kept};
+    ghost use Rattle.bm_levels.specs.Kept.{Kept, HasWishing};
 
     ghost Value = { Kept };
 
-    ghost view = { λ k. record { levels = k.levels; unsettled = k.unsettled } };
+    ghost view = { λ k. record { levels = k.levels; unsettled = k.unsettled; wishing = k.wishing } };
+
+    ghost invariant = { λ k. HasWishing k.levels k.wishing };
 }
 
 impl KeptLevels {
@@ -54,6 +60,7 @@ impl KeptLevels {
         Ok(KeptLevels {
             levels: LevelLists::new(alloc)?,
             unsettled: SlotSet::new(alloc)?,
+            wishing: SparseSet::new(alloc),
         })
     }
 
@@ -87,6 +94,7 @@ impl KeptLevels {
         ensures same { (slot : ℕ) → IsSameAt self.old self.new slot }
         ensures refused { IfErr result (λ e. e ≡ Memory) }
     {
+        self.wishing.grow_to(bound)?;
         self.levels.grow_to(bound)?;
         self.unsettled.grow_to(bound)
     }
@@ -99,7 +107,7 @@ impl KeptLevels {
         ensures ahead { KeepsAhead slot self.old.unsettled.slots self.new.unsettled.slots }
         ensures room { KeepsRoom self.old self.new }
     {
-        self.levels.set(slot, judged.level);
+        set_level(&mut self.levels, &mut self.wishing, slot, judged.level);
         if judged.is_settled {
             self.unsettled.remove(slot);
         } else {
@@ -139,15 +147,18 @@ impl KeptLevels {
         self.levels.walk(level)
     }
 
-    /// Does nothing: a caller has by it that a level's list has just the slots at the level, each once, and that no slot is twice
-    /// unsettled.
+    /// Does nothing: a caller has by it that a level's list has just the slots at the level, each once, that no slot is twice
+    /// unsettled, and that just the slots at a level at which copies are wished for are wishing, each once.
     pub fn lawful(&self)
         ensures listed { (level : Level)
             → AreSlotsAt self.now level (queues.slots_of self.now.levels level) }
         ensures once { (level : Level) → Distinct (queues.slots_of self.now.levels level) }
         ensures unsettled { Distinct self.now.unsettled.slots }
+        ensures wishing { AreWishing self.now self.now.wishing.slots }
+        ensures wishing_once { Distinct self.now.wishing.slots }
     {
         self.levels.lawful();
         self.unsettled.lawful();
+        self.wishing.lawful();
     }
 }

@@ -4,7 +4,7 @@ ghost use Rattle.bm_base.specs.declared.refusal.Refusal.TheVariants.{Memory};
 ghost use Rattle.bm_base.specs.Map.{Map, empty, insert, remove};
 ghost use Rattle.bm_base.specs.Levels.{level};
 ghost use Rattle.bm_base.specs.State.{Cluster, by_replica, replica_at};
-ghost use Rattle.bm_arena.specs.Contents.{slot_of, marks_at, KeepsAllBut, KeepsOthers};
+ghost use Rattle.bm_arena.specs.Contents.{slot_of, marks_at, KeepsAllBut, KeepsEntries, KeepsOthers};
 ghost use Rattle.bm_arena.specs.Holding.{replicas_of, blocks_of, with_known};
 ghost use Rattle.bm_levels.specs.Bare.{HasNoneBare, MakesNoneBare};
 ghost use Rattle.bm_levels.specs.Held.{holdings_with};
@@ -100,6 +100,7 @@ impl LeveledBlocks {
             → replicas_of self.new.arena
             ≡ insert (replicas_of self.old.arena) (replica_at id storage) marks }
         ensures rest { KeepsAllBut slot self.old.arena self.new.arena }
+        ensures entries { KeepsEntries self.old.arena self.new.arena }
         ensures levels { KeepsLevels topology.now.cluster self.old self.new }
     {
         self.arena.lawful();

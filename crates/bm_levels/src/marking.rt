@@ -1,5 +1,5 @@
 // The marks of all replicas of one block, changed alike.
-ghost use Rattle.std.specs.Prelude.{◌≡◌, true, if◌then◌else◌};
+ghost use Rattle.std.specs.Prelude.{◌≡◌, true, false, if◌then◌else◌};
 ghost use Rattle.bm_base.specs.declared.replica.Tag.TheVariants.{Stale};
 ghost use Rattle.bm_base.specs.Replicas.{is_good};
 ghost use Rattle.bm_arena.specs.Contents.{block_at, known_of, KeepsAllBut, IsLawful};
@@ -60,22 +60,26 @@ fn are_same(a: Marks, b: Marks) -> bool
 }
 
 /// Changes the marks of each replica of the block at a slot; nothing else changes. Marks that stay as they are are not written again.
-/// Takes no memory.
-pub(crate) fn change_marks(arena: &mut Arena, slot: Slot, change: MarkChange)
+/// Answers whether any did not stay. Takes no memory.
+pub(crate) fn change_marks(arena: &mut Arena, slot: Slot, change: MarkChange) -> bool
     ensures replicas { replicas_at arena.new slot
         ≡ all_changed (changed change) (replicas_at arena.old slot) }
     ensures known { known_of (block_at arena.new slot) ≡ known_of (block_at arena.old slot) }
     ensures rest { KeepsAllBut slot arena.old arena.new }
+    ensures same { result ≡ false → arena.new ≡ arena.old }
     ensures lawful { IsLawful arena.new }
 {
     arena.lawful();
+    let mut is_changed = false;
     for place in 0..arena.triplet_count(slot) {
         if let Some((storage, marks)) = arena.triplet_at(slot, place) {
             let after = change.apply(marks);
             if !are_same(after, marks) {
                 arena.set_marks(slot, storage, after);
+                is_changed = true;
             }
         }
     }
     arena.lawful();
+    is_changed
 }

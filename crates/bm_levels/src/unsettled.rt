@@ -3,12 +3,11 @@ ghost use Rattle.std.specs.Prelude.{◌≡◌, ◌∷◌, length, Some};
 ghost use Rattle.bm_base.specs.Lists.{has};
 ghost use Rattle.bm_base.specs.SlotLists.{Distinct};
 ghost use Rattle.bm_queues.specs.Walks.{slots_from, IsOn, IsPast};
-ghost use Rattle.bm_levels.specs.Kept.{IsUnsettled, HasRoomForEach, KeepsRoom, AreJudgedIn, IsSameOutside};
+ghost use Rattle.bm_levels.specs.Kept.{IsUnsettled};
 
 use crate::kept::KeptLevels;
-use bm_arena::{Arena, Slot};
+use bm_arena::Slot;
 use bm_queues::Walk;
-use bm_topo::Topology;
 
 impl KeptLevels {
     /// How many slots are unsettled.
@@ -54,23 +53,5 @@ impl KeptLevels {
     {
         self.unsettled.lawful();
         self.unsettled.walk()
-    }
-
-    /// Judges the blocks at the unsettled slots anew. A slot leaves the set where its block is settled now; so the one behind it is
-    /// taken before it is judged.
-    pub(crate) fn judge_unsettled(&mut self, topology: &Topology, arena: &Arena)
-        requires room { HasRoomForEach self.old self.old.unsettled.slots }
-        ensures judged { AreJudgedIn topology.now.cluster arena.now
-            self.old.unsettled.slots self.new }
-        ensures others { IsSameOutside self.old.unsettled.slots self.old self.new }
-        ensures room { KeepsRoom self.old self.new }
-    {
-        let mut at = self.first_unsettled();
-        for _step in 0..self.unsettled_count() {
-            if let Some(slot) = at {
-                at = self.next_unsettled(slot);
-                self.judge_in(topology, arena, slot);
-            }
-        }
     }
 }

@@ -8,4 +8,8 @@ pub mod AskingSound
 pub mod AskingRead
 pub mod AskingBack
 pub mod ReadOps
+pub mod Turns
+pub mod Values
+pub mod Kept
+pub mod Whole
 pub mod UsualLemmas

@@ -8,3 +8,4 @@ pub mod Print
 pub mod Asking
 pub mod Fitting
 pub mod Usual
+pub mod Reading

@@ -1,207 +1,116 @@
-// The fields of a line's object.
-ghost use Rattle.std.specs.Prelude.{◌≡◌, IfOk, option_map, option_and_then, map};
-ghost use Rattle.serde_json.specs.Find.{as_array, get};
-ghost use Rattle.serde_json.specs.View.{view, items_view};
-ghost use Rattle.bm_lines.specs.Fields.{number_field, small_in, small_field, each, small_list_field, stamp_from, entry_from, entry_among, entry_in, entries_field, remaining_from, remaining_among, remaining_in, remaining_field};
+// The fields of a line's object, taken from its text in one pass. Of a key that comes twice the last value stays.
+ghost use Rattle.std.specs.Prelude.{◌≡◌, ◌≢◌, ◌<◌, ◌≤◌, length, None, Some, IfOk, IfErr, OnOk, OnErr, option_and_then};
+ghost use Rattle.json.specs.declared.error.Error.TheVariants.{OutOfMemory};
+ghost use Rattle.serde_json.specs.Data.{Data, object, no_members};
+ghost use Rattle.serde_json.specs.Read.{read};
+ghost use Rattle.bm_lines.specs.CallOf.{call_in};
+ghost use Rattle.bm_lines.specs.Reading.{value_at, members_at, Takes, TakesMembers, Becomes, Knows, op_in};
 
-use bm_base::{BlockId, Entry, Gen, Remaining, Stamp, StorageId};
-use serde_json::Value;
-use std::alloc::{AllocError, Global};
+use crate::lists::{entries_in, remaining_in, storages_in};
+use crate::numbers::Numbers;
+use crate::op::{Op, op_of};
+use crate::passing::{number_in, opens_object, value_in};
+use bm_base::{Entry, Remaining, StorageId};
+use json::{Error, Invalid, Reader, Scratch};
+use std::alloc::Global;
 
-/// A whole number below 2^64.
-pub fn number_field(value: &Value, name: &str) -> Option<u64>
-    ensures { result ≡ number_field name.now (view value.now) }
-{
-    value.get(name).and_then(Value::as_u64)
+/// How deep the values of an object's members may nest, beside the object itself.
+const MEMBER_DEPTH: usize = 126;
+
+/// What is known of the fields that a call may have.
+#[derive(Drop)]
+pub struct Fields {
+    pub op: Option<Op>,
+    pub numbers: Numbers,
+    pub storages: Option<Vec<StorageId>>,
+    pub remaining: Option<Vec<Remaining>>,
+    pub blocks: Option<Vec<Entry>>,
 }
 
-/// A whole number below 2^32.
-pub fn small_field(value: &Value, name: &str) -> Option<u32>
-    ensures { result ≡ small_field name.now (view value.now) }
-{
-    let number = number_field(value, name)?;
-    u32::try_from(number).ok()
-}
-
-fn small_in(value: &Value) -> Option<u32>
-    ensures { result ≡ small_in (view value.now) }
-{
-    let number = value.as_u64()?;
-    u32::try_from(number).ok()
-}
-
-/// A list of storage numbers.
-pub fn storages_field(
-    alloc: Global,
-    value: &Value,
-    name: &str,
-) -> Result<Option<Vec<StorageId>>, AllocError>
-    ensures { IfOk result
-        (λ o. option_map (λ v. v.items) o ≡ small_list_field name.now (view value.now)) }
-{
-    match list_field(value, name) {
-        Some(items) => storages_of(alloc, items.as_slice()),
-        None => Ok(None),
-    }
-}
-
-fn list_field<'v>(value: &'v Value, name: &str) -> Option<&'v Vec<Value>>
-    ensures { option_map (λ v. items_view v.now.items) result
-        ≡ option_and_then as_array (get name.now (view value.now)) }
-{
-    value.get(name).and_then(Value::as_array)
-}
-
-fn storages_of(alloc: Global, items: &[Value]) -> Result<Option<Vec<StorageId>>, AllocError>
-    ensures { IfOk result (λ o. option_map (λ v. v.items) o ≡ each small_in (map view items.now)) }
-{
-    let mut storages = Vec::new(alloc);
-    for item in items {
-        match small_in(item) {
-            Some(number) => storages.push(StorageId(number))?,
-            None => return Ok(None),
+impl Fields {
+    fn new() -> Fields
+        ensures { Knows result (object no_members) }
+    {
+        Fields {
+            op: None,
+            numbers: Numbers {
+                node: None,
+                storage: None,
+                id: None,
+                repl: None,
+                rack: None,
+                generation: None,
+                len: None,
+            },
+            storages: None,
+            remaining: None,
+            blocks: None,
         }
     }
-    Ok(Some(storages))
-}
 
-/// A list of items of three numbers, a block, its generation and its length, or of four, the first and the last block of a run
-/// before these.
-pub fn entries_field(
-    alloc: Global,
-    value: &Value,
-    name: &str,
-) -> Result<Option<Vec<Entry>>, AllocError>
-    ensures { IfOk result
-        (λ o. option_map (λ v. v.items) o ≡ entries_field name.now (view value.now)) }
-{
-    match list_field(value, name) {
-        Some(items) => entries_of(alloc, items.as_slice()),
-        None => Ok(None),
-    }
-}
-
-fn entries_of(alloc: Global, items: &[Value]) -> Result<Option<Vec<Entry>>, AllocError>
-    ensures { IfOk result (λ o. option_map (λ v. v.items) o ≡ each entry_in (map view items.now)) }
-{
-    let mut entries = Vec::new(alloc);
-    for item in items {
-        match entry_in(item) {
-            Some(entry) => entries.push(entry)?,
-            None => return Ok(None),
+    /// Takes the value of the member of this name.
+    fn member(
+        &mut self,
+        alloc: Global,
+        name: &str,
+        reader: &mut Reader<'_>,
+    ) -> Result<(), Error>
+        ensures ok { OnOk result (Takes 126 reader.old
+            (λ d. Becomes self.old self.new name.now d) reader.new) }
+        ensures err { IfErr result (λ e. e ≢ OutOfMemory → value_at 126 reader.old ≡ None) }
+        ensures shorter { OnOk result (length reader.new < length reader.old) }
+    {
+        match name {
+            "op" => self.op = op_in(reader)?,
+            "storages" => self.storages = storages_in(alloc, reader, MEMBER_DEPTH)?,
+            "remaining" => self.remaining = remaining_in(alloc, reader, MEMBER_DEPTH)?,
+            "blocks" => self.blocks = entries_in(alloc, reader, MEMBER_DEPTH)?,
+            _ => {
+                let number = number_in(reader, MEMBER_DEPTH)?;
+                self.numbers = self.numbers.after(name, number);
+            }
         }
-    }
-    Ok(Some(entries))
-}
-
-fn entry_in(value: &Value) -> Option<Entry>
-    ensures { result ≡ entry_in (view value.now) }
-{
-    match value.as_array() {
-        Some(items) => entry_among(items.as_slice()),
-        None => None,
+        Ok(())
     }
 }
 
-fn entry_among(items: &[Value]) -> Option<Entry>
-    ensures { result ≡ entry_among (map view items.now) }
+/// The next value as the name of a call.
+fn op_in(reader: &mut Reader<'_>) -> Result<Option<Op>, Invalid>
+    ensures ok { IfOk result (λ o. Takes 126 reader.old (λ d. o ≡ op_in d) reader.new) }
+    ensures err { OnErr result (value_at 126 reader.old ≡ None) }
+    ensures shorter { OnOk result (length reader.new < length reader.old) }
 {
-    match items {
-        [id, generation, len] => entry_from(
-            id.as_u64(),
-            id.as_u64(),
-            stamp_from(generation.as_u64(), len.as_u64()),
-        ),
-        [from, to, generation, len] => entry_from(
-            from.as_u64(),
-            to.as_u64(),
-            stamp_from(generation.as_u64(), len.as_u64()),
-        ),
-        _ => None,
-    }
+    let seen = value_in(reader, MEMBER_DEPTH)?;
+    Ok(seen.text().and_then(op_of))
 }
 
-/// A list of storage and remaining bytes, two numbers each.
-pub fn remaining_field(
-    alloc: Global,
-    value: &Value,
-    name: &str,
-) -> Result<Option<Vec<Remaining>>, AllocError>
-    ensures { IfOk result
-        (λ o. option_map (λ v. v.items) o ≡ remaining_field name.now (view value.now)) }
+fn members_in(alloc: Global, reader: &mut Reader<'_>) -> Result<Fields, Error>
+    ensures ok { IfOk result (λ f. TakesMembers 126 reader.old (Knows f) reader.new) }
+    ensures err { IfErr result (λ e. e ≢ OutOfMemory
+        → members_at 126 (length reader.old) no_members reader.old ≡ None) }
 {
-    match list_field(value, name) {
-        Some(items) => remaining_of(alloc, items.as_slice()),
-        None => Ok(None),
+    let mut fields = Fields::new();
+    'members: while let Some(name) = reader.next_key()? {
+        fields.member(alloc, name, reader)?;
     }
+    Ok(fields)
 }
 
-fn remaining_of(alloc: Global, items: &[Value]) -> Result<Option<Vec<Remaining>>, AllocError>
-    ensures { IfOk result
-        (λ o. option_map (λ v. v.items) o ≡ each remaining_in (map view items.now)) }
+/// The fields of the object that a text is. Where it is none, it is refused, in part unread.
+pub fn fields_of(alloc: Global, text: &str) -> Result<Fields, Error>
+    ensures ok { IfOk result (λ f. (d : Data) × (read text.now ≡ Some d) × Knows f d) }
+    ensures err { IfErr result (λ e. e ≢ OutOfMemory
+        → option_and_then call_in (read text.now) ≡ None) }
 {
-    let mut told = Vec::new(alloc);
-    for item in items {
-        match remaining_in(item) {
-            Some(remaining) => told.push(remaining)?,
-            None => return Ok(None),
-        }
+    let mut scratch = Scratch::new(alloc);
+    let mut reader = Reader::new(text, &mut scratch)?;
+    let first = reader.next().ok_or(Error::Invalid)?;
+    if !opens_object(&first) {
+        return Err(Error::Invalid);
     }
-    Ok(Some(told))
-}
-
-fn remaining_in(value: &Value) -> Option<Remaining>
-    ensures { result ≡ remaining_in (view value.now) }
-{
-    match value.as_array() {
-        Some(items) => remaining_among(items.as_slice()),
-        None => None,
+    let fields = members_in(alloc, &mut reader)?;
+    if reader.next().is_some() {
+        return Err(Error::Invalid);
     }
-}
-
-fn remaining_among(items: &[Value]) -> Option<Remaining>
-    ensures { result ≡ remaining_among (map view items.now) }
-{
-    match items {
-        [storage, remaining] => remaining_from(small_in(storage), remaining.as_u64()),
-        _ => None,
-    }
-}
-
-fn remaining_from(storage: Option<u32>, remaining: Option<u64>) -> Option<Remaining>
-    ensures { result ≡ remaining_from storage remaining }
-{
-    match (storage, remaining) {
-        (Some(storage), Some(remaining)) => Some(Remaining {
-            storage: StorageId(storage),
-            remaining,
-        }),
-        _ => None,
-    }
-}
-
-fn entry_from(from: Option<u64>, to: Option<u64>, stamp: Option<Stamp>) -> Option<Entry>
-    ensures { result ≡ entry_from from to stamp }
-{
-    match (from, to, stamp) {
-        (Some(from), Some(to), Some(stamp)) => Some(Entry {
-            from: BlockId(from),
-            to: BlockId(to),
-            stamp,
-        }),
-        _ => None,
-    }
-}
-
-/// A stamp of its generation and length.
-pub fn stamp_from(generation: Option<u64>, len: Option<u64>) -> Option<Stamp>
-    ensures { result ≡ stamp_from generation len }
-{
-    match (generation, len) {
-        (Some(generation), Some(len)) => Some(Stamp {
-            generation: Gen(generation),
-            len,
-        }),
-        _ => None,
-    }
+    Ok(fields)
 }

@@ -1,13 +1,10 @@
 // Calls made of the fields of a line's object: `None` where a field is missing.
 ghost use Rattle.std.specs.Prelude.{◌≡◌, option_map};
-ghost use Rattle.serde_json.specs.View.{view};
 ghost use Rattle.bm_base.specs.declared.call.Call.TheVariants as call;
 ghost use Rattle.bm_base.specs.declared.event.Event.TheVariants as event;
-ghost use Rattle.bm_lines.specs.CallOf.{register_from, heartbeat_from, add_from, set_replication_from, restamp_from, received_from, deleted_from, corrupt_from, report_from, stamp_fields};
+ghost use Rattle.bm_lines.specs.CallOf.{register_from, heartbeat_from, add_from, set_replication_from, restamp_from, received_from, deleted_from, corrupt_from, report_from};
 
-use crate::fields::{number_field, stamp_from};
 use bm_base::{BlockId, Call, Entry, Event, Items, NodeId, Rack, Remaining, Stamp, StorageId};
-use serde_json::Value;
 
 pub fn register_from(
     node: Option<u32>,
@@ -62,12 +59,6 @@ pub fn report_from(storage: Option<u32>, entries: Option<Vec<Entry>>) -> Option<
         })),
         _ => None,
     }
-}
-
-pub fn stamp_fields(value: &Value) -> Option<Stamp>
-    ensures { result ≡ stamp_fields (view value.now) }
-{
-    stamp_from(number_field(value, "gen"), number_field(value, "len"))
 }
 
 pub fn dead_from(node: Option<u32>) -> Option<Call>

@@ -8,11 +8,16 @@
 mod call;
 mod fields;
 mod from_fields;
+mod json_numbers;
 mod limits;
 mod line;
+mod lists;
+mod numbers;
 mod op;
+mod passing;
 mod print;
 mod print_items;
+mod rows;
 #[cfg(test)]
 mod tests;
 mod usual;

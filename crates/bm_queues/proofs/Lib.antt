@@ -5,3 +5,4 @@ pub mod Visits
 pub mod Walking
 pub mod LevelLaws
 pub mod MemberLaws
+pub mod Sparse

@@ -4,3 +4,4 @@ pub mod Linked
 pub mod LevelBytes
 pub mod Levels
 pub mod Members
+pub mod Sparse

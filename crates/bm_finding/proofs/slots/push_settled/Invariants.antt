@@ -1,8 +1,9 @@
-use Rattle.std.proofs.Common.{◌≡◌, ◌++◌, not, filter}
-use Rattle.bm_base.specs.Lists.{has}
-use Rattle.bm_finding.specs.Visits.{settled_at}
+use Rattle.std.proofs.Common.{◌≡◌, ◌++◌, map, filter, drop}
+use Rattle.bm_finding.specs.Visits.{keyed_at, is_told}
 use Rattle.bm_finding.proofs.slots.push_settled.Given as goal
 
--- those that are left and settled, behind those that were put, come to all
-abbrev pub invariant-loop-slot : goal.invariant-loop-slot
-invariant-loop-slot l = l.into.items ++ filter (λ slot. not (has l.kept.unsettled.slots slot)) l.slot-iterator ≡ l.initial.into.items ++ settled_at l.kept l.fn.level
+-- those that are left and told, behind those that were put, come to all
+abbrev pub invariant-loop-member : goal.invariant-loop-member
+invariant-loop-member l =
+    l.into.items ++ map (keyed_at l.kept l.arena) (filter (is_told l.kept l.arena l.bound) (drop l.member-index l.members))
+    ≡ l.initial.into.items ++ map (keyed_at l.kept l.arena) (filter (is_told l.kept l.arena l.bound) l.kept.wishing.slots)

@@ -1,5 +1,6 @@
 use Rattle.std.proofs.Common.{refl, subst, sym, ap, ◌∙◌, arith}
 use Rattle.std.specs.Prelude.{length}
+use Rattle.std.proofs.lemmas.Bool.{true≢false}
 use Rattle.bm_arena.specs.Contents.{Contents, block_at, known_of, KeepsAllBut}
 use Rattle.bm_arena.specs.Holding.{replicas_at}
 use Rattle.bm_levels.specs.Changes.{changed}
@@ -9,7 +10,7 @@ use Rattle.bm_levels.proofs.marking.change_marks.Goals as goal
 use Rattle.bm_levels.proofs.marking.change_marks.Goals.{in-Some+then-not-are_same, in-Some+else-not-are_same, in_default}
 
 pub loop-place-init : goal.loop-place-init
-loop-place-init c = record { replicas = refl; known = refl; rest = keeps_itself c.args.slot c.args.arena.now }
+loop-place-init c = record { replicas = refl; known = refl; rest = keeps_itself c.args.slot c.args.arena.now; same = λ _. refl }
 
 pub loop-place-preserved : goal.loop-place-preserved
 loop-place-preserved c =
@@ -26,6 +27,7 @@ loop-place-preserved c =
                 ∙ changed_step f c.args.arena.now c.loop-place.arena w.set_marks.new.self slot i _ _ w.apply-after.result c.lawful.ensures w.apply-after.ensures h.replicas (sym w.in-Some.ensures) g.after;
             known = ap (λ (a : Contents). known_of (block_at a slot)) w.arena-is ∙ g.known ∙ h.known;
             rest = keeps_then slot c.args.arena.now c.loop-place.arena c.match-triplet_at.arena h.rest (subst K (sym w.arena-is) g.rest);
+            same = λ none. absurd (true≢false (sym w.is_changed-is ∙ none));
           }
       | in-Some+else-not-are_same w ↦
           let K : Contents → Type 0 = λ a. KeepsAllBut slot c.loop-place.arena a in
@@ -34,6 +36,7 @@ loop-place-preserved c =
                 ∙ unchanged_step f c.args.arena.now c.loop-place.arena slot i _ _ w.apply-after.result w.apply-after.ensures (w.are_same.ensures w.if-not-are_same.false) h.replicas (sym w.in-Some.ensures);
             known = ap (λ (a : Contents). known_of (block_at a slot)) w.arena-is ∙ h.known;
             rest = keeps_then slot c.args.arena.now c.loop-place.arena c.match-triplet_at.arena h.rest (subst K (sym w.arena-is) (keeps_itself slot c.loop-place.arena));
+            same = λ none. w.arena-is ∙ h.same (sym w.is_changed-is ∙ none);
           }
       | in_default w ↦
           let few = ap length h.replicas ∙ change_count f i (replicas_at c.args.arena.now slot) in

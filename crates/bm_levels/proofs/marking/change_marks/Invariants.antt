@@ -1,4 +1,4 @@
-use Rattle.std.proofs.Common.{◌≡◌}
+use Rattle.std.proofs.Common.{◌≡◌, false}
 use Rattle.bm_arena.specs.Contents.{block_at, known_of, KeepsAllBut}
 use Rattle.bm_arena.specs.Holding.{replicas_at}
 use Rattle.bm_levels.specs.Changes.{changed}
@@ -10,6 +10,7 @@ pub record AreChangedSoFar (l : goal.Live-loop-place) : Type 0 where
   pub replicas : replicas_at l.arena l.slot ≡ changed_first (changed l.change) l.place (replicas_at l.initial.arena l.slot)
   pub known : known_of (block_at l.arena l.slot) ≡ known_of (block_at l.initial.arena l.slot)
   pub rest : KeepsAllBut l.slot l.initial.arena l.arena
+  pub same : l.is_changed ≡ false → l.arena ≡ l.initial.arena
 
 abbrev pub invariant-loop-place : goal.invariant-loop-place
 invariant-loop-place l = AreChangedSoFar l

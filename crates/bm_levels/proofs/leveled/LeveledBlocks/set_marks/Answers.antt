@@ -1,5 +1,6 @@
 use Rattle.std.proofs.Common.{◌≡◌, Some, subst, sym}
-use Rattle.bm_arena.specs.Contents.{slot_of}
+use Rattle.bm_arena.specs.Contents.{slot_of, KeepsEntries}
+use Rattle.bm_arena.proofs.Staying.{entries-set}
 use Rattle.bm_levels.specs.Leveled.{Leveled, AreLevels}
 use Rattle.bm_levels.proofs.OneSlot.{held_by, leveled_after, levels_after}
 use Rattle.bm_levels.proofs.leveled.LeveledBlocks.set_marks.Goals as goal
@@ -22,3 +23,8 @@ returns-clause-levels c =
     subst Q c.self.view_is (levels_after c.args.topology.now.cluster (record { arena = c.self.inside.arena; kept = c.self.inside.kept }) c.set_marks.new.self c.judge_in.new.self c.args.slot
     (record { blocks = r.blocks; delimiter = r.delimiter; apart = (c.lawful.ensures.found c.requires.slot.0 c.args.slot here).0; held = held_by c.self.inside.arena c.args.slot (c.lawful.ensures.found c.requires.slot.0 c.args.slot here) })
     c.judge_in.ensures.judged c.judge_in.ensures.others)
+
+pub returns-clause-entries : goal.returns-clause-entries
+returns-clause-entries c =
+    let P : Leveled → Type 0 = λ v. KeepsEntries v.arena c.set_marks.new.self in
+    subst P c.self.view_is (entries-set c.self.inside.arena c.set_marks.new.self c.args.slot c.set_marks.ensures.rest c.set_marks.ensures.known)

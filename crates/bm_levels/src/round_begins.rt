@@ -1,0 +1,115 @@
+// What a round changes in marks as it begins: those of replicas in excess.
+ghost use Rattle.std.specs.Prelude.{◌≡◌, ◌≢◌, ℕ, false, Some, if◌then◌else◌};
+ghost use Rattle.bm_base.specs.Map.{revise, revise_at};
+ghost use Rattle.bm_base.specs.SlotLists.{Among};
+ghost use Rattle.bm_base.specs.Excess as excess;
+ghost use Rattle.bm_base.specs.Excess.{counted_again};
+ghost use Rattle.bm_base.specs.RoundParts as parts;
+ghost use Rattle.bm_arena.specs.Contents.{block_at, slot_of, KeepsEntries};
+ghost use Rattle.bm_arena.specs.Holding.{replicas_at, replicas_of, blocks_of};
+ghost use Rattle.bm_levels.specs.Bare.{KeepsBlocksOutside};
+ghost use Rattle.bm_levels.specs.Changes.{as_excess, all_changed, has_replica, has_block, at_round_start};
+ghost use Rattle.bm_levels.specs.Kept.{IsUnsettled, KeepsAhead};
+ghost use Rattle.bm_levels.specs.Leveled.{KeepsLevels};
+
+use crate::leveled::LeveledBlocks;
+use crate::marking::{MarkChange, change_marks};
+use bm_arena::Slot;
+use bm_base::{Marks, ReplicaId};
+use bm_topo::Topology;
+
+impl LeveledBlocks {
+    /// As a round begins: marks of excess whose delete was not ordered are dropped, and the replicas of `surplus` are in excess. Goes
+    /// once over the replicas of the unsettled blocks, and looks up each of `surplus`; only blocks whose marks change are judged anew,
+    /// and settled blocks are not looked at. Takes no memory.
+    pub fn mark_excess_anew(&mut self, topology: &Topology, surplus: &[ReplicaId])
+        requires surplus { surplus.now
+            ≡ parts.surplus topology.now.cluster (at_round_start self.old.arena) }
+        ensures replicas { replicas_of self.new.arena
+            ≡ (excess.marked topology.now.cluster (at_round_start self.old.arena)).replicas }
+        ensures blocks { blocks_of self.new.arena ≡ blocks_of self.old.arena }
+        ensures numbers { self.new.arena.ids ≡ self.old.arena.ids }
+        ensures levels { KeepsLevels topology.now.cluster self.old self.new }
+    {
+        self.lawful();
+        self.arena().lawful();
+        self.begin_marks(topology);
+        self.mark_surplus(topology, surplus);
+    }
+
+    /// Marks of excess whose delete was not ordered are dropped at each unsettled slot. A slot leaves the set where its block is settled
+    /// then; so the one behind it is taken before.
+    fn begin_marks(&mut self, topology: &Topology)
+        ensures begun { (slot : ℕ) → IsUnsettled self.old.kept slot
+            → replicas_at self.new.arena slot
+            ≡ all_changed counted_again (replicas_at self.old.arena slot) }
+        ensures others { KeepsBlocksOutside self.old.kept.unsettled.slots
+            self.old.arena self.new.arena }
+        ensures entries { KeepsEntries self.old.arena self.new.arena }
+        ensures levels { KeepsLevels topology.now.cluster self.old self.new }
+    {
+        self.kept().lawful();
+        let mut at = self.kept().first_unsettled();
+        for _step in 0..self.kept().unsettled_count() {
+            if let Some(slot) = at {
+                at = self.kept().next_unsettled(slot);
+                self.begin_at(topology, slot);
+            }
+        }
+    }
+
+    /// Marks of excess whose delete was not ordered are dropped at an unsettled slot; its block is judged anew where there is one.
+    fn begin_at(&mut self, topology: &Topology, slot: Slot)
+        requires { IsUnsettled self.old.kept slot }
+        ensures begun { replicas_at self.new.arena slot
+            ≡ all_changed counted_again (replicas_at self.old.arena slot) }
+        ensures others { (other : ℕ) → other ≢ slot
+            → block_at self.new.arena other ≡ block_at self.old.arena other }
+        ensures entries { KeepsEntries self.old.arena self.new.arena }
+        ensures ahead { KeepsAhead slot self.old.kept.unsettled.slots
+            self.new.kept.unsettled.slots }
+        ensures levels { KeepsLevels topology.now.cluster self.old self.new }
+    {
+        if change_marks(&mut self.arena, slot, MarkChange::RoundBegun) {
+            self.kept.judge_in(topology, &self.arena, slot);
+        }
+    }
+
+    /// The replicas of a list are in excess, as far as they are there.
+    fn mark_surplus(&mut self, topology: &Topology, surplus: &[ReplicaId])
+        ensures replicas { replicas_of self.new.arena
+            ≡ revise (replicas_of self.old.arena)
+            (λ q m. if has_replica surplus.now q then as_excess m else m) }
+        ensures others { (slot : ℕ)
+            → ((b : ℕ) → slot_of self.old.arena b ≡ Some slot → has_block surplus.now b ≡ false)
+            → block_at self.new.arena slot ≡ block_at self.old.arena slot }
+        ensures entries { KeepsEntries self.old.arena self.new.arena }
+        ensures levels { KeepsLevels topology.now.cluster self.old self.new }
+    {
+        for replica in surplus {
+            self.mark_excess(topology, replica);
+        }
+    }
+
+    /// A replica is in excess, if it is there.
+    fn mark_excess(&mut self, topology: &Topology, replica: &ReplicaId)
+        ensures replicas { replicas_of self.new.arena
+            ≡ revise_at (replicas_of self.old.arena) replica.now as_excess }
+        ensures others { (slot : ℕ) → slot_of self.old.arena replica.now.block ≢ Some slot
+            → block_at self.new.arena slot ≡ block_at self.old.arena slot }
+        ensures entries { KeepsEntries self.old.arena self.new.arena }
+        ensures levels { KeepsLevels topology.now.cluster self.old self.new }
+    {
+        let Some(slot) = self.slot_of(replica.block) else {
+            return;
+        };
+        if let Some(marks) = self.marks_of(slot, replica.storage) {
+            let excess = Marks {
+                tag: marks.tag,
+                excess: true,
+                ordered: marks.ordered,
+            };
+            self.set_marks(topology, slot, replica.storage, excess);
+        }
+    }
+}
