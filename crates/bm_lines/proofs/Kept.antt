@@ -100,15 +100,15 @@ list_in f o = option_and_then (λ items. each f (listed items)) (option_and_then
 
 pub knows_more : (old new : Fields) (k : List ℕ) (d : Data) (ms : Members) → Becomes old new k d → Knows old (object ms) → Knows new (object (put k d ms))
 knows_more old new k d ms becomes known = record {
-    op = becomes.op ∙ field_put (λ o. option_and_then op_of (option_and_then as_str o)) (codes "op") k d ms _ known.op;
-    node = ap (λ n. n.node) becomes.numbers ∙ field_put (option_and_then number_in) (codes "node") k d ms _ known.node;
-    storage = ap (λ n. n.storage) becomes.numbers ∙ field_put (option_and_then number_in) (codes "storage") k d ms _ known.storage;
-    id = ap (λ n. n.id) becomes.numbers ∙ field_put (option_and_then number_in) (codes "id") k d ms _ known.id;
-    repl = ap (λ n. n.repl) becomes.numbers ∙ field_put (option_and_then number_in) (codes "repl") k d ms _ known.repl;
-    rack = ap (λ n. n.rack) becomes.numbers ∙ field_put (option_and_then number_in) (codes "rack") k d ms _ known.rack;
-    generation = ap (λ n. n.generation) becomes.numbers ∙ field_put (option_and_then number_in) (codes "gen") k d ms _ known.generation;
-    len = ap (λ n. n.len) becomes.numbers ∙ field_put (option_and_then number_in) (codes "len") k d ms _ known.len;
-    storages = becomes.storages ∙ field_put (list_in small_in) (codes "storages") k d ms _ known.storages;
-    remaining = becomes.remaining ∙ field_put (list_in remaining_in) (codes "remaining") k d ms _ known.remaining;
-    blocks = becomes.blocks ∙ field_put (list_in entry_in) (codes "blocks") k d ms _ known.blocks
-  }
+  op = becomes.op ∙ field_put (λ o. option_and_then op_of (option_and_then as_str o)) (codes "op") k d ms _ known.op;
+  node = ap (λ n. n.node) becomes.numbers ∙ field_put (option_and_then number_in) (codes "node") k d ms _ known.node;
+  storage = ap (λ n. n.storage) becomes.numbers ∙ field_put (option_and_then number_in) (codes "storage") k d ms _ known.storage;
+  id = ap (λ n. n.id) becomes.numbers ∙ field_put (option_and_then number_in) (codes "id") k d ms _ known.id;
+  repl = ap (λ n. n.repl) becomes.numbers ∙ field_put (option_and_then number_in) (codes "repl") k d ms _ known.repl;
+  rack = ap (λ n. n.rack) becomes.numbers ∙ field_put (option_and_then number_in) (codes "rack") k d ms _ known.rack;
+  generation = ap (λ n. n.generation) becomes.numbers ∙ field_put (option_and_then number_in) (codes "gen") k d ms _ known.generation;
+  len = ap (λ n. n.len) becomes.numbers ∙ field_put (option_and_then number_in) (codes "len") k d ms _ known.len;
+  storages = becomes.storages ∙ field_put (list_in small_in) (codes "storages") k d ms _ known.storages;
+  remaining = becomes.remaining ∙ field_put (list_in remaining_in) (codes "remaining") k d ms _ known.remaining;
+  blocks = becomes.blocks ∙ field_put (list_in entry_in) (codes "blocks") k d ms _ known.blocks;
+}

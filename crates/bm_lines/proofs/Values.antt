@@ -184,13 +184,13 @@ mapped-push ds d (Some p) = ap (λ rest. Some (rest, p.1)) (items_after-push ds 
 pub one_item_more : (depth : ℕ) (first now r : List Token) (P Q : List Data → Type 0) (d : Data) → ItemsSoFar depth first now P → after_end_array now ≡ None
     → value_at depth now ≡ Some (d, r) → length r < length now → ((ds : List Data) → P ds → Q (ds ++ d ∷ [])) → ItemsSoFar depth first r Q
 one_item_more depth first now r P Q d so_far going read less holds = record {
-    turns = so_far.turns - 1;
-    done = so_far.done ++ d ∷ [];
-    enough = omega (arith, so_far.enough);
-    same = so_far.same ∙ ap (parse_map (items_after so_far.done)) (item_read (value depth) so_far.turns now r d (omega (arith, so_far.enough)) going read) ∙ mapped-push so_far.done d _;
-    holds = holds so_far.done so_far.holds;
-    shorter = omega (arith, so_far.shorter)
-  }
+  turns = so_far.turns - 1;
+  done = so_far.done ++ d ∷ [];
+  enough = omega (arith, so_far.enough);
+  same = so_far.same ∙ ap (parse_map (items_after so_far.done)) (item_read (value depth) so_far.turns now r d (omega (arith, so_far.enough)) going read) ∙ mapped-push so_far.done d _;
+  holds = holds so_far.done so_far.holds;
+  shorter = omega (arith, so_far.shorter);
+}
 
 pub item_refused_later : (depth : ℕ) (first now : List Token) (P : List Data → Type 0) → ItemsSoFar depth first now P → after_end_array now ≡ None
     → value_at depth now ≡ None → items_at depth (length first) first ≡ None
@@ -198,10 +198,10 @@ item_refused_later depth first now P so_far going none = so_far.same ∙ ap (par
 
 pub items_read : (depth : ℕ) (first now r : List Token) (P : List Data → Type 0) → ItemsSoFar depth first now P → after_end_array now ≡ Some r → TakesItems depth first P r
 items_read depth first now r P so_far over = (
-    items_after so_far.done no_items,
-    so_far.same ∙ ap (parse_map (items_after so_far.done)) (items_over (value depth) so_far.turns now r so_far.enough over),
-    rw (listed-items_after so_far.done) so_far.holds,
-  )
+  items_after so_far.done no_items,
+  so_far.same ∙ ap (parse_map (items_after so_far.done)) (items_over (value depth) so_far.turns now r so_far.enough over),
+  rw (listed-items_after so_far.done) so_far.holds,
+)
 
 -- ---- members
 
@@ -227,7 +227,7 @@ one_member_more depth k first now s r P Q d so_far key read less holds =
       enough = omega (arith, so_far.enough);
       same = so_far.same ∙ member_read (value depth) so_far.done so_far.turns k now s r d (omega (arith, so_far.enough)) key read;
       holds = holds so_far.done so_far.holds;
-      shorter = omega (arith, so_far.shorter)
+      shorter = omega (arith, so_far.shorter);
     }
 
 pub key_refused_later : (depth : ℕ) (first now : List Token) (P : Data → Type 0) → MembersSoFar depth first now P → read_key now ≡ None → members_at depth (length first) no_members first ≡ None

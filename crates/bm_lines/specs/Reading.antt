@@ -114,14 +114,14 @@ after field name new old = if bytes_eq name field then new else old
 
 abbrev pub numbers_after : List ℕ → Option ℕ → Numbers → Numbers
 numbers_after name n old = record {
-    node = after (codes "node") name n old.node;
-    storage = after (codes "storage") name n old.storage;
-    id = after (codes "id") name n old.id;
-    repl = after (codes "repl") name n old.repl;
-    rack = after (codes "rack") name n old.rack;
-    generation = after (codes "gen") name n old.generation;
-    len = after (codes "len") name n old.len
-  }
+  node = after (codes "node") name n old.node;
+  storage = after (codes "storage") name n old.storage;
+  id = after (codes "id") name n old.id;
+  repl = after (codes "repl") name n old.repl;
+  rack = after (codes "rack") name n old.rack;
+  generation = after (codes "gen") name n old.generation;
+  len = after (codes "len") name n old.len;
+}
 
 abbrev pub op_in : Data → Option Op
 op_in d = option_and_then op_of (as_str d)

@@ -49,12 +49,7 @@ impl Fields {
     }
 
     /// Takes the value of the member of this name.
-    fn member(
-        &mut self,
-        alloc: Global,
-        name: &str,
-        reader: &mut Reader<'_>,
-    ) -> Result<(), Error>
+    fn member(&mut self, alloc: Global, name: &str, reader: &mut Reader<'_>) -> Result<(), Error>
         ensures ok { OnOk result (Takes 126 reader.old
             (λ d. Becomes self.old self.new name.now d) reader.new) }
         ensures err { IfErr result (λ e. e ≢ OutOfMemory → value_at 126 reader.old ≡ None) }

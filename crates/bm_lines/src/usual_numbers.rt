@@ -34,7 +34,7 @@ pub fn small_then<'l>(bytes: &'l [u8], text: &[u8]) -> Option<(u32, &'l [u8])>
 }
 
 /// The number that these bytes begin with, with no zero before it, and what stands behind it.
-fn number(bytes: &[u8]) -> Option<(u64, &[u8])>
+pub fn number(bytes: &[u8]) -> Option<(u64, &[u8])>
     ensures text { IfSome result (λ p. bytes.now ≡ decimal p.0 ++ p.1.now) }
     ensures fits { IfSome result (λ p. p.0 < 2 ^ 64) }
     ensures shorter { IfSome result (λ p. length p.1.now < length bytes.now) }

@@ -36,6 +36,9 @@ fn lines_that_ask_in_another_form(rt: HostRuntime) -> Result<(), Fail> {
         "{\"op\":\"received\",\"id\":7,\"storage\":11,\"gen\":1,\"len\":64}",
         "{\"op\":\"report\",\"storage\":1,\"blocks\":[[7,7,1,64]]}",
         "{\"op\":\"heartbeat\",\"node\":1,\"remaining\":[[11, 5]]}",
+        "{\"op\":\"register\",\"node\":1,\"rack\":2, \"storages\":[11,12]}",
+        "{\"id\":\"x\",\"op\":\"delete\",\"id\":7}",
+        "{\"op\":\"delete\",\"id\":7,\"x\":[{\"id\":[8,-1,1e308,\"\\n\"]},true,false,null]}",
     ] {
         assert!(&rt; usual_call(alloc, line.as_bytes())?.is_none(), "at {line}");
         assert!(&rt; call_of(alloc, line.as_bytes())?.is_some(), "at {line}");
@@ -57,6 +60,11 @@ fn lines_that_are_nearly_usual(rt: HostRuntime) -> Result<(), Fail> {
         "{\"op\":\"report\",\"storage\":1,\"blocks\":[[7,1,64],]}",
         "{\"op\":\"report\",\"storage\":1,\"blocks\":[[7,8,1,64,0]]}",
         "{\"op\":\"heartbeat\",\"node\":1,\"remaining\":[[4294967296,5]]}",
+        "{\"op\":\"delete\",\"id\":7,\"id\":\"x\"}",
+        "{\"op\":\"delete\",\"id\":7,\"x\":[{\"id\":[8,-1,1e309]}]}",
+        "{\"op\":\"delete\",\"id\":7,\"x\":[{\"id\":[8,-1]]}",
+        "{\"op\":\"delete\",\"id\":7} 7",
+        "[{\"op\":\"delete\",\"id\":7}]",
     ] {
         assert!(&rt; call_of(alloc, line.as_bytes())?.is_none(), "at {line}");
     }

@@ -1,8 +1,15 @@
-use Rattle.std.proofs.Common.{◌≡◌, drop, get_or, true, false, ◌==◌, option_map, sym, ap, ◌∙◌, arith, take_all, length-drop}
+use Rattle.std.proofs.Common.{◌≡◌, drop, get_or, true, false, ◌==◌, option_map, decimal, sym, ap, ◌∙◌, arith, take_all, length-drop}
 use Rattle.fast_float.specs.Text.{scan}
 use Rattle.serde_json.specs.Find.{as_u64}
 use Rattle.serde_json.specs.Read.{number_of, number_from}
+use Rattle.serde_json.proofs.Numbers.{number_of-decimal}
 use Rattle.bm_lines.proofs.json_numbers.number_of.Goals as goal
+
+pub returns-in-Some : goal.returns-in-Some
+returns-in-Some c =
+    let digits = c.in-Some.ensures in
+    let text : c.args.text.now ≡ decimal c.in-Some.number = sym c.as_bytes-bytes.ensures.value ∙ digits.text in
+    sym (ap (option_map as_u64) (ap number_of text ∙ number_of-decimal c.in-Some.number digits.fits))
 
 pub returns-then-has_minus : goal.returns-then-has_minus
 unfolding number_of
