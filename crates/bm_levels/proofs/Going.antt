@@ -4,7 +4,7 @@ use Rattle.std.proofs.Common.{refl, sym, ap, subst, ◌∙◌, arith, inl, inr}
 use Rattle.bm_base.specs.Excess.{counted_again}
 use Rattle.bm_base.specs.SlotLists.{Among, Distinct}
 use Rattle.bm_queues.specs.Walks.{slots_from, IsOn, IsPast}
-use Rattle.bm_arena.specs.Contents.{Contents, block_at, KeepsEntries}
+use Rattle.bm_arena.specs.Contents.{block_at, KeepsEntries}
 use Rattle.bm_arena.specs.Holding.{replicas_at}
 use Rattle.bm_arena.proofs.Staying.{entries-none, entries-chain}
 use Rattle.bm_levels.specs.Changes.{all_changed}

@@ -1,17 +1,15 @@
 -- As a round begins: what is held after its marks.
 use Rattle.std.specs.Prelude.{◌≡◌, ◌≢◌, ℕ, ◌+◌, true, false, if◌then◌else◌, List, Option, Some, None, IsSome, nat_eq, option_and_then}
 use Rattle.std.specs.Map.{lookup}
-use Rattle.std.proofs.Common.{refl, sym, ap, ◌∙◌, inl, inr, ◌⊎◌}
+use Rattle.std.proofs.Common.{refl, sym, ap, ◌∙◌, inl, inr}
 use Rattle.std.proofs.lemmas.Bool.{cases_Bool, true≢false}
 use Rattle.bm_base.specs.declared.replica.ReplicaId.{ReplicaId}
-use Rattle.bm_base.proofs.SlotLists.{dec_among}
 use Rattle.bm_base.specs.Map.{revise}
 use Rattle.bm_base.specs.State.{Cluster, Holdings}
-use Rattle.bm_base.specs.Replicas.{rack_of, is_draining, is_multi_rack}
 use Rattle.bm_base.specs.Excess.{counted_again, without_unordered_excess, marked}
 use Rattle.bm_base.specs.RoundParts.{surplus}
 use Rattle.bm_arena.specs.Triplets.{Block}
-use Rattle.bm_arena.specs.Contents.{Contents, block_at, slot_of, marks_at, find_marks, IsLawful, KeepsAllBut, KeepsEntries}
+use Rattle.bm_arena.specs.Contents.{Contents, block_at, slot_of, IsLawful, KeepsAllBut, KeepsEntries}
 use Rattle.bm_arena.specs.Holding.{replicas_at, replicas_of, blocks_of, info_at, holdings_of}
 use Rattle.bm_arena.proofs.Held.{same_blocks, under}
 use Rattle.bm_arena.proofs.Staying.{entries-chain}
