@@ -1,7 +1,6 @@
 // What a round changes in marks as it begins: those of replicas in excess.
 ghost use Rattle.std.specs.Prelude.{◌≡◌, ◌≢◌, ℕ, false, Some, if◌then◌else◌};
 ghost use Rattle.bm_base.specs.Map.{revise, revise_at};
-ghost use Rattle.bm_base.specs.SlotLists.{Among};
 ghost use Rattle.bm_base.specs.Excess as excess;
 ghost use Rattle.bm_base.specs.Excess.{counted_again};
 ghost use Rattle.bm_base.specs.RoundParts as parts;

@@ -1,5 +1,5 @@
 // The fields of a line's object, taken from its text in one pass. Of a key that comes twice the last value stays.
-ghost use Rattle.std.specs.Prelude.{◌≡◌, ◌≢◌, ◌<◌, ◌≤◌, length, None, Some, IfOk, IfErr, OnOk, OnErr, option_and_then};
+ghost use Rattle.std.specs.Prelude.{◌≡◌, ◌≢◌, ◌<◌, length, None, Some, IfOk, IfErr, OnOk, OnErr, option_and_then};
 ghost use Rattle.json.specs.declared.error.Error.TheVariants.{OutOfMemory};
 ghost use Rattle.serde_json.specs.Data.{Data, object, no_members};
 ghost use Rattle.serde_json.specs.Read.{read};

@@ -1,5 +1,5 @@
 // A set of slots whose members stand densely, so that one who goes over them does not wait for each to learn of the next.
-ghost use Rattle.std.specs.Prelude.{◌≡◌, ◌≢◌, ℕ, ◌<◌, ◌≤◌, IsTrue, ◌↔◌, [], ◌∷◌, ◌++◌, length, slice_index_or, Some, None, IfOk, IfErr, OnOk, OnErr, IsOk};
+ghost use Rattle.std.specs.Prelude.{◌≡◌, ◌≢◌, ℕ, ◌<◌, ◌≤◌, IsTrue, ◌↔◌, [], ◌∷◌, ◌++◌, length, slice_index_or, Some, None, IfErr, OnOk, OnErr, IsOk};
 ghost use Rattle.std.specs.List.Sorted.{IsPermutation};
 ghost use Rattle.std.specs.Option.{IfSome};
 ghost use Rattle.bm_base.specs.declared.refusal.Refusal.TheVariants.{Memory};
