@@ -12,12 +12,12 @@ pub fn go_over<R: Eprint>(rt: &R, alloc: Global) -> Result<Tally, Refusal> {
     for size in 1..=MOST as usize {
         let mut slots = SparseSet::new(alloc);
         slots.grow_to(size)?;
-        begun(rt, "sparse set");
+        begun(rt, "sparse");
         insert_all(&mut slots, size, &mut tally);
         tally.note(slots.members().len() == size);
         remove_all(&mut slots, size, &mut tally);
         tally.note(slots.members().is_empty());
-        ended(rt, "sparse set");
+        ended(rt, "sparse");
         begun(rt, "control");
         tally.control(slots.grow_to(size + 1).is_err());
         ended(rt, "control");
