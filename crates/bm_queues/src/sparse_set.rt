@@ -12,8 +12,8 @@ use std::marker::Model;
 
 /// A set of slots below the room, whose members can be read by place.
 ///
-/// A contract sees it as `Members`, the members in the order of their places. Only `grow_to` takes memory, eight bytes a slot; every
-/// other call takes none and succeeds. Each call is a constant number of steps, but for `grow_to`.
+/// A contract sees it as `Members`, the members in the order of their places. Only `new` and `grow_to` take memory, eight bytes a slot;
+/// every other call takes none and succeeds. Each call is a constant number of steps, but for `grow_to`.
 #[derive(Drop)]
 pub struct SparseSet {
     // The members.
@@ -35,7 +35,7 @@ impl Model for SparseSet {
 }
 
 impl SparseSet {
-    /// No slot, and room for none. Takes no memory.
+    /// No slot, and room for none.
     pub fn new(alloc: Global) -> SparseSet
         ensures slots { result.slots ≡ [] }
         ensures room { result.room ≡ 0 }
