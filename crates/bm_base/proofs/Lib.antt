@@ -15,6 +15,7 @@ pub mod Entries
 pub mod Naming
 -- What holds of values that were found in maps and lists.
 pub mod Options
+pub mod AtLevel
 pub mod Each
 pub mod Maps
 -- What a round chooses of one part.

@@ -14,6 +14,7 @@ pub mod Codes
 pub mod Replicas
 pub mod Spread
 pub mod Levels
+pub mod LevelNumbers
 pub mod Queries
 pub mod Lawful
 pub mod Fitting

@@ -6,7 +6,7 @@ use Rattle.std.specs.Ordering.{eq_by_cmp, is_lt, is_eq}
 use Rattle.std.specs.FinMap.{is_sorted}
 use Rattle.std.specs.FinMap.Entries.{below_all}
 use Rattle.std.specs.List.{list_any, IsDistinct, AllByRecursion}
-use Rattle.std.proofs.Common.{zero, suc, cond, refl, sym, ap, ◌∙◌, eqb-true, eq-eqb}
+use Rattle.std.proofs.Common.{cond, refl, sym, ap, ◌∙◌, eqb-true, eq-eqb}
 use Rattle.std.proofs.lemmas.Bool.{and_from, false≢true}
 use Rattle.bm_base.specs.Conjunction.{first, second}
 use Rattle.bm_base.specs.declared.replica.ReplicaId.{ReplicaId}
@@ -14,7 +14,6 @@ use Rattle.bm_base.specs.declared.replica.Marks.{Marks}
 use Rattle.bm_base.specs.declared.commands.Delete.{Delete}
 use Rattle.bm_base.specs.declared.round.Wish.{Wish}
 use Rattle.bm_base.specs.declared.level.Level.{Level}
-use Rattle.bm_base.specs.declared.level.Level.TheVariants.{Highest, VeryUnderReplicated, UnderReplicated, BadlyDistributed, NoUsableReplica}
 use Rattle.bm_base.specs.Map.{Map, get, entries, contains_key}
 use Rattle.bm_base.specs.State.{Cluster, Holdings, by_replica, replica_cmp, replica_at}
 use Rattle.bm_base.specs.Ordered.{by_pair, pair_cmp}
@@ -25,6 +24,7 @@ use Rattle.bm_base.specs.Excess.{without_expired, without_unordered_excess, exce
 use Rattle.bm_base.specs.Deletes.{is_deletable}
 use Rattle.bm_base.specs.RoundParts.{started_holdings, wish_at, wish_key, delete_key}
 use Rattle.bm_base.proofs.MapLaws.{get-revise}
+use Rattle.bm_base.proofs.AtLevel.{at_level}
 use Rattle.bm_base.proofs.Each.{Each, each_mapped, each_then, each_both, each_filtered, each_passing, each_optional}
 use Rattle.bm_base.proofs.Maps.{get_kept, get_keeps, get_revised, each_entry, passes_entry, key_itself}
 use Rattle.bm_base.proofs.Options.{there, is_there, chained}
@@ -169,24 +169,6 @@ module _ (C : Cluster) (pend r : ℕ) (H : Holdings) where
   }
 
   -- Wishes.
-
-  abbrev level_from : ℕ → Level
-  level_from zero = Highest
-  level_from (suc zero) = VeryUnderReplicated
-  level_from (suc (suc zero)) = UnderReplicated
-  level_from (suc (suc (suc zero))) = BadlyDistributed
-  level_from _ = NoUsableReplica
-
-  level_again : (l : Level) → level_from (level_number l) ≡ l
-  level_again Highest = refl
-  level_again VeryUnderReplicated = refl
-  level_again UnderReplicated = refl
-  level_again BadlyDistributed = refl
-  level_again NoUsableReplica = refl
-
-  at_level : (l : Level) (o : Option Level) → is_at l o ≡ true → o ≡ Some l
-  at_level l None e = absurd (false≢true e)
-  at_level l (Some k) e = ap Some (sym (level_again k) ∙ ap level_from (eqb-true (level_number k) (level_number l) e) ∙ level_again l)
 
   if_true : {X : Type 0} (t : Bool) (o : Option X) (x : X) → (if t then o else None) ≡ Some x → t ≡ true
   if_true true o x e = refl

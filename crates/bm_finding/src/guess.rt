@@ -5,20 +5,18 @@ use bm_parts::merge::Key;
 use bm_pending::PendingTransfers;
 use std::alloc::{AllocError, Global};
 
-/// About so many slots are looked at, evenly spread over those at a level at which copies are wished for.
-const SAMPLES: usize = 1_024;
-
 /// A bound before which about so many blocks wish for copies: a block for which a transfer is on its way counts as one that wishes for
-/// none. `None` where not so many do. Only a guess, by some samples: nothing but the time of a round may depend on it. It costs the same
-/// however many blocks there are.
+/// none. `None` where not so many do. Only a guess, by about so many samples as are asked for, evenly spread over the slots at a level at
+/// which copies are wished for: nothing but the time of a round may depend on it. It costs the same however many blocks there are.
 pub fn likely_bound(
     alloc: Global,
     blocks: &LeveledBlocks,
     pending: &PendingTransfers,
     most: usize,
+    samples: usize,
 ) -> Result<Option<Key>, AllocError> {
     let wishing = blocks.kept().wishing();
-    let step = wishing.len() / SAMPLES + 1;
+    let step = wishing.len() / samples.max(1) + 1;
     let mut keys = Vec::new(alloc);
     for member in wishing.iter().step_by(step) {
         push_key(blocks, pending, *member as usize, &mut keys)?;

@@ -161,11 +161,11 @@ fn a_bound_is_guessed(rt: HostRuntime) {
     let topology = four_nodes(&rt, alloc);
     let blocks = block_with_one(&rt, alloc, &topology);
     let pending = PendingTransfers::new(alloc);
-    let before_all = likely_bound(alloc, &blocks, &pending, 0).expect(&rt, "memory");
+    let before_all = likely_bound(alloc, &blocks, &pending, 0, 1_024).expect(&rt, "memory");
     assert!(rt; before_all == Some((0, 7)));
-    let behind_one = likely_bound(alloc, &blocks, &pending, 1).expect(&rt, "memory");
+    let behind_one = likely_bound(alloc, &blocks, &pending, 1, 1_024).expect(&rt, "memory");
     assert!(rt; behind_one.is_none());
     let pending = one_on_its_way(&rt, alloc);
-    let none_wishes = likely_bound(alloc, &blocks, &pending, 0).expect(&rt, "memory");
+    let none_wishes = likely_bound(alloc, &blocks, &pending, 0, 1_024).expect(&rt, "memory");
     assert!(rt; none_wishes.is_none());
 }

@@ -163,6 +163,9 @@ fn parts_of<R: Threads + Wait + Sync, G: Gate + Sync>(
 /// still send a copy. Where all nodes are alike, a round takes its last transfer from among 3 to 5 wishes for each.
 const WISHES_A_TRANSFER: u64 = 7;
 
+/// About so many blocks of all shards together are looked at to guess where so many wishes end.
+const SAMPLES: usize = 1_024;
+
 /// A bound before which the shards are likely to wish for more copies than a round may have transfers.
 fn bound_of_shards(
     shards: &[(u32, Shard)],
@@ -172,11 +175,12 @@ fn bound_of_shards(
     ensures refused { IfErr result (λ e. e ≡ Memory) }
 {
     let transfers = u64::from(config.work).saturating_mul(u64::from(topology.alive_nodes()));
-    let shard_count = shards.len().max(1) as u64;
-    let of_each = transfers.saturating_mul(WISHES_A_TRANSFER) / shard_count;
+    let shard_count = shards.len().max(1);
+    let of_each = transfers.saturating_mul(WISHES_A_TRANSFER) / shard_count as u64;
+    let samples = SAMPLES / shard_count;
     let mut bound = None;
     for shard in shards {
-        bound = later_of(bound, shard.1.likely_bound(of_each as usize)?);
+        bound = later_of(bound, shard.1.likely_bound(of_each as usize, samples)?);
     }
     Ok(bound)
 }

@@ -1,5 +1,5 @@
 -- What a round finds, by what stands in its lists.
-use Rattle.std.proofs.Common.{◌≡◌, ℕ, zero, suc, ◌-◌, Bool, true, false, ◌&&◌, ◌||◌, List, [], ◌∷◌, ◌++◌, map, filter, flat_map, Option, Some, None, is_some, refl, sym, ap, ◌∙◌, eqb-true, eq-eqb}
+use Rattle.std.proofs.Common.{◌≡◌, ℕ, ◌-◌, Bool, true, false, ◌&&◌, ◌||◌, List, [], ◌∷◌, ◌++◌, map, filter, flat_map, Option, Some, None, is_some, refl, sym, ap, ◌∙◌, eqb-true, eq-eqb}
 use Rattle.std.specs.Prelude.{◌==◌, nat_le, nat_lt, if◌then◌else◌, option_and_then, filter_map}
 use Rattle.std.specs.Ordering.{eq_by_cmp}
 use Rattle.std.specs.List.{list_any, cons_option}
@@ -17,7 +17,8 @@ use Rattle.bm_base.specs.declared.round.RoundPart.{RoundPart}
 use Rattle.bm_base.specs.Map.{Map, by_number, get, entries, keys, contains_key}
 use Rattle.bm_base.specs.State.{Cluster, Holdings, by_replica, replica_at, replica_cmp}
 use Rattle.bm_base.specs.Lists.{has}
-use Rattle.bm_base.specs.Levels.{level, level_number, is_at}
+use Rattle.bm_base.specs.Levels.{level, is_at}
+use Rattle.bm_base.specs.LevelNumbers.{level_of_number, level_again}
 use Rattle.bm_base.specs.Excess.{excess_in, without_expired, without_unordered_excess}
 use Rattle.bm_base.specs.Deletes.{is_deletable, deletable_on}
 use Rattle.bm_base.specs.Ordered.{by_pair, pair_cmp}
@@ -127,21 +128,6 @@ any_made t f (c ∷ bs) b w e is h = by_test (c == b) refl e (any_made t f bs b 
     by_test true at e rest = ap (λ o. list_any t (cons_option o (filter_map f bs))) (ap f (eqb-true c b at) ∙ is) ∙ or_left (t w) (list_any t (filter_map f bs)) h
     by_test false at e rest = more (f c) (rest e is h)
 
--- the level of a number
-abbrev level_from : ℕ → Level
-level_from zero = Highest
-level_from (suc zero) = VeryUnderReplicated
-level_from (suc (suc zero)) = UnderReplicated
-level_from (suc (suc (suc zero))) = BadlyDistributed
-level_from _ = NoUsableReplica
-
-level_again : (l : Level) → level_from (level_number l) ≡ l
-level_again Highest = refl
-level_again VeryUnderReplicated = refl
-level_again UnderReplicated = refl
-level_again BadlyDistributed = refl
-level_again NoUsableReplica = refl
-
 module _ (C : Cluster) (H : Holdings) where
   -- what is wished at a level is a wish of that level
   wished_at : (l : Level) (b : ℕ) (w : Wish) → wish_at C H l b ≡ Some w → IsWished C H w
@@ -149,7 +135,7 @@ module _ (C : Cluster) (H : Holdings) where
 
   pub one_wish : (v w : Wish) → IsWished C H v → IsWished C H w → wish_key v ≡ wish_key w → v ≡ w
   one_wish v w is too same =
-      let levels : v.level ≡ w.level = sym (level_again v.level) ∙ ap (λ k. level_from k.0) same ∙ level_again w.level in
+      let levels : v.level ≡ w.level = sym (level_again v.level) ∙ ap (λ k. level_of_number k.0) same ∙ level_again w.level in
       let blocks : v.block ≡ w.block = ap (λ k. k.1) same in
       same_Some v w (sym is ∙ (λ i. wish_at C H (levels i) (blocks i)) ∙ too)
 

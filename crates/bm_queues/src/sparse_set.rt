@@ -12,7 +12,7 @@ use std::marker::Model;
 
 /// A set of slots below the room, whose members can be read by place.
 ///
-/// A contract sees it as `Members`, the members in the order of their places. Only `new` and `grow_to` take memory, eight bytes a slot;
+/// A contract sees it as `Members`, the members in the order of their places. Only `grow_to` takes memory, eight bytes a slot;
 /// every other call takes none and succeeds. Each call is a constant number of steps, but for `grow_to`.
 #[derive(Drop)]
 pub struct SparseSet {

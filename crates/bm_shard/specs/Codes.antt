@@ -1,8 +1,7 @@
 -- Codes, by which proofs tell what is seen of a shard apart.
-use Rattle.std.specs.Prelude.{◌≡◌, ℕ, zero, suc, refl, List, Option}
+use Rattle.std.specs.Prelude.{ℕ, refl, List, Option}
 use Rattle.std.specs.Coded.{Coded, code_by, coded×, coded_ℕ, coded_list, coded_option}
 use Rattle.bm_base.specs.declared.level.Level.{Level}
-use Rattle.bm_base.specs.declared.level.Level.TheVariants.{Highest, VeryUnderReplicated, UnderReplicated, BadlyDistributed, NoUsableReplica}
 use Rattle.bm_base.specs.declared.ids.Part.{Part}
 use Rattle.bm_base.specs.declared.replica.Stamp.{Stamp}
 use Rattle.bm_base.specs.Map.{Map, by_number, code}
@@ -10,21 +9,8 @@ use Rattle.bm_base.specs.State.{Holdings}
 use Rattle.bm_base.specs.Codes.{coded_holdings, coded_stamp}
 use Rattle.bm_base.specs.Entries.{Told}
 use Rattle.bm_base.specs.Levels.{level_number}
+use Rattle.bm_base.specs.LevelNumbers.{level_of_number, level_again}
 use Rattle.bm_shard.specs.Seen.{Seen, Room}
-
-abbrev pub level_of_number : ℕ → Level
-level_of_number zero = Highest
-level_of_number (suc zero) = VeryUnderReplicated
-level_of_number (suc (suc zero)) = UnderReplicated
-level_of_number (suc (suc (suc zero))) = BadlyDistributed
-level_of_number (suc (suc (suc (suc n)))) = NoUsableReplica
-
-pub level_again : (l : Level) → level_of_number (level_number l) ≡ l
-level_again Highest = refl
-level_again VeryUnderReplicated = refl
-level_again UnderReplicated = refl
-level_again BadlyDistributed = refl
-level_again NoUsableReplica = refl
 
 abbrev pub coded_level : Coded Level
 coded_level = code_by ℕ coded_ℕ level_number level_of_number level_again

@@ -54,12 +54,13 @@ impl Shard {
         )
     }
 
-    /// A bound before which about so many blocks wish for copies; `None` where not so many do. Only a guess: nothing but the time of a
-    /// round may depend on it. `Memory`.
-    pub fn likely_bound(&self, most: usize) -> Result<Option<Key>, Refusal>
+    /// A bound before which about so many blocks wish for copies; `None` where not so many do. Only a guess, by about so many samples:
+    /// nothing but the time of a round may depend on it. `Memory`.
+    pub fn likely_bound(&self, most: usize, samples: usize) -> Result<Option<Key>, Refusal>
         ensures refused { IfErr result (λ e. e ≡ Memory) }
     {
-        Ok(likely_bound(self.alloc, &self.blocks, &self.pending, most)?)
+        let bound = likely_bound(self.alloc, &self.blocks, &self.pending, most, samples)?;
+        Ok(bound)
     }
 
     /// Takes the memory that [`Shard::round_commit`] needs. Where the shard stands in some cluster, nothing else that is seen changes. `Memory`.

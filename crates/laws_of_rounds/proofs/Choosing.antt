@@ -3,18 +3,19 @@ use Rattle.std.specs.Prelude.{◌≡◌, ℕ, zero, suc, ◌*◌, ◌<◌, Bool,
 use Rattle.std.specs.Option.{option_map_or}
 use Rattle.std.specs.declared.cmp.Ordering.{Ordering}
 use Rattle.std.proofs.Common.{refl, sym, ap, subst, ◌∙◌, append_assoc, append-nil}
-use Rattle.std.proofs.lemmas.Bool.{eqb-true, ltb-true, leb-false, false≢true}
+use Rattle.std.proofs.lemmas.Bool.{ltb-true, leb-false, false≢true}
 use Rattle.bm_base.specs.declared.level.Level.{Level}
-use Rattle.bm_base.specs.declared.level.Level.TheVariants.{Highest, VeryUnderReplicated, UnderReplicated, BadlyDistributed, NoUsableReplica}
+use Rattle.bm_base.specs.declared.level.Level.TheVariants.{Highest, VeryUnderReplicated, UnderReplicated, BadlyDistributed}
 use Rattle.bm_base.specs.declared.replica.BlockInfo.{BlockInfo}
 use Rattle.bm_base.specs.declared.commands.Transfer.{Transfer}
 use Rattle.bm_base.specs.Map.{get, keys, len}
 use Rattle.bm_base.specs.State.{RoundLimits, Cluster, Holdings}
 use Rattle.bm_base.specs.Lists.{has, least}
 use Rattle.bm_base.specs.Replicas.{sources_of, is_draining}
-use Rattle.bm_base.specs.Levels.{level, level_number, is_at}
+use Rattle.bm_base.specs.Levels.{level, is_at}
 use Rattle.bm_base.specs.Transfers.{WishedCopy, wished_count, wishes_for, wishes, streams_from, stream_limit, source_cmp, least_source_by, least_source, holders_of, barred_for, target_cmp, is_target, least_target_by, least_target, scheduled_to, transfer_for, transfers_from, transfers}
 use Rattle.std.proofs.lemmas.Option.{same_Some}
+use Rattle.bm_base.proofs.AtLevel.{at_level}
 use Rattle.bm_base.proofs.Each.{Each, each_of, each_flat_map}
 use Rattle.bm_base.proofs.Listed.{has_filter, and_first, and_second}
 use Rattle.bm_base.proofs.Surpluses.{least_among}
@@ -51,27 +52,6 @@ module _ {X : Type 0} where
   each_of_after P front [] h = tt
   each_of_after P front (x ∷ xs) h = (h.0, each_of_after P (front ++ x ∷ []) xs h.1)
 
--- Levels by their numbers.
-
-level_again : ℕ → Level
-level_again zero = Highest
-level_again (suc zero) = VeryUnderReplicated
-level_again (suc (suc zero)) = UnderReplicated
-level_again (suc (suc (suc zero))) = BadlyDistributed
-level_again (suc (suc (suc (suc n)))) = NoUsableReplica
-
-level_back : (l : Level) → level_again (level_number l) ≡ l
-unfolding level_again
-level_back Highest = refl
-level_back VeryUnderReplicated = refl
-level_back UnderReplicated = refl
-level_back BadlyDistributed = refl
-level_back NoUsableReplica = refl
-
-pub level_at : (l : Level) (found : Option Level) → is_at l found ≡ true → found ≡ Some l
-level_at l None e = absurd (false≢true e)
-level_at l (Some other) e = ap Some (sym (level_back other) ∙ ap level_again (eqb-true (level_number other) (level_number l) e) ∙ level_back l)
-
 -- A wish is of a block at its level.
 
 abbrev pub IsOfLevel : Cluster → Holdings → WishedCopy → Type 0
@@ -85,7 +65,7 @@ module _ (C : Cluster) (H : Holdings) where
   wished_if : (b : ℕ) (urgency : Level) (t : Bool) (o : Option BlockInfo) → is_at urgency (level C H b) ≡ t
       → Each (IsOfLevel C H) (if t then option_map_or (λ i. replicate (wished_count C H urgency i.repl b) (record { urgency = urgency; block = b })) o [] else [])
   wished_if b urgency true None e = tt
-  wished_if b urgency true (Some i) e = each_replicate (IsOfLevel C H) (wished_count C H urgency i.repl b) (record { urgency = urgency; block = b }) (level_at urgency (level C H b) e)
+  wished_if b urgency true (Some i) e = each_replicate (IsOfLevel C H) (wished_count C H urgency i.repl b) (record { urgency = urgency; block = b }) (at_level urgency (level C H b) e)
   wished_if b urgency false o e = tt
 
   wished_for : (urgency : Level) (b : ℕ) → Each (IsOfLevel C H) (wishes_for C H urgency b)
