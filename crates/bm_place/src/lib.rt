@@ -17,7 +17,7 @@ mod standing;
 mod streams;
 mod target;
 
-pub use excess::excess_of;
+pub use excess::{ExcessRoom, excess_of, fill_excess};
 pub use scheduled::Scheduled;
 pub use source::least_source;
 pub use streams::Streams;
