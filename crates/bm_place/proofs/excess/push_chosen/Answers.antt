@@ -1,6 +1,6 @@
 use Rattle.std.proofs.Common.{◌≡◌, ◌<◌, ◌≤◌, None, Some, ap, sym, subst, ◌∙◌, arith}
 use Rattle.bm_base.specs.Lists.{least}
-use Rattle.bm_base.specs.Excess.{excess_cmp, excess_among}
+use Rattle.bm_base.specs.Excess.{excess_cmp}
 use Rattle.bm_place.specs.Candidates.{CountsRacks}
 use Rattle.bm_place.proofs.Surplus.{all_chosen, one_chosen, enough_chosen}
 use Rattle.bm_place.proofs.excess.push_chosen.Goals as goal
