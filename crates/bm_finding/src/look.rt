@@ -48,8 +48,8 @@ impl Look {
     }
 
     /// Looks at the block of a number with this slot, and tells on which storages its usable replicas stand: a few looks at each of its
-    /// replicas. It takes memory only where more than four are live or drained, or where it has more replicas, or more that are too
-    /// many, than each block before.
+    /// replicas. It takes memory only where more than four are live or drained, where it has more replicas than each block before, or
+    /// where some are too many and a list for them has to hold more than at each block before.
     pub(crate) fn look_at(
         &mut self,
         alloc: Global,
@@ -139,7 +139,7 @@ impl Look {
 }
 
 /// Puts those of these storages of one block's live replicas that are too many in the place of those that are there. It takes memory
-/// only where some are, and then only where more are live or too many than at each block before.
+/// only where some are, and then only where `into` or a list of `room` has to hold more than ever before.
 fn fill_surplus(
     into: &mut Vec<StorageId>,
     room: &mut ExcessRoom,

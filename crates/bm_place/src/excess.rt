@@ -9,10 +9,14 @@ ghost use Rattle.bm_place.specs.Candidates as candidates;
 ghost use Rattle.bm_place.specs.Tables as tables;
 ghost use Rattle.bm_place.specs.Scan as scanned;
 
+use crate::compared::{Holder, push_of_few};
 use crate::scheduled::remaining_on;
 use bm_base::{NumberMap, Rack, Refusal, StorageId};
 use bm_topo::Topology;
 use std::alloc::{AllocError, Global};
+
+/// Of how many live replicas, at most, each is compared with the others; of more the racks are counted.
+const FEW: usize = 8;
 
 /// A replica that may be in excess, in the order of choice but for the storage, of which the greater comes first.
 #[derive(Clone, Copy)]
@@ -26,7 +30,9 @@ pub struct Candidate {
 /// Room for the choice of what is in excess, used again from block to block.
 #[derive(Drop)]
 pub struct ExcessRoom {
-    /// The storages that are left.
+    /// Where few are live: those that are left, looked up.
+    holders: Vec<Holder>,
+    /// Where more are: those that are left.
     left: Vec<StorageId>,
     /// How many of them stand on each rack.
     racks: NumberMap<usize>,
@@ -36,6 +42,7 @@ impl ExcessRoom {
     /// Room for none. Takes no memory.
     pub fn new(alloc: Global) -> ExcessRoom {
         ExcessRoom {
+            holders: Vec::new(alloc),
             left: Vec::new(alloc),
             racks: NumberMap::new(alloc),
         }
@@ -46,9 +53,10 @@ impl ExcessRoom {
 /// after another, first one whose rack holds another of those that are left, then one on whose storage fewer bytes remain,
 /// then the greater storage. An unknown storage has no rack and no remaining bytes; a storage that is named twice leaves as one.
 ///
-/// The racks are counted once. Then each of the choices looks at each replica that is left once, by a look-up of its rack, its
-/// remaining bytes and the count; so (surplus x replicas) looks in all. Where none is too many it takes no memory; else
-/// `Memory` where a growth of its lists is refused.
+/// Each replica is looked up once. Where at most eight are live, each of the choices then compares each replica that is left with the
+/// others, and takes no further look-up. Where more are, the racks are counted, and each of the choices looks at each replica that is
+/// left once, by a look-up of its rack, its remaining bytes and the count; so (surplus x replicas) looks in all. Where none is too many
+/// it takes no memory; else `Memory` where a growth of its lists is refused.
 pub fn excess_of(
     alloc: Global,
     live: &[StorageId],
@@ -69,8 +77,8 @@ pub fn excess_of(
 /// Puts those that [`excess_of`] answers, in the order of choice, in the place of those that are there. `room` may have been used for
 /// any block before; what stood in it does not matter.
 ///
-/// It takes memory only where some are too many, and then only where more are live or too many than at each choice before in the
-/// same `into` and `room`. `Memory` where such a growth is refused; what `into` holds then is not said.
+/// It takes memory only where some are too many, and then only where `into` or a list of `room` has to hold more than ever before.
+/// `Memory` where such a growth is refused; what `into` holds then is not said.
 pub fn fill_excess(
     into: &mut Vec<StorageId>,
     room: &mut ExcessRoom,
@@ -87,6 +95,9 @@ pub fn fill_excess(
     let surplus = live.len().saturating_sub(repl as usize);
     if surplus == 0 {
         return Ok(());
+    }
+    if live.len() <= FEW {
+        return Ok(push_of_few(into, &mut room.holders, live, surplus, topology)?);
     }
     fill_left(&mut room.left, live)?;
     count_racks(&mut room.racks, live, topology)?;
@@ -180,7 +191,7 @@ fn first_excess(
     storage_of(&best)
 }
 
-fn storage_of(candidate: &Option<Candidate>) -> Option<StorageId>
+pub(crate) fn storage_of(candidate: &Option<Candidate>) -> Option<StorageId>
     ensures { result ≡ option_map (λ c. c.storage) candidate.now }
 {
     match candidate {
@@ -204,7 +215,7 @@ fn candidate_at(storage: StorageId, racks: &NumberMap<usize>, topology: &Topolog
 }
 
 /// Whether a candidate comes before the best so far.
-fn is_better(candidate: &Candidate, best: &Option<Candidate>) -> bool
+pub(crate) fn is_better(candidate: &Candidate, best: &Option<Candidate>) -> bool
     ensures { result ≡ scanned.is_better candidates.cmp_candidates best.now candidate.now }
 {
     match best {

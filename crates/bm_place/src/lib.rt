@@ -6,6 +6,7 @@
 //! cluster, and a list names a storage once.
 #![tactic(auto)]
 
+mod compared;
 mod excess;
 mod few;
 mod foremost;
