@@ -12,10 +12,10 @@ ghost use Rattle.bm_finding.specs.Marking.{marked_if};
 ghost use Rattle.bm_finding.specs.Looked.{IsLook, AreUsable, replicas_on, is_to_go, deletes_of};
 ghost use Rattle.std.specs.Prelude.{[]};
 
-use crate::replicas::{Usable, contains, fill_counted, marked_replicas, usable_among};
+use crate::replicas::{Usable, contains, fill_counted, mark_on, usable_among};
 use bm_arena::{Arena, Slot};
 use bm_base::{BlockId, BlockInfo, Delete, Marks, Refusal, ReplicaId, ReplicaMap, StorageId};
-use bm_place::excess_of;
+use bm_place::{ExcessRoom, fill_excess};
 use bm_topo::Topology;
 use std::alloc::{AllocError, Global};
 
@@ -29,6 +29,8 @@ pub(crate) struct Look {
     pub excess: Vec<StorageId>,
     /// All its replicas as the round chooses, those that are too many marked.
     pub replicas: ReplicaMap<Marks>,
+    /// Room for the choice of those that are too many.
+    room: ExcessRoom,
 }
 
 impl Look {
@@ -41,12 +43,13 @@ impl Look {
             info: None,
             excess: Vec::new(alloc),
             replicas: ReplicaMap::new(alloc),
+            room: ExcessRoom::new(alloc),
         }
     }
 
     /// Looks at the block of a number with this slot, and tells on which storages its usable replicas stand: a few looks at each of its
-    /// replicas. It takes memory only where some are too many, where more than four are live or drained, or where it has more replicas
-    /// than each block before.
+    /// replicas. It takes memory only where more than four are live or drained, where it has more replicas than each block before, or
+    /// where some are too many and a list for them has to hold more than at each block before.
     pub(crate) fn look_at(
         &mut self,
         alloc: Global,
@@ -68,7 +71,13 @@ impl Look {
         let usable = usable_among(alloc, topology, self.replicas.entries())?;
         self.id = id;
         self.info = arena.info(slot);
-        self.excess = surplus_of(alloc, topology, self.info, usable.live.as_slice())?;
+        fill_surplus(
+            &mut self.excess,
+            &mut self.room,
+            topology,
+            self.info,
+            usable.live.as_slice(),
+        )?;
         Ok(self.mark(alloc, topology, usable)?)
     }
 
@@ -91,8 +100,7 @@ impl Look {
         if self.excess.as_slice().is_empty() {
             return Ok(usable);
         }
-        let marked = marked_replicas(alloc, &self.replicas, self.excess.as_slice())?;
-        self.replicas = marked;
+        mark_on(&mut self.replicas, self.excess.as_slice());
         usable_among(alloc, topology, self.replicas.entries())
     }
 
@@ -130,21 +138,25 @@ impl Look {
     }
 }
 
-/// Which of these storages of one block's live replicas are too many. It takes memory only where some are.
-fn surplus_of(
-    alloc: Global,
+/// Puts those of these storages of one block's live replicas that are too many in the place of those that are there. It takes memory
+/// only where some are, and then only where `into` or a list of `room` has to hold more than ever before.
+fn fill_surplus(
+    into: &mut Vec<StorageId>,
+    room: &mut ExcessRoom,
     topology: &Topology,
     info: Option<BlockInfo>,
     live: &[StorageId],
-) -> Result<Vec<StorageId>, Refusal>
-    ensures surplus { IfOk result
-        (λ v. v.items ≡ option_map_or
+) -> Result<(), Refusal>
+    ensures surplus { OnOk result (into.new.items ≡ option_map_or
         (λ i. excess.excess_of topology.now.cluster live.now i.repl) info []) }
     ensures refused { IfErr result (λ e. e ≡ Memory) }
 {
     match info {
-        Some(info) => excess_of(alloc, live, info.repl, topology),
-        None => Ok(Vec::new(alloc)),
+        Some(info) => fill_excess(into, room, live, info.repl, topology),
+        None => {
+            into.clear();
+            Ok(())
+        }
     }
 }
 

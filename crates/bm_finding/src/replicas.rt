@@ -46,21 +46,17 @@ fn clear(replicas: &mut ReplicaMap<Marks>)
     replicas.retain(|_| false);
 }
 
-/// The same replicas, those on these storages marked as being in excess.
-pub(crate) fn marked_replicas(
-    alloc: Global,
-    replicas: &ReplicaMap<Marks>,
-    excess: &[StorageId],
-) -> Result<ReplicaMap<Marks>, AllocError>
-    ensures { IfOk result
-        (λ m. m ≡ map_of.revise replicas.now (λ q m. marked_if (has excess.now q.storage) m)) }
+/// Marks those on these storages as being in excess. Takes no memory.
+pub(crate) fn mark_on(replicas: &mut ReplicaMap<Marks>, excess: &[StorageId])
+    ensures { replicas.new
+        ≡ map_of.revise replicas.old (λ q m. marked_if (has excess.now q.storage) m) }
 {
-    let mut entries = Vec::new(alloc);
-    for (replica, marks) in replicas.entries() {
-        let is_excess = contains(excess, replica.storage);
-        entries.push((*replica, marked_if(is_excess, *marks)))?;
+    for at in 0..replicas.len() {
+        if let Some((replica, marks)) = replicas.entry_at(at) {
+            let is_excess = contains(excess, replica.storage);
+            replicas.set_at(at, marked_if(is_excess, marks));
+        }
     }
-    Ok(ReplicaMap::from_sorted(entries))
 }
 
 /// On which storages live replicas stand, and on which drained ones, by one look at each.

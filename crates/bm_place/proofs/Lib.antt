@@ -17,5 +17,6 @@ pub mod Counting
 pub mod Entering
 pub mod Sending
 pub mod Surplus
+pub mod Comparing
 pub mod Taking
 pub mod Telling

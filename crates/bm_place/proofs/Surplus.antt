@@ -30,43 +30,53 @@ excess_cmp_total C left = then_total (on_total (λ s. cond (has_rack_mate C left
 
 -- Candidates.
 
-mate_as : (C : Cluster) (left : List ℕ) (counts : Map by_number ℕ) → CountsRacks C left counts → (s : ℕ) → option_map_or (λ r. nat_lt 1 (count_at counts r)) (rack_of C s) false ≡ has_rack_mate C left s
+-- a storage as a candidate, where so many are counted on each rack
+abbrev candidate_by : Cluster → (ℕ → ℕ) → ℕ → Candidate
+candidate_by C count s = record { class = cond (option_map_or (λ r. nat_lt 1 (count r)) (rack_of C s) false) 0 1; remaining = remaining C s; storage = s }
+
+mate_as : (C : Cluster) (left : List ℕ) (count : ℕ → ℕ) → ((r : ℕ) → count r ≡ count_by (is_on C r) left) → (s : ℕ) → option_map_or (λ r. nat_lt 1 (count r)) (rack_of C s) false ≡ has_rack_mate C left s
 unfolding has_rack_mate share_rack
-mate_as C left counts counted s = by (rack_of C s)
+mate_as C left count counted s = by (rack_of C s)
   where
-    by : (o : Option ℕ) → option_map_or (λ r. nat_lt 1 (count_at counts r)) o false ≡ nat_lt 1 (count_by (λ t. option_map_or (λ r. option_map_or (λ q. q == r) (rack_of C t) false) o false) left)
+    by : (o : Option ℕ) → option_map_or (λ r. nat_lt 1 (count r)) o false ≡ nat_lt 1 (count_by (λ t. option_map_or (λ r. option_map_or (λ q. q == r) (rack_of C t) false) o false) left)
     by None = sym (ap (λ n. nat_lt 1 n) (count_none left))
     by (Some r) = ap (λ n. nat_lt 1 n) (counted r)
 
-ordered_as : (C : Cluster) (left : List ℕ) (counts : Map by_number ℕ) → CountsRacks C left counts → (s t : ℕ) → cmp_candidates (candidate_at C counts s) (candidate_at C counts t) ≡ excess_cmp C left s t
+ordered_as : (C : Cluster) (left : List ℕ) (count : ℕ → ℕ) → ((r : ℕ) → count r ≡ count_by (is_on C r) left) → (s t : ℕ) → cmp_candidates (candidate_by C count s) (candidate_by C count t) ≡ excess_cmp C left s t
 unfolding excess_cmp
-ordered_as C left counts counted s t =
-    λ i. ordering_then (nat_cmp (cond (mate_as C left counts counted s i) 0 1) (cond (mate_as C left counts counted t i) 0 1)) (ordering_then (nat_cmp (remaining C s) (remaining C t)) (nat_cmp t s))
+ordered_as C left count counted s t =
+    λ i. ordering_then (nat_cmp (cond (mate_as C left count counted s i) 0 1) (cond (mate_as C left count counted t i) 0 1)) (ordering_then (nat_cmp (remaining C s) (remaining C t)) (nat_cmp t s))
 
 all_pass : {X : Type 0} (xs : List X) → filter (λ _. true) xs ≡ xs
 all_pass [] = refl
 all_pass (x ∷ xs) = ap (λ ys. x ∷ ys) (all_pass xs)
 
-storage_again : (C : Cluster) (counts : Map by_number ℕ) (o : Option ℕ) → option_map (λ (c : Candidate). c.storage) (option_map (candidate_at C counts) o) ≡ o
-storage_again C counts None = refl
-storage_again C counts (Some s) = refl
+storage_again : (C : Cluster) (count : ℕ → ℕ) (o : Option ℕ) → option_map (λ (c : Candidate). c.storage) (option_map (candidate_by C count) o) ≡ o
+storage_again C count None = refl
+storage_again C count (Some s) = refl
 
--- a scan that has nothing left has found what is in excess first
+-- a scan of all has found what is in excess first
+pub found_by : (C : Cluster) (left : List ℕ) (count : ℕ → ℕ) (best : Option Candidate) → ((r : ℕ) → count r ≡ count_by (is_on C r) left)
+    → best ≡ scan cmp_candidates (λ _. true) None (map (candidate_by C count) left)
+    → option_map (λ (c : Candidate). c.storage) best ≡ least (excess_cmp C left) left
+found_by C left count best counted is =
+    ap (option_map (λ (c : Candidate). c.storage)) (
+    is
+    ∙ scan-found (candidate_by C count) cmp_candidates (λ _. true) (excess_cmp C left) (λ _. true) (excess_cmp_total C left) (ordered_as C left count counted) (λ _. refl) left
+    )
+    ∙ storage_again C count (least (excess_cmp C left) (filter (λ _. true) left))
+    ∙ ap (least (excess_cmp C left)) (all_pass left)
+
+-- one that has nothing left, too
 pub excess_found : (C : Cluster) (left : List ℕ) (counts : Map by_number ℕ) (best : Option Candidate) (i : ℕ) → CountsRacks C left counts → length left ≤ i
     → scan cmp_candidates (λ _. true) best (map (candidate_at C counts) (drop i left)) ≡ scan cmp_candidates (λ _. true) None (map (candidate_at C counts) left)
     → option_map (λ (c : Candidate). c.storage) best ≡ least (excess_cmp C left) left
 excess_found C left counts best i counted all inv =
-    ap (option_map (λ (c : Candidate). c.storage)) (
-    sym (at_drop_all (λ xs. scan cmp_candidates (λ _. true) best (map (candidate_at C counts) xs)) left i all)
-    ∙ inv
-    ∙ scan-found (candidate_at C counts) cmp_candidates (λ _. true) (excess_cmp C left) (λ _. true) (excess_cmp_total C left) (ordered_as C left counts counted) (λ _. refl) left
-    )
-    ∙ storage_again C counts (least (excess_cmp C left) (filter (λ _. true) left))
-    ∙ ap (least (excess_cmp C left)) (all_pass left)
+    found_by C left (count_at counts) best counted (sym (at_drop_all (λ xs. scan cmp_candidates (λ _. true) best (map (candidate_at C counts) xs)) left i all) ∙ inv)
 
 -- Counting.
 
-count_cons : {X : Type 0} (p : X → Bool) (x : X) (xs : List X) → count_by p (x ∷ xs) ≡ cond (p x) 1 0 + count_by p xs
+pub count_cons : {X : Type 0} (p : X → Bool) (x : X) (xs : List X) → count_by p (x ∷ xs) ≡ cond (p x) 1 0 + count_by p xs
 count_cons p x xs = sum_by-cons (λ y. cond (p y) 1 0) x xs
 
 -- the count of those that are left, of which the first is known

@@ -9,6 +9,7 @@ pub mod Scan
 pub mod Few
 pub mod Standing
 pub mod Candidates
+pub mod Compared
 pub mod Foremost
 pub mod Seats
 pub mod Spans

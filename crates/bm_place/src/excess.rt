@@ -1,5 +1,5 @@
 // Which replicas of a block are in excess.
-ghost use Rattle.std.specs.Prelude.{◌≡◌, ◌==◌, ◌-◌, ◌+◌, not, filter, ◌≤◌, length, option_map, IsOk, IfOk, IfErr};
+ghost use Rattle.std.specs.Prelude.{◌≡◌, ◌==◌, ◌-◌, ◌++◌, not, filter, ◌≤◌, length, option_map, IsOk, IfOk, IfErr, OnOk};
 ghost use Rattle.bm_base.specs.declared.refusal.Refusal.TheVariants.{Memory};
 ghost use Rattle.bm_base.specs.Excess as excess;
 ghost use Rattle.bm_base.specs.Lists.{least};
@@ -9,10 +9,14 @@ ghost use Rattle.bm_place.specs.Candidates as candidates;
 ghost use Rattle.bm_place.specs.Tables as tables;
 ghost use Rattle.bm_place.specs.Scan as scanned;
 
+use crate::compared::{Holder, push_of_few};
 use crate::scheduled::remaining_on;
 use bm_base::{NumberMap, Rack, Refusal, StorageId};
 use bm_topo::Topology;
 use std::alloc::{AllocError, Global};
+
+/// Of how many live replicas, at most, each is compared with the others; of more the racks are counted.
+const FEW: usize = 8;
 
 /// A replica that may be in excess, in the order of choice but for the storage, of which the greater comes first.
 #[derive(Clone, Copy)]
@@ -23,13 +27,36 @@ pub struct Candidate {
     pub storage: StorageId,
 }
 
+/// Room for the choice of what is in excess, used again from block to block.
+#[derive(Drop)]
+pub struct ExcessRoom {
+    /// Where few are live: those that are left, looked up.
+    holders: Vec<Holder>,
+    /// Where more are: those that are left.
+    left: Vec<StorageId>,
+    /// How many of them stand on each rack.
+    racks: NumberMap<usize>,
+}
+
+impl ExcessRoom {
+    /// Room for none. Takes no memory.
+    pub fn new(alloc: Global) -> ExcessRoom {
+        ExcessRoom {
+            holders: Vec::new(alloc),
+            left: Vec::new(alloc),
+            racks: NumberMap::new(alloc),
+        }
+    }
+}
+
 /// Which of a block's live replicas, told by their storages, are too many where `repl` are wanted, in the order of choice. One
 /// after another, first one whose rack holds another of those that are left, then one on whose storage fewer bytes remain,
 /// then the greater storage. An unknown storage has no rack and no remaining bytes; a storage that is named twice leaves as one.
 ///
-/// The racks are counted once. Then each of the choices looks at each replica that is left once, by a look-up of its rack, its
-/// remaining bytes and the count; so (surplus x replicas) looks in all. Where none is too many it takes no memory; else
-/// `Memory` where a growth of its lists is refused.
+/// Each replica is looked up once. Where at most eight are live, each of the choices then compares each replica that is left with the
+/// others, and takes no further look-up. Where more are, the racks are counted, and each of the choices looks at each replica that is
+/// left once, by a look-up of its rack, its remaining bytes and the count; so (surplus x replicas) looks in all. Where none is too many
+/// it takes no memory; else `Memory` where a growth of its lists is refused.
 pub fn excess_of(
     alloc: Global,
     live: &[StorageId],
@@ -41,40 +68,98 @@ pub fn excess_of(
     ensures enough { length live.now ≤ repl → IsOk result }
     ensures refused { IfErr result (λ e. e ≡ Memory) }
 {
-    let surplus = live.len().saturating_sub(repl as usize);
     let mut chosen = Vec::new(alloc);
-    if surplus == 0 {
-        return Ok(chosen);
-    }
-    let mut left = Vec::from_slice(alloc, live)?;
-    let mut racks = count_racks(alloc, live, topology)?;
-    for _round in 0..surplus {
-        let Some(next) = first_excess(&left, &racks, topology) else {
-            return Ok(chosen);
-        };
-        take_out(&mut left, &mut racks, next, topology);
-        chosen.push(next)?;
-    }
+    let mut room = ExcessRoom::new(alloc);
+    fill_excess(&mut chosen, &mut room, live, repl, topology)?;
     Ok(chosen)
 }
 
-/// How many of these storages stand on each rack.
+/// Puts those that [`excess_of`] answers, in the order of choice, in the place of those that are there. `room` may have been used for
+/// any block before; what stood in it does not matter.
+///
+/// It takes memory only where some are too many, and then only where `into` or a list of `room` has to hold more than ever before.
+/// `Memory` where such a growth is refused; what `into` holds then is not said.
+pub fn fill_excess(
+    into: &mut Vec<StorageId>,
+    room: &mut ExcessRoom,
+    live: &[StorageId],
+    repl: u32,
+    topology: &Topology,
+) -> Result<(), Refusal>
+    ensures chosen { OnOk result
+        (into.new.items ≡ excess.excess_of topology.now.cluster live.now repl) }
+    ensures enough { length live.now ≤ repl → IsOk result }
+    ensures refused { IfErr result (λ e. e ≡ Memory) }
+{
+    into.clear();
+    let surplus = live.len().saturating_sub(repl as usize);
+    if surplus == 0 {
+        return Ok(());
+    }
+    if live.len() <= FEW {
+        return Ok(push_of_few(into, &mut room.holders, live, surplus, topology)?);
+    }
+    fill_left(&mut room.left, live)?;
+    count_racks(&mut room.racks, live, topology)?;
+    Ok(push_chosen(into, &mut room.left, &mut room.racks, surplus, topology)?)
+}
+
+/// Puts these storages in the place of those that are there.
+fn fill_left(left: &mut Vec<StorageId>, storages: &[StorageId]) -> Result<(), AllocError>
+    ensures { OnOk result (left.new.items ≡ storages.now) }
+{
+    left.clear();
+    left.extend_from_slice(storages)
+}
+
+/// Puts so many of those that are left, one after another, each the one that is in excess before all others, behind those that are
+/// there.
+fn push_chosen(
+    into: &mut Vec<StorageId>,
+    left: &mut Vec<StorageId>,
+    racks: &mut NumberMap<usize>,
+    surplus: usize,
+    topology: &Topology,
+) -> Result<(), AllocError>
+    requires { candidates.CountsRacks topology.now.cluster left.old.items racks.old.map }
+    ensures { OnOk result (into.new.items ≡ into.old.items
+        ++ excess.excess_among topology.now.cluster surplus left.old.items) }
+{
+    for _round in 0..surplus {
+        let Some(next) = first_excess(left, racks, topology) else {
+            return Ok(());
+        };
+        take_out(left, racks, next, topology);
+        into.push(next)?;
+    }
+    Ok(())
+}
+
+/// How many of these storages stand on each rack, in the place of what was counted before.
 fn count_racks(
-    alloc: Global,
+    counts: &mut NumberMap<usize>,
     storages: &[StorageId],
     topology: &Topology,
-) -> Result<NumberMap<usize>, AllocError>
-    ensures { IfOk result (λ m. candidates.CountsRacks topology.now.cluster storages.now m.map) }
+) -> Result<(), AllocError>
+    ensures { OnOk result
+        (candidates.CountsRacks topology.now.cluster storages.now counts.new.map) }
 {
-    let mut counts = NumberMap::new(alloc);
+    clear(counts);
     for storage in storages {
         let Some(rack) = topology.rack_of(*storage) else {
             continue;
         };
-        let count = count_on(&counts, rack);
+        let count = count_on(counts, rack);
         counts.insert(u64::from(rack.0), count + 1)?;
     }
-    Ok(counts)
+    Ok(())
+}
+
+/// Takes all counts out, and keeps the memory.
+fn clear(counts: &mut NumberMap<usize>)
+    ensures { counts.new.map ≡ map.empty }
+{
+    counts.retain(|_| false);
 }
 
 #[tactic(auto, unfolding(crate::specs::Tables::count_at))]
@@ -106,7 +191,7 @@ fn first_excess(
     storage_of(&best)
 }
 
-fn storage_of(candidate: &Option<Candidate>) -> Option<StorageId>
+pub(crate) fn storage_of(candidate: &Option<Candidate>) -> Option<StorageId>
     ensures { result ≡ option_map (λ c. c.storage) candidate.now }
 {
     match candidate {
@@ -130,7 +215,7 @@ fn candidate_at(storage: StorageId, racks: &NumberMap<usize>, topology: &Topolog
 }
 
 /// Whether a candidate comes before the best so far.
-fn is_better(candidate: &Candidate, best: &Option<Candidate>) -> bool
+pub(crate) fn is_better(candidate: &Candidate, best: &Option<Candidate>) -> bool
     ensures { result ≡ scanned.is_better candidates.cmp_candidates best.now candidate.now }
 {
     match best {

@@ -6,6 +6,7 @@
 //! cluster, and a list names a storage once.
 #![tactic(auto)]
 
+mod compared;
 mod excess;
 mod few;
 mod foremost;
@@ -17,7 +18,7 @@ mod standing;
 mod streams;
 mod target;
 
-pub use excess::excess_of;
+pub use excess::{ExcessRoom, excess_of, fill_excess};
 pub use scheduled::Scheduled;
 pub use source::least_source;
 pub use streams::Streams;

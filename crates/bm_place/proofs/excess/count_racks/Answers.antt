@@ -8,7 +8,7 @@ use Rattle.bm_place.proofs.Surplus.{counted_next, skipped_next, count_fits}
 use Rattle.bm_place.proofs.excess.count_racks.Goals as goal
 
 pub loop-storage-init : goal.loop-storage-init
-loop-storage-init c r = let none = ap (λ m. count_at m r) c.new-counts.ensures.empty ∙ count-empty r in omega (arith, none)
+loop-storage-init c r = let none = ap (λ m. count_at m r) c.clear.ensures ∙ count-empty r in omega (arith, none)
 
 pub loop-storage-preserved-in_default : goal.loop-storage-preserved-in_default
 loop-storage-preserved-in_default c =

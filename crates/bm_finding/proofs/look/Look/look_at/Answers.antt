@@ -15,8 +15,8 @@ pub returns-clause-look : goal.returns-clause-look
 returns-clause-look c pend r pending =
     let C = c.args.topology.now.cluster in
     let m = c.fill_counted.new.into in
-    let many = c.in_ok-self.field-0 in
-    let l : Look = record { id = c.args.id; info = c.info-self.result; excess = many; replicas = revise m (λ q x. marked_if (has many.items q.storage) x) } in
+    let many = c.fill_surplus.new.into in
+    let l : Look = record { id = c.args.id; info = c.info-self.result; excess = many; replicas = revise m (λ q x. marked_if (has many.items q.storage) x); room = c.fill_surplus.new.room } in
     subst (λ k. IsLook C pend r (holdings_with c.args.arena.now pending) k) (sym c.in_ok-mark.ensures.marked)
     (look_is c.args.arena.now C l c.args.slot m c.lawful.ensures c.requires c.in_ok-fill_counted.ensures c.info-self.ensures
-    (c.in_ok-self.ensures.surplus ∙ (λ j. option_map_or (λ i. excess_of C ((c.as_slice.ensures ∙ c.in_ok-usable.ensures.live ∙ ap (storages_in (is_live_on C)) c.entries.ensures) j) i.repl) c.info-self.result [])) refl pend r pending)
+    (c.in_ok-fill_surplus.ensures.surplus ∙ (λ j. option_map_or (λ i. excess_of C ((c.as_slice.ensures ∙ c.in_ok-usable.ensures.live ∙ ap (storages_in (is_live_on C)) c.entries.ensures) j) i.repl) c.info-self.result [])) refl pend r pending)

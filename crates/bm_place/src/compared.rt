@@ -1,0 +1,114 @@
+// What is in excess where few replicas are live: each is looked up once, and then they are compared with one another.
+ghost use Rattle.std.specs.Prelude.{◌≡◌, ◌++◌, false, nat_lt, ℕ, List, map, OnOk};
+ghost use Rattle.std.specs.Option.{option_map_or};
+ghost use Rattle.bm_base.specs.Excess as excess;
+ghost use Rattle.bm_base.specs.Lists.{least};
+ghost use Rattle.bm_base.specs.State.{Cluster};
+ghost use Rattle.bm_place.specs.Compared as compared;
+
+use crate::excess::{Candidate, is_better, storage_of};
+use crate::scheduled::remaining_on;
+use bm_base::{Rack, StorageId};
+use bm_topo::Topology;
+use std::alloc::AllocError;
+
+/// A storage with a live replica, looked up.
+#[derive(Clone, Copy)]
+pub struct Holder {
+    pub storage: StorageId,
+    pub rack: Option<Rack>,
+    pub remaining: u64,
+}
+
+/// Puts so many of these storages, one after another, each of those that are left the one that is in excess before all others, behind
+/// those that are there. `holders` is room, of which what stood in it does not matter.
+pub(crate) fn push_of_few(
+    into: &mut Vec<StorageId>,
+    holders: &mut Vec<Holder>,
+    live: &[StorageId],
+    surplus: usize,
+    topology: &Topology,
+) -> Result<(), AllocError>
+    ensures { OnOk result (into.new.items ≡ into.old.items
+        ++ excess.excess_among topology.now.cluster surplus live.now) }
+{
+    fill_holders(holders, live, topology)?;
+    for _round in 0..surplus {
+        let Some(next) = first_among(holders) else {
+            return Ok(());
+        };
+        holders.retain(|holder| holder.storage != next);
+        into.push(next)?;
+    }
+    Ok(())
+}
+
+/// Puts these storages, looked up, in the place of those that are there.
+fn fill_holders(
+    holders: &mut Vec<Holder>,
+    live: &[StorageId],
+    topology: &Topology,
+) -> Result<(), AllocError>
+    ensures { OnOk result
+        (holders.new.items ≡ map (compared.holder_at topology.now.cluster) live.now) }
+{
+    holders.clear();
+    for storage in live {
+        let rack = topology.rack_of(*storage);
+        let remaining = remaining_on(topology, *storage);
+        holders.push(Holder {
+            storage: *storage,
+            rack,
+            remaining,
+        })?;
+    }
+    Ok(())
+}
+
+/// The storage that is in excess before all others.
+fn first_among(holders: &[Holder]) -> Option<StorageId>
+    ensures { (C : Cluster) (left : List ℕ) → holders.now ≡ map (compared.holder_at C) left
+        → result ≡ least (excess.excess_cmp C left) left }
+{
+    let mut best = None;
+    for holder in holders {
+        let candidate = candidate_among(holders, holder);
+        if is_better(&candidate, &best) {
+            best = Some(candidate);
+        }
+    }
+    storage_of(&best)
+}
+
+fn candidate_among(holders: &[Holder], holder: &Holder) -> Candidate
+    ensures { result ≡ compared.candidate_among holders.now holder.now }
+{
+    Candidate {
+        class: if has_two(holders, holder.rack) { 0 } else { 1 },
+        remaining: holder.remaining,
+        storage: holder.storage,
+    }
+}
+
+/// Whether two or more of these stand on this rack; not on none.
+fn has_two(holders: &[Holder], rack: Option<Rack>) -> bool
+    ensures { result ≡ option_map_or
+        (λ r. nat_lt 1 (compared.count_among holders.now r)) rack false }
+{
+    match rack {
+        Some(rack) => count_among(holders, rack) > 1,
+        None => false,
+    }
+}
+
+fn count_among(holders: &[Holder], rack: Rack) -> usize
+    ensures { result ≡ compared.count_among holders.now rack }
+{
+    let mut count = 0;
+    for holder in holders {
+        if holder.rack == Some(rack) {
+            count += 1;
+        }
+    }
+    count
+}
