@@ -1,5 +1,5 @@
 // On clusters of a few nodes the choices are those worked out by hand: a list of cases for each question.
-use crate::{Scheduled, Streams, excess_of, least_source, least_target};
+use crate::{ExcessRoom, Scheduled, Streams, excess_of, fill_excess, least_source, least_target};
 use bm_base::{Event, Items, Level, NodeId, Rack, Remaining, StorageId};
 use bm_topo::Topology;
 use std::alloc::Global;
@@ -171,26 +171,29 @@ static EXCESSES: [Excess<'static>; 6] = [
     },
 ];
 
-fn excess_on(
+/// Chosen in memory of its own, and in room that the cases before have used.
+fn check_excess(
     rt: &impl Abort,
     alloc: Global,
-    topology: &Topology,
     case: &Excess<'_>,
-) -> Vec<StorageId> {
-    let live = named(rt, alloc, case.live);
-    excess_of(alloc, live.as_slice(), case.repl, topology).expect(rt, "memory")
-}
-
-fn check_excess(rt: &impl Abort, alloc: Global, case: &Excess<'_>) {
+    chosen: &mut Vec<StorageId>,
+    room: &mut ExcessRoom,
+) {
     let topology = cluster(rt, alloc, &case.free, &[]);
-    let chosen = excess_on(rt, alloc, &topology, case);
-    assert!(rt; chosen.as_slice() == named(rt, alloc, case.chosen).as_slice());
+    let live = named(rt, alloc, case.live);
+    let wanted = named(rt, alloc, case.chosen);
+    let alone = excess_of(alloc, live.as_slice(), case.repl, &topology).expect(rt, "memory");
+    assert!(rt; alone.as_slice() == wanted.as_slice());
+    fill_excess(chosen, room, live.as_slice(), case.repl, &topology).expect(rt, "memory");
+    assert!(rt; chosen.as_slice() == wanted.as_slice());
 }
 
 #[test]
 fn replicas_in_excess(rt: HostRuntime) {
+    let mut chosen = Vec::new(rt.alloc());
+    let mut room = ExcessRoom::new(rt.alloc());
     for case in &EXCESSES {
-        check_excess(&rt, rt.alloc(), case);
+        check_excess(&rt, rt.alloc(), case, &mut chosen, &mut room);
     }
 }
 
