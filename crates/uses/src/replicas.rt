@@ -1,5 +1,5 @@
 // Replicas put into an arena.
-ghost use Rattle.std.specs.Prelude.{◌≡◌, IfErr, OnOk, OnErr};
+ghost use Rattle.std.specs.Prelude.{◌≡◌, ℕ, IfErr, OnOk, OnErr};
 ghost use Rattle.bm_base.specs.declared.refusal.Refusal.TheVariants.{Memory};
 ghost use Rattle.bm_base.specs.Map.{insert};
 ghost use Rattle.bm_base.specs.State.{replica_at};
@@ -21,6 +21,7 @@ pub fn put_replica(
     ensures replicas { OnOk result (replicas_of arena.new
         ≡ insert (replicas_of arena.old) (replica_at id storage) marks) }
     ensures blocks { blocks_of arena.new ≡ blocks_of arena.old }
+    ensures heads { (other : ℕ) → HasHead arena.old other → HasHead arena.new other }
     ensures lawful { IsLawful arena.new }
     ensures refused { IfErr result (λ e. e ≡ Memory) }
     ensures unchanged { OnErr result (arena.new ≡ arena.old) }
