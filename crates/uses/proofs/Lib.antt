@@ -2,3 +2,5 @@
 mod Refused
 mod Stops
 mod Told
+mod Members
+mod Holdings

@@ -1,5 +1,5 @@
 -- Where changes stop.
-use Rattle.std.proofs.Common.{◌≡◌, ◌⊎◌, ◌<◌, ◌+◌, ◌∙◌, ℕ, Bool, true, false, List, [], ◌∷◌, Option, Some, None, fold, take, drop, get_or, length, sym, ap, subst, refl, inl, inr}
+use Rattle.std.proofs.Common.{◌≡◌, ◌⊎◌, ◌<◌, ◌+◌, ◌∙◌, ℕ, Bool, true, false, List, Option, Some, None, fold, take, get_or, length, sym, ap, subst, refl, inl, inr}
 use Rattle.std.proofs.lemmas.List.{drop_more}
 use Rattle.std.proofs.lemmas.List.Sums.{fold_more}
 use Rattle.bm_base.specs.declared.event.Event.{Event}

@@ -11,26 +11,47 @@
 //! | changes, and a reader beside them in a thread of its own | `apply_beside_reader` (`beside.rt`) | `bm_view/CALLING.md` |
 //! | to read and write the tool's lines | `tidied` (`lines.rt`) | `bm_lines/CALLING.md` |
 //! | to look on at the work of a call | `apply_counted` (`counting.rt`) | `bm_crew/CALLING.md` |
+//! | which storages of a list still serve | `serving` (`storages.rt`) | `bm_topo/CALLING.md` |
+//! | from where and to where one more copy of a block is made | `first_copy` (`copying.rt`) | `bm_place/CALLING.md` |
+//! | what every DataNode is told, of what the shards found for a round | `commands_of_parts` (`commanding.rt`) | `bm_round/CALLING.md` |
+//! | a replica put into an arena | `put_replica` (`replicas.rt`) | `bm_arena/CALLING.md` |
+//! | a full report taken, or given up | `take_report` (`reporting.rt`) | `bm_report/CALLING.md` |
+//! | slots that are to be looked at, each once | `noted`, `in_order` (`slots.rt`) | `bm_queues/CALLING.md` |
+//! | an event on the cluster and on one shard: made on both, or on neither | `take_event` (`one_shard.rt`) | `bm_shard/CALLING.md` |
 #![tactic(auto)]
 
 mod beside;
+mod commanding;
+mod copying;
 mod counting;
 mod events;
 mod lines;
 mod looking;
 mod memory;
 mod name_node;
+mod one_shard;
 mod printing;
+mod replicas;
+mod reporting;
+mod slots;
+mod storages;
 #[cfg(test)]
 mod tests;
 mod what_if;
 
 pub use beside::{Seen, SideBySide, apply_beside_reader};
+pub use commanding::commands_of_parts;
+pub use copying::first_copy;
 pub use counting::{Pieces, apply_counted};
 pub use events::arrival;
 pub use lines::tidied;
 pub use looking::publish_and_look;
 pub use memory::apply_or_free;
 pub use name_node::{for_node, turn};
+pub use one_shard::take_event;
 pub use printing::replica_lines;
+pub use replicas::put_replica;
+pub use reporting::take_report;
+pub use slots::{in_order, noted};
+pub use storages::serving;
 pub use what_if::{WhatIf, missing_if_dead, replayed};

@@ -1,4 +1,4 @@
-use Rattle.std.proofs.Common.{◌≡◌, ◌≤◌, ◌∙◌, All, ap, subst}
+use Rattle.std.proofs.Common.{◌≤◌, ◌∙◌, All, ap, subst}
 use Rattle.bm_base.specs.Versions.{Version}
 use Rattle.bm_view.specs.History.{last_of}
 use Rattle.bm_view.specs.Holders.{Listed}

@@ -1,0 +1,50 @@
+// One more copy of a block: from where, and to where.
+ghost use Rattle.std.specs.Prelude.{◌≡◌, ◌≤◌, ℕ, true, false, [], Some, IfOk, IfErr, IfSome, option_map, option_and_then};
+ghost use Rattle.bm_base.specs.declared.commands.Transfer.{Transfer};
+ghost use Rattle.bm_base.specs.declared.refusal.Refusal.TheVariants.{Memory};
+ghost use Rattle.bm_base.specs.Excess.{remaining};
+ghost use Rattle.bm_base.specs.Lists.{has};
+ghost use Rattle.bm_base.specs.Replicas.{node_of, has_storage};
+ghost use Rattle.bm_base.specs.Transfers.{least_source, least_target};
+
+use bm_base::{BlockId, Level, Refusal, Stamp, StorageId, Transfer};
+use bm_place::{Scheduled, Streams, least_source, least_target};
+use bm_topo::Topology;
+use std::alloc::Global;
+
+/// The first copy of a round for a block with these live replicas, at this level; `None` where there is no source or no target.
+pub fn first_copy(
+    alloc: Global,
+    topology: &Topology,
+    live: &[StorageId],
+    level: Level,
+    block: BlockId,
+    stamp: Stamp,
+) -> Result<Option<Transfer>, Refusal>
+    ensures copy { IfOk result (λ copy. copy ≡ option_and_then
+        (λ source. option_map
+        (λ target. record { block = block; stamp = stamp; source = source; target = target })
+        (least_target topology.now.cluster [] level live.now live.now stamp.len))
+        (least_source topology.now.cluster [] level live.now)) }
+    ensures room { IfOk result (λ copy. IfSome copy
+        (λ t. stamp.len ≤ remaining topology.now.cluster t.target)) }
+    ensures node { IfOk result (λ copy. IfSome copy (λ t. (holder node : ℕ)
+        → has live.now holder ≡ true → node_of topology.now.cluster holder ≡ Some node
+        → has_storage topology.now.cluster node t.target ≡ false)) }
+    ensures refused { IfErr result (λ e. e ≡ Memory) }
+{
+    let streams = Streams::new(alloc, topology)?;
+    let scheduled = Scheduled::new(alloc, topology)?;
+    let Some(source) = least_source(live, level, topology, &streams) else {
+        return Ok(None);
+    };
+    let Some(target) = least_target(live, live, stamp.len, level, topology, &scheduled) else {
+        return Ok(None);
+    };
+    Ok(Some(Transfer {
+        block,
+        stamp,
+        source,
+        target,
+    }))
+}

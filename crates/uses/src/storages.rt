@@ -1,0 +1,27 @@
+// Storages that still serve: known ones, on nodes that do not drain.
+ghost use Rattle.std.specs.Prelude.{◌≡◌, ◌&&◌, not, filter, IfOk};
+ghost use Rattle.bm_base.specs.Refusals.{knows_storage};
+ghost use Rattle.bm_base.specs.Replicas.{is_draining};
+
+use bm_base::StorageId;
+use bm_topo::Topology;
+use std::alloc::{AllocError, Global};
+
+/// Those of a list of storages that are known and stand on nodes that do not drain, in the order of the list.
+pub fn serving(
+    alloc: Global,
+    topology: &Topology,
+    storages: &[StorageId],
+) -> Result<Vec<StorageId>, AllocError>
+    ensures { IfOk result (λ found. found.items ≡ filter
+        (λ s. knows_storage topology.now.cluster s && not (is_draining topology.now.cluster s))
+        storages.now) }
+{
+    let mut found = Vec::new(alloc);
+    for storage in storages {
+        if topology.knows_storage(*storage) && !topology.is_draining(*storage) {
+            found.push(*storage)?;
+        }
+    }
+    Ok(found)
+}
