@@ -7,7 +7,6 @@ ghost use Rattle.bm_base.specs.State.{Cluster};
 ghost use Rattle.bm_place.specs.Compared as compared;
 
 use crate::excess::{Candidate, is_better, storage_of};
-use crate::scheduled::remaining_on;
 use bm_base::{Rack, StorageId};
 use bm_topo::Topology;
 use std::alloc::AllocError;
@@ -54,12 +53,11 @@ fn fill_holders(
 {
     holders.clear();
     for storage in live {
-        let rack = topology.rack_of(*storage);
-        let remaining = remaining_on(topology, *storage);
+        let location = topology.location_of(*storage);
         holders.push(Holder {
             storage: *storage,
-            rack,
-            remaining,
+            rack: location.rack,
+            remaining: location.remaining,
         })?;
     }
     Ok(())

@@ -10,7 +10,6 @@ ghost use Rattle.bm_place.specs.Tables as tables;
 ghost use Rattle.bm_place.specs.Scan as scanned;
 
 use crate::compared::{Holder, push_of_few};
-use crate::scheduled::remaining_on;
 use bm_base::{NumberMap, Rack, Refusal, StorageId};
 use bm_topo::Topology;
 use std::alloc::{AllocError, Global};
@@ -203,13 +202,14 @@ pub(crate) fn storage_of(candidate: &Option<Candidate>) -> Option<StorageId>
 fn candidate_at(storage: StorageId, racks: &NumberMap<usize>, topology: &Topology) -> Candidate
     ensures { result ≡ candidates.candidate_at topology.now.cluster racks.now.map storage }
 {
-    let class = match topology.rack_of(storage) {
+    let location = topology.location_of(storage);
+    let class = match location.rack {
         Some(rack) => { if count_on(racks, rack) > 1 { 0 } else { 1 } }
         None => 1,
     };
     Candidate {
         class,
-        remaining: remaining_on(topology, storage),
+        remaining: location.remaining,
         storage,
     }
 }

@@ -5,7 +5,6 @@ ghost use Rattle.bm_base.specs.declared.refusal.Refusal.TheVariants.{Memory};
 ghost use Rattle.bm_base.specs.declared.commands.Transfer.{Transfer};
 ghost use Rattle.bm_base.specs.State.{Cluster};
 ghost use Rattle.bm_base.specs.Map as map;
-ghost use Rattle.bm_base.specs.Excess.{remaining};
 ghost use Rattle.bm_base.specs.Transfers as transfers;
 ghost use Rattle.bm_place.specs.Targets as targets;
 ghost use Rattle.bm_place.specs.Found.{HasRoomFor, with_sent, targets_with};
@@ -180,18 +179,7 @@ fn target_at(topology: &Topology, storage: StorageId) -> Target
         node: location.node,
         rack: location.rack,
         is_draining: location.drains,
-        remaining: remaining_on(topology, storage),
+        remaining: location.remaining,
         scheduled: 0,
-    }
-}
-
-/// The remaining bytes of a storage; 0 of an unknown one.
-#[tactic(auto, unfolding(bm_base::specs::Excess::remaining))]
-pub(crate) fn remaining_on(topology: &Topology, storage: StorageId) -> u64
-    ensures { result ≡ remaining topology.now.cluster storage }
-{
-    match topology.remaining(storage) {
-        Some(bytes) => bytes,
-        None => 0,
     }
 }

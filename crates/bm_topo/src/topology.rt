@@ -3,6 +3,7 @@ ghost use Rattle.std.specs.Prelude.{◌≡◌, ◌≤◌, IfOk, IsOk, Some, None
 ghost use Rattle.bm_base.specs.Map as map;
 ghost use Rattle.bm_base.specs.State as state;
 ghost use Rattle.bm_base.specs.Replicas as replicas;
+ghost use Rattle.bm_base.specs.Excess as excess;
 ghost use Rattle.bm_base.specs.Refusals.{knows_node, knows_storage};
 ghost use Rattle.bm_base.specs.Lawful.{IsLawfulCluster};
 ghost use Rattle.bm_base.specs.declared.limits.TheConstants.{MAX_NODES, MAX_STORAGES};
@@ -21,6 +22,8 @@ pub struct Location {
     pub rack: Option<Rack>,
     /// Whether its node drains.
     pub drains: bool,
+    /// The bytes that remain on it; 0 where it is not known.
+    pub remaining: u64,
 }
 
 /// The alive DataNodes with their racks, those of them that drain, and their storages with what is free there.
@@ -133,18 +136,20 @@ impl Topology {
         }
     }
 
-    /// Where a storage is, with one look-up of the storage.
-    #[tactic(auto, unfolding(bm_base::specs::Replicas::node_of, bm_base::specs::Replicas::rack_of, bm_base::specs::Replicas::is_draining, bm_base::specs::Replicas::drains))]
+    /// Where a storage is and what remains on it, with one look-up of the storage.
+    #[tactic(auto, unfolding(bm_base::specs::Replicas::node_of, bm_base::specs::Replicas::rack_of, bm_base::specs::Replicas::is_draining, bm_base::specs::Replicas::drains, bm_base::specs::Excess::remaining))]
     pub fn location_of(&self, storage: StorageId) -> Location
         ensures node { result.node ≡ replicas.node_of self.now.cluster storage }
         ensures rack { result.rack ≡ replicas.rack_of self.now.cluster storage }
         ensures drains { result.drains ≡ replicas.is_draining self.now.cluster storage }
+        ensures remaining { result.remaining ≡ excess.remaining self.now.cluster storage }
     {
         let Some(info) = self.storages.get(u64::from(storage.0)) else {
             return Location {
                 node: None,
                 rack: None,
                 drains: false,
+                remaining: 0,
             };
         };
         let number = u64::from(info.node.0);
@@ -152,6 +157,7 @@ impl Topology {
             node: Some(info.node),
             rack: self.nodes.get(number),
             drains: self.draining.get(number).is_some(),
+            remaining: info.remaining,
         }
     }
 
