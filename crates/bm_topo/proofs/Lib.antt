@@ -1,4 +1,5 @@
 pub mod Keys
+pub mod Placed
 pub mod Counting
 pub mod Spreading
 pub mod Others

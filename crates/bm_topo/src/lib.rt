@@ -4,6 +4,7 @@
 mod changes;
 mod checks;
 mod racks;
+mod storage_places;
 mod tables;
 mod topology;
 

@@ -9,6 +9,7 @@ ghost use Rattle.bm_base.specs.Lawful.{IsLawfulCluster};
 ghost use Rattle.bm_base.specs.declared.limits.TheConstants.{MAX_NODES, MAX_STORAGES};
 ghost use Rattle.bm_topo.specs.Seen.{no_room};
 
+use crate::storage_places::{likely_place, note_places};
 use bm_base::{NodeId, NumberMap, Rack, Refusal, StorageId, StorageInfo};
 use std::alloc::Global;
 use std::marker::Model;
@@ -29,7 +30,8 @@ pub struct Location {
 /// The alive DataNodes with their racks, those of them that drain, and their storages with what is free there.
 ///
 /// A contract sees the cluster of the definitions, and for how many further nodes, racks, storages and nodes that drain there is
-/// room. Look-ups are by place or by binary search, in at most `MAX_NODES` nodes and `MAX_STORAGES` storages; none takes memory.
+/// room. Look-ups are by place, of a storage most often where it was noted to stand, else by binary search, in at most `MAX_NODES` nodes
+/// and `MAX_STORAGES` storages; none takes memory.
 #[derive(Drop)]
 pub struct Topology {
     pub(crate) nodes: NumberMap<Rack>,
@@ -38,6 +40,8 @@ pub struct Topology {
     /// For each rack on which nodes stand, how many.
     pub(crate) racks: NumberMap<u32>,
     pub(crate) storages: NumberMap<StorageInfo>,
+    // About where among them each stands; none where there was no memory for it.
+    pub(crate) places: Vec<u16>,
 }
 
 impl Model for Topology {
@@ -69,6 +73,7 @@ impl Topology {
             draining: NumberMap::new(alloc),
             racks: NumberMap::new(alloc),
             storages: NumberMap::new(alloc),
+            places: Vec::new(alloc),
         })
     }
 
@@ -80,12 +85,33 @@ impl Topology {
         let _ = &self.nodes;
     }
 
+    /// What is known of a storage: one look where it is likely to stand, and else a look-up.
+    fn stored(&self, storage: StorageId) -> Option<StorageInfo>
+        ensures { result ≡ map.get self.now.cluster.storages storage }
+    {
+        let number = u64::from(storage.0);
+        let entries = self.storages.entries();
+        if let Some((found, info)) = entries.get(likely_place(&self.places, storage)) {
+            if *found == number {
+                return Some(*info);
+            }
+        }
+        self.storages.get(number)
+    }
+
+    /// Notes where the storages stand. Takes no memory.
+    pub(crate) fn note_places(&mut self)
+        ensures { self.new ≡ self.old }
+    {
+        note_places(&mut self.places, self.storages.entries());
+    }
+
     /// The node of a storage; `None` where the storage is not known.
     #[tactic(auto, unfolding(bm_base::specs::Replicas::node_of))]
     pub fn node_of(&self, storage: StorageId) -> Option<NodeId>
         ensures { result ≡ replicas.node_of self.now.cluster storage }
     {
-        match self.storages.get(u64::from(storage.0)) {
+        match self.stored(storage) {
             Some(info) => Some(info.node),
             None => None,
         }
@@ -96,7 +122,7 @@ impl Topology {
     pub fn knows_storage(&self, storage: StorageId) -> bool
         ensures { result ≡ knows_storage self.now.cluster storage }
     {
-        self.storages.get(u64::from(storage.0)).is_some()
+        self.stored(storage).is_some()
     }
 
     /// Whether a storage is one of a node; not where it is not known.
@@ -144,7 +170,7 @@ impl Topology {
         ensures drains { result.drains ≡ replicas.is_draining self.now.cluster storage }
         ensures remaining { result.remaining ≡ excess.remaining self.now.cluster storage }
     {
-        let Some(info) = self.storages.get(u64::from(storage.0)) else {
+        let Some(info) = self.stored(storage) else {
             return Location {
                 node: None,
                 rack: None,
@@ -178,7 +204,7 @@ impl Topology {
         ensures { result ≡ option_map
             (λ i. i.remaining) (map.get self.now.cluster.storages storage) }
     {
-        match self.storages.get(u64::from(storage.0)) {
+        match self.stored(storage) {
             Some(info) => Some(info.remaining),
             None => None,
         }
