@@ -8,7 +8,6 @@ ghost use Rattle.bm_base.specs.Answering.{Refuses};
 ghost use Rattle.bm_base.specs.declared.event.Event.TheVariants as event_of;
 ghost use Rattle.bm_topo.specs.Seen.{IsReadyFor, IsNoLess, IsSameCapacity, grows_cluster};
 
-use crate::storage_places::NOTES;
 use crate::tables::{add_storages, drop_storages, leave_rack, set_remaining};
 use crate::topology::Topology;
 use bm_base::{Event, NodeId, Rack, Refusal, Remaining, StorageId};
@@ -35,7 +34,7 @@ impl Topology {
         }
     }
 
-    /// Makes room for one node, on any rack, with so many storages; and for notes of their places, without which it succeeds as well.
+    /// Makes room for one node, on any rack, with so many storages.
     fn reserve(&mut self, storages: usize) -> Result<(), AllocError>
         ensures nodes { OnOk result (1 ≤ self.new.room.nodes) }
         ensures racks { OnOk result (1 ≤ self.new.room.racks) }
@@ -50,11 +49,7 @@ impl Topology {
     {
         self.nodes.reserve(1)?;
         self.racks.reserve(1)?;
-        self.storages.reserve(storages)?;
-        if self.places.is_empty() {
-            let _ = self.places.resize(NOTES, 0);
-        }
-        Ok(())
+        self.storages.reserve(storages)
     }
 
     /// Changes the cluster by an event that no check on the cluster refuses, in the room that [`Topology::prepare`] of this

@@ -9,7 +9,7 @@ ghost use Rattle.bm_base.specs.Lawful.{IsLawfulCluster};
 ghost use Rattle.bm_base.specs.declared.limits.TheConstants.{MAX_NODES, MAX_STORAGES};
 ghost use Rattle.bm_topo.specs.Seen.{no_room};
 
-use crate::storage_places::{likely_place, note_places};
+use crate::storage_places::{NOTES, likely_place, note_places};
 use bm_base::{NodeId, NumberMap, Rack, Refusal, StorageId, StorageInfo};
 use std::alloc::Global;
 use std::marker::Model;
@@ -40,8 +40,8 @@ pub struct Topology {
     /// For each rack on which nodes stand, how many.
     pub(crate) racks: NumberMap<u32>,
     pub(crate) storages: NumberMap<StorageInfo>,
-    // About where among them each stands; none where there was no memory for it.
-    pub(crate) places: Vec<u16>,
+    // About where among them each stands.
+    pub(crate) places: [u16; NOTES],
 }
 
 impl Model for Topology {
@@ -73,7 +73,7 @@ impl Topology {
             draining: NumberMap::new(alloc),
             racks: NumberMap::new(alloc),
             storages: NumberMap::new(alloc),
-            places: Vec::new(alloc),
+            places: [0; NOTES],
         })
     }
 
