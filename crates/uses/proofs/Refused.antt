@@ -1,17 +1,11 @@
 -- An event that was refused, or for which memory lacked.
 use Rattle.std.specs.Prelude.{◌≡◌, true, ◌⊎◌, Option, Some, None}
-use Rattle.std.proofs.Common.{refl, sym, ap, ◌∙◌, inl, inr}
-use Rattle.bm_base.specs.declared.event.Event.{Event}
+use Rattle.std.proofs.Common.{sym, ap, inl, inr}
 use Rattle.bm_base.specs.declared.refusal.Refusal.{Refusal}
 use Rattle.bm_base.specs.declared.refusal.Refusal.TheVariants.{Memory}
-use Rattle.bm_base.specs.State.{State}
-use Rattle.bm_base.specs.Refusals.{refusal_of}
 use Rattle.bm_base.specs.Answering.{Refuses}
 
--- the refusal is want of memory, or the one that the definition gives in the same state
-pub refused_by : (P : Type 0) (M N : State) (E : Event) (e : Refusal) → N ≡ M → Refuses (refusal_of N E) true e → (e ≡ Memory) ⊎ (P ⊎ (refusal_of M E ≡ Some e))
-refused_by P M N E e same h = by (refusal_of N E) refl h
-  where
-    by : (o : Option Refusal) → refusal_of N E ≡ o → Refuses o true e → (e ≡ Memory) ⊎ (P ⊎ (refusal_of M E ≡ Some e))
-    by None is h = inl h
-    by (Some r) is h = inr (inr (ap (λ (S : State). refusal_of S E) (sym same) ∙ is ∙ ap (λ (x : Refusal). Some x) (sym h)))
+-- the refusal is want of memory, or the one that the definition gives
+pub refused_by : (o : Option Refusal) (e : Refusal) → Refuses o true e → (e ≡ Memory) ⊎ (o ≡ Some e)
+refused_by None e h = inl h
+refused_by (Some r) e h = inr (ap Some (sym h))

@@ -6,6 +6,7 @@ ghost use Rattle.bm_base.specs.Excess.{remaining};
 ghost use Rattle.bm_base.specs.Lists.{has};
 ghost use Rattle.bm_base.specs.Replicas.{node_of, has_storage};
 ghost use Rattle.bm_base.specs.Transfers.{least_source, least_target};
+ghost use Rattle.bm_place.specs.Found.{senders_with, targets_with};
 
 use bm_base::{BlockId, Level, Refusal, Stamp, StorageId, Transfer};
 use bm_place::{Scheduled, Streams, least_source, least_target};
@@ -35,16 +36,37 @@ pub fn first_copy(
 {
     let streams = Streams::new(alloc, topology)?;
     let scheduled = Scheduled::new(alloc, topology)?;
-    let Some(source) = least_source(live, level, topology, &streams) else {
-        return Ok(None);
-    };
-    let Some(target) = least_target(live, live, stamp.len, level, topology, &scheduled) else {
-        return Ok(None);
-    };
-    Ok(Some(Transfer {
+    Ok(copy_by(live, level, block, stamp, topology, &streams, &scheduled))
+}
+
+/// The same by tables that no transfer has been added to.
+fn copy_by(
+    live: &[StorageId],
+    level: Level,
+    block: BlockId,
+    stamp: Stamp,
+    topology: &Topology,
+    streams: &Streams,
+    scheduled: &Scheduled,
+) -> Option<Transfer>
+    requires streams { streams.now ≡ senders_with topology.now.cluster [] }
+    requires scheduled { scheduled.now ≡ targets_with topology.now.cluster [] }
+    ensures copy { result ≡ option_and_then
+        (λ source. option_map
+        (λ target. record { block = block; stamp = stamp; source = source; target = target })
+        (least_target topology.now.cluster [] level live.now live.now stamp.len))
+        (least_source topology.now.cluster [] level live.now) }
+    ensures room { IfSome result (λ t. stamp.len ≤ remaining topology.now.cluster t.target) }
+    ensures node { IfSome result (λ t. (holder node : ℕ)
+        → has live.now holder ≡ true → node_of topology.now.cluster holder ≡ Some node
+        → has_storage topology.now.cluster node t.target ≡ false) }
+{
+    let source = least_source(live, level, topology, streams)?;
+    let target = least_target(live, live, stamp.len, level, topology, scheduled)?;
+    Some(Transfer {
         block,
         stamp,
         source,
         target,
-    }))
+    })
 }

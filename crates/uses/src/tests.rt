@@ -1,4 +1,6 @@
 // Each caller once with ample memory, on a small cluster whose answers are worked out by hand.
+ghost use Rattle.std.specs.Prelude.{◌≡◌, ◌≤◌};
+ghost use Rattle.bm_view.specs.History.{last_of};
 
 use crate::{
     Pieces, Seen, SideBySide, apply_beside_reader, apply_counted, apply_or_free, arrival, for_node,
@@ -64,12 +66,56 @@ fn cluster(rt: &impl Abort, alloc: Global) -> Vec<Event> {
     events
 }
 
-fn manager_of<R: Abort + Threads + Wait + Sync>(rt: &R, alloc: Global) -> Manager {
-    let mut manager = Manager::new(alloc, Config::standard()).expect(rt, "memory");
-    for event in &cluster(rt, alloc) {
-        manager.apply(rt, &NoGate, event).expect(rt, "memory");
+/// What is tried on a manager: on an empty one, or on one that was told of the cluster.
+#[derive(Clone, Copy)]
+enum Trial {
+    EmptyTakesTurns,
+    EmptyIsCounted,
+    HasArrived,
+    StopsAtRefusal,
+    FreesNothing,
+    IsSeen,
+    IsSeenBeside,
+    IsSeenBesideNothing,
+    IsSeenBesideRefusal,
+}
+
+fn try_on<R: Abort + Threads + Wait + Sync>(rt: &R, alloc: Global, config: Config, trial: Trial) {
+    let mut manager = Manager::new(alloc, config).expect(rt, "memory");
+    tried(rt, alloc, &mut manager, trial);
+}
+
+/// In a function of its own, since each step beside a manager that goes at the end makes the proof longer.
+fn tried<R: Abort + Threads + Wait + Sync>(
+    rt: &R,
+    alloc: Global,
+    manager: &mut Manager,
+    trial: Trial,
+) {
+    match trial {
+        Trial::EmptyTakesTurns => check_turns(rt, alloc, manager),
+        Trial::EmptyIsCounted => check_pieces(rt, alloc, manager),
+        _ => {
+            for event in &cluster(rt, alloc) {
+                manager.apply(rt, &NoGate, event).expect(rt, "memory");
+            }
+            tried_on_cluster(rt, alloc, manager, trial);
+        }
     }
-    manager
+}
+
+fn tried_on_cluster<R: Abort + Threads + Wait + Sync>(
+    rt: &R,
+    alloc: Global,
+    manager: &mut Manager,
+    trial: Trial,
+) {
+    match trial {
+        Trial::HasArrived => check_arrival(rt, manager),
+        Trial::StopsAtRefusal => check_stop(rt, manager),
+        Trial::FreesNothing => check_spare(rt, manager),
+        _ => check_view(rt, alloc, manager, trial),
+    }
 }
 
 fn is_at(manager: &Manager, block: u64, storages: &[StorageId]) -> bool {
@@ -79,12 +125,15 @@ fn is_at(manager: &Manager, block: u64, storages: &[StorageId]) -> bool {
     }
 }
 
+fn check_arrival(rt: &impl Abort, manager: &Manager) {
+    assert_eq!(rt; manager.calls(), 7);
+    assert!(rt; is_at(manager, 7, &[StorageId(11)]));
+    assert!(rt; manager.retired(NodeId(2)) == Ok(false));
+}
+
 #[test]
 fn nodes_arrive(rt: HostRuntime) {
-    let manager = manager_of(&rt, rt.alloc());
-    assert_eq!(rt; manager.calls(), 7);
-    assert!(rt; is_at(&manager, 7, &[StorageId(11)]));
-    assert!(rt; manager.retired(NodeId(2)) == Ok(false));
+    try_on(&rt, rt.alloc(), Config::standard(), Trial::HasArrived);
 }
 
 /// Whether a node is to copy block 7 from storage 11 to storage 21, and nothing else.
@@ -101,28 +150,45 @@ fn is_copy(told: Option<&NodeCommands>) -> bool {
     }
 }
 
-#[test]
-fn a_turn_commands_the_copy_that_is_due(rt: HostRuntime) {
-    let alloc = rt.alloc();
-    let mut manager = Manager::new(alloc, Config::standard()).expect(&rt, "memory");
-    let told = cluster(&rt, alloc);
-    let commands = turn(&rt, &mut manager, told.as_slice()).expect(&rt, "memory");
+fn check_first_turn<R: Abort + Threads + Wait + Sync>(
+    rt: &R,
+    alloc: Global,
+    manager: &mut Manager,
+) {
+    let told = cluster(rt, alloc);
+    let commands = turn(rt, manager, told.as_slice()).expect(rt, "memory");
     assert_eq!(rt; commands.round, 1);
     assert!(rt; is_copy(for_node(&commands, NodeId(1))));
     assert!(rt; for_node(&commands, NodeId(2)).is_none());
-    let commands = turn(&rt, &mut manager, &[received(21, 7)]).expect(&rt, "memory");
+}
+
+fn check_second_turn<R: Abort + Threads + Wait + Sync>(rt: &R, manager: &mut Manager) {
+    let commands = turn(rt, manager, &[received(21, 7)]).expect(rt, "memory");
     assert_eq!(rt; commands.round, 2);
     assert!(rt; commands.nodes.is_empty());
-    assert!(rt; is_at(&manager, 7, &[StorageId(11), StorageId(21)]));
+    assert!(rt; is_at(manager, 7, &[StorageId(11), StorageId(21)]));
+}
+
+fn check_turns<R: Abort + Threads + Wait + Sync>(rt: &R, alloc: Global, manager: &mut Manager) {
+    check_first_turn(rt, alloc, manager);
+    check_second_turn(rt, manager);
+}
+
+#[test]
+fn a_turn_commands_the_copy_that_is_due(rt: HostRuntime) {
+    try_on(&rt, rt.alloc(), Config::standard(), Trial::EmptyTakesTurns);
+}
+
+fn check_stop<R: Abort + Threads + Wait + Sync>(rt: &R, manager: &mut Manager) {
+    let told = [received(21, 7), dead(9), dead(1)];
+    assert!(rt; matches!(turn(rt, manager, &told), Err(Refusal::UnknownNode)));
+    assert_eq!(rt; (manager.calls(), manager.rounds()), (8, 0));
+    assert!(rt; is_at(manager, 7, &[StorageId(11), StorageId(21)]));
 }
 
 #[test]
 fn a_turn_stops_at_a_refusal(rt: HostRuntime) {
-    let mut manager = manager_of(&rt, rt.alloc());
-    let told = [received(21, 7), dead(9), dead(1)];
-    assert!(rt; matches!(turn(&rt, &mut manager, &told), Err(Refusal::UnknownNode)));
-    assert_eq!(rt; (manager.calls(), manager.rounds()), (8, 0));
-    assert!(rt; is_at(&manager, 7, &[StorageId(11), StorageId(21)]));
+    try_on(&rt, rt.alloc(), Config::standard(), Trial::StopsAtRefusal);
 }
 
 fn replica(block: u64, storage: u32, tag: Tag) -> Replica {
@@ -205,21 +271,23 @@ fn the_death_of_an_unknown_node_is_refused(rt: HostRuntime) {
     assert!(rt; matches!(found, Err(Refusal::BadConfig)));
 }
 
-#[test]
-fn nothing_is_freed_where_memory_is_ample(rt: HostRuntime) {
-    let mut manager = manager_of(&rt, rt.alloc());
+fn check_spare<R: Abort + Threads + Wait + Sync>(rt: &R, manager: &mut Manager) {
     let mut spare = Some(5);
     let done = Done {
         added: 1,
         removed: 0,
     };
-    assert!(rt; apply_or_free(&rt, &mut manager, &mut spare, &received(21, 7)) == Ok(done));
+    assert!(rt; apply_or_free(rt, manager, &mut spare, &received(21, 7)) == Ok(done));
     assert!(rt;
-        apply_or_free(&rt, &mut manager, &mut spare, &received(99, 7))
-            == Err(Refusal::UnknownStorage)
+        apply_or_free(rt, manager, &mut spare, &received(99, 7)) == Err(Refusal::UnknownStorage)
     );
     assert_eq!(rt; spare, Some(5));
-    assert!(rt; is_at(&manager, 7, &[StorageId(11), StorageId(21)]));
+    assert!(rt; is_at(manager, 7, &[StorageId(11), StorageId(21)]));
+}
+
+#[test]
+fn nothing_is_freed_where_memory_is_ample(rt: HostRuntime) {
+    try_on(&rt, rt.alloc(), Config::standard(), Trial::FreesNothing);
 }
 
 fn located(calls: u64, storages: &[StorageId]) -> Option<Located> {
@@ -231,23 +299,7 @@ fn located(calls: u64, storages: &[StorageId]) -> Option<Located> {
 
 #[test]
 fn a_reader_sees_what_is_published(rt: HostRuntime) {
-    let alloc = rt.alloc();
-    let mut manager = manager_of(&rt, alloc);
-    let (mut publisher, mut locators) = open_view(&rt, alloc, 1).expect(&rt, "memory");
-    match locators.pop() {
-        Some(mut locator) => {
-            let seen = publish_and_look(
-                &rt,
-                &mut manager,
-                &mut publisher,
-                &mut locator,
-                BlockId(7),
-            );
-            assert!(rt; seen == Ok(located(7, &[StorageId(11)])));
-        }
-        None => assert!(rt; false),
-    }
-    publisher.end(&rt);
+    try_on(&rt, rt.alloc(), Config::standard(), Trial::IsSeen);
 }
 
 /// Events after those of the cluster.
@@ -298,46 +350,109 @@ fn are_seen(ended: &SideBySide, count: usize) -> bool {
     }
 }
 
-fn check_beside<R: Abort + Threads + Wait + Sync>(
+/// With a reader of its own, which the view is opened for.
+fn check_view<R: Abort + Threads + Wait + Sync>(
     rt: &R,
     alloc: Global,
-    events: &[Event],
-    want: Result<(), Refusal>,
-    count: usize,
+    manager: &mut Manager,
+    trial: Trial,
 ) {
-    let mut manager = manager_of(rt, alloc);
     let (mut publisher, mut locators) = open_view(rt, alloc, 1).expect(rt, "memory");
     match locators.pop() {
-        Some(mut locator) => {
-            let ended = apply_beside_reader(
-                rt,
-                alloc,
-                &mut manager,
-                &mut publisher,
-                &mut locator,
-                events,
-                BlockId(7),
-            );
-            assert!(rt; ended.changes == want);
-            assert!(rt; are_seen(&ended, count));
-        }
+        Some(mut locator) => viewed(rt, alloc, manager, &mut publisher, &mut locator, trial),
         None => assert!(rt; false),
     }
     publisher.end(rt);
 }
 
+fn viewed<R: Abort + Threads + Wait + Sync>(
+    rt: &R,
+    alloc: Global,
+    manager: &mut Manager,
+    publisher: &mut Publisher,
+    locator: &mut Locator,
+    trial: Trial,
+)
+    requires calls { (last_of publisher.old.list).calls ≤ manager.old.calls }
+    requires home { locator.old.home ≡ publisher.old.home }
+{
+    match trial {
+        Trial::IsSeen => check_seen(rt, manager, publisher, locator),
+        Trial::IsSeenBeside => {
+            check_beside(
+                rt,
+                alloc,
+                manager,
+                publisher,
+                locator,
+                &changes(),
+                Ok(()),
+                3,
+            )
+        }
+        Trial::IsSeenBesideNothing => {
+            check_beside(rt, alloc, manager, publisher, locator, &[], Ok(()), 0)
+        }
+        _ => {
+            let events = [received(21, 7), dead(9), dead(1)];
+            let want = Err(Refusal::UnknownNode);
+            check_beside(rt, alloc, manager, publisher, locator, &events, want, 1)
+        }
+    }
+}
+
+fn check_seen<R: Abort + Threads + Wait + Sync>(
+    rt: &R,
+    manager: &mut Manager,
+    publisher: &mut Publisher,
+    locator: &mut Locator,
+)
+    requires calls { (last_of publisher.old.list).calls ≤ manager.old.calls }
+    requires home { locator.old.home ≡ publisher.old.home }
+{
+    let seen = publish_and_look(rt, manager, publisher, locator, BlockId(7));
+    assert!(rt; seen == Ok(located(7, &[StorageId(11)])));
+}
+
+fn check_beside<R: Abort + Threads + Wait + Sync>(
+    rt: &R,
+    alloc: Global,
+    manager: &mut Manager,
+    publisher: &mut Publisher,
+    locator: &mut Locator,
+    events: &[Event],
+    want: Result<(), Refusal>,
+    count: usize,
+)
+    requires calls { (last_of publisher.old.list).calls ≤ manager.old.calls }
+    requires home { locator.old.home ≡ publisher.old.home }
+{
+    let ended = apply_beside_reader(rt, alloc, manager, publisher, locator, events, BlockId(7));
+    assert!(rt; ended.changes == want);
+    assert!(rt; are_seen(&ended, count));
+}
+
 #[test]
 fn a_reader_beside_changes_is_told_of_each(rt: HostRuntime) {
     for _ in 0..100 {
-        check_beside(&rt, rt.alloc(), &changes(), Ok(()), 3);
+        try_on(&rt, rt.alloc(), Config::standard(), Trial::IsSeenBeside);
     }
-    check_beside(&rt, rt.alloc(), &[], Ok(()), 0);
+    try_on(
+        &rt,
+        rt.alloc(),
+        Config::standard(),
+        Trial::IsSeenBesideNothing,
+    );
 }
 
 #[test]
 fn changes_beside_a_reader_stop_at_a_refusal(rt: HostRuntime) {
-    let events = [received(21, 7), dead(9), dead(1)];
-    check_beside(&rt, rt.alloc(), &events, Err(Refusal::UnknownNode), 1);
+    try_on(
+        &rt,
+        rt.alloc(),
+        Config::standard(),
+        Trial::IsSeenBesideRefusal,
+    );
 }
 
 /// Lines, and the same calls in the usual order and with no space.
@@ -366,6 +481,22 @@ fn lines_are_tidied(rt: HostRuntime) {
 
 /// In an event on all shards each shard has two pieces of work: it makes room, and once all have it, it changes. One on a block, and
 /// one that is refused, have none.
+fn check_pieces<R: Abort + Threads + Wait + Sync>(rt: &R, alloc: Global, manager: &mut Manager) {
+    let pieces = Pieces::new();
+    let events = [
+        (add(7, 2), 0),
+        (register(rt, alloc, 1, 11), 6),
+        (received(11, 7), 6),
+        (dead(9), 6),
+        (dead(1), 12),
+    ];
+    for (event, count) in &events {
+        let _ = apply_counted(rt, manager, &pieces, event);
+        assert_eq!(rt; pieces.count(), *count);
+    }
+    assert_eq!(rt; manager.calls(), 4);
+}
+
 #[test]
 fn pieces_are_counted(rt: HostRuntime) {
     let config = Config {
@@ -373,18 +504,5 @@ fn pieces_are_counted(rt: HostRuntime) {
         workers: 2,
         ..Config::standard()
     };
-    let mut manager = Manager::new(rt.alloc(), config).expect(&rt, "memory");
-    let pieces = Pieces::new();
-    let events = [
-        (add(7, 2), 0),
-        (register(&rt, rt.alloc(), 1, 11), 6),
-        (received(11, 7), 6),
-        (dead(9), 6),
-        (dead(1), 12),
-    ];
-    for (event, count) in &events {
-        let _ = apply_counted(&rt, &mut manager, &pieces, event);
-        assert_eq!(rt; pieces.count(), *count);
-    }
-    assert_eq!(rt; manager.calls(), 4);
+    try_on(&rt, rt.alloc(), config, Trial::EmptyIsCounted);
 }

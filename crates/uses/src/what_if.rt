@@ -1,7 +1,7 @@
-// What would be if a node died: two managers from one list of calls, one of which is told of the death.
+// What would be if a node died: a manager made anew from the list of calls, which is told of the death.
 ghost use Rattle.std.specs.Prelude.{◌≡◌, ◌⊎◌, None, Some, IfOk, IfErr, OnOk};
 ghost use Rattle.bm_base.specs.State.{first_state};
-ghost use Rattle.bm_base.specs.Calls.{state_after, after_event};
+ghost use Rattle.bm_base.specs.Calls.{step, state_after, after_event};
 ghost use Rattle.bm_base.specs.Configuration.{config_refusal};
 ghost use Rattle.bm_base.specs.Queries.{missing_blocks};
 ghost use Rattle.bm_base.specs.Refusals.{refusal_of};
@@ -37,12 +37,20 @@ pub fn replayed<R: Threads + Wait + Sync>(
 {
     let mut manager = Manager::new(alloc, config)?;
     for call in calls {
-        let answer = manager.answer(rt, &NoGate, call);
-        if matches!(answer, Answer::Refused(Refusal::Memory)) {
-            return Err(Refusal::Memory);
-        }
+        make(rt, &mut manager, call)?;
     }
     Ok(manager)
+}
+
+/// Makes a call, unless the definition refuses it.
+fn make<R: Threads + Wait + Sync>(rt: &R, manager: &mut Manager, call: &Call) -> Result<(), Refusal>
+    ensures state { OnOk result (manager.new ≡ (step manager.old call.now).1) }
+    ensures refused { IfErr result (λ e. e ≡ Memory) }
+{
+    match manager.answer(rt, &NoGate, call) {
+        Answer::Refused(Refusal::Memory) => Err(Refusal::Memory),
+        _ => Ok(()),
+    }
 }
 
 /// Which blocks are missing after these calls, and which would be if the node died then. It is refused as [`replayed`] is, and where
@@ -66,11 +74,29 @@ pub fn missing_if_dead<R: Threads + Wait + Sync>(
         let death = refusal_of (state_after (first_state config) calls.now) (Event.Dead node) in
         (e ≡ Memory) ⊎ ((config_refusal config ≡ Some e) ⊎ (death ≡ Some e))) }
 {
-    let manager = replayed(rt, alloc, config, calls)?;
-    let mut copy = replayed(rt, alloc, config, calls)?;
-    copy.apply(rt, &NoGate, &Event::Dead { node })?;
+    let mut manager = replayed(rt, alloc, config, calls)?;
+    before_and_behind(rt, &mut manager, node)
+}
+
+/// Which blocks are missing before the death of a node and behind it.
+fn before_and_behind<R: Threads + Wait + Sync>(
+    rt: &R,
+    manager: &mut Manager,
+    node: NodeId,
+) -> Result<WhatIf, Refusal>
+    ensures as_is { IfOk result (λ found.
+        found.as_is ≡ missing_blocks manager.old.cluster manager.old.holdings) }
+    ensures if_dead { IfOk result (λ found.
+        let state = after_event manager.old (Event.Dead node) in
+        found.if_dead ≡ missing_blocks state.cluster state.holdings) }
+    ensures alive { OnOk result (refusal_of manager.old (Event.Dead node) ≡ None) }
+    ensures refused { IfErr result (λ e.
+        (e ≡ Memory) ⊎ (refusal_of manager.old (Event.Dead node) ≡ Some e)) }
+{
+    let as_is = manager.missing()?;
+    manager.apply(rt, &NoGate, &Event::Dead { node })?;
     Ok(WhatIf {
-        as_is: manager.missing()?,
-        if_dead: copy.missing()?,
+        as_is,
+        if_dead: manager.missing()?,
     })
 }
