@@ -8,7 +8,7 @@ ghost use Rattle.bm_arena.specs.Holding.{replicas_of, blocks_of};
 use crate::numbers::Numbers;
 use crate::types::Entry;
 use crate::usual_slots::UsualSlots;
-use bm_base::{Refusal, SlotLink};
+use bm_base::{HashSecret, Refusal, SlotLink};
 use indexmap::IndexMap;
 use slab::Slab;
 use smallvec::SmallVec;
@@ -32,7 +32,7 @@ pub struct Arena {
     // The slot of each block number.
     pub(crate) ids: Numbers,
     // The first slot of each storage's list.
-    pub(crate) heads: IndexMap<u32, SlotLink>,
+    pub(crate) heads: IndexMap<u32, SlotLink, HashSecret>,
     // The slot of an entry that is no block, and marks a place in a list.
     pub(crate) delimiter: usize,
     pub(crate) steps: u64,
@@ -71,8 +71,26 @@ pub(crate) fn count_up(steps: u64) -> u64
 }
 
 impl Arena {
-    /// An arena with no block, no head and no steps. `Memory`.
+    /// An arena with no block, no head and no steps, whose tables hash by no secret. `Memory`.
     pub fn new(alloc: Global) -> Result<Arena, Refusal>
+        ensures ids { IfOk result (λ a. a.ids ≡ []) }
+        ensures lists { IfOk result (λ a. a.lists ≡ []) }
+        ensures steps { IfOk result (λ a. a.steps ≡ 0) }
+        ensures blocks { IfOk result (λ a. (slot : ℕ) → slot ≢ a.delimiter
+            → block_at a slot ≡ None) }
+        ensures delimiter { IfOk result (λ a. block_at a a.delimiter ≡ Some (empty_block 0)) }
+        ensures bound { IfOk result (λ a. a.bound ≡ a.delimiter + 1) }
+        ensures replicas { IfOk result (λ a. replicas_of a ≡ empty) }
+        ensures known { IfOk result (λ a. blocks_of a ≡ empty) }
+        ensures lawful { IfOk result (λ a. IsLawful a) }
+        ensures refused { IfErr result (λ e. e ≡ Memory) }
+    {
+        Arena::with_secret(alloc, HashSecret::none())
+    }
+
+    /// The same, whose tables hash by this secret: for numbers that may have been chosen so that they share a place of a table. Nothing
+    /// that a contract sees depends on it. `Memory`.
+    pub fn with_secret(alloc: Global, secret: HashSecret) -> Result<Arena, Refusal>
         ensures ids { IfOk result (λ a. a.ids ≡ []) }
         ensures lists { IfOk result (λ a. a.lists ≡ []) }
         ensures steps { IfOk result (λ a. a.steps ≡ 0) }
@@ -94,8 +112,8 @@ impl Arena {
         });
         Ok(Arena {
             slots,
-            ids: Numbers::new(alloc),
-            heads: IndexMap::new(alloc),
+            ids: Numbers::new(alloc, secret),
+            heads: IndexMap::with_hasher(alloc, secret),
             delimiter,
             steps: 0,
             bound: delimiter + 1,

@@ -9,7 +9,7 @@ ghost use Rattle.bm_base.specs.declared.refusal.Refusal.TheVariants.{Memory};
 ghost use Rattle.bm_base.specs.SlotLinks.{end_of_links};
 
 use crate::types::Entry;
-use bm_base::{Refusal, fits_link};
+use bm_base::{HashSecret, Refusal, fits_link};
 use indexmap::{IndexMap, map};
 use slab::Slab;
 use std::alloc::Global;
@@ -20,7 +20,7 @@ use std::marker::Model;
 /// Numbers are mostly handed out in rising order, so a number above all that were added is told to be absent with no look at the index.
 #[derive(Drop)]
 pub(crate) struct Numbers {
-    index: IndexMap<u64, usize>,
+    index: IndexMap<u64, usize, HashSecret>,
     // No number that has a slot is greater.
     greatest: u64,
 }
@@ -38,12 +38,12 @@ impl Model for Numbers {
 }
 
 impl Numbers {
-    /// No number. Takes no memory.
-    pub(crate) fn new(alloc: Global) -> Numbers
+    /// No number, in a table that hashes by this secret. Takes no memory.
+    pub(crate) fn new(alloc: Global, secret: HashSecret) -> Numbers
         ensures { result ≡ [] }
     {
         Numbers {
-            index: IndexMap::new(alloc),
+            index: IndexMap::with_hasher(alloc, secret),
             greatest: 0,
         }
     }
@@ -115,7 +115,7 @@ impl Numbers {
 
 // The slot of a number in the index, and whether it is new.
 fn slot_in(
-    ids: &mut IndexMap<u64, usize>,
+    ids: &mut IndexMap<u64, usize, HashSecret>,
     slots: &mut Slab<Entry>,
     id: u64,
 ) -> Result<(usize, bool), Refusal>

@@ -52,6 +52,17 @@ module _ {K X : Type 0} (R : K → K → Ordering) (o : IsTotalOrder R) where
         | Greater ↦ omega (arith, rest)
       ]
 
+  -- the place is not behind the entries
+  pub place_within : (k : K) (es : List (K × X)) → place R k es ≤ length es
+  place_within k [] = omega arith
+  place_within k (e ∷ es) =
+      let rest : place R k es ≤ length es = place_within k es in
+      elim (R k e.0) as (λ r. further r (place R k es) ≤ suc (length es)) [
+        | Less ↦ omega arith
+        | Equal ↦ omega arith
+        | Greater ↦ omega (arith, rest)
+      ]
+
   below_further : (k x : K) (es : List (K × X)) → R k x ≡ Less → T (below_all R x es) → T (below_all R k es)
   below_further k x [] p h = tt
   below_further k x (e ∷ es) p h =

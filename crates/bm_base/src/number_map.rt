@@ -5,7 +5,7 @@ ghost use Rattle.bm_base.specs.Table.{capacity};
 ghost use Rattle.std.specs.List.Retain.{IsFiltered};
 ghost use Rattle.std.specs.Fn.{CalledAt};
 
-use crate::number_places::place_of_number;
+use crate::number_places::{place_by_guess, place_of_number};
 use crate::sorted::{find_at, put, replace, reserve};
 use std::alloc::{AllocError, Global};
 use std::marker::Model;
@@ -58,6 +58,13 @@ impl<V: Copy> NumberMap<V> {
         ensures { result ≡ map.get self.now.map key }
     {
         find_at(&self.entries, &key, place_of_number(&self.entries, key))
+    }
+
+    /// The same, with two looks where the guess is right: how many of the keys are less than this one. Else it is a look-up.
+    pub fn get_near(&self, key: u64, guess: usize) -> Option<V>
+        ensures { result ≡ map.get self.now.map key }
+    {
+        find_at(&self.entries, &key, place_by_guess(&self.entries, key, guess))
     }
 
     /// Sets the value at a key. Takes memory only for a key that is not there and has no room; an `Err` changes nothing.

@@ -33,6 +33,19 @@ pub(crate) fn place_of_number<V: Copy>(entries: &[(u64, V)], key: u64) -> usize
     place_between(entries, &key, low, high)
 }
 
+/// The same where it is guessed: two looks where the guess is right.
+pub(crate) fn place_by_guess<V: Copy>(entries: &[(u64, V)], key: u64, guess: usize) -> usize
+    requires { T (list.is_sorted nat_cmp entries.now) }
+    ensures { result ≡ place nat_cmp key entries.now }
+{
+    let (low, high) = beside(entries, key, 0, entries.len(), guess);
+    let (low, high) = beside(entries, key, low, high, guess.wrapping_sub(1));
+    if low == high {
+        return low;
+    }
+    place_of_number(entries, key)
+}
+
 /// Between so few places all are searched.
 const FEW: usize = 8;
 

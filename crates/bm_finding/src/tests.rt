@@ -8,8 +8,7 @@ ghost use Rattle.bm_levels.specs.Leveled.{AreLevels};
 
 use crate::{find_round, likely_bound};
 use bm_base::{
-    BlockId, BlockInfo, Entry, Event, Gen, Items, Level, NodeId, Part, Rack, RoundPart, Stamp,
-    StorageId, Wish,
+    BlockId, BlockInfo, Entry, Event, Gen, HashSecret, Items, Level, NodeId, Part, Rack, RoundPart, Stamp, StorageId, Wish,
 };
 use bm_levels::LeveledBlocks;
 use bm_pending::PendingTransfers;
@@ -58,7 +57,7 @@ fn block_with_one(rt: &impl Abort, alloc: Global, topology: &Topology) -> Levele
     ensures stored { (q : ReplicaId) → IsSome (get (replicas_of result.arena) q)
         → IsTrue (contains_key topology.now.cluster.storages q.storage) }
 {
-    let mut blocks = LeveledBlocks::new(alloc).expect(rt, "memory");
+    let mut blocks = LeveledBlocks::new(alloc, HashSecret::none()).expect(rt, "memory");
     let id = BlockId(7);
     blocks.ready_block(id).expect(rt, "memory");
     let slot = blocks.slot_of(id).expect(rt, "its entry");
@@ -96,7 +95,7 @@ fn four_nodes(rt: &impl Abort, alloc: Global) -> Topology
 
 /// A transfer of block 7 to storage 31, commanded in round 1.
 fn one_on_its_way(rt: &impl Abort, alloc: Global) -> PendingTransfers {
-    let mut pending = PendingTransfers::new(alloc);
+    let mut pending = PendingTransfers::new(alloc, HashSecret::none());
     pending.reserve(BlockId(7), 1).expect(rt, "memory");
     pending.insert_reserved(BlockId(7), StorageId(31), 1);
     pending
@@ -135,7 +134,7 @@ fn copies_are_wished_for(rt: HostRuntime) {
     let alloc = rt.alloc();
     let topology = four_nodes(&rt, alloc);
     let blocks = block_with_one(&rt, alloc, &topology);
-    let pending = PendingTransfers::new(alloc);
+    let pending = PendingTransfers::new(alloc, HashSecret::none());
     let part = find_round(alloc, &blocks, &pending, &topology, 5, 1, None).expect(&rt, "memory");
     assert!(rt; told(&part) == Some((2, 0, 0)));
 }
@@ -160,7 +159,7 @@ fn a_bound_is_guessed(rt: HostRuntime) {
     let alloc = rt.alloc();
     let topology = four_nodes(&rt, alloc);
     let blocks = block_with_one(&rt, alloc, &topology);
-    let pending = PendingTransfers::new(alloc);
+    let pending = PendingTransfers::new(alloc, HashSecret::none());
     let before_all = likely_bound(alloc, &blocks, &pending, 0, 1_024).expect(&rt, "memory");
     assert!(rt; before_all == Some((0, 7)));
     let behind_one = likely_bound(alloc, &blocks, &pending, 1, 1_024).expect(&rt, "memory");

@@ -6,7 +6,7 @@ ghost use Rattle.bm_base.specs.State.{Cluster, empty_holdings};
 ghost use Rattle.bm_fleet.specs.Whole.{StandsIn, HasTaken};
 ghost use Rattle.bm_fleet.specs.Worked.{AreNew};
 
-use bm_base::{Config, Refusal};
+use bm_base::{Config, HashSecret, Refusal};
 use bm_shard::Shard;
 use std::alloc::Global;
 use std::marker::Model;
@@ -36,9 +36,9 @@ impl Model for Fleet {
 }
 
 impl Fleet {
-    /// As many empty shards as the configuration says. `Memory`.
+    /// As many empty shards as the configuration says, whose tables hash by this secret. `Memory`.
     #[tactic(auto, unfolding(crate::specs::Whole::StandsIn, crate::specs::Whole::HasTaken))]
-    pub fn new(alloc: Global, config: &Config) -> Result<Fleet, Refusal>
+    pub fn new(alloc: Global, config: &Config, secret: HashSecret) -> Result<Fleet, Refusal>
         requires { config_refusal config.now ≡ None }
         ensures count { IfOk result (λ f. length f.shards ≡ config.now.shards) }
         ensures empty { IfOk result (λ f. f.holdings ≡ empty_holdings) }
@@ -46,19 +46,23 @@ impl Fleet {
         ensures rounds { IfOk result (HasTaken config.now.first_round config.now.pend) }
         ensures refused { IfErr result (λ e. e ≡ Memory) }
     {
-        let shards = new_shards(alloc, config)?;
+        let shards = new_shards(alloc, config, secret)?;
         Ok(Fleet { alloc, shards })
     }
 }
 
-fn new_shards(alloc: Global, config: &Config) -> Result<Vec<(u32, Shard)>, Refusal>
+fn new_shards(
+    alloc: Global,
+    config: &Config,
+    secret: HashSecret,
+) -> Result<Vec<(u32, Shard)>, Refusal>
     ensures each { IfOk result (λ v. AreNew config.now 0 v.items) }
     ensures len { IfOk result (λ v. length v.items ≡ config.now.shards) }
     ensures refused { IfErr result (λ e. e ≡ Memory) }
 {
     let mut shards = Vec::new(alloc);
     for index in 0..config.shards {
-        let shard = Shard::new(alloc, index, config)?;
+        let shard = Shard::with_secret(alloc, index, config, secret)?;
         shards.push((index, shard))?;
     }
     Ok(shards)

@@ -4,7 +4,7 @@ ghost use Rattle.bm_base.specs.State.{empty_cluster};
 
 use crate::LeveledBlocks;
 use bm_base::{
-    BlockId, BlockInfo, Entry, Event, Gen, Items, Level, NodeId, Part, Rack, Stamp, StorageId,
+    BlockId, BlockInfo, Entry, Event, Gen, HashSecret, Items, Level, NodeId, Part, Rack, Stamp, StorageId,
 };
 use bm_report::Report;
 use bm_topo::Topology;
@@ -62,7 +62,7 @@ fn receive(rt: &impl Abort, alloc: Global, blocks: &mut LeveledBlocks, storage: 
 
 /// A block of which two replicas are wanted has one on storage 11 and one on 21.
 fn on_both(rt: &impl Abort, alloc: Global, topology: &Topology) -> LeveledBlocks {
-    let mut blocks = LeveledBlocks::new(alloc).expect(rt, "memory");
+    let mut blocks = LeveledBlocks::new(alloc, HashSecret::none()).expect(rt, "memory");
     blocks.ready_block(ID).expect(rt, "memory");
     let slot = blocks.slot_of(ID).expect(rt, "an entry");
     let info = BlockInfo {

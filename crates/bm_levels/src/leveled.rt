@@ -12,7 +12,7 @@ ghost use Rattle.bm_levels.specs.Leveled.{AreLevels, KeepsLevels, IsLeveled};
 
 use crate::kept::KeptLevels;
 use bm_arena::{Arena, Slot};
-use bm_base::{BlockId, BlockInfo, Level, Marks, Refusal, StorageId};
+use bm_base::{BlockId, BlockInfo, HashSecret, Level, Marks, Refusal, StorageId};
 use bm_topo::Topology;
 use std::alloc::Global;
 use std::marker::Model;
@@ -36,15 +36,15 @@ impl Model for LeveledBlocks {
 }
 
 impl LeveledBlocks {
-    /// No blocks and no replicas.
-    pub fn new(alloc: Global) -> Result<LeveledBlocks, Refusal>
+    /// No blocks and no replicas, in tables that hash by this secret.
+    pub fn new(alloc: Global, secret: HashSecret) -> Result<LeveledBlocks, Refusal>
         ensures blocks { IfOk result (λ b. blocks_of b.arena ≡ empty) }
         ensures replicas { IfOk result (λ b. replicas_of b.arena ≡ empty) }
         ensures levels { IfOk result (λ b. (C : Cluster) → AreLevels C b) }
         ensures bare { IfOk result (λ b. HasNoneBare b.arena) }
         ensures refused { IfErr result (λ e. e ≡ Memory) }
     {
-        let arena = Arena::new(alloc)?;
+        let arena = Arena::with_secret(alloc, secret)?;
         let mut kept = KeptLevels::new(alloc)?;
         kept.grow_to(arena.slot_bound())?;
         Ok(LeveledBlocks { arena, kept })

@@ -1,7 +1,7 @@
 // What each call that may be refused memory answers with ample memory.
 
 use crate::LeveledBlocks;
-use bm_base::{BlockId, BlockInfo, Entry, Gen, Level, Part, Stamp, StorageId};
+use bm_base::{BlockId, BlockInfo, Entry, Gen, HashSecret, Level, Part, Stamp, StorageId};
 use bm_report::Report;
 use bm_topo::Topology;
 
@@ -9,7 +9,7 @@ use bm_topo::Topology;
 fn a_block_comes_and_goes(rt: HostRuntime) {
     let alloc = rt.alloc();
     let topology = Topology::new(alloc).expect(&rt, "memory");
-    let mut blocks = LeveledBlocks::new(alloc).expect(&rt, "memory");
+    let mut blocks = LeveledBlocks::new(alloc, HashSecret::none()).expect(&rt, "memory");
     let id = BlockId(7);
     assert!(rt; blocks.level(id).is_none());
     blocks.ready_block(id).expect(&rt, "memory");
@@ -35,7 +35,7 @@ fn a_block_comes_and_goes(rt: HostRuntime) {
 fn a_block_is_deleted(rt: HostRuntime) {
     let alloc = rt.alloc();
     let topology = Topology::new(alloc).expect(&rt, "memory");
-    let mut blocks = LeveledBlocks::new(alloc).expect(&rt, "memory");
+    let mut blocks = LeveledBlocks::new(alloc, HashSecret::none()).expect(&rt, "memory");
     let id = BlockId(7);
     let stamp = Stamp {
         generation: Gen(1),
@@ -54,7 +54,7 @@ fn a_block_is_deleted(rt: HostRuntime) {
 #[test]
 fn a_report_is_made_ready(rt: HostRuntime) {
     let alloc = rt.alloc();
-    let mut blocks = LeveledBlocks::new(alloc).expect(&rt, "memory");
+    let mut blocks = LeveledBlocks::new(alloc, HashSecret::none()).expect(&rt, "memory");
     let mut report = Report::new(alloc);
     let stamp = Stamp {
         generation: Gen(1),

@@ -3,7 +3,7 @@
 use crate::{
     all_replicas, blocks_on, corrupt_replicas, excess_replicas, missing_blocks, places, table_rows,
 };
-use bm_base::{BlockId, BlockInfo, Gen, Places, Refusal, Stamp, StorageId};
+use bm_base::{BlockId, BlockInfo, Gen, HashSecret, Places, Refusal, Stamp, StorageId};
 use bm_levels::LeveledBlocks;
 use bm_topo::Topology;
 use std::alloc::Global;
@@ -38,7 +38,7 @@ fn are_empty(alloc: Global, blocks: &LeveledBlocks) -> Result<bool, Refusal> {
 fn missing_blocks_are_sorted(rt: HostRuntime) {
     let alloc = rt.alloc();
     let topology = Topology::new(alloc).expect(&rt, "memory");
-    let mut blocks = LeveledBlocks::new(alloc).expect(&rt, "memory");
+    let mut blocks = LeveledBlocks::new(alloc, HashSecret::none()).expect(&rt, "memory");
     know(&topology, &mut blocks, BlockId(9)).expect(&rt, "memory");
     know(&topology, &mut blocks, BlockId(7)).expect(&rt, "memory");
     let missing = missing_blocks(alloc, &blocks).expect(&rt, "memory");

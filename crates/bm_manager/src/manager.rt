@@ -7,7 +7,7 @@ ghost use Rattle.bm_base.specs.Calls.{done_by, after_event};
 ghost use Rattle.bm_base.specs.Lawful.{IsLawful};
 ghost use Rattle.bm_base.specs.Answering.{checked, Refuses, takes_memory};
 
-use bm_base::{Config, Done, Event, Refusal};
+use bm_base::{Config, Done, Event, HashSecret, Refusal};
 use bm_crew::Gate;
 use bm_fleet::Fleet;
 use bm_topo::Topology;
@@ -58,8 +58,22 @@ impl Model for Manager {
 
 impl Manager {
     /// An empty manager: no node, no block, and the numbers of the configuration. `BadConfig` where the configuration is
-    /// outside its ranges; `Memory`.
+    /// outside its ranges; `Memory`. Its tables hash by no secret, so numbers can be chosen that make calls slow: where they may come
+    /// from somebody who would, take [`Manager::with_secret`].
     pub fn new(alloc: Global, config: Config) -> Result<Manager, Refusal>
+        ensures allowed { OnOk result (config_refusal config ≡ None) }
+        ensures state { IfOk result (λ m. m ≡ first_state config) }
+        ensures refused { IfErr result (Refuses (config_refusal config) true) }
+    {
+        Manager::with_secret(alloc, config, HashSecret::none())
+    }
+
+    /// The same, whose tables hash by this secret. No answer, refusal or command depends on it.
+    pub fn with_secret(
+        alloc: Global,
+        config: Config,
+        secret: HashSecret,
+    ) -> Result<Manager, Refusal>
         ensures allowed { OnOk result (config_refusal config ≡ None) }
         ensures state { IfOk result (λ m. m ≡ first_state config) }
         ensures refused { IfErr result (Refuses (config_refusal config) true) }
@@ -69,7 +83,7 @@ impl Manager {
             alloc,
             config,
             topology: Topology::new(alloc)?,
-            fleet: Fleet::new(alloc, &config)?,
+            fleet: Fleet::new(alloc, &config, secret)?,
             round: config.first_round,
             calls: config.first_call,
         })

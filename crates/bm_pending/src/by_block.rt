@@ -10,13 +10,13 @@ ghost use Rattle.bm_pending.specs.Inside.{targets_at, room_at};
 
 use crate::targets::{Targets, drop_expired, drop_storages, drop_target, put};
 use bm_base::sorted::find;
-use bm_base::{Refusal, StorageId};
+use bm_base::{HashSecret, Refusal, StorageId};
 use indexmap::IndexMap;
 use smallvec::SmallVec;
 use std::alloc::Global;
 
 /// Each block with its targets, which strictly rise, and the rounds of their commands.
-pub(crate) type Blocks = IndexMap<u64, Targets>;
+pub(crate) type Blocks = IndexMap<u64, Targets, HashSecret>;
 
 /// Makes room for so many more targets of a block.
 pub(crate) fn reserve_in(

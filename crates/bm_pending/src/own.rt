@@ -6,7 +6,7 @@ ghost use Rattle.bm_pending.specs.OnTheWay.{room};
 ghost use Rattle.bm_pending.specs.Counted.{count_at};
 
 use crate::pending::PendingTransfers;
-use bm_base::{BlockId, Part, Refusal, Transfer, shard_of};
+use bm_base::{BlockId, HashSecret, Part, Refusal, Transfer, shard_of};
 use indexmap::IndexMap;
 
 impl PendingTransfers {
@@ -21,7 +21,7 @@ impl PendingTransfers {
         ensures rooms { (b : ℕ) → room self.old b ≤ room self.new b }
         ensures refused { IfErr result (λ e. e ≡ Memory) }
     {
-        let mut counts = IndexMap::new(self.alloc);
+        let mut counts = IndexMap::with_hasher(self.alloc, *self.by_block.hasher());
         for transfer in transfers {
             if shard_of(transfer.block, part.shards) == part.index {
                 let count = count_one(&mut counts, transfer.block)?;
@@ -33,7 +33,7 @@ impl PendingTransfers {
 }
 
 /// One more of a block is counted. Answers how many there are now.
-fn count_one(counts: &mut IndexMap<u64, usize>, id: BlockId) -> Result<usize, Refusal>
+fn count_one(counts: &mut IndexMap<u64, usize, HashSecret>, id: BlockId) -> Result<usize, Refusal>
     requires { count_at counts.old.entries id < 18446744073709551615 }
     ensures counted { IfOk result (λ n. n ≡ suc (count_at counts.old.entries id)) }
     ensures counts { OnOk result ((q : ℕ)

@@ -15,7 +15,7 @@ use crate::by_block::{
 };
 use crate::left::left_among;
 use crate::listing::{entries_in, expired_in, push_storages};
-use bm_base::{BlockId, Refusal, ReplicaId, StorageId, StorageIds};
+use bm_base::{BlockId, HashSecret, Refusal, ReplicaId, StorageId, StorageIds};
 use indexmap::IndexMap;
 use std::alloc::Global;
 use std::marker::Model;
@@ -28,7 +28,7 @@ use std::marker::Model;
 /// keeps its room until `drop_empty_rooms`, which is to be called at the end of each round.
 #[derive(Drop)]
 pub struct PendingTransfers {
-    by_block: Blocks,
+    pub(crate) by_block: Blocks,
     pub(crate) alloc: Global,
 }
 
@@ -44,13 +44,13 @@ impl Model for PendingTransfers {
 }
 
 impl PendingTransfers {
-    /// No transfer, and no room. Takes no memory.
-    pub fn new(alloc: Global) -> Self
+    /// No transfer, and no room, in a table that hashes by this secret. Takes no memory.
+    pub fn new(alloc: Global, secret: HashSecret) -> Self
         ensures map { result.map ≡ map.empty }
         ensures room { (block : ℕ) → room result block ≡ 0 }
     {
         PendingTransfers {
-            by_block: IndexMap::new(alloc),
+            by_block: IndexMap::with_hasher(alloc, secret),
             alloc,
         }
     }

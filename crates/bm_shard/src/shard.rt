@@ -5,7 +5,7 @@ ghost use Rattle.bm_base.specs.State.{Cluster, empty_holdings};
 ghost use Rattle.bm_shard.specs.Bare.{HasNoneBare};
 ghost use Rattle.bm_shard.specs.Standing.{StandsIn};
 
-use bm_base::{BlockId, Config, Part, Refusal, StorageId};
+use bm_base::{BlockId, Config, HashSecret, Part, Refusal, StorageId};
 use bm_levels::LeveledBlocks;
 use bm_pending::PendingTransfers;
 use bm_report::Report;
@@ -61,7 +61,7 @@ impl Model for Shard {
 }
 
 impl Shard {
-    /// An empty shard, of an index below the number of shards. `Memory`.
+    /// An empty shard, of an index below the number of shards, whose tables hash by no secret. `Memory`.
     pub fn new(alloc: Global, index: u32, config: &Config) -> Result<Shard, Refusal>
         requires { index < config.now.shards }
         ensures empty { IfOk result (λ s. s.holdings ≡ empty_holdings) }
@@ -73,12 +73,32 @@ impl Shard {
         ensures bare { IfOk result (λ s. HasNoneBare s) }
         ensures refused { IfErr result (λ e. e ≡ Memory) }
     {
-        let blocks = LeveledBlocks::new(alloc)?;
+        Shard::with_secret(alloc, index, config, HashSecret::none())
+    }
+
+    /// The same, whose tables hash by this secret: for numbers that may have been chosen so that they share a place of a table. `Memory`.
+    pub fn with_secret(
+        alloc: Global,
+        index: u32,
+        config: &Config,
+        secret: HashSecret,
+    ) -> Result<Shard, Refusal>
+        requires { index < config.now.shards }
+        ensures empty { IfOk result (λ s. s.holdings ≡ empty_holdings) }
+        ensures part { IfOk result
+            (λ s. s.part ≡ record { index = index; shards = config.now.shards }) }
+        ensures round { IfOk result (λ s. s.round ≡ config.now.first_round) }
+        ensures pend { IfOk result (λ s. s.pend ≡ config.now.pend) }
+        ensures standing { IfOk result (λ s. (C : Cluster) → StandsIn C s) }
+        ensures bare { IfOk result (λ s. HasNoneBare s) }
+        ensures refused { IfErr result (λ e. e ≡ Memory) }
+    {
+        let blocks = LeveledBlocks::new(alloc, secret)?;
         blocks.arena().lawful();
         Ok(Shard {
             alloc,
             blocks,
-            pending: PendingTransfers::new(alloc),
+            pending: PendingTransfers::new(alloc, secret),
             report: Report::new(alloc),
             prepared: Prepared::Nothing,
             part: Part {

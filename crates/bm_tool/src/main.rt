@@ -26,6 +26,7 @@ use status::{End, fault_text, status_of};
 use std::env::Env;
 use std::io::{BufWriter, Write};
 use std::process::ExitCode;
+use std::random::RandomSource;
 use std::sync::Wait;
 use std::thread::Threads;
 use std::{env, io};
@@ -36,7 +37,7 @@ fn main(rt: HostRuntime) -> ExitCode {
     ExitCode::from(status_of(end_of_run(&rt)))
 }
 
-fn end_of_run<R: Env + Input + Print + Eprint + AllocGlobal + Threads + Wait + Sync>(
+fn end_of_run<R: Env + Input + Print + Eprint + AllocGlobal + Threads + Wait + RandomSource + Sync>(
     rt: &R,
 ) -> End {
     match words_of(rt) {
@@ -60,7 +61,7 @@ fn words_of<R: Env + AllocGlobal>(rt: &R) -> io::Result<Vec<String>> {
     Ok(words)
 }
 
-fn run_of_words<R: Input + Print + Eprint + AllocGlobal + Threads + Wait + Sync>(
+fn run_of_words<R: Input + Print + Eprint + AllocGlobal + Threads + Wait + RandomSource + Sync>(
     rt: &R,
     words: &[String],
 ) -> End
@@ -98,7 +99,7 @@ fn tell_fault<R: Eprint>(rt: &R, fault: Fault) -> End
 }
 
 /// The whole run, from standard input to standard output.
-fn run_on_streams<R: Input + Print + AllocGlobal + Threads + Wait + Sync>(
+fn run_on_streams<R: Input + Print + AllocGlobal + Threads + Wait + RandomSource + Sync>(
     rt: &R,
     config: &Config,
 ) -> Result<Summary, Fault> {

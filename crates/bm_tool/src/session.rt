@@ -10,7 +10,7 @@ use crate::ends::Sink;
 use crate::fault::{Fault, Summary};
 use crate::limits::MAX_LINES;
 use crate::reply::{asked_by, reply_to};
-use bm_base::{Config, Refusal};
+use bm_base::{Config, HashSecret, Refusal};
 use bm_lines::{Line, line_end};
 use bm_manager::Manager;
 use std::alloc::Global;
@@ -37,13 +37,13 @@ impl Session {
     ghost use Rattle.bm_tool.specs.Progress.{Progress, MayBeWorked, LineFault, PieceFault, IsSummary};
 
     /// Nothing is read and nothing answered yet.
-    pub fn new(alloc: Global, config: &Config) -> Result<Session, Fault>
+    pub fn new(alloc: Global, config: &Config, secret: HashSecret) -> Result<Session, Fault>
         ensures allowed { OnOk result (config_refusal config.now ≡ None) }
         ensures ok { IfOk result (λ s. (start : Option (List ℕ))
             → Progress (first_state config.now) start start s []) }
         ensures err { IfErr result (StartFault config.now) }
     {
-        let manager = manager_of(alloc, config)?;
+        let manager = manager_of(alloc, config, secret)?;
         Ok(Session {
             alloc,
             manager,
@@ -179,12 +179,12 @@ impl Session {
 }
 
 /// A manager with this configuration, which is checked here and nowhere else.
-fn manager_of(alloc: Global, config: &Config) -> Result<Manager, Fault>
+fn manager_of(alloc: Global, config: &Config, secret: HashSecret) -> Result<Manager, Fault>
     ensures allowed { OnOk result (config_refusal config.now ≡ None) }
     ensures ok { IfOk result (λ m. m ≡ first_state config.now) }
     ensures err { IfErr result (StartFault config.now) }
 {
-    match Manager::new(alloc, *config) {
+    match Manager::with_secret(alloc, *config, secret) {
         Ok(manager) => Ok(manager),
         Err(Refusal::BadConfig) => Err(Fault::Config),
         Err(_) => Err(Fault::Memory),

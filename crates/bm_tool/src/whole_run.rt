@@ -8,14 +8,16 @@ use crate::ends::{Sink, Source};
 use crate::fault::{Fault, Summary};
 use crate::limits::{MAX_BYTES, PIECE};
 use crate::session::Session;
-use bm_base::Config;
+use bm_base::{Config, HashSecret};
 use std::alloc::Global;
+use std::random::RandomSource;
 use std::sync::Wait;
 use std::thread::Threads;
 
-/// Answers each line of the input by a line of the output. A call on all shards is worked by a crew of as many threads as the
+/// Answers each line of the input by a line of the output. The tables hash by a secret that is drawn here, so that no lines can be made that
+/// are slow for the places of their numbers; no clause speaks of it, since no answer depends on it. A call on all shards is worked by a crew of as many threads as the
 /// configuration has workers, of which the calling one waits for the others: so the clauses say what holds where a run returns.
-pub fn run<R: Source, W: Sink, H: Threads + Wait + Sync>(
+pub fn run<R: Source, W: Sink, H: Threads + Wait + RandomSource + Sync>(
     rt: &H,
     alloc: Global,
     reader: &mut R,
@@ -41,7 +43,7 @@ pub fn run<R: Source, W: Sink, H: Threads + Wait + Sync>(
     ensures cause { HasCause (R.faults reader.old) (R.faults reader.new)
         (W.faults writer.old) (W.faults writer.new) result }
 {
-    let mut session = Session::new(alloc, config)?;
+    let mut session = Session::new(alloc, config, secret_of(rt))?;
     let mut buffer = [0u8; PIECE];
     let mut count = 0usize;
     loop {
@@ -58,5 +60,14 @@ pub fn run<R: Source, W: Sink, H: Threads + Wait + Sync>(
         }
         session.take_piece(rt, &buffer[..n], writer)?;
         count += n;
+    }
+}
+
+/// Random bytes of the system; no secret where it gives none.
+fn secret_of<H: RandomSource>(rt: &H) -> HashSecret {
+    let mut bytes = [0; 8];
+    match rt.fill_bytes(&mut bytes) {
+        Ok(()) => HashSecret::of(u64::from_le_bytes(bytes)),
+        Err(_) => HashSecret::none(),
     }
 }

@@ -80,8 +80,14 @@ impl Topology {
                 self.note_places();
             }
             Event::Heartbeat { remaining, .. } => self.set_remaining(remaining.as_slice()),
-            Event::Drain { node } => self.drain(*node),
-            Event::Undrain { node } => self.undrain(*node),
+            Event::Drain { node } => {
+                self.drain(*node);
+                self.note_places();
+            }
+            Event::Undrain { node } => {
+                self.undrain(*node);
+                self.note_places();
+            }
             Event::AddBlock { .. }
             | Event::DeleteBlock { .. }
             | Event::SetReplication { .. }

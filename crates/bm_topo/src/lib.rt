@@ -3,8 +3,8 @@
 
 mod changes;
 mod checks;
+mod likely_places;
 mod racks;
-mod storage_places;
 mod tables;
 mod topology;
 

@@ -91,12 +91,6 @@ impl Topology {
         }
     }
 
-    pub(crate) fn rack_of_node(&self, node: NodeId) -> Option<Rack>
-        ensures { result ≡ map.get self.now.cluster.nodes node }
-    {
-        self.nodes.get(u64::from(node.0))
-    }
-
     /// The rack of the first node.
     fn first_rack(&self) -> Option<Rack>
         ensures { result ≡ option_map

@@ -9,7 +9,7 @@ ghost use Rattle.bm_base.specs.Lawful.{IsLawfulCluster};
 ghost use Rattle.bm_base.specs.declared.limits.TheConstants.{MAX_NODES, MAX_STORAGES};
 ghost use Rattle.bm_topo.specs.Seen.{no_room};
 
-use crate::storage_places::{NOTES, likely_place, note_places};
+use crate::likely_places::LikelyPlaces;
 use bm_base::{NodeId, NumberMap, Rack, Refusal, StorageId, StorageInfo};
 use std::alloc::Global;
 use std::marker::Model;
@@ -40,8 +40,8 @@ pub struct Topology {
     /// For each rack on which nodes stand, how many.
     pub(crate) racks: NumberMap<u32>,
     pub(crate) storages: NumberMap<StorageInfo>,
-    // About where among them each stands.
-    pub(crate) places: [u16; NOTES],
+    // About where in these tables each number stands.
+    pub(crate) places: LikelyPlaces,
 }
 
 impl Model for Topology {
@@ -73,7 +73,7 @@ impl Topology {
             draining: NumberMap::new(alloc),
             racks: NumberMap::new(alloc),
             storages: NumberMap::new(alloc),
-            places: [0; NOTES],
+            places: LikelyPlaces::new(),
         })
     }
 
@@ -91,7 +91,7 @@ impl Topology {
     {
         let number = u64::from(storage.0);
         let entries = self.storages.entries();
-        if let Some((found, info)) = entries.get(likely_place(&self.places, storage)) {
+        if let Some((found, info)) = entries.get(self.places.of_storage(number)) {
             if *found == number {
                 return Some(*info);
             }
@@ -99,11 +99,33 @@ impl Topology {
         self.storages.get(number)
     }
 
-    /// Notes where the storages stand. Takes no memory.
+    /// Notes where the storages and the nodes stand. Takes no memory.
     pub(crate) fn note_places(&mut self)
         ensures { self.new ≡ self.old }
     {
-        note_places(&mut self.places, self.storages.entries());
+        self.places.note(
+            self.storages.entries(),
+            self.nodes.entries(),
+            self.draining.entries(),
+        );
+    }
+
+    /// The rack of a node, if it is alive: two looks where it is likely to stand, and else a look-up.
+    pub(crate) fn rack_of_node(&self, node: NodeId) -> Option<Rack>
+        ensures { result ≡ map.get self.now.cluster.nodes node }
+    {
+        let number = u64::from(node.0);
+        self.nodes.get_near(number, self.places.of_node(number))
+    }
+
+    /// Whether a node is one of those that drain, as directly.
+    #[tactic(auto, unfolding(bm_base::specs::Replicas::drains))]
+    fn drains(&self, node: NodeId) -> bool
+        ensures { result ≡ replicas.drains self.now.cluster node }
+    {
+        let number = u64::from(node.0);
+        let place = self.places.of_draining(number);
+        self.draining.get_near(number, place).is_some()
     }
 
     /// The node of a storage; `None` where the storage is not known.
@@ -143,7 +165,7 @@ impl Topology {
         ensures { result ≡ replicas.rack_of self.now.cluster storage }
     {
         match self.node_of(storage) {
-            Some(node) => self.nodes.get(u64::from(node.0)),
+            Some(node) => self.rack_of_node(node),
             None => None,
         }
     }
@@ -157,7 +179,7 @@ impl Topology {
             return false;
         }
         match self.node_of(storage) {
-            Some(node) => self.draining.get(u64::from(node.0)).is_some(),
+            Some(node) => self.drains(node),
             None => false,
         }
     }
@@ -178,11 +200,10 @@ impl Topology {
                 remaining: 0,
             };
         };
-        let number = u64::from(info.node.0);
         Location {
             node: Some(info.node),
-            rack: self.nodes.get(number),
-            drains: self.draining.get(number).is_some(),
+            rack: self.rack_of_node(info.node),
+            drains: self.drains(info.node),
             remaining: info.remaining,
         }
     }
@@ -193,8 +214,8 @@ impl Topology {
         ensures { result ≡ (if knows_node self.now.cluster node then Some
             (replicas.drains self.now.cluster node) else None) }
     {
-        match self.nodes.get(u64::from(node.0)) {
-            Some(_) => Some(self.draining.get(u64::from(node.0)).is_some()),
+        match self.rack_of_node(node) {
+            Some(_) => Some(self.drains(node)),
             None => None,
         }
     }

@@ -5,14 +5,14 @@ ghost use Rattle.bm_pending.specs.OnTheWay.{room};
 use crate::MOST;
 use crate::tally::Tally;
 use crate::windows::{begun, ended};
-use bm_base::{BlockId, Refusal, StorageId};
+use bm_base::{BlockId, HashSecret, Refusal, StorageId};
 use bm_pending::PendingTransfers;
 use std::alloc::Global;
 
 pub fn go_over<R: Eprint>(rt: &R, alloc: Global) -> Result<Tally, Refusal> {
     let mut tally = Tally::new();
     for size in 1..=MOST {
-        let mut pending = PendingTransfers::new(alloc);
+        let mut pending = PendingTransfers::new(alloc, HashSecret::none());
         reserve_all(&mut pending, size)?;
         let mut targets = Vec::with_capacity(alloc, 3)?;
         begun(rt, "control");

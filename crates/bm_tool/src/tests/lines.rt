@@ -5,6 +5,7 @@ use crate::{Counted, Summary, run};
 use bm_base::Config;
 use std::alloc::{AllocError, Global};
 use std::process::Abort;
+use std::random::RandomSource;
 use std::sync::Wait;
 use std::test::Fail;
 use std::thread::Threads;
@@ -12,7 +13,7 @@ use std::thread::Threads;
 const BAD: &str = "refused 20 BadLine\n";
 
 /// Each line alone is answered so.
-fn each_is_answered<H: Abort + Threads + Wait + Sync>(
+fn each_is_answered<H: Abort + Threads + Wait + RandomSource + Sync>(
     rt: &H,
     alloc: Global,
     lines: &[(&str, &str)],

@@ -3,6 +3,7 @@ use crate::tests::support::run_with;
 use bm_base::Config;
 use std::alloc::{AllocError, Global};
 use std::process::Abort;
+use std::random::RandomSource;
 use std::sync::Wait;
 use std::test::Fail;
 use std::thread::Threads;
@@ -88,7 +89,7 @@ pub const CLUSTER: &str = "{\"op\":\"register\",\"node\":1,\"rack\":1,\"storages
 ";
 
 /// Each script is answered as its row says, whatever the number of shards and workers.
-pub fn go<H: Abort + Threads + Wait + Sync>(
+pub fn go<H: Abort + Threads + Wait + RandomSource + Sync>(
     rt: &H,
     alloc: Global,
     rows: &[Row],
@@ -101,7 +102,7 @@ pub fn go<H: Abort + Threads + Wait + Sync>(
     Ok(())
 }
 
-fn is_answered<H: Abort + Threads + Wait + Sync>(
+fn is_answered<H: Abort + Threads + Wait + RandomSource + Sync>(
     rt: &H,
     alloc: Global,
     row: &Row,

@@ -4,6 +4,7 @@ use crate::tests::support::{FIRST_PATH, FIRST_PATH_ANSWERS, usual};
 use crate::{Counted, Fault, Summary, run};
 use std::alloc::Global;
 use std::io::Read;
+use std::random::RandomSource;
 use std::sync::Wait;
 use std::thread::Threads;
 
@@ -17,7 +18,7 @@ const FIRST_PATH_SUMMARY: Summary = Summary {
 const FLUSHED: [usize; 5] = [0, 7, 14, 21, 34];
 
 /// What `run` answers on the first path, read in one way or another, where this write or flush fails.
-fn run_failing<H: Threads + Wait + Sync, R: Read + Drop>(
+fn run_failing<H: Threads + Wait + RandomSource + Sync, R: Read + Drop>(
     rt: &H,
     alloc: Global,
     input: R,
@@ -30,7 +31,7 @@ fn run_failing<H: Threads + Wait + Sync, R: Read + Drop>(
 }
 
 /// The same with a line for each read.
-fn run_by_lines<H: Threads + Wait + Sync>(
+fn run_by_lines<H: Threads + Wait + RandomSource + Sync>(
     rt: &H,
     alloc: Global,
     failing_read: Option<usize>,
@@ -125,7 +126,7 @@ fn the_answers_of_a_piece_are_flushed_once(rt: HostRuntime) {
 }
 
 /// What `run` answers where one byte comes for ever, and each line is answered as a bad one.
-fn run_forever<H: Threads + Wait + Sync>(
+fn run_forever<H: Threads + Wait + RandomSource + Sync>(
     rt: &H,
     alloc: Global,
     byte: u8,

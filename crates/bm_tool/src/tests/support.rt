@@ -2,6 +2,7 @@
 use crate::{Counted, Fault, Summary, run};
 use bm_base::Config;
 use std::alloc::Global;
+use std::random::RandomSource;
 use std::sync::Wait;
 use std::thread::Threads;
 
@@ -21,7 +22,7 @@ pub const FIRST_PATH: &str =
 pub const FIRST_PATH_ANSWERS: &str = "ok 0 0\nok 0 0\nok 1 0\nplaces 7; 11\n";
 
 /// What `run` answers and writes for an input in memory.
-pub fn run_with<H: Threads + Wait + Sync>(
+pub fn run_with<H: Threads + Wait + RandomSource + Sync>(
     rt: &H,
     alloc: Global,
     config: &Config,
@@ -34,7 +35,7 @@ pub fn run_with<H: Threads + Wait + Sync>(
 }
 
 /// The same with the worked examples' configuration.
-pub fn run_over<H: Threads + Wait + Sync>(
+pub fn run_over<H: Threads + Wait + RandomSource + Sync>(
     rt: &H,
     alloc: Global,
     input: &[u8],

@@ -8,7 +8,7 @@ use Rattle.bm_topo.proofs.topology.Topology.stored.Goals as goal
 pub returns-then-found-number : goal.returns-then-found-number
 returns-then-found-number c =
     let m = c.self.inside.storages.map in
-    let place = c.likely_place.result in
+    let place = c.of_storage.result in
     let found = c.in-Some.field-0.now in
     let es = c.entries-entries.result.now in
     let within = ltb-true place (length es) (sym c.in-Some.ensures.lookup.0) in

@@ -1,7 +1,7 @@
 use Rattle.std.proofs.Common.{sym, ◌∙◌, arith}
 use Rattle.bm_manager.proofs.Checks.{nothing_refused}
 use Rattle.bm_manager.proofs.Lawfulness.{new_manager}
-use Rattle.bm_manager.proofs.manager.Manager.new.Goals as goal
+use Rattle.bm_manager.proofs.manager.Manager.with_secret.Goals as goal
 
 pub invariant_of-result : goal.invariant_of-result
 invariant_of-result c =

@@ -3,14 +3,14 @@ use Rattle.std.proofs.Common.{ap, ◌∙◌, arith}
 use Rattle.bm_arena.proofs.Entries.{IsArena-first, first_blocks}
 use Rattle.bm_arena.proofs.Bounds.{below-inserted, below-empty}
 use Rattle.bm_arena.proofs.Held.{nothing-held}
-use Rattle.bm_arena.proofs.arena.Arena.new.Goals as goal
+use Rattle.bm_arena.proofs.arena.Arena.with_secret.Goals as goal
 
 pub invariant_of-result : goal.invariant_of-result
 invariant_of-result c =
     record {
       arena =
           IsArena-first c.reserve.new.self c.insert_reserved-delimiter.new.self c.insert_reserved-delimiter.result _ (ap (λ s. s.slots) c.in_ok-reserve.ensures.rest_kept ∙ c.new-slots.ensures.empty)
-          c.insert_reserved-delimiter.ensures.updates c.new.ensures.items _ _ c.new-2.ensures c.new-3.ensures.empty (omega (arith, c.insert_reserved-delimiter.ensures.key, ap (λ s. s.vacant_key) c.in_ok-reserve.ensures.rest_kept, c.new-slots.ensures.first_key));
+          c.insert_reserved-delimiter.ensures.updates c.new.ensures.items _ _ c.new-2.ensures c.with_hasher.ensures.empty (omega (arith, c.insert_reserved-delimiter.ensures.key, ap (λ s. s.vacant_key) c.in_ok-reserve.ensures.rest_kept, c.new-slots.ensures.first_key));
       bounded = below-inserted c.reserve.new.self c.insert_reserved-delimiter.new.self c.insert_reserved-delimiter.result 0 _ _ c.insert_reserved-delimiter.ensures.updates (omega arith) (below-empty c.reserve.new.self (ap (λ s. s.slots) c.in_ok-reserve.ensures.rest_kept ∙ c.new-slots.ensures.empty));
     }
 

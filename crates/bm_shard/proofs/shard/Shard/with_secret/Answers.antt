@@ -5,7 +5,7 @@ use Rattle.bm_levels.specs.Held.{holdings_with}
 use Rattle.bm_shard.proofs.Levels.{right_by_number}
 use Rattle.bm_shard.proofs.Empty.{none_placed}
 use Rattle.bm_shard.proofs.Bare.{none_outside}
-use Rattle.bm_shard.proofs.shard.Shard.new.Goals as goal
+use Rattle.bm_shard.proofs.shard.Shard.with_secret.Goals as goal
 
 pub returns-clause-empty : goal.returns-clause-empty
 unfolding holdings_with empty_holdings

@@ -1,0 +1,146 @@
+// About where in the tables of the cluster a storage and a node stand: so a look-up is direct, however the numbers lie. Only guesses.
+use bm_base::{Rack, StorageInfo};
+
+/// How many notes there are for storages, and for nodes: four for each that there can be. Those of the same hash share a note.
+const STORAGE_NOTES: usize = 16_384;
+
+const NODE_NOTES: usize = 1_024;
+
+/// A number is hashed by one of these factors: 2^64 divided by the golden ratio, and the first odd ones of the round constants of SHA-512.
+const FACTORS: [u64; 16] = [
+    0x9E37_79B9_7F4A_7C15,
+    0x7137_4491_23EF_65CD,
+    0xB5C0_FBCF_EC4D_3B2F,
+    0x59F1_11F1_B605_D019,
+    0x923F_82A4_AF19_4F9B,
+    0x72BE_5D74_F27B_896F,
+    0x80DE_B1FE_3B16_96B1,
+    0x9BDC_06A7_25C7_1235,
+    0xEFBE_4786_384F_25E3,
+    0x0FC1_9DC6_8B8C_D5B5,
+    0x240C_A1CC_77AC_9C65,
+    0x2DE9_2C6F_592B_0275,
+    0x4A74_84AA_6EA6_E483,
+    0x76F9_88DA_8311_53B5,
+    0x983E_5152_EE66_DFAB,
+    0xB003_27C8_98FB_213F,
+];
+
+/// Where storages, nodes and nodes that drain are likely to stand among theirs.
+#[derive(Clone, Copy)]
+pub(crate) struct LikelyPlaces {
+    storage_factor: u64,
+    node_factor: u64,
+    storages: [u16; STORAGE_NOTES],
+    nodes: [u16; NODE_NOTES],
+    // For each alive node, among those that drain.
+    draining: [u16; NODE_NOTES],
+}
+
+impl LikelyPlaces {
+    /// Of no storage and no node.
+    pub(crate) fn new() -> LikelyPlaces {
+        LikelyPlaces {
+            storage_factor: FACTORS[0],
+            node_factor: FACTORS[0],
+            storages: [0; STORAGE_NOTES],
+            nodes: [0; NODE_NOTES],
+            draining: [0; NODE_NOTES],
+        }
+    }
+
+    /// Notes where these stand.
+    pub(crate) fn note(
+        &mut self,
+        storages: &[(u64, StorageInfo)],
+        nodes: &[(u64, Rack)],
+        draining: &[(u64, ())],
+    ) {
+        self.storage_factor = note_evenly(&mut self.storages, storages);
+        self.node_factor = note_evenly(&mut self.nodes, nodes);
+        note_places(&mut self.draining, self.node_factor, nodes, draining);
+    }
+
+    /// Where a storage is likely to stand among the storages.
+    pub(crate) fn of_storage(&self, number: u64) -> usize {
+        noted(&self.storages, self.storage_factor, number)
+    }
+
+    /// Where a node is likely to stand among the nodes.
+    pub(crate) fn of_node(&self, number: u64) -> usize {
+        noted(&self.nodes, self.node_factor, number)
+    }
+
+    /// Where a node is likely to stand, or would stand, among those that drain.
+    pub(crate) fn of_draining(&self, number: u64) -> usize {
+        noted(&self.draining, self.node_factor, number)
+    }
+}
+
+/// Notes the places by the first of the factors by which three quarters find their own note, and else by the one by which most do.
+/// Answers the factor.
+fn note_evenly<V: Copy>(notes: &mut [u16], entries: &[(u64, V)]) -> u64 {
+    let mut best = FACTORS[0];
+    let mut most = 0;
+    for factor in FACTORS {
+        note_places(notes, factor, entries, entries);
+        let count = count_found(notes, factor, entries);
+        if count >= entries.len() / 4 * 3 {
+            return factor;
+        }
+        if count > most {
+            most = count;
+            best = factor;
+        }
+    }
+    note_places(notes, best, entries, entries);
+    best
+}
+
+/// Notes where these numbers stand in a table that has no other: both rise, so that one step leads on where a number has passed it. Of two that
+/// share a note the later one stands there.
+fn note_places<V: Copy, W: Copy>(
+    notes: &mut [u16],
+    factor: u64,
+    numbers: &[(u64, V)],
+    table: &[(u64, W)],
+) {
+    let mut place = 0u16;
+    for (number, _) in numbers {
+        if let Some((other, _)) = table.get(place as usize) {
+            if *other < *number {
+                place = place.wrapping_add(1);
+            }
+        }
+        if let Some(note) = notes.get_mut(note_of(notes.len(), factor, *number)) {
+            *note = place;
+        }
+    }
+}
+
+/// How many of these stand where their note says.
+fn count_found<V: Copy>(notes: &[u16], factor: u64, entries: &[(u64, V)]) -> usize {
+    let mut count = 0usize;
+    for (number, _) in entries {
+        if let Some((other, _)) = entries.get(noted(notes, factor, *number)) {
+            if *other == *number {
+                count = count.wrapping_add(1);
+            }
+        }
+    }
+    count
+}
+
+/// What is noted for a number.
+fn noted(notes: &[u16], factor: u64, number: u64) -> usize {
+    match notes.get(note_of(notes.len(), factor, number)) {
+        Some(place) => *place as usize,
+        None => 0,
+    }
+}
+
+/// Which of so many notes is that of a number.
+fn note_of(count: usize, factor: u64, number: u64) -> usize {
+    let hash = number.wrapping_mul(factor) >> 32;
+    (hash.wrapping_mul(count as u64) >> 32) as usize
+}
