@@ -21,7 +21,7 @@ pub type Slot = usize;
 /// The blocks of one shard with their replicas, and for each storage the list of the slots of its blocks.
 ///
 /// A contract sees it as `Contents`: the block in each slot, the slots of the block numbers, the list of each storage, the slot
-/// of the delimiter, the number of steps and a bound of the slots. Only `new`, `reserve_heads`, `reserve_triplet` and `add_entry` take memory; every
+/// of the delimiter, the number of steps and a bound of the slots. Only `new`, `with_secret`, `reserve_heads`, `reserve_triplet` and `add_entry` take memory; every
 /// other call takes none and succeeds under its conditions. A refused call leaves what is seen as it was, but that a refused
 /// `reserve_heads` may leave heads with empty lists. A list operation takes a constant number of steps beside a look along the few
 /// replicas of the blocks that it touches. A look-up, a list operation and `add_entry` hash a number once at most, and a look-up of a

@@ -1,12 +1,14 @@
 -- What was counted of the replicas at a slot decides how its block is judged.
-use Rattle.std.specs.Prelude.{◌≡◌, ℕ, Bool, true, false, not, ◌&&◌, nat_le, List, [], length, filter_map, Option, Some, None, option_and_then}
+use Rattle.std.specs.Prelude.{◌≡◌, ℕ, ◌≤◌, ◌<◌, Bool, true, false, not, ◌&&◌, if◌then◌else◌, nat_le, nat_lt, List, [], length, filter_map, Option, Some, None, option_and_then}
 use Rattle.std.specs.Option.{option_map_or}
 use Rattle.std.specs.List.{list_any}
 use Rattle.std.proofs.Common.{refl, sym, ap, ◌∙◌, arith}
+use Rattle.std.proofs.lemmas.Bool.{le-leb, lt-leb}
 use Rattle.bm_base.specs.declared.replica.Marks.{Marks}
 use Rattle.bm_base.specs.declared.replica.BlockInfo.{BlockInfo}
+use Rattle.bm_base.specs.declared.level.Level.TheVariants.{BadlyDistributed}
 use Rattle.bm_base.specs.Levels.{level_of}
-use Rattle.bm_base.specs.Spread.{spread}
+use Rattle.bm_base.specs.Spread.{spread, spread_from}
 use Rattle.bm_arena.specs.Triplets.{Block}
 use Rattle.bm_levels.specs.declared.count.Count.{Count}
 use Rattle.bm_levels.specs.Judged.{storages_at, is_live_by, is_drained_by, is_plain, level_by, is_settled_at}
@@ -31,6 +33,38 @@ module _ (rack : ℕ → Option ℕ) (draining : ℕ → Bool) where
       ap (λ z. level_of z.live z.drained i.repl (racks_of z) multi) f
       ∙ (λ t. level_of (lives t) (others t) i.repl (h.3 t) multi)
       ∙ sym (ap (option_and_then (λ (j : BlockInfo). level_of (length (storages_at (is_live_by draining) b.replicas)) (length (storages_at (is_drained_by draining) b.replicas)) j.repl (spread (filter_map rack (storages_at (is_live_by draining) b.replicas))) multi)) e)
+
+  none_wanted : (live drained repl : ℕ) (multi : Bool) → repl ≤ live → level_of live drained repl 2 multi ≡ None
+  unfolding level_of
+  none_wanted live drained repl multi many = rw (le-leb repl live many) (apart (nat_lt 1 repl))
+    where
+      apart : (b : Bool) → (if b && false && multi then Some BadlyDistributed else None) ≡ None
+      apart true = refl
+      apart false = refl
+
+  -- so many as are wanted are live on two racks among the first, and the rest is counted behind them
+  pub level_soon : (multi : Bool) (o : Option Block) (i : BlockInfo) (k : Count) (rs : List (ℕ × Marks)) → info_in o ≡ Some i
+      → counted_on rack draining k rs ≡ counted_on rack draining none (listed o) → i.repl ≤ k.live → k.is_spread ≡ true → None ≡ level_by rack draining multi o
+  level_soon multi o i k rs e f many spread =
+      let z : Count = counted_on rack draining k rs in
+      let h = counted_is rack draining k rs in
+      let two : racks_of z ≡ 2 = h.3 ∙ ap (λ b. if b then 2 else spread_from k.first (filter_map rack (storages_at (is_live_by draining) rs))) spread in
+      let enough : i.repl ≤ z.live = omega (arith, h.0, many) in
+      sym (none_wanted z.live z.drained i.repl multi enough) ∙ sym (ap (λ n. level_of z.live z.drained i.repl n multi) two) ∙ level_known multi o i z e f
+
+  -- more are there than are wanted
+  pub settled_soon : (o : Option Block) (i : BlockInfo) → info_in o ≡ Some i → i.repl < option_map_or (λ (b : Block). length b.replicas) o 0 → false ≡ is_settled_at o
+  unfolding is_settled_at
+  settled_soon None i e more = absurd (omega (arith, more))
+  settled_soon (Some b) i e more =
+      let plain = not (list_any (λ (r : ℕ × Marks). not (is_plain r.1)) b.replicas) in
+      never plain
+      ∙ sym (ap (λ t. plain && t) (lt-leb (length b.replicas) i.repl more))
+      ∙ sym (ap (λ z. plain && option_map_or (λ (j : BlockInfo). nat_le (length b.replicas) j.repl) z true) e)
+    where
+      never : (b : Bool) → false ≡ (b && false)
+      never true = refl
+      never false = refl
 
   pub level_unknown : (multi : Bool) (o : Option Block) → info_in o ≡ None → None ≡ level_by rack draining multi o
   unfolding level_by

@@ -1,5 +1,5 @@
 -- The targets of a block that are left, as they are seen.
-use Rattle.std.specs.Prelude.{◌≡◌, ℕ, ◌-◌, Bool, nat_le, not, ◌==◌, List, map, filter, T}
+use Rattle.std.specs.Prelude.{◌≡◌, ℕ, Bool, not, ◌==◌, List, map, filter, T}
 use Rattle.std.specs.Ordering.{nat_cmp}
 use Rattle.std.specs.FinMap.{is_sorted}
 use Rattle.std.proofs.Common.{refl, sym, ap, ◌∙◌}

@@ -8,7 +8,7 @@ use Rattle.bm_pending.proofs.pending.PendingTransfers.reserve_own.Goals.{then-sh
 use Rattle.bm_pending.proofs.pending.PendingTransfers.reserve_own.Goals as goal
 
 pub loop-transfer-init : goal.loop-transfer-init
-loop-transfer-init c = record { map = refl; rooms = λ b. omega arith; counts = λ q. ap (λ es. count_at es q) c.new-counts.ensures.empty; places = λ q. omega arith }
+loop-transfer-init c = record { map = refl; rooms = λ b. omega arith; counts = λ q. ap (λ es. count_at es q) c.with_hasher-counts.ensures.empty; places = λ q. omega arith }
 
 pub count_one-requires : goal.count_one-requires
 count_one-requires c =
