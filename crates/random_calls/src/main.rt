@@ -19,7 +19,7 @@ mod drawing;
 mod readers;
 
 use alike::are_alike;
-use bm_base::{Answer, Call, Config, Refusal};
+use bm_base::{Answer, Call, Config, HashSecret, Refusal};
 use bm_crew::NoGate;
 use bm_manager::Manager;
 use counts::Counts;
@@ -120,7 +120,7 @@ fn compare<R: Eprint + Threads + Wait + Sync>(
     Ok(calls < LIST || counts.are_enough())
 }
 
-/// Whether two new managers answer so many calls alike.
+/// Whether two new managers answer so many calls alike, of which one hashes by a secret and the other by none.
 fn list_alike<R: Eprint + Threads + Wait + Sync>(
     rt: &R,
     alloc: Global,
@@ -136,7 +136,7 @@ fn list_alike<R: Eprint + Threads + Wait + Sync>(
     };
     let mut pair = Pair {
         one: Manager::new(alloc, one)?,
-        other: Manager::new(alloc, other)?,
+        other: Manager::with_secret(alloc, other, HashSecret::of(1))?,
         config: other,
     };
     for number in 0..count {
