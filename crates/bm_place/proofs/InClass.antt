@@ -16,10 +16,12 @@ use Rattle.bm_place.specs.Compared.{holder_at}
 use Rattle.bm_place.specs.Pass.{cmp_in_class}
 use Rattle.bm_place.proofs.Reordered.{alone_apart}
 
+-- what the sort asks of the order
 pub ranks_in_class : IsStrictWeakOrder (λ (g h : Holder). is_lt (cmp_in_class g h))
 ranks_in_class =
     ranks_by (then_total (on_total (λ (h : Holder). h.remaining) nat_cmp_total) (on_total (λ (h : Holder). h.storage) (back_total nat_cmp_total))) (λ (h : Holder). h)
 
+-- a number of a list is one of the list with another, too
 pub has_more : (xs ys : List ℕ) (x y : ℕ) → has (xs ++ ys) y ≡ true → has (xs ++ x ∷ ys) y ≡ true
 has_more [] ys x y there = or_right (x == y) (has ys y) there
 has_more (z ∷ xs) ys x y there = by (z == y) there (has_more xs ys x y)

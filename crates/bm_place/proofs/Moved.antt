@@ -27,11 +27,13 @@ looked_up C [] each = refl
 looked_up C (h ∷ hs) each = λ i. each.0 i ∷ looked_up C hs each.1 i
 
 module _ (C : Cluster) (ss : List ℕ) (holders : List Holder) (moved : IsPermutation (map (holder_at C) ss) holders) where
+  -- they are what look-ups give
   pub moved_looked_up : holders ≡ map (holder_at C) (storages holders)
   moved_looked_up =
       looked_up C holders
       (each_all (IsLookedUp C) holders (All-permutation (IsLookedUp C) (map (holder_at C) ss) holders moved (All-map (IsLookedUp C) (holder_at C) ss (λ k d lt. refl))))
 
+  -- and each of the storages is among them as often
   pub moved_alike : HaveAlike (storages holders) ss
   moved_alike p =
       count_mapped (λ (h : Holder). h.storage) p holders
