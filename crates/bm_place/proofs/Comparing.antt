@@ -13,7 +13,7 @@ use Rattle.bm_place.specs.Scan.{scan}
 use Rattle.bm_place.proofs.Surplus.{count_cons, found_by}
 
 module _ {X Y : Type 0} (f : X → Y) where
-  count_mapped : (p : Y → Bool) (xs : List X) → count_by p (map f xs) ≡ count_by (λ x. p (f x)) xs
+  pub count_mapped : (p : Y → Bool) (xs : List X) → count_by p (map f xs) ≡ count_by (λ x. p (f x)) xs
   count_mapped p [] = refl
   count_mapped p (x ∷ xs) =
       let one = count_cons p (f x) (map f xs) in

@@ -20,3 +20,7 @@ pub mod Surplus
 pub mod Comparing
 pub mod Taking
 pub mod Telling
+pub mod Reordered
+pub mod Moved
+pub mod InClass
+pub mod Passing

@@ -19,12 +19,13 @@ use Rattle.bm_base.proofs.Differences.{both_parts}
 use Rattle.bm_place.specs.declared.excess.Candidate.{Candidate}
 use Rattle.bm_place.specs.Tables.{count_at}
 use Rattle.bm_place.specs.Candidates.{is_on, CountsRacks, candidate_at, cmp_candidates}
+use Rattle.bm_place.specs.Standing.{is_rack}
 use Rattle.bm_place.specs.Scan.{scan}
 use Rattle.bm_place.proofs.Choosing.{scan-found}
 use Rattle.bm_place.proofs.Counting.{count_none}
 use Rattle.bm_place.proofs.Tables.{count-insert, count-revised}
 
-excess_cmp_total : (C : Cluster) (left : List ℕ) → IsTotalOrder (excess_cmp C left)
+pub excess_cmp_total : (C : Cluster) (left : List ℕ) → IsTotalOrder (excess_cmp C left)
 unfolding excess_cmp
 excess_cmp_total C left = then_total (on_total (λ s. cond (has_rack_mate C left s) 0 1) nat_cmp_total) (then_total (on_total (remaining C) nat_cmp_total) (back_total nat_cmp_total))
 
@@ -34,7 +35,7 @@ excess_cmp_total C left = then_total (on_total (λ s. cond (has_rack_mate C left
 abbrev candidate_by : Cluster → (ℕ → ℕ) → ℕ → Candidate
 candidate_by C count s = record { class = cond (option_map_or (λ r. nat_lt 1 (count r)) (rack_of C s) false) 0 1; remaining = remaining C s; storage = s }
 
-mate_as : (C : Cluster) (left : List ℕ) (count : ℕ → ℕ) → ((r : ℕ) → count r ≡ count_by (is_on C r) left) → (s : ℕ) → option_map_or (λ r. nat_lt 1 (count r)) (rack_of C s) false ≡ has_rack_mate C left s
+pub mate_as : (C : Cluster) (left : List ℕ) (count : ℕ → ℕ) → ((r : ℕ) → count r ≡ count_by (is_on C r) left) → (s : ℕ) → option_map_or (λ r. nat_lt 1 (count r)) (rack_of C s) false ≡ has_rack_mate C left s
 unfolding has_rack_mate share_rack
 mate_as C left count counted s = by (rack_of C s)
   where
@@ -47,7 +48,7 @@ unfolding excess_cmp
 ordered_as C left count counted s t =
     λ i. ordering_then (nat_cmp (cond (mate_as C left count counted s i) 0 1) (cond (mate_as C left count counted t i) 0 1)) (ordering_then (nat_cmp (remaining C s) (remaining C t)) (nat_cmp t s))
 
-all_pass : {X : Type 0} (xs : List X) → filter (λ _. true) xs ≡ xs
+pub all_pass : {X : Type 0} (xs : List X) → filter (λ _. true) xs ≡ xs
 all_pass [] = refl
 all_pass (x ∷ xs) = ap (λ ys. x ∷ ys) (all_pass xs)
 
@@ -79,36 +80,42 @@ excess_found C left counts best i counted all inv =
 pub count_cons : {X : Type 0} (p : X → Bool) (x : X) (xs : List X) → count_by p (x ∷ xs) ≡ cond (p x) 1 0 + count_by p xs
 count_cons p x xs = sum_by-cons (λ y. cond (p y) 1 0) x xs
 
--- the count of those that are left, of which the first is known
-count_left : (p : ℕ → Bool) (ss : List ℕ) (i s : ℕ) (b : Bool) → drop i ss ≡ s ∷ drop (i + 1) ss → p s ≡ b → count_by p (drop i ss) ≡ cond b 1 0 + count_by p (drop (i + 1) ss)
-count_left p ss i s b next is = ap (count_by p) next ∙ count_cons p s (drop (i + 1) ss) ∙ ap (λ t. cond t 1 0 + count_by p (drop (i + 1) ss)) is
+-- Counting the racks of what is looked up.
 
--- a storage with a rack is counted
-pub counted_next : (C : Cluster) (counts more : Map by_number ℕ) (ss : List ℕ) (i s k n : ℕ) (whole : ℕ → ℕ) → drop i ss ≡ s ∷ drop (i + 1) ss → rack_of C s ≡ Some k → n ≡ count_at counts k + 1 → more ≡ insert counts k n
-    → ((r : ℕ) → count_at counts r + count_by (is_on C r) (drop i ss) ≡ whole r) → (r : ℕ) → count_at more r + count_by (is_on C r) (drop (i + 1) ss) ≡ whole r
-counted_next C counts more ss i s k n whole next on count is inv r =
-    let here : is_on C r s ≡ (k == r) = ap (λ o. option_map_or (λ q. q == r) o false) on in
-    let new : count_at more r ≡ cond (k == r) n (count_at counts r) = ap (λ m. count_at m r) is ∙ count-insert counts k n r in
-    by (k == r) refl (count_left (is_on C r) ss i s (k == r) next here) new (inv r)
-  where
-    by : (b : Bool) → (k == r) ≡ b → count_by (is_on C r) (drop i ss) ≡ cond b 1 0 + count_by (is_on C r) (drop (i + 1) ss) → count_at more r ≡ cond b n (count_at counts r)
-        → count_at counts r + count_by (is_on C r) (drop i ss) ≡ whole r → count_at more r + count_by (is_on C r) (drop (i + 1) ss) ≡ whole r
-    by true e left new inv = let same = ap (count_at counts) (eqb-true k r e) in omega (arith, inv, left, new, count, same)
-    by false e left new inv = omega (arith, inv, left, new)
+module _ {X : Type 0} (rack : X → Option ℕ) where
+  abbrev stands_on : ℕ → X → Bool
+  stands_on r x = is_rack r (rack x)
 
--- one without a rack is not
-pub skipped_next : (C : Cluster) (counts : Map by_number ℕ) (ss : List ℕ) (i s : ℕ) (whole : ℕ → ℕ) → drop i ss ≡ s ∷ drop (i + 1) ss → rack_of C s ≡ None
-    → ((r : ℕ) → count_at counts r + count_by (is_on C r) (drop i ss) ≡ whole r) → (r : ℕ) → count_at counts r + count_by (is_on C r) (drop (i + 1) ss) ≡ whole r
-skipped_next C counts ss i s whole next none inv r =
-    let left = count_left (is_on C r) ss i s false next (ap (λ o. option_map_or (λ q. q == r) o false) none) in
-    omega (arith, inv r, left)
+  -- the count of those that are left, of which the first is known
+  count_left : (p : X → Bool) (xs : List X) (i : ℕ) (x : X) (b : Bool) → drop i xs ≡ x ∷ drop (i + 1) xs → p x ≡ b → count_by p (drop i xs) ≡ cond b 1 0 + count_by p (drop (i + 1) xs)
+  count_left p xs i x b next is = ap (count_by p) next ∙ count_cons p x (drop (i + 1) xs) ∙ ap (λ t. cond t 1 0 + count_by p (drop (i + 1) xs)) is
 
--- a count with one more fits, since it is at most the number of storages
-pub count_fits : (C : Cluster) (counts : Map by_number ℕ) (ss : List ℕ) (i s k : ℕ) → drop i ss ≡ s ∷ drop (i + 1) ss → rack_of C s ≡ Some k
-    → ((r : ℕ) → count_at counts r + count_by (is_on C r) (drop i ss) ≡ count_by (is_on C r) ss) → count_at counts k + 1 ≤ length ss
-count_fits C counts ss i s k next on inv =
-    let left = count_left (is_on C k) ss i s true next (ap (λ o. option_map_or (λ q. q == k) o false) on ∙ eq-eqb k k refl) in
-    omega (arith, inv k, left, count_by-le-length (is_on C k) ss)
+  -- one with a rack is counted
+  pub counted_next : (counts more : Map by_number ℕ) (xs : List X) (i : ℕ) (x : X) (k n : ℕ) (whole : ℕ → ℕ) → drop i xs ≡ x ∷ drop (i + 1) xs → rack x ≡ Some k → n ≡ count_at counts k + 1 → more ≡ insert counts k n
+      → ((r : ℕ) → count_at counts r + count_by (stands_on r) (drop i xs) ≡ whole r) → (r : ℕ) → count_at more r + count_by (stands_on r) (drop (i + 1) xs) ≡ whole r
+  counted_next counts more xs i x k n whole next on count is inv r =
+      let here : stands_on r x ≡ (k == r) = ap (is_rack r) on in
+      let new : count_at more r ≡ cond (k == r) n (count_at counts r) = ap (λ m. count_at m r) is ∙ count-insert counts k n r in
+      by (k == r) refl (count_left (stands_on r) xs i x (k == r) next here) new (inv r)
+    where
+      by : (b : Bool) → (k == r) ≡ b → count_by (stands_on r) (drop i xs) ≡ cond b 1 0 + count_by (stands_on r) (drop (i + 1) xs) → count_at more r ≡ cond b n (count_at counts r)
+          → count_at counts r + count_by (stands_on r) (drop i xs) ≡ whole r → count_at more r + count_by (stands_on r) (drop (i + 1) xs) ≡ whole r
+      by true e left new inv = let same = ap (count_at counts) (eqb-true k r e) in omega (arith, inv, left, new, count, same)
+      by false e left new inv = omega (arith, inv, left, new)
+
+  -- one without a rack is not
+  pub skipped_next : (counts : Map by_number ℕ) (xs : List X) (i : ℕ) (x : X) (whole : ℕ → ℕ) → drop i xs ≡ x ∷ drop (i + 1) xs → rack x ≡ None
+      → ((r : ℕ) → count_at counts r + count_by (stands_on r) (drop i xs) ≡ whole r) → (r : ℕ) → count_at counts r + count_by (stands_on r) (drop (i + 1) xs) ≡ whole r
+  skipped_next counts xs i x whole next none inv r =
+      let left = count_left (stands_on r) xs i x false next (ap (is_rack r) none) in
+      omega (arith, inv r, left)
+
+  -- a count with one more fits, since it is at most the number of them
+  pub count_fits : (counts : Map by_number ℕ) (xs : List X) (i : ℕ) (x : X) (k : ℕ) → drop i xs ≡ x ∷ drop (i + 1) xs → rack x ≡ Some k
+      → ((r : ℕ) → count_at counts r + count_by (stands_on r) (drop i xs) ≡ count_by (stands_on r) xs) → count_at counts k + 1 ≤ length xs
+  count_fits counts xs i x k next on inv =
+      let left = count_left (stands_on k) xs i x true next (ap (is_rack k) on ∙ eq-eqb k k refl) in
+      omega (arith, inv k, left, count_by-le-length (stands_on k) xs)
 
 -- those that equal x pass where x does
 same_all : (p : ℕ → Bool) (x : ℕ) (xs : List ℕ) → count_by p (filter (λ s. s == x) xs) ≡ cond (p x) (length (filter (λ s. s == x) xs)) 0

@@ -13,3 +13,4 @@ pub mod Compared
 pub mod Foremost
 pub mod Seats
 pub mod Spans
+pub mod Pass

@@ -43,7 +43,7 @@ pub(crate) fn push_of_few(
 }
 
 /// Puts these storages, looked up, in the place of those that are there.
-fn fill_holders(
+pub(crate) fn fill_holders(
     holders: &mut Vec<Holder>,
     live: &[StorageId],
     topology: &Topology,

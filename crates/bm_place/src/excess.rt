@@ -1,20 +1,22 @@
 // Which replicas of a block are in excess.
-ghost use Rattle.std.specs.Prelude.{◌≡◌, ◌==◌, ◌-◌, ◌++◌, not, filter, ◌≤◌, length, option_map, IsOk, IfOk, IfErr, OnOk};
+ghost use Rattle.std.specs.Prelude.{◌≡◌, ◌==◌, ◌-◌, ◌++◌, ℕ, not, filter, ◌≤◌, length, option_map, IsOk, IfOk, IfErr, OnOk};
 ghost use Rattle.bm_base.specs.declared.refusal.Refusal.TheVariants.{Memory};
 ghost use Rattle.bm_base.specs.Excess as excess;
 ghost use Rattle.bm_base.specs.Lists.{least};
 ghost use Rattle.bm_base.specs.Map as map;
 ghost use Rattle.bm_base.specs.Replicas.{rack_of};
 ghost use Rattle.bm_place.specs.Candidates as candidates;
+ghost use Rattle.bm_place.specs.Compared as compared;
 ghost use Rattle.bm_place.specs.Tables as tables;
 ghost use Rattle.bm_place.specs.Scan as scanned;
 
-use crate::compared::{Holder, push_of_few};
+use crate::compared::{Holder, fill_holders, push_of_few};
+use crate::pass::{names_one_twice, push_in_order, sort_holders};
 use bm_base::{NumberMap, Rack, Refusal, StorageId};
 use bm_topo::Topology;
 use std::alloc::{AllocError, Global};
 
-/// Of how many live replicas, at most, each is compared with the others; of more the racks are counted.
+/// Of how many live replicas, at most, each is compared with the others; more are put in order, and their racks counted.
 const FEW: usize = 8;
 
 /// A replica that may be in excess, in the order of choice but for the storage, of which the greater comes first.
@@ -29,11 +31,11 @@ pub struct Candidate {
 /// Room for the choice of what is in excess, used again from block to block.
 #[derive(Drop)]
 pub struct ExcessRoom {
-    /// Where few are live: those that are left, looked up.
+    /// Where few are live: those that are left, looked up. Where more are: all, in order.
     holders: Vec<Holder>,
-    /// Where more are: those that are left.
+    /// Where more are: those that are left, as far as they have been gone over.
     left: Vec<StorageId>,
-    /// How many of them stand on each rack.
+    /// How many of those that are left stand on each rack.
     racks: NumberMap<usize>,
 }
 
@@ -53,9 +55,10 @@ impl ExcessRoom {
 /// then the greater storage. An unknown storage has no rack and no remaining bytes; a storage that is named twice leaves as one.
 ///
 /// Each replica is looked up once. Where at most eight are live, each of the choices then compares each replica that is left with the
-/// others, and takes no further look-up. Where more are, the racks are counted, and each of the choices looks at each replica that is
-/// left once, by a look-up of its rack, its remaining bytes and the count; so (surplus x replicas) looks in all. Where none is too many
-/// it takes no memory; else `Memory` where a growth of its lists is refused.
+/// others, and takes no further look-up. Where n are, and that is more, they are put in order, their racks are counted, and they are gone
+/// over once; so it takes O(n log n) steps, however many are too many. Only where a storage is named twice among so many does each of the
+/// choices look at each replica that is left once, by a look-up of its rack, its remaining bytes and the count; so (surplus x n) looks in
+/// all. Where none is too many it takes no memory; else `Memory` where a growth of its lists is refused.
 pub fn excess_of(
     alloc: Global,
     live: &[StorageId],
@@ -74,7 +77,7 @@ pub fn excess_of(
 }
 
 /// Puts those that [`excess_of`] answers, in the order of choice, in the place of those that are there. `room` may have been used for
-/// any block before; what stood in it does not matter.
+/// any block before; what stood in it does not matter. It takes the steps that [`excess_of`] takes.
 ///
 /// It takes memory only where some are too many, and then only where `into` or a list of `room` has to hold more than ever before.
 /// `Memory` where such a growth is refused; what `into` holds then is not said.
@@ -98,9 +101,35 @@ pub fn fill_excess(
     if live.len() <= FEW {
         return Ok(push_of_few(into, &mut room.holders, live, surplus, topology)?);
     }
-    fill_left(&mut room.left, live)?;
-    count_racks(&mut room.racks, live, topology)?;
-    Ok(push_chosen(into, &mut room.left, &mut room.racks, surplus, topology)?)
+    Ok(push_of_many(into, room, live, surplus, topology)?)
+}
+
+/// Puts so many of these storages, in the order of choice, behind those that are there. They are gone over once, in order; where one is
+/// named twice, which leaves as one, each choice looks at all that are left.
+fn push_of_many(
+    into: &mut Vec<StorageId>,
+    room: &mut ExcessRoom,
+    live: &[StorageId],
+    surplus: usize,
+    topology: &Topology,
+) -> Result<(), AllocError>
+    ensures { OnOk result (into.new.items ≡ into.old.items
+        ++ excess.excess_among topology.now.cluster surplus live.now) }
+{
+    fill_holders(&mut room.holders, live, topology)?;
+    sort_holders(&mut room.holders);
+    count_racks(&mut room.racks, &room.holders)?;
+    if names_one_twice(&room.holders) {
+        fill_left(&mut room.left, live)?;
+        return push_chosen(into, &mut room.left, &mut room.racks, surplus, topology);
+    }
+    push_in_order(
+        into,
+        &mut room.left,
+        &mut room.racks,
+        &room.holders,
+        surplus,
+    )
 }
 
 /// Puts these storages in the place of those that are there.
@@ -134,18 +163,14 @@ fn push_chosen(
     Ok(())
 }
 
-/// How many of these storages stand on each rack, in the place of what was counted before.
-fn count_racks(
-    counts: &mut NumberMap<usize>,
-    storages: &[StorageId],
-    topology: &Topology,
-) -> Result<(), AllocError>
-    ensures { OnOk result
-        (candidates.CountsRacks topology.now.cluster storages.now counts.new.map) }
+/// How many of these stand on each rack, in the place of what was counted before.
+fn count_racks(counts: &mut NumberMap<usize>, holders: &[Holder]) -> Result<(), AllocError>
+    ensures { OnOk result ((r : ℕ) →
+        tables.count_at counts.new.map r ≡ compared.count_among holders.now r) }
 {
     clear(counts);
-    for storage in storages {
-        let Some(rack) = topology.rack_of(*storage) else {
+    for holder in holders {
+        let Some(rack) = holder.rack else {
             continue;
         };
         let count = count_on(counts, rack);
@@ -162,7 +187,7 @@ fn clear(counts: &mut NumberMap<usize>)
 }
 
 #[tactic(auto, unfolding(crate::specs::Tables::count_at))]
-fn count_on(counts: &NumberMap<usize>, rack: Rack) -> usize
+pub(crate) fn count_on(counts: &NumberMap<usize>, rack: Rack) -> usize
     ensures { result ≡ tables.count_at counts.now.map rack }
 {
     match counts.get(u64::from(rack.0)) {
@@ -249,7 +274,7 @@ fn take_out(
 }
 
 /// So many fewer stand on a rack.
-fn lower(counts: &mut NumberMap<usize>, rack: Rack, gone: usize)
+pub(crate) fn lower(counts: &mut NumberMap<usize>, rack: Rack, gone: usize)
     ensures { counts.new.map ≡ map.revise_at counts.old.map rack (λ n. n - gone) }
 {
     if let Some(count) = counts.get(u64::from(rack.0)) {

@@ -10,6 +10,7 @@ mod compared;
 mod excess;
 mod few;
 mod foremost;
+mod pass;
 mod scheduled;
 mod seats;
 mod source;

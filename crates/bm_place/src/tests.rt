@@ -122,78 +122,169 @@ fn cluster(rt: &impl Abort, alloc: Global, free: &[u64; 6], draining: &[u32]) ->
 
 /// Which of the live replicas are in excess where `repl` are wanted.
 #[derive(Clone, Copy)]
-struct Excess<'a> {
-    free: [u64; 6],
+struct Choice<'a> {
     live: &'a [u32],
     repl: u32,
     chosen: &'a [u32],
+}
+
+/// The same on a cluster of nodes on whose storages so many bytes are free.
+#[derive(Clone, Copy)]
+struct Excess<'a> {
+    free: [u64; 6],
+    choice: Choice<'a>,
 }
 
 static EXCESSES: [Excess<'static>; 6] = [
     // The greatest storage of a shared rack.
     Excess {
         free: FOUR_NODES,
-        live: &[11, 21, 31],
-        repl: 2,
-        chosen: &[21],
+        choice: Choice {
+            live: &[11, 21, 31],
+            repl: 2,
+            chosen: &[21],
+        },
     },
     Excess {
         free: FOUR_NODES,
-        live: &[11, 21, 31, 41],
-        repl: 1,
-        chosen: &[41, 21, 31],
+        choice: Choice {
+            live: &[11, 21, 31, 41],
+            repl: 1,
+            chosen: &[41, 21, 31],
+        },
     },
     Excess {
         free: FOUR_NODES,
-        live: &[11, 31],
-        repl: 2,
-        chosen: &[],
+        choice: Choice {
+            live: &[11, 31],
+            repl: 2,
+            chosen: &[],
+        },
     },
     // One of seventeen replicas on one rack, where sixteen are wanted.
     Excess {
         free: [0, 0, 0, 0, 0, 1000],
-        live: &SEVENTEEN,
-        repl: 16,
-        chosen: &[117],
+        choice: Choice {
+            live: &SEVENTEEN,
+            repl: 16,
+            chosen: &[117],
+        },
     },
     // A full storage before an empty one.
     Excess {
         free: [999, 1000, 1000, 1000, 0, 0],
-        live: &[11, 21, 31],
-        repl: 2,
-        chosen: &[11],
+        choice: Choice {
+            live: &[11, 21, 31],
+            repl: 2,
+            chosen: &[11],
+        },
     },
     Excess {
         free: [999, 1000, 5, 1000, 0, 0],
-        live: &[11, 21, 31],
-        repl: 1,
-        chosen: &[11, 31],
+        choice: Choice {
+            live: &[11, 21, 31],
+            repl: 1,
+            chosen: &[11, 31],
+        },
     },
 ];
+
+/// Storages on nodes of their own that bear the same numbers, each with its rack and how many bytes are free on it. Six stand on the
+/// first rack, four on the second, two on the third. By free bytes, and of equal ones the greater first, they are 12, 4, 7, 8,
+/// 3, 2, 11, 6, 10, 1, 9 and 5.
+static TWELVE: [(u32, u32, u64); 12] = [
+    (1, 1, 700),
+    (2, 1, 300),
+    (3, 1, 300),
+    (4, 1, 100),
+    (5, 1, 900),
+    (6, 1, 500),
+    (7, 2, 200),
+    (8, 2, 300),
+    (9, 2, 800),
+    (10, 2, 600),
+    (11, 3, 400),
+    (12, 3, 50),
+];
+
+static MANY: [Choice<'static>; 4] = [
+    // 12 leaves its rack to 11. Of the first rack 4, 3 and 2 go, of the second 7 and 8, by their bytes.
+    Choice {
+        live: &[1, 2, 3, 4, 5, 6, 7, 8, 9, 10, 11, 12],
+        repl: 6,
+        chosen: &[12, 4, 7, 8, 3, 2],
+    },
+    // Then 11 stays alone on its rack and has to wait. 6 and 1 go of the first rack, which leaves 5 alone, and 10 of the second, which
+    // leaves 9 alone. Of the three that are alone 11 has the fewest bytes, then 9.
+    Choice {
+        live: &[12, 11, 10, 9, 8, 7, 6, 5, 4, 3, 2, 1],
+        repl: 1,
+        chosen: &[12, 4, 7, 8, 3, 2, 6, 10, 1, 11, 9],
+    },
+    // 5 is named twice, and counts twice on the first rack: it has itself beside it there and goes before 11, both namings at once.
+    Choice {
+        live: &[5, 1, 2, 3, 4, 5, 6, 7, 8, 9, 10, 11, 12],
+        repl: 1,
+        chosen: &[12, 4, 7, 8, 3, 2, 6, 10, 1, 5, 11, 9],
+    },
+    // An unknown storage has no rack and no bytes: it goes first of those that are alone.
+    Choice {
+        live: &[1, 2, 3, 4, 5, 6, 7, 8, 9, 10, 11, 12, 13],
+        repl: 3,
+        chosen: &[12, 4, 7, 8, 3, 2, 6, 10, 1, 13],
+    },
+];
+
+fn cluster_of_singles(rt: &impl Abort, alloc: Global) -> Topology {
+    let mut topology = Topology::new(alloc).expect(rt, "memory");
+    for (number, rack, free) in &TWELVE {
+        let storages = [*number];
+        let node = Node {
+            number: *number,
+            rack: *rack,
+            storages: &storages,
+        };
+        join(rt, alloc, &mut topology, &node, *free);
+    }
+    topology
+}
 
 /// Chosen in memory of its own, and in room that the cases before have used.
 fn check_excess(
     rt: &impl Abort,
     alloc: Global,
-    case: &Excess<'_>,
+    topology: &Topology,
+    case: &Choice<'_>,
     chosen: &mut Vec<StorageId>,
     room: &mut ExcessRoom,
 ) {
-    let topology = cluster(rt, alloc, &case.free, &[]);
     let live = named(rt, alloc, case.live);
     let wanted = named(rt, alloc, case.chosen);
-    let alone = excess_of(alloc, live.as_slice(), case.repl, &topology).expect(rt, "memory");
+    let alone = excess_of(alloc, live.as_slice(), case.repl, topology).expect(rt, "memory");
     assert!(rt; alone.as_slice() == wanted.as_slice());
-    fill_excess(chosen, room, live.as_slice(), case.repl, &topology).expect(rt, "memory");
+    fill_excess(chosen, room, live.as_slice(), case.repl, topology).expect(rt, "memory");
     assert!(rt; chosen.as_slice() == wanted.as_slice());
 }
 
 #[test]
 fn replicas_in_excess(rt: HostRuntime) {
-    let mut chosen = Vec::new(rt.alloc());
-    let mut room = ExcessRoom::new(rt.alloc());
+    let alloc = rt.alloc();
+    let mut chosen = Vec::new(alloc);
+    let mut room = ExcessRoom::new(alloc);
     for case in &EXCESSES {
-        check_excess(&rt, rt.alloc(), case, &mut chosen, &mut room);
+        let topology = cluster(&rt, alloc, &case.free, &[]);
+        check_excess(&rt, alloc, &topology, &case.choice, &mut chosen, &mut room);
+    }
+}
+
+#[test]
+fn many_replicas_in_excess(rt: HostRuntime) {
+    let alloc = rt.alloc();
+    let topology = cluster_of_singles(&rt, alloc);
+    let mut chosen = Vec::new(alloc);
+    let mut room = ExcessRoom::new(alloc);
+    for case in &MANY {
+        check_excess(&rt, alloc, &topology, case, &mut chosen, &mut room);
     }
 }
 

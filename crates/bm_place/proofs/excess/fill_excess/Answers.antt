@@ -17,5 +17,4 @@ pub returns-clause-chosen : goal.returns-clause-chosen
 unfolding excess_of
 returns-clause-chosen c =
     let C = c.args.topology.now.cluster in
-    c.in_ok-push_chosen.ensures
-    ∙ (λ i. c.clear.ensures.items i ++ excess_among C (c.saturating_sub-surplus.ensures i) (c.in_ok-fill_left.ensures i))
+    c.in_ok-push_of_many.ensures ∙ (λ i. c.clear.ensures.items i ++ excess_among C (c.saturating_sub-surplus.ensures i) c.args.live.now)

@@ -1,0 +1,109 @@
+// What is in excess where more than a few replicas are live: they are put in order, and gone over once.
+ghost use Rattle.std.specs.Prelude.{◌≡◌, ◌+◌, ◌++◌, ◌&&◌, if◌then◌else◌, false, nat_lt, map, take, ℕ, List, OnOk, IfOk};
+ghost use Rattle.std.specs.Option.{option_map_or};
+ghost use Rattle.std.specs.List.Sorted.{IsPermutation, IsSorted};
+ghost use Rattle.bm_base.specs.Excess as excess;
+ghost use Rattle.bm_base.specs.Lists.{has_repeats};
+ghost use Rattle.bm_base.specs.State.{Cluster};
+ghost use Rattle.bm_place.specs.Compared as compared;
+ghost use Rattle.bm_place.specs.Pass as pass;
+ghost use Rattle.bm_place.specs.Standing.{is_rack};
+ghost use Rattle.bm_place.specs.Tables as tables;
+
+use crate::compared::Holder;
+use crate::excess::{count_on, lower};
+use bm_base::{NumberMap, Rack, StorageId};
+use std::alloc::AllocError;
+
+/// Puts them in the order of choice of those that are of one class: first one on whose storage fewer bytes remain, then the greater
+/// storage. Takes no memory.
+pub(crate) fn sort_holders(holders: &mut Vec<Holder>)
+    ensures moved { IsPermutation holders.old.items holders.new.items }
+    ensures in_order { IsSorted pass.cmp_in_class holders.new.items }
+{
+    holders.sort_unstable_by(|one, other| {
+        one.remaining
+            .cmp(&other.remaining)
+            .then(other.storage.cmp(&one.storage))
+    });
+}
+
+/// Whether one of these, which are in order, is named twice: then it stands beside itself.
+pub(crate) fn names_one_twice(holders: &[Holder]) -> bool
+    ensures { (C : Cluster) (ss : List ℕ) → holders.now ≡ map (compared.holder_at C) ss
+        → IsSorted pass.cmp_in_class holders.now → result ≡ has_repeats ss }
+{
+    let mut before = None;
+    for holder in holders {
+        if before == Some(holder.storage) {
+            return true;
+        }
+        before = Some(holder.storage);
+    }
+    false
+}
+
+/// Puts so many of these storages, which are in order with their racks counted, in the order of choice behind those that are there. Goes
+/// over them once. `kept` is room, of which what stood in it does not matter.
+pub(crate) fn push_in_order(
+    into: &mut Vec<StorageId>,
+    kept: &mut Vec<StorageId>,
+    racks: &mut NumberMap<usize>,
+    holders: &[Holder],
+    surplus: usize,
+) -> Result<(), AllocError>
+    ensures { OnOk result ((C : Cluster) (ss : List ℕ) →
+        pass.AreReady C ss holders.now racks.old.map
+        → into.new.items ≡ into.old.items ++ excess.excess_among C surplus ss) }
+{
+    let more = push_rack_mates(into, kept, racks, holders, surplus)?;
+    kept.truncate(more);
+    into.extend_from_slice(kept)
+}
+
+/// Goes over these storages in order. One whose rack counts more than one is chosen, and the rack counts one fewer from then on; each
+/// other is kept. It ends as soon as there are so many. Answers how many are still to be chosen: these are the first of those that are
+/// kept, since a rack that once counts one holds no other later.
+fn push_rack_mates(
+    into: &mut Vec<StorageId>,
+    kept: &mut Vec<StorageId>,
+    racks: &mut NumberMap<usize>,
+    holders: &[Holder],
+    surplus: usize,
+) -> Result<usize, AllocError>
+    ensures { IfOk result (λ more. (C : Cluster) (ss : List ℕ) →
+        pass.AreReady C ss holders.now racks.old.map
+        → into.new.items ++ take more kept.new.items
+        ≡ into.old.items ++ excess.excess_among C surplus ss) }
+{
+    kept.clear();
+    let mut more = surplus;
+    for holder in holders {
+        if more == 0 {
+            return Ok(0);
+        }
+        if lower_if_more(racks, holder.rack) {
+            into.push(holder.storage)?;
+            more -= 1;
+        } else {
+            kept.push(holder.storage)?;
+        }
+    }
+    Ok(more)
+}
+
+/// Whether a rack counts more than one; not none. If so it counts one fewer from now on.
+fn lower_if_more(racks: &mut NumberMap<usize>, rack: Option<Rack>) -> bool
+    ensures more { result
+        ≡ option_map_or (λ r. nat_lt 1 (tables.count_at racks.old.map r)) rack false }
+    ensures lowered { (r : ℕ) → tables.count_at racks.new.map r
+        + (if result && is_rack r rack then 1 else 0) ≡ tables.count_at racks.old.map r }
+{
+    match rack {
+        Some(rack) if count_on(racks, rack) > 1 => {
+            lower(racks, rack, 1);
+            true
+        }
+        _ => false,
+    }
+}
