@@ -118,7 +118,7 @@ module _ (a : Contents) (pending : Map by_replica ℕ) (lawful : IsLawful a) (b 
 -- a look that was made of these parts
 pub look_is : (a : Contents) (C : Cluster) (l : Look) (slot : ℕ) (m : Map by_replica Marks) → IsLawful a → slot_of a l.id ≡ Some slot
     → m ≡ put_on l.id empty (replicas_at a slot) → l.info ≡ option_and_then (λ (k : Block). k.info) (block_at a slot)
-    → l.excess.items ≡ option_map_or (λ i. excess_of C (storages_in (is_live_on C) (entries m)) i.repl) l.info [] → l.replicas ≡ revise m (λ q x. marked_if (has l.excess.items q.storage) x)
+    → ((s : ℕ) → has l.excess.items s ≡ has (option_map_or (λ i. excess_of C (storages_in (is_live_on C) (entries m)) i.repl) l.info []) s) → l.replicas ≡ revise m (λ q x. marked_if (has l.excess.items q.storage) x)
     → (pend r : ℕ) (pending : Map by_replica ℕ) → IsLook C pend r (holdings_with a pending) l
 look_is a C l slot m lawful here counted info excess replicas pend r pending =
     let found = lawful.found l.id slot here in
@@ -127,10 +127,10 @@ look_is a C l slot m lawful here counted info excess replicas pend r pending =
     let own : m ≡ own_replicas (U a pending lawful l.id slot k here stands C pend r) l.id =
     counted ∙ ap (λ o. put_on l.id empty (option_map_or (λ (z : Block). z.replicas) o [])) stands ∙ own_counted a pending lawful l.id slot k here stands C pend r in
     let known : l.info ≡ k.info = info ∙ ap (option_and_then (λ (z : Block). z.info)) stands in
-    let many : l.excess.items ≡ too_many C pend r (holdings_with a pending) l.id =
-    excess ∙ (λ j. option_map_or (λ i. excess_of C (storages_in (is_live_on C) (entries (own j))) i.repl) (known j) []) ∙ excess_is a pending lawful l.id slot k here stands C pend r in
+    let many : (s : ℕ) → has l.excess.items s ≡ has (too_many C pend r (holdings_with a pending) l.id) s =
+    λ s. excess s ∙ (λ j. has (option_map_or (λ i. excess_of C (storages_in (is_live_on C) (entries (own j))) i.repl) (known j) []) s) ∙ ap (λ ss. has ss s) (excess_is a pending lawful l.id slot k here stands C pend r) in
     record {
       info = known ∙ sym (found_info a pending lawful l.id slot k here stands);
       excess = many;
-      replicas = replicas ∙ (λ j. revise (own j) (λ q x. marked_if (has (many j) q.storage) x)) ∙ marked_is a pending lawful l.id slot k here stands C pend r;
+      replicas = replicas ∙ (λ j. revise (own j) (λ q x. marked_if (many q.storage j) x)) ∙ marked_is a pending lawful l.id slot k here stands C pend r;
     }

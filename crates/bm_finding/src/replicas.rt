@@ -1,5 +1,6 @@
 // The replicas of one block, with their marks as a round begins.
 ghost use Rattle.std.specs.Prelude.{◌≡◌, true, filter_map, IfOk, OnOk};
+ghost use Rattle.std.specs.List.Sorted.{IsNonDecreasing};
 ghost use Rattle.bm_base.specs.Map as map_of;
 ghost use Rattle.bm_base.specs.Lists.{has};
 ghost use Rattle.bm_base.specs.Replicas as replicas;
@@ -12,6 +13,9 @@ use bm_arena::{Arena, Slot};
 use bm_base::{BlockId, Marks, Rack, ReplicaId, ReplicaMap, StorageId, StorageIds};
 use bm_topo::Topology;
 use std::alloc::{AllocError, Global};
+
+/// Of how many storages, at most, each is looked at where one is looked for; among more it is looked for by halves.
+const FEW: usize = 8;
 
 /// The storages of a block's usable replicas.
 #[derive(Drop)]
@@ -46,8 +50,10 @@ fn clear(replicas: &mut ReplicaMap<Marks>)
     replicas.retain(|_| false);
 }
 
-/// Marks those on these storages as being in excess. Takes no memory.
+/// Marks those on these storages, which are in rising order, as being in excess: one search among the storages for each replica. Takes
+/// no memory.
 pub(crate) fn mark_on(replicas: &mut ReplicaMap<Marks>, excess: &[StorageId])
+    requires { IsNonDecreasing excess.now }
     ensures { replicas.new
         ≡ map_of.revise replicas.old (λ q m. marked_if (has excess.now q.storage) m) }
 {
@@ -126,8 +132,13 @@ fn marked_if(is_excess: bool, marks: Marks) -> Marks
     }
 }
 
+/// Whether a storage is among these, which are in rising order. Takes O(log n) steps for n of them.
 pub(crate) fn contains(storages: &[StorageId], storage: StorageId) -> bool
+    requires { IsNonDecreasing storages.now }
     ensures { result ≡ has storages.now storage }
 {
-    storages.iter().any(|other| *other == storage)
+    if storages.len() <= FEW {
+        return storages.iter().any(|other| *other == storage);
+    }
+    storages.binary_search(&storage).is_ok()
 }
