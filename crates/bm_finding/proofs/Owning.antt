@@ -45,7 +45,7 @@ storages_own p H b =
     ap (λ es. map (λ (e : ReplicaId × Marks). e.0.storage) (filter (λ e. p e.0.storage e.1) es)) (entries-keep by_replica H.replicas (λ q _. q.block == b))
     ∙ ap (map (λ (e : ReplicaId × Marks). e.0.storage)) (filter_filter (λ (e : ReplicaId × Marks). p e.0.storage e.1) (λ e. e.0.block == b) (entries H.replicas))
 
-absent_marks : (rs : List (ℕ × Marks)) (s : ℕ) → (Among s (map (λ r. r.0) rs) → ⊥) → find_marks rs s ≡ None
+pub absent_marks : (rs : List (ℕ × Marks)) (s : ℕ) → (Among s (map (λ r. r.0) rs) → ⊥) → find_marks rs s ≡ None
 absent_marks [] s none = refl
 absent_marks (r ∷ rs) s none = by (r.0 == s) refl (absent_marks rs s (λ h. none (inr h)))
   where
@@ -65,7 +65,7 @@ unput : (t : Bool) (rest : Option Marks) → rest ≡ cond t rest rest
 unput true rest = refl
 unput false rest = refl
 
-get-put_on : (b : ℕ) (rs : List (ℕ × Marks)) (m : Map by_replica Marks) (q : ReplicaId) → Distinct (map (λ r. r.0) rs)
+pub get-put_on : (b : ℕ) (rs : List (ℕ × Marks)) (m : Map by_replica Marks) (q : ReplicaId) → Distinct (map (λ r. r.0) rs)
     → get (put_on b m rs) q ≡ cond (q.block == b) (option_or (option_map counted_again (find_marks rs q.storage)) (get m q)) (get m q)
 get-put_on b [] m q d = unput (q.block == b) (get m q)
 get-put_on b (r ∷ rs) m q d =

@@ -30,6 +30,8 @@ pub(crate) struct Look {
     pub excess: Vec<StorageId>,
     /// All its replicas as the round chooses, those that are too many marked.
     pub replicas: ReplicaMap<Marks>,
+    /// Room for its replicas where it has more than a few: to put them in order.
+    triplets: Vec<(StorageId, Marks)>,
     /// Room for the choice of those that are too many.
     room: ExcessRoom,
 }
@@ -44,13 +46,15 @@ impl Look {
             info: None,
             excess: Vec::new(alloc),
             replicas: ReplicaMap::new(alloc),
+            triplets: Vec::new(alloc),
             room: ExcessRoom::new(alloc),
         }
     }
 
     /// Looks at the block of a number with this slot, and tells on which storages its usable replicas stand: a few looks at each of its
-    /// replicas. It takes memory only where more than four are live or drained, where it has more replicas than each block before, or
-    /// where some are too many and a list for them has to hold more than at each block before.
+    /// replicas, and O(n log n) steps where it has n of them, more than eight. It takes memory only where more than four are live or
+    /// drained, where it has more replicas than each block before, or where some are too many and a list for them has to hold more than
+    /// at each block before.
     pub(crate) fn look_at(
         &mut self,
         alloc: Global,
@@ -69,7 +73,7 @@ impl Look {
         ensures refused { IfErr result (λ e. e ≡ Memory) }
     {
         arena.lawful();
-        fill_counted(&mut self.replicas, arena, slot, id)?;
+        fill_counted(&mut self.replicas, &mut self.triplets, arena, slot, id)?;
         let usable = usable_among(alloc, topology, self.replicas.entries())?;
         self.id = id;
         self.info = arena.info(slot);

@@ -14,7 +14,8 @@ use bm_base::{BlockId, Marks, Rack, ReplicaId, ReplicaMap, StorageId, StorageIds
 use bm_topo::Topology;
 use std::alloc::{AllocError, Global};
 
-/// Of how many storages, at most, each is looked at where one is looked for; among more it is looked for by halves.
+/// Of how many storages, at most, each is looked at where one is looked for, and how many replicas, at most, are put as they were linked.
+/// Among more it is looked for by halves, and more are put in order first.
 const FEW: usize = 8;
 
 /// The storages of a block's usable replicas.
@@ -25,9 +26,11 @@ pub(crate) struct Usable {
 }
 
 /// Puts the replicas at a slot in the place of those that are there, rising by storage. One in excess counts again where its deletion was
-/// not commanded.
+/// not commanded. It takes O(n log n) steps for n of them: more than a few are put in order first, so that none has to move for another.
+/// `triplets` is room for these, of which what stood in it does not matter.
 pub(crate) fn fill_counted(
     into: &mut ReplicaMap<Marks>,
+    triplets: &mut Vec<(StorageId, Marks)>,
     arena: &Arena,
     slot: Slot,
     block: BlockId,
@@ -35,10 +38,76 @@ pub(crate) fn fill_counted(
     ensures { OnOk result (into.new ≡ put_on block map_of.empty (replicas_at arena.now slot)) }
 {
     clear(into);
+    if arena.triplet_count(slot) <= FEW {
+        return put_as_linked(into, arena, slot, block);
+    }
+    put_in_order(into, triplets, arena, slot, block)
+}
+
+/// Puts the replicas at a slot to those that are there, in the order in which they were linked.
+fn put_as_linked(
+    into: &mut ReplicaMap<Marks>,
+    arena: &Arena,
+    slot: Slot,
+    block: BlockId,
+) -> Result<(), AllocError>
+    ensures { OnOk result (into.new ≡ put_on block into.old (replicas_at arena.now slot)) }
+{
     for place in 0..arena.triplet_count(slot) {
         if let Some((storage, marks)) = arena.triplet_at(slot, place) {
             into.insert(ReplicaId { block, storage }, marks.counted_again())?;
         }
+    }
+    Ok(())
+}
+
+/// Puts the replicas at a slot to those that are there, in rising order of storage.
+fn put_in_order(
+    into: &mut ReplicaMap<Marks>,
+    triplets: &mut Vec<(StorageId, Marks)>,
+    arena: &Arena,
+    slot: Slot,
+    block: BlockId,
+) -> Result<(), AllocError>
+    ensures { OnOk result (into.new ≡ put_on block into.old (replicas_at arena.now slot)) }
+{
+    arena.lawful();
+    fill_triplets(triplets, arena, slot)?;
+    triplets.sort_unstable_by_key(|triplet| triplet.0);
+    put_each(into, block, triplets.as_slice())
+}
+
+/// Puts the replicas at a slot, with their marks as they are, in the place of those that are there.
+fn fill_triplets(
+    into: &mut Vec<(StorageId, Marks)>,
+    arena: &Arena,
+    slot: Slot,
+) -> Result<(), AllocError>
+    ensures { OnOk result (into.new.items ≡ replicas_at arena.now slot) }
+{
+    into.clear();
+    for place in 0..arena.triplet_count(slot) {
+        if let Some(triplet) = arena.triplet_at(slot, place) {
+            into.push(triplet)?;
+        }
+    }
+    Ok(())
+}
+
+/// Puts these replicas of a block to those that are there, one after another.
+fn put_each(
+    into: &mut ReplicaMap<Marks>,
+    block: BlockId,
+    triplets: &[(StorageId, Marks)],
+) -> Result<(), AllocError>
+    ensures { OnOk result (into.new ≡ put_on block into.old triplets.now) }
+{
+    for (storage, marks) in triplets {
+        let replica = ReplicaId {
+            block,
+            storage: *storage,
+        };
+        into.insert(replica, marks.counted_again())?;
     }
     Ok(())
 }
