@@ -25,9 +25,10 @@ storages rs = map (λ r. r.0) rs
 -- each replica is the one that is found on its storage
 found_each : (rs : List (ℕ × Marks)) → Distinct (storages rs) → Each (λ r. find_marks rs r.0 ≡ Some r.1) rs
 found_each [] d = tt
-found_each (r ∷ rs) d =
-    (ap (λ t. cond t (Some r.1) (find_marks rs r.0)) (eq-eqb r.0 r.0 refl),
-    each_then (λ q. find_marks rs q.0 ≡ Some q.1) (λ q. find_marks (r ∷ rs) q.0 ≡ Some q.1) rs (found_each rs d.1) (λ q h. by q (r.0 == q.0) refl h))
+found_each (r ∷ rs) d = (
+  ap (λ t. cond t (Some r.1) (find_marks rs r.0)) (eq-eqb r.0 r.0 refl),
+  each_then (λ q. find_marks rs q.0 ≡ Some q.1) (λ q. find_marks (r ∷ rs) q.0 ≡ Some q.1) rs (found_each rs d.1) (λ q h. by q (r.0 == q.0) refl h),
+)
   where
     sure : {m : Marks} → None ≡ Some m → ⊥
     sure e = cc
