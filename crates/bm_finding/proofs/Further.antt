@@ -1,10 +1,12 @@
 -- What is found of one block more.
-use Rattle.std.specs.Prelude.{◌≡◌, ℕ, Bool, true, false, nat_le, length, List, [], ◌∷◌, ◌++◌, Option, option_and_then, option_to_list}
+use Rattle.std.specs.Prelude.{◌≡◌, ℕ, Bool, true, false, nat_le, length, map, filter, List, [], ◌∷◌, ◌++◌, Option, option_and_then, option_to_list}
 use Rattle.std.specs.Option.{option_map_or}
 use Rattle.std.specs.List.{flat_map}
 use Rattle.std.proofs.Common.{refl, sym, ap, ◌∙◌}
 use Rattle.std.proofs.lemmas.List.{flat_map_more}
 use Rattle.bm_base.specs.declared.replica.BlockInfo.{BlockInfo}
+use Rattle.bm_base.specs.declared.replica.Marks.{Marks}
+use Rattle.bm_base.specs.declared.replica.ReplicaId.{ReplicaId}
 use Rattle.bm_base.specs.declared.round.Wish.{Wish}
 use Rattle.bm_base.specs.Map.{get, entries}
 use Rattle.bm_base.specs.State.{Cluster, Holdings}
@@ -81,7 +83,7 @@ module _ (C : Cluster) (pend r : ℕ) (a : Contents) (p : OnTheWay) (l : Look) (
 
   pub found_more : (bound : Option (ℕ × ℕ)) (f g : Found) → IsPut C pend r bound p l u e f g → (bs : List ℕ) → HasFound C pend r H bound bs f → HasFound C pend r H bound (bs ++ l.id ∷ []) g
   found_more bound f g put bs has = record {
-    excess = put.excess ∙ (λ j. has.excess j ++ replicas_on (look.excess j) (entries (look.replicas j))) ∙ more (excess_at C pend r H) bs l.id;
+    excess = put.excess ∙ (λ j. has.excess j ++ map (λ (e : ReplicaId × Marks). e.0) (filter (λ e. look.excess e.0.storage j) (entries (look.replicas j)))) ∙ more (excess_at C pend r H) bs l.id;
     wishes = put.wishes ∙ (λ j. has.wishes j ++ wishes_before bound (option_to_list (wish_is j))) ∙ more (λ b. wishes_before bound (wishes_at C pend r H b)) bs l.id;
     deletes = put.deletes ∙ (λ j. has.deletes j ++ deletes_of (enough_is j) (entries (look.replicas j))) ∙ more (deletes_at C pend r H) bs l.id;
   }

@@ -3,6 +3,7 @@ pub mod NoneKept
 pub mod Unmoved
 pub mod Unmarked
 pub mod Owning
+pub mod AnyOrder
 pub mod OwnWish
 pub mod InOrder
 pub mod Collecting

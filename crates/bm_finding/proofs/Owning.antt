@@ -45,7 +45,7 @@ storages_own p H b =
     ap (λ es. map (λ (e : ReplicaId × Marks). e.0.storage) (filter (λ e. p e.0.storage e.1) es)) (entries-keep by_replica H.replicas (λ q _. q.block == b))
     ∙ ap (map (λ (e : ReplicaId × Marks). e.0.storage)) (filter_filter (λ (e : ReplicaId × Marks). p e.0.storage e.1) (λ e. e.0.block == b) (entries H.replicas))
 
-absent_marks : (rs : List (ℕ × Marks)) (s : ℕ) → (Among s (map (λ r. r.0) rs) → ⊥) → find_marks rs s ≡ None
+pub absent_marks : (rs : List (ℕ × Marks)) (s : ℕ) → (Among s (map (λ r. r.0) rs) → ⊥) → find_marks rs s ≡ None
 absent_marks [] s none = refl
 absent_marks (r ∷ rs) s none = by (r.0 == s) refl (absent_marks rs s (λ h. none (inr h)))
   where
@@ -65,7 +65,7 @@ unput : (t : Bool) (rest : Option Marks) → rest ≡ cond t rest rest
 unput true rest = refl
 unput false rest = refl
 
-get-put_on : (b : ℕ) (rs : List (ℕ × Marks)) (m : Map by_replica Marks) (q : ReplicaId) → Distinct (map (λ r. r.0) rs)
+pub get-put_on : (b : ℕ) (rs : List (ℕ × Marks)) (m : Map by_replica Marks) (q : ReplicaId) → Distinct (map (λ r. r.0) rs)
     → get (put_on b m rs) q ≡ cond (q.block == b) (option_or (option_map counted_again (find_marks rs q.storage)) (get m q)) (get m q)
 get-put_on b [] m q d = unput (q.block == b) (get m q)
 get-put_on b (r ∷ rs) m q d =
@@ -118,7 +118,7 @@ module _ (a : Contents) (pending : Map by_replica ℕ) (lawful : IsLawful a) (b 
 -- a look that was made of these parts
 pub look_is : (a : Contents) (C : Cluster) (l : Look) (slot : ℕ) (m : Map by_replica Marks) → IsLawful a → slot_of a l.id ≡ Some slot
     → m ≡ put_on l.id empty (replicas_at a slot) → l.info ≡ option_and_then (λ (k : Block). k.info) (block_at a slot)
-    → l.excess.items ≡ option_map_or (λ i. excess_of C (storages_in (is_live_on C) (entries m)) i.repl) l.info [] → l.replicas ≡ revise m (λ q x. marked_if (has l.excess.items q.storage) x)
+    → ((s : ℕ) → has l.excess.items s ≡ has (option_map_or (λ i. excess_of C (storages_in (is_live_on C) (entries m)) i.repl) l.info []) s) → l.replicas ≡ revise m (λ q x. marked_if (has l.excess.items q.storage) x)
     → (pend r : ℕ) (pending : Map by_replica ℕ) → IsLook C pend r (holdings_with a pending) l
 look_is a C l slot m lawful here counted info excess replicas pend r pending =
     let found = lawful.found l.id slot here in
@@ -127,10 +127,10 @@ look_is a C l slot m lawful here counted info excess replicas pend r pending =
     let own : m ≡ own_replicas (U a pending lawful l.id slot k here stands C pend r) l.id =
     counted ∙ ap (λ o. put_on l.id empty (option_map_or (λ (z : Block). z.replicas) o [])) stands ∙ own_counted a pending lawful l.id slot k here stands C pend r in
     let known : l.info ≡ k.info = info ∙ ap (option_and_then (λ (z : Block). z.info)) stands in
-    let many : l.excess.items ≡ too_many C pend r (holdings_with a pending) l.id =
-    excess ∙ (λ j. option_map_or (λ i. excess_of C (storages_in (is_live_on C) (entries (own j))) i.repl) (known j) []) ∙ excess_is a pending lawful l.id slot k here stands C pend r in
+    let many : (s : ℕ) → has l.excess.items s ≡ has (too_many C pend r (holdings_with a pending) l.id) s =
+    λ s. excess s ∙ (λ j. has (option_map_or (λ i. excess_of C (storages_in (is_live_on C) (entries (own j))) i.repl) (known j) []) s) ∙ ap (λ ss. has ss s) (excess_is a pending lawful l.id slot k here stands C pend r) in
     record {
       info = known ∙ sym (found_info a pending lawful l.id slot k here stands);
       excess = many;
-      replicas = replicas ∙ (λ j. revise (own j) (λ q x. marked_if (has (many j) q.storage) x)) ∙ marked_is a pending lawful l.id slot k here stands C pend r;
+      replicas = replicas ∙ (λ j. revise (own j) (λ q x. marked_if (many q.storage j) x)) ∙ marked_is a pending lawful l.id slot k here stands C pend r;
     }

@@ -26,7 +26,8 @@ use std::alloc::Global;
 /// It looks at the blocks that are not settled, and at those before the bound at a level at which copies are wished for, and goes over
 /// the transfers on their way once; so its cost does not grow with the number of the other blocks, but for one step of dense memory, and
 /// a look at the level and the number, for each that is at such a level. Each block that it looks at costs a few looks at each of its
-/// replicas, and what is found is sorted.
+/// replicas; one with n of them, more than eight, costs O(n log n) steps besides: they are put in order, and each is looked for among
+/// those that are too many. What is found is sorted.
 pub fn find_round(
     alloc: Global,
     blocks: &LeveledBlocks,

@@ -1,6 +1,7 @@
 // One block as a round begins.
 ghost use Rattle.std.specs.Prelude.{◌≡◌, ℕ, Some, IfOk, IfErr, OnOk, ◌++◌, length};
 ghost use Rattle.std.specs.Option.{option_map_or};
+ghost use Rattle.std.specs.List.Sorted.{IsNonDecreasing};
 ghost use Rattle.bm_base.specs.declared.refusal.Refusal.TheVariants.{Memory};
 ghost use Rattle.bm_base.specs.Lists.{has};
 ghost use Rattle.bm_base.specs.Map.{Map, empty, entries, revise};
@@ -25,10 +26,12 @@ pub(crate) struct Look {
     pub id: BlockId,
     /// What is known of it; `None` where it is no known block.
     pub info: Option<BlockInfo>,
-    /// The storages of its live replicas that are too many.
+    /// The storages of its live replicas that are too many, in rising order.
     pub excess: Vec<StorageId>,
     /// All its replicas as the round chooses, those that are too many marked.
     pub replicas: ReplicaMap<Marks>,
+    /// Room for its replicas where it has more than a few: to put them in order.
+    triplets: Vec<(StorageId, Marks)>,
     /// Room for the choice of those that are too many.
     room: ExcessRoom,
 }
@@ -43,13 +46,15 @@ impl Look {
             info: None,
             excess: Vec::new(alloc),
             replicas: ReplicaMap::new(alloc),
+            triplets: Vec::new(alloc),
             room: ExcessRoom::new(alloc),
         }
     }
 
     /// Looks at the block of a number with this slot, and tells on which storages its usable replicas stand: a few looks at each of its
-    /// replicas. It takes memory only where more than four are live or drained, where it has more replicas than each block before, or
-    /// where some are too many and a list for them has to hold more than at each block before.
+    /// replicas, and O(n log n) steps where it has n of them, more than eight. It takes memory only where more than four are live or
+    /// drained, where it has more replicas than each block before, or where some are too many and a list for them has to hold more than
+    /// at each block before.
     pub(crate) fn look_at(
         &mut self,
         alloc: Global,
@@ -62,12 +67,13 @@ impl Look {
         ensures id { OnOk result (self.new.id ≡ id) }
         ensures look { OnOk result ((pend r : ℕ) (pending : Map by_replica ℕ)
             → IsLook topology.now.cluster pend r (holdings_with arena.now pending) self.new) }
+        ensures in_order { OnOk result (IsNonDecreasing self.new.excess.items) }
         ensures usable { IfOk result
             (λ u. AreUsable topology.now.cluster (entries self.new.replicas) u) }
         ensures refused { IfErr result (λ e. e ≡ Memory) }
     {
         arena.lawful();
-        fill_counted(&mut self.replicas, arena, slot, id)?;
+        fill_counted(&mut self.replicas, &mut self.triplets, arena, slot, id)?;
         let usable = usable_among(alloc, topology, self.replicas.entries())?;
         self.id = id;
         self.info = arena.info(slot);
@@ -78,6 +84,7 @@ impl Look {
             self.info,
             usable.live.as_slice(),
         )?;
+        self.excess.sort_unstable();
         Ok(self.mark(alloc, topology, usable)?)
     }
 
@@ -88,7 +95,8 @@ impl Look {
         topology: &Topology,
         usable: Usable,
     ) -> Result<Usable, AllocError>
-        requires { AreUsable topology.now.cluster (entries self.old.replicas) usable }
+        requires usable { AreUsable topology.now.cluster (entries self.old.replicas) usable }
+        requires in_order { IsNonDecreasing self.old.excess.items }
         ensures marked { OnOk result (self.new
             ≡ record self.old {
               replicas = revise self.old.replicas
@@ -106,6 +114,7 @@ impl Look {
 
     /// Puts the replicas that are too many behind those that are there.
     pub(crate) fn push_excess(&self, into: &mut Vec<ReplicaId>) -> Result<(), AllocError>
+        requires { IsNonDecreasing self.now.excess.items }
         ensures { OnOk result (into.new.items ≡ into.old.items
             ++ replicas_on self.now.excess.items (entries self.now.replicas)) }
     {

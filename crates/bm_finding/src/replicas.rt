@@ -1,5 +1,6 @@
 // The replicas of one block, with their marks as a round begins.
 ghost use Rattle.std.specs.Prelude.{◌≡◌, true, filter_map, IfOk, OnOk};
+ghost use Rattle.std.specs.List.Sorted.{IsNonDecreasing};
 ghost use Rattle.bm_base.specs.Map as map_of;
 ghost use Rattle.bm_base.specs.Lists.{has};
 ghost use Rattle.bm_base.specs.Replicas as replicas;
@@ -13,6 +14,10 @@ use bm_base::{BlockId, Marks, Rack, ReplicaId, ReplicaMap, StorageId, StorageIds
 use bm_topo::Topology;
 use std::alloc::{AllocError, Global};
 
+/// Of how many storages, at most, each is looked at where one is looked for, and how many replicas, at most, are put as they were linked.
+/// Among more it is looked for by halves, and more are put in order first.
+const FEW: usize = 8;
+
 /// The storages of a block's usable replicas.
 #[derive(Drop)]
 pub(crate) struct Usable {
@@ -21,9 +26,11 @@ pub(crate) struct Usable {
 }
 
 /// Puts the replicas at a slot in the place of those that are there, rising by storage. One in excess counts again where its deletion was
-/// not commanded.
+/// not commanded. It takes O(n log n) steps for n of them: more than a few are put in order first, so that none has to move for another.
+/// `triplets` is room for these, of which what stood in it does not matter.
 pub(crate) fn fill_counted(
     into: &mut ReplicaMap<Marks>,
+    triplets: &mut Vec<(StorageId, Marks)>,
     arena: &Arena,
     slot: Slot,
     block: BlockId,
@@ -31,10 +38,76 @@ pub(crate) fn fill_counted(
     ensures { OnOk result (into.new ≡ put_on block map_of.empty (replicas_at arena.now slot)) }
 {
     clear(into);
+    if arena.triplet_count(slot) <= FEW {
+        return put_as_linked(into, arena, slot, block);
+    }
+    put_in_order(into, triplets, arena, slot, block)
+}
+
+/// Puts the replicas at a slot to those that are there, in the order in which they were linked.
+fn put_as_linked(
+    into: &mut ReplicaMap<Marks>,
+    arena: &Arena,
+    slot: Slot,
+    block: BlockId,
+) -> Result<(), AllocError>
+    ensures { OnOk result (into.new ≡ put_on block into.old (replicas_at arena.now slot)) }
+{
     for place in 0..arena.triplet_count(slot) {
         if let Some((storage, marks)) = arena.triplet_at(slot, place) {
             into.insert(ReplicaId { block, storage }, marks.counted_again())?;
         }
+    }
+    Ok(())
+}
+
+/// Puts the replicas at a slot to those that are there, in rising order of storage.
+fn put_in_order(
+    into: &mut ReplicaMap<Marks>,
+    triplets: &mut Vec<(StorageId, Marks)>,
+    arena: &Arena,
+    slot: Slot,
+    block: BlockId,
+) -> Result<(), AllocError>
+    ensures { OnOk result (into.new ≡ put_on block into.old (replicas_at arena.now slot)) }
+{
+    arena.lawful();
+    fill_triplets(triplets, arena, slot)?;
+    triplets.sort_unstable_by_key(|triplet| triplet.0);
+    put_each(into, block, triplets.as_slice())
+}
+
+/// Puts the replicas at a slot, with their marks as they are, in the place of those that are there.
+fn fill_triplets(
+    into: &mut Vec<(StorageId, Marks)>,
+    arena: &Arena,
+    slot: Slot,
+) -> Result<(), AllocError>
+    ensures { OnOk result (into.new.items ≡ replicas_at arena.now slot) }
+{
+    into.clear();
+    for place in 0..arena.triplet_count(slot) {
+        if let Some(triplet) = arena.triplet_at(slot, place) {
+            into.push(triplet)?;
+        }
+    }
+    Ok(())
+}
+
+/// Puts these replicas of a block to those that are there, one after another.
+fn put_each(
+    into: &mut ReplicaMap<Marks>,
+    block: BlockId,
+    triplets: &[(StorageId, Marks)],
+) -> Result<(), AllocError>
+    ensures { OnOk result (into.new ≡ put_on block into.old triplets.now) }
+{
+    for (storage, marks) in triplets {
+        let replica = ReplicaId {
+            block,
+            storage: *storage,
+        };
+        into.insert(replica, marks.counted_again())?;
     }
     Ok(())
 }
@@ -46,8 +119,10 @@ fn clear(replicas: &mut ReplicaMap<Marks>)
     replicas.retain(|_| false);
 }
 
-/// Marks those on these storages as being in excess. Takes no memory.
+/// Marks those on these storages, which are in rising order, as being in excess: one search among the storages for each replica. Takes
+/// no memory.
 pub(crate) fn mark_on(replicas: &mut ReplicaMap<Marks>, excess: &[StorageId])
+    requires { IsNonDecreasing excess.now }
     ensures { replicas.new
         ≡ map_of.revise replicas.old (λ q m. marked_if (has excess.now q.storage) m) }
 {
@@ -126,8 +201,13 @@ fn marked_if(is_excess: bool, marks: Marks) -> Marks
     }
 }
 
+/// Whether a storage is among these, which are in rising order. Takes O(log n) steps for n of them.
 pub(crate) fn contains(storages: &[StorageId], storage: StorageId) -> bool
+    requires { IsNonDecreasing storages.now }
     ensures { result ≡ has storages.now storage }
 {
-    storages.iter().any(|other| *other == storage)
+    if storages.len() <= FEW {
+        return storages.iter().any(|other| *other == storage);
+    }
+    storages.binary_search(&storage).is_ok()
 }

@@ -6,9 +6,12 @@ ghost use Rattle.bm_base.specs.Replicas.{node_of};
 ghost use Rattle.bm_arena.specs.Holding.{replicas_of};
 ghost use Rattle.bm_levels.specs.Leveled.{AreLevels};
 
+use crate::visiting::Start;
 use crate::{find_round, likely_bound};
+use bm_arena::{Arena, Slot};
 use bm_base::{
-    BlockId, BlockInfo, Entry, Event, Gen, HashSecret, Items, Level, NodeId, Part, Rack, RoundPart, Stamp, StorageId, Wish,
+    BlockId, BlockInfo, Entry, Event, Gen, HashSecret, Items, Level, Marks, NodeId, Part, Rack,
+    ReplicaId, RoundPart, Stamp, StorageId, Tag, Wish,
 };
 use bm_levels::LeveledBlocks;
 use bm_pending::PendingTransfers;
@@ -167,4 +170,90 @@ fn a_bound_is_guessed(rt: HostRuntime) {
     let pending = one_on_its_way(&rt, alloc);
     let none_wishes = likely_bound(alloc, &blocks, &pending, 0, 1_024).expect(&rt, "memory");
     assert!(rt; none_wishes.is_none());
+}
+
+/// Twelve nodes with a storage each, 101 to 112, of which each four in turn stand on one of three racks.
+fn twelve_nodes(rt: &impl Abort, alloc: Global) -> Topology {
+    let mut topology = Topology::new(alloc).expect(rt, "memory");
+    for place in 0..12 {
+        come(rt, alloc, &mut topology, place, place / 4, 101 + place);
+    }
+    topology
+}
+
+/// Links a good replica, for which it makes room.
+fn link(rt: &impl Abort, arena: &mut Arena, slot: Slot, storage: StorageId) {
+    let heads = [storage];
+    arena.reserve_heads(heads.as_slice()).expect(rt, "memory");
+    let has_entry = arena.has_entry(slot);
+    assert!(rt; has_entry);
+    arena.reserve_triplet(slot).expect(rt, "memory");
+    let may_link = arena.has_head(storage) && arena.has_room(slot);
+    assert!(rt; may_link);
+    let is_absent = arena.marks(slot, storage).is_none();
+    assert!(rt; is_absent);
+    let good = Marks {
+        tag: Tag::Good,
+        excess: false,
+        ordered: false,
+    };
+    arena.link_front(slot, storage, good);
+}
+
+/// Block 7, of which three replicas are wanted, with one on each of the storages 112 to 101, linked in this order.
+fn block_with_twelve(rt: &impl Abort, alloc: Global) -> Arena {
+    let mut arena = Arena::with_secret(alloc, HashSecret::none()).expect(rt, "memory");
+    let slot = arena.add_entry(BlockId(7)).expect(rt, "memory");
+    let info = BlockInfo {
+        stamp: stamp(),
+        repl: 3,
+    };
+    arena.set_info(slot, Some(info));
+    for place in 0..12 {
+        link(rt, &mut arena, slot, StorageId(112 - place));
+    }
+    arena
+}
+
+/// Whether these are the replicas of block 7 on these storages, and no more.
+fn are_on(replicas: &[ReplicaId], storages: &[u32]) -> bool {
+    if replicas.len() != storages.len() {
+        return false;
+    }
+    for place in 0..storages.len() {
+        let wanted = ReplicaId {
+            block: BlockId(7),
+            storage: StorageId(storages[place]),
+        };
+        if replicas[place] != wanted {
+            return false;
+        }
+    }
+    true
+}
+
+/// Of twelve replicas nine are too many. No storage has told how many bytes remain on it; so of those whose rack holds another the one on
+/// the greatest storage goes first, and the first of each rack stays.
+#[test]
+fn nine_of_twelve_are_too_many(rt: HostRuntime) {
+    let alloc = rt.alloc();
+    let topology = twelve_nodes(&rt, alloc);
+    let arena = block_with_twelve(&rt, alloc);
+    let pending = PendingTransfers::new(alloc, HashSecret::none());
+    let start = Start {
+        arena: &arena,
+        pending: &pending,
+        topology: &topology,
+        pend: 5,
+        round: 1,
+        bound: None,
+    };
+    let slot = arena.find(BlockId(7)).expect(&rt, "its entry");
+    let slots = [((0, 7), slot)];
+    let found = start
+        .visit_all(alloc, slots.as_slice())
+        .expect(&rt, "memory");
+    let nine = [102, 103, 104, 106, 107, 108, 110, 111, 112];
+    assert!(rt; are_on(found.excess.as_slice(), nine.as_slice()));
+    assert!(rt; found.wishes.is_empty() && found.deletes.len() == 9);
 }

@@ -7,8 +7,8 @@ use Rattle.bm_arena.specs.Contents.{block_at}
 use Rattle.bm_levels.proofs.Slots.{next_at, none_at}
 use Rattle.bm_base.specs.Excess.{counted_again}
 use Rattle.bm_finding.specs.Marking.{put_on}
-use Rattle.bm_finding.proofs.replicas.fill_counted.Goals as goal
-use Rattle.bm_finding.proofs.replicas.fill_counted.Goals.{in-Some+in_ok-insert, in_default}
+use Rattle.bm_finding.proofs.replicas.put_as_linked.Goals as goal
+use Rattle.bm_finding.proofs.replicas.put_as_linked.Goals.{in-Some+in_ok-insert, in_default}
 
 -- one more is put
 one_put : (b : ℕ) (m n : Map by_replica Marks) (s : ℕ) (u v : Marks) (ds rest : List (ℕ × Marks)) → ds ≡ (s, v) ∷ rest → n ≡ insert m (replica_at b s) u → u ≡ counted_again v → put_on b n rest ≡ put_on b m ds
