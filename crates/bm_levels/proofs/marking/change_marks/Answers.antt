@@ -20,11 +20,11 @@ loop-place-preserved c =
     let h = c.loop-place.invariant in
     elim c.match-triplet_at.branch [
       | in-Some+then-not-are_same w ↦
-          let g = w.set_marks.ensures in
+          let g = w.set_marks_near.ensures in
           let K : Contents → Type 0 = λ a. KeepsAllBut slot c.loop-place.arena a in
           record {
             replicas = ap (λ (a : Contents). replicas_at a slot) w.arena-is
-                ∙ changed_step f c.args.arena.now c.loop-place.arena w.set_marks.new.self slot i _ _ w.apply-after.result c.lawful.ensures w.apply-after.ensures h.replicas (sym w.in-Some.ensures) g.after;
+                ∙ changed_step f c.args.arena.now c.loop-place.arena w.set_marks_near.new.self slot i _ _ w.apply-after.result c.lawful.ensures w.apply-after.ensures h.replicas (sym w.in-Some.ensures) g.after;
             known = ap (λ (a : Contents). known_of (block_at a slot)) w.arena-is ∙ g.known ∙ h.known;
             rest = keeps_then slot c.args.arena.now c.loop-place.arena c.match-triplet_at.arena h.rest (subst K (sym w.arena-is) g.rest);
             same = λ none. absurd (true≢false (sym w.is_changed-is ∙ none));
