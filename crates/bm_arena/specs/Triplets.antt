@@ -91,6 +91,10 @@ links_of slots storage x = triplet_at slots x storage
 abbrev pub seen_triplet : Triplet → ℕ × Marks
 seen_triplet t = (t.storage, t.marks)
 
+-- the storages of triplets, as they are seen
+abbrev pub storages_in : List Triplet → List ℕ
+storages_in ts = map (λ r. r.0) (map seen_triplet ts)
+
 -- what is seen of a block
 abbrev pub seen_entry : Entry → Block
 seen_entry e = record { id = e.id; info = e.info; replicas = map seen_triplet e.triplets.items; room = e.triplets.capacity }

@@ -134,4 +134,29 @@ impl Arena {
     {
         links::set_marks(&mut self.slots, slot, storage.0, marks);
     }
+
+    /// The same, with a guess of the place of that replica among the block's, from 0 on as `triplet_at` has them. Any guess will do: a
+    /// right one saves the look along all of them, and after a wrong one there is that look. Takes no memory.
+    pub fn set_marks_near(&mut self, slot: Slot, storage: StorageId, marks: Marks, guess: usize)
+        ensures after { self.new
+            ≡ record self.old {
+              blocks = change_block (with_marks storage marks)
+                  self.old.blocks slot;
+            } }
+        ensures marks { IsSome (marks_at self.old slot storage)
+            → marks_at self.new slot storage ≡ Some marks }
+        ensures beside { (other : ℕ) → other ≢ storage
+            → marks_at self.new slot other ≡ marks_at self.old slot other }
+        ensures others { (other : ℕ) → other ≢ slot
+            → block_at self.new other ≡ block_at self.old other }
+        ensures known { known_of (block_at self.new slot) ≡ known_of (block_at self.old slot) }
+        ensures rest { KeepsAllBut slot self.old self.new }
+        ensures replicas { (id : ℕ) → slot_of self.old id ≡ Some slot
+            → IsSome (marks_at self.old slot storage) →
+            replicas_of self.new ≡ insert (replicas_of self.old) (replica_at id storage) marks }
+        ensures blocks { blocks_of self.new ≡ blocks_of self.old }
+        ensures lawful { IsLawful self.new }
+    {
+        links::set_marks_near(&mut self.slots, slot, storage.0, marks, guess);
+    }
 }

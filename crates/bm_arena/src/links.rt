@@ -5,7 +5,8 @@ ghost use Rattle.slab.specs.Slab.{get};
 ghost use Rattle.bm_arena.specs.declared.types.Entry.{Entry};
 ghost use Rattle.smallvec.specs.SmallVec.{HasRoomFor};
 ghost use Rattle.bm_base.specs.SlotLinks.{end_of_links};
-ghost use Rattle.bm_arena.specs.Triplets.{seen_triplet, with_capacity, capacity_at, at_slot, added, removed, fill_first, is_of, attached, detached, find_triplet, change_triplet, with_previous, with_next, with_triplet_marks, triplet_at, change_at};
+ghost use Rattle.bm_base.specs.SlotLists.{Distinct};
+ghost use Rattle.bm_arena.specs.Triplets.{seen_triplet, with_capacity, capacity_at, at_slot, added, removed, fill_first, is_of, attached, detached, find_triplet, change_triplet, storages_in, with_previous, with_next, with_triplet_marks, triplet_at, change_at};
 
 use crate::types::{Entry, Triplet};
 use bm_base::{BlockInfo, Marks, NO_LINK, SlotLink, StorageId};
@@ -29,6 +30,18 @@ fn place_of(triplets: &[Triplet], storage: u32) -> Option<usize>
     } else {
         None
     }
+}
+
+// The same, where no two triplets are of one storage: the guessed place is looked at first, and all only where another storage stands
+// there.
+fn place_near(triplets: &[Triplet], storage: u32, guess: usize) -> Option<usize>
+    requires { Distinct (storages_in triplets.now) }
+    ensures { result ≡ position (λ t. t.storage == storage) triplets.now }
+{
+    if guess < triplets.len() && triplets[guess].storage == storage {
+        return Some(guess);
+    }
+    place_of(triplets, storage)
 }
 
 // The triplet of a storage.
@@ -65,6 +78,15 @@ fn set_marks_in(triplets: &mut [Triplet], storage: u32, marks: Marks)
     }
 }
 
+fn set_marks_near_in(triplets: &mut [Triplet], storage: u32, marks: Marks, guess: usize)
+    requires { Distinct (storages_in triplets.old) }
+    ensures { triplets.new ≡ change_triplet (with_triplet_marks marks) triplets.old storage }
+{
+    if let Some(place) = place_near(triplets, storage, guess) {
+        triplets[place].marks = marks;
+    }
+}
+
 // The triplet of a storage in the block at a slot.
 pub(crate) fn find(slots: &Slab<Entry>, slot: usize, storage: u32) -> Option<Triplet>
     ensures { result ≡ triplet_at slots.now slot storage }
@@ -96,6 +118,22 @@ pub(crate) fn set_marks(slots: &mut Slab<Entry>, slot: usize, storage: u32, mark
 {
     if let Some(entry) = slots.get_mut(slot) {
         set_marks_in(entry.triplets.as_mut_slice(), storage, marks);
+    }
+}
+
+// The same, with a guess of the triplet's place.
+pub(crate) fn set_marks_near(
+    slots: &mut Slab<Entry>,
+    slot: usize,
+    storage: u32,
+    marks: Marks,
+    guess: usize,
+)
+    requires { (e : Entry) → get slots.old slot ≡ Some e → Distinct (storages_in e.triplets.items) }
+    ensures { slots.new ≡ change_at (with_triplet_marks marks) slots.old slot storage }
+{
+    if let Some(entry) = slots.get_mut(slot) {
+        set_marks_near_in(entry.triplets.as_mut_slice(), storage, marks, guess);
     }
 }
 

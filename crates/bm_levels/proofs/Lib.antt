@@ -20,6 +20,7 @@ pub mod Draining
 pub mod AllMarks
 pub mod Revising
 pub mod Flagging
+pub mod Grouped
 pub mod RoundMarks
 pub mod Beginning
 pub mod Going

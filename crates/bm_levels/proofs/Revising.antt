@@ -50,21 +50,24 @@ block_absent a b none = get-blocks_of a b ∙ ap (λ o. option_and_then (λ x. i
 pub replica_absent : (a : Contents) (b s : ℕ) → slot_of a b ≡ None → get (replicas_of a) (replica_at b s) ≡ None
 replica_absent a b s none = get-replicas_of a (replica_at b s) ∙ ap (λ o. option_and_then (λ x. marks_at a x s) o) none
 
--- no replica is changed where none of the block is there
-pub replicas_absent : (a : Contents) (b : ℕ) (f : Marks → Marks) → slot_of a b ≡ None → replicas_of a ≡ revise (replicas_of a) (λ q m. if q.block == b then f m else m)
-replicas_absent a b f none =
-    same_map (replicas_of a) (revise (replicas_of a) (λ q m. if q.block == b then f m else m)) (λ q.
+-- no replica is changed where none of the block is there, also where the change depends on the storage
+pub replicas_absent_by : (a : Contents) (b : ℕ) (f : ℕ → Marks → Marks) → slot_of a b ≡ None → replicas_of a ≡ revise (replicas_of a) (λ q m. if q.block == b then f q.storage m else m)
+replicas_absent_by a b f none =
+    same_map (replicas_of a) (revise (replicas_of a) (λ q m. if q.block == b then f q.storage m else m)) (λ q.
     elim (cases_Bool (q.block == b)) [
       | inl here ↦
           let gone : get (replicas_of a) q ≡ None = ap (λ z. get (replicas_of a) (replica_at z q.storage)) (eqb-true q.block b here) ∙ replica_absent a b q.storage none in
-          gone ∙ sym (ap (option_map (λ (m : Marks). if q.block == b then f m else m)) gone)
-      | inr other ↦ same (get (replicas_of a) q) ∙ sym (ap (λ t. option_map (λ (m : Marks). cond t (f m) m) (get (replicas_of a) q)) other)
+          gone ∙ sym (ap (option_map (λ (m : Marks). if q.block == b then f q.storage m else m)) gone)
+      | inr other ↦ same q.storage (get (replicas_of a) q) ∙ sym (ap (λ t. option_map (λ (m : Marks). cond t (f q.storage m) m) (get (replicas_of a) q)) other)
     ]
-    ∙ sym (get-revise (replicas_of a) (λ q m. if q.block == b then f m else m) q))
+    ∙ sym (get-revise (replicas_of a) (λ q m. if q.block == b then f q.storage m else m) q))
   where
-    same : (o : Option Marks) → o ≡ option_map (λ (m : Marks). cond false (f m) m) o
-    same None = refl
-    same (Some m) = refl
+    same : (s : ℕ) (o : Option Marks) → o ≡ option_map (λ (m : Marks). cond false (f s m) m) o
+    same s None = refl
+    same s (Some m) = refl
+
+pub replicas_absent : (a : Contents) (b : ℕ) (f : Marks → Marks) → slot_of a b ≡ None → replicas_of a ≡ revise (replicas_of a) (λ q m. if q.block == b then f m else m)
+replicas_absent a b f none = replicas_absent_by a b (λ s m. f m) none
 
 -- A number keeps an entry only with a replica, where its entry is dropped once it has none.
 pub entry_left : (b c : Contents) (id slot : ℕ) → slot_of b id ≡ Some slot → replicas_of c ≡ replicas_of b → (replicas_at b slot ≡ [] → slot_of c id ≡ None)

@@ -65,7 +65,7 @@ module _ (a c : Contents) (unsettled : List ℕ) (lawful : IsLawful a) (ids : c.
     (others : (slot : ℕ) → (Among slot unsettled → ⊥) → block_at c slot ≡ block_at a slot) where
   begun_at : (b slot s : ℕ) → slot_of a b ≡ Some slot → marks_at c slot s ≡ option_map counted_again (marks_at a slot s)
   begun_at b slot s here = elim (dec_among slot unsettled) [
-    | inl there ↦ sym (marks_listed c slot s) ∙ ap (λ rs. find_marks rs s) (begun slot there) ∙ found_changed counted_again (replicas_at a slot) s ∙ ap (option_map counted_again) (marks_listed a slot s)
+    | inl there ↦ sym (marks_listed c slot s) ∙ ap (λ rs. find_marks rs s) (begun slot there) ∙ found_changed (λ _ m. counted_again m) (replicas_at a slot) s ∙ ap (option_map counted_again) (marks_listed a slot s)
     | inr absent ↦ ap (λ o. option_and_then (λ (k : Block). find_marks k.replicas s) o) (others slot absent) ∙ begun_same a lawful b slot here (settled slot absent) s
   ]
 

@@ -1,6 +1,7 @@
 -- What becomes of the marks of replicas: of all of a block, or of those of a list.
-use Rattle.std.specs.Prelude.{ℕ, Bool, true, ◌&&◌, ◌==◌, if◌then◌else◌, List, map}
+use Rattle.std.specs.Prelude.{◌≡◌, ℕ, ◌<◌, ◌≤◌, Bool, true, ◌&&◌, ◌==◌, if◌then◌else◌, List, map, length, slice_index_or}
 use Rattle.std.specs.List.{list_any}
+use Rattle.std.specs.List.Sorted.{IsNonDecreasingBy}
 use Rattle.bm_base.specs.declared.replica.ReplicaId.{ReplicaId}
 use Rattle.bm_base.specs.declared.replica.Marks.{Marks}
 use Rattle.bm_base.specs.declared.replica.Stamp.{Stamp}
@@ -29,6 +30,10 @@ at_round_start a = without_unordered_excess (holdings_of a)
 abbrev pub all_changed : (Marks → Marks) → List (ℕ × Marks) → List (ℕ × Marks)
 all_changed f rs = map (λ r. (r.0, f r.1)) rs
 
+-- the same, where the change depends on the replica's storage
+abbrev pub each_changed : (ℕ → Marks → Marks) → List (ℕ × Marks) → List (ℕ × Marks)
+each_changed f rs = map (λ r. (r.0, f r.0 r.1)) rs
+
 -- what is known of a block, with another stamp, or with so many replicas wanted
 abbrev pub with_stamp : Stamp → BlockInfo → BlockInfo
 with_stamp stamp i = record i { stamp = stamp }
@@ -45,12 +50,33 @@ has_replica ps q = list_any (λ p. (p.storage == q.storage) && (p.block == q.blo
 unfoldable pub has_block : List ReplicaId → ℕ → Bool
 has_block ps b = list_any (λ p. p.block == b) ps
 
+-- whether it has one on this storage
+unfoldable pub has_storage : List ReplicaId → ℕ → Bool
+has_storage ps s = list_any (λ p. p.storage == s) ps
+
+-- all of them are of this block
+abbrev pub AreOfBlock : ℕ → List ReplicaId → Type 0
+AreOfBlock b ps = (i : ℕ) (d : ReplicaId) → i < length ps → (slice_index_or ps i d).block ≡ b
+
+-- they stand by rising storage, or at least those of each block do
+abbrev pub AreByStorage : List ReplicaId → Type 0
+AreByStorage ps = IsNonDecreasingBy (λ p. p.storage) ps
+
+abbrev pub AreInOrder : List ReplicaId → Type 0
+AreInOrder ps =
+    (i j : ℕ) (d : ReplicaId) → i ≤ j → j < length ps → (slice_index_or ps i d).block ≡ (slice_index_or ps j d).block
+    → (slice_index_or ps i d).storage ≤ (slice_index_or ps j d).storage
+
 -- of a replica that is one too many, and of one that is to be deleted
 abbrev pub as_excess : Marks → Marks
 as_excess m = record m { excess = true }
 
 abbrev pub as_ordered : Marks → Marks
 as_ordered m = record m { ordered = true }
+
+-- the marks of a replica on this storage, where the list has all of its block that are too many
+abbrev pub excess_on : List ReplicaId → ℕ → Marks → Marks
+excess_on ps s m = if has_storage ps s then as_excess m else m
 
 -- the marks of a replica once these deletes are ordered
 abbrev pub with_deletes_ordered : List Delete → ReplicaId → Marks → Marks

@@ -4,7 +4,8 @@ ghost use Rattle.bm_base.specs.State.{empty_cluster};
 
 use crate::LeveledBlocks;
 use bm_base::{
-    BlockId, BlockInfo, Entry, Event, Gen, HashSecret, Items, Level, NodeId, Part, Rack, Stamp, StorageId,
+    BlockId, BlockInfo, Entry, Event, Gen, HashSecret, Items, Level, NodeId, Part, Rack, Stamp,
+    StorageId,
 };
 use bm_report::Report;
 use bm_topo::Topology;

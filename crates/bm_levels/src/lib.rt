@@ -21,6 +21,7 @@ mod leaving_storages;
 #[cfg(test)]
 mod leaving_tests;
 mod leveled;
+mod listed;
 mod marking;
 mod one_list;
 mod racks;

@@ -75,7 +75,7 @@ pub(crate) fn change_marks(arena: &mut Arena, slot: Slot, change: MarkChange) ->
         if let Some((storage, marks)) = arena.triplet_at(slot, place) {
             let after = change.apply(marks);
             if !are_same(after, marks) {
-                arena.set_marks(slot, storage, after);
+                arena.set_marks_near(slot, storage, after, place);
                 is_changed = true;
             }
         }

@@ -1,5 +1,5 @@
 // What a round changes in marks as it begins: those of replicas in excess.
-ghost use Rattle.std.specs.Prelude.{◌≡◌, ◌≢◌, ℕ, false, Some, if◌then◌else◌};
+ghost use Rattle.std.specs.Prelude.{◌≡◌, ◌≢◌, ℕ, ◌<◌, length, false, Some, if◌then◌else◌};
 ghost use Rattle.bm_base.specs.Map.{revise, revise_at};
 ghost use Rattle.bm_base.specs.Excess as excess;
 ghost use Rattle.bm_base.specs.Excess.{counted_again};
@@ -7,19 +7,24 @@ ghost use Rattle.bm_base.specs.RoundParts as parts;
 ghost use Rattle.bm_arena.specs.Contents.{block_at, slot_of, KeepsEntries};
 ghost use Rattle.bm_arena.specs.Holding.{replicas_at, replicas_of, blocks_of};
 ghost use Rattle.bm_levels.specs.Bare.{KeepsBlocksOutside};
-ghost use Rattle.bm_levels.specs.Changes.{as_excess, all_changed, has_replica, has_block, at_round_start};
+ghost use Rattle.bm_levels.specs.Changes.{as_excess, all_changed, has_replica, has_block, at_round_start, AreOfBlock, AreByStorage, AreInOrder};
 ghost use Rattle.bm_levels.specs.Kept.{IsUnsettled, KeepsAhead};
 ghost use Rattle.bm_levels.specs.Leveled.{KeepsLevels};
 
 use crate::leveled::LeveledBlocks;
+use crate::listed::{count_of_block, mark_listed, with_excess};
 use crate::marking::{MarkChange, change_marks};
 use bm_arena::Slot;
-use bm_base::{Marks, ReplicaId};
+use bm_base::{BlockId, ReplicaId};
 use bm_topo::Topology;
+
+/// So many surplus replicas of one block, or fewer, are marked one after another.
+const FEW: usize = 2;
 
 impl LeveledBlocks {
     /// As a round begins: marks of excess whose delete was not ordered are dropped, and the replicas of `surplus` are in excess. Goes
-    /// once over the replicas of the unsettled blocks, and looks up each of `surplus`; only blocks whose marks change are judged anew,
+    /// once over the replicas of the unsettled blocks. Of `surplus` it looks up each, or where there are more than two of a block that
+    /// block once, goes over its replicas and looks for each among them by halves; only blocks whose marks change are judged anew,
     /// and settled blocks are not looked at. Takes no memory.
     pub fn mark_excess_anew(&mut self, topology: &Topology, surplus: &[ReplicaId])
         requires surplus { surplus.now
@@ -74,8 +79,9 @@ impl LeveledBlocks {
         }
     }
 
-    /// The replicas of a list are in excess, as far as they are there.
+    /// The replicas of a list are in excess, as far as they are there. Those of one block stand side by side.
     fn mark_surplus(&mut self, topology: &Topology, surplus: &[ReplicaId])
+        requires { AreInOrder surplus.now }
         ensures replicas { replicas_of self.new.arena
             ≡ revise (replicas_of self.old.arena)
             (λ q m. if has_replica surplus.now q then as_excess m else m) }
@@ -85,7 +91,69 @@ impl LeveledBlocks {
         ensures entries { KeepsEntries self.old.arena self.new.arena }
         ensures levels { KeepsLevels topology.now.cluster self.old self.new }
     {
-        for replica in surplus {
+        let mut rest = surplus;
+        while let Some(first) = rest.first() {
+            let (group, behind) = rest.split_at(count_of_block(rest, first.block));
+            self.mark_group(topology, first.block, group);
+            rest = behind;
+        }
+    }
+
+    /// The replicas of a list, which are of one block, are in excess, as far as they are there: one after another where they are few, as
+    /// nearly always.
+    fn mark_group(&mut self, topology: &Topology, block: BlockId, group: &[ReplicaId])
+        requires block { AreOfBlock block group.now }
+        requires order { AreByStorage group.now }
+        ensures replicas { replicas_of self.new.arena
+            ≡ revise (replicas_of self.old.arena)
+            (λ q m. if has_replica group.now q then as_excess m else m) }
+        ensures others { (slot : ℕ)
+            → ((b : ℕ) → slot_of self.old.arena b ≡ Some slot → has_block group.now b ≡ false)
+            → block_at self.new.arena slot ≡ block_at self.old.arena slot }
+        ensures entries { KeepsEntries self.old.arena self.new.arena }
+        ensures levels { KeepsLevels topology.now.cluster self.old self.new }
+    {
+        if group.len() > FEW {
+            self.mark_together(topology, block, group);
+        } else {
+            self.mark_each(topology, group);
+        }
+    }
+
+    /// The same, where there are some: the block is looked up, gone over and judged once.
+    fn mark_together(&mut self, topology: &Topology, block: BlockId, group: &[ReplicaId])
+        requires some { 0 < length group.now }
+        requires block { AreOfBlock block group.now }
+        requires order { AreByStorage group.now }
+        ensures replicas { replicas_of self.new.arena
+            ≡ revise (replicas_of self.old.arena)
+            (λ q m. if has_replica group.now q then as_excess m else m) }
+        ensures others { (slot : ℕ)
+            → ((b : ℕ) → slot_of self.old.arena b ≡ Some slot → has_block group.now b ≡ false)
+            → block_at self.new.arena slot ≡ block_at self.old.arena slot }
+        ensures entries { KeepsEntries self.old.arena self.new.arena }
+        ensures levels { KeepsLevels topology.now.cluster self.old self.new }
+    {
+        let Some(slot) = self.slot_of(block) else {
+            return;
+        };
+        self.arena.lawful();
+        mark_listed(&mut self.arena, slot, group);
+        self.kept.judge_in(topology, &self.arena, slot);
+    }
+
+    /// The replicas of a list are in excess, as far as they are there: each is looked up, and its block judged anew.
+    fn mark_each(&mut self, topology: &Topology, listed: &[ReplicaId])
+        ensures replicas { replicas_of self.new.arena
+            ≡ revise (replicas_of self.old.arena)
+            (λ q m. if has_replica listed.now q then as_excess m else m) }
+        ensures others { (slot : ℕ)
+            → ((b : ℕ) → slot_of self.old.arena b ≡ Some slot → has_block listed.now b ≡ false)
+            → block_at self.new.arena slot ≡ block_at self.old.arena slot }
+        ensures entries { KeepsEntries self.old.arena self.new.arena }
+        ensures levels { KeepsLevels topology.now.cluster self.old self.new }
+    {
+        for replica in listed {
             self.mark_excess(topology, replica);
         }
     }
@@ -103,12 +171,7 @@ impl LeveledBlocks {
             return;
         };
         if let Some(marks) = self.marks_of(slot, replica.storage) {
-            let excess = Marks {
-                tag: marks.tag,
-                excess: true,
-                ordered: marks.ordered,
-            };
-            self.set_marks(topology, slot, replica.storage, excess);
+            self.set_marks(topology, slot, replica.storage, with_excess(marks));
         }
     }
 }

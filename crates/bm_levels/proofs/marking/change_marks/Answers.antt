@@ -1,5 +1,6 @@
 use Rattle.std.proofs.Common.{refl, subst, sym, ap, ◌∙◌, arith}
-use Rattle.std.specs.Prelude.{length}
+use Rattle.std.specs.Prelude.{ℕ, length}
+use Rattle.bm_base.specs.declared.replica.Marks.{Marks}
 use Rattle.std.proofs.lemmas.Bool.{true≢false}
 use Rattle.bm_arena.specs.Contents.{Contents, block_at, known_of, KeepsAllBut}
 use Rattle.bm_arena.specs.Holding.{replicas_at}
@@ -14,17 +15,17 @@ loop-place-init c = record { replicas = refl; known = refl; rest = keeps_itself 
 
 pub loop-place-preserved : goal.loop-place-preserved
 loop-place-preserved c =
-    let f = changed c.args.change in
+    let f = λ (s : ℕ) (m : Marks). changed c.args.change m in
     let slot = c.args.slot in
     let i = c.loop-place.place in
     let h = c.loop-place.invariant in
     elim c.match-triplet_at.branch [
       | in-Some+then-not-are_same w ↦
-          let g = w.set_marks.ensures in
+          let g = w.set_marks_near.ensures in
           let K : Contents → Type 0 = λ a. KeepsAllBut slot c.loop-place.arena a in
           record {
             replicas = ap (λ (a : Contents). replicas_at a slot) w.arena-is
-                ∙ changed_step f c.args.arena.now c.loop-place.arena w.set_marks.new.self slot i _ _ w.apply-after.result c.lawful.ensures w.apply-after.ensures h.replicas (sym w.in-Some.ensures) g.after;
+                ∙ changed_step f c.args.arena.now c.loop-place.arena w.set_marks_near.new.self slot i _ _ w.apply-after.result c.lawful.ensures w.apply-after.ensures h.replicas (sym w.in-Some.ensures) g.after;
             known = ap (λ (a : Contents). known_of (block_at a slot)) w.arena-is ∙ g.known ∙ h.known;
             rest = keeps_then slot c.args.arena.now c.loop-place.arena c.match-triplet_at.arena h.rest (subst K (sym w.arena-is) g.rest);
             same = λ none. absurd (true≢false (sym w.is_changed-is ∙ none));
@@ -49,4 +50,4 @@ pub returns-clause-replicas : goal.returns-clause-replicas
 returns-clause-replicas c =
     let then = count_at c.args.arena.now c.args.slot in
     c.loop-place.invariant.replicas
-    ∙ change_end (changed c.args.change) c.loop-place.place (replicas_at c.args.arena.now c.args.slot) (omega (arith, c.loop-place-test.false, c.triplet_count-place-end.ensures, then))
+    ∙ change_end (λ (s : ℕ) (m : Marks). changed c.args.change m) c.loop-place.place (replicas_at c.args.arena.now c.args.slot) (omega (arith, c.loop-place-test.false, c.triplet_count-place-end.ensures, then))

@@ -7,7 +7,7 @@ use Rattle.bm_levels.proofs.marking.change_marks.Given as goal
 
 -- the replicas before this place have their new marks, and nothing else changed
 pub record AreChangedSoFar (l : goal.Live-loop-place) : Type 0 where
-  pub replicas : replicas_at l.arena l.slot ≡ changed_first (changed l.change) l.place (replicas_at l.initial.arena l.slot)
+  pub replicas : replicas_at l.arena l.slot ≡ changed_first (λ s m. changed l.change m) l.place (replicas_at l.initial.arena l.slot)
   pub known : known_of (block_at l.arena l.slot) ≡ known_of (block_at l.initial.arena l.slot)
   pub rest : KeepsAllBut l.slot l.initial.arena l.arena
   pub same : l.is_changed ≡ false → l.arena ≡ l.initial.arena

@@ -36,7 +36,7 @@ returns-clause-blocks c =
     (λ id e.
     c.set_info.ensures.blocks id (ap (λ l. lookup (nat_eq id) l) c.change_marks.ensures.rest.ids ∙ e)
     ∙ ap (λ m. with_known m id c.args.info)
-    (block_known (changed c.args.change) a b c.args.slot id c.lawful.ensures e c.change_marks.ensures.rest c.change_marks.ensures.replicas c.change_marks.ensures.known))
+    (block_known (λ _ m. changed c.args.change m) a b c.args.slot id c.lawful.ensures e c.change_marks.ensures.rest c.change_marks.ensures.replicas c.change_marks.ensures.known))
 
 pub returns-clause-replicas : goal.returns-clause-replicas
 returns-clause-replicas c =
@@ -45,7 +45,7 @@ returns-clause-replicas c =
     subst P c.self.view_is
     (λ id e.
     c.set_info.ensures.replicas
-    ∙ block_replicas f c.self.inside.arena c.change_marks.new.arena c.args.slot id c.lawful.ensures e c.change_marks.ensures.rest c.change_marks.ensures.replicas)
+    ∙ block_replicas (λ _ m. f m) c.self.inside.arena c.change_marks.new.arena c.args.slot id c.lawful.ensures e c.change_marks.ensures.rest c.change_marks.ensures.replicas)
 
 pub returns-clause-rest : goal.returns-clause-rest
 returns-clause-rest c = let P : Leveled → Type 0 = λ v. KeepsAllBut c.args.slot v.arena c.set_info.new.self in subst P c.self.view_is (keeps c)

@@ -1,4 +1,5 @@
-use Rattle.std.proofs.Common.{◌∙◌, sym}
+use Rattle.std.proofs.Common.{◌∙◌, sym, ap}
+use Rattle.bm_base.specs.Map.{insert}
 use Rattle.bm_base.proofs.Replacing.{no_change}
 use Rattle.bm_arena.specs.Holding.{replicas_of}
 use Rattle.bm_report.proofs.Maps.{get-here}
@@ -19,6 +20,7 @@ returns-in-Some-marks_of-clause-replicas c =
     let here = sym c.in-Some.ensures in
     let there = sym c.in-Some-marks_of.ensures in
     c.set_marks.ensures.replicas p.block here
+    ∙ ap (λ m. insert (replicas_of a) p m) c.with_excess.ensures
     ∙ put_changed (replicas_of a) p as_excess _ (get-here a p.block c.in-Some.slot p.storage here ∙ there)
 
 pub returns-in_default-marks_of-clause-replicas : goal.returns-in_default-marks_of-clause-replicas

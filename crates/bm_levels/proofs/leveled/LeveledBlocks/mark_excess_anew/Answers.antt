@@ -1,7 +1,12 @@
-use Rattle.std.proofs.Common.{subst}
+use Rattle.std.proofs.Common.{subst, sym}
 use Rattle.bm_arena.specs.Contents.{Contents, IsLawful}
+use Rattle.bm_levels.specs.Changes.{at_round_start, AreInOrder}
+use Rattle.bm_levels.proofs.Grouped.{surplus_in_order}
 use Rattle.bm_levels.proofs.RoundStart.{IsStarted, started}
 use Rattle.bm_levels.proofs.leveled.LeveledBlocks.mark_excess_anew.Goals as goal
+
+pub mark_surplus-requires : goal.mark_surplus-requires
+mark_surplus-requires c = subst AreInOrder (sym c.requires.surplus) (surplus_in_order c.args.topology.now.cluster (at_round_start c.args.self.now.arena))
 
 start : (c : goal.After-mark_surplus) → IsStarted c.args.topology.now.cluster c.args.self.now c.mark_surplus.new.self.arena
 start c =

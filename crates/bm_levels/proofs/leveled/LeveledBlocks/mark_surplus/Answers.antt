@@ -1,48 +1,53 @@
-use Rattle.std.proofs.Common.{◌≡◌, ◌≤◌, ◌+◌, [], ◌∷◌, length, drop, drop_of_length-le, refl, sym, ap, ◌∙◌, arith}
-use Rattle.std.specs.Prelude.{nat_eq}
+use Rattle.std.proofs.Common.{◌≡◌, ℕ, [], false, take, not, sym, ap, subst, ◌∙◌, arith}
+use Rattle.std.specs.Prelude.{◌==◌, nat_eq}
 use Rattle.std.specs.Map.{lookup}
-use Rattle.std.proofs.lemmas.Grind.{common_steps}
-use Rattle.std.proofs.lemmas.Bool.{true≢false}
+use Rattle.std.proofs.lemmas.List.Sums.{prefix_len-le-length}
+use Rattle.bm_base.specs.declared.replica.ReplicaId.{ReplicaId}
 use Rattle.bm_base.specs.Map.{revise}
 use Rattle.bm_arena.specs.Holding.{replicas_of}
-use Rattle.bm_arena.proofs.Staying.{entries-none, entries-chain}
-use Rattle.bm_levels.proofs.Flagging.{excess_by, excess_next, excess_end}
-use Rattle.bm_levels.proofs.Beginning.{block_listed}
+use Rattle.bm_arena.proofs.Staying.{entries-chain}
+use Rattle.bm_levels.specs.Changes.{has_block, AreOfBlock, AreInOrder}
+use Rattle.bm_levels.proofs.Flagging.{excess_by, excess_end}
+use Rattle.bm_levels.proofs.Grouped.{head_of_block, excess_parts, blocks_of_parts, order_behind, order_of_block, none_left}
 use Rattle.bm_levels.proofs.leveled.LeveledBlocks.mark_surplus.Goals as goal
 
-pub loop-replica-init : goal.loop-replica-init
-loop-replica-init c = record { replicas = refl; others = λ slot h. refl; entries = entries-none c.args.self.now.arena; levels = λ h. h }
+pub split_at-requires : goal.split_at-requires
+split_at-requires c =
+    let b = c.in-Some.first.now.block in
+    let most = prefix_len-le-length (λ (q : ReplicaId). not (not (q.block == b))) c.loop-first.rest.now in
+    omega (arith, most, c.count_of_block.ensures)
 
-pub loop-replica-preserved : goal.loop-replica-preserved
-loop-replica-preserved c =
-    let p = c.replica-item.result in
-    let ps = c.args.surplus.now in
-    let i = c.loop-replica.replica-index in
-    let h = c.loop-replica.invariant in
-    let g = c.mark_excess.ensures in
-    let next : drop i ps ≡ p ∷ drop (i + 1) ps = grind (arith, common_steps, c.replica-item.is) in
+pub mark_group-requires-clause-block : goal.mark_group-requires-clause-block
+mark_group-requires-clause-block c =
+    let b = c.in-Some.first.now.block in
+    let rest = c.loop-first.rest.now in
+    subst (λ xs. AreOfBlock b xs) (sym (c.split_at.ensures.front ∙ ap (λ n. take n rest) c.count_of_block.ensures)) (head_of_block b rest)
+
+pub mark_group-requires-clause-order : goal.mark_group-requires-clause-order
+mark_group-requires-clause-order c =
+    order_of_block c.split_at.result.0.now c.split_at.result.1.now (subst AreInOrder c.split_at.ensures.by_index.0 c.loop-first.invariant.order) c.in-Some.first.now.block (mark_group-requires-clause-block c)
+
+pub loop-first-preserved : goal.loop-first-preserved
+loop-first-preserved c =
+    let xs = c.split_at.result.0.now in
+    let ys = c.split_at.result.1.now in
+    let h = c.loop-first.invariant in
+    let g = c.mark_group.ensures in
+    let now = replicas_of c.loop-first.self.arena in
+    let parted = c.split_at.ensures.by_index.0 in
+    let parts : (b : ℕ) → has_block c.args.surplus.now b ≡ false → (has_block xs b ≡ false) × (has_block ys b ≡ false) = λ b none.
+    blocks_of_parts xs ys b (subst (λ l. has_block l b ≡ false) parted (h.listed b none)) in
     record {
-      replicas = ap (λ m. revise m (excess_by (drop (i + 1) ps))) g.replicas ∙ excess_next (replicas_of c.loop-replica.self.arena) p (drop (i + 1) ps)
-          ∙ ap (λ xs. revise (replicas_of c.loop-replica.self.arena) (excess_by xs)) (sym next) ∙ h.replicas;
-      others = λ slot none.
-          g.others slot (λ here. true≢false (sym (block_listed ps (drop (i + 1) ps) i p next) ∙ none p.block (sym (ap (λ l. lookup (nat_eq p.block) l) h.entries.ids) ∙ here)))
-          ∙ h.others slot none;
-      entries = entries-chain c.args.self.now.arena c.loop-replica.self.arena c.mark_excess.new.self.arena h.entries g.entries;
+      replicas = ap (λ m. revise m (excess_by ys)) g.replicas ∙ excess_parts now xs ys ∙ ap (λ l. revise now (excess_by l)) (sym parted) ∙ h.replicas;
+      others = λ slot none. g.others slot (λ b here. (parts b (none b (sym (ap (λ l. lookup (nat_eq b) l) h.entries.ids) ∙ here))).0) ∙ h.others slot none;
+      entries = entries-chain c.args.self.now.arena c.loop-first.self.arena c.mark_group.new.self.arena h.entries g.entries;
       levels = λ were. g.levels (h.levels were);
+      listed = λ b none. (parts b none).1;
+      order = order_behind xs ys (subst AreInOrder parted h.order);
     }
 
 pub returns-clause-replicas : goal.returns-clause-replicas
 returns-clause-replicas c =
-    let past : length c.args.surplus.now ≤ c.loop-replica.replica-index = omega (arith, c.loop-replica-test.false) in
-    let none : drop c.loop-replica.replica-index c.args.surplus.now ≡ [] = drop_of_length-le _ past in
-    let now = replicas_of c.loop-replica.self.arena in
-    sym (excess_end now) ∙ ap (λ xs. revise now (excess_by xs)) (sym none) ∙ c.loop-replica.invariant.replicas
-
-pub returns-clause-others : goal.returns-clause-others
-returns-clause-others c = c.loop-replica.invariant.others
-
-pub returns-clause-entries : goal.returns-clause-entries
-returns-clause-entries c = c.loop-replica.invariant.entries
-
-pub returns-clause-levels : goal.returns-clause-levels
-returns-clause-levels c = c.loop-replica.invariant.levels
+    let none : c.loop-first.rest.now ≡ [] = none_left c.loop-first.rest.now c.in_default.ensures.value in
+    let now = replicas_of c.loop-first.self.arena in
+    sym (excess_end now) ∙ ap (λ xs. revise now (excess_by xs)) (sym none) ∙ c.loop-first.invariant.replicas
