@@ -1,7 +1,7 @@
 // One block as a round begins.
 ghost use Rattle.std.specs.Prelude.{◌≡◌, ℕ, Some, IfOk, IfErr, OnOk, ◌++◌, length};
 ghost use Rattle.std.specs.Option.{option_map_or};
-ghost use Rattle.std.specs.List.Sorted.{IsNonDecreasing};
+ghost use Rattle.std.specs.List.Sorted.{IsNonDecreasing, IsPermutation};
 ghost use Rattle.bm_base.specs.declared.refusal.Refusal.TheVariants.{Memory};
 ghost use Rattle.bm_base.specs.Lists.{has};
 ghost use Rattle.bm_base.specs.Map.{Map, empty, entries, revise};
@@ -84,7 +84,7 @@ impl Look {
             self.info,
             usable.live.as_slice(),
         )?;
-        self.excess.sort_unstable();
+        sort_storages(&mut self.excess);
         Ok(self.mark(alloc, topology, usable)?)
     }
 
@@ -166,6 +166,16 @@ fn fill_surplus(
             into.clear();
             Ok(())
         }
+    }
+}
+
+/// Puts storages in rising order. Mostly there is one at most, and nothing is done.
+fn sort_storages(storages: &mut Vec<StorageId>)
+    ensures moved { IsPermutation storages.old.items storages.new.items }
+    ensures in_order { IsNonDecreasing storages.new.items }
+{
+    if storages.len() > 1 {
+        storages.sort_unstable();
     }
 }
 

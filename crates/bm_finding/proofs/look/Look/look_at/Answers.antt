@@ -1,7 +1,7 @@
 use Rattle.std.proofs.Common.{◌==◌, [], refl, sym, ap, subst, ◌∙◌}
 use Rattle.std.specs.Option.{option_map_or}
 use Rattle.std.specs.List.Sorted.{IsNonDecreasing}
-use Rattle.std.proofs.lemmas.List.Sorted.{IsNonDecreasingBy-from_sort, list_any-IsPermutation}
+use Rattle.std.proofs.lemmas.List.Sorted.{list_any-IsPermutation}
 use Rattle.bm_base.specs.Map.{revise}
 use Rattle.bm_base.specs.Lists.{has}
 use Rattle.bm_base.specs.Replicas.{is_live_on}
@@ -13,21 +13,18 @@ use Rattle.bm_finding.specs.Looked.{IsLook}
 use Rattle.bm_finding.proofs.Owning.{look_is}
 use Rattle.bm_finding.proofs.look.Look.look_at.Goals as goal
 
-pub mark-requires-clause-in_order : goal.mark-requires-clause-in_order
-mark-requires-clause-in_order c = IsNonDecreasingBy-from_sort (λ x. x) c.sort_unstable.new.self.items c.sort_unstable.ensures.sorted
-
 pub returns-clause-look : goal.returns-clause-look
 returns-clause-look c pend r pending =
     let C = c.args.topology.now.cluster in
     let m = c.fill_counted.new.into in
     let chosen = c.fill_surplus.new.into in
-    let many = c.sort_unstable.new.self in
+    let many = c.sort_storages.new.storages in
     let l : Look = record { id = c.args.id; info = c.info-self.result; excess = many; replicas = revise m (λ q x. marked_if (has many.items q.storage) x); triplets = c.fill_counted.new.triplets; room = c.fill_surplus.new.room } in
     subst (λ k. IsLook C pend r (holdings_with c.args.arena.now pending) k) (sym c.in_ok-mark.ensures.marked)
     (look_is c.args.arena.now C l c.args.slot m c.lawful.ensures c.requires c.in_ok-fill_counted.ensures c.info-self.ensures
-    (λ s. sym (list_any-IsPermutation (λ t. t == s) chosen.items many.items c.sort_unstable.ensures.permutation)
+    (λ s. sym (list_any-IsPermutation (λ t. t == s) chosen.items many.items c.sort_storages.ensures.moved)
     ∙ ap (λ ss. has ss s) (c.in_ok-fill_surplus.ensures.surplus ∙ (λ j. option_map_or (λ i. excess_of C ((c.as_slice.ensures ∙ c.in_ok-usable.ensures.live ∙ ap (storages_in (is_live_on C)) c.entries.ensures) j) i.repl) c.info-self.result [])))
     refl pend r pending)
 
 pub returns-clause-in_order : goal.returns-clause-in_order
-returns-clause-in_order c = subst (λ (l : Look). IsNonDecreasing l.excess.items) (sym c.in_ok-mark.ensures.marked) (IsNonDecreasingBy-from_sort (λ x. x) c.sort_unstable.new.self.items c.sort_unstable.ensures.sorted)
+returns-clause-in_order c = subst (λ (l : Look). IsNonDecreasing l.excess.items) (sym c.in_ok-mark.ensures.marked) c.sort_storages.ensures.in_order
