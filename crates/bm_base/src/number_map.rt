@@ -64,7 +64,11 @@ impl<V: Copy> NumberMap<V> {
     pub fn get_near(&self, key: u64, guess: usize) -> Option<V>
         ensures { result ≡ map.get self.now.map key }
     {
-        find_at(&self.entries, &key, place_by_guess(&self.entries, key, guess))
+        find_at(
+            &self.entries,
+            &key,
+            place_by_guess(&self.entries, key, guess),
+        )
     }
 
     /// Sets the value at a key. Takes memory only for a key that is not there and has no room; an `Err` changes nothing.
