@@ -23,8 +23,6 @@ mod pass_view;
 mod rule;
 mod slots;
 mod team;
-#[cfg(test)]
-mod tests;
 mod workers;
 
 pub use bag::{Bag, BagPass};

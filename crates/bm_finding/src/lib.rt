@@ -13,8 +13,6 @@ mod look;
 mod replicas;
 mod slots;
 mod sorting;
-#[cfg(test)]
-mod tests;
 mod visiting;
 mod wishing;
 

@@ -18,8 +18,6 @@ mod judging_chunks;
 mod judging_slots;
 mod kept;
 mod leaving_storages;
-#[cfg(test)]
-mod leaving_tests;
 mod leveled;
 mod listed;
 mod marking;
@@ -28,8 +26,6 @@ mod racks;
 mod reports;
 mod round_begins;
 mod round_ends;
-#[cfg(test)]
-mod tests;
 mod unsettled;
 mod wishing;
 

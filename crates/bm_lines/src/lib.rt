@@ -18,8 +18,6 @@ mod passing;
 mod print;
 mod print_items;
 mod rows;
-#[cfg(test)]
-mod tests;
 mod usual;
 mod usual_calls;
 mod usual_entries;
@@ -32,4 +30,5 @@ pub use call::call_of;
 pub use limits::MAX_LINE;
 pub use line::{LINE_END, Line, line_end};
 pub use print::answer_line;
+pub use usual::usual_call;
 pub use writing::{has_op, line_of};

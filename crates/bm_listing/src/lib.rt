@@ -9,8 +9,6 @@ mod held_back;
 mod one_block;
 mod replicas;
 mod rows;
-#[cfg(test)]
-mod tests;
 
 pub use blocks::{blocks_on, missing_blocks};
 pub use held_back::is_held_back;

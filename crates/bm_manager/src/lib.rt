@@ -11,5 +11,3 @@ mod publishing;
 pub use alike::answers_alike;
 pub use manager::Manager;
 
-#[cfg(test)]
-mod tests;

@@ -10,7 +10,5 @@ mod listing;
 mod own;
 mod pending;
 mod targets;
-#[cfg(test)]
-mod tests;
 
 pub use pending::PendingTransfers;

@@ -10,10 +10,6 @@ mod level_lists;
 mod slot_lists;
 mod slot_set;
 mod sparse_set;
-#[cfg(test)]
-mod sparse_tests;
-#[cfg(test)]
-mod tests;
 mod walk;
 
 pub use level_lists::LevelLists;

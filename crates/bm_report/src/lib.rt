@@ -20,8 +20,6 @@ mod sister_storages;
 mod slots_of_numbers;
 mod sweeping;
 mod tally;
-#[cfg(test)]
-mod tests;
 mod types;
 mod without_report;
 

@@ -6,6 +6,5 @@ pub mod Firsts
 pub mod Bounds
 pub mod Copied
 pub mod Told
-pub mod Tested
 pub mod Nothing
 pub mod First

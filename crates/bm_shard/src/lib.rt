@@ -17,8 +17,6 @@ mod preparing;
 mod receiving;
 mod rounds;
 mod shard;
-#[cfg(test)]
-mod tests;
 
 pub use bm_base::{RoundPart, Wish};
 pub use shard::Shard;

@@ -33,5 +33,3 @@ pub use publisher::Publisher;
 pub use receipt::Receipt;
 pub use table::Table;
 
-#[cfg(test)]
-mod tests;

@@ -35,8 +35,6 @@ mod replicas;
 mod reporting;
 mod slots;
 mod storages;
-#[cfg(test)]
-mod tests;
 mod what_if;
 
 pub use beside::{Seen, SideBySide, apply_beside_reader};

@@ -1,0 +1,380 @@
+//! Readers beside a manager: what locators answer of the versions that it publishes, in one thread and in two.
+ghost use Rattle.std.specs.Prelude.{◌≡◌};
+
+use super::{Told, call_of, config};
+use bm_base::{Answer, BlockId, Places, StorageId};
+use bm_crew::NoGate;
+use bm_manager::Manager;
+use bm_view::{Located, Locator, Publisher, Receipt, open_view};
+use crossbeam_channel::{Receiver, Sender, unbounded};
+use std::alloc::Global;
+use std::marker::{Brand, PhantomData};
+use std::process::Abort;
+use std::sync::Wait;
+use std::thread::{Threads, join};
+
+const READS: u32 = 2_000;
+
+/// Four nodes on two racks, and block 7, of which three replicas are wanted.
+static CLUSTER: [Told<'static>; 9] = [
+    Told::Register(1, 1, &[11]),
+    Told::Register(2, 1, &[21]),
+    Told::Register(3, 2, &[31]),
+    Told::Register(4, 2, &[41]),
+    Told::Free(1, 11),
+    Told::Free(2, 21),
+    Told::Free(3, 31),
+    Told::Free(4, 41),
+    Told::Add(7, 3),
+];
+
+fn make<R: Abort + Threads + Wait + Sync>(
+    rt: &R,
+    alloc: Global,
+    manager: &mut Manager,
+    told: Told<'_>,
+) {
+    let call = call_of(alloc, told).expect(rt, "memory");
+    let answer = manager.answer(rt, &NoGate, &call);
+    assert!(rt; !matches!(answer, Answer::Refused(_)));
+}
+
+fn make_cluster<R: Abort + Threads + Wait + Sync>(rt: &R, alloc: Global, manager: &mut Manager) {
+    for told in &CLUSTER {
+        make(rt, alloc, manager, *told);
+    }
+}
+
+fn new_manager<R: Abort + Threads + Wait + Sync>(
+    rt: &R,
+    alloc: Global,
+    shards: u32,
+    workers: u32,
+) -> Manager {
+    Manager::new(alloc, config(shards, workers)).expect(rt, "memory")
+}
+
+fn publish<R: Abort + Threads + Wait + Sync>(
+    rt: &R,
+    manager: &mut Manager,
+    publisher: &mut Publisher,
+) -> Receipt
+    ensures receipt { result.home ≡ publisher.new.home }
+    ensures home { publisher.new.home ≡ publisher.old.home }
+{
+    assert!(rt; publisher.calls() <= manager.calls());
+    manager.publish(rt, publisher).expect(rt, "memory")
+}
+
+fn publish_and_learn<R: Abort + Threads + Wait + Sync>(
+    rt: &R,
+    manager: &mut Manager,
+    publisher: &mut Publisher,
+    locator: &mut Locator,
+) -> u64
+    requires { locator.old.home ≡ publisher.old.home }
+    ensures { locator.new.home ≡ publisher.new.home }
+{
+    let receipt = publish(rt, manager, publisher);
+    let calls = receipt.calls();
+    locator.learn(receipt);
+    calls
+}
+
+fn found(rt: &impl Abort, alloc: Global, calls: u64, numbers: &[u32]) -> Option<Located> {
+    let mut storages = Vec::new(alloc);
+    for number in numbers {
+        storages.push(StorageId(*number)).expect(rt, "memory");
+    }
+    Some(Located {
+        calls,
+        places: Places::first_of(storages.as_slice()),
+    })
+}
+
+/// What is done with a manager, a publisher and two locators, or asked of them, and what the answer must be.
+#[derive(Clone, Copy)]
+enum Step<'a> {
+    /// The calls of the cluster.
+    Cluster,
+    Make(Told<'a>),
+    /// The manager publishes; the receipt says so many calls, and the first locator learns it.
+    Publish(u64),
+    /// The first locator has a block, in a version with so many calls, on these storages.
+    First(u64, u64, &'a [u32]),
+    /// The same of the second, which learns nothing.
+    Second(u64, u64, &'a [u32]),
+}
+
+static READERS_SEE_PUBLISHED_VERSIONS: [Step<'static>; 14] = [
+    Step::First(7, 0, &[]),
+    Step::Second(7, 0, &[]),
+    Step::Cluster,
+    Step::Make(Told::Received(11, 7, 1)),
+    Step::Publish(10),
+    Step::First(7, 10, &[11]),
+    Step::First(8, 10, &[]),
+    Step::Make(Told::Received(31, 7, 1)),
+    Step::First(7, 10, &[11]),
+    Step::Publish(11),
+    Step::First(7, 11, &[11, 31]),
+    Step::Second(7, 11, &[11, 31]),
+    // A version may have as many calls as the one before.
+    Step::Publish(11),
+    Step::Second(7, 11, &[11, 31]),
+];
+
+/// Whether a step answers as it must.
+fn go<R: Abort + Threads + Wait + Sync>(
+    rt: &R,
+    alloc: Global,
+    manager: &mut Manager,
+    publisher: &mut Publisher,
+    first: &mut Locator,
+    second: &mut Locator,
+    step: Step<'_>,
+) -> bool
+    requires { first.old.home ≡ publisher.old.home }
+    ensures { first.new.home ≡ publisher.new.home }
+{
+    match step {
+        Step::Cluster => {
+            make_cluster(rt, alloc, manager);
+            true
+        }
+        Step::Make(told) => {
+            make(rt, alloc, manager, told);
+            true
+        }
+        Step::Publish(calls) => publish_and_learn(rt, manager, publisher, first) == calls,
+        Step::First(block, calls, numbers) => {
+            first.locate(BlockId(block)) == found(rt, alloc, calls, numbers)
+        }
+        Step::Second(block, calls, numbers) => {
+            second.locate(BlockId(block)) == found(rt, alloc, calls, numbers)
+        }
+    }
+}
+
+fn go_all<R: Abort + Threads + Wait + Sync>(
+    rt: &R,
+    alloc: Global,
+    manager: &mut Manager,
+    publisher: &mut Publisher,
+    mut first: Locator,
+    mut second: Locator,
+)
+    requires { first.home ≡ publisher.old.home }
+{
+    for (place, step) in READERS_SEE_PUBLISHED_VERSIONS.iter().enumerate() {
+        assert!(rt;
+            go(
+                rt,
+                alloc,
+                manager,
+                publisher,
+                &mut first,
+                &mut second,
+                *step
+            ),
+            "step {place}"
+        );
+    }
+}
+
+fn check_readers<R: Abort + Threads + Wait + Sync>(
+    rt: &R,
+    alloc: Global,
+    shards: u32,
+    workers: u32,
+) {
+    let mut manager = new_manager(rt, alloc, shards, workers);
+    let (mut publisher, mut locators) = open_view(rt, alloc, 2).expect(rt, "memory");
+    match (locators.pop(), locators.pop()) {
+        (Some(first), Some(second)) => {
+            go_all(rt, alloc, &mut manager, &mut publisher, first, second)
+        }
+        _ => assert!(rt; false),
+    }
+    publisher.end(rt);
+}
+
+#[test]
+fn readers_see_published_versions(rt: HostRuntime) {
+    check_readers(&rt, rt.alloc(), 3, 2);
+    check_readers(&rt, rt.alloc(), 64, 4);
+}
+
+/// Calls after those of the cluster, and where block 7 is after each.
+static BESIDE: [(Told<'static>, &'static [u32]); 6] = [
+    (Told::Received(11, 7, 1), &[11]),
+    (Told::Received(31, 7, 1), &[11, 31]),
+    (Told::Report(21, 1, 200), &[11, 21, 31]),
+    (Told::Round, &[11, 21, 31]),
+    (Told::Failed(31), &[11, 21]),
+    (Told::Dead(1), &[21]),
+];
+
+/// Whether a locator may answer this at some time: the version after so many of the calls has block 7 there.
+fn is_published(rt: &impl Abort, alloc: Global, seen: Located) -> bool {
+    let calls = seen.calls;
+    if calls <= CLUSTER.len() as u64 {
+        return calls == 0 && Some(seen) == found(rt, alloc, 0, &[]);
+    }
+    let made = (calls - CLUSTER.len() as u64) as usize;
+    match BESIDE.get(made - 1) {
+        Some(one) => {
+            let numbers = one.1;
+            Some(seen) == found(rt, alloc, calls, numbers)
+        }
+        None => false,
+    }
+}
+
+/// Reads block 7 many times. Counts the answers that are none, that are of no version, and that are older than the one before or than
+/// `oldest`.
+fn read_many(rt: &impl Abort, alloc: Global, locator: &mut Locator, oldest: u64) -> u32
+    ensures { locator.new.home ≡ locator.old.home }
+{
+    let (mut last, mut wrong) = (oldest, 0u32);
+    for _ in 0..READS {
+        match locator.locate(BlockId(7)) {
+            Some(seen) => {
+                let calls = seen.calls;
+                let is_known = is_published(rt, alloc, seen);
+                wrong = wrong.wrapping_add((calls < last || !is_known) as u32);
+                last = calls;
+            }
+            None => wrong = wrong.wrapping_add(1),
+        }
+    }
+    wrong
+}
+
+/// Names what one `open_view` made, for receipts that cross a channel. A call picks it.
+trait Home {
+    ghost use Rattle.bm_view.specs.Holders.{Home};
+
+    ghost home: { Home };
+}
+
+impl Home for Brand {
+    ghost use Rattle.bm_view.specs.Holders.{no_home};
+
+    ghost home = { no_home };
+}
+
+/// A receipt on its way to another thread.
+#[derive(Drop)]
+struct Notice<J: Home> {
+    receipt: Receipt,
+    of: PhantomData<J>,
+    ghost home_is: { receipt.home ≡ J.home },
+}
+
+fn make_notice<J: Home>(receipt: Receipt) -> Notice<J>
+    requires { receipt.home ≡ J.home }
+{
+    Notice {
+        receipt,
+        of: PhantomData,
+    }
+}
+
+/// Makes the calls, and publishes after each.
+fn publish_all<J: Home, R: Abort + Threads + Wait + Sync>(
+    rt: &R,
+    alloc: Global,
+    manager: &mut Manager,
+    publisher: &mut Publisher,
+    to: Sender<Notice<J>>,
+)
+    requires { publisher.old.home ≡ J.home }
+{
+    for (told, _) in &BESIDE {
+        make(rt, alloc, manager, *told);
+        let receipt = publish(rt, manager, publisher);
+        let _ = to.send(rt, make_notice::<J>(receipt));
+    }
+}
+
+/// Reads, and reads again after each receipt that comes. Counts the answers that must not be; after a receipt none is older than it.
+fn read_what_is_told<J: Home, R: Abort + Wait>(
+    rt: &R,
+    alloc: Global,
+    mut locator: Locator,
+    from: Receiver<Notice<J>>,
+) -> u32
+    requires { locator.home ≡ J.home }
+{
+    let mut wrong = read_many(rt, alloc, &mut locator, 0);
+    for notice in from.iter(rt) {
+        let Notice { receipt, of: _ } = notice;
+        let told = receipt.calls();
+        locator.learn(receipt);
+        wrong = wrong.wrapping_add(read_many(rt, alloc, &mut locator, told));
+    }
+    wrong
+}
+
+/// Calls, rounds and publishes in one thread; reads in another. How many answers are wrong.
+fn beside<J: Home + Send + Sync, R: Abort + Threads + Wait + Sync>(
+    rt: &R,
+    alloc: Global,
+    manager: &mut Manager,
+    publisher: &mut Publisher,
+    locator: Locator,
+) -> u32
+    requires { (publisher.old.home ≡ J.home) × (locator.home ≡ J.home) }
+{
+    let (to, from) = unbounded(alloc).expect(rt, "memory");
+    let (_, wrong) = join(
+        rt,
+        ||
+            requires { publisher.now.home ≡ J.home }
+        { publish_all::<J, R>(rt, alloc, manager, publisher, to) },
+        move || -> u32
+            requires { locator.home ≡ J.home }
+        { read_what_is_told::<J, R>(rt, alloc, locator, from) },
+    );
+    wrong
+}
+
+fn told_beside<R: Abort + Threads + Wait + Sync>(
+    rt: &R,
+    alloc: Global,
+    manager: &mut Manager,
+    publisher: &mut Publisher,
+    locator: Locator,
+) -> u32
+    requires { locator.home ≡ publisher.old.home }
+{
+    beside::<Brand, R>(rt, alloc, manager, publisher, locator)
+}
+
+fn check_beside<R: Abort + Threads + Wait + Sync>(
+    rt: &R,
+    alloc: Global,
+    shards: u32,
+    workers: u32,
+) {
+    let mut manager = new_manager(rt, alloc, shards, workers);
+    let (mut publisher, mut locators) = open_view(rt, alloc, 1).expect(rt, "memory");
+    make_cluster(rt, alloc, &mut manager);
+    match locators.pop() {
+        Some(locator) => {
+            assert_eq!(rt;
+                told_beside(rt, alloc, &mut manager, &mut publisher, locator),
+                0
+            );
+        }
+        None => assert!(rt; false),
+    }
+    publisher.end(rt);
+}
+
+#[test]
+fn readers_beside_calls_and_rounds_never_go_back(rt: HostRuntime) {
+    check_beside(&rt, rt.alloc(), 3, 2);
+    check_beside(&rt, rt.alloc(), 64, 4);
+}

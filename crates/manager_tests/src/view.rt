@@ -1,0 +1,256 @@
+//! What no clause says: that a locator answers at all while the publisher stands, and that one which learnt nothing sees
+//! what was published.
+ghost use Rattle.std.specs.Prelude.{◌≡◌};
+ghost use Rattle.std.specs.Arc.{arc_value};
+
+use bm_base::{BlockId, Places, Refusal, StorageId};
+use bm_view::{Located, Locator, Publisher, Receipt, Table, open_view};
+use std::alloc::Global;
+use std::process::Abort;
+use std::sync::{Arc, Wait};
+
+mod two_threads;
+
+// A version with one row, of block 7.
+fn version(rt: &impl Abort, alloc: Global, calls: u64, storages: &[StorageId]) -> Arc<Table>
+    ensures { (arc_value result).calls ≡ calls }
+{
+    let mut rows = Vec::new(alloc);
+    rows.push((BlockId(7), Places::first_of(storages)))
+        .expect(rt, "memory");
+    Arc::new(alloc, Table::new(calls, rows)).expect(rt, "memory")
+}
+
+fn found(calls: u64, storages: &[StorageId]) -> Option<Located> {
+    Some(Located {
+        calls,
+        places: Places::first_of(storages),
+    })
+}
+
+fn named(rt: &impl Abort, alloc: Global, numbers: &[u32]) -> Vec<StorageId> {
+    let mut storages = Vec::new(alloc);
+    for number in numbers {
+        storages.push(StorageId(*number)).expect(rt, "memory");
+    }
+    storages
+}
+
+/// What is done with a publisher and two locators, or asked of them, and what the answer must be.
+#[derive(Clone, Copy)]
+enum Step<'a> {
+    /// Publishes a version with so many calls, in which block 7 has these storages. The receipt says so many calls, and the
+    /// first locator learns it.
+    Publish(u64, &'a [u32]),
+    /// The publisher has published a version with so many calls.
+    Calls(u64),
+    /// The first locator has a block, in a version with so many calls, on these storages.
+    First(u64, u64, &'a [u32]),
+    /// The same of the second, which learns nothing.
+    Second(u64, u64, &'a [u32]),
+}
+
+static READERS_SEE_PUBLISHED_VERSIONS: [Step<'static>; 11] = [
+    Step::Calls(0),
+    Step::First(7, 0, &[]),
+    Step::Second(7, 0, &[]),
+    Step::Publish(10, &[11]),
+    Step::First(7, 10, &[11]),
+    Step::First(8, 10, &[]),
+    Step::First(7, 10, &[11]),
+    Step::Publish(11, &[11, 31]),
+    Step::First(7, 11, &[11, 31]),
+    Step::Second(7, 11, &[11, 31]),
+    Step::Calls(11),
+];
+
+fn publish<R: Abort + Wait>(
+    rt: &R,
+    alloc: Global,
+    publisher: &mut Publisher,
+    calls: u64,
+    numbers: &[u32],
+) -> Receipt
+    ensures receipt { result.home ≡ publisher.new.home }
+    ensures home { publisher.new.home ≡ publisher.old.home }
+{
+    let storages = named(rt, alloc, numbers);
+    let table = version(rt, alloc, calls, storages.as_slice());
+    assert!(rt; publisher.calls() <= calls);
+    publisher.publish(rt, table).expect(rt, "memory")
+}
+
+fn publish_and_learn<R: Abort + Wait>(
+    rt: &R,
+    alloc: Global,
+    publisher: &mut Publisher,
+    locator: &mut Locator,
+    calls: u64,
+    numbers: &[u32],
+) -> bool
+    requires { locator.old.home ≡ publisher.old.home }
+    ensures { locator.new.home ≡ publisher.new.home }
+{
+    let receipt = publish(rt, alloc, publisher, calls, numbers);
+    let told = receipt.calls();
+    locator.learn(receipt);
+    told == calls
+}
+
+fn has_found(
+    rt: &impl Abort,
+    alloc: Global,
+    locator: &mut Locator,
+    block: u64,
+    calls: u64,
+    numbers: &[u32],
+) -> bool
+    ensures { locator.new.home ≡ locator.old.home }
+{
+    let storages = named(rt, alloc, numbers);
+    locator.locate(BlockId(block)) == found(calls, storages.as_slice())
+}
+
+/// Whether a step answers as it must.
+fn go<R: Abort + Wait>(
+    rt: &R,
+    alloc: Global,
+    publisher: &mut Publisher,
+    first: &mut Locator,
+    second: &mut Locator,
+    step: Step<'_>,
+) -> bool
+    requires { first.old.home ≡ publisher.old.home }
+    ensures { first.new.home ≡ publisher.new.home }
+{
+    match step {
+        Step::Publish(calls, storages) => {
+            publish_and_learn(rt, alloc, publisher, first, calls, storages)
+        }
+        Step::Calls(calls) => publisher.calls() == calls,
+        Step::First(block, calls, storages) => has_found(rt, alloc, first, block, calls, storages),
+        Step::Second(block, calls, storages) => {
+            has_found(rt, alloc, second, block, calls, storages)
+        }
+    }
+}
+
+fn go_all<R: Abort + Wait>(
+    rt: &R,
+    alloc: Global,
+    publisher: &mut Publisher,
+    mut first: Locator,
+    mut second: Locator,
+)
+    requires { first.home ≡ publisher.old.home }
+{
+    for (place, step) in READERS_SEE_PUBLISHED_VERSIONS.iter().enumerate() {
+        assert!(rt;
+            go(rt, alloc, publisher, &mut first, &mut second, *step),
+            "step {place}"
+        );
+    }
+}
+
+#[test]
+fn readers_see_published_versions(rt: HostRuntime) {
+    let (mut publisher, mut locators) = open_view(&rt, rt.alloc(), 2).expect(&rt, "memory");
+    match (locators.pop(), locators.pop()) {
+        (Some(first), Some(second)) => go_all(&rt, rt.alloc(), &mut publisher, first, second),
+        _ => assert!(rt; false),
+    }
+    publisher.end(&rt);
+}
+
+/// A view with so many locators, which learn nothing. Each of them answers from the version that is published, and not at all
+/// once the publisher has ended.
+#[derive(Clone, Copy)]
+struct View<'a> {
+    readers: usize,
+    /// The calls of a version that is published, and the storages of block 7 in it.
+    published: Option<(u64, &'a [u32])>,
+    /// The calls of the publisher then.
+    calls: u64,
+    /// The storages of block 7 that each locator sees then. `None` where none is asked before the publisher has ended.
+    seen: Option<&'a [u32]>,
+}
+
+static VIEWS: [View<'static>; 4] = [
+    View {
+        readers: 1,
+        published: None,
+        calls: 0,
+        seen: None,
+    },
+    // Sixteen readers are the most.
+    View {
+        readers: 16,
+        published: None,
+        calls: 0,
+        seen: Some(&[]),
+    },
+    View {
+        readers: 0,
+        published: Some((3, &[])),
+        calls: 3,
+        seen: Some(&[]),
+    },
+    // A version may have as many calls as the one before.
+    View {
+        readers: 1,
+        published: Some((0, &[11])),
+        calls: 0,
+        seen: Some(&[11]),
+    },
+];
+
+fn check_all(rt: &impl Abort, locators: &mut Vec<Locator>, must: Option<Located>) {
+    for locator in locators.iter_mut() {
+        assert_eq!(rt; locator.locate(BlockId(7)), must);
+    }
+}
+
+fn check_seen(
+    rt: &impl Abort,
+    alloc: Global,
+    locators: &mut Vec<Locator>,
+    calls: u64,
+    numbers: &[u32],
+) {
+    let storages = named(rt, alloc, numbers);
+    check_all(rt, locators, found(calls, storages.as_slice()));
+}
+
+fn check_view<R: Abort + Wait>(rt: &R, alloc: Global, view: &View<'_>) {
+    let (mut publisher, mut locators) = open_view(rt, alloc, view.readers).expect(rt, "memory");
+    if let Some((calls, storages)) = view.published {
+        let _receipt = publish(rt, alloc, &mut publisher, calls, storages);
+    }
+    assert_eq!(rt;
+        (locators.len(), publisher.calls()),
+        (view.readers, view.calls)
+    );
+    if let Some(storages) = view.seen {
+        check_seen(rt, alloc, &mut locators, view.calls, storages);
+    }
+    publisher.end(rt);
+    check_all(rt, &mut locators, None);
+}
+
+#[test]
+fn locators_answer_until_the_publisher_has_ended(rt: HostRuntime) {
+    for view in &VIEWS {
+        check_view(&rt, rt.alloc(), view);
+    }
+}
+
+#[test]
+fn seventeen_readers_are_too_many(rt: HostRuntime) {
+    match open_view(&rt, rt.alloc(), 17) {
+        Ok((publisher, _locators)) => {
+            publisher.end(&rt);
+            assert!(rt; false);
+        }
+        Err(refusal) => assert!(rt; refusal == Refusal::BadConfig),
+    }
+}

@@ -1,0 +1,239 @@
+//! A publisher in one thread, and a locator in another.
+ghost use Rattle.std.specs.Prelude.{◌≡◌, ◌≤◌, IfSome};
+ghost use Rattle.bm_view.specs.History.{last_of};
+
+use super::{found, version};
+use bm_base::{BlockId, StorageId};
+use bm_view::{Located, Locator, Publisher, Receipt, open_view};
+use crossbeam_channel::{Receiver, Sender, unbounded};
+use std::alloc::Global;
+use std::marker::{Brand, PhantomData};
+use std::process::Abort;
+use std::sync::Wait;
+use std::thread::{Threads, join};
+
+const ROUNDS: u32 = 500;
+
+const VERSIONS: u64 = 50;
+
+const READS: u32 = 5_000;
+
+// What block 7 has in the version of so many calls.
+fn at(calls: u64) -> Option<Located> {
+    match calls {
+        0 => found(0, &[]),
+        10 => found(10, &[StorageId(11)]),
+        _ => found(calls, &[StorageId(11), StorageId(31)]),
+    }
+}
+
+// 1 for no answer, and for places of another version.
+fn is_wrong(seen: Option<Located>) -> u32 {
+    match seen {
+        Some(located) => {
+            let calls = located.calls;
+            (Some(located) != at(calls)) as u32
+        }
+        None => 1,
+    }
+}
+
+// Names what one `open_view` made, for receipts that cross a channel. A call picks it.
+trait Home {
+    ghost use Rattle.bm_view.specs.Holders.{Home};
+
+    ghost home: { Home };
+}
+
+impl Home for Brand {
+    ghost use Rattle.bm_view.specs.Holders.{no_home};
+
+    ghost home = { no_home };
+}
+
+// A receipt on its way to another thread.
+#[derive(Drop)]
+struct Notice<J: Home> {
+    receipt: Receipt,
+    of: PhantomData<J>,
+    ghost home_is: { receipt.home ≡ J.home },
+}
+
+fn make_notice<J: Home>(receipt: Receipt) -> Notice<J>
+    requires { receipt.home ≡ J.home }
+{
+    Notice {
+        receipt,
+        of: PhantomData,
+    }
+}
+
+fn publish_two<J: Home, R: Abort + Wait>(
+    rt: &R,
+    alloc: Global,
+    publisher: &mut Publisher,
+    to: Sender<Notice<J>>,
+)
+    requires calls { (last_of publisher.old.list).calls ≡ 0 }
+    requires home { publisher.old.home ≡ J.home }
+{
+    let early = version(rt, alloc, 10, &[StorageId(11)]);
+    let receipt = publisher.publish(rt, early).expect(rt, "memory");
+    let _ = to.send(rt, make_notice::<J>(receipt));
+    let late = version(rt, alloc, 11, &[StorageId(11), StorageId(31)]);
+    let receipt = publisher.publish(rt, late).expect(rt, "memory");
+    let _ = to.send(rt, make_notice::<J>(receipt));
+}
+
+// Reads, and reads once more for each receipt that comes. No answer is older than the receipt: that is proved. It counts
+// those that are wrong or none.
+fn read_what_is_told<J: Home, R: Wait>(
+    rt: &R,
+    mut locator: Locator,
+    from: Receiver<Notice<J>>,
+) -> u32
+    requires { locator.home ≡ J.home }
+{
+    let mut wrong = is_wrong(locator.locate(BlockId(7)));
+    for notice in from.iter(rt) {
+        let Notice { receipt, of: _ } = notice;
+        let told = receipt.calls();
+        locator.learn(receipt);
+        let seen = locator.locate(BlockId(7));
+        if let Some(located) = &seen {
+            let calls = located.calls;
+            prove!(told <= calls);
+        }
+        wrong = wrong.wrapping_add(is_wrong(seen));
+    }
+    wrong
+}
+
+fn tell_beside<J: Home + Send + Sync, R: Abort + Threads + Wait + Sync>(
+    rt: &R,
+    alloc: Global,
+    publisher: &mut Publisher,
+    locator: Locator,
+) -> u32
+    requires calls { (last_of publisher.old.list).calls ≡ 0 }
+    requires home { (publisher.old.home ≡ J.home) × (locator.home ≡ J.home) }
+{
+    let (to, from) = unbounded(alloc).expect(rt, "memory");
+    let (_, wrong) = join(
+        rt,
+        ||
+            requires { ((last_of publisher.now.list).calls ≡ 0) × (publisher.now.home ≡ J.home) }
+        { publish_two::<J, R>(rt, alloc, publisher, to) },
+        move || -> u32
+            requires { locator.home ≡ J.home }
+        { read_what_is_told::<J, R>(rt, locator, from) },
+    );
+    wrong
+}
+
+fn told_beside<R: Abort + Threads + Wait + Sync>(
+    rt: &R,
+    alloc: Global,
+    publisher: &mut Publisher,
+    locator: Locator,
+) -> u32
+    requires calls { (last_of publisher.old.list).calls ≡ 0 }
+    requires home { locator.home ≡ publisher.old.home }
+{
+    tell_beside::<Brand, R>(rt, alloc, publisher, locator)
+}
+
+// How many answers are wrong, and what a locator that learnt nothing answers in the end.
+fn one_round<R: Abort + Threads + Wait + Sync>(rt: &R, alloc: Global) -> (u32, Option<Located>) {
+    let (mut publisher, mut locators) = open_view(rt, alloc, 2).expect(rt, "memory");
+    let wrong = match locators.pop() {
+        Some(locator) => told_beside(rt, alloc, &mut publisher, locator),
+        None => 1,
+    };
+    let seen = match locators.pop() {
+        Some(mut locator) => locator.locate(BlockId(7)),
+        None => None,
+    };
+    publisher.end(rt);
+    (wrong, seen)
+}
+
+#[test]
+fn readers_see_published_versions_in_two_threads(rt: HostRuntime) {
+    for _ in 0..ROUNDS {
+        assert_eq!(rt; one_round(&rt, rt.alloc()), (0, at(11)));
+    }
+}
+
+// Publishes versions with 1 call to `VERSIONS`, and gives the receipt of the last.
+fn publish_all<R: Abort + Wait>(rt: &R, alloc: Global, publisher: &mut Publisher) -> Receipt
+    requires { (last_of publisher.old.list).calls ≡ 0 }
+    ensures { result.home ≡ publisher.old.home }
+{
+    for calls in 1..VERSIONS {
+        let table = version(rt, alloc, calls, &[StorageId(11)]);
+        publisher.publish(rt, table).expect(rt, "memory");
+    }
+    let last = version(rt, alloc, VERSIONS, &[StorageId(11)]);
+    publisher.publish(rt, last).expect(rt, "memory")
+}
+
+// Counts the answers that went back, or were none.
+fn read_all(mut locator: Locator) -> (Locator, u32)
+    ensures { result.0.home ≡ locator.home }
+{
+    let (mut last, mut wrong) = (0, 0u32);
+    for _ in 0..READS {
+        match locator.locate(BlockId(7)) {
+            Some(seen) => {
+                wrong = wrong.wrapping_add((seen.calls < last) as u32);
+                last = seen.calls;
+            }
+            None => wrong = wrong.wrapping_add(1),
+        }
+    }
+    (locator, wrong)
+}
+
+// Learns a receipt, and reads.
+fn read_after(mut locator: Locator, receipt: Receipt) -> Option<Located>
+    requires { receipt.home ≡ locator.home }
+    ensures no_older { IfSome result (λ seen. (last_of receipt.list).calls ≤ seen.calls) }
+{
+    locator.learn(receipt);
+    locator.locate(BlockId(7))
+}
+
+// Publishes in one thread and reads in another. Then the reader learns the last receipt.
+fn beside<R: Abort + Threads + Wait + Sync>(
+    rt: &R,
+    alloc: Global,
+    publisher: &mut Publisher,
+    locator: Locator,
+) -> (u32, Option<Located>)
+    requires calls { (last_of publisher.old.list).calls ≡ 0 }
+    requires home { locator.home ≡ publisher.old.home }
+{
+    let (receipt, (locator, wrong)) = join(
+        rt,
+        || -> Receipt
+            requires { (last_of publisher.now.list).calls ≡ 0 }
+            ensures { result.home ≡ publisher.entry.now.home }
+        { publish_all(rt, alloc, publisher) },
+        move || -> (Locator, u32)
+            ensures { result.0.home ≡ locator.home }
+        { read_all(locator) },
+    );
+    (wrong, read_after(locator, receipt))
+}
+
+#[test]
+fn reads_beside_a_publisher_never_go_back(rt: HostRuntime) {
+    let (mut publisher, mut locators) = open_view(&rt, rt.alloc(), 1).expect(&rt, "memory");
+    let seen = match locators.pop() {
+        Some(locator) => beside(&rt, rt.alloc(), &mut publisher, locator),
+        None => (1, None),
+    };
+    publisher.end(&rt);
+    assert_eq!(rt; seen, (0, found(VERSIONS, &[StorageId(11)])));
+}

@@ -1,0 +1,111 @@
+// The level of a block before and after a node drains, a storage fails and a node dies.
+ghost use Rattle.std.specs.Prelude.{◌≡◌};
+ghost use Rattle.bm_base.specs.State.{empty_cluster};
+
+use bm_base::{
+    BlockId, BlockInfo, Entry, Event, Gen, HashSecret, Items, Level, NodeId, Part, Rack, Stamp,
+    StorageId,
+};
+use bm_levels::LeveledBlocks;
+use bm_report::Report;
+use bm_topo::Topology;
+use std::alloc::Global;
+use std::process::Abort;
+
+const ID: BlockId = BlockId(7);
+
+const STAMP: Stamp = Stamp {
+    generation: Gen(1),
+    len: 10,
+};
+
+fn nowhere(rt: &impl Abort, alloc: Global) -> Topology
+    ensures { result.cluster ≡ empty_cluster }
+{
+    Topology::new(alloc).expect(rt, "memory")
+}
+
+/// A node comes, on a rack of its number, with one storage.
+fn register(rt: &impl Abort, alloc: Global, topology: &mut Topology, node: u32, storage: u32) {
+    let mut storages = Vec::new(alloc);
+    storages.push(StorageId(storage)).expect(rt, "memory");
+    let event = Event::Register {
+        node: NodeId(node),
+        rack: Rack(node),
+        storages: Items::from_vec(storages),
+    };
+    topology.check(&event).expect(rt, "a new node");
+    topology.prepare(&event).expect(rt, "memory");
+    topology.commit(&event);
+}
+
+/// Two nodes on two racks, 1 with storage 11 and 2 with storage 21.
+fn two_nodes(rt: &impl Abort, alloc: Global) -> Topology {
+    let mut topology = nowhere(rt, alloc);
+    register(rt, alloc, &mut topology, 1, 11);
+    register(rt, alloc, &mut topology, 2, 21);
+    topology
+}
+
+/// The block has a replica on a storage; no storage of the cluster is known yet.
+fn receive(rt: &impl Abort, alloc: Global, blocks: &mut LeveledBlocks, storage: StorageId) {
+    let nowhere = nowhere(rt, alloc);
+    let mut report = Report::new(alloc);
+    let entries = [Entry::one(ID, STAMP)];
+    let part = Part {
+        index: 0,
+        shards: 1,
+    };
+    let ready = blocks.ready_report(&mut report, storage, entries.as_slice(), part);
+    assert!(rt; ready.is_ok());
+    blocks.receive(&report, &nowhere, storage, ID, STAMP);
+}
+
+/// A block of which two replicas are wanted has one on storage 11 and one on 21.
+fn on_both(rt: &impl Abort, alloc: Global, topology: &Topology) -> LeveledBlocks {
+    let mut blocks = LeveledBlocks::new(alloc, HashSecret::none()).expect(rt, "memory");
+    blocks.ready_block(ID).expect(rt, "memory");
+    let slot = blocks.slot_of(ID).expect(rt, "an entry");
+    let info = BlockInfo {
+        stamp: STAMP,
+        repl: 2,
+    };
+    blocks.set_info(topology, slot, Some(info));
+    receive(rt, alloc, &mut blocks, StorageId(11));
+    receive(rt, alloc, &mut blocks, StorageId(21));
+    blocks
+}
+
+/// The level after node 1 began to drain, or ceased to.
+fn level_when_turned(
+    topology: &Topology,
+    blocks: &mut LeveledBlocks,
+    drains: bool,
+) -> Option<Level> {
+    blocks.set_draining(topology, NodeId(1), drains);
+    blocks.level(ID)
+}
+
+/// How many replicas leave by the death of a node.
+#[tactic(auto, unfolding(bm_base::specs::Events::change_cluster))]
+fn dead(topology: &Topology, blocks: &mut LeveledBlocks, node: NodeId) -> u128 {
+    let multi = topology.multi_after(&Event::Dead { node });
+    blocks.forget_node(topology, node, multi)
+}
+
+/// Whether the level is what it must be after each change.
+fn goes_rightly(topology: &Topology, blocks: &mut LeveledBlocks) -> bool {
+    level_when_turned(topology, blocks, true) == Some(Level::Highest)
+        && level_when_turned(topology, blocks, false).is_none()
+        && blocks.forget_storage(topology, StorageId(21)) == 1
+        && blocks.level(ID) == Some(Level::Highest)
+        && dead(topology, blocks, NodeId(1)) == 1
+        && blocks.level(ID) == Some(Level::NoUsableReplica)
+}
+
+#[test]
+fn replicas_drain_and_leave(rt: HostRuntime) {
+    let topology = two_nodes(&rt, rt.alloc());
+    let mut blocks = on_both(&rt, rt.alloc(), &topology);
+    assert!(rt; goes_rightly(&topology, &mut blocks));
+}

@@ -1,0 +1,257 @@
+// The lists of one levelled set of slots, and each call once with ample memory: each test is a list of steps with what each must
+// answer, and one function goes over them.
+use bm_base::{Level, Refusal};
+use bm_queues::{LevelLists, SlotSet, Walk};
+use std::alloc::Global;
+use std::process::Abort;
+
+mod sparse_sets;
+
+/// What is done with lists of levels, or asked of them.
+#[derive(Clone, Copy)]
+enum LevelStep {
+    GrowTo(usize),
+    Set(usize, Option<Level>),
+    Level(usize),
+    First(Level),
+    Next(usize),
+    Room,
+    Walk(Level),
+}
+
+/// What is done with a set of slots, or asked of it.
+#[derive(Clone, Copy)]
+enum SetStep {
+    GrowTo(usize),
+    /// Puts a slot into it, and asks whether it is in.
+    Insert(usize),
+    /// Takes a slot out of it, and asks whether it is in.
+    Remove(usize),
+    Len,
+    First,
+    Next(usize),
+    Room,
+    Walk,
+}
+
+/// What a step answers.
+#[derive(Clone, Copy, Debug, PartialEq, Eq)]
+enum Answer {
+    Fine,
+    Refused,
+    /// There is no room for the slot.
+    NoRoom,
+    Yes,
+    No,
+    Nothing,
+    Number(usize),
+    Slot(usize),
+    Level(Level),
+    /// The slots that a walk meets, and how many these are.
+    Slots([usize; 2], usize),
+    TooManySlots,
+}
+
+fn grown(grown: Result<(), Refusal>) -> Answer {
+    match grown {
+        Ok(()) => Answer::Fine,
+        Err(_) => Answer::Refused,
+    }
+}
+
+fn slot(slot: Option<usize>) -> Answer {
+    match slot {
+        Some(slot) => Answer::Slot(slot),
+        None => Answer::Nothing,
+    }
+}
+
+fn yes(is_so: bool) -> Answer {
+    if is_so { Answer::Yes } else { Answer::No }
+}
+
+fn walked(walk: Walk<'_>) -> Answer {
+    let mut slots = [0; 2];
+    let mut count = 0;
+    for slot in walk {
+        if count >= 2 {
+            return Answer::TooManySlots;
+        }
+        slots[count] = slot;
+        count += 1;
+    }
+    Answer::Slots(slots, count)
+}
+
+fn set(lists: &mut LevelLists, slot: usize, level: Option<Level>) -> Answer {
+    if slot >= lists.room() {
+        return Answer::NoRoom;
+    }
+    lists.set(slot, level);
+    Answer::Fine
+}
+
+fn level(lists: &LevelLists, slot: usize) -> Answer {
+    if slot >= lists.room() {
+        return Answer::NoRoom;
+    }
+    match lists.level(slot) {
+        Some(level) => Answer::Level(level),
+        None => Answer::Nothing,
+    }
+}
+
+fn next(lists: &LevelLists, at: usize) -> Answer {
+    if at >= lists.room() {
+        return Answer::NoRoom;
+    }
+    slot(lists.next(at))
+}
+
+fn of_levels(lists: &mut LevelLists, step: LevelStep) -> Answer {
+    match step {
+        LevelStep::GrowTo(room) => grown(lists.grow_to(room)),
+        LevelStep::Set(slot, level) => set(lists, slot, level),
+        LevelStep::Level(slot) => level(lists, slot),
+        LevelStep::First(level) => slot(lists.first(level)),
+        LevelStep::Next(slot) => next(lists, slot),
+        LevelStep::Room => Answer::Number(lists.room()),
+        LevelStep::Walk(level) => walked(lists.walk(level)),
+    }
+}
+
+/// Goes the steps one after another on new lists; each answers as it must.
+fn go_levels(rt: &impl Abort, alloc: Global, steps: &[(LevelStep, Answer)]) {
+    let mut lists = LevelLists::new(alloc).expect(rt, "memory");
+    for (place, (step, must)) in steps.iter().enumerate() {
+        let is = of_levels(&mut lists, *step);
+        assert_eq!(rt; is, *must, "step {place}");
+    }
+}
+
+const LEVELS_OF_THREE_SLOTS: [(LevelStep, Answer); 22] = [
+    (LevelStep::GrowTo(3), Answer::Fine),
+    (
+        LevelStep::Set(0, Some(Level::UnderReplicated)),
+        Answer::Fine,
+    ),
+    (
+        LevelStep::Set(2, Some(Level::UnderReplicated)),
+        Answer::Fine,
+    ),
+    (LevelStep::Set(1, Some(Level::Highest)), Answer::Fine),
+    (LevelStep::First(Level::UnderReplicated), Answer::Slot(2)),
+    (LevelStep::Next(2), Answer::Slot(0)),
+    (LevelStep::Next(0), Answer::Nothing),
+    (LevelStep::First(Level::Highest), Answer::Slot(1)),
+    (LevelStep::First(Level::NoUsableReplica), Answer::Nothing),
+    // The level that a slot has changes nothing.
+    (
+        LevelStep::Set(0, Some(Level::UnderReplicated)),
+        Answer::Fine,
+    ),
+    (LevelStep::First(Level::UnderReplicated), Answer::Slot(2)),
+    (LevelStep::Set(2, None), Answer::Fine),
+    (LevelStep::First(Level::UnderReplicated), Answer::Slot(0)),
+    (LevelStep::Level(2), Answer::Nothing),
+    (LevelStep::Next(2), Answer::Nothing),
+    // More room leaves the lists, and less asks for nothing.
+    (LevelStep::GrowTo(5), Answer::Fine),
+    (LevelStep::GrowTo(1), Answer::Fine),
+    (LevelStep::Room, Answer::Number(5)),
+    (LevelStep::GrowTo(1_000), Answer::Fine),
+    (LevelStep::Room, Answer::Number(1_000)),
+    (
+        LevelStep::Set(4, Some(Level::UnderReplicated)),
+        Answer::Fine,
+    ),
+    (
+        LevelStep::Walk(Level::UnderReplicated),
+        Answer::Slots([4, 0], 2),
+    ),
+];
+
+#[test]
+fn levels_of_three_slots(rt: HostRuntime) {
+    go_levels(&rt, rt.alloc(), LEVELS_OF_THREE_SLOTS.as_slice());
+}
+
+const REFUSED_WHERE_NO_LINK_REACHES: [(LevelStep, Answer); 3] = [
+    (LevelStep::GrowTo(1), Answer::Fine),
+    (LevelStep::GrowTo(4_294_967_296), Answer::Refused),
+    (LevelStep::Room, Answer::Number(1)),
+];
+
+#[test]
+fn refused_where_no_link_reaches(rt: HostRuntime) {
+    go_levels(&rt, rt.alloc(), REFUSED_WHERE_NO_LINK_REACHES.as_slice());
+}
+
+fn insert(slots: &mut SlotSet, slot: usize) -> Answer {
+    if slot >= slots.room() {
+        return Answer::NoRoom;
+    }
+    slots.insert(slot);
+    contains(slots, slot)
+}
+
+fn remove(slots: &mut SlotSet, slot: usize) -> Answer {
+    if slot >= slots.room() {
+        return Answer::NoRoom;
+    }
+    slots.remove(slot);
+    contains(slots, slot)
+}
+
+fn contains(slots: &SlotSet, slot: usize) -> Answer {
+    if slot >= slots.room() {
+        return Answer::NoRoom;
+    }
+    yes(slots.contains(slot))
+}
+
+fn next_in(slots: &SlotSet, at: usize) -> Answer {
+    if at >= slots.room() {
+        return Answer::NoRoom;
+    }
+    slot(slots.next(at))
+}
+
+fn of_set(slots: &mut SlotSet, step: SetStep) -> Answer {
+    match step {
+        SetStep::GrowTo(room) => grown(slots.grow_to(room)),
+        SetStep::Insert(slot) => insert(slots, slot),
+        SetStep::Remove(slot) => remove(slots, slot),
+        SetStep::Len => Answer::Number(slots.len()),
+        SetStep::First => slot(slots.first()),
+        SetStep::Next(slot) => next_in(slots, slot),
+        SetStep::Room => Answer::Number(slots.room()),
+        SetStep::Walk => walked(slots.walk()),
+    }
+}
+
+const SET_OF_THREE_SLOTS: [(SetStep, Answer); 14] = [
+    (SetStep::GrowTo(0), Answer::Fine),
+    (SetStep::GrowTo(3), Answer::Fine),
+    (SetStep::Insert(0), Answer::Yes),
+    (SetStep::Insert(2), Answer::Yes),
+    (SetStep::Insert(2), Answer::Yes),
+    (SetStep::Len, Answer::Number(2)),
+    (SetStep::First, Answer::Slot(2)),
+    (SetStep::Room, Answer::Number(3)),
+    (SetStep::Next(2), Answer::Slot(0)),
+    (SetStep::Remove(2), Answer::No),
+    (SetStep::Remove(1), Answer::No),
+    (SetStep::Len, Answer::Number(1)),
+    (SetStep::First, Answer::Slot(0)),
+    (SetStep::Walk, Answer::Slots([0, 0], 1)),
+];
+
+#[test]
+fn set_of_three_slots(rt: HostRuntime) {
+    let mut slots = SlotSet::new(rt.alloc()).expect(&rt, "memory");
+    for (place, (step, must)) in SET_OF_THREE_SLOTS.iter().enumerate() {
+        let is = of_set(&mut slots, *step);
+        assert_eq!(rt; is, *must, "step {place}");
+    }
+}
