@@ -1,5 +1,5 @@
 -- Triplets in a block's vector, found by their storage.
-use Rattle.std.specs.Prelude.{ℕ, ◌==◌, List, map, [], ◌∷◌, Option, Some, None, if◌then◌else◌, Bool}
+use Rattle.std.specs.Prelude.{◌≡◌, ℕ, ◌==◌, List, map, [], ◌∷◌, Option, Some, None, if◌then◌else◌, Bool}
 use Rattle.std.specs.Option.{option_map, option_and_then, option_map_or}
 use Rattle.std.specs.Prelude.{slice_set, slice_index_or, take, length, ◌++◌, is_some}
 use Rattle.slab.specs.Slab.{Slab, get}
@@ -7,6 +7,7 @@ use Rattle.bm_base.specs.declared.replica.Marks.{Marks}
 use Rattle.bm_base.specs.declared.replica.BlockInfo.{BlockInfo}
 use Rattle.bm_arena.specs.declared.types.Triplet.{Triplet}
 use Rattle.bm_arena.specs.declared.types.Entry.{Entry}
+use Rattle.bm_base.specs.SlotLists.{Distinct}
 
 -- what is seen of a block: its number, what is known of it, each replica's storage and marks, and how many replicas fit
 pub record Block : Type 0 where
@@ -123,3 +124,7 @@ detached slots t storage = previous_set (next_set slots t.previous storage t.nex
 -- the list's first slot after a triplet was taken out of it
 abbrev pub first_after : Option ℕ → Triplet → Option ℕ
 first_after first t = if is_some t.previous then first else t.next
+
+-- in no block two triplets are of one storage
+abbrev pub AreOnce : Slab Entry → Type 0
+AreOnce slots = (x : ℕ) (e : Entry) → get slots x ≡ Some e → Distinct (storages_in e.triplets.items)

@@ -6,7 +6,7 @@ ghost use Rattle.bm_arena.specs.declared.types.Entry.{Entry};
 ghost use Rattle.smallvec.specs.SmallVec.{HasRoomFor};
 ghost use Rattle.bm_base.specs.SlotLinks.{end_of_links};
 ghost use Rattle.bm_base.specs.SlotLists.{Distinct};
-ghost use Rattle.bm_arena.specs.Triplets.{seen_triplet, with_capacity, capacity_at, at_slot, added, removed, fill_first, is_of, attached, detached, find_triplet, change_triplet, storages_in, with_previous, with_next, with_triplet_marks, triplet_at, change_at};
+ghost use Rattle.bm_arena.specs.Triplets.{seen_triplet, with_capacity, capacity_at, at_slot, added, removed, fill_first, is_of, attached, detached, find_triplet, change_triplet, storages_in, with_previous, with_next, with_triplet_marks, triplet_at, change_at, AreOnce};
 
 use crate::types::{Entry, Triplet};
 use bm_base::{BlockInfo, Marks, NO_LINK, SlotLink, StorageId};
@@ -70,6 +70,24 @@ fn set_next_in(triplets: &mut [Triplet], storage: u32, next: SlotLink)
     }
 }
 
+fn set_previous_near_in(triplets: &mut [Triplet], storage: u32, previous: SlotLink, guess: usize)
+    requires { Distinct (storages_in triplets.old) }
+    ensures { triplets.new ≡ change_triplet (with_previous previous) triplets.old storage }
+{
+    if let Some(place) = place_near(triplets, storage, guess) {
+        triplets[place].previous = previous;
+    }
+}
+
+fn set_next_near_in(triplets: &mut [Triplet], storage: u32, next: SlotLink, guess: usize)
+    requires { Distinct (storages_in triplets.old) }
+    ensures { triplets.new ≡ change_triplet (with_next next) triplets.old storage }
+{
+    if let Some(place) = place_near(triplets, storage, guess) {
+        triplets[place].next = next;
+    }
+}
+
 fn set_marks_in(triplets: &mut [Triplet], storage: u32, marks: Marks)
     ensures { triplets.new ≡ change_triplet (with_triplet_marks marks) triplets.old storage }
 {
@@ -97,6 +115,41 @@ pub(crate) fn find(slots: &Slab<Entry>, slot: usize, storage: u32) -> Option<Tri
     }
 }
 
+// A guess of the place of a storage's triplet in the blocks that stand beside this one in its list: that of its own, since blocks of a
+// storage mostly have their replicas in one order.
+pub(crate) fn usual_place(slots: &Slab<Entry>, slot: usize, storage: u32) -> usize {
+    match slots.get(slot) {
+        Some(entry) => place_of(entry.triplets.as_slice(), storage).unwrap_or(0),
+        None => 0,
+    }
+}
+
+// The triplet of a storage in the block at a slot, with a guess of its place.
+pub(crate) fn find_near(
+    slots: &Slab<Entry>,
+    slot: usize,
+    storage: u32,
+    guess: usize,
+) -> Option<Triplet>
+    requires { AreOnce slots.now }
+    ensures { result ≡ triplet_at slots.now slot storage }
+{
+    match slots.get(slot) {
+        Some(entry) => find_near_in(entry.triplets.as_slice(), storage, guess),
+        None => None,
+    }
+}
+
+fn find_near_in(triplets: &[Triplet], storage: u32, guess: usize) -> Option<Triplet>
+    requires { Distinct (storages_in triplets.now) }
+    ensures { result ≡ find_triplet triplets.now storage }
+{
+    match place_near(triplets, storage, guess) {
+        Some(place) => Some(triplets[place]),
+        None => None,
+    }
+}
+
 fn set_previous(slots: &mut Slab<Entry>, slot: usize, storage: u32, previous: SlotLink)
     ensures { slots.new ≡ change_at (with_previous previous) slots.old slot storage }
 {
@@ -110,6 +163,30 @@ fn set_next(slots: &mut Slab<Entry>, slot: usize, storage: u32, next: SlotLink)
 {
     if let Some(entry) = slots.get_mut(slot) {
         set_next_in(entry.triplets.as_mut_slice(), storage, next);
+    }
+}
+
+fn set_previous_near(
+    slots: &mut Slab<Entry>,
+    slot: usize,
+    storage: u32,
+    previous: SlotLink,
+    guess: usize,
+)
+    requires { AreOnce slots.old }
+    ensures { slots.new ≡ change_at (with_previous previous) slots.old slot storage }
+{
+    if let Some(entry) = slots.get_mut(slot) {
+        set_previous_near_in(entry.triplets.as_mut_slice(), storage, previous, guess);
+    }
+}
+
+fn set_next_near(slots: &mut Slab<Entry>, slot: usize, storage: u32, next: SlotLink, guess: usize)
+    requires { AreOnce slots.old }
+    ensures { slots.new ≡ change_at (with_next next) slots.old slot storage }
+{
+    if let Some(entry) = slots.get_mut(slot) {
+        set_next_near_in(entry.triplets.as_mut_slice(), storage, next, guess);
     }
 }
 
@@ -160,17 +237,47 @@ pub(crate) fn attach(slots: &mut Slab<Entry>, first: &mut SlotLink, slot: usize,
     *first = here;
 }
 
-// Links the neighbours of a triplet to each other.
-pub(crate) fn detach(slots: &mut Slab<Entry>, first: &mut SlotLink, triplet: Triplet, storage: u32)
+// The same, with a guess of the place of the storage's triplet in each of the two blocks.
+pub(crate) fn attach_near(
+    slots: &mut Slab<Entry>,
+    first: &mut SlotLink,
+    slot: usize,
+    storage: u32,
+    guess: usize,
+)
+    requires here { slot < end_of_links }
+    requires once { AreOnce slots.old }
+    ensures slots { slots.new ≡ attached slots.old first.old slot storage }
+    ensures first { first.new ≡ Some slot }
+{
+    let here = SlotLink::to(slot);
+    if let Some(old_first) = first.slot() {
+        set_previous_near(slots, old_first, storage, here, guess);
+    }
+    set_previous_near(slots, slot, storage, NO_LINK, guess);
+    set_next_near(slots, slot, storage, *first, guess);
+    *first = here;
+}
+
+// Links the neighbours of a triplet to each other, with a guess of the place of the storage's triplet in each.
+pub(crate) fn detach(
+    slots: &mut Slab<Entry>,
+    first: &mut SlotLink,
+    triplet: Triplet,
+    storage: u32,
+    guess: usize,
+)
+    requires { AreOnce slots.old }
     ensures slots { slots.new ≡ detached slots.old triplet storage }
     ensures first { first.new ≡ (if is_some triplet.previous then first.old else triplet.next) }
+    ensures once { AreOnce slots.new }
 {
     match triplet.previous.slot() {
-        Some(previous) => set_next(slots, previous, storage, triplet.next),
+        Some(previous) => set_next_near(slots, previous, storage, triplet.next, guess),
         None => *first = triplet.next,
     }
     if let Some(next) = triplet.next.slot() {
-        set_previous(slots, next, storage, triplet.previous);
+        set_previous_near(slots, next, storage, triplet.previous, guess);
     }
 }
 

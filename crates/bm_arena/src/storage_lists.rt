@@ -113,9 +113,10 @@ impl Arena {
         ensures known { blocks_of self.new ≡ blocks_of self.old }
         ensures lawful { IsLawful self.new }
     {
-        if let Some(triplet) = links::find(&self.slots, slot, storage.0) {
+        let guess = links::usual_place(&self.slots, slot, storage.0);
+        if let Some(triplet) = links::find_near(&self.slots, slot, storage.0, guess) {
             if let Some(first) = self.heads.get_mut(&storage.0) {
-                links::detach(&mut self.slots, first, triplet, storage.0);
+                links::detach(&mut self.slots, first, triplet, storage.0, guess);
                 links::remove_triplet(&mut self.slots, slot, storage.0);
                 self.steps = count_up(self.steps);
             }
@@ -133,10 +134,11 @@ impl Arena {
         ensures known { blocks_of self.new ≡ blocks_of self.old }
         ensures lawful { IsLawful self.new }
     {
-        if let Some(triplet) = links::find(&self.slots, slot, storage.0) {
+        let guess = links::usual_place(&self.slots, slot, storage.0);
+        if let Some(triplet) = links::find_near(&self.slots, slot, storage.0, guess) {
             if let Some(first) = self.heads.get_mut(&storage.0) {
-                links::detach(&mut self.slots, first, triplet, storage.0);
-                links::attach(&mut self.slots, first, slot, storage.0);
+                links::detach(&mut self.slots, first, triplet, storage.0, guess);
+                links::attach_near(&mut self.slots, first, slot, storage.0, guess);
                 self.steps = count_up(self.steps);
             }
         }

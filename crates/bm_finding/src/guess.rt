@@ -5,9 +5,14 @@ use bm_parts::merge::Key;
 use bm_pending::PendingTransfers;
 use std::alloc::{AllocError, Global};
 
+/// So many slots at a level at which copies are wished for are to be there for each unsettled one, that a bound is worth while.
+const WISHING_FOR_UNSETTLED: usize = 4;
+
 /// A bound before which about so many blocks wish for copies: a block for which a transfer is on its way counts as one that wishes for
-/// none. `None` where not so many do. Only a guess, by about so many samples as are asked for, evenly spread over the slots at a level at
-/// which copies are wished for: nothing but the time of a round may depend on it. It costs the same however many blocks there are.
+/// none. `None` where not so many do, and where unsettled blocks are more than a quarter of those at a level at which copies are wished
+/// for: a round looks at all unsettled ones, bound or no bound, and at them twice where the wishes before a bound do not fill it. Only a
+/// guess, by about so many samples as are asked for, evenly spread over the slots at such a level: nothing but the time of a round may
+/// depend on it. It costs the same however many blocks there are.
 pub fn likely_bound(
     alloc: Global,
     blocks: &LeveledBlocks,
@@ -16,6 +21,9 @@ pub fn likely_bound(
     samples: usize,
 ) -> Result<Option<Key>, AllocError> {
     let wishing = blocks.kept().wishing();
+    if blocks.kept().unsettled_count() > wishing.len() / WISHING_FOR_UNSETTLED {
+        return Ok(None);
+    }
     let step = wishing.len() / samples.max(1) + 1;
     let mut keys = Vec::new(alloc);
     for member in wishing.iter().step_by(step) {

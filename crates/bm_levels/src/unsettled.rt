@@ -11,7 +11,7 @@ use bm_queues::Walk;
 
 impl KeptLevels {
     /// How many slots are unsettled.
-    pub(crate) fn unsettled_count(&self) -> usize
+    pub fn unsettled_count(&self) -> usize
         ensures { result ≡ length self.now.unsettled.slots }
     {
         self.unsettled.len()
