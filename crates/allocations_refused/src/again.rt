@@ -1,15 +1,14 @@
 // One report of a thousand new numbers, which is refused again and again on one manager, and then accepted.
 
-use crate::cases::{CLUSTER, THOUSAND_NUMBERS};
-use crate::managers::{config, make_all, wants_memory};
-use crate::seen::{seen, text_of};
+use crate::answers::{Outcome, compare, compare_in_window};
+use crate::cases::{CLUSTER, THOUSAND_REPORTED};
+use crate::managers::{config, make_all};
+use crate::seen::{seen, shows};
 use crate::tally::Tally;
-use crate::told::{Told, call_of};
-use crate::windows::{begun, ended};
-use bm_base::{Answer, Call, Refusal};
-use bm_crew::NoGate;
+use crate::windows::Window;
+use bm_base::Refusal;
 use bm_manager::Manager;
-use std::alloc::Global;
+use std::alloc::{AllocError, Global};
 use std::sync::Wait;
 use std::thread::Threads;
 
@@ -18,61 +17,99 @@ const NAME: &str = "report_again";
 /// Which allocations are refused in turn.
 const DEPTH: u32 = 9;
 
-const ALL_ADDED: &str = "Done(Done { added: 1000, removed: 0 })";
+const ALL_ADDED: &str = "Done(Done { added: 1000, removed: 0 })\n";
 
 pub fn go_over<R: Print + Eprint + Threads + Wait + Sync>(
     rt: &R,
     alloc: Global,
     most: u32,
 ) -> Result<(), Refusal> {
-    for workers in 1..=2u32 {
-        let mut tally = Tally::new();
-        go(rt, alloc, workers, most, &mut tally)?;
-        tally.tell(rt, NAME, workers);
-    }
+    go(rt, alloc, 1, most)?;
+    go(rt, alloc, 2, most)
+}
+
+fn go<R: Print + Eprint + Threads + Wait + Sync>(
+    rt: &R,
+    alloc: Global,
+    workers: u32,
+    most: u32,
+) -> Result<(), Refusal> {
+    let mut tally = Tally::new();
+    go_on_new(rt, alloc, workers, most, &mut tally)?;
+    tally.tell(rt, NAME, workers);
     Ok(())
 }
 
-fn go<R: Eprint + Threads + Wait + Sync>(
+fn go_on_new<R: Eprint + Threads + Wait + Sync>(
     rt: &R,
     alloc: Global,
     workers: u32,
     most: u32,
     tally: &mut Tally,
 ) -> Result<(), Refusal> {
-    let mut manager = Manager::new(alloc, config(workers))?;
-    make_all(rt, alloc, &mut manager, &CLUSTER)?;
-    let before = seen(rt, alloc, &mut manager)?;
-    let call = call_of(alloc, Told::Report(11, THOUSAND_NUMBERS))?;
-    let mut answer = make(rt, &mut manager, &call, workers, 1);
+    match Manager::new(alloc, config(workers)) {
+        Ok(mut manager) => {
+            let gone = go_on(rt, alloc, &mut manager, workers, most, tally);
+            drop(manager);
+            gone
+        }
+        Err(refusal) => Err(refusal),
+    }
+}
+
+fn go_on<R: Eprint + Threads + Wait + Sync>(
+    rt: &R,
+    alloc: Global,
+    manager: &mut Manager,
+    workers: u32,
+    most: u32,
+    tally: &mut Tally,
+) -> Result<(), Refusal> {
+    make_all(rt, alloc, manager, &CLUSTER)?;
+    let before = seen(rt, alloc, manager)?;
+    Ok(report_again(rt, alloc, manager, before.as_str(), workers, most, tally)?)
+}
+
+/// Makes the call with an allocation refused as often as there are turns, and then once more.
+fn report_again<R: Eprint + Threads + Wait + Sync>(
+    rt: &R,
+    alloc: Global,
+    manager: &mut Manager,
+    before: &str,
+    workers: u32,
+    most: u32,
+    tally: &mut Tally,
+) -> Result<(), AllocError> {
+    let mut outcome = report_in_window(rt, alloc, manager, workers, 1)?;
     let mut is_kept = true;
     for turn in 1..=most {
-        if !wants_memory(&answer) {
+        if outcome != Outcome::WantsMemory {
             break;
         }
         tally.refuse();
-        is_kept = is_kept && seen(rt, alloc, &mut manager)? == before;
-        answer = if turn == most {
-            manager.answer(rt, &NoGate, &call)
+        is_kept = is_kept && shows(rt, alloc, manager, before)?;
+        outcome = if turn == most {
+            compare(rt, alloc, manager, THOUSAND_REPORTED, ALL_ADDED)?
         } else {
-            make(rt, &mut manager, &call, workers, turn % DEPTH + 1)
+            report_in_window(rt, alloc, manager, workers, turn % DEPTH + 1)?
         };
     }
     tally.note(is_kept);
-    tally.note(text_of(alloc, &answer)?.as_str() == ALL_ADDED);
+    tally.note(outcome == Outcome::AsExpected);
     Ok(())
 }
 
-/// Makes the call with one allocation refused.
-fn make<R: Eprint + Threads + Wait + Sync>(
+fn report_in_window<R: Eprint + Threads + Wait + Sync>(
     rt: &R,
+    alloc: Global,
     manager: &mut Manager,
-    call: &Call,
     workers: u32,
-    at: u32,
-) -> Answer {
-    begun(rt, NAME, workers, at);
-    let answer = manager.answer(rt, &NoGate, call);
-    ended(rt, NAME, workers);
-    answer
+    turn: u32,
+) -> Result<Outcome, AllocError> {
+    let window = Window {
+        name: NAME,
+        workers,
+        turn,
+    };
+    compare_in_window(rt, alloc, manager, THOUSAND_REPORTED, ALL_ADDED, &window)
 }

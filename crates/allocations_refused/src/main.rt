@@ -8,6 +8,7 @@
 #![tactic(auto)]
 
 mod again;
+mod answers;
 mod cases;
 mod managers;
 mod seen;

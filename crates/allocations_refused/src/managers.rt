@@ -1,20 +1,21 @@
 // Calls of managers: each allocation of a call is refused once, with a new manager each time.
 
-use crate::cases::{BARE, CLUSTER, Case, OF_ALL_KINDS, TAKING};
-use crate::seen::{seen, text_of};
+use crate::answers::{Outcome, ask, compare, compare_in_window, make};
+use crate::cases::{CASES, CLUSTER, Case};
+use crate::seen::{ask_all, shows};
 use crate::tally::Tally;
-use crate::told::{Told, call_of};
-use crate::windows::{begun, ended};
-use bm_base::{Answer, Config, Refusal};
-use bm_crew::NoGate;
+use crate::told::Told;
+use crate::windows::Window;
+use bm_base::{Config, Refusal};
 use bm_manager::Manager;
-use std::alloc::Global;
+use std::alloc::{AllocError, Global};
 use std::sync::Wait;
 use std::thread::Threads;
 
-/// What a manager of one shard and one worker shows, of which nothing is refused.
+/// A case, with what a manager of one shard and one worker shows, of which nothing is refused.
 #[derive(Drop)]
-struct Expected {
+struct Trial {
+    case: Case,
     before: String,
     answer: String,
     after: String,
@@ -28,28 +29,15 @@ pub fn config(workers: u32) -> Config {
     }
 }
 
+/// A call that takes no memory is made once.
 pub fn go_over<R: Print + Eprint + Threads + Wait + Sync>(
     rt: &R,
     alloc: Global,
     most: u32,
 ) -> Result<(), Refusal> {
-    for (name, before, call) in TAKING {
-        let case = Case {
-            name,
-            before,
-            call,
-            takes_memory: true,
-        };
-        go_over_one(rt, alloc, &case, most)?;
-    }
-    for (name, call) in BARE {
-        let case = Case {
-            name,
-            before: OF_ALL_KINDS,
-            call,
-            takes_memory: false,
-        };
-        go_over_one(rt, alloc, &case, 1)?;
+    for case in &CASES {
+        let turns = if case.takes_memory { most } else { 1 };
+        go_over_one(rt, alloc, case, turns)?;
     }
     Ok(())
 }
@@ -60,33 +48,103 @@ fn go_over_one<R: Print + Eprint + Threads + Wait + Sync>(
     case: &Case,
     turns: u32,
 ) -> Result<(), Refusal> {
-    let expected = expect_from(rt, alloc, case)?;
-    for workers in 1..=2u32 {
-        let mut tally = Tally::new();
-        for turn in 1..=turns {
-            go(rt, alloc, case, &expected, workers, turn, &mut tally)?;
-        }
-        tally.tell(rt, case.name, workers);
+    let trial = trial_of(rt, alloc, case)?;
+    go_over_both(rt, alloc, &trial, turns)
+}
+
+fn go_over_both<R: Print + Eprint + Threads + Wait + Sync>(
+    rt: &R,
+    alloc: Global,
+    trial: &Trial,
+    turns: u32,
+) -> Result<(), Refusal> {
+    go_over_turns(rt, alloc, trial, 1, turns)?;
+    go_over_turns(rt, alloc, trial, 2, turns)
+}
+
+fn go_over_turns<R: Print + Eprint + Threads + Wait + Sync>(
+    rt: &R,
+    alloc: Global,
+    trial: &Trial,
+    workers: u32,
+    turns: u32,
+) -> Result<(), Refusal> {
+    let name = trial.case.name;
+    let mut tally = Tally::new();
+    for turn in 1..=turns {
+        let window = Window {
+            name,
+            workers,
+            turn,
+        };
+        go(rt, alloc, trial, &window, &mut tally)?;
     }
+    tally.tell(rt, name, workers);
     Ok(())
+}
+
+fn trial_of<R: Threads + Wait + Sync>(
+    rt: &R,
+    alloc: Global,
+    case: &Case,
+) -> Result<Trial, Refusal> {
+    let mut trial = Trial {
+        case: *case,
+        before: String::new(alloc),
+        answer: String::new(alloc),
+        after: String::new(alloc),
+    };
+    match expect(rt, alloc, &mut trial) {
+        Ok(()) => Ok(trial),
+        Err(refusal) => Err(refusal),
+    }
+}
+
+fn expect<R: Threads + Wait + Sync>(
+    rt: &R,
+    alloc: Global,
+    trial: &mut Trial,
+) -> Result<(), Refusal> {
+    match Manager::new(alloc, Config::standard()) {
+        Ok(mut manager) => {
+            let expected = expect_from(rt, alloc, &mut manager, trial);
+            drop(manager);
+            expected
+        }
+        Err(refusal) => Err(refusal),
+    }
 }
 
 fn expect_from<R: Threads + Wait + Sync>(
     rt: &R,
     alloc: Global,
+    manager: &mut Manager,
+    trial: &mut Trial,
+) -> Result<(), Refusal> {
+    prepare(rt, alloc, manager, &trial.case)?;
+    Ok(write_all(rt, alloc, manager, trial)?)
+}
+
+fn write_all<R: Threads + Wait + Sync>(
+    rt: &R,
+    alloc: Global,
+    manager: &mut Manager,
+    trial: &mut Trial,
+) -> Result<(), AllocError> {
+    ask_all(rt, alloc, manager, &mut trial.before)?;
+    ask(rt, alloc, manager, trial.case.call, &mut trial.answer)?;
+    ask_all(rt, alloc, manager, &mut trial.after)
+}
+
+/// Makes the calls that go before that of the case.
+fn prepare<R: Threads + Wait + Sync>(
+    rt: &R,
+    alloc: Global,
+    manager: &mut Manager,
     case: &Case,
-) -> Result<Expected, Refusal> {
-    let mut manager = Manager::new(alloc, Config::standard())?;
-    make_all(rt, alloc, &mut manager, &CLUSTER)?;
-    make_all(rt, alloc, &mut manager, case.before)?;
-    let before = seen(rt, alloc, &mut manager)?;
-    let call = call_of(alloc, case.call)?;
-    let answer = manager.answer(rt, &NoGate, &call);
-    Ok(Expected {
-        before,
-        answer: text_of(alloc, &answer)?,
-        after: seen(rt, alloc, &mut manager)?,
-    })
+) -> Result<(), Refusal> {
+    make_all(rt, alloc, manager, &CLUSTER)?;
+    make_all(rt, alloc, manager, case.before)
 }
 
 /// Makes calls that no check refuses, while there is memory.
@@ -94,46 +152,81 @@ pub fn make_all<R: Threads + Wait + Sync>(
     rt: &R,
     alloc: Global,
     manager: &mut Manager,
-    calls: &[Told<'_>],
+    calls: &[Told],
 ) -> Result<(), Refusal> {
     for told in calls {
-        let call = call_of(alloc, *told)?;
-        if let Answer::Refused(refusal) = manager.answer(rt, &NoGate, &call) {
-            return Err(refusal);
-        }
+        make(rt, alloc, manager, *told)?;
     }
     Ok(())
 }
 
-/// Makes the call with one allocation refused, and once more where that was answered.
+/// Makes the call on a new manager.
 fn go<R: Eprint + Threads + Wait + Sync>(
     rt: &R,
     alloc: Global,
-    case: &Case,
-    expected: &Expected,
-    workers: u32,
-    turn: u32,
+    trial: &Trial,
+    window: &Window,
     tally: &mut Tally,
 ) -> Result<(), Refusal> {
-    let mut manager = Manager::new(alloc, config(workers))?;
-    make_all(rt, alloc, &mut manager, &CLUSTER)?;
-    make_all(rt, alloc, &mut manager, case.before)?;
-    let call = call_of(alloc, case.call)?;
-    begun(rt, case.name, workers, turn);
-    let mut answer = manager.answer(rt, &NoGate, &call);
-    ended(rt, case.name, workers);
-    let mut is_kept = true;
-    if wants_memory(&answer) {
-        tally.refuse();
-        is_kept = case.takes_memory && seen(rt, alloc, &mut manager)? == expected.before;
-        answer = manager.answer(rt, &NoGate, &call);
+    match Manager::new(alloc, config(window.workers)) {
+        Ok(mut manager) => {
+            let gone = go_on(rt, alloc, &mut manager, trial, window, tally);
+            drop(manager);
+            gone
+        }
+        Err(refusal) => Err(refusal),
     }
-    tally.note(is_kept);
-    tally.note(text_of(alloc, &answer)? == expected.answer);
-    tally.note(seen(rt, alloc, &mut manager)? == expected.after);
+}
+
+fn go_on<R: Eprint + Threads + Wait + Sync>(
+    rt: &R,
+    alloc: Global,
+    manager: &mut Manager,
+    trial: &Trial,
+    window: &Window,
+    tally: &mut Tally,
+) -> Result<(), Refusal> {
+    prepare(rt, alloc, manager, &trial.case)?;
+    Ok(make_in_turn(rt, alloc, manager, trial, window, tally)?)
+}
+
+/// Makes the call with one allocation refused, and once more where that was answered.
+fn make_in_turn<R: Eprint + Threads + Wait + Sync>(
+    rt: &R,
+    alloc: Global,
+    manager: &mut Manager,
+    trial: &Trial,
+    window: &Window,
+    tally: &mut Tally,
+) -> Result<(), AllocError> {
+    let first = compare_in_window(
+        rt,
+        alloc,
+        manager,
+        trial.case.call,
+        trial.answer.as_str(),
+        window,
+    )?;
+    let outcome = if first == Outcome::WantsMemory {
+        make_again(rt, alloc, manager, trial, tally)?
+    } else {
+        tally.note(true);
+        first
+    };
+    tally.note(outcome == Outcome::AsExpected);
+    tally.note(shows(rt, alloc, manager, trial.after.as_str())?);
     Ok(())
 }
 
-pub fn wants_memory(answer: &Answer) -> bool {
-    matches!(answer, Answer::Refused(Refusal::Memory))
+/// Makes a call once more that was refused, and has changed nothing.
+fn make_again<R: Threads + Wait + Sync>(
+    rt: &R,
+    alloc: Global,
+    manager: &mut Manager,
+    trial: &Trial,
+    tally: &mut Tally,
+) -> Result<Outcome, AllocError> {
+    tally.refuse();
+    tally.note(trial.case.takes_memory && shows(rt, alloc, manager, trial.before.as_str())?);
+    compare(rt, alloc, manager, trial.case.call, trial.answer.as_str())
 }

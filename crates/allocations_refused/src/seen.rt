@@ -1,15 +1,14 @@
 // What a manager answers to all that can be asked of it, as text.
 
-use crate::told::{Told, call_of};
-use bm_base::{Answer, Refusal};
-use bm_crew::NoGate;
+use crate::answers::ask;
+use crate::told::Told;
 use bm_manager::Manager;
-use std::alloc::Global;
+use std::alloc::{AllocError, Global};
 use std::sync::Wait;
 use std::thread::Threads;
 
 /// What is asked of the manager as a whole.
-const OF_ALL: [Told<'static>; 6] = [
+static OF_ALL: [Told; 6] = [
     Told::Calls,
     Told::Rounds,
     Told::Replicas,
@@ -29,37 +28,69 @@ pub fn seen<R: Threads + Wait + Sync>(
     rt: &R,
     alloc: Global,
     manager: &mut Manager,
-) -> Result<String, Refusal> {
+) -> Result<String, AllocError> {
     let mut text = String::new(alloc);
-    for told in OF_ALL {
-        ask(rt, alloc, manager, told, &mut text)?;
+    match ask_all(rt, alloc, manager, &mut text) {
+        Ok(()) => Ok(text),
+        Err(error) => Err(error),
     }
-    for node in 1..=NODES {
-        ask(rt, alloc, manager, Told::Retired(node), &mut text)?;
-        let storage = node.wrapping_mul(10).wrapping_add(1);
-        ask(rt, alloc, manager, Told::BlocksOn(storage), &mut text)?;
-    }
-    for block in 1..=BLOCKS {
-        ask(rt, alloc, manager, Told::Places(block), &mut text)?;
-        ask(rt, alloc, manager, Told::Level(block), &mut text)?;
-    }
-    Ok(text)
 }
 
-fn ask<R: Threads + Wait + Sync>(
+/// Whether these are the answers to all questions.
+pub fn shows<R: Threads + Wait + Sync>(
     rt: &R,
     alloc: Global,
     manager: &mut Manager,
-    told: Told<'_>,
+    expected: &str,
+) -> Result<bool, AllocError> {
+    match seen(rt, alloc, manager) {
+        Ok(text) => Ok(text.as_str() == expected),
+        Err(error) => Err(error),
+    }
+}
+
+/// Writes the answers to all questions.
+pub fn ask_all<R: Threads + Wait + Sync>(
+    rt: &R,
+    alloc: Global,
+    manager: &mut Manager,
     text: &mut String,
-) -> Result<(), Refusal> {
-    let call = call_of(alloc, told)?;
-    let answer = manager.answer(rt, &NoGate, &call);
-    write!(text, "{answer:?}\n")?;
+) -> Result<(), AllocError> {
+    for told in &OF_ALL {
+        ask(rt, alloc, manager, *told, text)?;
+    }
+    for node in 1..=NODES {
+        let storage = node.wrapping_mul(10).wrapping_add(1);
+        ask_both(
+            rt,
+            alloc,
+            manager,
+            Told::Retired(node),
+            Told::BlocksOn(storage),
+            text,
+        )?;
+    }
+    for block in 1..=BLOCKS {
+        ask_both(
+            rt,
+            alloc,
+            manager,
+            Told::Places(block),
+            Told::Level(block),
+            text,
+        )?;
+    }
     Ok(())
 }
 
-/// One answer as text.
-pub fn text_of(alloc: Global, answer: &Answer) -> Result<String, Refusal> {
-    Ok(format!(in alloc; "{answer:?}")?)
+fn ask_both<R: Threads + Wait + Sync>(
+    rt: &R,
+    alloc: Global,
+    manager: &mut Manager,
+    first: Told,
+    second: Told,
+    text: &mut String,
+) -> Result<(), AllocError> {
+    ask(rt, alloc, manager, first, text)?;
+    ask(rt, alloc, manager, second, text)
 }

@@ -7,7 +7,7 @@ use std::alloc::{AllocError, Global};
 const FREE: u64 = 1000;
 
 #[derive(Clone, Copy)]
-pub enum Told<'a> {
+pub enum Told {
     /// A node and its rack, with one storage.
     Register(u32, u32, u32),
     /// A node, and a storage of it on which a thousand bytes are free.
@@ -28,7 +28,7 @@ pub enum Told<'a> {
     Deleted(u32, u64),
     Spoilt(u32, u64),
     /// A storage, and runs of blocks: the first, the last and the generation of each.
-    Report(u32, &'a [(u64, u64, u64)]),
+    Report(u32, &'static [(u64, u64, u64)]),
     Round,
     Replicas,
     Corrupt,
@@ -42,7 +42,7 @@ pub enum Told<'a> {
     Rounds,
 }
 
-pub fn call_of(alloc: Global, told: Told<'_>) -> Result<Call, AllocError> {
+pub fn call_of(alloc: Global, told: Told) -> Result<Call, AllocError> {
     let call = match told {
         Told::Round => Call::Round,
         Told::Replicas => Call::Replicas,
@@ -55,16 +55,22 @@ pub fn call_of(alloc: Global, told: Told<'_>) -> Result<Call, AllocError> {
         Told::Retired(node) => Call::Retired(NodeId(node)),
         Told::Calls => Call::Calls,
         Told::Rounds => Call::Rounds,
-        Told::Register(node, rack, storage) => Call::Apply(register(alloc, node, rack, storage)?),
-        Told::Heartbeat(node, storage) => Call::Apply(heartbeat(alloc, node, storage)?),
-        Told::Report(storage, runs) => Call::Apply(report(alloc, storage, runs)?),
-        _ => Call::Apply(plain_event(told)),
+        _ => Call::Apply(event_of(alloc, told)?),
     };
     Ok(call)
 }
 
+fn event_of(alloc: Global, told: Told) -> Result<Event, AllocError> {
+    match told {
+        Told::Register(node, rack, storage) => register(alloc, node, rack, storage),
+        Told::Heartbeat(node, storage) => heartbeat(alloc, node, storage),
+        Told::Report(storage, runs) => report(alloc, storage, runs),
+        _ => Ok(plain_event(told)),
+    }
+}
+
 /// An event without a list. (What is none is told as the end of a replica that is nowhere.)
-fn plain_event(told: Told<'_>) -> Event {
+fn plain_event(told: Told) -> Event {
     match told {
         Told::Drain(node) => Event::Drain { node: NodeId(node) },
         Told::Undrain(node) => Event::Undrain { node: NodeId(node) },
@@ -89,7 +95,7 @@ fn plain_event(told: Told<'_>) -> Event {
     }
 }
 
-fn block_event(told: Told<'_>) -> Event {
+fn block_event(told: Told) -> Event {
     match told {
         Told::Add(block, repl) => Event::AddBlock {
             id: BlockId(block),

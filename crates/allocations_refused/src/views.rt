@@ -3,21 +3,21 @@ ghost use Rattle.std.specs.Prelude.{◌≡◌, ◌≤◌, IfOk, IfErr};
 
 use crate::cases::CLUSTER;
 use crate::managers::{config, make_all};
-use crate::seen::seen;
+use crate::seen::{seen, shows};
 use crate::tally::Tally;
 use crate::told::Told;
-use crate::windows::{begun, ended};
+use crate::windows::{Window, begun, ended};
 use bm_base::{BlockId, Config, Places, Refusal, StorageId};
 use bm_manager::Manager;
 use bm_view::{Located, Locator, Publisher, Receipt, open_view};
-use std::alloc::Global;
+use std::alloc::{AllocError, Global};
 use std::sync::Wait;
 use std::thread::Threads;
 
 /// Block 7, of which three replicas are wanted, and the first of them.
-const FIRST_REPLICA: [Told<'static>; 2] = [Told::Add(7, 3), Told::Received(11, 7, 1)];
+static FIRST_REPLICA: [Told; 2] = [Told::Add(7, 3), Told::Received(11, 7, 1)];
 
-const SECOND_REPLICA: [Told<'static>; 1] = [Told::Received(31, 7, 1)];
+static SECOND_REPLICA: [Told; 1] = [Told::Received(31, 7, 1)];
 
 const BLOCK: BlockId = BlockId(7);
 
@@ -30,25 +30,47 @@ pub fn go_over<R: Print + Eprint + Threads + Wait + Sync>(
     alloc: Global,
     most: u32,
 ) -> Result<(), Refusal> {
-    for workers in 1..=2u32 {
-        let mut tally = Tally::new();
-        for turn in 1..=most {
-            make_manager(rt, alloc, workers, turn, &mut tally)?;
-        }
-        tally.tell(rt, "new_manager", workers);
+    make_managers(rt, alloc, 1, most)?;
+    make_managers(rt, alloc, 2, most)?;
+    open_views(rt, alloc, most)?;
+    show_versions(rt, alloc, 1, most)?;
+    show_versions(rt, alloc, 2, most)
+}
+
+fn make_managers<R: Print + Eprint + Threads + Wait + Sync>(
+    rt: &R,
+    alloc: Global,
+    workers: u32,
+    most: u32,
+) -> Result<(), Refusal> {
+    let mut tally = Tally::new();
+    for turn in 1..=most {
+        make_manager(rt, alloc, workers, turn, &mut tally)?;
     }
+    tally.tell(rt, "new_manager", workers);
+    Ok(())
+}
+
+fn open_views<R: Print + Eprint + Wait>(rt: &R, alloc: Global, most: u32) -> Result<(), Refusal> {
     let mut tally = Tally::new();
     for turn in 1..=most {
         open(rt, alloc, turn, &mut tally)?;
     }
     tally.tell(rt, "open_view", 1);
-    for workers in 1..=2u32 {
-        let mut tally = Tally::new();
-        for turn in 1..=most {
-            show(rt, alloc, workers, turn, &mut tally)?;
-        }
-        tally.tell(rt, "publish", workers);
+    Ok(())
+}
+
+fn show_versions<R: Print + Eprint + Threads + Wait + Sync>(
+    rt: &R,
+    alloc: Global,
+    workers: u32,
+    most: u32,
+) -> Result<(), Refusal> {
+    let mut tally = Tally::new();
+    for turn in 1..=most {
+        show(rt, alloc, workers, turn, &mut tally)?;
     }
+    tally.tell(rt, "publish", workers);
     Ok(())
 }
 
@@ -60,21 +82,76 @@ fn make_manager<R: Eprint + Threads + Wait + Sync>(
     turn: u32,
     tally: &mut Tally,
 ) -> Result<(), Refusal> {
-    begun(rt, "new_manager", workers, turn);
-    let made = Manager::new(alloc, config(workers));
-    ended(rt, "new_manager", workers);
-    let mut manager = match made {
-        Ok(manager) => manager,
-        Err(refusal) => {
-            tally.refuse();
-            if refusal != Refusal::Memory {
-                return Err(refusal);
-            }
-            Manager::new(alloc, config(workers))?
+    match made_manager(rt, alloc, workers, turn, tally) {
+        Ok(mut manager) => {
+            let compared = compare_with_new(rt, alloc, &mut manager, tally);
+            drop(manager);
+            compared
         }
+        Err(refusal) => Err(refusal),
+    }
+}
+
+/// Makes a manager with one allocation refused, and once more where that was the answer.
+fn made_manager<R: Eprint>(
+    rt: &R,
+    alloc: Global,
+    workers: u32,
+    turn: u32,
+    tally: &mut Tally,
+) -> Result<Manager, Refusal> {
+    match new_in_window(rt, alloc, workers, turn) {
+        Err(Refusal::Memory) => {
+            tally.refuse();
+            Manager::new(alloc, config(workers))
+        }
+        made => made,
+    }
+}
+
+fn new_in_window<R: Eprint>(
+    rt: &R,
+    alloc: Global,
+    workers: u32,
+    turn: u32,
+) -> Result<Manager, Refusal> {
+    let window = Window {
+        name: "new_manager",
+        workers,
+        turn,
     };
-    let mut other = Manager::new(alloc, Config::standard())?;
-    tally.note(seen(rt, alloc, &mut manager)? == seen(rt, alloc, &mut other)?);
+    begun(rt, &window);
+    let made = Manager::new(alloc, config(workers));
+    ended(rt, &window);
+    made
+}
+
+fn compare_with_new<R: Threads + Wait + Sync>(
+    rt: &R,
+    alloc: Global,
+    manager: &mut Manager,
+    tally: &mut Tally,
+) -> Result<(), Refusal> {
+    match Manager::new(alloc, Config::standard()) {
+        Ok(mut other) => {
+            let compared = note_alike(rt, alloc, manager, &mut other, tally);
+            drop(other);
+            Ok(compared?)
+        }
+        Err(refusal) => Err(refusal),
+    }
+}
+
+/// Notes whether two managers answer all questions in the same way.
+fn note_alike<R: Threads + Wait + Sync>(
+    rt: &R,
+    alloc: Global,
+    manager: &mut Manager,
+    other: &mut Manager,
+    tally: &mut Tally,
+) -> Result<(), AllocError> {
+    let text = seen(rt, alloc, manager)?;
+    tally.note(shows(rt, alloc, other, text.as_str())?);
     Ok(())
 }
 
@@ -85,29 +162,56 @@ fn open<R: Eprint + Wait>(
     turn: u32,
     tally: &mut Tally,
 ) -> Result<(), Refusal> {
-    begun(rt, "open_view", 1, turn);
-    let opened = open_view(rt, alloc, 2);
-    ended(rt, "open_view", 1);
-    let (publisher, mut locators) = match opened {
-        Ok(opened) => opened,
-        Err(refusal) => {
-            tally.refuse();
-            if refusal != Refusal::Memory {
-                return Err(refusal);
-            }
-            open_view(rt, alloc, 2)?
-        }
-    };
+    let (publisher, mut locators) = opened_view(rt, alloc, turn, tally)?;
     tally.note(publisher.calls() == 0);
-    for _ in 0..2 {
-        let located = match locators.pop() {
-            Some(mut locator) => locator.locate(BLOCK),
-            None => None,
-        };
-        tally.note(located == found(0, &[]));
-    }
+    tally.note(last_reads_nothing(&mut locators));
+    tally.note(last_reads_nothing(&mut locators));
     publisher.end(rt);
     Ok(())
+}
+
+/// Opens a view with one allocation refused, and once more where that was the answer.
+fn opened_view<R: Eprint + Wait>(
+    rt: &R,
+    alloc: Global,
+    turn: u32,
+    tally: &mut Tally,
+) -> Result<(Publisher, Vec<Locator>), Refusal> {
+    match open_in_window(rt, alloc, turn) {
+        Err(Refusal::Memory) => {
+            tally.refuse();
+            open_view(rt, alloc, 2)
+        }
+        opened => opened,
+    }
+}
+
+fn open_in_window<R: Eprint + Wait>(
+    rt: &R,
+    alloc: Global,
+    turn: u32,
+) -> Result<(Publisher, Vec<Locator>), Refusal> {
+    let window = Window {
+        name: "open_view",
+        workers: 1,
+        turn,
+    };
+    begun(rt, &window);
+    let opened = open_view(rt, alloc, 2);
+    ended(rt, &window);
+    opened
+}
+
+/// Takes the last locator out. Whether it reads the version without calls and rows.
+fn last_reads_nothing(locators: &mut Vec<Locator>) -> bool {
+    match locators.pop() {
+        Some(mut locator) => {
+            let located = locator.locate(BLOCK);
+            drop(locator);
+            located == found(0, &[])
+        }
+        None => false,
+    }
 }
 
 fn found(calls: u64, storages: &[StorageId]) -> Option<Located> {
@@ -125,25 +229,88 @@ fn show<R: Eprint + Threads + Wait + Sync>(
     turn: u32,
     tally: &mut Tally,
 ) -> Result<(), Refusal> {
-    let mut manager = Manager::new(alloc, config(workers))?;
-    make_all(rt, alloc, &mut manager, &CLUSTER)?;
-    make_all(rt, alloc, &mut manager, &FIRST_REPLICA)?;
+    let window = Window {
+        name: "publish",
+        workers,
+        turn,
+    };
+    match Manager::new(alloc, config(workers)) {
+        Ok(mut manager) => {
+            let shown = show_of(rt, alloc, &mut manager, &window, tally);
+            drop(manager);
+            shown
+        }
+        Err(refusal) => Err(refusal),
+    }
+}
+
+fn show_of<R: Eprint + Threads + Wait + Sync>(
+    rt: &R,
+    alloc: Global,
+    manager: &mut Manager,
+    window: &Window,
+    tally: &mut Tally,
+) -> Result<(), Refusal> {
+    make_all(rt, alloc, manager, &CLUSTER)?;
+    make_all(rt, alloc, manager, &FIRST_REPLICA)?;
+    show_view(rt, alloc, manager, window, tally)
+}
+
+fn show_view<R: Eprint + Threads + Wait + Sync>(
+    rt: &R,
+    alloc: Global,
+    manager: &mut Manager,
+    window: &Window,
+    tally: &mut Tally,
+) -> Result<(), Refusal> {
     let (mut publisher, mut locators) = open_view(rt, alloc, 2)?;
-    let shown = match (locators.pop(), locators.pop()) {
-        (Some(first), Some(second)) => show_to(
+    let shown = match locators.pop() {
+        Some(first) => show_by(
             rt,
             alloc,
-            &mut manager,
+            manager,
             &mut publisher,
             first,
-            second,
-            workers,
-            turn,
+            &mut locators,
+            window,
             tally,
         ),
-        _ => Err(Refusal::BadConfig),
+        None => Err(Refusal::BadConfig),
     };
     publisher.end(rt);
+    shown
+}
+
+fn show_by<R: Eprint + Threads + Wait + Sync>(
+    rt: &R,
+    alloc: Global,
+    manager: &mut Manager,
+    publisher: &mut Publisher,
+    mut first: Locator,
+    others: &mut Vec<Locator>,
+    window: &Window,
+    tally: &mut Tally,
+) -> Result<(), Refusal>
+    requires { first.home ≡ publisher.old.home }
+{
+    let shown = match others.pop() {
+        Some(mut second) => {
+            let shown = show_to(
+                rt,
+                alloc,
+                manager,
+                publisher,
+                &mut first,
+                &mut second,
+                window,
+                tally,
+            );
+            drop(second);
+            shown
+        }
+        None => Err(Refusal::BadConfig),
+    };
+    drop(first);
     shown
 }
 
@@ -166,15 +333,14 @@ fn publish_in_window<R: Eprint + Threads + Wait + Sync>(
     rt: &R,
     manager: &mut Manager,
     publisher: &mut Publisher,
-    workers: u32,
-    turn: u32,
+    window: &Window,
 ) -> Result<Receipt, Refusal>
     ensures receipt { IfOk result (λ r. r.home ≡ publisher.new.home) }
     ensures home { publisher.new.home ≡ publisher.old.home }
 {
-    begun(rt, "publish", workers, turn);
+    begun(rt, window);
     let shown = publish(rt, manager, publisher);
-    ended(rt, "publish", workers);
+    ended(rt, window);
     shown
 }
 
@@ -208,31 +374,74 @@ fn show_to<R: Eprint + Threads + Wait + Sync>(
     alloc: Global,
     manager: &mut Manager,
     publisher: &mut Publisher,
-    mut first: Locator,
-    mut second: Locator,
-    workers: u32,
-    turn: u32,
+    first: &mut Locator,
+    second: &mut Locator,
+    window: &Window,
     tally: &mut Tally,
 ) -> Result<(), Refusal>
-    requires { first.home ≡ publisher.old.home }
+    requires { first.old.home ≡ publisher.old.home }
+{
+    show_first(rt, manager, publisher, first, second, tally)?;
+    make_all(rt, alloc, manager, &SECOND_REPLICA)?;
+    show_second(rt, manager, publisher, first, second, window, tally)
+}
+
+fn show_first<R: Threads + Wait + Sync>(
+    rt: &R,
+    manager: &mut Manager,
+    publisher: &mut Publisher,
+    first: &mut Locator,
+    second: &mut Locator,
+    tally: &mut Tally,
+) -> Result<(), Refusal>
+    requires { first.old.home ≡ publisher.old.home }
+    ensures { first.new.home ≡ publisher.new.home }
 {
     let receipt = publish(rt, manager, publisher)?;
-    tally.note(learn_and_read(&mut first, &mut second, receipt, &ONE));
-    make_all(rt, alloc, manager, &SECOND_REPLICA)?;
-    let receipt = match publish_in_window(rt, manager, publisher, workers, turn) {
+    tally.note(learn_and_read(first, second, receipt, &ONE));
+    Ok(())
+}
+
+fn show_second<R: Eprint + Threads + Wait + Sync>(
+    rt: &R,
+    manager: &mut Manager,
+    publisher: &mut Publisher,
+    first: &mut Locator,
+    second: &mut Locator,
+    window: &Window,
+    tally: &mut Tally,
+) -> Result<(), Refusal>
+    requires { first.old.home ≡ publisher.old.home }
+{
+    let receipt = published(rt, manager, publisher, first, second, window, tally)?;
+    tally.note(receipt.calls() == 11);
+    tally.note(learn_and_read(first, second, receipt, &TWO));
+    Ok(())
+}
+
+/// Publishes with one allocation refused, and once more where that was the answer, and both locators still read the first version.
+fn published<R: Eprint + Threads + Wait + Sync>(
+    rt: &R,
+    manager: &mut Manager,
+    publisher: &mut Publisher,
+    first: &mut Locator,
+    second: &mut Locator,
+    window: &Window,
+    tally: &mut Tally,
+) -> Result<Receipt, Refusal>
+    requires { first.old.home ≡ publisher.old.home }
+    ensures home { first.new.home ≡ publisher.new.home }
+    ensures receipt { IfOk result (λ r. r.home ≡ publisher.new.home) }
+{
+    match publish_in_window(rt, manager, publisher, window) {
         Ok(receipt) => {
             tally.note(true);
-            receipt
+            Ok(receipt)
         }
         Err(_) => {
             tally.refuse();
-            tally.note(
-                publisher.calls() == 10 && both_read(&mut first, &mut second, found(10, &ONE)),
-            );
-            publish(rt, manager, publisher)?
+            tally.note(publisher.calls() == 10 && both_read(first, second, found(10, &ONE)));
+            publish(rt, manager, publisher)
         }
-    };
-    tally.note(receipt.calls() == 11);
-    tally.note(learn_and_read(&mut first, &mut second, receipt, &TWO));
-    Ok(())
+    }
 }

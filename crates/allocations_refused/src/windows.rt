@@ -1,11 +1,26 @@
 // Words for whoever watches the program. A line that can't be printed is left out, which the watcher sees.
 
-/// From here on the allocation of this number is refused, and that one alone.
-pub fn begun(rt: &impl Eprint, what: &str, workers: u32, turn: u32) {
-    let _ = eprintln!(rt; "refuse {turn} {what}/{workers}");
+/// One call of a manager of so many workers.
+#[derive(Clone, Copy)]
+pub struct Window {
+    pub name: &'static str,
+    pub workers: u32,
+    /// The allocation of this number is refused, and that one alone.
+    pub turn: u32,
+}
+
+/// From here on the allocation is refused.
+pub fn begun(rt: &impl Eprint, window: &Window) {
+    let Window {
+        name,
+        workers,
+        turn,
+    } = window;
+    let _ = eprintln!(rt; "refuse {turn} {name}/{workers}");
 }
 
 /// No longer.
-pub fn ended(rt: &impl Eprint, what: &str, workers: u32) {
-    let _ = eprintln!(rt; "ended {what}/{workers}");
+pub fn ended(rt: &impl Eprint, window: &Window) {
+    let Window { name, workers, .. } = window;
+    let _ = eprintln!(rt; "ended {name}/{workers}");
 }
