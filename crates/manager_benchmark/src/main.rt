@@ -39,38 +39,37 @@ mod workload;
 
 use asked::{Run, Subject, runs_of};
 use bm_base::Refusal;
-use std::env::Env;
+use std::env::{self, Env};
 use std::process::ExitCode;
-use std::rt::Runtime;
+use std::rt::{Clock, Files};
 use std::sync::Wait;
 use std::thread::Threads;
 use std::time::CpuClock;
-use std::{env, io};
 
 /// Ends with status 1 where the words ask for no run, and where a run is refused.
 fn main(rt: HostRuntime) -> ExitCode {
-    let Ok(words) = words_of(&rt) else {
-        return ExitCode::FAILURE;
-    };
-    match runs_of(rt.alloc(), words.as_slice()) {
-        Ok(Some(runs)) => ended(&rt, measure_all(&rt, runs)),
+    match words_of(&rt) {
+        Some(words) => measure_asked(&rt, words.as_slice()),
+        None => ExitCode::FAILURE,
+    }
+}
+
+/// The words behind the name of the program, or None where they can't be read, or there is no memory for them.
+fn words_of<R: Env + AllocGlobal>(rt: &R) -> Option<Vec<String>> {
+    env::args(rt).ok()?.skip(1).collect(rt.alloc()).ok()
+}
+
+fn measure_asked<
+    R: Clock + CpuClock + Files + AllocGlobal + Print + Eprint + Threads + Wait + Sync,
+>(rt: &R, words: &[String]) -> ExitCode {
+    match runs_of(rt.alloc(), words) {
+        Ok(Some(runs)) => ended(rt, measure_all(rt, runs.as_slice())),
         Ok(None) => {
             let _ = eprintln!(rt; "arena COUNT, or: manager or memory COUNT [SHARDS WORKERS]");
             ExitCode::FAILURE
         }
-        Err(refusal) => ended(&rt, Err(refusal)),
+        Err(refusal) => ended(rt, Err(refusal)),
     }
-}
-
-/// The words behind the name of the program.
-fn words_of<R: Env + AllocGlobal>(rt: &R) -> io::Result<Vec<String>> {
-    let mut words = Vec::new(rt.alloc());
-    for word in env::args(rt)?.skip(1) {
-        if words.push(word).is_err() {
-            return Err(io::Error::from(io::ErrorKind::OutOfMemory));
-        }
-    }
-    Ok(words)
 }
 
 fn ended(rt: &impl Eprint, end: Result<(), Refusal>) -> ExitCode {
@@ -83,17 +82,17 @@ fn ended(rt: &impl Eprint, end: Result<(), Refusal>) -> ExitCode {
     }
 }
 
-fn measure_all<R: Runtime + CpuClock + AllocGlobal + Threads + Wait + Sync>(
+fn measure_all<R: Clock + CpuClock + Files + AllocGlobal + Print + Eprint + Threads + Wait + Sync>(
     rt: &R,
-    runs: Vec<Run>,
+    runs: &[Run],
 ) -> Result<(), Refusal> {
     for run in runs {
-        measure(rt, run)?;
+        measure(rt, *run)?;
     }
     Ok(())
 }
 
-fn measure<R: Runtime + CpuClock + AllocGlobal + Threads + Wait + Sync>(
+fn measure<R: Clock + CpuClock + Files + AllocGlobal + Print + Eprint + Threads + Wait + Sync>(
     rt: &R,
     run: Run,
 ) -> Result<(), Refusal> {

@@ -7,30 +7,46 @@ mod reporting;
 use crate::figures::{Timer, print_each, print_memory, resident_bytes};
 use bm_base::Refusal;
 use phases::Blocks;
-use std::rt::Runtime;
+use std::rt::{Clock, Files};
 use std::time::CpuClock;
 
 /// Measures the steps of the lists over so many blocks, and then reports.
-pub fn measure<R: Runtime + CpuClock + AllocGlobal>(rt: &R, count: u64) -> Result<(), Refusal> {
+pub fn measure<R: Clock + CpuClock + Files + AllocGlobal + Print + Eprint>(
+    rt: &R,
+    count: u64,
+) -> Result<(), Refusal> {
     measure_steps(rt, count)?;
     passes::measure_reports(rt, count)
 }
 
 // One run of all phases.
-fn measure_steps<R: Runtime + CpuClock + AllocGlobal>(rt: &R, count: u64) -> Result<(), Refusal> {
+fn measure_steps<R: Clock + CpuClock + Files + AllocGlobal + Print + Eprint>(
+    rt: &R,
+    count: u64,
+) -> Result<(), Refusal> {
     let before = resident_bytes(rt);
     let mut blocks = Blocks::new(rt.alloc())?;
+    go_through(rt, &mut blocks, count, before)
+}
+
+// All phases. The process held so many bytes before there were blocks.
+fn go_through<R: Clock + CpuClock + Files + Alloc + Print + Eprint>(
+    rt: &R,
+    blocks: &mut Blocks,
+    count: u64,
+    before: Option<u64>,
+) -> Result<(), Refusal> {
     let start = Timer::Processor.now(rt);
     blocks.add_all(count)?;
     print_each(rt, "add an entry", count, Timer::Processor.since(rt, start));
-    link_and_read(rt, &mut blocks, count);
+    link_and_read(rt, blocks, count);
     print_memory(rt, count, before);
-    change(rt, &mut blocks);
+    change(rt, blocks);
     Ok(())
 }
 
 // The phases that change no list once it stands.
-fn link_and_read<R: Runtime + CpuClock>(rt: &R, blocks: &mut Blocks, count: u64) {
+fn link_and_read<R: Clock + CpuClock + Print + Eprint>(rt: &R, blocks: &mut Blocks, count: u64) {
     let start = Timer::Processor.now(rt);
     let linked = blocks.link_all();
     print_each(rt, "link", linked, Timer::Processor.since(rt, start));
@@ -49,7 +65,7 @@ fn link_and_read<R: Runtime + CpuClock>(rt: &R, blocks: &mut Blocks, count: u64)
 }
 
 // The phases that change the lists, and empty the arena.
-fn change<R: Runtime + CpuClock>(rt: &R, blocks: &mut Blocks) {
+fn change<R: Clock + CpuClock + Print + Eprint>(rt: &R, blocks: &mut Blocks) {
     let start = Timer::Processor.now(rt);
     let moved = blocks.move_all();
     print_each(

@@ -66,7 +66,7 @@ pub fn storages_of(i: u64) -> [StorageId; 3] {
 }
 
 /// Brings items into an order that the seed chooses: from the last one on, each changes places with one up to it.
-pub fn shuffle<T>(items: &mut [T], seed: u64) {
+fn shuffle<T>(items: &mut [T], seed: u64) {
     let count = items.len();
     for k in 1..count {
         let place = count - k;
@@ -93,17 +93,30 @@ pub fn rising_reports(alloc: Global, blocks: u64) -> Result<Vec<Vec<Entry>>, Ref
         reports.push(Vec::new(alloc))?;
     }
     for i in 0..blocks {
-        for storage in storages_of(i) {
-            if let Some(report) = reports.get_mut(storage.0 as usize) {
-                report.push(Entry::one(block_number(i), STAMP))?;
-            }
-        }
+        name_block(reports.as_mut_slice(), i)?;
     }
     Ok(reports)
 }
 
-/// Brings each report into an order of its own.
-pub fn shuffle_each(reports: &mut [Vec<Entry>]) {
+// The reports of its three storages name the block `i` too.
+fn name_block(reports: &mut [Vec<Entry>], i: u64) -> Result<(), Refusal> {
+    for storage in storages_of(i) {
+        if let Some(report) = reports.get_mut(storage.0 as usize) {
+            report.push(Entry::one(block_number(i), STAMP))?;
+        }
+    }
+    Ok(())
+}
+
+/// The same, each in an order of its own.
+pub fn shuffled_reports(alloc: Global, blocks: u64) -> Result<Vec<Vec<Entry>>, Refusal> {
+    let mut reports = rising_reports(alloc, blocks)?;
+    shuffle_each(reports.as_mut_slice());
+    Ok(reports)
+}
+
+// Brings each report into an order of its own.
+fn shuffle_each(reports: &mut [Vec<Entry>]) {
     let mut seed = 0u64;
     for report in reports.iter_mut() {
         seed = seed.wrapping_add(1);
@@ -170,6 +183,17 @@ pub fn drawn_replicas(alloc: Global, blocks: u64, count: u64) -> Result<Vec<Repl
         })?;
     }
     shuffle(drawn.as_mut_slice(), 4242);
+    Ok(drawn)
+}
+
+/// The same, in another order.
+pub fn shuffled_replicas(
+    alloc: Global,
+    blocks: u64,
+    count: u64,
+) -> Result<Vec<ReplicaId>, Refusal> {
+    let mut drawn = drawn_replicas(alloc, blocks, count)?;
+    shuffle(drawn.as_mut_slice(), 777);
     Ok(drawn)
 }
 

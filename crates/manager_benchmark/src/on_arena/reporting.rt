@@ -58,13 +58,22 @@ impl Counts {
 // The cluster of 256 nodes with four storages each.
 fn cluster(alloc: Global) -> Result<Topology, Refusal> {
     let mut topology = Topology::new(alloc)?;
-    for node in 0..NODES {
-        come(&mut topology, &register(alloc, node)?)?;
-    }
+    register_all(alloc, &mut topology)?;
     Ok(topology)
 }
 
-fn come(topology: &mut Topology, event: &Event) -> Result<(), Refusal> {
+fn register_all(alloc: Global, topology: &mut Topology) -> Result<(), Refusal> {
+    for node in 0..NODES {
+        come(topology, register(alloc, node)?)?;
+    }
+    Ok(())
+}
+
+fn come(topology: &mut Topology, event: Event) -> Result<(), Refusal> {
+    take_event(topology, &event)
+}
+
+fn take_event(topology: &mut Topology, event: &Event) -> Result<(), Refusal> {
     topology.check(event)?;
     topology.prepare(event)?;
     topology.commit(event);
@@ -89,10 +98,17 @@ fn known_blocks(alloc: Global, blocks: u64) -> Result<Arena, Refusal>
     ensures { IfOk result (λ a. replicas_of a ≡ empty) }
 {
     let mut arena = Arena::new(alloc)?;
-    for i in 0..blocks {
-        add_known(&mut arena, block_number(i))?;
-    }
+    add_all(&mut arena, blocks)?;
     Ok(arena)
+}
+
+fn add_all(arena: &mut Arena, blocks: u64) -> Result<(), Refusal>
+    ensures { replicas_of arena.new ≡ replicas_of arena.old }
+{
+    for i in 0..blocks {
+        add_known(arena, block_number(i))?;
+    }
+    Ok(())
 }
 
 impl Shard {

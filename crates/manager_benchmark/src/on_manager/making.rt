@@ -7,7 +7,7 @@ use bm_base::{Config, Done, Event, Refusal};
 use bm_crew::NoGate;
 use bm_manager::Manager;
 use std::alloc::Global;
-use std::rt::Runtime;
+use std::rt::Clock;
 use std::sync::Wait;
 use std::thread::Threads;
 use std::time::CpuClock;
@@ -18,23 +18,44 @@ pub fn count(sum: &mut Done, done: Done) {
     sum.removed = sum.removed.saturating_add(done.removed);
 }
 
-/// With all nodes, and no block.
-pub fn new_manager<R: Threads + Wait + Sync>(
+/// The manager takes an event. What it promises of it, no caller wants to know.
+pub fn take<R: Threads + Wait + Sync>(
     rt: &R,
-    alloc: Global,
-    run: Run,
-) -> Result<Manager, Refusal> {
+    manager: &mut Manager,
+    event: &Event,
+) -> Result<Done, Refusal> {
+    manager.apply(rt, &NoGate, event)
+}
+
+/// The same of an event that is made for this one call.
+pub fn take_once<R: Threads + Wait + Sync>(
+    rt: &R,
+    manager: &mut Manager,
+    event: Event,
+) -> Result<Done, Refusal> {
+    take(rt, manager, &event)
+}
+
+/// With no node and no block.
+pub fn new_manager(alloc: Global, run: Run) -> Result<Manager, Refusal> {
     let config = Config {
         shards: run.shards,
         workers: run.workers,
         ..Config::standard()
     };
-    let mut manager = Manager::new(alloc, config)?;
+    Manager::new(alloc, config)
+}
+
+/// All nodes come.
+pub fn register_all<R: Threads + Wait + Sync>(
+    rt: &R,
+    alloc: Global,
+    manager: &mut Manager,
+) -> Result<(), Refusal> {
     for node in 0..NODES {
-        let event = register(alloc, node)?;
-        manager.apply(rt, &NoGate, &event)?;
+        take_once(rt, manager, register(alloc, node)?)?;
     }
-    Ok(manager)
+    Ok(())
 }
 
 /// The block `i` is known, and has no replica.
@@ -42,18 +63,17 @@ pub fn add_block<R: Threads + Wait + Sync>(
     rt: &R,
     manager: &mut Manager,
     i: u64,
-) -> Result<(), Refusal> {
+) -> Result<Done, Refusal> {
     let event = Event::AddBlock {
         id: block_number(i),
         stamp: STAMP,
         repl: 3,
     };
-    manager.apply(rt, &NoGate, &event)?;
-    Ok(())
+    take_once(rt, manager, event)
 }
 
 /// All blocks are known.
-pub fn add_all<R: Runtime + CpuClock + Threads + Wait + Sync>(
+pub fn add_all<R: Clock + CpuClock + Eprint + Threads + Wait + Sync>(
     rt: &R,
     manager: &mut Manager,
     sheet: Sheet,

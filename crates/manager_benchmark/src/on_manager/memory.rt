@@ -1,21 +1,21 @@
 // What a manager holds in memory.
 
-use super::making::{add_block, new_manager};
+use super::making::{add_block, new_manager, register_all, take_once};
 use super::publishing::publish_times;
 use crate::asked::Run;
-use crate::figures::{Sheet, Timer, resident_bytes};
+use crate::figures::{Sheet, Timer, more_for_each, resident_bytes};
 use crate::workload::{STAMP, block_number, storages_of};
-use bm_base::{Event, Refusal};
-use bm_crew::NoGate;
+use bm_base::{BlockId, Event, Refusal, StorageId};
 use bm_manager::Manager;
-use bm_view::open_view;
-use std::rt::Runtime;
+use bm_view::{Publisher, open_view};
+use std::alloc::Global;
+use std::rt::Files;
 use std::sync::Wait;
 use std::thread::Threads;
 
 /// Measures what a manager holds in memory, where its replicas came one by one, and what its versions do. Only the first run of a
 /// process tells it well: one after it finds memory that is held already.
-pub fn measure_memory<R: Runtime + AllocGlobal + Threads + Wait + Sync>(
+pub fn measure_memory<R: Files + AllocGlobal + Print + Eprint + Threads + Wait + Sync>(
     rt: &R,
     run: Run,
 ) -> Result<(), Refusal> {
@@ -24,33 +24,60 @@ pub fn measure_memory<R: Runtime + AllocGlobal + Threads + Wait + Sync>(
         timer: Timer::Processor,
     };
     let before = resident_bytes(rt);
-    let mut manager = new_manager(rt, rt.alloc(), run)?;
-    let added = fill(rt, &mut manager, run.blocks)?;
+    let mut manager = new_manager(rt.alloc(), run)?;
+    measure_replicas(rt, rt.alloc(), &mut manager, sheet, before)
+}
+
+// A manager without nodes gets nodes and blocks. The process held so many bytes before there was one.
+fn measure_replicas<R: Files + Alloc + Print + Eprint + Threads + Wait + Sync>(
+    rt: &R,
+    alloc: Global,
+    manager: &mut Manager,
+    sheet: Sheet,
+    before: Option<u64>,
+) -> Result<(), Refusal> {
+    register_all(rt, alloc, manager)?;
+    let added = fill(rt, manager, sheet.blocks)?;
     let filled = resident_bytes(rt);
-    put_bytes(
-        rt,
-        sheet,
-        "mem_rss_bytes_per_replica",
-        before,
-        filled,
-        run.blocks.saturating_mul(3),
-    );
-    let (mut publisher, _) = open_view(rt, rt.alloc(), 0)?;
-    let published = publish_times(rt, &mut manager, &mut publisher, 3);
-    let shown = resident_bytes(rt);
-    put_bytes(
-        rt,
-        sheet,
-        "mem_versions_rss_bytes_per_block",
-        filled,
-        shown,
-        run.blocks,
-    );
+    let replicas = sheet.blocks.saturating_mul(3);
+    let each = more_for_each(before, filled, replicas);
+    put_bytes(rt, sheet, "mem_rss_bytes_per_replica", each);
+    let calls = measure_versions(rt, alloc, manager, sheet, filled)?;
+    tell(rt, added, calls);
+    Ok(())
+}
+
+// With a publisher, which is ended before an error is told: how many calls it has shown.
+fn measure_versions<R: Files + Alloc + Eprint + Threads + Wait + Sync>(
+    rt: &R,
+    alloc: Global,
+    manager: &mut Manager,
+    sheet: Sheet,
+    filled: Option<u64>,
+) -> Result<u64, Refusal> {
+    let (mut publisher, _) = open_view(rt, alloc, 0)?;
+    let published = measure_publisher(rt, manager, &mut publisher, sheet, filled);
     let calls = publisher.calls();
     publisher.end(rt);
     published?;
+    Ok(calls)
+}
+
+fn measure_publisher<R: Files + Alloc + Eprint + Threads + Wait + Sync>(
+    rt: &R,
+    manager: &mut Manager,
+    publisher: &mut Publisher,
+    sheet: Sheet,
+    filled: Option<u64>,
+) -> Result<(), Refusal> {
+    let published = publish_times(rt, manager, publisher, 3);
+    let each = more_for_each(filled, resident_bytes(rt), sheet.blocks);
+    put_bytes(rt, sheet, "mem_versions_rss_bytes_per_block", each);
+    published
+}
+
+fn tell(rt: &impl Print, added: u128, calls: u64) {
     let _ = println!(rt; "memory: added {added}, published after {calls} calls");
-    Ok(())
 }
 
 // All blocks come with their replicas, one by one; how many are new.
@@ -76,27 +103,28 @@ fn receive_all<R: Threads + Wait + Sync>(
     let id = block_number(i);
     let mut added = 0u128;
     for storage in storages_of(i) {
-        let event = Event::Received {
-            storage,
-            id,
-            stamp: STAMP,
-        };
-        added = added.saturating_add(manager.apply(rt, &NoGate, &event)?.added);
+        added = added.saturating_add(receive(rt, manager, storage, id)?);
     }
     Ok(added)
 }
 
-fn put_bytes(
-    rt: &impl Runtime,
-    sheet: Sheet,
-    figure: &str,
-    before: Option<u64>,
-    after: Option<u64>,
-    count: u64,
-) {
-    if let (Some(before), Some(after)) = (before, after) {
-        if let Some(each) = after.saturating_sub(before).checked_div(count) {
-            sheet.put(rt, figure, u128::from(each));
-        }
+// A replica comes; whether it is new, as a count.
+fn receive<R: Threads + Wait + Sync>(
+    rt: &R,
+    manager: &mut Manager,
+    storage: StorageId,
+    id: BlockId,
+) -> Result<u128, Refusal> {
+    let event = Event::Received {
+        storage,
+        id,
+        stamp: STAMP,
+    };
+    Ok(take_once(rt, manager, event)?.added)
+}
+
+fn put_bytes(rt: &impl Eprint, sheet: Sheet, figure: &str, each: Option<u64>) {
+    if let Some(each) = each {
+        sheet.put(rt, figure, u128::from(each));
     }
 }

@@ -6,7 +6,7 @@ use bm_base::Refusal;
 use bm_manager::Manager;
 use bm_view::Publisher;
 use std::alloc::Global;
-use std::rt::Runtime;
+use std::rt::Clock;
 use std::sync::Wait;
 use std::sync::atomic::{AtomicBool, Ordering};
 use std::thread::Threads;
@@ -53,15 +53,14 @@ pub fn publish_until<R: Threads + Wait + Sync>(
     Ok(())
 }
 
-/// Measures versions published while nobody reads.
-pub fn measure<R: Runtime + CpuClock + Threads + Wait + Sync>(
+// Publishes, and the times of all versions but the first come to the others.
+fn publish_often<R: Clock + CpuClock + Threads + Wait + Sync>(
     rt: &R,
-    alloc: Global,
     manager: &mut Manager,
     publisher: &mut Publisher,
     sheet: Sheet,
+    times: &mut Vec<u128>,
 ) -> Result<(), Refusal> {
-    let mut times = Vec::new(alloc);
     for number in 0..versions_over(sheet.blocks) {
         let start = sheet.timer.now(rt);
         publish(rt, manager, publisher)?;
@@ -69,12 +68,29 @@ pub fn measure<R: Runtime + CpuClock + Threads + Wait + Sync>(
             times.push(sheet.timer.since(rt, start))?;
         }
     }
-    let nanos = median(times)?;
+    Ok(())
+}
+
+// What it takes to publish one version.
+fn put_version(rt: &impl Eprint, sheet: Sheet, nanos: u128) {
     if let Some(rate) = 1_000_000_000_000u128.checked_div(nanos) {
         sheet.put_thousandths(rt, "publish_versions_per_s", rate);
     }
     if let Some(each) = nanos.checked_div(u128::from(sheet.blocks)) {
         sheet.put(rt, "publish_ns_per_block", each);
     }
+}
+
+/// Measures versions published while nobody reads.
+pub fn measure<R: Clock + CpuClock + Eprint + Threads + Wait + Sync>(
+    rt: &R,
+    alloc: Global,
+    manager: &mut Manager,
+    publisher: &mut Publisher,
+    sheet: Sheet,
+) -> Result<(), Refusal> {
+    let mut times = Vec::new(alloc);
+    publish_often(rt, manager, publisher, sheet, &mut times)?;
+    put_version(rt, sheet, median(times)?);
     Ok(())
 }

@@ -8,7 +8,7 @@ use bm_base::Refusal;
 use bm_manager::Manager;
 use bm_view::{Locator, Publisher, open_view};
 use std::alloc::Global;
-use std::rt::{Clock, Runtime};
+use std::rt::Clock;
 use std::sync::Wait;
 use std::sync::atomic::{AtomicBool, Ordering};
 use std::thread::{Threads, for_each_mut, join};
@@ -79,7 +79,7 @@ fn read_beside<R: Clock + CpuClock + Threads + Wait + Sync>(
 }
 
 // Answers with a place, and how many a second there were of all seats.
-fn tell_seats(rt: &impl Runtime, sheet: Sheet, figure: &str, seats: &[Seat]) -> u64 {
+fn tell_seats(rt: &impl Eprint, sheet: Sheet, figure: &str, seats: &[Seat]) -> u64 {
     let mut found = 0u64;
     let mut slowest = 0u128;
     for seat in seats {
@@ -92,7 +92,7 @@ fn tell_seats(rt: &impl Runtime, sheet: Sheet, figure: &str, seats: &[Seat]) -> 
 }
 
 // The first so many locators read, alone, and then beside the manager. How many answers have a place.
-fn measure_reading<R: Runtime + CpuClock + Threads + Wait + Sync>(
+fn measure_reading<R: Clock + CpuClock + Eprint + Threads + Wait + Sync>(
     rt: &R,
     manager: &mut Manager,
     publisher: &mut Publisher,
@@ -121,7 +121,7 @@ fn seats_of(alloc: Global, locators: Vec<Locator>) -> Result<Vec<Seat>, Refusal>
 }
 
 // All groups of locators. How many answers have a place.
-fn measure_groups<R: Runtime + CpuClock + Threads + Wait + Sync>(
+fn measure_groups<R: Clock + CpuClock + Eprint + Threads + Wait + Sync>(
     rt: &R,
     manager: &mut Manager,
     publisher: &mut Publisher,
@@ -139,7 +139,7 @@ fn measure_groups<R: Runtime + CpuClock + Threads + Wait + Sync>(
 }
 
 // With a publisher that goes on to the end: how many answers have a place.
-fn measure_with<R: Runtime + CpuClock + Threads + Wait + Sync>(
+fn measure_with<R: Clock + CpuClock + Eprint + Threads + Wait + Sync>(
     rt: &R,
     alloc: Global,
     manager: &mut Manager,
@@ -152,8 +152,12 @@ fn measure_with<R: Runtime + CpuClock + Threads + Wait + Sync>(
     measure_groups(rt, manager, publisher, sheet, seats.as_mut_slice())
 }
 
+fn tell(rt: &impl Print, found: u64) {
+    let _ = println!(rt; "locators: {found} answers with a place");
+}
+
 /// Measures how a manager publishes, and how locators read.
-pub fn measure<R: Runtime + CpuClock + Threads + Wait + Sync>(
+pub fn measure<R: Clock + CpuClock + Print + Eprint + Threads + Wait + Sync>(
     rt: &R,
     alloc: Global,
     manager: &mut Manager,
@@ -162,7 +166,6 @@ pub fn measure<R: Runtime + CpuClock + Threads + Wait + Sync>(
     let (mut publisher, locators) = open_view(rt, alloc, LOCATORS)?;
     let found = measure_with(rt, alloc, manager, &mut publisher, sheet, locators);
     publisher.end(rt);
-    let found = found?;
-    let _ = println!(rt; "locators: {found} answers with a place");
+    tell(rt, found?);
     Ok(())
 }

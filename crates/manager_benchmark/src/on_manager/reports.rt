@@ -1,15 +1,14 @@
 // Full reports of all storages: the first ones, and then unchanged ones in the same order as before, by rising number, and in another
 // order than before.
 
-use super::making::count;
+use super::making::{count, take};
 use crate::figures::{Sheet, median};
 use crate::repeats::passes_over;
-use crate::workload::{order_of_storages, rising_reports, shuffle_each};
+use crate::workload::{order_of_storages, rising_reports, shuffled_reports};
 use bm_base::{Done, Entry, Event, Items, Refusal, StorageId};
-use bm_crew::NoGate;
 use bm_manager::Manager;
 use std::alloc::Global;
-use std::rt::Runtime;
+use std::rt::Clock;
 use std::sync::Wait;
 use std::thread::Threads;
 use std::time::CpuClock;
@@ -51,14 +50,14 @@ fn take_all<R: Threads + Wait + Sync>(
     };
     for storage in order {
         if let Some(report) = reports.get(storage.0 as usize) {
-            count(&mut sum, manager.apply(rt, &NoGate, report)?);
+            count(&mut sum, take(rt, manager, report)?);
         }
     }
     Ok(sum)
 }
 
 // One pass: what it did, and how long it took.
-fn pass<R: Runtime + CpuClock + Threads + Wait + Sync>(
+fn pass<R: Clock + CpuClock + Threads + Wait + Sync>(
     rt: &R,
     manager: &mut Manager,
     sheet: Sheet,
@@ -70,24 +69,23 @@ fn pass<R: Runtime + CpuClock + Threads + Wait + Sync>(
     Ok((done, sheet.timer.since(rt, start)))
 }
 
-fn tell(rt: &impl Runtime, name: &str, done: Done) {
+fn tell(rt: &impl Print, name: &str, done: Done) {
     let Done { added, removed } = done;
     let _ = println!(rt; "{name}: added {added}, removed {removed}");
 }
 
-// All passes of a phase, and the median of the times of all but the first.
-fn run<R: Runtime + CpuClock + Threads + Wait + Sync>(
+// All passes of a phase: what they did. The times of all but the first come to the others.
+fn pass_often<R: Clock + CpuClock + Threads + Wait + Sync>(
     rt: &R,
-    alloc: Global,
     manager: &mut Manager,
     sheet: Sheet,
-    phase: Phase<'_>,
-) -> Result<(), Refusal> {
+    phase: &Phase<'_>,
+    times: &mut Vec<u128>,
+) -> Result<Done, Refusal> {
     let mut sum = Done {
         added: 0,
         removed: 0,
     };
-    let mut times = Vec::new(alloc);
     for number in 0..passes_over(sheet.blocks) {
         let reports = if number % 2 == 0 {
             phase.even
@@ -100,18 +98,35 @@ fn run<R: Runtime + CpuClock + Threads + Wait + Sync>(
             times.push(time)?;
         }
     }
+    Ok(sum)
+}
+
+// All passes of a phase, and the median of the times of all but the first.
+fn run<R: Clock + CpuClock + Print + Eprint + Threads + Wait + Sync>(
+    rt: &R,
+    alloc: Global,
+    manager: &mut Manager,
+    sheet: Sheet,
+    phase: &Phase<'_>,
+) -> Result<(), Refusal> {
+    let mut times = Vec::new(alloc);
+    let sum = pass_often(rt, manager, sheet, phase, &mut times)?;
     tell(rt, phase.name, sum);
-    sheet.put_rate(
-        rt,
-        phase.figure,
-        sheet.blocks.saturating_mul(3),
-        median(times)?,
-    );
+    let replicas = sheet.blocks.saturating_mul(3);
+    sheet.put_rate(rt, phase.figure, replicas, median(times)?);
     Ok(())
 }
 
+// The order in which the storages report, and their reports: by rising number, and each in an order of its own.
+#[derive(Clone, Copy)]
+struct Told<'a> {
+    order: &'a [StorageId],
+    rising: &'a [Event],
+    shuffled: &'a [Event],
+}
+
 /// Measures the first reports, and then unchanged ones.
-pub fn measure<R: Runtime + CpuClock + Threads + Wait + Sync>(
+pub fn measure<R: Clock + CpuClock + Print + Eprint + Threads + Wait + Sync>(
     rt: &R,
     alloc: Global,
     manager: &mut Manager,
@@ -119,38 +134,52 @@ pub fn measure<R: Runtime + CpuClock + Threads + Wait + Sync>(
 ) -> Result<(), Refusal> {
     let order = order_of_storages(alloc)?;
     let rising = events_of(alloc, rising_reports(alloc, sheet.blocks)?)?;
-    let mut reports = rising_reports(alloc, sheet.blocks)?;
-    shuffle_each(reports.as_mut_slice());
-    let shuffled = events_of(alloc, reports)?;
-    let (first, time) = pass(rt, manager, sheet, order.as_slice(), shuffled.as_slice())?;
-    tell(rt, "first reports", first);
-    sheet.put_rate(
-        rt,
-        "b_first_replicas_per_s",
-        sheet.blocks.saturating_mul(3),
-        time,
-    );
-    measure_unchanged(
-        rt,
-        alloc,
-        manager,
-        sheet,
-        order.as_slice(),
-        shuffled.as_slice(),
-        rising.as_slice(),
-    )
+    let shuffled = events_of(alloc, shuffled_reports(alloc, sheet.blocks)?)?;
+    let told = Told {
+        order: order.as_slice(),
+        rising: rising.as_slice(),
+        shuffled: shuffled.as_slice(),
+    };
+    measure_told(rt, alloc, manager, sheet, &told)
 }
 
-// The phases whose passes change nothing.
-fn measure_unchanged<R: Runtime + CpuClock + Threads + Wait + Sync>(
+fn measure_told<R: Clock + CpuClock + Print + Eprint + Threads + Wait + Sync>(
     rt: &R,
     alloc: Global,
     manager: &mut Manager,
     sheet: Sheet,
-    order: &[StorageId],
-    shuffled: &[Event],
-    rising: &[Event],
+    told: &Told<'_>,
 ) -> Result<(), Refusal> {
+    measure_first(rt, manager, sheet, told)?;
+    measure_unchanged(rt, alloc, manager, sheet, told)
+}
+
+fn measure_first<R: Clock + CpuClock + Print + Eprint + Threads + Wait + Sync>(
+    rt: &R,
+    manager: &mut Manager,
+    sheet: Sheet,
+    told: &Told<'_>,
+) -> Result<(), Refusal> {
+    let (first, time) = pass(rt, manager, sheet, told.order, told.shuffled)?;
+    tell(rt, "first reports", first);
+    let replicas = sheet.blocks.saturating_mul(3);
+    sheet.put_rate(rt, "b_first_replicas_per_s", replicas, time);
+    Ok(())
+}
+
+// The phases whose passes change nothing.
+fn measure_unchanged<R: Clock + CpuClock + Print + Eprint + Threads + Wait + Sync>(
+    rt: &R,
+    alloc: Global,
+    manager: &mut Manager,
+    sheet: Sheet,
+    told: &Told<'_>,
+) -> Result<(), Refusal> {
+    let Told {
+        order,
+        rising,
+        shuffled,
+    } = *told;
     let same = Phase {
         name: "full reports in the same order",
         figure: "a_full_replicas_per_s",
@@ -172,7 +201,7 @@ fn measure_unchanged<R: Runtime + CpuClock + Threads + Wait + Sync>(
         even: shuffled,
         odd: rising,
     };
-    run(rt, alloc, manager, sheet, same)?;
-    run(rt, alloc, manager, sheet, by_number)?;
-    run(rt, alloc, manager, sheet, other)
+    run(rt, alloc, manager, sheet, &same)?;
+    run(rt, alloc, manager, sheet, &by_number)?;
+    run(rt, alloc, manager, sheet, &other)
 }
