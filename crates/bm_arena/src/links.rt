@@ -100,8 +100,9 @@ fn set_marks_near_in(triplets: &mut [Triplet], storage: u32, marks: Marks, guess
     requires { Distinct (storages_in triplets.old) }
     ensures { triplets.new ≡ change_triplet (with_triplet_marks marks) triplets.old storage }
 {
-    if let Some(place) = place_near(triplets, storage, guess) {
-        triplets[place].marks = marks;
+    match place_near(triplets, storage, guess) {
+        Some(place) => triplets[place].marks = marks,
+        None => {}
     }
 }
 
