@@ -100,9 +100,8 @@ fn set_marks_near_in(triplets: &mut [Triplet], storage: u32, marks: Marks, guess
     requires { Distinct (storages_in triplets.old) }
     ensures { triplets.new ≡ change_triplet (with_triplet_marks marks) triplets.old storage }
 {
-    match place_near(triplets, storage, guess) {
-        Some(place) => triplets[place].marks = marks,
-        None => {}
+    if let Some(place) = place_near(triplets, storage, guess) {
+        triplets[place].marks = marks;
     }
 }
 

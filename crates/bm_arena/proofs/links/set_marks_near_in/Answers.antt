@@ -7,6 +7,6 @@ pub returns-in-Some : goal.returns-in-Some
 returns-in-Some c =
     sym (change_triplet-place (with_triplet_marks c.args.marks) c.args.triplets.now c.args.storage c.in-Some.place _ (sym (c.in-Some.ensures)))
 
-pub returns-in-None : goal.returns-in-None
-returns-in-None c =
-    sym (change_triplet-no_place (with_triplet_marks c.args.marks) c.args.triplets.now c.args.storage (sym (c.in-None.ensures)))
+pub returns-in_default : goal.returns-in_default
+returns-in_default c =
+    sym (change_triplet-no_place (with_triplet_marks c.args.marks) c.args.triplets.now c.args.storage (sym (c.in_default.ensures)))
