@@ -11,8 +11,8 @@ use bm_base::{Answer, BlockId, Call, Config, Places, Refusal};
 use bm_crew::NoGate;
 use bm_manager::Manager;
 use bm_view::{Located, Locator, Publisher, open_view};
-use crossbeam_channel::{Sender, unbounded};
-use std::alloc::Global;
+use crossbeam_channel::{Receiver, Sender, unbounded};
+use std::alloc::{AllocError, Global};
 use std::marker::Brand;
 use std::sync::Wait;
 use std::thread::{Threads, join};
@@ -34,8 +34,7 @@ pub fn are_all_alike<R: Eprint + Threads + Wait + Sync>(
     let mut dice = Dice::new(seed);
     let mut counts = Counts::new();
     for time in 0..times {
-        let list = List::new(rt, alloc, &mut dice, &mut counts)?;
-        let wrong = beside_once(rt, alloc, &list)?;
+        let wrong = list_beside(rt, alloc, &mut dice, &mut counts)?;
         if wrong > 0 {
             let _ = eprintln!(rt; "list {time}: {wrong} answers or reads are wrong");
             return Ok(false);
@@ -43,6 +42,19 @@ pub fn are_all_alike<R: Eprint + Threads + Wait + Sync>(
     }
     counts.tell(rt);
     Ok(counts.are_enough())
+}
+
+/// A list that is drawn, beside two readers. How many answers and reads are wrong.
+fn list_beside<R: Threads + Wait + Sync>(
+    rt: &R,
+    alloc: Global,
+    dice: &mut Dice,
+    counts: &mut Counts,
+) -> Result<u32, Refusal> {
+    match List::new(rt, alloc, dice, counts) {
+        Ok(list) => beside_once(rt, alloc, &list),
+        Err(refusal) => Err(refusal),
+    }
 }
 
 /// Calls, and what one shard and one thread answer.
@@ -64,24 +76,72 @@ impl List {
         dice: &mut Dice,
         counts: &mut Counts,
     ) -> Result<List, Refusal> {
-        let mut manager = Manager::new(alloc, config(1, 1))?;
+        match Manager::new(alloc, config(1, 1)) {
+            Ok(mut manager) => {
+                let list = List::by(rt, alloc, &mut manager, dice, counts);
+                drop(manager);
+                Ok(list?)
+            }
+            Err(refusal) => Err(refusal),
+        }
+    }
+
+    fn by<R: Threads + Wait + Sync>(
+        rt: &R,
+        alloc: Global,
+        manager: &mut Manager,
+        dice: &mut Dice,
+        counts: &mut Counts,
+    ) -> Result<List, AllocError> {
         let mut list = List {
             calls: Vec::new(alloc),
             answers: Vec::new(alloc),
             block: drawing::block(dice),
             located: Vec::new(alloc),
         };
-        list.located.push(located_in(&manager, list.block))?;
-        for _ in 0..LIST {
-            let call = drawing::call(dice, alloc)?;
-            let answer = manager.answer(rt, &NoGate, &call);
-            counts.add(&call, &answer);
-            list.calls.push(call)?;
-            list.answers.push(answer)?;
-            list.located.push(located_in(&manager, list.block))?;
+        match list.fill(rt, alloc, manager, dice, counts) {
+            Ok(()) => Ok(list),
+            Err(error) => Err(error),
         }
-        Ok(list)
     }
+
+    fn fill<R: Threads + Wait + Sync>(
+        &mut self,
+        rt: &R,
+        alloc: Global,
+        manager: &mut Manager,
+        dice: &mut Dice,
+        counts: &mut Counts,
+    ) -> Result<(), AllocError> {
+        keep(&mut self.located, located_in(manager, self.block))?;
+        for _ in 0..LIST {
+            self.add(rt, alloc, manager, dice, counts)?;
+            keep(&mut self.located, located_in(manager, self.block))?;
+        }
+        Ok(())
+    }
+
+    /// Adds one call, and what it is answered.
+    fn add<R: Threads + Wait + Sync>(
+        &mut self,
+        rt: &R,
+        alloc: Global,
+        manager: &mut Manager,
+        dice: &mut Dice,
+        counts: &mut Counts,
+    ) -> Result<(), AllocError> {
+        let call = drawing::call(dice, alloc)?;
+        let answer = manager.answer(rt, &NoGate, &call);
+        counts.add(&call, &answer);
+        let kept = keep(&mut self.calls, call);
+        keep(&mut self.answers, answer)?;
+        kept
+    }
+}
+
+fn keep<T: Drop>(items: &mut Vec<T>, item: T) -> Result<(), AllocError> {
+    items.push(item)?;
+    Ok(())
 }
 
 /// Rounds with few commands, and copies that are soon given up.
@@ -112,13 +172,32 @@ fn beside_once<R: Threads + Wait + Sync>(
     alloc: Global,
     list: &List,
 ) -> Result<u32, Refusal> {
-    let mut manager = Manager::new(alloc, config(SHARDS, WORKERS))?;
-    let (mut publisher, mut locators) = open_view(rt, alloc, 2)?;
-    let wrong = match (locators.pop(), locators.pop()) {
-        (Some(one), Some(other)) => {
-            beside_both(rt, alloc, list, &mut manager, &mut publisher, one, other)
+    match Manager::new(alloc, config(SHARDS, WORKERS)) {
+        Ok(mut manager) => {
+            let wrong = beside_view(rt, alloc, list, &mut manager);
+            drop(manager);
+            wrong
         }
-        _ => Ok(1),
+        Err(refusal) => Err(refusal),
+    }
+}
+
+fn beside_view<R: Threads + Wait + Sync>(
+    rt: &R,
+    alloc: Global,
+    list: &List,
+    manager: &mut Manager,
+) -> Result<u32, Refusal> {
+    let (mut publisher, mut locators) = open_view(rt, alloc, 2)?;
+    let wrong = match locators.pop() {
+        Some(one) => match locators.pop() {
+            Some(other) => beside_both(rt, alloc, list, manager, &mut publisher, one, other),
+            None => {
+                drop(one);
+                Ok(1)
+            }
+        },
+        None => Ok(1),
     };
     publisher.end(rt);
     wrong
@@ -149,28 +228,94 @@ fn beside<J: Home + Send + Sync, R: Threads + Wait + Sync>(
 ) -> Result<u32, Refusal>
     requires { (publisher.old.home ≡ J.home) × ((one.home ≡ J.home) × (other.home ≡ J.home)) }
 {
-    let (to_one, from_one) = unbounded(alloc)?;
-    let (to_other, from_other) = unbounded(alloc)?;
-    let (answers, (first, second)) = join(
+    match unbounded(alloc) {
+        Ok((to_one, from_one)) => {
+            let one = (one, from_one);
+            beside_one::<J, R>(rt, alloc, list, manager, publisher, to_one, one, other)
+        }
+        Err(error) => {
+            drop(one);
+            drop(other);
+            Err(Refusal::from(error))
+        }
+    }
+}
+
+/// The same, where one of the readers has its channel.
+fn beside_one<J: Home + Send + Sync, R: Threads + Wait + Sync>(
+    rt: &R,
+    alloc: Global,
+    list: &List,
+    manager: &mut Manager,
+    publisher: &mut Publisher,
+    to_one: Sender<Notice<J>>,
+    one: (Locator, Receiver<Notice<J>>),
+    other: Locator,
+) -> Result<u32, Refusal>
+    requires { (publisher.old.home ≡ J.home) × ((one.0.home ≡ J.home) × (other.home ≡ J.home)) }
+{
+    match unbounded(alloc) {
+        Ok((to_other, from_other)) => {
+            let other = (other, from_other);
+            Ok(join_all::<J, R>(rt, list, manager, publisher, to_one, to_other, one, other))
+        }
+        Err(error) => {
+            drop(to_one);
+            drop(one);
+            drop(other);
+            Err(Refusal::from(error))
+        }
+    }
+}
+
+/// Makes the calls beside two threads that read.
+fn join_all<J: Home + Send + Sync, R: Threads + Wait + Sync>(
+    rt: &R,
+    list: &List,
+    manager: &mut Manager,
+    publisher: &mut Publisher,
+    to_one: Sender<Notice<J>>,
+    to_other: Sender<Notice<J>>,
+    one: (Locator, Receiver<Notice<J>>),
+    other: (Locator, Receiver<Notice<J>>),
+) -> u32
+    requires { (publisher.old.home ≡ J.home) × ((one.0.home ≡ J.home) × (other.0.home ≡ J.home)) }
+{
+    let (one, from_one) = one;
+    let (other, from_other) = other;
+    let (answers, reads) = join(
         rt,
         || -> u32
             requires { publisher.now.home ≡ J.home }
         { make_all::<J, R>(rt, list, manager, publisher, to_one, to_other) },
-        move || -> (u32, u32)
+        move || -> u32
             requires { (one.home ≡ J.home) × (other.home ≡ J.home) }
-        {
-            join(
-                rt,
-                move || -> u32
-                    requires { one.home ≡ J.home }
-                { read_beside::<J, R>(rt, list, one, from_one) },
-                move || -> u32
-                    requires { other.home ≡ J.home }
-                { read_beside::<J, R>(rt, list, other, from_other) },
-            )
-        },
+        { read_both::<J, R>(rt, list, one, from_one, other, from_other) },
     );
-    Ok(answers.saturating_add(first).saturating_add(second))
+    answers.saturating_add(reads)
+}
+
+/// Two threads read beside. How many reads of both are wrong.
+fn read_both<J: Home + Send + Sync, R: Threads + Wait + Sync>(
+    rt: &R,
+    list: &List,
+    one: Locator,
+    from_one: Receiver<Notice<J>>,
+    other: Locator,
+    from_other: Receiver<Notice<J>>,
+) -> u32
+    requires { (one.home ≡ J.home) × (other.home ≡ J.home) }
+{
+    let (first, second) = join(
+        rt,
+        move || -> u32
+            requires { one.home ≡ J.home }
+        { read_beside::<J, R>(rt, list, one, from_one) },
+        move || -> u32
+            requires { other.home ≡ J.home }
+        { read_beside::<J, R>(rt, list, other, from_other) },
+    );
+    first.saturating_add(second)
 }
 
 /// Makes the calls, publishes after each, and tells each reader of it. How many answers differ, or can't be told.
@@ -186,13 +331,24 @@ fn make_all<J: Home, R: Threads + Wait + Sync>(
 {
     let mut wrong = 0u32;
     for (call, answer) in list.calls.iter().zip(list.answers.iter()) {
-        let told = manager.answer(rt, &NoGate, call);
-        let is_told = are_alike(answer, &told)
+        let is_told = is_answered(rt, manager, call, answer)
             && publish_to::<J, R>(rt, manager, publisher, &to_one)
             && publish_to::<J, R>(rt, manager, publisher, &to_other);
         wrong = wrong.saturating_add(u32::from(!is_told));
     }
     wrong
+}
+
+fn is_answered<R: Threads + Wait + Sync>(
+    rt: &R,
+    manager: &mut Manager,
+    call: &Call,
+    answer: &Answer,
+) -> bool {
+    let told = manager.answer(rt, &NoGate, call);
+    let is_alike = are_alike(answer, &told);
+    drop(told);
+    is_alike
 }
 
 /// Publishes what stands, and sends a reader the receipt. Whether that was had.

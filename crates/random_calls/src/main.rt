@@ -24,7 +24,7 @@ use bm_crew::NoGate;
 use bm_manager::Manager;
 use counts::Counts;
 use dice::Dice;
-use std::alloc::Global;
+use std::alloc::{AllocError, Global};
 use std::env;
 use std::process::ExitCode;
 use std::rt::Runtime;
@@ -128,27 +128,18 @@ fn list_alike<R: Eprint + Threads + Wait + Sync>(
     counts: &mut Counts,
     count: u32,
 ) -> Result<bool, Refusal> {
-    let other = drawn(dice);
-    let one = Config {
-        shards: 1,
-        workers: 1,
-        ..other
-    };
-    let mut pair = Pair {
-        one: Manager::new(alloc, one)?,
-        other: Manager::with_secret(alloc, other, HashSecret::of(1))?,
-        config: other,
-    };
-    for number in 0..count {
-        let call = drawing::call(dice, alloc)?;
-        if !pair.answer_alike(rt, counts, number, &call) {
-            return Ok(false);
+    match Pair::new(alloc, drawn(dice)) {
+        Ok(mut pair) => {
+            let are_alike = pair.all_alike(rt, alloc, dice, counts, count);
+            drop(pair);
+            Ok(are_alike?)
         }
+        Err(refusal) => Err(refusal),
     }
-    Ok(true)
 }
 
-/// Two managers that differ in shards and workers.
+/// Two managers that differ in shards and workers. These, calls and answers are let go by `drop`: its proof is one for all functions, and
+/// that of a value which goes at the end of its scope is one for each.
 #[derive(Drop)]
 struct Pair {
     one: Manager,
@@ -158,6 +149,53 @@ struct Pair {
 }
 
 impl Pair {
+    fn new(alloc: Global, config: Config) -> Result<Pair, Refusal> {
+        let alone = Config {
+            shards: 1,
+            workers: 1,
+            ..config
+        };
+        let one = Manager::new(alloc, alone)?;
+        match Manager::with_secret(alloc, config, HashSecret::of(1)) {
+            Ok(other) => Ok(Pair { one, other, config }),
+            Err(refusal) => {
+                drop(one);
+                Err(refusal)
+            }
+        }
+    }
+
+    /// Whether both answer so many calls alike, which are drawn.
+    fn all_alike<R: Eprint + Threads + Wait + Sync>(
+        &mut self,
+        rt: &R,
+        alloc: Global,
+        dice: &mut Dice,
+        counts: &mut Counts,
+        count: u32,
+    ) -> Result<bool, AllocError> {
+        for number in 0..count {
+            if !self.next_alike(rt, alloc, dice, counts, number)? {
+                return Ok(false);
+            }
+        }
+        Ok(true)
+    }
+
+    fn next_alike<R: Eprint + Threads + Wait + Sync>(
+        &mut self,
+        rt: &R,
+        alloc: Global,
+        dice: &mut Dice,
+        counts: &mut Counts,
+        number: u32,
+    ) -> Result<bool, AllocError> {
+        let call = drawing::call(dice, alloc)?;
+        let is_alike = self.answer_alike(rt, counts, number, &call);
+        drop(call);
+        Ok(is_alike)
+    }
+
     /// Whether both answer the call alike, and not by want of memory.
     fn answer_alike<R: Eprint + Threads + Wait + Sync>(
         &mut self,
@@ -174,6 +212,8 @@ impl Pair {
         } else {
             tell_apart(rt, &self.config, number, call, &answer, &told);
         }
+        drop(answer);
+        drop(told);
         is_fine
     }
 }
