@@ -37,23 +37,27 @@ some_of_cond false n i e = cc
 pub place-found : {A : Type 0} (p : A → Bool) (xs : List A) (i : ℕ) → Some i ≡ position p xs → i ≡ position_or_len p xs
 place-found p xs i e = sym (some_of_cond _ _ i (sym e))
 
-module _ {Y : Type 0} (keys : List (String Y)) where
-  -- a name that was found
-  pub number-found : (name : Text) (i : ℕ) → Some i ≡ position (λ k. bytes_eq name (string_bytes k)) keys → i + 1 ≡ name_number (map string_bytes keys) name
-  number-found name i e = ap (λ n. n + 1) (place-found _ keys i e ∙ sym (position_or_len-map (bytes_eq name) string_bytes keys))
+-- a name that was found
+pub number-found : (names : List Text) (name : Text) (i : ℕ) → Some i ≡ position (bytes_eq name) names → i + 1 ≡ name_number names name
+number-found names name i e = ap (λ n. n + 1) (place-found (bytes_eq name) names i e)
 
+pub names-found : (names : List Text) (name : Text) → false ≡ is_new names name → names ≡ with_name names name
+names-found names name e = rw (← e) refl
+
+none_said : (b : Bool) → not b ≡ true → b ≡ false
+none_said true e = cc
+none_said false e = refl
+
+module _ {Y : Type 0} (keys : List (String Y)) where
   pub new-known : (name : Text) (b : Bool) → b ≡ list_any (λ k. bytes_eq name (string_bytes k)) keys → not b ≡ is_new (map string_bytes keys) name
   new-known name b e = ap not (e ∙ sym (list_any-map (bytes_eq name) string_bytes keys))
-
-  pub names-found : (name : Text) → false ≡ is_new (map string_bytes keys) name → map string_bytes keys ≡ with_name (map string_bytes keys) name
-  names-found name e = rw (← e) refl
 
   -- a name that was put in
   pub number-put : (k : String Y) (name : Text) → string_bytes k ≡ name → position_or_len (string_eq k) keys + 1 ≡ name_number (map string_bytes keys) name
   number-put k name e = ap (λ n. n + 1) (ap (λ t. position_or_len (λ x. bytes_eq t (string_bytes x)) keys) e ∙ sym (position_or_len-map (bytes_eq name) string_bytes keys))
 
-  pub names-put : (k : String Y) (name : Text) → string_bytes k ≡ name → false ≡ list_any (λ k. bytes_eq name (string_bytes k)) keys → map string_bytes (insert_key string_eq keys k) ≡ with_name (map string_bytes keys) name
-  names-put k name e none =
-      let any : list_any (string_eq k) keys ≡ false = ap (λ t. list_any (λ x. bytes_eq t (string_bytes x)) keys) e ∙ sym none in
-      let here : is_new (map string_bytes keys) name ≡ true = sym (new-known name false none) in
+  pub names-put : (k : String Y) (name : Text) → string_bytes k ≡ name → is_new (map string_bytes keys) name ≡ true → map string_bytes (insert_key string_eq keys k) ≡ with_name (map string_bytes keys) name
+  names-put k name e here =
+      let none : list_any (λ x. bytes_eq name (string_bytes x)) keys ≡ false = sym (list_any-map (bytes_eq name) string_bytes keys) ∙ none_said _ here in
+      let any : list_any (string_eq k) keys ≡ false = ap (λ t. list_any (λ x. bytes_eq t (string_bytes x)) keys) e ∙ none in
       rw (any, here) (map-push string_bytes keys k ∙ ap (λ t. map string_bytes keys ++ t ∷ []) e)

@@ -1,13 +1,11 @@
 -- The blocks that a text names are those of its cluster, each once.
-use Rattle.std.proofs.Common.{◌≡◌, ℕ, ◌+◌, ◌==◌, arith, Bool, true, false, ◌||◌, nat_eq, List, [], ◌∷◌, ◌++◌, Option, Some, None, Result, Ok, Err, map, refl, sym, ap, subst, ◌∙◌, append_assoc, if◌then◌else◌, true≢false}
+use Rattle.std.proofs.Common.{◌≡◌, ℕ, ◌+◌, ◌==◌, arith, Bool, true, false, ◌||◌, nat_eq, List, [], ◌∷◌, ◌++◌, Option, Some, Result, Ok, Err, map, refl, sym, ap, subst, ◌∙◌, append_assoc, if◌then◌else◌, true≢false}
 use Rattle.std.specs.List.{flat_map, list_any}
 use Rattle.std.specs.Str.{is_utf8}
 use Rattle.std.proofs.lemmas.List.{append-nil}
 use Rattle.std.specs.List.Sorted.{IsPermutation}
 use Rattle.std.proofs.lemmas.List.Sorted.{IsPermutation-refl}
 use Rattle.bm_base.specs.Lists.{has, has_repeats}
-use Rattle.std.specs.Io.KnownBytes.{Appends, Keeps}
-use Rattle.bm_base.specs.declared.call.Call.{Call}
 use Rattle.bm_base.specs.declared.replica.BlockInfo.{BlockInfo}
 use Rattle.bm_base.specs.declared.replica.Stamp.{Stamp}
 use Rattle.bm_lines.specs.Lines.{lines_of}
@@ -28,15 +26,12 @@ use Rattle.fsck_import.specs.declared.part.Part.TheVariants as part
 use Rattle.fsck_import.specs.declared.line.BlockTold.{BlockTold}
 use Rattle.fsck_import.specs.declared.line.Refusal.{Refusal}
 use Rattle.fsck_import.specs.declared.line.Refusal.TheVariants as refusal
-use Rattle.fsck_import.specs.declared.fault.Fault.{Fault}
-use Rattle.fsck_import.specs.declared.fault.Fault.TheVariants as fault
 use Rattle.fsck_import.specs.CallsFor.{calls_for}
-use Rattle.fsck_import.specs.Writing.{Tells, IsWriteFault}
-use Rattle.fsck_import.specs.Importing.{TellsCluster, IsRunFault, WritesNothing}
+use Rattle.fsck_import.specs.Writing.{Tells}
+use Rattle.fsck_import.specs.Importing.{TellsCluster}
 use Rattle.fsck_import.proofs.NameLemmas.{list_any-map}
 use Rattle.fsck_import.proofs.ToldLemmas.{Reports, TellsOnce, words_report, nothing_more, nothing_once, block_once, told_reported, each_once}
 use Rattle.fsck_import.proofs.CallLemmas.{numbers_added-calls, adds_first}
-use Rattle.fsck_import.specs.declared.fault.Unread.{Unread}
 use Rattle.fsck_import.specs.declared.cluster.Cluster.{Cluster}
 
 -- the numbers of the blocks of a cluster
@@ -226,42 +221,16 @@ reported text c remaining e =
     let none : TellsOnce [] [] = record { among = λ storage id h. refl; once = λ storage id. omega arith } in
     (same, each_once _ _ same (grows.tells [] none).once)
 
--- what stands written after a flush
-flushed : (a b d : Option Text) (xs : Text) → Appends a b xs → Keeps b d → Appends a d xs
-flushed None b d xs h k = tt
-flushed (Some a) None d xs h k = absurd h
-flushed (Some a) (Some b) None xs h k = k
-flushed (Some a) (Some b) (Some d) xs h k = k ∙ h
-
 -- what a run that succeeds shows
-pub tells_cluster : (text : Text) (remaining : ℕ) (c : Cluster) (calls : List Call) (a b d : Option Text)
-    → cluster_of text ≡ Ok c → calls ≡ calls_for c remaining → Tells calls a b → Keeps b d → TellsCluster text remaining a d
-tells_cluster text remaining c calls a b d told are tells kept =
-    let now : Tells (calls_for c remaining) a b = subst (λ ks. Tells ks a b) are tells in
+pub tells_cluster : (text : Text) (remaining : ℕ) (c : Cluster) (a d : Option Text) → cluster_of text ≡ Ok c → Tells (calls_for c remaining) a d → TellsCluster text remaining a d
+tells_cluster text remaining c a d told tells =
     record {
       cluster = c;
       told = told;
-      tells = record { written = flushed a b d _ now.written kept; read = now.read; short = now.short };
+      tells = tells;
       added = numbers_added-calls c remaining ∙ (named text c told).0;
       once = (named text c told).1;
       adds_first = adds_first c remaining;
       reported = (reported text c remaining told).0;
       reported_once = (reported text c remaining told).1;
     }
-
--- a fault of writing is no refusal
-pub write_fault : (f : Fault) (t : Result Cluster Unread) → IsWriteFault f → IsRunFault f t
-write_fault (fault.Refused unread) t h = absurd h
-write_fault fault.Memory t h = tt
-write_fault fault.Read t h = tt
-write_fault fault.Write t h = tt
-write_fault fault.Table t h = absurd h
-write_fault fault.LongReport t h = tt
-
-pub writes_nothing : {W : Type 0} (f : Fault) (old new : W) → IsWriteFault f → WritesNothing f old new
-writes_nothing (fault.Refused unread) old new h = absurd h
-writes_nothing fault.Memory old new h = tt
-writes_nothing fault.Read old new h = absurd h
-writes_nothing fault.Write old new h = tt
-writes_nothing fault.Table old new h = absurd h
-writes_nothing fault.LongReport old new h = tt

@@ -1,5 +1,5 @@
 -- One more line of a text that is known.
-use Rattle.std.proofs.Common.{◌≡◌, ℕ, ◌+◌, ◌<◌, [], ◌∷◌, ◌++◌, Option, Some, None, IfSome, IfOk, IfErr, Result, Ok, Err, length, arith, refl, sym, ap, subst, ◌∙◌}
+use Rattle.std.proofs.Common.{◌≡◌, ℕ, ◌+◌, ◌<◌, [], ◌∷◌, ◌++◌, Option, Some, None, IfSome, OnOk, IfErr, Result, Ok, Err, length, arith, refl, sym, ap, subst, ◌∙◌}
 use Rattle.std.specs.Io.BufRead.{take_through, drop_through}
 use Rattle.std.specs.Io.KnownBytes.{IsAtEnd}
 use Rattle.bm_lines.specs.Lines.{lines_of}
@@ -31,12 +31,12 @@ end_told o rest n c e h =
 
 -- what comes of the end of a text, where the text tells it too
 module _ (after : Result Cluster Unread) (o : Option Text) (told : (text : Text) → o ≡ Some text → cluster_of text ≡ after) where
-  pub end_text : (r : Result Cluster Fault) → IfOk r (λ c. after ≡ Ok c) → IfOk r (λ c. IfSome o (λ text. cluster_of text ≡ Ok c))
-  end_text (Ok c) h = each_some o (λ text e. told text e ∙ h)
-  end_text (Err f) h = tt
+  pub end_text : {U : Type 0} (c : Cluster) (r : Result U Fault) → OnOk r (after ≡ Ok c) → OnOk r (IfSome o (λ text. cluster_of text ≡ Ok c))
+  end_text c (Ok u) h = each_some o (λ text e. told text e ∙ h)
+  end_text c (Err f) h = tt
 
-  pub end_refused : (r : Result Cluster Fault) → IfErr r (λ f. IsReadFault f after) → IfErr r (λ f. IfSome o (λ text. IsReadFault f (cluster_of text)))
-  end_refused (Ok c) h = tt
+  pub end_refused : {U : Type 0} (r : Result U Fault) → IfErr r (λ f. IsReadFault f after) → IfErr r (λ f. IfSome o (λ text. IsReadFault f (cluster_of text)))
+  end_refused (Ok u) h = tt
   end_refused (Err f) h = each_some o (λ text e. subst (IsReadFault f) (sym (told text e)) h)
 
 -- what a read of a line leaves, and which line it is

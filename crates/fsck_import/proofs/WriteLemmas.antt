@@ -2,7 +2,7 @@
 use Rattle.std.proofs.Common.{◌≡◌, ◌≤◌, List, [], ◌∷◌, ◌++◌, Option, Some, None, map, length, refl, sym, ap, ◌∙◌, subst, append_assoc, append-nil}
 use Rattle.std.specs.List.{AllByRecursion}
 use Rattle.std.proofs.lemmas.Grind.{flat_map-append}
-use Rattle.std.specs.Io.KnownBytes.{Appends}
+use Rattle.std.specs.Io.KnownBytes.{Appends, Keeps}
 use Rattle.bm_base.specs.declared.call.Call.{Call}
 use Rattle.bm_lines.specs.Asking.{line_text}
 use Rattle.bm_lines.specs.CallOf.{call_of}
@@ -64,3 +64,13 @@ all_told calls a b told = record {
   read = ap (map call_of) (lines-told calls told.each) ∙ calls-told calls told.each;
   short = subst (AllByRecursion (λ line. length line ≤ 4194304)) (sym (lines-told calls told.each)) (short-told calls told.each);
 }
+
+-- what stands written after a flush
+flushed : (a b d : Option Text) (xs : Text) → Appends a b xs → Keeps b d → Appends a d xs
+flushed None b d xs h k = tt
+flushed (Some a) None d xs h k = absurd h
+flushed (Some a) (Some b) None xs h k = k
+flushed (Some a) (Some b) (Some d) xs h k = k ∙ h
+
+pub still_tells : (calls : List Call) (a b d : Option Text) → Tells calls a b → Keeps b d → Tells calls a d
+still_tells calls a b d tells kept = record { written = flushed a b d _ tells.written kept; read = tells.read; short = tells.short }

@@ -1,9 +1,10 @@
 // The calls that tell a manager of a cluster.
-ghost use Rattle.std.specs.Prelude.{◌≡◌, IfOk, map};
+ghost use Rattle.std.specs.Prelude.{◌≡◌, ◌==◌, ◌++◌, IfOk, map};
+ghost use Rattle.fsck_import.specs.Blocks.{add};
 ghost use Rattle.fsck_import.specs.CallsFor.{storages_of, register, remaining_on, heartbeat, report, calls_for};
 
 use crate::cluster::{Cluster, NodeRow};
-use crate::rows::Row;
+use crate::rows::{Row, Rows};
 use bm_base::{Call, Event, Items, NodeId, Rack, Remaining, StorageId};
 use std::alloc::{AllocError, Global};
 
@@ -13,28 +14,45 @@ impl Cluster {
     pub fn into_calls(self, alloc: Global, remaining: u64) -> Result<Vec<Call>, AllocError>
         ensures { IfOk result (λ calls. calls.items ≡ calls_for self remaining) }
     {
-        let Cluster {
-            racks: _,
-            nodes: _,
-            node_rows,
-            storages: _,
-            rows,
-            blocks,
-            target: _,
-            announced: _,
-            before: _,
-            part: _,
-        } = self;
-        let nodes = node_rows.as_slice();
-        let mut calls = registers(alloc, nodes, rows.as_slice())?;
-        let mut told = heartbeats(alloc, nodes, rows.as_slice(), remaining)?;
-        calls.append(&mut told)?;
-        let mut added = blocks.adds(alloc)?;
-        calls.append(&mut added)?;
-        let mut reported = reports(alloc, rows.into_vec())?;
-        calls.append(&mut reported)?;
-        Ok(calls)
+        let calls = self.calls_before_reports(alloc, remaining)?;
+        with_reports(alloc, calls, self.into_rows())
     }
+
+    /// All calls but the reports.
+    fn calls_before_reports(&self, alloc: Global, remaining: u64) -> Result<Vec<Call>, AllocError>
+        ensures { IfOk result (λ calls. calls.items
+            ≡ map (register self.now.rows) self.now.node_rows
+            ++ map (heartbeat self.now.rows remaining) self.now.node_rows
+            ++ map add self.now.blocks) }
+    {
+        let nodes = self.node_rows.as_slice();
+        let rows = self.rows.as_slice();
+        let calls = registers(alloc, nodes, rows)?;
+        let calls = joined(calls, heartbeats(alloc, nodes, rows, remaining)?)?;
+        joined(calls, self.blocks.adds(alloc)?)
+    }
+
+    fn into_rows(self) -> Rows
+        ensures { result ≡ self.rows }
+    {
+        let Cluster { rows, .. } = self;
+        rows
+    }
+}
+
+/// With the report of each storage behind these calls.
+fn with_reports(alloc: Global, calls: Vec<Call>, rows: Rows) -> Result<Vec<Call>, AllocError>
+    ensures { IfOk result (λ all. all.items ≡ calls.items ++ map report rows) }
+{
+    joined(calls, reports(alloc, rows.into_vec())?)
+}
+
+/// With more calls behind these.
+fn joined(mut calls: Vec<Call>, mut more: Vec<Call>) -> Result<Vec<Call>, AllocError>
+    ensures { IfOk result (λ all. all.items ≡ calls.items ++ more.items) }
+{
+    calls.append(&mut more)?;
+    Ok(calls)
 }
 
 /// The storages of a node.
@@ -42,9 +60,16 @@ fn storages_of(alloc: Global, rows: &[Row], node: u32) -> Result<Vec<StorageId>,
     ensures { IfOk result (λ v. v.items ≡ storages_of rows.now node) }
 {
     rows.iter()
-        .filter(|row| row.node == node)
+        .filter(|row| stands_on(row, node))
         .map(|row| StorageId(row.number))
         .collect(alloc)
+}
+
+/// Whether a storage is on this node.
+fn stands_on(row: &Row, node: u32) -> bool
+    ensures { result ≡ (row.now.node == node) }
+{
+    row.node == node
 }
 
 /// Each node comes with its storages.

@@ -1,6 +1,6 @@
 // What the lines of the text said so far of a cluster.
 ghost use Rattle.std.specs.Prelude.{◌≡◌, Ok, Err, Some, IfOk, OnOk, IfErr, option_copied};
-ghost use Rattle.fsck_import.specs.Clusters.{no_cluster, wanted, with_place, with_places, row_of, rack_at, is_on, is_there, are_there, seen, is_next, lacks_blocks, after_block, after_next, after_heading, after_files, after_said, after_line, after_bytes, at_end, IsCause};
+ghost use Rattle.fsck_import.specs.Clusters.{no_cluster, wanted, with_place, with_places, row_of, rack_at, is_on, is_there, are_there, seen, is_next, lacks_blocks, after_block, after_next, after_heading, after_files, after_said, after_line, after_bytes, is_whole, IsCause};
 
 use crate::blocks::Blocks;
 use crate::fault::LineFault;
@@ -104,15 +104,11 @@ impl Cluster {
         Ok(())
     }
 
-    /// The whole cluster, at the end of the text.
-    pub fn at_end(self) -> Result<Cluster, Refusal>
-        ensures { result ≡ at_end self }
+    /// Whether the text is told to its end.
+    pub fn is_whole(&self) -> bool
+        ensures { result ≡ is_whole self.now.part }
     {
-        if self.part == Part::Behind {
-            Ok(self)
-        } else {
-            Err(Refusal::CutOff)
-        }
+        is_whole(self.part)
     }
 
     /// Takes the heading of a file.
@@ -315,13 +311,19 @@ impl Cluster {
     }
 }
 
+/// Whether the last line was told.
+fn is_whole(part: Part) -> bool
+    ensures { result ≡ is_whole part }
+{
+    matches!(part, Part::Behind)
+}
+
 /// How many replicas of a block are wanted: as many as was told of its file, else as many as are live, and at least one.
 fn wanted(target: Option<u32>, live: Option<u32>) -> u32
     ensures { result ≡ wanted target live }
 {
-    match (target, live) {
-        (Some(count), _) => count,
-        (None, Some(count)) if count > 0 => count,
-        _ => 1,
+    match target {
+        Some(count) => count,
+        None => live.unwrap_or(1).max(1),
     }
 }

@@ -1,14 +1,18 @@
 // A whole run, from a reader to a writer.
-ghost use Rattle.std.specs.Prelude.{◌≡◌, Ok, IfSome, IfErr, OnOk};
+ghost use Rattle.std.specs.Prelude.{◌≡◌, ◌⊎◌, Ok, IfSome, IfErr, OnOk};
+ghost use Rattle.std.specs.Io.KnownBytes.{Appends};
+ghost use Rattle.fsck_import.specs.CallsFor.{calls_for};
 ghost use Rattle.fsck_import.specs.Reading.{cluster_of};
-ghost use Rattle.fsck_import.specs.NameTable.{TellsNames};
+ghost use Rattle.fsck_import.specs.NameTable.{TellsNames, table_of};
+ghost use Rattle.fsck_import.specs.Writing.{Tells, IsTableFault, IsWriteFault};
 ghost use Rattle.fsck_import.specs.Importing.{TellsCluster, IsRunFault, WritesNothing};
 
+use crate::cluster::Cluster;
 use crate::destination::Destination;
 use crate::fault::Fault;
 use crate::name_table::table_of;
 use crate::reading::read_cluster;
-use crate::writing::write_calls;
+use crate::writing::write_flushed;
 use std::alloc::Global;
 use std::io::{BufRead, Write};
 
@@ -32,16 +36,33 @@ pub fn import<R: BufRead, W: Write, N: Destination>(
     ensures nothing_named { IfErr result (λ f. WritesNothing f names.old names.new) }
 {
     let cluster = read_cluster(alloc, reader)?;
-    let table = table_of(alloc, &cluster)?;
-    if let Err(fault) = names.put(table.as_str()) {
+    if let Err(fault) = put_names(alloc, &cluster, names) {
         return Err(fault);
     }
+    write_cluster(alloc, writer, cluster, remaining)
+}
+
+/// Hands over the table of a cluster's names.
+fn put_names<N: Destination>(alloc: Global, cluster: &Cluster, names: &mut N) -> Result<(), Fault>
+    ensures held { OnOk result
+        (Appends (N.contents names.old) (N.contents names.new) (table_of cluster.now)) }
+    ensures faults { IfErr result (λ f. (f ≡ Fault.Memory) ⊎ IsTableFault f) }
+{
+    let table = table_of(alloc, cluster)?;
+    names.put(table.as_str())
+}
+
+/// Writes the lines that tell of a cluster.
+fn write_cluster<W: Write>(
+    alloc: Global,
+    writer: &mut W,
+    cluster: Cluster,
+    remaining: u64,
+) -> Result<(), Fault>
+    ensures tells { OnOk result (Tells (calls_for cluster remaining)
+        (W.contents writer.old) (W.contents writer.new)) }
+    ensures faults { IfErr result IsWriteFault }
+{
     let calls = cluster.into_calls(alloc, remaining)?;
-    if let Err(fault) = write_calls(alloc, writer, calls.as_slice()) {
-        return Err(fault);
-    }
-    if writer.flush().is_err() {
-        return Err(Fault::Write);
-    }
-    Ok(())
+    write_flushed(alloc, writer, calls.as_slice())
 }

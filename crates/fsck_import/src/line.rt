@@ -8,7 +8,7 @@ use crate::so_far::{BlockSoFar, LineSoFar};
 use crate::word::{Word, word_of};
 use bm_base::{BlockId, Stamp};
 use std::alloc::{AllocError, Global};
-use thiserror::Error;
+use std::fmt;
 
 /// What a line says.
 #[derive(Drop)]
@@ -51,53 +51,70 @@ pub struct BlockTold {
 }
 
 /// Why a line is not taken.
-#[derive(Clone, Copy, Debug, PartialEq, Eq, Error)]
+#[derive(Clone, Copy, Debug, PartialEq, Eq)]
 pub enum Refusal {
-    #[error("the line is not UTF-8")]
     NotText,
     /// It begins with the index of a block, and does not go on as a block's line.
-    #[error("the line of a block that cannot be read")]
     NotABlock,
     /// A word of a list that is no place, or places with something else than a comma and a space between them.
-    #[error("the places of the block cannot be read")]
     NotPlaces,
-    #[error("the name, the length, the live replicas or the wanted ones are told twice")]
     ToldTwice,
-    #[error("places of the block are told, and that there is none")]
     PlaceAndNone,
     /// So many replicas are live, or it is not told how many, and the line has no list of places.
-    #[error("a replica of the block may be live, and no place is told")]
     LiveNoPlace,
-    #[error("the number of wanted replicas cannot be read")]
     NotATarget,
-    #[error("two numbers of wanted replicas for one file")]
     TwoTargets,
-    #[error("the number of the block is below 0")]
     NegativeBlock,
-    #[error("the file is erasure coded")]
     ErasureCoded,
-    #[error("no heading of a file stands before the block")]
     NoHeading,
     /// Another index than that of the next block of the file, or more blocks than its heading announces.
-    #[error("the index is not that of the next block of the file")]
     NotNext,
     /// At the next heading or the summary.
-    #[error("fewer blocks of the file before were told than its heading announces")]
     BlockLeftOut,
-    #[error("the block was named before")]
     NamedTwice,
-    #[error("two places of the block have one storage")]
     StorageTwice,
-    #[error("a storage is told on another node than before, or a node on another rack")]
     Elsewhere,
-    #[error("the number of wanted replicas is not between 1 and 16")]
     BadReplication,
     /// fsck's first line behind itself or a file, what files hold behind the summary's first line, a wanted number behind a file's
     /// blocks, the last line before the summary, or anything behind the last line.
-    #[error("the line may not stand in this part of the text")]
     OutOfPlace,
-    #[error("the text ends before the last line of fsck")]
     CutOff,
+}
+
+impl Refusal {
+    /// What is said of it.
+    fn text(self) -> &'static str {
+        match self {
+            Refusal::NotText => "the line is not UTF-8",
+            Refusal::NotABlock => "the line of a block that cannot be read",
+            Refusal::NotPlaces => "the places of the block cannot be read",
+            Refusal::ToldTwice =>
+                "the name, the length, the live replicas or the wanted ones are told twice",
+            Refusal::PlaceAndNone => "places of the block are told, and that there is none",
+            Refusal::LiveNoPlace => "a replica of the block may be live, and no place is told",
+            Refusal::NotATarget => "the number of wanted replicas cannot be read",
+            Refusal::TwoTargets => "two numbers of wanted replicas for one file",
+            Refusal::NegativeBlock => "the number of the block is below 0",
+            Refusal::ErasureCoded => "the file is erasure coded",
+            Refusal::NoHeading => "no heading of a file stands before the block",
+            Refusal::NotNext => "the index is not that of the next block of the file",
+            Refusal::BlockLeftOut =>
+                "fewer blocks of the file before were told than its heading announces",
+            Refusal::NamedTwice => "the block was named before",
+            Refusal::StorageTwice => "two places of the block have one storage",
+            Refusal::Elsewhere =>
+                "a storage is told on another node than before, or a node on another rack",
+            Refusal::BadReplication => "the number of wanted replicas is not between 1 and 16",
+            Refusal::OutOfPlace => "the line may not stand in this part of the text",
+            Refusal::CutOff => "the text ends before the last line of fsck",
+        }
+    }
+}
+
+impl fmt::Display for Refusal {
+    fn fmt<W: fmt::Write>(&self, f: &mut fmt::Formatter<W>) -> fmt::Result {
+        f.write_str(self.text())
+    }
 }
 
 /// The words of a line.

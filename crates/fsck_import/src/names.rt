@@ -1,5 +1,5 @@
 // The names of one kind, numbered from 1 in the order in which they were first said.
-ghost use Rattle.std.specs.Prelude.{◌≡◌, ◌+◌, IfOk, OnOk, [], position, bytes_eq};
+ghost use Rattle.std.specs.Prelude.{◌≡◌, ◌+◌, true, not, is_some, IfOk, OnOk, [], position, bytes_eq};
 ghost use Rattle.fsck_import.specs.Names.{is_new, name_number, name_of, with_name};
 
 use indexmap::IndexSet;
@@ -33,7 +33,7 @@ impl Names {
         ensures { result ≡ [] }
     {
         Names {
-            set: IndexSet::new(alloc),
+            set: no_keys(alloc),
         }
     }
 
@@ -56,17 +56,27 @@ impl Names {
         ensures new { IfOk result (λ r. r.1 ≡ is_new self.old name.now) }
         ensures names { OnOk result (self.new ≡ with_name self.old name.now) }
     {
-        if let Some(index) = self.set.get_index_of(name) {
-            return Ok((index, false));
+        match self.index(name) {
+            Some(index) => Ok((index, false)),
+            None => Ok((self.put(alloc, name)?, true)),
         }
+    }
+
+    /// Puts a new name at the end, and says where it stands.
+    fn put(&mut self, alloc: Global, name: &str) -> Result<usize, AllocError>
+        requires { is_new self.old name.now ≡ true }
+        ensures index { IfOk result (λ at. at + 1 ≡ name_number self.old name.now) }
+        ensures names { OnOk result (self.new ≡ with_name self.old name.now) }
+    {
         let key = String::from_str(alloc, name)?;
         let (index, _) = self.set.insert_full(key)?;
-        Ok((index, true))
+        Ok(index)
     }
 
     /// Where a name stands, if it was said.
     pub fn index(&self, name: &str) -> Option<usize>
-        ensures { result ≡ position (bytes_eq name.now) self.now }
+        ensures index { result ≡ position (bytes_eq name.now) self.now }
+        ensures new { not (is_some result) ≡ is_new self.now name.now }
     {
         self.set.get_index_of(name)
     }
@@ -80,4 +90,11 @@ impl Names {
             None => "",
         }
     }
+}
+
+/// A set of no names.
+fn no_keys(alloc: Global) -> IndexSet<String>
+    ensures { result.keys ≡ [] }
+{
+    IndexSet::new(alloc)
 }

@@ -1,6 +1,7 @@
 // The options of the program.
 ghost use Rattle.std.specs.Prelude.{◌≡◌, false, Some, IfOk, codes, map, option_map, string_bytes};
 ghost use Rattle.clap.specs.Words.{FailsBy, app_of, kind_of, rule_of};
+ghost use Rattle.clap.specs.Simple.{new_rule};
 ghost use Rattle.clap.specs.declared.error.kind.ErrorKind.TheVariants.{ValueValidation};
 ghost use Rattle.fsck_import.specs.Options.{given, option_rule, program, refusals_of, remaining_for};
 
@@ -62,11 +63,19 @@ fn option<'a>(alloc: Global, name: &'a str, value: &'a str, help: &'a str) -> Ar
     ensures rule { rule_of result ≡ option_rule name.entry.now }
     ensures local { result.global ≡ false }
 {
-    Arg::new(alloc, name)
+    named(alloc, name)
         .action(ArgAction::Set)
         .long(name)
         .value_name(value)
         .help(help)
+}
+
+/// An argument of which nothing but its name is said.
+fn named<'a>(alloc: Global, name: &'a str) -> Arg<'a>
+    ensures rule { rule_of result ≡ new_rule name.entry.now }
+    ensures local { result.global ≡ false }
+{
+    Arg::new(alloc, name)
 }
 
 /// The bytes that remain on each storage, by the option's text. `None` where it is no number below 2^64.

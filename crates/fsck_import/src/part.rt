@@ -15,7 +15,7 @@ const LAST_HEALTHY: &str = "' is HEALTHY";
 const LAST_CORRUPT: &str = "' is CORRUPT";
 
 /// Where in the text a line stands.
-#[derive(Clone, Copy, Debug, PartialEq, Eq, Drop)]
+#[derive(Clone, Copy, Drop)]
 pub enum Part {
     /// Neither fsck's first line nor a file was told yet.
     Before,

@@ -1,10 +1,11 @@
 // A whole text, from a reader.
 ghost use Rattle.std.specs.Prelude.{◌≡◌, Ok, Err, IfOk, IfErr, IfSome, OnOk, ◌⊎◌};
 ghost use Rattle.fsck_import.specs.Reading.{cluster_of, without_end, at_line, IsReadFault};
-ghost use Rattle.fsck_import.specs.Clusters.{after_bytes, at_end};
+ghost use Rattle.fsck_import.specs.Clusters.{no_cluster, after_bytes, at_end};
 
 use crate::cluster::Cluster;
 use crate::fault::{Fault, LineFault, Unread};
+use crate::line::Refusal;
 use std::alloc::Global;
 use std::io;
 use std::io::{BufRead, ErrorKind};
@@ -17,16 +18,46 @@ pub fn read_cluster<R: BufRead>(alloc: Global, reader: &mut R) -> Result<Cluster
         (λ f. IfSome (R.remaining reader.old) (λ text. IsReadFault f (cluster_of text))) }
 {
     let mut cluster = Cluster::new(alloc);
+    if let Err(fault) = take_text(alloc, reader, &mut cluster) {
+        return Err(fault);
+    }
+    Ok(cluster)
+}
+
+/// Takes a whole text.
+fn take_text<R: BufRead>(alloc: Global, reader: &mut R, cluster: &mut Cluster) -> Result<(), Fault>
+    requires { cluster.old ≡ no_cluster }
+    ensures text { OnOk result (IfSome (R.remaining reader.old)
+        (λ text. cluster_of text ≡ Ok cluster.new)) }
+    ensures refused { IfErr result
+        (λ f. IfSome (R.remaining reader.old) (λ text. IsReadFault f (cluster_of text))) }
+{
+    let number = take_lines(alloc, reader, cluster)?;
+    ended(cluster, number)
+}
+
+/// Takes every line, and says which number the line behind the last would have.
+fn take_lines<R: BufRead>(
+    alloc: Global,
+    reader: &mut R,
+    cluster: &mut Cluster,
+) -> Result<u64, Fault>
+    requires { cluster.old ≡ no_cluster }
+    ensures text { IfOk result (λ n. IfSome (R.remaining reader.old)
+        (λ text. cluster_of text ≡ at_line n (at_end cluster.new))) }
+    ensures refused { IfErr result
+        (λ f. IfSome (R.remaining reader.old) (λ text. IsReadFault f (cluster_of text))) }
+{
     let mut line = Vec::new(alloc);
     for number in 1..u64::MAX {
         line.clear();
         match reader.read_until(b'\n', &mut line) {
-            Ok(0) => return ended(cluster, number),
+            Ok(0) => return Ok(number),
             Ok(_) => {}
             Err(error) => return Err(read_fault(&error)),
         }
         let told = without_end(line.as_slice());
-        if let Err(fault) = take_numbered(&mut cluster, alloc, number, told) {
+        if let Err(fault) = take_numbered(cluster, alloc, number, told) {
             return Err(fault);
         }
     }
@@ -51,14 +82,18 @@ fn take_numbered(
     }
 }
 
-/// The cluster at the end of the text, where a line of this number would come next.
-fn ended(cluster: Cluster, number: u64) -> Result<Cluster, Fault>
-    ensures text { IfOk result (λ c. at_line number (at_end cluster) ≡ Ok c) }
-    ensures refused { IfErr result (λ f. IsReadFault f (at_line number (at_end cluster))) }
+/// Whether a cluster is whole at the end of the text, where a line of this number would come next.
+fn ended(cluster: &Cluster, number: u64) -> Result<(), Fault>
+    ensures text { OnOk result (at_line number (at_end cluster.now) ≡ Ok cluster.now) }
+    ensures refused { IfErr result (λ f. IsReadFault f (at_line number (at_end cluster.now))) }
 {
-    match cluster.at_end() {
-        Ok(whole) => Ok(whole),
-        Err(why) => Err(Fault::Refused(Unread { line: number, why })),
+    if cluster.is_whole() {
+        Ok(())
+    } else {
+        Err(Fault::Refused(Unread {
+            line: number,
+            why: Refusal::CutOff,
+        }))
     }
 }
 

@@ -1,12 +1,13 @@
 // What no clause says: that texts as Hadoop writes them are read, what stands in the table of names, and streams that fail. The texts and
 // the lines that come of them are those of examples/fsck, written by hand from the rules in docs/FORMATS.md.
-use crate::destination::Stream;
+use crate::destination::{Destination, Stream};
 use crate::fault::{Fault, Unread};
 use crate::import::import;
 use crate::line::Refusal;
 use std::alloc::Global;
 use std::io;
-use std::io::{BufReader, Read, Write};
+use std::io::{BufRead, BufReader, Read, Write};
+use std::process::Abort;
 use std::test::Fail;
 
 const STORAGES: &str =
@@ -99,7 +100,7 @@ const FEW_WORDS_LINES: &str = "{\"op\":\"register\",\"node\":1,\"rack\":1,\"stor
 {\"op\":\"report\",\"storage\":3,\"blocks\":[[9,1,10]]}
 ";
 
-const REFUSED: [(&str, u64, Refusal); 49] = [
+static REFUSED: [(&str, u64, Refusal); 49] = [
     (
         "/a 12 bytes, 1 block(s):  OK\n0. blk_-2932_1001 len=12 repl=1 [10.4.1.1:50010]\n",
         2,
@@ -363,10 +364,60 @@ const UNTOLD_LINES: &str = "{\"op\":\"add\",\"id\":5,\"gen\":1,\"len\":5,\"repl\
 {\"op\":\"add\",\"id\":6,\"gen\":1,\"len\":5,\"repl\":1}
 ";
 
+/// A text, the bytes that remain on each storage, and the lines and the table of names that come of it, where the table is looked at.
+struct Case {
+    text: &'static str,
+    remaining: u64,
+    lines: &'static str,
+    names: Option<&'static str>,
+}
+
+static CASES: [Case; 4] = [
+    // Hadoop 3, with storages.
+    Case {
+        text: STORAGES,
+        remaining: 500,
+        lines: STORAGES_LINES,
+        names: Some(STORAGES_NAMES),
+    },
+    // Lines of files and blocks with less and less told.
+    Case {
+        text: FEW_WORDS,
+        remaining: 1_099_511_627_776,
+        lines: FEW_WORDS_LINES,
+        names: None,
+    },
+    // A path with words of a heading.
+    Case {
+        text: ODD_PATH,
+        remaining: 9,
+        lines: ODD_PATH_LINES,
+        names: None,
+    },
+    // Files of no blocks, and of a number that is not told.
+    Case {
+        text: UNTOLD,
+        remaining: 9,
+        lines: UNTOLD_LINES,
+        names: None,
+    },
+];
+
 fn no_names(alloc: Global) -> Stream<Vec<u8>> {
     Stream {
         writer: Vec::new(alloc),
     }
+}
+
+/// A run. Its contract is kept from the tests, which need none of it.
+fn import_all<R: BufRead, W: Write, N: Destination>(
+    alloc: Global,
+    reader: &mut R,
+    writer: &mut W,
+    names: &mut N,
+    remaining: u64,
+) -> Result<(), Fault> {
+    import(alloc, reader, writer, names, remaining)
 }
 
 /// The lines that are written for a text, and the table of names.
@@ -374,46 +425,40 @@ fn imported(alloc: Global, text: &str, remaining: u64) -> Result<(Vec<u8>, Vec<u
     let mut reader = text.as_bytes();
     let mut lines = Vec::new(alloc);
     let mut names = no_names(alloc);
-    import(alloc, &mut reader, &mut lines, &mut names, remaining)?;
+    import_all(alloc, &mut reader, &mut lines, &mut names, remaining)?;
     Ok((lines, names.writer))
 }
 
-#[test]
-fn a_text_of_hadoop_3_with_storages(rt: HostRuntime) -> Result<(), Fail> {
-    let (lines, names) = imported(rt.alloc(), STORAGES, 500)?;
-    assert!(rt; lines.as_slice() == STORAGES_LINES.as_bytes());
-    assert!(rt; names.as_slice() == STORAGES_NAMES.as_bytes());
+fn check_case(rt: &impl Abort, alloc: Global, case: &Case) -> Result<(), Fault> {
+    let (lines, names) = imported(alloc, case.text, case.remaining)?;
+    assert!(rt; lines.as_slice() == case.lines.as_bytes());
+    if let Some(told) = case.names {
+        assert!(rt; names.as_slice() == told.as_bytes());
+    }
     Ok(())
 }
 
 #[test]
-fn lines_of_files_and_blocks_with_less_and_less_told(rt: HostRuntime) -> Result<(), Fail> {
-    let (lines, _) = imported(rt.alloc(), FEW_WORDS, 1_099_511_627_776)?;
-    assert!(rt; lines.as_slice() == FEW_WORDS_LINES.as_bytes());
+fn lines_and_names_come_of_a_text(rt: HostRuntime) -> Result<(), Fail> {
+    for case in &CASES {
+        check_case(&rt, rt.alloc(), case)?;
+    }
     Ok(())
 }
 
-#[test]
-fn a_path_with_words_of_a_heading(rt: HostRuntime) -> Result<(), Fail> {
-    let (lines, _) = imported(rt.alloc(), ODD_PATH, 9)?;
-    assert!(rt; lines.as_slice() == ODD_PATH_LINES.as_bytes());
-    Ok(())
-}
-
-#[test]
-fn files_of_no_blocks_and_of_a_number_that_is_not_told(rt: HostRuntime) -> Result<(), Fail> {
-    let (lines, _) = imported(rt.alloc(), UNTOLD, 9)?;
-    assert!(rt; lines.as_slice() == UNTOLD_LINES.as_bytes());
-    Ok(())
+/// The line of a text that is refused, and why.
+fn refused(alloc: Global, text: &str) -> Option<Unread> {
+    match imported(alloc, text, 1) {
+        Err(Fault::Refused(unread)) => Some(unread),
+        _ => None,
+    }
 }
 
 #[test]
 fn the_first_line_that_is_refused_is_named(rt: HostRuntime) {
-    for (text, line, why) in REFUSED {
-        let result = imported(rt.alloc(), text, 1);
-        assert!(rt;
-            matches!(result, Err(Fault::Refused(Unread { line: l, why: w })) if l == line && w == why)
-        );
+    for (text, line, why) in &REFUSED {
+        let told = refused(rt.alloc(), text);
+        assert!(rt; matches!(told, Some(Unread { line: l, why: w }) if l == *line && w == *why));
     }
 }
 
@@ -454,7 +499,7 @@ fn a_failed_read_leaves_nothing_written(rt: HostRuntime) -> Result<(), Fail> {
     let mut reader = BufReader::new(rt.alloc(), failing)?;
     let mut lines: Vec<u8> = Vec::new(rt.alloc());
     let mut names = no_names(rt.alloc());
-    let result = import(rt.alloc(), &mut reader, &mut lines, &mut names, 1);
+    let result = import_all(rt.alloc(), &mut reader, &mut lines, &mut names, 1);
     assert_eq!(rt; result, Err(Fault::Read));
     assert!(rt; lines.is_empty() && names.writer.is_empty());
     Ok(())
@@ -464,7 +509,7 @@ fn a_failed_read_leaves_nothing_written(rt: HostRuntime) -> Result<(), Fail> {
 fn a_failed_write_is_told(rt: HostRuntime) {
     let mut reader = FEW_WORDS.as_bytes();
     let mut names = no_names(rt.alloc());
-    let result = import(rt.alloc(), &mut reader, &mut Broken, &mut names, 1);
+    let result = import_all(rt.alloc(), &mut reader, &mut Broken, &mut names, 1);
     assert_eq!(rt; result, Err(Fault::Write));
 }
 
@@ -473,7 +518,7 @@ fn no_line_comes_where_the_names_cannot_be_written(rt: HostRuntime) {
     let mut reader = FEW_WORDS.as_bytes();
     let mut lines: Vec<u8> = Vec::new(rt.alloc());
     let mut names = Stream { writer: Broken };
-    let result = import(rt.alloc(), &mut reader, &mut lines, &mut names, 1);
+    let result = import_all(rt.alloc(), &mut reader, &mut lines, &mut names, 1);
     assert_eq!(rt; result, Err(Fault::Write));
     assert!(rt; lines.is_empty());
 }

@@ -1,6 +1,7 @@
 // What a word of the text says by itself.
-ghost use Rattle.std.specs.Prelude.{◌≡◌, option_map, map};
-ghost use Rattle.fsck_import.specs.Words.{fixed_word, valued_word, name_part, block_named, index_of, listed_word, other_word, word_of};
+ghost use Rattle.std.specs.Prelude.{◌≡◌, Some, None, bytes_eq, codes, option_map, map, if◌then◌else◌};
+ghost use Rattle.fsck_import.specs.declared.word.Word.TheVariants.{Under, Target, Joining};
+ghost use Rattle.fsck_import.specs.Words.{fixed_word, valued_word, name_part, block_of, block_with, block_named, index_of, listed_word, other_word, word_of};
 
 use crate::cuts::{cut_at, number_of, small_number_of};
 use crate::place::{before_last, place_of};
@@ -71,6 +72,18 @@ fn fixed_word(word: &str) -> Option<Word<'_>>
         "erasure-coded:" => Some(Word::ErasureCoded),
         "block(s):" | "block(s)," => Some(Word::Heading),
         "bytes," => Some(Word::Bytes),
+        _ => problem_word(word),
+    }
+}
+
+/// Such a word of what tells of a problem.
+fn problem_word(word: &str) -> Option<Word<'_>>
+    ensures { result ≡ (if bytes_eq word.now (codes "Under") then Some Under
+        else (if bytes_eq word.now (codes "Target") then Some Target
+        else (if bytes_eq word.now (codes "Replicas") then Some Joining
+        else (if bytes_eq word.now (codes "is") then Some Joining else None)))) }
+{
+    match word {
         "Under" => Some(Word::Under),
         "Target" => Some(Word::Target),
         "Replicas" | "is" => Some(Word::Joining),
@@ -118,10 +131,25 @@ fn block_named(name: &str) -> Option<Word<'_>>
     if blk != "blk" {
         return None;
     }
+    block_with(id, generation)
+}
+
+/// The block of this number and this generation. A number below 0 has a minus.
+fn block_with<'a>(id: &'a str, generation: &'a str) -> Option<Word<'a>>
+    ensures { result ≡ block_with id.entry.now generation.entry.now }
+{
     match cut_at(id, '-') {
         Some(_) => Some(Word::NegativeBlock),
-        None => Some(Word::Block(BlockId(number_of(id)?), Gen(number_of(generation)?))),
+        None => block_of(id, generation),
     }
+}
+
+fn block_of<'a>(id: &'a str, generation: &'a str) -> Option<Word<'a>>
+    ensures { result ≡ block_of id.entry.now generation.entry.now }
+{
+    let id = BlockId(number_of(id)?);
+    let generation = Gen(number_of(generation)?);
+    Some(Word::Block(id, generation))
 }
 
 /// The index that digits and a full stop write.

@@ -11,8 +11,23 @@ use bm_lines::{MAX_LINE, line_of};
 use std::alloc::Global;
 use std::io::Write;
 
+/// Writes the line of each call, and flushes.
+pub fn write_flushed<W: Write>(alloc: Global, writer: &mut W, calls: &[Call]) -> Result<(), Fault>
+    requires { HaveLines calls.now }
+    ensures tells { OnOk result (Tells calls.now (W.contents writer.old) (W.contents writer.new)) }
+    ensures faults { IfErr result IsWriteFault }
+{
+    if let Err(fault) = write_calls(alloc, writer, calls) {
+        return Err(fault);
+    }
+    match writer.flush() {
+        Ok(()) => Ok(()),
+        Err(_) => Err(Fault::Write),
+    }
+}
+
 /// Writes the line of each call.
-pub fn write_calls<W: Write>(alloc: Global, writer: &mut W, calls: &[Call]) -> Result<(), Fault>
+fn write_calls<W: Write>(alloc: Global, writer: &mut W, calls: &[Call]) -> Result<(), Fault>
     requires { HaveLines calls.now }
     ensures tells { OnOk result (Tells calls.now (W.contents writer.old) (W.contents writer.new)) }
     ensures faults { IfErr result IsWriteFault }

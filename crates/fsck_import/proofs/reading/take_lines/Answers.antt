@@ -1,20 +1,14 @@
 use Rattle.std.proofs.Common.{◌<◌, length, subst, sym, ◌∙◌, arith}
 use Rattle.std.specs.Io.BufRead.{drop_through}
 use Rattle.fsck_import.specs.Reading.{IsReadFault}
-use Rattle.fsck_import.proofs.ReadLemmas.{Reads, each_some, end_told, end_text, end_refused, reads_line, told_more, refused_more}
-use Rattle.fsck_import.proofs.reading.read_cluster.Goals as goal
+use Rattle.fsck_import.proofs.ReadLemmas.{Reads, each_some, end_told, reads_line, told_more, refused_more}
+use Rattle.fsck_import.proofs.reading.take_lines.Goals as goal
 
 pub returns-in-Ok-eq0-clause-text : goal.returns-in-Ok-eq0-clause-text
 returns-in-Ok-eq0-clause-text g c =
-    end_text _ _ (λ text e.
+    each_some _ (λ text e.
     let left = c.loop-number.invariant text e in
-    left.2 ∙ end_told _ left.0 c.loop-number.number c.loop-number.cluster left.1 (c.in-Ok-eq0.ensures.end c.in-Ok-eq0.field-0-test)) _ c.ended.ensures.text
-
-pub returns-in-Ok-eq0-clause-refused : goal.returns-in-Ok-eq0-clause-refused
-returns-in-Ok-eq0-clause-refused g c =
-    end_refused _ _ (λ text e.
-    let left = c.loop-number.invariant text e in
-    left.2 ∙ end_told _ left.0 c.loop-number.number c.loop-number.cluster left.1 (c.in-Ok-eq0.ensures.end c.in-Ok-eq0.field-0-test)) _ c.ended.ensures.refused
+    left.2 ∙ end_told _ left.0 c.loop-number.number c.loop-number.cluster left.1 (c.in-Ok-eq0.ensures.end c.in-Ok-eq0.field-0-test))
 
 pub returns-in-Err-take_numbered-clause-refused : goal.returns-in-Err-take_numbered-clause-refused
 returns-in-Err-take_numbered-clause-refused g c =

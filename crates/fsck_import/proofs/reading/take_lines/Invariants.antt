@@ -1,7 +1,7 @@
 use Rattle.std.proofs.Common.{◌≡◌, ℕ, List, Some}
 use Rattle.bm_lines.specs.Lines.{lines_of}
 use Rattle.fsck_import.specs.Reading.{cluster_of, after_lines}
-use Rattle.fsck_import.proofs.reading.read_cluster.Given as goal
+use Rattle.fsck_import.proofs.reading.take_lines.Given as goal
 
 -- of a text that is known the lines that are left come after those that were taken
 abbrev pub invariant-loop-number : goal.invariant-loop-number
