@@ -3,7 +3,7 @@
 use bm_base::{Commands, Level};
 
 /// The counts as a round leaves them.
-#[derive(Clone, Copy, Debug, PartialEq, Eq)]
+#[derive(Clone, Copy)]
 pub struct Counts {
     pub round: u32,
     /// The blocks at each level.
@@ -82,7 +82,7 @@ impl Counts {
 }
 
 /// One count, over all rounds.
-#[derive(Clone, Copy, Debug, PartialEq, Eq)]
+#[derive(Clone, Copy)]
 pub enum Series {
     Highest,
     VeryUnderReplicated,
@@ -98,7 +98,7 @@ pub enum Series {
 }
 
 /// All of them, in the order of the columns.
-pub const ALL_SERIES: [Series; 11] = [
+pub static ALL_SERIES: [Series; 11] = [
     Series::Highest,
     Series::VeryUnderReplicated,
     Series::UnderReplicated,

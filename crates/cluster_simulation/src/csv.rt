@@ -4,22 +4,31 @@ use std::alloc::{AllocError, Global};
 
 pub fn csv_text(alloc: Global, rows: &[Counts]) -> Result<String, AllocError> {
     let mut text = String::from_str(alloc, "round")?;
-    for series in ALL_SERIES {
-        let heading = series.heading();
-        write!(text, ",{heading}")?;
-    }
-    text.push_str("\n")?;
-    for row in rows {
-        write_row(&mut text, row)?;
-    }
+    write_headings(&mut text)?;
+    write_rows(&mut text, rows)?;
     Ok(text)
+}
+
+fn write_headings(text: &mut String) -> Result<(), AllocError> {
+    for series in &ALL_SERIES {
+        text.push_str(",")?;
+        text.push_str(series.heading())?;
+    }
+    text.push_str("\n")
+}
+
+fn write_rows(text: &mut String, rows: &[Counts]) -> Result<(), AllocError> {
+    for row in rows {
+        write_row(text, row)?;
+    }
+    Ok(())
 }
 
 fn write_row(text: &mut String, row: &Counts) -> Result<(), AllocError> {
     let round = row.round;
     write!(text, "{round}")?;
-    for series in ALL_SERIES {
-        let count = row.of(series);
+    for series in &ALL_SERIES {
+        let count = row.of(*series);
         write!(text, ",{count}")?;
     }
     text.push_str("\n")

@@ -137,10 +137,19 @@ fn story_text<R: Threads + Wait + Sync>(
     options: Options,
 ) -> Result<String, AllocError> {
     let mut simulation = Simulation::new(rt, alloc, options)?;
-    let rows = all_rounds(rt, alloc, &mut simulation, options.rounds)?;
+    rounds_text(rt, alloc, &mut simulation, &options)
+}
+
+fn rounds_text<R: Threads + Wait + Sync>(
+    rt: &R,
+    alloc: Global,
+    simulation: &mut Simulation,
+    options: &Options,
+) -> Result<String, AllocError> {
+    let rows = all_rounds(rt, alloc, simulation, options.rounds)?;
     match options.form {
         Form::Csv => csv_text(alloc, rows.as_slice()),
-        Form::Svg => svg_text(alloc, &options, &simulation.incident(), rows.as_slice()),
+        Form::Svg => svg_text(alloc, options, &simulation.incident(), rows.as_slice()),
     }
 }
 

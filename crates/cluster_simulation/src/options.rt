@@ -12,14 +12,14 @@ const MOST_BLOCKS: u32 = 1_000_000;
 const MOST_ROUNDS: u32 = 1_000;
 
 /// How the counts are written.
-#[derive(Clone, Copy, Debug, PartialEq, Eq)]
+#[derive(Clone, Copy)]
 pub enum Form {
     Csv,
     Svg,
 }
 
 /// What is asked for.
-#[derive(Clone, Copy, Debug, PartialEq, Eq)]
+#[derive(Clone, Copy)]
 pub struct Options {
     pub shape: Shape,
     pub blocks: u32,
@@ -43,68 +43,149 @@ pub fn options_of(alloc: Global, words: &[String]) -> Result<Options, Error> {
     Ok(options_in(&matches))
 }
 
-fn command<'a>(alloc: Global) -> Result<Command<'a>, AllocError> {
-    let command = Command::new(alloc, "cluster_simulation").about(
-        "Tells how a cluster of DataNodes mends what went wrong, round by round, where its block manager is this library",
-    );
-    add_forms(alloc, add_course(alloc, add_cluster(alloc, command)?)?)
-}
-
-fn add_cluster<'a>(alloc: Global, command: Command<'a>) -> Result<Command<'a>, AllocError> {
-    command
-        .arg(number(alloc, "nodes", "30", 1, MOST_NODES).help("DataNodes, 1 to 256"))?
-        .arg(number(alloc, "racks", "3", 1, MOST_RACKS).help("racks of the nodes, 1 to 256"))?
-        .arg(number(alloc, "storages", "2", 1, MOST_STORAGES).help("disks of a node, 1 to 16"))?
-        .arg(number(alloc, "blocks", "3000", 1, MOST_BLOCKS).help("blocks, 1 to 1,000,000"))?
-        .arg(number(alloc, "replication", "3", 1, MAX_REPLICATION).help(
-            "replicas that are wanted of a block, 1 to 16",
-        ))
-}
-
-fn add_course<'a>(alloc: Global, command: Command<'a>) -> Result<Command<'a>, AllocError> {
-    command
-        .arg(
-            option(alloc, "seed", "1")
-                .value_name("X")
-                .value_parser(value_parser!(u64))
-                .help("what the random choices start from"),
-        )?
-        .arg(number(alloc, "delay", "2", 1, MOST_ROUNDS).help(
-            "rounds between a command and its being done, 1 to 1,000",
-        ))?
-        .arg(number(alloc, "rounds", "40", STORY_ROUND, MOST_ROUNDS).help("rounds, 5 to 1,000"))?
-        .arg(
-            option(alloc, "story", "node-dies")
-                .value_name("NAME")
-                .value_parser(STORIES.as_slice())
-                .help("what happens in round 5"),
-        )
-}
-
-fn add_forms<'a>(alloc: Global, command: Command<'a>) -> Result<Command<'a>, AllocError> {
-    let csv = flag(alloc, "csv").help(
-        "writes the counts as a table, a line for each round, as if neither is said",
-    );
-    let svg = flag(alloc, "svg").help("writes the counts as a picture");
-    command.arg(csv)?.arg(svg.conflicts_with("csv")?)
-}
-
 /// An option with a whole number from `least` to `most`.
-fn number<'a>(alloc: Global, name: &'a str, standard: &'a str, least: u32, most: u32) -> Arg<'a> {
-    option(alloc, name, standard).value_name("N").value_parser(value_parser!(u32).range(
-        i64::from(least)..=i64::from(most),
-    ))
+struct Number {
+    name: &'static str,
+    standard: &'static str,
+    least: u32,
+    most: u32,
+    help: &'static str,
+}
+
+/// What the cluster is.
+static CLUSTER: [Number; 5] = [
+    Number {
+        name: "nodes",
+        standard: "30",
+        least: 1,
+        most: MOST_NODES,
+        help: "DataNodes, 1 to 256",
+    },
+    Number {
+        name: "racks",
+        standard: "3",
+        least: 1,
+        most: MOST_RACKS,
+        help: "racks of the nodes, 1 to 256",
+    },
+    Number {
+        name: "storages",
+        standard: "2",
+        least: 1,
+        most: MOST_STORAGES,
+        help: "disks of a node, 1 to 16",
+    },
+    Number {
+        name: "blocks",
+        standard: "3000",
+        least: 1,
+        most: MOST_BLOCKS,
+        help: "blocks, 1 to 1,000,000",
+    },
+    Number {
+        name: "replication",
+        standard: "3",
+        least: 1,
+        most: MAX_REPLICATION,
+        help: "replicas that are wanted of a block, 1 to 16",
+    },
+];
+
+/// How long things take.
+static COURSE: [Number; 2] = [
+    Number {
+        name: "delay",
+        standard: "2",
+        least: 1,
+        most: MOST_ROUNDS,
+        help: "rounds between a command and its being done, 1 to 1,000",
+    },
+    Number {
+        name: "rounds",
+        standard: "40",
+        least: STORY_ROUND,
+        most: MOST_ROUNDS,
+        help: "rounds, 5 to 1,000",
+    },
+];
+
+fn command<'a>(alloc: Global) -> Result<Command<'a>, AllocError> {
+    let command = with_numbers(alloc, program(alloc), &CLUSTER)?;
+    let command = with(command, seed(alloc))?;
+    let command = with_numbers(alloc, command, &COURSE)?;
+    let command = with(command, story(alloc))?;
+    let command = with(command, csv(alloc))?;
+    with(command, svg(alloc)?)
+}
+
+fn program<'a>(alloc: Global) -> Command<'a> {
+    Command::new(alloc, "cluster_simulation").about(
+        "Tells how a cluster of DataNodes mends what went wrong, round by round, where its block manager is this library",
+    )
+}
+
+fn with_numbers<'a>(
+    alloc: Global,
+    mut command: Command<'a>,
+    numbers: &[Number],
+) -> Result<Command<'a>, AllocError> {
+    for number in numbers {
+        command = with(command, argument(alloc, number))?;
+    }
+    Ok(command)
+}
+
+/// The command with one more argument.
+fn with<'a>(command: Command<'a>, arg: Arg<'a>) -> Result<Command<'a>, AllocError> {
+    command.arg(arg)
+}
+
+fn seed<'a>(alloc: Global) -> Arg<'a> {
+    option(alloc, "seed", "1")
+        .value_name("X")
+        .help("what the random choices start from")
+        .value_parser(value_parser!(u64))
+}
+
+fn story<'a>(alloc: Global) -> Arg<'a> {
+    option(alloc, "story", "node-dies")
+        .value_name("NAME")
+        .help("what happens in round 5")
+        .value_parser(STORIES.as_slice())
+}
+
+fn csv<'a>(alloc: Global) -> Arg<'a> {
+    flag(alloc, "csv").help(
+        "writes the counts as a table, a line for each round, as if neither is said",
+    )
+}
+
+fn svg<'a>(alloc: Global) -> Result<Arg<'a>, AllocError> {
+    flag(alloc, "svg")
+        .help("writes the counts as a picture")
+        .conflicts_with("csv")
+}
+
+fn argument<'a>(alloc: Global, number: &Number) -> Arg<'a> {
+    option(alloc, number.name, number.standard)
+        .value_name("N")
+        .help(number.help)
+        .value_parser(value_parser!(u32).range(i64::from(number.least)..=i64::from(number.most)))
 }
 
 fn option<'a>(alloc: Global, name: &'a str, standard: &'a str) -> Arg<'a> {
-    Arg::new(alloc, name)
+    named(alloc, name)
         .action(ArgAction::Set)
         .long(name)
         .default_value(standard)
 }
 
 fn flag<'a>(alloc: Global, name: &'a str) -> Arg<'a> {
-    Arg::new(alloc, name).action(ArgAction::SetTrue).long(name)
+    named(alloc, name).action(ArgAction::SetTrue).long(name)
+}
+
+fn named<'a>(alloc: Global, name: &'a str) -> Arg<'a> {
+    Arg::new(alloc, name)
 }
 
 /// What was found. Each option has a value within its range, so no other number counts.

@@ -28,7 +28,7 @@ const STEPS: [u64; 22] = [
 ];
 
 /// Each round is as wide as any other, the first at the left and the last at the right; 0 is at the bottom and `most` at the top.
-#[derive(Clone, Copy, Debug, PartialEq, Eq)]
+#[derive(Clone, Copy)]
 pub struct Scale {
     rounds: u64,
     /// The rounds between two marks.
@@ -45,7 +45,7 @@ impl Scale {
     /// The scale on which all counts of these rounds have room.
     pub fn new(rows: &[Counts]) -> Scale {
         let mut greatest = 1u64;
-        for series in ALL_SERIES {
+        for series in &ALL_SERIES {
             greatest = greatest.max(series.greatest(rows));
         }
         let rounds = (rows.len() as u64).max(1);

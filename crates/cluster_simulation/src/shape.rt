@@ -3,7 +3,7 @@ ghost use Rattle.std.specs.Prelude.{◌≡◌, ◌*◌, ◌<◌, ◌≤◌};
 
 /// Nodes, racks, storages and blocks are numbered from 0. Node `n` stands on rack `n % racks`, and its storages are those from
 /// `n * storages` on.
-#[derive(Clone, Copy, Debug, PartialEq, Eq)]
+#[derive(Clone, Copy)]
 pub struct Shape {
     pub nodes: u32,
     pub racks: u32,

@@ -1,5 +1,5 @@
 // The manager and its DataNodes, round by round.
-ghost use Rattle.std.specs.Prelude.{◌≤◌};
+ghost use Rattle.std.specs.Prelude.{◌<◌};
 
 use crate::awaited::AwaitedCopies;
 use crate::counting::count_blocks;
@@ -8,8 +8,9 @@ use crate::datanodes::{carry_out, heartbeat, registration};
 use crate::dice::Dice;
 use crate::disks::{Disks, STAMP};
 use crate::options::Options;
-use crate::orders::Orders;
+use crate::orders::{Order, Orders};
 use crate::placing::place;
+use crate::shape::Shape;
 use crate::story::{Incident, STORY_ROUND};
 use bm_base::{BlockId, Commands, Config, Event, Refusal, StorageId};
 use bm_crew::NoGate;
@@ -40,26 +41,41 @@ impl Simulation {
         alloc: Global,
         options: Options,
     ) -> Result<Simulation, AllocError> {
+        let mut simulation = Simulation::before_all(alloc, options)?;
+        simulation.begin(rt)?;
+        Ok(simulation)
+    }
+
+    /// No node is registered yet.
+    fn before_all(alloc: Global, options: Options) -> Result<Simulation, AllocError> {
+        match Manager::new(alloc, Config::standard()) {
+            Ok(manager) => Simulation::around(alloc, options, manager),
+            Err(_) => Err(AllocError),
+        }
+    }
+
+    /// Around a manager that knows nothing yet.
+    fn around(alloc: Global, options: Options, manager: Manager) -> Result<Simulation, AllocError> {
         let mut dice = Dice::new(options.seed);
-        let Ok(manager) = Manager::new(alloc, Config::standard()) else {
-            return Err(AllocError);
-        };
         let incident = Incident::draw(&mut dice, options.story, options.shape, options.blocks);
         let replicas = u64::from(options.blocks) * u64::from(options.replication);
-        let mut simulation = Simulation {
+        let disks = Disks::new(alloc, options.shape, replicas)?;
+        Ok(Simulation {
             alloc,
             options,
             dice,
             incident,
             manager,
-            disks: Disks::new(alloc, options.shape, replicas)?,
+            disks,
             orders: Orders::new(alloc, options.delay),
             awaited: AwaitedCopies::new(alloc),
             refused: 0,
-        };
-        simulation.register_nodes(rt)?;
-        simulation.place_blocks(rt)?;
-        Ok(simulation)
+        })
+    }
+
+    fn begin<R: Threads + Wait + Sync>(&mut self, rt: &R) -> Result<(), AllocError> {
+        self.register_nodes(rt)?;
+        self.place_blocks(rt)
     }
 
     pub fn incident(&self) -> Incident {
@@ -88,20 +104,37 @@ impl Simulation {
     fn tell<R: Threads + Wait + Sync>(&mut self, rt: &R, event: &Event) -> Result<(), AllocError> {
         match self.manager.apply(rt, &NoGate, event) {
             Ok(_) => Ok(()),
-            Err(Refusal::Memory) => Err(AllocError),
-            Err(_) => {
-                self.refused = self.refused.saturating_add(1);
-                Ok(())
-            }
+            Err(why) => self.note_refusal(why),
         }
+    }
+
+    /// Counts a refusal; one for want of memory ends the run.
+    fn note_refusal(&mut self, why: Refusal) -> Result<(), AllocError> {
+        if matches!(why, Refusal::Memory) {
+            return Err(AllocError);
+        }
+        self.refused = self.refused.saturating_add(1);
+        Ok(())
     }
 
     fn register_nodes<R: Threads + Wait + Sync>(&mut self, rt: &R) -> Result<(), AllocError> {
         let shape = self.options.shape;
         for node in 0..shape.nodes {
-            self.tell(rt, &registration(self.alloc, shape, node)?)?;
+            self.register_node(rt, shape, node)?;
         }
         Ok(())
+    }
+
+    fn register_node<R: Threads + Wait + Sync>(
+        &mut self,
+        rt: &R,
+        shape: Shape,
+        node: u32,
+    ) -> Result<(), AllocError>
+        requires { node < shape.nodes }
+    {
+        let registered = registration(self.alloc, shape, node)?;
+        self.tell(rt, &registered)
     }
 
     fn place_blocks<R: Threads + Wait + Sync>(&mut self, rt: &R) -> Result<(), AllocError> {
@@ -117,37 +150,54 @@ impl Simulation {
         rt: &R,
         id: BlockId,
     ) -> Result<(), AllocError> {
+        self.add_block(rt, id)?;
         let Options {
             shape,
             replication,
             ..
         } = self.options;
-        let added = Event::AddBlock {
-            id,
-            stamp: STAMP,
-            repl: replication,
-        };
-        self.tell(rt, &added)?;
         let storages = place(self.alloc, &mut self.dice, shape, replication)?;
-        self.receive(rt, id, storages.as_slice())?;
+        self.receive_all(rt, id, storages.as_slice())?;
         self.disks.add_block(storages)
     }
 
-    fn receive<R: Threads + Wait + Sync>(
+    fn add_block<R: Threads + Wait + Sync>(
+        &mut self,
+        rt: &R,
+        id: BlockId,
+    ) -> Result<(), AllocError> {
+        let added = Event::AddBlock {
+            id,
+            stamp: STAMP,
+            repl: self.options.replication,
+        };
+        self.tell(rt, &added)
+    }
+
+    fn receive_all<R: Threads + Wait + Sync>(
         &mut self,
         rt: &R,
         id: BlockId,
         storages: &[StorageId],
     ) -> Result<(), AllocError> {
         for storage in storages {
-            let received = Event::Received {
-                storage: *storage,
-                id,
-                stamp: STAMP,
-            };
-            self.tell(rt, &received)?;
+            self.receive(rt, id, *storage)?;
         }
         Ok(())
+    }
+
+    fn receive<R: Threads + Wait + Sync>(
+        &mut self,
+        rt: &R,
+        id: BlockId,
+        storage: StorageId,
+    ) -> Result<(), AllocError> {
+        let received = Event::Received {
+            storage,
+            id,
+            stamp: STAMP,
+        };
+        self.tell(rt, &received)
     }
 
     /// DataNodes do what is due, and tell of it.
@@ -160,11 +210,29 @@ impl Simulation {
             let Some(order) = self.orders.next_due(round) else {
                 break;
             };
-            if let Some(notice) = carry_out(&mut self.disks, order)? {
-                self.tell(rt, &notice)?;
-                self.awaited.take_note(&notice);
-            }
+            self.carry_out(rt, order)?;
         }
+        Ok(())
+    }
+
+    fn carry_out<R: Threads + Wait + Sync>(
+        &mut self,
+        rt: &R,
+        order: Order,
+    ) -> Result<(), AllocError> {
+        match carry_out(&mut self.disks, order)? {
+            Some(notice) => self.take_notice(rt, &notice),
+            None => Ok(()),
+        }
+    }
+
+    fn take_notice<R: Threads + Wait + Sync>(
+        &mut self,
+        rt: &R,
+        notice: &Event,
+    ) -> Result<(), AllocError> {
+        self.tell(rt, notice)?;
+        self.awaited.take_note(notice);
         Ok(())
     }
 
@@ -174,26 +242,51 @@ impl Simulation {
         let events = self
             .incident
             .events(self.alloc, &mut self.dice, shape, &self.disks)?;
+        self.fail_disks(shape);
+        self.tell_all(rt, events.as_slice())?;
+        self.awaited.forget_lost(&self.incident, shape);
+        Ok(())
+    }
+
+    fn fail_disks(&mut self, shape: Shape) {
         for storage in 0..shape.all_storages() {
             if self.incident.kills(shape, storage) {
                 self.disks.fail(storage);
             }
         }
-        for event in &events {
+    }
+
+    fn tell_all<R: Threads + Wait + Sync>(
+        &mut self,
+        rt: &R,
+        events: &[Event],
+    ) -> Result<(), AllocError> {
+        for event in events {
             self.tell(rt, event)?;
         }
-        self.awaited.forget_lost(&self.incident, shape);
         Ok(())
     }
 
     fn send_heartbeats<R: Threads + Wait + Sync>(&mut self, rt: &R) -> Result<(), AllocError> {
         let shape = self.options.shape;
         for node in 0..shape.nodes {
-            if let Some(event) = heartbeat(self.alloc, shape, &self.disks, node)? {
-                self.tell(rt, &event)?;
-            }
+            self.send_heartbeat(rt, shape, node)?;
         }
         Ok(())
+    }
+
+    fn send_heartbeat<R: Threads + Wait + Sync>(
+        &mut self,
+        rt: &R,
+        shape: Shape,
+        node: u32,
+    ) -> Result<(), AllocError>
+        requires { node < shape.nodes }
+    {
+        match heartbeat(self.alloc, shape, &self.disks, node)? {
+            Some(told) => self.tell(rt, &told),
+            None => Ok(()),
+        }
     }
 
     /// The manager's round. What it commands is on its way from now on.
@@ -202,15 +295,10 @@ impl Simulation {
         rt: &R,
         counts: &mut Counts,
     ) -> Result<(), AllocError> {
-        let commands = match self.manager.round(rt, &NoGate) {
-            Ok(commands) => commands,
-            Err(Refusal::Memory) => return Err(AllocError),
-            Err(_) => {
-                self.refused = self.refused.saturating_add(1);
-                return Ok(());
-            }
-        };
-        self.hand_out(&commands, counts)
+        match self.manager.round(rt, &NoGate) {
+            Ok(commands) => self.hand_out(&commands, counts),
+            Err(why) => self.note_refusal(why),
+        }
     }
 
     fn hand_out(&mut self, commands: &Commands, counts: &mut Counts) -> Result<(), AllocError> {

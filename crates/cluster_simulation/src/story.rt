@@ -23,7 +23,7 @@ pub static STORIES: [&str; 5] = [
     "bad-replicas",
 ];
 
-#[derive(Clone, Copy, Debug, PartialEq, Eq)]
+#[derive(Clone, Copy)]
 pub enum Story {
     NodeDies,
     RackDies,
@@ -46,7 +46,7 @@ impl Story {
 }
 
 /// A story with those whom it strikes, each by number.
-#[derive(Clone, Copy, Debug, PartialEq, Eq)]
+#[derive(Clone, Copy)]
 pub enum Incident {
     NodeDies(u32),
     RackDies(u32),

@@ -34,11 +34,8 @@ fn delete(storage: u32, block: u64) -> Delete {
 
 /// One node is to make two copies and one delete.
 fn commands(alloc: Global) -> Result<Commands, AllocError> {
-    let mut transfers = Vec::new(alloc);
-    transfers.push(copy(7, 0, 2))?;
-    transfers.push(copy(8, 0, 4))?;
-    let mut deletes = Vec::new(alloc);
-    deletes.push(delete(1, 9))?;
+    let transfers = Vec::from_slice(alloc, &[copy(7, 0, 2), copy(8, 0, 4)])?;
+    let deletes = Vec::from_slice(alloc, &[delete(1, 9)])?;
     let mut nodes = Vec::new(alloc);
     nodes.push(NodeCommands {
         node: NodeId(0),
@@ -54,17 +51,26 @@ fn commands(alloc: Global) -> Result<Commands, AllocError> {
 #[test]
 fn orders_are_due_after_their_delay_in_turn(rt: HostRuntime) -> Result<(), Fail> {
     let mut orders = Orders::new(rt.alloc(), 2);
-    orders.give_all(5, &commands(rt.alloc())?)?;
-    orders.give(6, Order::Delete(delete(3, 6)))?;
+    give_orders(rt.alloc(), &mut orders)?;
     assert_eq!(rt; orders.len(), 4);
-    assert_eq!(rt; orders.next_due(6), None);
-    assert_eq!(rt; orders.next_due(7), Some(Order::Copy(copy(7, 0, 2))));
-    assert_eq!(rt; orders.next_due(7), Some(Order::Copy(copy(8, 0, 4))));
-    assert_eq!(rt; orders.next_due(7), Some(Order::Delete(delete(1, 9))));
-    assert_eq!(rt; orders.next_due(7), None);
-    assert_eq!(rt; orders.next_due(8), Some(Order::Delete(delete(3, 6))));
-    assert_eq!(rt; orders.next_due(9), None);
+    let due = [
+        (6, None),
+        (7, Some(Order::Copy(copy(7, 0, 2)))),
+        (7, Some(Order::Copy(copy(8, 0, 4)))),
+        (7, Some(Order::Delete(delete(1, 9)))),
+        (7, None),
+        (8, Some(Order::Delete(delete(3, 6)))),
+        (9, None),
+    ];
+    for (round, order) in &due {
+        assert_eq!(rt; orders.next_due(*round), *order);
+    }
     Ok(())
+}
+
+fn give_orders(alloc: Global, orders: &mut Orders) -> Result<(), AllocError> {
+    orders.give_all(5, &commands(alloc)?)?;
+    orders.give(6, Order::Delete(delete(3, 6)))
 }
 
 /// Two copies, to disks of nodes 1 and 2, where each node has two disks.
@@ -72,7 +78,7 @@ fn orders_are_due_after_their_delay_in_turn(rt: HostRuntime) -> Result<(), Fail>
 fn copies_are_awaited_until_they_come_or_cannot(rt: HostRuntime) -> Result<(), Fail> {
     let shape = Shape::new(3, 1, 2);
     let mut awaited = AwaitedCopies::new(rt.alloc());
-    awaited.add_all(5, &commands(rt.alloc())?)?;
+    await_copies(rt.alloc(), &mut awaited)?;
     awaited.forget_lost(&Incident::NodeDrains(0), shape);
     awaited.give_up_old(104, 100);
     assert_eq!(rt; awaited.count(), 2);
@@ -82,10 +88,14 @@ fn copies_are_awaited_until_they_come_or_cannot(rt: HostRuntime) -> Result<(), F
     assert_eq!(rt; awaited.count(), 1);
     awaited.take_note(&received(2, 7));
     assert_eq!(rt; awaited.count(), 0);
-    awaited.add_all(5, &commands(rt.alloc())?)?;
+    await_copies(rt.alloc(), &mut awaited)?;
     awaited.give_up_old(105, 100);
     assert_eq!(rt; awaited.count(), 0);
     Ok(())
+}
+
+fn await_copies(alloc: Global, awaited: &mut AwaitedCopies) -> Result<(), AllocError> {
+    awaited.add_all(5, &commands(alloc)?)
 }
 
 fn received(storage: u32, block: u64) -> Event {
@@ -102,19 +112,29 @@ fn the_dead_do_nothing(rt: HostRuntime) -> Result<(), Fail> {
     let alloc = rt.alloc();
     let mut disks = Disks::new(alloc, Shape::new(3, 1, 1), 1)?;
     disks.add_block(Vec::from_slice(alloc, &[StorageId(0)])?)?;
-    assert!(rt; carry_out(&mut disks, Order::Copy(copy(0, 1, 2)))?.is_none());
-    assert!(rt; carry_out(&mut disks, Order::Copy(copy(0, 0, 1)))?.is_some());
+    check_deeds(&rt, &mut disks)?;
+    Ok(())
+}
+
+fn check_deeds(rt: &impl Abort, disks: &mut Disks) -> Result<(), AllocError> {
+    assert!(rt; !is_done(disks, Order::Copy(copy(0, 1, 2)))?);
+    assert!(rt; is_done(disks, Order::Copy(copy(0, 0, 1)))?);
     assert!(rt; disks.holds(StorageId(1), BlockId(0)));
     assert_eq!(rt; disks.free_bytes(StorageId(1)), (4 << 40) - (128 << 20));
-    assert!(rt; carry_out(&mut disks, Order::Delete(delete(1, 0)))?.is_some());
+    assert!(rt; is_done(disks, Order::Delete(delete(1, 0)))?);
     assert!(rt; !disks.holds(StorageId(1), BlockId(0)));
     assert_eq!(rt; disks.free_bytes(StorageId(1)), 4 << 40);
     disks.fail(2);
-    assert!(rt; carry_out(&mut disks, Order::Copy(copy(0, 0, 2)))?.is_none());
+    assert!(rt; !is_done(disks, Order::Copy(copy(0, 0, 2)))?);
     disks.fail(0);
-    assert!(rt; carry_out(&mut disks, Order::Copy(copy(0, 0, 1)))?.is_none());
-    assert!(rt; carry_out(&mut disks, Order::Delete(delete(0, 0)))?.is_none());
+    assert!(rt; !is_done(disks, Order::Copy(copy(0, 0, 1)))?);
+    assert!(rt; !is_done(disks, Order::Delete(delete(0, 0)))?);
     Ok(())
+}
+
+/// Whether there is a notice of what was ordered.
+fn is_done(disks: &mut Disks, order: Order) -> Result<bool, AllocError> {
+    Ok(carry_out(disks, order)?.is_some())
 }
 
 /// How many different numbers there are.
@@ -133,19 +153,43 @@ fn check_placing(
     replication: u32,
 ) -> Result<(), AllocError> {
     for _ in 0..100 {
-        let mut nodes = Vec::new(alloc);
-        let mut racks = Vec::new(alloc);
-        for storage in &place(alloc, dice, shape, replication)? {
-            let node = shape.node_of(storage.0);
-            nodes.push(node)?;
-            racks.push(shape.rack_of(node))?;
-        }
-        let wanted = replication.min(shape.nodes);
-        assert_eq!(rt; count_different(nodes)?, wanted as usize);
-        let least_racks = wanted.min(shape.used_racks()).min(2);
-        assert!(rt; count_different(racks)? >= least_racks as usize);
+        let storages = place(alloc, dice, shape, replication)?;
+        check_places(rt, alloc, shape, replication, storages.as_slice())?;
     }
     Ok(())
+}
+
+fn check_places(
+    rt: &impl Abort,
+    alloc: Global,
+    shape: Shape,
+    replication: u32,
+    storages: &[StorageId],
+) -> Result<(), AllocError> {
+    let wanted = replication.min(shape.nodes);
+    assert_eq!(rt;
+        count_different(nodes_of(alloc, shape, storages)?)?,
+        wanted as usize
+    );
+    let least_racks = wanted.min(shape.used_racks()).min(2);
+    assert!(rt; count_different(racks_of(alloc, shape, storages)?)? >= least_racks as usize);
+    Ok(())
+}
+
+fn nodes_of(alloc: Global, shape: Shape, storages: &[StorageId]) -> Result<Vec<u32>, AllocError> {
+    let mut nodes = Vec::new(alloc);
+    for storage in storages {
+        nodes.push(shape.node_of(storage.0))?;
+    }
+    Ok(nodes)
+}
+
+fn racks_of(alloc: Global, shape: Shape, storages: &[StorageId]) -> Result<Vec<u32>, AllocError> {
+    let mut racks = Vec::new(alloc);
+    for storage in storages {
+        racks.push(shape.rack_of(shape.node_of(storage.0)))?;
+    }
+    Ok(racks)
 }
 
 #[test]

@@ -1,6 +1,7 @@
 // Small stories, whose counts follow from the rules whatever is drawn.
 
 use super::Simulation;
+use crate::all_rounds;
 use crate::counts::Counts;
 use crate::csv::csv_text;
 use crate::options::{Form, Options};
@@ -122,11 +123,7 @@ fn rows_of<R: Threads + Wait + Sync>(
     options: Options,
 ) -> Result<Vec<Counts>, AllocError> {
     let mut simulation = Simulation::new(rt, alloc, options)?;
-    let mut rows = Vec::new(alloc);
-    for past in 0..ROUNDS {
-        rows.push(simulation.next_round(rt, past.saturating_add(1))?)?;
-    }
-    Ok(rows)
+    all_rounds(rt, alloc, &mut simulation, ROUNDS)
 }
 
 fn check_case<R: Abort + Threads + Wait + Sync>(
@@ -134,11 +131,24 @@ fn check_case<R: Abort + Threads + Wait + Sync>(
     alloc: Global,
     case: Case,
 ) -> Result<(), AllocError> {
-    let rows = rows_of(rt, alloc, options_of(case))?;
-    let text = csv_text(alloc, rows.as_slice())?;
+    let text = text_of(rt, alloc, options_of(case))?;
+    check_text(rt, alloc, text.as_str(), case.lines)
+}
+
+/// The table of a story.
+fn text_of<R: Threads + Wait + Sync>(
+    rt: &R,
+    alloc: Global,
+    options: Options,
+) -> Result<String, AllocError> {
+    let rows = rows_of(rt, alloc, options)?;
+    csv_text(alloc, rows.as_slice())
+}
+
+fn check_text(rt: &impl Abort, alloc: Global, text: &str, lines: &str) -> Result<(), AllocError> {
     let mut wanted = String::from_str(alloc, BEFORE)?;
-    wanted.push_str(case.lines)?;
-    assert_eq!(rt; text.as_str(), wanted.as_str());
+    wanted.push_str(lines)?;
+    assert_eq!(rt; text, wanted.as_str());
     Ok(())
 }
 
@@ -154,16 +164,27 @@ fn small_stories_are_as_the_rules_say(rt: HostRuntime) -> Result<(), Fail> {
 #[test]
 fn refusals_are_counted_once(rt: HostRuntime) -> Result<(), Fail> {
     let mut simulation = Simulation::new(&rt, rt.alloc(), options_of(CASES[0]))?;
-    let node = NodeId(99);
-    let storage = StorageId(99);
-    let stamp = crate::disks::STAMP;
-    let id = BlockId(0);
-    simulation.tell(&rt, &Event::Dead { node })?;
-    simulation.tell(&rt, &Event::Dead { node })?;
-    simulation.tell(&rt, &Event::Received { storage, id, stamp })?;
-    let counts = simulation.next_round(&rt, 1)?;
+    check_refusals(&rt, &mut simulation)?;
+    Ok(())
+}
+
+fn check_refusals<R: Abort + Threads + Wait + Sync>(
+    rt: &R,
+    simulation: &mut Simulation,
+) -> Result<(), AllocError> {
+    tell_of_dead(rt, simulation)?;
+    tell_of_dead(rt, simulation)?;
+    simulation.receive(rt, BlockId(0), StorageId(99))?;
+    let counts = simulation.next_round(rt, 1)?;
     assert_eq!(rt; counts.refused, 3);
-    let counts = simulation.next_round(&rt, 2)?;
+    let counts = simulation.next_round(rt, 2)?;
     assert_eq!(rt; counts.refused, 0);
     Ok(())
+}
+
+fn tell_of_dead<R: Threads + Wait + Sync>(
+    rt: &R,
+    simulation: &mut Simulation,
+) -> Result<(), AllocError> {
+    simulation.tell(rt, &Event::Dead { node: NodeId(99) })
 }

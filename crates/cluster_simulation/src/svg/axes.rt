@@ -30,11 +30,18 @@ pub fn write_axes(text: &mut String, scale: &Scale) -> Result<(), AllocError> {
 
 fn write_count_mark(text: &mut String, scale: &Scale, count: u64) -> Result<(), AllocError> {
     let y = scale.y_of(count);
-    let foot = y.saturating_add(4);
+    write_grey_line(text, y)?;
+    write_count(text, y.saturating_add(4), count)
+}
+
+fn write_grey_line(text: &mut String, y: u64) -> Result<(), AllocError> {
     writeln!(
         text,
         "<line x1='{LEFT}' y1='{y}' x2='{RIGHT}' y2='{y}' stroke='#dddddd'/>"
-    )?;
+    )
+}
+
+fn write_count(text: &mut String, foot: u64, count: u64) -> Result<(), AllocError> {
     writeln!(
         text,
         "<text x='68' y='{foot}' text-anchor='end'>{count}</text>"

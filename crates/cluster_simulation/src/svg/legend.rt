@@ -12,8 +12,8 @@ const APART: u64 = 24;
 /// An entry for each count, with its greatest value; a grey one without a line where that is nothing.
 pub fn write_legend(text: &mut String, rows: &[Counts]) -> Result<(), AllocError> {
     let mut y = FIRST;
-    for series in ALL_SERIES {
-        write_entry(text, y, series, series.greatest(rows))?;
+    for series in &ALL_SERIES {
+        write_entry(text, y, *series, series.greatest(rows))?;
         y = y.saturating_add(APART);
     }
     Ok(())

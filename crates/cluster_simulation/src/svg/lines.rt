@@ -7,9 +7,9 @@ use std::alloc::AllocError;
 
 /// A line for each count that is ever more than nothing.
 pub fn write_lines(text: &mut String, scale: &Scale, rows: &[Counts]) -> Result<(), AllocError> {
-    for series in ALL_SERIES {
+    for series in &ALL_SERIES {
         if series.greatest(rows) > 0 {
-            write_line(text, scale, rows, series)?;
+            write_line(text, scale, rows, *series)?;
         }
     }
     Ok(())

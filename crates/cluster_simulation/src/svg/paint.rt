@@ -2,7 +2,7 @@
 use crate::counts::Series;
 
 /// How a line is drawn.
-#[derive(Clone, Copy, Debug, PartialEq, Eq)]
+#[derive(Clone, Copy)]
 pub struct Paint {
     pub colour: &'static str,
     /// In points of the picture. Levels have broad lines, so that they are seen behind another line of the same height.
