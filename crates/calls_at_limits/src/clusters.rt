@@ -1,8 +1,7 @@
 // As many nodes and storages as a cluster may have, and more replicas than a block can want.
 
-use crate::crews::{SHARDS, WORKERS, config};
+use crate::made::{apply, new_manager};
 use bm_base::{Done, Event, Items, NodeId, Rack, Refusal, StorageId};
-use bm_crew::NoGate;
 use bm_manager::Manager;
 use bm_place::excess_of;
 use bm_topo::Topology;
@@ -20,12 +19,26 @@ pub fn fill_cluster<R: Print + Threads + Wait + Sync>(
     rt: &R,
     alloc: Global,
 ) -> Result<(), Refusal> {
-    let mut manager = Manager::new(alloc, config(SHARDS, WORKERS))?;
-    let joined = join_all(rt, &mut manager, alloc);
-    let late_node = join(rt, &mut manager, alloc, NODES, 0);
-    let gone = manager.apply(rt, &NoGate, &Event::Dead { node: NodeId(0) });
-    let late_storages = join(rt, &mut manager, alloc, NODES, STORAGES_OF_A_NODE + 1);
-    let last = join(rt, &mut manager, alloc, NODES, STORAGES_OF_A_NODE);
+    match new_manager(alloc) {
+        Ok(mut manager) => {
+            let filled = fill(rt, alloc, &mut manager);
+            drop(manager);
+            filled
+        }
+        Err(refusal) => Err(refusal),
+    }
+}
+
+fn fill<R: Print + Threads + Wait + Sync>(
+    rt: &R,
+    alloc: Global,
+    manager: &mut Manager,
+) -> Result<(), Refusal> {
+    let joined = join_all(rt, manager, alloc);
+    let late_node = join(rt, manager, alloc, NODES, 0);
+    let gone = apply(rt, manager, Event::Dead { node: NodeId(0) });
+    let late_storages = join(rt, manager, alloc, NODES, STORAGES_OF_A_NODE + 1);
+    let last = join(rt, manager, alloc, NODES, STORAGES_OF_A_NODE);
     let nodes = joined?;
     gone?;
     last?;
@@ -53,8 +66,10 @@ fn join<R: Threads + Wait + Sync>(
     node: u32,
     count: u32,
 ) -> Result<Done, Refusal> {
-    let event = register(alloc, node, count)?;
-    manager.apply(rt, &NoGate, &event)
+    match register(alloc, node, count) {
+        Ok(event) => apply(rt, manager, event),
+        Err(refusal) => Err(refusal),
+    }
 }
 
 /// A node with so many storages, which no other node has.
@@ -72,19 +87,53 @@ fn register(alloc: Global, node: u32, count: u32) -> Result<Event, Refusal> {
 
 /// 17 live replicas of a block of which one is wanted.
 pub fn find_excess<R: Print>(rt: &R, alloc: Global) -> Result<(), Refusal> {
-    let mut topology = Topology::new(alloc)?;
+    match Topology::new(alloc) {
+        Ok(mut topology) => {
+            let found = find_in(rt, alloc, &mut topology);
+            drop(topology);
+            found
+        }
+        Err(error) => Err(Refusal::from(error)),
+    }
+}
+
+fn find_in<R: Print>(rt: &R, alloc: Global, topology: &mut Topology) -> Result<(), Refusal> {
     let mut live = Vec::new(alloc);
+    fill_topology(alloc, topology, &mut live)?;
+    let excess = excess_of(alloc, live.as_slice(), 1, topology)?;
+    tell_excess(rt, excess.as_slice());
+    Ok(())
+}
+
+/// 17 nodes, of which each has one storage.
+fn fill_topology(
+    alloc: Global,
+    topology: &mut Topology,
+    live: &mut Vec<StorageId>,
+) -> Result<(), Refusal> {
     for node in 0..17 {
-        let event = register(alloc, node, 1)?;
-        take(&mut topology, &event)?;
+        join_topology(alloc, topology, node)?;
         live.push(StorageId(node * 32))?;
     }
-    let excess = excess_of(alloc, live.as_slice(), 1, &topology)?;
+    Ok(())
+}
+
+fn tell_excess<R: Print>(rt: &R, excess: &[StorageId]) {
     let count = excess.len();
     let first = excess.get(0).copied() == Some(StorageId(512));
     let last = excess.get(15).copied() == Some(StorageId(32));
     let _ = println!(rt; "{count} of 17 replicas in excess; first and last: {first}, {last}");
-    Ok(())
+}
+
+fn join_topology(alloc: Global, topology: &mut Topology, node: u32) -> Result<(), Refusal> {
+    match register(alloc, node, 1) {
+        Ok(event) => {
+            let taken = take(topology, &event);
+            drop(event);
+            taken
+        }
+        Err(refusal) => Err(refusal),
+    }
 }
 
 fn take(topology: &mut Topology, event: &Event) -> Result<(), Refusal> {

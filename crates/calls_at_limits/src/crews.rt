@@ -1,9 +1,9 @@
 // As many shards and workers as may be.
 ghost use Rattle.std.specs.Prelude.{◌≡◌, IfOk, vec_len};
 
+use crate::made::make_and_drop;
 use bm_base::{Config, Refusal};
 use bm_crew::{Crew, NoGate};
-use bm_manager::Manager;
 use std::alloc::{AllocError, Global};
 use std::sync::Wait;
 use std::thread::Threads;
@@ -13,9 +13,17 @@ pub const SHARDS: u32 = 64;
 pub const WORKERS: u32 = 16;
 
 pub fn run_all<R: Print + Threads + Wait + Sync>(rt: &R, alloc: Global) -> Result<(), Refusal> {
-    Manager::new(alloc, config(SHARDS, WORKERS))?;
+    make_and_drop(alloc, config(SHARDS, WORKERS))?;
     let is_limit = is_bad(alloc, config(SHARDS + 1, WORKERS))
         && is_bad(alloc, config(SHARDS, WORKERS + 1));
+    run(rt, alloc, is_limit)
+}
+
+fn run<R: Print + Threads + Wait + Sync>(
+    rt: &R,
+    alloc: Global,
+    is_limit: bool,
+) -> Result<(), Refusal> {
     let items = pieces(alloc)?;
     let ready = Crew::ready::<u64, u64>(alloc, SHARDS as usize, WORKERS as usize)?;
     let results = ready.run(rt, items, &|_, x: u64| x.wrapping_mul(x), &NoGate);
@@ -28,7 +36,7 @@ pub fn run_all<R: Print + Threads + Wait + Sync>(rt: &R, alloc: Global) -> Resul
 }
 
 fn is_bad(alloc: Global, config: Config) -> bool {
-    matches!(Manager::new(alloc, config), Err(Refusal::BadConfig))
+    make_and_drop(alloc, config) == Err(Refusal::BadConfig)
 }
 
 /// A manager with so many of both.

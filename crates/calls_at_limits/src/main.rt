@@ -4,6 +4,7 @@
 
 mod clusters;
 mod crews;
+mod made;
 mod reports;
 mod views;
 

@@ -1,12 +1,12 @@
 // As many entries as a report may have.
 
-use crate::crews::{SHARDS, WORKERS, config};
+use crate::made::{apply, new_manager};
 use bm_base::{
     BlockId, Commands, Done, Entry, Event, Gen, Items, NodeId, Rack, Refusal, Stamp, StorageId,
 };
 use bm_crew::NoGate;
 use bm_manager::Manager;
-use std::alloc::Global;
+use std::alloc::{AllocError, Global};
 use std::sync::Wait;
 use std::thread::Threads;
 
@@ -20,22 +20,47 @@ const STAMP: Stamp = Stamp {
 };
 
 pub fn report_all<R: Print + Threads + Wait + Sync>(rt: &R, alloc: Global) -> Result<(), Refusal> {
-    let mut manager = Manager::new(alloc, config(SHARDS, WORKERS))?;
-    let done = tell(rt, &mut manager, alloc);
-    let longer = report_blocks(rt, &mut manager, alloc, ENTRIES + 1);
-    let commanded = manager.round(rt, &NoGate);
-    let emptied = report_blocks(rt, &mut manager, alloc, 0);
+    match new_manager(alloc) {
+        Ok(mut manager) => {
+            let reported = report_blocks_and_run(rt, alloc, &mut manager);
+            drop(manager);
+            reported
+        }
+        Err(refusal) => Err(refusal),
+    }
+}
+
+fn report_blocks_and_run<R: Print + Threads + Wait + Sync>(
+    rt: &R,
+    alloc: Global,
+    manager: &mut Manager,
+) -> Result<(), Refusal> {
+    let done = tell(rt, manager, alloc);
+    let longer = report_blocks(rt, manager, alloc, ENTRIES + 1);
+    let commanded = round(rt, manager);
+    let emptied = report_blocks(rt, manager, alloc, 0);
     let added = done?.added;
     let is_limit = longer == Err(Refusal::TooMany);
     let _ = println!(rt; "{added} replicas by a report; a longer one refused: {is_limit}");
-    let deletes = deletes_of(&commanded?);
+    let deletes = commanded?;
     let _ = println!(rt; "{deletes} of them to be deleted after a round");
     let removed = emptied?.removed;
     let _ = println!(rt; "{removed} replicas gone by an empty report");
-    report_run(rt, alloc, &mut manager)
+    report_run(rt, alloc, manager)
 }
 
 /// How many deletes a round commands.
+fn round<R: Threads + Wait + Sync>(rt: &R, manager: &mut Manager) -> Result<usize, Refusal> {
+    match manager.round(rt, &NoGate) {
+        Ok(commands) => {
+            let deletes = deletes_of(&commands);
+            drop(commands);
+            Ok(deletes)
+        }
+        Err(refusal) => Err(refusal),
+    }
+}
+
 fn deletes_of(commands: &Commands) -> usize {
     let mut count = 0usize;
     for node in commands.nodes.as_slice() {
@@ -63,16 +88,22 @@ fn tell_run<R: Threads + Wait + Sync>(
     alloc: Global,
     last: u64,
 ) -> Result<Done, Refusal> {
+    match run_of(alloc, last) {
+        Ok(event) => apply(rt, manager, event),
+        Err(error) => Err(Refusal::from(error)),
+    }
+}
+
+fn run_of(alloc: Global, last: u64) -> Result<Event, AllocError> {
     let run = Entry {
         from: BlockId(0),
         to: BlockId(last),
         stamp: STAMP,
     };
-    let event = Event::FullReport {
+    Ok(Event::FullReport {
         storage: StorageId(11),
         entries: Items::from_vec(Vec::from_slice(alloc, [run].as_slice())?),
-    };
-    manager.apply(rt, &NoGate, &event)
+    })
 }
 
 /// A node comes, and reports as many blocks as may be.
@@ -81,9 +112,19 @@ fn tell<R: Threads + Wait + Sync>(
     manager: &mut Manager,
     alloc: Global,
 ) -> Result<Done, Refusal> {
-    let event = register(alloc)?;
-    manager.apply(rt, &NoGate, &event)?;
+    join(rt, manager, alloc)?;
     report_blocks(rt, manager, alloc, ENTRIES)
+}
+
+fn join<R: Threads + Wait + Sync>(
+    rt: &R,
+    manager: &mut Manager,
+    alloc: Global,
+) -> Result<Done, Refusal> {
+    match register(alloc) {
+        Ok(event) => apply(rt, manager, event),
+        Err(refusal) => Err(refusal),
+    }
 }
 
 fn report_blocks<R: Threads + Wait + Sync>(
@@ -92,8 +133,10 @@ fn report_blocks<R: Threads + Wait + Sync>(
     alloc: Global,
     count: u64,
 ) -> Result<Done, Refusal> {
-    let event = report(alloc, count)?;
-    manager.apply(rt, &NoGate, &event)
+    match report(alloc, count) {
+        Ok(event) => apply(rt, manager, event),
+        Err(refusal) => Err(refusal),
+    }
 }
 
 fn register(alloc: Global) -> Result<Event, Refusal> {
