@@ -31,17 +31,27 @@ pub fn go_over<R: Eprint>(rt: &R, alloc: Global) -> Result<Tally, Refusal> {
     let mut tally = Tally::new();
     for size in 1..=MOST {
         let mut arena = Arena::new(alloc)?;
-        fill(&mut arena, size)?;
-        begun(rt, "control");
-        tally.control(is_new_entry_refused(&mut arena, size));
-        ended(rt, "control");
-        begun(rt, "arena");
-        read_all(&arena, size, &mut tally);
-        change_all(&mut arena, size, &mut tally);
-        empty(&mut arena, size, &mut tally);
-        ended(rt, "arena");
+        go_over_arena(rt, &mut arena, size, &mut tally)?;
     }
     Ok(tally)
+}
+
+fn go_over_arena<R: Eprint>(
+    rt: &R,
+    arena: &mut Arena,
+    size: u32,
+    tally: &mut Tally,
+) -> Result<(), Refusal> {
+    fill(arena, size)?;
+    begun(rt, "control");
+    tally.control(is_new_entry_refused(arena, size));
+    ended(rt, "control");
+    begun(rt, "arena");
+    read_all(arena, size, tally);
+    change_all(arena, size, tally);
+    empty(arena, size, tally);
+    ended(rt, "arena");
+    Ok(())
 }
 
 fn block(number: u32) -> BlockId {

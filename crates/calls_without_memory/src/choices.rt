@@ -4,7 +4,7 @@ ghost use Rattle.bm_place.specs.Sources.{sender_table};
 ghost use Rattle.bm_place.specs.Targets.{target_table};
 
 use crate::MOST;
-use crate::clusters::{heartbeat, join_all, take};
+use crate::clusters::{heartbeat, join_all, take_once};
 use crate::tally::Tally;
 use crate::windows::{begun, ended};
 use bm_base::{Level, Refusal, StorageId};
@@ -19,22 +19,43 @@ pub fn go_over<R: Eprint>(rt: &R, alloc: Global) -> Result<Tally, Refusal> {
     let mut live = Vec::new(alloc);
     for size in 1..=MOST {
         live.push(StorageId(size - 1))?;
-        let mut topology = Topology::new(alloc)?;
-        join_all(&mut topology, alloc, size)?;
-        tell_all(&mut topology, alloc, size)?;
-        choose(rt, alloc, live.as_slice(), &topology, &mut tally)?;
-        begun(rt, "control");
-        tally.control(Streams::new(alloc, &topology).is_err());
-        ended(rt, "control");
+        go_over_one(rt, alloc, live.as_slice(), size, &mut tally)?;
     }
     Ok(tally)
+}
+
+fn go_over_one<R: Eprint>(
+    rt: &R,
+    alloc: Global,
+    live: &[StorageId],
+    size: u32,
+    tally: &mut Tally,
+) -> Result<(), Refusal> {
+    let mut topology = Topology::new(alloc)?;
+    go_over_cluster(rt, alloc, live, &mut topology, size, tally)
+}
+
+fn go_over_cluster<R: Eprint>(
+    rt: &R,
+    alloc: Global,
+    live: &[StorageId],
+    topology: &mut Topology,
+    size: u32,
+    tally: &mut Tally,
+) -> Result<(), Refusal> {
+    join_all(topology, alloc, size)?;
+    tell_all(topology, alloc, size)?;
+    choose(rt, alloc, live, topology, tally)?;
+    begun(rt, "control");
+    tally.control(Streams::new(alloc, topology).is_err());
+    ended(rt, "control");
+    Ok(())
 }
 
 /// A heartbeat of each node.
 fn tell_all(topology: &mut Topology, alloc: Global, size: u32) -> Result<(), Refusal> {
     for number in 0..size {
-        let event = heartbeat(alloc, number)?;
-        take(topology, &event)?;
+        take_once(topology, heartbeat(alloc, number)?)?;
     }
     Ok(())
 }

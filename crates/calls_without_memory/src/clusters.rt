@@ -10,39 +10,116 @@ use std::alloc::Global;
 pub fn go_over<R: Eprint>(rt: &R, alloc: Global) -> Result<Tally, Refusal> {
     let mut tally = Tally::new();
     for size in 1..=MOST {
-        let mut topology = Topology::new(alloc)?;
-        join_all(&mut topology, alloc, size - 1)?;
-        let last = joins(alloc, size - 1)?;
-        let next = joins(alloc, size)?;
-        let beats = heartbeat(alloc, size - 1)?;
-        make_room(&mut topology, &last)?;
-        begun(rt, "registration");
-        tally.note(take(&mut topology, &last).is_ok());
-        ended(rt, "registration");
-        let drains = Event::Drain {
-            node: NodeId(size - 1),
-        };
-        make_room(&mut topology, &drains)?;
-        begun(rt, "control");
-        tally.control(make_room(&mut topology, &next).is_err());
-        ended(rt, "control");
-        begun(rt, "cluster");
-        tally.note(take(&mut topology, &last) == Err(Refusal::NodeKnown));
-        look_up_all(&topology, size, &mut tally);
-        drain_and_stay(&mut topology, &drains, size - 1, &mut tally);
-        tally.note(take(&mut topology, &beats).is_ok());
-        tally.note(topology.remaining(StorageId(size - 1)) == Some(1000));
-        lose_all(&mut topology, size, &mut tally);
-        ended(rt, "cluster");
+        go_over_one(rt, alloc, size, &mut tally)?;
     }
     Ok(tally)
+}
+
+/// The events of a cluster, which are made before its windows are opened.
+#[derive(Clone, Copy)]
+struct Told<'a> {
+    /// The number of the last node.
+    number: u32,
+    /// The last node joins.
+    last: &'a Event,
+    /// One node more joins.
+    next: &'a Event,
+    /// The heartbeat of the last node.
+    beats: &'a Event,
+}
+
+fn go_over_one<R: Eprint>(
+    rt: &R,
+    alloc: Global,
+    size: u32,
+    tally: &mut Tally,
+) -> Result<(), Refusal> {
+    let mut topology = Topology::new(alloc)?;
+    go_over_joined(rt, alloc, &mut topology, size, tally)
+}
+
+/// All nodes but the last one join.
+fn go_over_joined<R: Eprint>(
+    rt: &R,
+    alloc: Global,
+    topology: &mut Topology,
+    size: u32,
+    tally: &mut Tally,
+) -> Result<(), Refusal> {
+    let number = size.saturating_sub(1);
+    join_all(topology, alloc, number)?;
+    let last = joins(alloc, number)?;
+    go_over_last(rt, alloc, topology, size, &last, tally)
+}
+
+/// The event of the last one is made.
+fn go_over_last<R: Eprint>(
+    rt: &R,
+    alloc: Global,
+    topology: &mut Topology,
+    size: u32,
+    last: &Event,
+    tally: &mut Tally,
+) -> Result<(), Refusal> {
+    let next = joins(alloc, size)?;
+    go_over_next(rt, alloc, topology, size, last, &next, tally)
+}
+
+/// And that of one more.
+fn go_over_next<R: Eprint>(
+    rt: &R,
+    alloc: Global,
+    topology: &mut Topology,
+    size: u32,
+    last: &Event,
+    next: &Event,
+    tally: &mut Tally,
+) -> Result<(), Refusal> {
+    let number = size.saturating_sub(1);
+    let beats = heartbeat(alloc, number)?;
+    let told = Told {
+        number,
+        last,
+        next,
+        beats: &beats,
+    };
+    open_windows(rt, topology, size, told, tally)
+}
+
+fn open_windows<R: Eprint>(
+    rt: &R,
+    topology: &mut Topology,
+    size: u32,
+    told: Told<'_>,
+    tally: &mut Tally,
+) -> Result<(), Refusal> {
+    make_room(topology, told.last)?;
+    begun(rt, "registration");
+    tally.note(take(topology, told.last).is_ok());
+    ended(rt, "registration");
+    make_room_to_drain(topology, told.number)?;
+    begun(rt, "control");
+    tally.control(make_room(topology, told.next).is_err());
+    ended(rt, "control");
+    begun(rt, "cluster");
+    tell(topology, size, told, tally);
+    ended(rt, "cluster");
+    Ok(())
+}
+
+fn tell(topology: &mut Topology, size: u32, told: Told<'_>, tally: &mut Tally) {
+    tally.note(take(topology, told.last) == Err(Refusal::NodeKnown));
+    look_up_all(topology, size, tally);
+    drain_and_stay(topology, told.number, tally);
+    tally.note(take(topology, told.beats).is_ok());
+    tally.note(topology.remaining(StorageId(told.number)) == Some(1000));
+    lose_all(topology, size, tally);
 }
 
 /// So many nodes join, from number 0 on.
 pub fn join_all(topology: &mut Topology, alloc: Global, size: u32) -> Result<(), Refusal> {
     for number in 0..size {
-        let event = joins(alloc, number)?;
-        take(topology, &event)?;
+        take_once(topology, joins(alloc, number)?)?;
     }
     Ok(())
 }
@@ -75,12 +152,24 @@ pub fn take(topology: &mut Topology, event: &Event) -> Result<(), Refusal> {
     Ok(())
 }
 
+/// The same of an event that is made for this alone.
+pub fn take_once(topology: &mut Topology, event: Event) -> Result<(), Refusal> {
+    take(topology, &event)
+}
+
 /// An event that is checked, prepared and given up: the room stays.
 fn make_room(topology: &mut Topology, event: &Event) -> Result<(), Refusal> {
     topology.check(event)?;
     topology.prepare(event)?;
     topology.abort();
     Ok(())
+}
+
+fn make_room_to_drain(topology: &mut Topology, number: u32) -> Result<(), Refusal> {
+    let drains = Event::Drain {
+        node: NodeId(number),
+    };
+    make_room(topology, &drains)
 }
 
 fn look_up_all(topology: &Topology, size: u32, tally: &mut Tally) {
@@ -104,14 +193,17 @@ fn look_up(topology: &Topology, number: u32, tally: &mut Tally) {
 }
 
 /// A node drains, in room that was made, and then drains no more.
-fn drain_and_stay(topology: &mut Topology, drains: &Event, number: u32, tally: &mut Tally) {
+fn drain_and_stay(topology: &mut Topology, number: u32, tally: &mut Tally) {
+    let drains = Event::Drain {
+        node: NodeId(number),
+    };
+    tally.note(take_once(topology, drains).is_ok());
+    tally.note(topology.node_drains(NodeId(number)) == Some(true));
+    tally.note(topology.is_draining(StorageId(number)));
     let stays = Event::Undrain {
         node: NodeId(number),
     };
-    tally.note(take(topology, drains).is_ok());
-    tally.note(topology.node_drains(NodeId(number)) == Some(true));
-    tally.note(topology.is_draining(StorageId(number)));
-    tally.note(take(topology, &stays).is_ok());
+    tally.note(take_once(topology, stays).is_ok());
     tally.note(topology.node_drains(NodeId(number)) == Some(false));
 }
 
@@ -121,11 +213,11 @@ fn lose_all(topology: &mut Topology, size: u32, tally: &mut Tally) {
         let fails = Event::StorageFailed {
             storage: StorageId(number),
         };
-        tally.note(take(topology, &fails).is_ok());
+        tally.note(take_once(topology, fails).is_ok());
         let dies = Event::Dead {
             node: NodeId(number),
         };
-        tally.note(take(topology, &dies).is_ok());
+        tally.note(take_once(topology, dies).is_ok());
     }
     tally.note(topology.alive_nodes() == 0 && topology.storage_count() == 0);
 }

@@ -49,22 +49,58 @@ fn go_over_one<R: Eprint + Threads + Wait + Sync>(
     tally: &mut Tally,
 ) -> Result<(), Refusal> {
     let mut manager = Manager::new(alloc, config)?;
-    fill(rt, &mut manager, alloc, size)?;
+    go_over_filled(rt, alloc, &mut manager, size, tally)
+}
+
+/// The node comes with its storages, and the blocks with their replicas.
+fn go_over_filled<R: Eprint + Threads + Wait + Sync>(
+    rt: &R,
+    alloc: Global,
+    manager: &mut Manager,
+    size: u32,
+    tally: &mut Tally,
+) -> Result<(), Refusal> {
+    fill(rt, manager, alloc, size)?;
     let beats = heartbeat(alloc, size)?;
+    open_windows(rt, manager, size, &beats, tally);
+    Ok(())
+}
+
+fn open_windows<R: Eprint + Threads + Wait + Sync>(
+    rt: &R,
+    manager: &mut Manager,
+    size: u32,
+    beats: &Event,
+    tally: &mut Tally,
+) {
     begun(rt, "control");
-    let is_refused = manager.apply(rt, &NoGate, &add_block(size)) == Err(Refusal::Memory);
-    tally.control(is_refused);
+    tally.control(take_once(rt, manager, add_block(size)) == Err(Refusal::Memory));
     ended(rt, "control");
     let before = manager.calls();
     begun(rt, "manager");
-    tally.note(manager.apply(rt, &NoGate, &beats) == Ok(NOTHING));
-    for number in 0..size {
-        tell(rt, &mut manager, number, tally);
-    }
+    tally.note(take(rt, manager, beats) == Ok(NOTHING));
+    tell_all(rt, manager, size, tally);
     tally.note(manager.calls().saturating_sub(before) == 1 + 5 * u64::from(size));
     tally.note(manager.rounds() == 0);
     ended(rt, "manager");
-    Ok(())
+}
+
+/// The manager takes an event. What it promises of it, no caller here wants to know.
+fn take<R: Threads + Wait + Sync>(
+    rt: &R,
+    manager: &mut Manager,
+    event: &Event,
+) -> Result<Done, Refusal> {
+    manager.apply(rt, &NoGate, event)
+}
+
+/// The same of an event that is made for this alone.
+fn take_once<R: Threads + Wait + Sync>(
+    rt: &R,
+    manager: &mut Manager,
+    event: Event,
+) -> Result<Done, Refusal> {
+    take(rt, manager, &event)
 }
 
 fn fill<R: Threads + Wait + Sync>(
@@ -73,13 +109,18 @@ fn fill<R: Threads + Wait + Sync>(
     alloc: Global,
     size: u32,
 ) -> Result<(), Refusal> {
-    let joins = register(alloc, size)?;
-    manager.apply(rt, &NoGate, &joins)?;
+    take_once(rt, manager, register(alloc, size)?)?;
     for number in 0..size {
-        manager.apply(rt, &NoGate, &add_block(number))?;
-        manager.apply(rt, &NoGate, &received(number))?;
+        take_once(rt, manager, add_block(number))?;
+        take_once(rt, manager, received(number))?;
     }
     Ok(())
+}
+
+fn tell_all<R: Threads + Wait + Sync>(rt: &R, manager: &mut Manager, size: u32, tally: &mut Tally) {
+    for number in 0..size {
+        tell(rt, manager, number, tally);
+    }
 }
 
 /// The five events of a block that take no memory, and between them its level and whether its node is retired.
@@ -87,20 +128,20 @@ fn tell<R: Threads + Wait + Sync>(rt: &R, manager: &mut Manager, number: u32, ta
     let id = block(number);
     let storage = StorageId(number);
     let more = Event::SetReplication { id, repl: 3 };
-    tally.note(manager.apply(rt, &NoGate, &more) == Ok(NOTHING));
+    tally.note(take_once(rt, manager, more) == Ok(NOTHING));
     let newer = Event::Restamp {
         id,
         stamp: stamp(2),
     };
-    tally.note(manager.apply(rt, &NoGate, &newer) == Ok(NOTHING));
+    tally.note(take_once(rt, manager, newer) == Ok(NOTHING));
     tally.note(manager.level(id) == Ok(Some(Level::NoUsableReplica)));
     tally.note(manager.retired(NodeId(1)) == Ok(false));
     let corrupt = Event::Corrupt { storage, id };
-    tally.note(manager.apply(rt, &NoGate, &corrupt) == Ok(NOTHING));
+    tally.note(take_once(rt, manager, corrupt) == Ok(NOTHING));
     let deleted = Event::Deleted { storage, id };
-    tally.note(manager.apply(rt, &NoGate, &deleted) == Ok(ONE_GONE));
+    tally.note(take_once(rt, manager, deleted) == Ok(ONE_GONE));
     let delete = Event::DeleteBlock { id };
-    tally.note(manager.apply(rt, &NoGate, &delete) == Ok(NOTHING));
+    tally.note(take_once(rt, manager, delete) == Ok(NOTHING));
 }
 
 fn block(number: u32) -> BlockId {

@@ -34,30 +34,65 @@ const STRAY: Marks = Marks {
 };
 
 pub fn go_over<R: Eprint>(rt: &R, alloc: Global) -> Result<Tally, Refusal> {
-    let mut tally = Tally::new();
     let mut topology = Topology::new(alloc)?;
-    join_all(&mut topology, alloc, 1)?;
+    go_over_cluster(rt, alloc, &mut topology)
+}
+
+/// On a cluster of one node.
+fn go_over_cluster<R: Eprint>(
+    rt: &R,
+    alloc: Global,
+    topology: &mut Topology,
+) -> Result<Tally, Refusal> {
+    let mut tally = Tally::new();
+    join_all(topology, alloc, 1)?;
     for size in 1..=MOST {
-        let mut arena = Arena::new(alloc)?;
-        let mut report = Report::new(alloc);
-        make_ready(&mut report, &mut arena, size)?;
-        begun(rt, "report");
-        let applied = report.apply_full(&mut arena, &topology, StorageId(0));
-        tally.note(applied.added == u128::from(size) && applied.removed == 0);
-        tally.note(applied.steps == u128::from(size) + 2);
-        tally.note(arena.count() == size as usize);
-        read_all(&arena, size, &mut tally);
-        ended(rt, "report");
-        begun(rt, "control");
-        let last = size.saturating_mul(3);
-        tally.control(name(&mut report, &mut arena, size.saturating_add(1), last).is_err());
-        ended(rt, "control");
-        begun(rt, "abort");
-        report.abort(&mut arena);
-        tally.note(arena.count() == size as usize);
-        ended(rt, "abort");
+        go_over_one(rt, alloc, topology, size, &mut tally)?;
     }
     Ok(tally)
+}
+
+fn go_over_one<R: Eprint>(
+    rt: &R,
+    alloc: Global,
+    topology: &Topology,
+    size: u32,
+    tally: &mut Tally,
+) -> Result<(), Refusal> {
+    let mut arena = Arena::new(alloc)?;
+    let mut report = Report::new(alloc);
+    go_over_report(rt, &mut report, &mut arena, topology, size, tally)
+}
+
+/// In an arena that holds nothing.
+fn go_over_report<R: Eprint>(
+    rt: &R,
+    report: &mut Report,
+    arena: &mut Arena,
+    topology: &Topology,
+    size: u32,
+    tally: &mut Tally,
+) -> Result<(), Refusal>
+    requires ids { arena.old.ids ≡ [] }
+    requires delimiter { block_at arena.old arena.old.delimiter ≡ Some (empty_block 0) }
+{
+    make_ready(report, arena, size)?;
+    begun(rt, "report");
+    let applied = report.apply_full(arena, topology, StorageId(0));
+    tally.note(applied.added == u128::from(size) && applied.removed == 0);
+    tally.note(applied.steps == u128::from(size) + 2);
+    tally.note(arena.count() == size as usize);
+    read_all(arena, size, tally);
+    ended(rt, "report");
+    begun(rt, "control");
+    let last = size.saturating_mul(3);
+    tally.control(name(report, arena, size.saturating_add(1), last).is_err());
+    ended(rt, "control");
+    begun(rt, "abort");
+    report.abort(arena);
+    tally.note(arena.count() == size as usize);
+    ended(rt, "abort");
+    Ok(())
 }
 
 /// Makes a report of the blocks with these numbers ready.

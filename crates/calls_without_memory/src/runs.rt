@@ -13,19 +13,33 @@ use std::thread::Threads;
 pub fn go_over<R: Eprint + Threads + Wait + Sync>(rt: &R, alloc: Global) -> Result<Tally, Refusal> {
     let mut tally = Tally::new();
     for size in 1..=MOST {
-        let items = pieces(alloc, size)?;
-        let ready = Crew::ready::<u64, u64>(alloc, size as usize, 1)?;
-        begun(rt, "run");
-        let squares = ready.run(rt, items, &|_, x: u64| x.wrapping_mul(x), &NoGate);
-        for number in 0..size {
-            tally.note(squares.get(number as usize).copied() == Some(square(number)));
-        }
-        ended(rt, "run");
+        go_over_one(rt, alloc, size, &mut tally)?;
         begun(rt, "control");
         tally.control(Crew::ready::<u64, u64>(alloc, size as usize, 1).is_err());
         ended(rt, "control");
     }
     Ok(tally)
+}
+
+fn go_over_one<R: Eprint + Threads + Wait + Sync>(
+    rt: &R,
+    alloc: Global,
+    size: u32,
+    tally: &mut Tally,
+) -> Result<(), Refusal> {
+    let items = pieces(alloc, size)?;
+    let ready = Crew::ready::<u64, u64>(alloc, size as usize, 1)?;
+    begun(rt, "run");
+    let squares = ready.run(rt, items, &|_, x: u64| x.wrapping_mul(x), &NoGate);
+    read_all(squares.as_slice(), size, tally);
+    ended(rt, "run");
+    Ok(())
+}
+
+fn read_all(squares: &[(u32, u64)], size: u32, tally: &mut Tally) {
+    for number in 0..size {
+        tally.note(squares.get(number as usize).copied() == Some(square(number)));
+    }
 }
 
 fn square(number: u32) -> (u32, u64) {

@@ -12,26 +12,64 @@ use std::alloc::Global;
 pub fn go_over<R: Eprint>(rt: &R, alloc: Global) -> Result<Tally, Refusal> {
     let mut tally = Tally::new();
     for size in 1..=MOST {
-        let mut pending = PendingTransfers::new(alloc, HashSecret::none());
-        reserve_all(&mut pending, size)?;
-        let mut targets = Vec::with_capacity(alloc, 3)?;
-        begun(rt, "control");
-        tally.control(is_new_block_refused(&mut pending, size));
-        ended(rt, "control");
-        begun(rt, "transfers");
-        insert_all(&mut pending, size);
-        read_all(&pending, &mut targets, size, &mut tally);
-        pending.drop_expired(2, 5);
-        counts_are(&pending, size, 2, &mut tally);
-        pending.drop_storages([StorageId(1)].as_slice());
-        counts_are(&pending, size, 1, &mut tally);
-        insert_again(&mut pending, size, &mut tally);
-        pending.drop_empty_rooms();
-        remove_all(&mut pending, size, &mut tally);
-        pending.drop_empty_rooms();
-        ended(rt, "transfers");
+        go_over_one(rt, alloc, size, &mut tally)?;
     }
     Ok(tally)
+}
+
+fn go_over_one<R: Eprint>(
+    rt: &R,
+    alloc: Global,
+    size: u32,
+    tally: &mut Tally,
+) -> Result<(), Refusal> {
+    let mut pending = PendingTransfers::new(alloc, HashSecret::none());
+    go_over_room(rt, alloc, &mut pending, size, tally)
+}
+
+/// Room is made before the windows are opened.
+fn go_over_room<R: Eprint>(
+    rt: &R,
+    alloc: Global,
+    pending: &mut PendingTransfers,
+    size: u32,
+    tally: &mut Tally,
+) -> Result<(), Refusal> {
+    reserve_all(pending, size)?;
+    let mut targets = Vec::with_capacity(alloc, 3)?;
+    open_windows(rt, pending, &mut targets, size, tally);
+    Ok(())
+}
+
+fn open_windows<R: Eprint>(
+    rt: &R,
+    pending: &mut PendingTransfers,
+    targets: &mut Vec<StorageId>,
+    size: u32,
+    tally: &mut Tally,
+)
+    requires { (b : ℕ) → b < size → 3 ≤ room pending.old b }
+{
+    begun(rt, "control");
+    tally.control(is_new_block_refused(pending, size));
+    ended(rt, "control");
+    begun(rt, "transfers");
+    insert_all(pending, size);
+    read_all(pending, targets, size, tally);
+    drop_some(pending, size, tally);
+    insert_again(pending, size, tally);
+    pending.drop_empty_rooms();
+    remove_all(pending, size, tally);
+    pending.drop_empty_rooms();
+    ended(rt, "transfers");
+}
+
+/// Those that are too old, and then those to a storage.
+fn drop_some(pending: &mut PendingTransfers, size: u32, tally: &mut Tally) {
+    pending.drop_expired(2, 5);
+    counts_are(pending, size, 2, tally);
+    pending.drop_storages([StorageId(1)].as_slice());
+    counts_are(pending, size, 1, tally);
 }
 
 fn block(number: u32) -> BlockId

@@ -7,7 +7,7 @@ use crate::MOST;
 use crate::tally::Tally;
 use crate::windows::{begun, ended};
 use bm_base::{BlockId, Places, Refusal, StorageId};
-use bm_view::{Located, Locator, Publisher, Table, open_view};
+use bm_view::{Located, Locator, Publisher, Receipt, Table, open_view};
 use std::alloc::{AllocError, Global};
 use std::sync::{Arc, Wait};
 
@@ -15,22 +15,31 @@ pub fn go_over<R: Eprint + Wait>(rt: &R, alloc: Global) -> Result<Tally, Refusal
     let mut tally = Tally::new();
     for size in 1..=MOST {
         let table = table(alloc, size)?;
-        let (mut publisher, mut locators) = open_view(rt, alloc, 1)?;
-        let is_told = match locators.pop() {
-            Some(locator) => {
-                publish_and_locate(rt, &mut publisher, locator, table, size, &mut tally)
-            }
-            None => Err(Refusal::BadConfig),
-        };
-        begun(rt, "end");
-        publisher.end(rt);
-        ended(rt, "end");
-        is_told?;
+        go_over_view(rt, alloc, table, size, &mut tally)?;
         begun(rt, "control");
         tally.control(is_view_refused(rt, alloc));
         ended(rt, "control");
     }
     Ok(tally)
+}
+
+/// The view is ended before an error is told.
+fn go_over_view<R: Eprint + Wait>(
+    rt: &R,
+    alloc: Global,
+    table: Arc<Table>,
+    size: u32,
+    tally: &mut Tally,
+) -> Result<(), Refusal> {
+    let (mut publisher, mut locators) = open_view(rt, alloc, 1)?;
+    let is_told = match locators.pop() {
+        Some(locator) => publish_and_locate(rt, &mut publisher, locator, table, size, tally),
+        None => Err(Refusal::BadConfig),
+    };
+    begun(rt, "end");
+    publisher.end(rt);
+    ended(rt, "end");
+    is_told
 }
 
 /// Whether there is no memory for a view.
@@ -59,11 +68,17 @@ fn publish_and_locate<R: Eprint + Wait>(
     begun(rt, "view");
     tally.note(receipt.calls() == u64::from(size));
     tally.note(publisher.calls() == u64::from(size));
+    locate(&mut locator, receipt, size, tally);
+    ended(rt, "view");
+    Ok(())
+}
+
+fn locate(locator: &mut Locator, receipt: Receipt, size: u32, tally: &mut Tally)
+    requires { receipt.home ≡ locator.old.home }
+{
     locator.learn(receipt);
     tally.note(locator.locate(block(size)) == found(size, places(size)));
     tally.note(locator.locate(block(0)) == found(size, Places::none()));
-    ended(rt, "view");
-    Ok(())
 }
 
 fn block(number: u32) -> BlockId {
