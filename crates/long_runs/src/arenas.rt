@@ -17,9 +17,13 @@ const GOOD: Marks = Marks {
 /// How many steps there were.
 pub fn repeat<R: Eprint>(rt: &R, alloc: Global) -> Result<u64, Refusal> {
     let mut arena = Arena::new(alloc)?;
+    repeat_on(rt, &mut arena)
+}
+
+fn repeat_on<R: Eprint>(rt: &R, arena: &mut Arena) -> Result<u64, Refusal> {
     for _ in 0..MARKS {
         for id in 0..CYCLES {
-            come_and_go(&mut arena, BlockId(u64::from(id)))?;
+            come_and_go(arena, BlockId(u64::from(id)))?;
         }
         mark(rt, "arena");
     }
@@ -32,13 +36,17 @@ fn come_and_go(arena: &mut Arena, id: BlockId) -> Result<(), Refusal> {
         link(arena, slot, StorageId(storage))?;
     }
     sweep(arena, StorageId(0));
+    go(arena, slot);
+    Ok(())
+}
+
+fn go(arena: &mut Arena, slot: Slot) {
     for storage in 0..STORAGES {
         unlink(arena, slot, StorageId(storage));
     }
     if arena.is_bare(slot) && !arena.is_delimiter(slot) {
         arena.drop_entry(slot);
     }
-    Ok(())
 }
 
 /// Makes room for a replica, and links it.

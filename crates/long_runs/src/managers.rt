@@ -45,16 +45,40 @@ fn cycles<R: Eprint + Threads + Wait + Sync>(
     count: u32,
     name: &str,
 ) -> Result<u64, Refusal> {
-    let mut manager = Manager::new(alloc, config)?;
+    match Manager::new(alloc, config) {
+        Ok(mut manager) => {
+            let calls = cycles_on(rt, alloc, &mut manager, count, name);
+            drop(manager);
+            calls
+        }
+        Err(refusal) => Err(refusal),
+    }
+}
+
+fn cycles_on<R: Eprint + Threads + Wait + Sync>(
+    rt: &R,
+    alloc: Global,
+    manager: &mut Manager,
+    count: u32,
+    name: &str,
+) -> Result<u64, Refusal> {
     for _ in 0..MARKS {
         for _ in 0..count {
-            come(rt, &mut manager, alloc)?;
-            ask(&manager)?;
-            go(rt, &mut manager)?;
+            cycle(rt, alloc, manager)?;
         }
         mark(rt, name);
     }
     Ok(manager.calls())
+}
+
+fn cycle<R: Threads + Wait + Sync>(
+    rt: &R,
+    alloc: Global,
+    manager: &mut Manager,
+) -> Result<(), Refusal> {
+    come(rt, manager, alloc)?;
+    ask(manager)?;
+    go(rt, manager)
 }
 
 /// Two nodes come, and a block with a replica on each; one of these and a stray replica by a report.
@@ -63,37 +87,62 @@ fn come<R: Threads + Wait + Sync>(
     manager: &mut Manager,
     alloc: Global,
 ) -> Result<(), Refusal> {
-    let first = register(alloc, 1)?;
-    let second = register(alloc, 2)?;
-    let told = report(alloc)?;
-    manager.apply(rt, &NoGate, &first)?;
-    manager.apply(rt, &NoGate, &second)?;
-    manager.apply(rt, &NoGate, &add_block())?;
-    manager.apply(rt, &NoGate, &received())?;
-    manager.apply(rt, &NoGate, &told)?;
-    Ok(())
+    apply_made(rt, manager, register(alloc, 1))?;
+    apply_made(rt, manager, register(alloc, 2))?;
+    apply(rt, manager, add_block())?;
+    apply(rt, manager, received())?;
+    apply_made(rt, manager, report(alloc))
 }
 
 /// All lists; their lengths are of no interest here.
 fn ask(manager: &Manager) -> Result<(), Refusal> {
-    let _ = manager.replicas()?;
-    let _ = manager.corrupt()?;
-    let _ = manager.missing()?;
-    let _ = manager.blocks_on(StorageId(21))?;
-    let _ = manager.places(BLOCK)?;
-    Ok(())
+    had(manager.replicas())?;
+    had(manager.corrupt())?;
+    had(manager.missing())?;
+    had(manager.blocks_on(StorageId(21)))?;
+    had(manager.places(BLOCK))
 }
 
 /// A round, and then all goes: the stray replica, the block, a storage, and the nodes with the rest.
 fn go<R: Threads + Wait + Sync>(rt: &R, manager: &mut Manager) -> Result<(), Refusal> {
-    let _ = manager.round(rt, &NoGate)?;
+    had(manager.round(rt, &NoGate))?;
     let (storage, id) = (StorageId(21), STRAY);
-    manager.apply(rt, &NoGate, &Event::Deleted { storage, id })?;
-    manager.apply(rt, &NoGate, &Event::DeleteBlock { id: BLOCK })?;
-    manager.apply(rt, &NoGate, &Event::StorageFailed { storage })?;
-    manager.apply(rt, &NoGate, &Event::Dead { node: NodeId(1) })?;
-    manager.apply(rt, &NoGate, &Event::Dead { node: NodeId(2) })?;
-    Ok(())
+    apply(rt, manager, Event::Deleted { storage, id })?;
+    apply(rt, manager, Event::DeleteBlock { id: BLOCK })?;
+    apply(rt, manager, Event::StorageFailed { storage })?;
+    apply(rt, manager, Event::Dead { node: NodeId(1) })?;
+    apply(rt, manager, Event::Dead { node: NodeId(2) })
+}
+
+fn apply_made<R: Threads + Wait + Sync>(
+    rt: &R,
+    manager: &mut Manager,
+    made: Result<Event, Refusal>,
+) -> Result<(), Refusal> {
+    match made {
+        Ok(event) => apply(rt, manager, event),
+        Err(refusal) => Err(refusal),
+    }
+}
+
+/// Tells the manager of an event, and lets it go by `drop`: its proof is one for all functions, and that of a value which goes at the
+/// end of its scope is one for each.
+fn apply<R: Threads + Wait + Sync>(
+    rt: &R,
+    manager: &mut Manager,
+    event: Event,
+) -> Result<(), Refusal> {
+    let done = manager.apply(rt, &NoGate, &event);
+    drop(event);
+    had(done)
+}
+
+/// Whether there was an answer, which is of no interest.
+fn had<T: Drop>(answer: Result<T, Refusal>) -> Result<(), Refusal> {
+    match answer {
+        Ok(_) => Ok(()),
+        Err(refusal) => Err(refusal),
+    }
 }
 
 /// A node on a rack of its own, with two storages.

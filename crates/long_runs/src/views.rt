@@ -1,5 +1,5 @@
 // One publisher, and a locator that learns each version.
-ghost use Rattle.std.specs.Prelude.{◌≡◌, ◌≤◌, IfOk};
+ghost use Rattle.std.specs.Prelude.{◌≡◌, ◌≤◌, IfOk, OnOk};
 ghost use Rattle.std.specs.Arc.{arc_value};
 ghost use Rattle.bm_view.specs.History.{last_of};
 
@@ -34,15 +34,32 @@ fn publish_all<R: Eprint + Wait>(
 {
     let mut right = 0u64;
     for calls in 0..MARKS * CYCLES {
-        let table = version(alloc, u64::from(calls))?;
-        let receipt = publisher.publish(rt, table)?;
-        locator.learn(receipt);
-        right = right.saturating_add(u64::from(locator.locate(BLOCK) == found(u64::from(calls))));
+        let is_right = publish_one(rt, alloc, publisher, locator, u64::from(calls))?;
+        right = right.saturating_add(u64::from(is_right));
         if calls % CYCLES == CYCLES - 1 {
             mark(rt, "view");
         }
     }
     Ok(right)
+}
+
+/// Whether the locator answers from the version, once it has learnt it.
+fn publish_one<R: Wait>(
+    rt: &R,
+    alloc: Global,
+    publisher: &mut Publisher,
+    locator: &mut Locator,
+    calls: u64,
+) -> Result<bool, Refusal>
+    requires calls { (last_of publisher.old.list).calls ≤ calls }
+    requires home { locator.old.home ≡ publisher.old.home }
+    ensures calls { OnOk result ((last_of publisher.new.list).calls ≡ calls) }
+    ensures home { OnOk result (locator.new.home ≡ publisher.new.home) }
+{
+    let table = version(alloc, calls)?;
+    let receipt = publisher.publish(rt, table)?;
+    locator.learn(receipt);
+    Ok(locator.locate(BLOCK) == found(calls))
 }
 
 /// A version with one row.
