@@ -1,5 +1,5 @@
 // The calls that tell a manager of a cluster.
-ghost use Rattle.std.specs.Prelude.{◌≡◌, ◌==◌, ◌++◌, IfOk, map};
+ghost use Rattle.std.specs.Prelude.{◌≡◌, ◌++◌, IfOk, map};
 ghost use Rattle.fsck_import.specs.Blocks.{add};
 ghost use Rattle.fsck_import.specs.CallsFor.{storages_of, register, remaining_on, heartbeat, report, calls_for};
 
@@ -60,16 +60,9 @@ fn storages_of(alloc: Global, rows: &[Row], node: u32) -> Result<Vec<StorageId>,
     ensures { IfOk result (λ v. v.items ≡ storages_of rows.now node) }
 {
     rows.iter()
-        .filter(|row| stands_on(row, node))
+        .filter(|row| row.node == node)
         .map(|row| StorageId(row.number))
         .collect(alloc)
-}
-
-/// Whether a storage is on this node.
-fn stands_on(row: &Row, node: u32) -> bool
-    ensures { result ≡ (row.now.node == node) }
-{
-    row.node == node
 }
 
 /// Each node comes with its storages.

@@ -4,7 +4,7 @@ use std::alloc::AllocError;
 use thiserror::Error;
 
 /// Why a line is not taken.
-#[derive(Clone, Copy, Debug, PartialEq, Eq)]
+#[derive(Clone, Copy)]
 pub enum LineFault {
     Memory,
     Refused(Refusal),

@@ -33,7 +33,7 @@ impl Names {
         ensures { result ≡ [] }
     {
         Names {
-            set: no_keys(alloc),
+            set: IndexSet::new(alloc),
         }
     }
 
@@ -90,11 +90,4 @@ impl Names {
             None => "",
         }
     }
-}
-
-/// A set of no names.
-fn no_keys(alloc: Global) -> IndexSet<String>
-    ensures { result.keys ≡ [] }
-{
-    IndexSet::new(alloc)
 }

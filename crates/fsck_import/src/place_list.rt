@@ -42,6 +42,13 @@ pub fn repeats_storage(alloc: Global, words: &[Word]) -> Result<bool, AllocError
     ensures { IfOk result (λ repeats. repeats ≡ repeats_storage [] words.now) }
 {
     let mut names = Names::new(alloc);
+    repeats_name(alloc, &mut names, words)
+}
+
+/// The same, where these storages were told before.
+fn repeats_name(alloc: Global, names: &mut Names, words: &[Word]) -> Result<bool, AllocError>
+    ensures { IfOk result (λ repeats. repeats ≡ repeats_storage names.old words.now) }
+{
     for word in words {
         if let Word::Place(listed) = word {
             if !names.number_of(alloc, listed.place.storage())?.is_new {

@@ -1,5 +1,5 @@
 // The replicas on a storage, in runs of block numbers.
-ghost use Rattle.std.specs.Prelude.{◌≡◌, ◌+◌, ◌==◌, ◌&&◌, ◌++◌, OnOk, []};
+ghost use Rattle.std.specs.Prelude.{◌≡◌, ◌++◌, OnOk, []};
 ghost use Rattle.fsck_import.specs.Runs.{follows, through, joined, with_replica};
 
 use bm_base::{BlockId, Entry, Items, Stamp};
@@ -66,21 +66,10 @@ impl Runs {
 fn follows(last: &Entry, next: &Entry) -> bool
     ensures { result ≡ follows last.now next.now }
 {
-    is_behind(last.to, next.from) && is_same(&last.stamp, &next.stamp)
-}
-
-/// Whether a block's number is the next behind another's.
-fn is_behind(last: BlockId, next: BlockId) -> bool
-    ensures { result ≡ (last + 1 == next) }
-{
-    last.0 < next.0 && next.0 - last.0 == 1
-}
-
-/// Whether two stamps are the same.
-fn is_same(last: &Stamp, next: &Stamp) -> bool
-    ensures { result ≡ ((last.now.generation == next.now.generation) && (last.now.len == next.now.len)) }
-{
-    last.generation.0 == next.generation.0 && last.len == next.len
+    last.to.0 < next.from.0
+        && next.from.0 - last.to.0 == 1
+        && last.stamp.generation.0 == next.stamp.generation.0
+        && last.stamp.len == next.stamp.len
 }
 
 /// The run from the beginning of one to the end of the next.
