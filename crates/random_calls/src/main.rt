@@ -25,7 +25,7 @@ use bm_manager::Manager;
 use counts::Counts;
 use dice::Dice;
 use std::alloc::{AllocError, Global};
-use std::env;
+use std::env::{self, Args};
 use std::process::ExitCode;
 use std::rt::Runtime;
 use std::sync::Wait;
@@ -81,23 +81,42 @@ impl Asked {
 
 /// What the arguments ask for. `None` where a word is no number.
 fn read_words<R: Runtime + AllocGlobal>(rt: &R) -> Option<Asked> {
-    let mut words = env::args(rt).ok()?.skip(1).peekable();
-    let is_beside = matches!(words.peek(), Some(word) if word.as_str() == "beside");
-    if is_beside {
-        let _ = words.next();
+    match env::args(rt) {
+        Ok(mut words) => {
+            let _program = words.next();
+            read_all(&mut words)
+        }
+        Err(_) => None,
     }
-    let count = match words.next() {
-        Some(word) => Some(word.as_str().parse::<u32>().ok()?),
-        None => None,
-    };
-    let seed = match words.next() {
-        Some(word) => word.as_str().parse::<u64>().ok()?,
-        None => SEED,
-    };
-    if is_beside {
-        return Some(Asked::Beside(count.unwrap_or(TIMES), seed));
+}
+
+fn read_all(words: &mut Args<Global>) -> Option<Asked> {
+    let first = words.next();
+    if is_beside(&first) {
+        let count = count_in(words.next(), TIMES)?;
+        return Some(Asked::Beside(count, seed_in(words.next())?));
     }
-    Some(Asked::Calls(count.unwrap_or(LIST), seed))
+    let count = count_in(first, LIST)?;
+    Some(Asked::Calls(count, seed_in(words.next())?))
+}
+
+fn is_beside(word: &Option<String>) -> bool {
+    matches!(word, Some(word) if word.as_str() == "beside")
+}
+
+/// How many a word asks for, and so many where there is none.
+fn count_in(word: Option<String>, otherwise: u32) -> Option<u32> {
+    match word {
+        Some(word) => word.as_str().parse::<u32>().ok(),
+        None => Some(otherwise),
+    }
+}
+
+fn seed_in(word: Option<String>) -> Option<u64> {
+    match word {
+        Some(word) => word.as_str().parse::<u64>().ok(),
+        None => Some(SEED),
+    }
 }
 
 /// Whether all calls were answered alike, and enough happened.
