@@ -64,37 +64,22 @@ fn say_last(runs: &mut Vec<Run>, word: &str) -> Option<()> {
     runs.last_mut()?.say(number)
 }
 
-// A word begins a run, or is a number of the last one. Whether it can be read so.
-fn read_word(runs: &mut Vec<Run>, word: &str) -> Result<bool, Refusal> {
-    match subject_of(word) {
-        Some(subject) => {
-            runs.push(Run::new(subject))?;
-            Ok(true)
-        }
-        None => Ok(say_last(runs, word).is_some()),
-    }
-}
-
-// Whether all words can be read so.
-fn read_words(runs: &mut Vec<Run>, words: &[String]) -> Result<bool, Refusal> {
-    for word in words {
-        if !read_word(runs, word.as_str())? {
-            return Ok(false);
-        }
-    }
-    Ok(true)
-}
-
-fn are_whole(runs: &[Run]) -> bool {
-    !runs.is_empty() && runs.iter().all(|run| run.said > 0)
-}
-
 /// The runs, in their order: each a subject, the number of blocks, and then, where they are not one, the number of shards and that
 /// of workers. None where the words are anything else. `Memory`.
 pub fn runs_of(alloc: Global, words: &[String]) -> Result<Option<Vec<Run>>, Refusal> {
     let mut runs = Vec::new(alloc);
-    if read_words(&mut runs, words)? && are_whole(runs.as_slice()) {
-        return Ok(Some(runs));
+    for word in words {
+        match subject_of(word.as_str()) {
+            Some(subject) => runs.push(Run::new(subject))?,
+            None => {
+                if say_last(&mut runs, word.as_str()).is_none() {
+                    return Ok(None);
+                }
+            }
+        }
     }
-    Ok(None)
+    if runs.is_empty() || runs.iter().any(|run| run.said == 0) {
+        return Ok(None);
+    }
+    Ok(Some(runs))
 }

@@ -48,28 +48,22 @@ use std::time::CpuClock;
 
 /// Ends with status 1 where the words ask for no run, and where a run is refused.
 fn main(rt: HostRuntime) -> ExitCode {
-    match words_of(&rt) {
-        Some(words) => measure_asked(&rt, words.as_slice()),
-        None => ExitCode::FAILURE,
+    let Some(words) = words_of(&rt) else {
+        return ExitCode::FAILURE;
+    };
+    match runs_of(rt.alloc(), words.as_slice()) {
+        Ok(Some(runs)) => ended(&rt, measure_all(&rt, runs.as_slice())),
+        Ok(None) => {
+            let _ = eprintln!(rt; "arena COUNT, or: manager or memory COUNT [SHARDS WORKERS]");
+            ExitCode::FAILURE
+        }
+        Err(refusal) => ended(&rt, Err(refusal)),
     }
 }
 
 /// The words behind the name of the program, or None where they can't be read, or there is no memory for them.
 fn words_of<R: Env + AllocGlobal>(rt: &R) -> Option<Vec<String>> {
     env::args(rt).ok()?.skip(1).collect(rt.alloc()).ok()
-}
-
-fn measure_asked<
-    R: Clock + CpuClock + Files + AllocGlobal + Print + Eprint + Threads + Wait + Sync,
->(rt: &R, words: &[String]) -> ExitCode {
-    match runs_of(rt.alloc(), words) {
-        Ok(Some(runs)) => ended(rt, measure_all(rt, runs.as_slice())),
-        Ok(None) => {
-            let _ = eprintln!(rt; "arena COUNT, or: manager or memory COUNT [SHARDS WORKERS]");
-            ExitCode::FAILURE
-        }
-        Err(refusal) => ended(rt, Err(refusal)),
-    }
 }
 
 fn ended(rt: &impl Eprint, end: Result<(), Refusal>) -> ExitCode {

@@ -93,19 +93,13 @@ pub fn rising_reports(alloc: Global, blocks: u64) -> Result<Vec<Vec<Entry>>, Ref
         reports.push(Vec::new(alloc))?;
     }
     for i in 0..blocks {
-        name_block(reports.as_mut_slice(), i)?;
-    }
-    Ok(reports)
-}
-
-// The reports of its three storages name the block `i` too.
-fn name_block(reports: &mut [Vec<Entry>], i: u64) -> Result<(), Refusal> {
-    for storage in storages_of(i) {
-        if let Some(report) = reports.get_mut(storage.0 as usize) {
-            report.push(Entry::one(block_number(i), STAMP))?;
+        for storage in storages_of(i) {
+            if let Some(report) = reports.get_mut(storage.0 as usize) {
+                report.push(Entry::one(block_number(i), STAMP))?;
+            }
         }
     }
-    Ok(())
+    Ok(reports)
 }
 
 /// The same, each in an order of its own.

@@ -135,26 +135,13 @@ fn measure_phases<R: Clock + CpuClock + Print + Eprint + AllocGlobal>(
         rising,
         shuffled,
     } = *told;
-    measure_first(rt, shard, order, shuffled)?;
+    let replicas = shard.blocks().saturating_mul(3);
+    let (first, time) = pass(rt, shard, order, shuffled)?;
+    print_rate(rt, "first reports", replicas, time);
+    print_counts(rt, "first reports", first);
     measure_unchanged(rt, shard, "same order", order, shuffled, shuffled)?;
     measure_unchanged(rt, shard, "rising", order, rising, rising)?;
     measure_unchanged(rt, shard, "other order", order, shuffled, rising)
-}
-
-fn measure_first<R: Clock + CpuClock + Print + Eprint>(
-    rt: &R,
-    shard: &mut Shard,
-    order: &[StorageId],
-    reports: &[Vec<Entry>],
-) -> Result<(), Refusal>
-    requires { IsOrderly shard.old.topology.cluster shard.old.arena }
-    ensures { IsOrderly shard.new.topology.cluster shard.new.arena }
-{
-    let replicas = shard.blocks().saturating_mul(3);
-    let (first, time) = pass(rt, shard, order, reports)?;
-    print_rate(rt, "first reports", replicas, time);
-    print_counts(rt, "first reports", first);
-    Ok(())
 }
 
 // A phase whose passes change nothing.

@@ -30,7 +30,9 @@ fn storage_of(block: u64, k: u64) -> StorageId {
 impl Blocks {
     pub fn new(alloc: Global) -> Result<Blocks, Refusal> {
         let mut arena = Arena::new(alloc)?;
-        reserve_heads(&mut arena)?;
+        for storage in 0..STORAGES {
+            arena.reserve_heads(&[StorageId(storage)])?;
+        }
         Ok(Blocks {
             arena,
             slots: Vec::new(alloc),
@@ -143,13 +145,6 @@ impl Blocks {
         }
         before.saturating_sub(self.arena.count() as u64)
     }
-}
-
-fn reserve_heads(arena: &mut Arena) -> Result<(), Refusal> {
-    for storage in 0..STORAGES {
-        arena.reserve_heads(&[StorageId(storage)])?;
-    }
-    Ok(())
 }
 
 // Each operation with the tests of its conditions, which are measured with it.

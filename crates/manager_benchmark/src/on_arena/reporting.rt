@@ -98,17 +98,10 @@ fn known_blocks(alloc: Global, blocks: u64) -> Result<Arena, Refusal>
     ensures { IfOk result (λ a. replicas_of a ≡ empty) }
 {
     let mut arena = Arena::new(alloc)?;
-    add_all(&mut arena, blocks)?;
-    Ok(arena)
-}
-
-fn add_all(arena: &mut Arena, blocks: u64) -> Result<(), Refusal>
-    ensures { replicas_of arena.new ≡ replicas_of arena.old }
-{
     for i in 0..blocks {
-        add_known(arena, block_number(i))?;
+        add_known(&mut arena, block_number(i))?;
     }
-    Ok(())
+    Ok(arena)
 }
 
 impl Shard {

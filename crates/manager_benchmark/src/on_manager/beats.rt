@@ -41,21 +41,7 @@ fn add_batch(beats: &mut Vec<Event>, alloc: Global, turn: u64, first: u64) -> Re
     Ok(())
 }
 
-// How long the manager takes for some heartbeats.
-fn time_of<R: Clock + CpuClock + Threads + Wait + Sync>(
-    rt: &R,
-    manager: &mut Manager,
-    sheet: Sheet,
-    beats: &[Event],
-) -> Result<u128, Refusal> {
-    let start = sheet.timer.now(rt);
-    for beat in beats {
-        take(rt, manager, beat)?;
-    }
-    Ok(sheet.timer.since(rt, start))
-}
-
-// How long it takes for a batch of the heartbeats of a turn.
+// How long the manager takes for a batch of the heartbeats of a turn.
 fn batch_time<R: Clock + CpuClock + Threads + Wait + Sync>(
     rt: &R,
     alloc: Global,
@@ -66,7 +52,11 @@ fn batch_time<R: Clock + CpuClock + Threads + Wait + Sync>(
 ) -> Result<u128, Refusal> {
     let mut beats = Vec::new(alloc);
     add_batch(&mut beats, alloc, turn, first)?;
-    time_of(rt, manager, sheet, beats.as_slice())
+    let start = sheet.timer.now(rt);
+    for beat in &beats {
+        take(rt, manager, beat)?;
+    }
+    Ok(sheet.timer.since(rt, start))
 }
 
 // How long it takes for all heartbeats of a turn, as many as whole batches have.
@@ -99,25 +89,21 @@ fn add_turns<R: Clock + CpuClock + Threads + Wait + Sync>(
     Ok(())
 }
 
-// A heartbeat that tells the numbers on which the rounds rest.
-fn true_beat(alloc: Global, node: u32) -> Result<Event, Refusal> {
-    let all = [
-        drawn_free(storage_at(node, 0)),
-        drawn_free(storage_at(node, 1)),
-        drawn_free(storage_at(node, 2)),
-        drawn_free(storage_at(node, 3)),
-    ];
-    heartbeat(alloc, node, all)
-}
-
-// It is told once for each storage.
+// The numbers on which the rounds rest, told once for each storage.
 fn tell_free<R: Threads + Wait + Sync>(
     rt: &R,
     alloc: Global,
     manager: &mut Manager,
 ) -> Result<(), Refusal> {
     for storage in 0..STORAGES {
-        take_once(rt, manager, true_beat(alloc, storage / 4)?)?;
+        let node = storage / 4;
+        let all = [
+            drawn_free(storage_at(node, 0)),
+            drawn_free(storage_at(node, 1)),
+            drawn_free(storage_at(node, 2)),
+            drawn_free(storage_at(node, 3)),
+        ];
+        take_once(rt, manager, heartbeat(alloc, node, all)?)?;
     }
     Ok(())
 }

@@ -143,17 +143,6 @@ pub fn measure<R: Clock + CpuClock + Print + Eprint + Threads + Wait + Sync>(
     measure_told(rt, alloc, manager, sheet, &told)
 }
 
-fn measure_told<R: Clock + CpuClock + Print + Eprint + Threads + Wait + Sync>(
-    rt: &R,
-    alloc: Global,
-    manager: &mut Manager,
-    sheet: Sheet,
-    told: &Told<'_>,
-) -> Result<(), Refusal> {
-    measure_first(rt, manager, sheet, told)?;
-    measure_unchanged(rt, alloc, manager, sheet, told)
-}
-
 fn measure_first<R: Clock + CpuClock + Print + Eprint + Threads + Wait + Sync>(
     rt: &R,
     manager: &mut Manager,
@@ -167,14 +156,15 @@ fn measure_first<R: Clock + CpuClock + Print + Eprint + Threads + Wait + Sync>(
     Ok(())
 }
 
-// The phases whose passes change nothing.
-fn measure_unchanged<R: Clock + CpuClock + Print + Eprint + Threads + Wait + Sync>(
+// The first ones, and then the phases whose passes change nothing.
+fn measure_told<R: Clock + CpuClock + Print + Eprint + Threads + Wait + Sync>(
     rt: &R,
     alloc: Global,
     manager: &mut Manager,
     sheet: Sheet,
     told: &Told<'_>,
 ) -> Result<(), Refusal> {
+    measure_first(rt, manager, sheet, told)?;
     let Told {
         order,
         rising,
