@@ -1,9 +1,7 @@
--- What a book has after a call, and what a whole run writes.
-use Rattle.std.proofs.Common.{◌≡◌, ℕ, Bool, true, false, cond, not, ◌-◌, List, Option, Some, None, Result, Ok, Err, OnOk, inl, inr, refl, sym, ap, subst, ◌∙◌}
+-- What a book has after a call.
+use Rattle.std.proofs.Common.{◌≡◌, Bool, true, false, cond, not, ◌-◌, Option, Some, None, Result, Ok, Err, OnOk, inl, inr, refl, sym, ap, subst, ◌∙◌}
 use Rattle.std.specs.Prelude.{nat_le}
 use Rattle.std.specs.List.{flat_map}
-use Rattle.std.specs.Io.KnownBytes.{Appends}
-use Rattle.bm_base.specs.declared.config.Config.{Config}
 use Rattle.bm_base.specs.declared.event.Event.{Event}
 use Rattle.bm_base.specs.declared.event.Done.{Done}
 use Rattle.bm_base.specs.declared.refusal.Refusal.{Refusal}
@@ -12,23 +10,18 @@ use Rattle.bm_base.specs.declared.call.Call.TheVariants as call
 use Rattle.bm_base.specs.declared.call.Answer.{Answer}
 use Rattle.bm_base.specs.declared.call.Answer.TheVariants as answer
 use Rattle.bm_base.specs.Map.{keep, insert_all}
-use Rattle.bm_base.specs.State.{Cluster, State, first_state}
+use Rattle.bm_base.specs.State.{Cluster, State}
 use Rattle.bm_base.specs.Lawful.{IsLawful}
 use Rattle.bm_base.specs.Excess.{begun, started}
 use Rattle.bm_base.specs.Rounds.{whole_round}
 use Rattle.bm_base.specs.Refusals.{◌before◌, first_of, cluster_checks, refusal_of, round_refusal, node_refusal, storage_refusal, block_refusal}
 use Rattle.bm_base.specs.Calls.{step, refused_or, after_event, counted}
 use Rattle.bm_base.specs.Answering.{MayAnswer, state_left, wants_memory}
-use Rattle.bm_lines.specs.Lines.{lines_of}
 use Rattle.cluster_report.specs.declared.book.Book.{Book}
 use Rattle.cluster_report.specs.declared.transfers.Transfers.{Transfers}
 use Rattle.cluster_report.specs.Books.{IsAccepted, cluster_after, AreCopiesAfter}
 use Rattle.cluster_report.specs.Copies.{commanded_to}
-use Rattle.cluster_report.specs.Reading.{after_lines}
-use Rattle.cluster_report.specs.Reports.{report_of}
-use Rattle.cluster_report.specs.Running.{report_on}
 use Rattle.cluster_report.specs.Sessions.{Follows}
-use Rattle.cluster_report.specs.Text.{report_text}
 use Rattle.cluster_report.proofs.CopyLemmas.{round_copies}
 
 -- ---- an event that is accepted
