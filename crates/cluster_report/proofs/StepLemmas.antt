@@ -183,11 +183,3 @@ follows_by M N old new k a L F may none left cluster copies pend =
 pub on_ok : {A E P : Type 0} (r : Result A E) → P → OnOk r P
 on_ok (Ok x) p = p
 on_ok (Err e) p = tt
-
--- ---- a whole run
-
-pub writes_report : (config : Config) (input bytes : List ℕ) (old new : Option (List ℕ)) (M N : State)
-    → M ≡ first_state config → N ≡ after_lines M (lines_of input) → bytes ≡ report_text (report_of N) → Appends old new bytes
-    → Appends old new (report_on config input)
-writes_report config input bytes old new M N first last told wrote =
-    subst (Appends old new) (told ∙ ap (λ S. report_text (report_of S)) (last ∙ ap (λ S. after_lines S (lines_of input)) first)) wrote

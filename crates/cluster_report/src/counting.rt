@@ -7,7 +7,7 @@ use bm_base::{Replica, Tag};
 use std::alloc::{AllocError, Global};
 
 /// How many replicas have each tag.
-#[derive(Clone, Copy, Debug, PartialEq, Eq)]
+#[derive(Clone, Copy)]
 pub struct TagCounts {
     pub good: usize,
     pub stale: usize,
@@ -30,37 +30,25 @@ pub fn count_tags(replicas: &[Replica]) -> TagCounts
 fn count_good(replicas: &[Replica]) -> usize
     ensures { result ≡ count_by (λ r. is_good r.tag) replicas.now }
 {
-    replicas
-        .iter()
-        .filter(|r| matches!(r.tag, Tag::Good))
-        .count()
+    replicas.iter().filter(|replica| is_good(replica)).count()
 }
 
 fn count_stale(replicas: &[Replica]) -> usize
     ensures { result ≡ count_by (λ r. is_stale r.tag) replicas.now }
 {
-    replicas
-        .iter()
-        .filter(|r| matches!(r.tag, Tag::Stale))
-        .count()
+    replicas.iter().filter(|replica| is_stale(replica)).count()
 }
 
 fn count_bad(replicas: &[Replica]) -> usize
     ensures { result ≡ count_by (λ r. is_bad r.tag) replicas.now }
 {
-    replicas
-        .iter()
-        .filter(|r| matches!(r.tag, Tag::Bad))
-        .count()
+    replicas.iter().filter(|replica| is_bad(replica)).count()
 }
 
 fn count_stray(replicas: &[Replica]) -> usize
     ensures { result ≡ count_by (λ r. is_stray r.tag) replicas.now }
 {
-    replicas
-        .iter()
-        .filter(|r| matches!(r.tag, Tag::Stray))
-        .count()
+    replicas.iter().filter(|replica| is_stray(replica)).count()
 }
 
 /// The numbers of the blocks of these replicas but the stray ones, of neighbours that are equal one. So of all replicas, which come by
@@ -79,7 +67,37 @@ fn known_numbers(alloc: Global, replicas: &[Replica]) -> Result<Vec<u64>, AllocE
 {
     replicas
         .iter()
-        .filter(|r| !matches!(r.tag, Tag::Stray))
-        .map(|r| r.block.0)
+        .filter(|replica| !is_stray(replica))
+        .map(block_number)
         .collect(alloc)
+}
+
+fn block_number(replica: &Replica) -> u64
+    ensures { result ≡ replica.now.block }
+{
+    replica.block.0
+}
+
+fn is_good(replica: &Replica) -> bool
+    ensures { result ≡ is_good replica.now.tag }
+{
+    matches!(replica.tag, Tag::Good)
+}
+
+fn is_stale(replica: &Replica) -> bool
+    ensures { result ≡ is_stale replica.now.tag }
+{
+    matches!(replica.tag, Tag::Stale)
+}
+
+fn is_bad(replica: &Replica) -> bool
+    ensures { result ≡ is_bad replica.now.tag }
+{
+    matches!(replica.tag, Tag::Bad)
+}
+
+fn is_stray(replica: &Replica) -> bool
+    ensures { result ≡ is_stray replica.now.tag }
+{
+    matches!(replica.tag, Tag::Stray)
 }

@@ -1,5 +1,5 @@
 // How urgent blocks are, counted by level, and the most urgent ones.
-ghost use Rattle.std.specs.Prelude.{◌≡◌, IfOk, map, count_by, filter, is_none};
+ghost use Rattle.std.specs.Prelude.{◌≡◌, ◌++◌, IfOk, map, count_by, filter, is_none};
 ghost use Rattle.bm_base.specs.Levels.{is_at, level};
 ghost use Rattle.cluster_report.specs.Levels.{leveled, levels_counted, most_urgent};
 
@@ -11,14 +11,14 @@ use std::alloc::{AllocError, Global};
 pub const MOST_NAMED: usize = 10;
 
 /// A block and its level, if it has one.
-#[derive(Clone, Copy, Debug, PartialEq, Eq)]
+#[derive(Clone, Copy)]
 pub struct Leveled {
     pub block: BlockId,
     pub level: Option<Level>,
 }
 
 /// How many blocks are at each level.
-#[derive(Clone, Copy, Debug, PartialEq, Eq)]
+#[derive(Clone, Copy)]
 pub struct LevelCounts {
     pub highest: usize,
     pub very_under_replicated: usize,
@@ -75,13 +75,30 @@ pub fn count_levels(levels: &[Leveled], missing: usize) -> LevelCounts
 fn count_at(levels: &[Leveled], urgency: Level) -> usize
     ensures { result ≡ count_by (λ l. is_at urgency l.level) levels.now }
 {
-    levels.iter().filter(|l| is_at(l.level, urgency)).count()
+    levels
+        .iter()
+        .filter(|found| stands_at(found, urgency))
+        .count()
 }
 
 fn count_none(levels: &[Leveled]) -> usize
     ensures { result ≡ count_by (λ l. is_none l.level) levels.now }
 {
-    levels.iter().filter(|l| l.level.is_none()).count()
+    levels.iter().filter(|found| has_none(found)).count()
+}
+
+/// Whether a block has no level.
+fn has_none(found: &Leveled) -> bool
+    ensures { result ≡ is_none found.now.level }
+{
+    found.level.is_none()
+}
+
+/// Whether a block stands at this level.
+fn stands_at(found: &Leveled, urgency: Level) -> bool
+    ensures { result ≡ is_at urgency found.now.level }
+{
+    is_at(found.level, urgency)
 }
 
 /// Whether a level is there and is this one.
@@ -98,14 +115,26 @@ fn is_at(found: Option<Level>, urgency: Level) -> bool
 pub fn most_urgent(alloc: Global, levels: &[Leveled]) -> Result<Vec<Leveled>, AllocError>
     ensures { IfOk result (λ v. v.items ≡ most_urgent levels.now) }
 {
-    let mut urgent = all_at(alloc, levels, Level::Highest)?;
-    let mut next = all_at(alloc, levels, Level::VeryUnderReplicated)?;
-    urgent.append(&mut next)?;
-    let mut next = all_at(alloc, levels, Level::UnderReplicated)?;
-    urgent.append(&mut next)?;
-    let mut next = all_at(alloc, levels, Level::BadlyDistributed)?;
-    urgent.append(&mut next)?;
+    let urgent = all_at(alloc, levels, Level::Highest)?;
+    let urgent = and_all_at(alloc, urgent, levels, Level::VeryUnderReplicated)?;
+    let urgent = and_all_at(alloc, urgent, levels, Level::UnderReplicated)?;
+    let mut urgent = and_all_at(alloc, urgent, levels, Level::BadlyDistributed)?;
     urgent.truncate(MOST_NAMED);
+    Ok(urgent)
+}
+
+/// These, and behind them those at one level.
+fn and_all_at(
+    alloc: Global,
+    mut urgent: Vec<Leveled>,
+    levels: &[Leveled],
+    urgency: Level,
+) -> Result<Vec<Leveled>, AllocError>
+    ensures { IfOk result (λ v. v.items
+        ≡ urgent.items ++ filter (λ l. is_at urgency l.level) levels.now) }
+{
+    let mut more = all_at(alloc, levels, urgency)?;
+    urgent.append(&mut more)?;
     Ok(urgent)
 }
 
@@ -115,7 +144,7 @@ fn all_at(alloc: Global, levels: &[Leveled], urgency: Level) -> Result<Vec<Level
 {
     levels
         .iter()
-        .filter(|l| is_at(l.level, urgency))
+        .filter(|found| stands_at(found, urgency))
         .copied()
         .collect(alloc)
 }

@@ -10,7 +10,7 @@ use bm_topo::Topology;
 use std::alloc::{AllocError, Global};
 
 /// Whether a node is in use.
-#[derive(Clone, Copy, Debug, PartialEq, Eq)]
+#[derive(Clone, Copy)]
 pub enum NodeState {
     Live,
     /// It is to be taken away, and a block holds it back.
@@ -19,7 +19,7 @@ pub enum NodeState {
     Retired,
 }
 
-#[derive(Clone, Copy, Debug, PartialEq, Eq)]
+#[derive(Clone, Copy)]
 pub struct StorageRow {
     pub storage: StorageId,
     /// How many replicas it holds, of any tag.

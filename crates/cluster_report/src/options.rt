@@ -11,32 +11,78 @@ pub fn config_of(alloc: Global, words: &[String]) -> Result<Config, Error> {
     Ok(config_from(&matches))
 }
 
-fn command<'a>(alloc: Global) -> Result<Command<'a>, AllocError> {
-    Command::new(alloc, "cluster_report")
-        .about(
-            "Makes the calls of the line tool's lines, and tells at the end how the cluster stands",
-        )
-        .arg(number(alloc, "shards", "1", 64).help("parts into which the blocks are cut, 1 to 64"))?
-        .arg(number(alloc, "workers", "1", 16).help("threads that work on a call, 1 to 16"))?
-        .arg(number(alloc, "work", "2", 1_000).help(
-            "copies that a round commands for each alive node, 1 to 1,000",
-        ))?
-        .arg(number(alloc, "invalidate", "1000", 1_000_000).help(
-            "deletes that a round commands one node, 1 to 1,000,000",
-        ))?
-        .arg(number(alloc, "pend", "100", 1_000_000).help(
-            "rounds after which a copy is given up, 1 to 1,000,000",
-        ))
+/// An option with a whole number from 1 to `most`.
+struct Number {
+    name: &'static str,
+    standard: &'static str,
+    most: u32,
+    help: &'static str,
 }
 
-/// An option with a whole number from 1 to `most`.
-fn number<'a>(alloc: Global, name: &'a str, standard: &'a str, most: u32) -> Arg<'a> {
-    Arg::new(alloc, name)
+static NUMBERS: [Number; 5] = [
+    Number {
+        name: "shards",
+        standard: "1",
+        most: 64,
+        help: "parts into which the blocks are cut, 1 to 64",
+    },
+    Number {
+        name: "workers",
+        standard: "1",
+        most: 16,
+        help: "threads that work on a call, 1 to 16",
+    },
+    Number {
+        name: "work",
+        standard: "2",
+        most: 1_000,
+        help: "copies that a round commands for each alive node, 1 to 1,000",
+    },
+    Number {
+        name: "invalidate",
+        standard: "1000",
+        most: 1_000_000,
+        help: "deletes that a round commands one node, 1 to 1,000,000",
+    },
+    Number {
+        name: "pend",
+        standard: "100",
+        most: 1_000_000,
+        help: "rounds after which a copy is given up, 1 to 1,000,000",
+    },
+];
+
+fn command<'a>(alloc: Global) -> Result<Command<'a>, AllocError> {
+    let mut command = program(alloc);
+    for number in &NUMBERS {
+        command = with(command, argument(alloc, number))?;
+    }
+    Ok(command)
+}
+
+fn program<'a>(alloc: Global) -> Command<'a> {
+    Command::new(alloc, "cluster_report").about(
+        "Makes the calls of the line tool's lines, and tells at the end how the cluster stands",
+    )
+}
+
+/// The command with one more argument.
+fn with<'a>(command: Command<'a>, arg: Arg<'a>) -> Result<Command<'a>, AllocError> {
+    command.arg(arg)
+}
+
+fn argument<'a>(alloc: Global, number: &Number) -> Arg<'a> {
+    named(alloc, number.name)
         .action(ArgAction::Set)
-        .long(name)
+        .long(number.name)
         .value_name("N")
-        .value_parser(value_parser!(u32).range(1..=i64::from(most)))
-        .default_value(standard)
+        .default_value(number.standard)
+        .help(number.help)
+        .value_parser(value_parser!(u32).range(1..=i64::from(number.most)))
+}
+
+fn named<'a>(alloc: Global, name: &'a str) -> Arg<'a> {
+    Arg::new(alloc, name)
 }
 
 fn config_from(matches: &ArgMatches<'_>) -> Config {

@@ -1,15 +1,18 @@
 // The whole report, counted.
-ghost use Rattle.std.specs.Prelude.{◌≡◌, IfOk, take};
-ghost use Rattle.cluster_report.specs.Reports.{report_of};
+ghost use Rattle.std.specs.Prelude.{◌≡◌, IfOk, length, map, take};
+ghost use Rattle.bm_base.specs.Queries.{all_replicas, excess_replicas, missing_blocks};
+ghost use Rattle.cluster_report.specs.Counting.{blocks_held};
+ghost use Rattle.cluster_report.specs.Levels.{leveled};
+ghost use Rattle.cluster_report.specs.Reports.{levels_held, report_of};
 ghost use Rattle.cluster_report.specs.Sessions.{Follows};
 
 use crate::book::Book;
 use crate::counting::{TagCounts, count_tags, held_blocks};
 use crate::levels::{LevelCounts, Leveled, MOST_NAMED, count_levels, levels_of, most_urgent};
 use crate::nodes::{NodeRow, all_nodes, all_storages, node_rows};
-use bm_base::{BlockId, Items, Refusal};
+use bm_base::{BlockId, Items, Refusal, Replica};
 use bm_manager::Manager;
-use std::alloc::Global;
+use std::alloc::{AllocError, Global};
 
 /// How a cluster stands.
 #[derive(Drop)]
@@ -37,21 +40,84 @@ pub fn report_of(alloc: Global, manager: &Manager, book: &Book) -> Result<Report
     ensures { IfOk result (λ r. r ≡ report_of manager.now) }
 {
     let replicas = manager.replicas()?;
-    let excess = manager.excess()?;
+    report_on(alloc, manager, book, replicas.as_slice())
+}
+
+/// The same, where these are all replicas.
+fn report_on(
+    alloc: Global,
+    manager: &Manager,
+    book: &Book,
+    replicas: &[Replica],
+) -> Result<Report, Refusal>
+    requires follows { Follows book.now manager.now }
+    requires replicas { replicas.now ≡ all_replicas manager.now.holdings }
+    ensures { IfOk result (λ r. r ≡ report_of manager.now) }
+{
+    let excess = count_excess(manager)?;
     let missing = manager.missing()?;
-    let held = held_blocks(alloc, replicas.as_slice())?;
-    let levels = levels_of(alloc, manager, held.as_slice())?;
+    let levels = held_levels(alloc, manager, replicas)?;
+    with_levels(
+        alloc,
+        manager,
+        book,
+        replicas,
+        levels.as_slice(),
+        excess,
+        missing,
+    )
+}
+
+/// The same, where these are the levels of the blocks that have a replica, so many replicas are in excess, and these are the missing blocks.
+fn with_levels(
+    alloc: Global,
+    manager: &Manager,
+    book: &Book,
+    replicas: &[Replica],
+    levels: &[Leveled],
+    excess: usize,
+    missing: Items<BlockId>,
+) -> Result<Report, Refusal>
+    requires follows { Follows book.now manager.now }
+    requires replicas { replicas.now ≡ all_replicas manager.now.holdings }
+    requires levels { levels.now ≡ levels_held manager.now }
+    requires excess { excess ≡ length (excess_replicas manager.now.holdings) }
+    requires missing { missing ≡ missing_blocks manager.now.cluster manager.now.holdings }
+    ensures { IfOk result (λ r. r ≡ report_of manager.now) }
+{
+    let nodes = nodes_of(alloc, manager, book)?;
+    let urgent = most_urgent(alloc, levels)?;
     Ok(Report {
         calls: manager.calls(),
         round: manager.rounds(),
-        nodes: nodes_of(alloc, manager, book)?,
-        levels: count_levels(levels.as_slice(), missing.as_slice().len()),
-        tags: count_tags(replicas.as_slice()),
-        excess: excess.as_slice().len(),
+        nodes,
+        levels: count_levels(levels, missing.as_slice().len()),
+        tags: count_tags(replicas),
+        excess,
         transfers: book.transfers.count(),
         missing: first_of(missing),
-        urgent: Items::from_vec(most_urgent(alloc, levels.as_slice())?),
+        urgent: Items::from_vec(urgent),
     })
+}
+
+fn count_excess(manager: &Manager) -> Result<usize, Refusal>
+    ensures { IfOk result (λ n. n ≡ length (excess_replicas manager.now.holdings)) }
+{
+    let excess = manager.excess()?;
+    Ok(excess.as_slice().len())
+}
+
+/// The levels of the blocks of these replicas but the stray ones.
+fn held_levels(
+    alloc: Global,
+    manager: &Manager,
+    replicas: &[Replica],
+) -> Result<Vec<Leveled>, AllocError>
+    ensures { IfOk result (λ v. v.items
+        ≡ map (leveled manager.now.cluster manager.now.holdings) (blocks_held replicas.now)) }
+{
+    let held = held_blocks(alloc, replicas)?;
+    levels_of(alloc, manager, held.as_slice())
 }
 
 /// Every node with every storage of it.

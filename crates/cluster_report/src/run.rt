@@ -1,6 +1,8 @@
 // A whole run, from a reader to a writer.
 ghost use Rattle.std.specs.Prelude.{◌≡◌, IfOk, IfErr, IfSome, OnOk, string_bytes};
 ghost use Rattle.std.specs.Io.KnownBytes.{Appends};
+ghost use Rattle.bm_lines.specs.Lines.{lines_of};
+ghost use Rattle.cluster_report.specs.Reading.{after_lines, all_accepted, notes_text};
 ghost use Rattle.cluster_report.specs.Sessions.{IsInStep};
 ghost use Rattle.cluster_report.specs.Reports.{report_of};
 ghost use Rattle.cluster_report.specs.Running.{report_on, is_accepted, notes_on, WritesNothing};
@@ -41,14 +43,48 @@ pub fn run<R: BufRead, W: Write, N: Write, H: Threads + Wait + Sync>(
     let Ok(mut session) = Session::new(alloc, config) else {
         return Err(Fault::Memory);
     };
-    let all_accepted = read_lines(rt, alloc, &mut session, reader, notes)?;
-    let text = text_of(alloc, &session)?;
-    write_report(writer, text.as_bytes())?;
+    report(rt, alloc, &mut session, reader, writer, notes)
+}
+
+/// The same in a session that was just begun.
+fn report<R: BufRead, W: Write, N: Write, H: Threads + Wait + Sync>(
+    rt: &H,
+    alloc: Global,
+    session: &mut Session,
+    reader: &mut R,
+    writer: &mut W,
+    notes: &mut N,
+) -> Result<bool, Fault>
+    requires { IsInStep session.old }
+    ensures text { OnOk result (IfSome (R.remaining reader.old) (λ input.
+        Appends (W.contents writer.old) (W.contents writer.new)
+        (report_text (report_of (after_lines session.old.manager (lines_of input)))))) }
+    ensures accepted { IfOk result (λ all. IfSome (R.remaining reader.old) (λ input.
+        all ≡ all_accepted session.old.manager (lines_of input))) }
+    ensures notes { OnOk result (IfSome (R.remaining reader.old) (λ input.
+        Appends (N.contents notes.old) (N.contents notes.new)
+        (notes_text 1 session.old.manager (lines_of input)))) }
+    ensures nothing_written { IfErr result (λ f. WritesNothing f writer.old writer.new) }
+{
+    let all_accepted = read_lines(rt, alloc, session, reader, notes)?;
+    if let Err(fault) = write_report(alloc, writer, session) {
+        return Err(fault);
+    }
     Ok(all_accepted)
 }
 
+fn write_report<W: Write>(alloc: Global, writer: &mut W, session: &Session) -> Result<(), Fault>
+    requires { IsInStep session.now }
+    ensures ok { OnOk result (Appends (W.contents writer.old) (W.contents writer.new)
+        (report_text (report_of session.now.manager))) }
+    ensures err { IfErr result (λ f. WritesNothing f writer.old writer.new) }
+{
+    let text = text_of(alloc, session)?;
+    write_flushed(writer, text.as_bytes())
+}
+
 /// Writes all of it, and flushes.
-fn write_report<W: Write>(writer: &mut W, text: &[u8]) -> Result<(), Fault>
+fn write_flushed<W: Write>(writer: &mut W, text: &[u8]) -> Result<(), Fault>
     ensures ok { OnOk result (Appends (W.contents writer.old) (W.contents writer.new) text.now) }
     ensures err { IfErr result (λ f. f ≡ Fault.Write) }
 {

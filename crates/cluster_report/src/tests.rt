@@ -3,13 +3,24 @@
 use crate::fault::Fault;
 use crate::run::run;
 use bm_base::Config;
-use std::alloc::Global;
+use std::alloc::{AllocError, Global};
 use std::io;
-use std::io::{BufReader, Read, Write};
+use std::io::{BufRead, BufReader, Read, Write};
 use std::process::Abort;
 use std::sync::Wait;
 use std::test::Fail;
 use std::thread::Threads;
+
+/// A run with the standard options. Its contract is kept from the tests, which need none of it.
+fn run_all<R: BufRead, W: Write, N: Write, H: Threads + Wait + Sync>(
+    rt: &H,
+    alloc: Global,
+    reader: &mut R,
+    report: &mut W,
+    notes: &mut N,
+) -> Result<bool, Fault> {
+    run(rt, alloc, reader, report, notes, &Config::standard())
+}
 
 /// The report on these lines, what is told of refused ones, and whether all were accepted.
 fn reported<H: Threads + Wait + Sync>(
@@ -20,14 +31,15 @@ fn reported<H: Threads + Wait + Sync>(
     let mut reader = lines.as_bytes();
     let mut report = Vec::new(alloc);
     let mut notes = Vec::new(alloc);
-    let accepted = run(
-        rt,
-        alloc,
-        &mut reader,
-        &mut report,
-        &mut notes,
-        &Config::standard(),
-    )?;
+    let accepted = run_all(rt, alloc, &mut reader, &mut report, &mut notes)?;
+    texts_of(report, notes, accepted)
+}
+
+fn texts_of(
+    report: Vec<u8>,
+    notes: Vec<u8>,
+    accepted: bool,
+) -> Result<(String, String, bool), Fail> {
     let report = String::from_utf8(report)?;
     let notes = String::from_utf8(notes)?;
     Ok((report, notes, accepted))
@@ -51,15 +63,6 @@ stray 0
 excess 0
 transfers 0
 ";
-
-#[test]
-fn nothing_is_told_of_no_line(rt: HostRuntime) -> Result<(), Fail> {
-    let (report, notes, accepted) = reported(&rt, rt.alloc(), "")?;
-    assert!(rt; report.as_str() == EMPTY);
-    assert!(rt; notes.is_empty());
-    assert!(rt; accepted);
-    Ok(())
-}
 
 /// The third line asks for nothing, the fourth for a block that is not known, and the last, which has no line end, for a storage that is
 /// not known. A question that is accepted leaves no trace.
@@ -96,12 +99,47 @@ transfers 0
 missing block 6
 ";
 
+/// Lines, the report on them, what is told of refused ones, and whether all are accepted.
+struct Case {
+    lines: &'static str,
+    report: &'static str,
+    notes: &'static str,
+    accepted: bool,
+}
+
+static CASES: [Case; 2] = [
+    // Of no line nothing is told.
+    Case {
+        lines: "",
+        report: EMPTY,
+        notes: "",
+        accepted: true,
+    },
+    Case {
+        lines: REFUSED,
+        report: AFTER_REFUSED,
+        notes: NOTES,
+        accepted: false,
+    },
+];
+
+fn check_case<R: Abort + Threads + Wait + Sync>(
+    rt: &R,
+    alloc: Global,
+    case: &Case,
+) -> Result<(), Fail> {
+    let (report, notes, accepted) = reported(rt, alloc, case.lines)?;
+    assert!(rt; report.as_str() == case.report);
+    assert!(rt; notes.as_str() == case.notes);
+    assert!(rt; accepted == case.accepted);
+    Ok(())
+}
+
 #[test]
 fn refused_lines_are_told_and_the_report_comes(rt: HostRuntime) -> Result<(), Fail> {
-    let (report, notes, accepted) = reported(&rt, rt.alloc(), REFUSED)?;
-    assert!(rt; report.as_str() == AFTER_REFUSED);
-    assert!(rt; notes.as_str() == NOTES);
-    assert!(rt; !accepted);
+    for case in &CASES {
+        check_case(&rt, rt.alloc(), case)?;
+    }
     Ok(())
 }
 
@@ -112,19 +150,8 @@ const MANY: &str = "{\"op\":\"register\",\"node\":1,\"rack\":1,\"storages\":[1]}
 
 #[test]
 fn no_more_than_ten_blocks_are_named(rt: HostRuntime) -> Result<(), Fail> {
-    let alloc = rt.alloc();
-    let mut lines = String::from_str(
-        alloc,
-        "{\"op\":\"register\",\"node\":1,\"rack\":1,\"storages\":[1]}\n",
-    )?;
-    for id in 1..25u32 {
-        write!(
-            lines,
-            "{{\"op\":\"add\",\"id\":{id},\"gen\":1,\"len\":1,\"repl\":2}}\n"
-        )?;
-    }
-    lines.push_str("{\"op\":\"report\",\"storage\":1,\"blocks\":[[1,12,1,1]]}\n")?;
-    let (report, _, _) = reported(&rt, alloc, lines.as_str())?;
+    let lines = lines_of_many(rt.alloc())?;
+    let (report, _, _) = reported(&rt, rt.alloc(), lines.as_str())?;
     assert!(rt; report.contains("level 0 12\n"));
     assert!(rt; report.contains("level 4 12\n"));
     assert!(rt; report.contains("transfers 0\nmissing block 13\n"));
@@ -132,6 +159,25 @@ fn no_more_than_ten_blocks_are_named(rt: HostRuntime) -> Result<(), Fail> {
     assert!(rt; report.ends_with("urgent block 10 level 0\n"));
     assert!(rt; !report.contains("missing block 23"));
     Ok(())
+}
+
+fn lines_of_many(alloc: Global) -> Result<String, AllocError> {
+    let mut lines = String::from_str(
+        alloc,
+        "{\"op\":\"register\",\"node\":1,\"rack\":1,\"storages\":[1]}\n",
+    )?;
+    add_many(&mut lines)?;
+    Ok(lines)
+}
+
+fn add_many(lines: &mut String) -> Result<(), AllocError> {
+    for id in 1..25u32 {
+        write!(
+            lines,
+            "{{\"op\":\"add\",\"id\":{id},\"gen\":1,\"len\":1,\"repl\":2}}\n"
+        )?;
+    }
+    lines.push_str("{\"op\":\"report\",\"storage\":1,\"blocks\":[[1,12,1,1]]}\n")
 }
 
 /// Nodes 1 and 2 have blocks 1, 2 and 3, which want two replicas and have one; the round copies each to the other node's storages.
@@ -149,7 +195,7 @@ const COPIES: &str = "{\"op\":\"register\",\"node\":1,\"rack\":1,\"storages\":[1
 
 /// What comes after the round, and how many copies are on their way then. Copies of blocks 1 and 2 go to storage 21, the one of block 3
 /// to storage 11, which has more room than 12.
-const AFTER_COPIES: [(&str, &str); 12] = [
+static AFTER_COPIES: [(&str, &str); 12] = [
     ("", "transfers 3\n"),
     (
         "{\"op\":\"received\",\"storage\":21,\"id\":2,\"gen\":1,\"len\":1}",
@@ -190,14 +236,24 @@ const AFTER_COPIES: [(&str, &str); 12] = [
 
 #[test]
 fn copies_are_on_their_way_until_they_come_or_cannot(rt: HostRuntime) -> Result<(), Fail> {
-    for (last, transfers) in AFTER_COPIES {
-        let mut lines = String::from_str(rt.alloc(), COPIES)?;
-        lines.push_str(last)?;
-        let (report, notes, accepted) = reported(&rt, rt.alloc(), lines.as_str())?;
-        assert!(rt; report.contains(transfers));
-        assert!(rt; notes.is_empty());
-        assert!(rt; accepted);
+    for (last, transfers) in &AFTER_COPIES {
+        check_copies(&rt, rt.alloc(), last, transfers)?;
     }
+    Ok(())
+}
+
+fn check_copies<R: Abort + Threads + Wait + Sync>(
+    rt: &R,
+    alloc: Global,
+    last: &str,
+    transfers: &str,
+) -> Result<(), Fail> {
+    let mut lines = String::from_str(alloc, COPIES)?;
+    lines.push_str(last)?;
+    let (report, notes, accepted) = reported(rt, alloc, lines.as_str())?;
+    assert!(rt; report.contains(transfers));
+    assert!(rt; notes.is_empty());
+    assert!(rt; accepted);
     Ok(())
 }
 
@@ -238,14 +294,7 @@ fn a_failed_read_leaves_no_report(rt: HostRuntime) -> Result<(), Fail> {
     let mut reader = BufReader::new(rt.alloc(), failing)?;
     let mut report: Vec<u8> = Vec::new(rt.alloc());
     let mut notes: Vec<u8> = Vec::new(rt.alloc());
-    let result = run(
-        &rt,
-        rt.alloc(),
-        &mut reader,
-        &mut report,
-        &mut notes,
-        &Config::standard(),
-    );
+    let result = run_all(&rt, rt.alloc(), &mut reader, &mut report, &mut notes);
     assert_eq!(rt; result, Err(Fault::Read));
     assert!(rt; report.is_empty() && notes.is_empty());
     Ok(())
@@ -255,14 +304,7 @@ fn a_failed_read_leaves_no_report(rt: HostRuntime) -> Result<(), Fail> {
 fn a_failed_write_is_told(rt: HostRuntime) {
     let mut reader = COPIES.as_bytes();
     let mut notes: Vec<u8> = Vec::new(rt.alloc());
-    let result = run(
-        &rt,
-        rt.alloc(),
-        &mut reader,
-        &mut Broken,
-        &mut notes,
-        &Config::standard(),
-    );
+    let result = run_all(&rt, rt.alloc(), &mut reader, &mut Broken, &mut notes);
     assert_eq!(rt; result, Err(Fault::Write));
 }
 
@@ -270,14 +312,7 @@ fn a_failed_write_is_told(rt: HostRuntime) {
 fn a_note_that_cannot_be_told_is_a_fault(rt: HostRuntime) {
     let mut reader = REFUSED.as_bytes();
     let mut report: Vec<u8> = Vec::new(rt.alloc());
-    let result = run(
-        &rt,
-        rt.alloc(),
-        &mut reader,
-        &mut report,
-        &mut Broken,
-        &Config::standard(),
-    );
+    let result = run_all(&rt, rt.alloc(), &mut reader, &mut report, &mut Broken);
     assert_eq!(rt; result, Err(Fault::Write));
     assert!(rt; report.is_empty());
 }

@@ -1,19 +1,25 @@
-use Rattle.std.proofs.Common.{◌≡◌, ◌∙◌}
-use Rattle.std.proofs.lemmas.Result.{err_from_is_err_and}
+use Rattle.std.proofs.Common.{◌≡◌, subst}
+use Rattle.std.specs.Prelude.{IfOk, IfSome, OnOk}
+use Rattle.std.specs.Io.KnownBytes.{Appends}
 use Rattle.bm_lines.specs.Lines.{lines_of}
-use Rattle.cluster_report.specs.Reading.{after_lines}
-use Rattle.cluster_report.proofs.ReadLemmas.{each_some, at_some}
-use Rattle.cluster_report.proofs.StepLemmas.{writes_report}
+use Rattle.cluster_report.specs.Reading.{after_lines, all_accepted, notes_text}
+use Rattle.cluster_report.specs.Reports.{report_of}
+use Rattle.cluster_report.specs.Text.{report_text}
 use Rattle.cluster_report.proofs.run.run.Goals as goal
 
 pub returns-clause-text : goal.returns-clause-text
 returns-clause-text g c =
-    each_some _ (λ input e.
-    writes_report c.args.config.now input _ _ _ _ _ c.in-Ok.ensures.state
-    (at_some (λ t. c.read_lines.new.session.manager ≡ after_lines c.in-Ok.session.manager (lines_of t)) _ input e c.in_ok-all_accepted.ensures.state)
-    (c.as_bytes.ensures.value ∙ c.in_ok-text.ensures) c.in_ok-write_report.ensures.ok)
+    subst (λ M. OnOk c.report.result (IfSome (g.R.Read.remaining c.args.reader.now) (λ input.
+    Appends (g.W.Write.contents c.args.writer.now) (g.W.Write.contents c.report.new.writer) (report_text (report_of (after_lines M (lines_of input)))))))
+    c.in-Ok.ensures.state c.report.ensures.text
 
-pub returns-in_err-write_report-clause-nothing_written : goal.returns-in_err-write_report-clause-nothing_written
-returns-in_err-write_report-clause-nothing_written g c =
-    let e = err_from_is_err_and c.from_residual-in_err-write_report.result c.from_residual-in_err-write_report.ensures.1 in
-    rw (e.1, e.2, c.in_err-write_report.ensures.err) tt
+pub returns-clause-accepted : goal.returns-clause-accepted
+returns-clause-accepted g c =
+    subst (λ M. IfOk c.report.result (λ all. IfSome (g.R.Read.remaining c.args.reader.now) (λ input. all ≡ all_accepted M (lines_of input))))
+    c.in-Ok.ensures.state c.report.ensures.accepted
+
+pub returns-clause-notes : goal.returns-clause-notes
+returns-clause-notes g c =
+    subst (λ M. OnOk c.report.result (IfSome (g.R.Read.remaining c.args.reader.now) (λ input.
+    Appends (g.N.Write.contents c.args.notes.now) (g.N.Write.contents c.report.new.notes) (notes_text 1 M (lines_of input)))))
+    c.in-Ok.ensures.state c.report.ensures.notes
