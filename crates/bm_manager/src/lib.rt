@@ -10,4 +10,3 @@ mod publishing;
 
 pub use alike::answers_alike;
 pub use manager::Manager;
-

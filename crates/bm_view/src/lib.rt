@@ -32,4 +32,3 @@ pub use open::open_view;
 pub use publisher::Publisher;
 pub use receipt::Receipt;
 pub use table::Table;
-
