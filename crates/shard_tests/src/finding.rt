@@ -138,6 +138,10 @@ fn copies_are_wished_for(rt: HostRuntime) {
     let pending = PendingTransfers::new(alloc, HashSecret::none());
     let part = find_round(alloc, &blocks, &pending, &topology, 5, 1, None).expect(&rt, "memory");
     assert!(rt; told(&part) == Some((2, 0, 0)));
+    drop(part);
+    drop(pending);
+    drop(blocks);
+    drop(topology);
 }
 
 /// A transfer on its way is counted as there, until it is too old.
@@ -151,6 +155,11 @@ fn a_transfer_counts_until_it_is_too_old(rt: HostRuntime) {
     assert!(rt; told(&young) == Some((1, 1, 0)));
     let old = find_round(alloc, &blocks, &pending, &topology, 5, 6, None).expect(&rt, "memory");
     assert!(rt; told(&old) == Some((2, 0, 1)));
+    drop(old);
+    drop(young);
+    drop(pending);
+    drop(blocks);
+    drop(topology);
 }
 
 /// Block 7 alone wishes, at the most urgent level: its key is the bound before which none does, and there is no bound before which one
@@ -168,4 +177,7 @@ fn a_bound_is_guessed(rt: HostRuntime) {
     let pending = one_on_its_way(&rt, alloc);
     let none_wishes = likely_bound(alloc, &blocks, &pending, 0, 1_024).expect(&rt, "memory");
     assert!(rt; none_wishes.is_none());
+    drop(pending);
+    drop(blocks);
+    drop(topology);
 }

@@ -30,6 +30,8 @@ fn a_block_comes_and_goes(rt: HostRuntime) {
     let slot = blocks.slot_of(id).expect(&rt, "its entry");
     blocks.drop_if_bare(slot);
     assert!(rt; blocks.slot_of(id).is_none());
+    drop(blocks);
+    drop(topology);
 }
 
 /// A number whose block is deleted has no entry any more, and of it no replica is removed.
@@ -50,6 +52,8 @@ fn a_block_is_deleted(rt: HostRuntime) {
     assert!(rt; blocks.slot_of(id).is_some());
     blocks.delete_block(&topology, id);
     assert!(rt; blocks.slot_of(id).is_none());
+    drop(blocks);
+    drop(topology);
 }
 
 /// A report of two blocks is made ready: both numbers of the part have an entry, and nothing is held of them.
@@ -77,4 +81,6 @@ fn a_report_is_made_ready(rt: HostRuntime) {
     assert!(rt; blocks.slot_of(BlockId(8)).is_none());
     assert!(rt; blocks.slot_of(BlockId(9)).is_some());
     assert!(rt; blocks.level(BlockId(7)).is_none());
+    drop(report);
+    drop(blocks);
 }

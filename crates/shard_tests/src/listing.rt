@@ -48,4 +48,8 @@ fn missing_blocks_are_sorted(rt: HostRuntime) {
     assert!(rt; rows.as_slice() == [(BlockId(7), none), (BlockId(9), none)].as_slice());
     let are_empty = are_empty(alloc, &blocks).expect(&rt, "memory");
     assert!(rt; are_empty);
+    drop(rows);
+    drop(missing);
+    drop(blocks);
+    drop(topology);
 }

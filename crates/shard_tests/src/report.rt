@@ -581,6 +581,7 @@ fn thousand_reports_given_up_leave_nothing(rt: HostRuntime) {
         marks_of(&world.arena, 7, StorageId(12)),
         Answer::Tagged(Tag::Good, true)
     );
+    drop(world);
 }
 
 const NOTICES: [(Step, Answer); 7] = [

@@ -197,4 +197,6 @@ fn a_block_with_one_replica_is_copied_and_what_is_given_up_changes_nothing(rt: H
     give_up(&rt, &topology, &mut shard, &received(21, BlockId(8)));
     look(&rt, &shard);
     copy(&rt, alloc, &topology, &mut shard);
+    drop(shard);
+    drop(topology);
 }
