@@ -445,9 +445,13 @@ fn check_meetings<R: Abort + Threads + Wait + Sync>(rt: &R, alloc: Global, shard
     for (told, want, crewed) in &MET {
         let call = call_of(alloc, *told).expect(rt, "memory");
         let answer = met_answer(rt, &mut manager, shards, &call, *crewed);
+        drop(call);
         let line = shown(alloc, &answer).expect(rt, "memory");
+        drop(answer);
         assert_eq!(rt; line.as_str(), *want);
+        drop(line);
     }
+    drop(manager);
 }
 
 #[test]

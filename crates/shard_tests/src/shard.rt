@@ -129,17 +129,31 @@ fn look(rt: &impl Abort, shard: &Shard) {
         tag: Tag::Good,
     };
     assert!(rt; replicas.as_slice() == [replica].as_slice());
-    assert!(rt; shard.corrupt().expect(rt, "memory").as_slice().is_empty());
-    assert!(rt; shard.missing().expect(rt, "memory").as_slice().is_empty());
-    assert!(rt; shard.excess().expect(rt, "memory").as_slice().is_empty());
+    drop(replicas);
+    let corrupt = shard.corrupt().expect(rt, "memory");
+    assert!(rt; corrupt.as_slice().is_empty());
+    drop(corrupt);
+    let missing = shard.missing().expect(rt, "memory");
+    assert!(rt; missing.as_slice().is_empty());
+    drop(missing);
+    let excess = shard.excess().expect(rt, "memory");
+    assert!(rt; excess.as_slice().is_empty());
+    drop(excess);
+    look_further(rt, shard);
+}
+
+fn look_further(rt: &impl Abort, shard: &Shard) {
     let blocks = shard.blocks_on(StorageId(11)).expect(rt, "memory");
     assert!(rt; blocks.as_slice() == [SEVEN].as_slice());
+    drop(blocks);
     let places = shard.places(SEVEN).expect(rt, "memory");
     assert!(rt; places.as_slice() == [StorageId(11)].as_slice());
+    drop(places);
     assert!(rt; matches!(shard.places(BlockId(8)), Err(Refusal::UnknownBlock)));
     let rows = shard.table_rows().expect(rt, "memory");
     let row = (SEVEN, Places::first_of([StorageId(11)].as_slice()));
     assert!(rt; rows.as_slice() == [row].as_slice());
+    drop(rows);
     assert!(rt; shard.level(SEVEN) == Ok(Some(Level::Highest)));
 }
 

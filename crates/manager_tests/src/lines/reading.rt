@@ -1,6 +1,8 @@
 // Lines as they are read, and answers as they are printed.
 use bm_base::{Answer, Call, Done, Refusal};
 use bm_lines::{LINE_END, Line, MAX_LINE, answer_line, call_of, line_end, line_of};
+use std::alloc::Global;
+use std::process::Abort;
 use std::test::Fail;
 
 // Any order, spaces, further fields: the line that is written has the order of the table.
@@ -38,6 +40,16 @@ fn lines_that_ask_for_no_call(rt: HostRuntime) -> Result<(), Fail> {
     Ok(())
 }
 
+/// A round's answer is printed as this line.
+fn is_printed(rt: &impl Abort, alloc: Global, answer: Answer, line: &str) -> Result<(), Fail> {
+    let printed = answer_line(alloc, &Call::Round, &answer);
+    drop(answer);
+    let printed = printed?;
+    assert_eq!(rt; printed.as_str(), line);
+    drop(printed);
+    Ok(())
+}
+
 #[test]
 fn answers_as_they_are_printed(rt: HostRuntime) -> Result<(), Fail> {
     let alloc = rt.alloc();
@@ -45,13 +57,9 @@ fn answers_as_they_are_printed(rt: HostRuntime) -> Result<(), Fail> {
         added: 2,
         removed: 1,
     });
-    assert_eq!(&rt; answer_line(alloc, &Call::Round, &done)?.as_str(), "ok 2 1");
+    is_printed(&rt, alloc, done, "ok 2 1")?;
     let refused = Answer::Refused(Refusal::StillStored);
-    assert_eq!(&rt;
-        answer_line(alloc, &Call::Round, &refused)?.as_str(),
-        "refused 7 StillStored"
-    );
-    Ok(())
+    is_printed(&rt, alloc, refused, "refused 7 StillStored")
 }
 
 // A line that grows past the limit holds nothing, and is no empty line.
@@ -63,11 +71,14 @@ fn a_line_that_grows_too_long(rt: HostRuntime) -> Result<(), Fail> {
     line.add(b"{}")?;
     assert_eq!(&rt; line.bytes.as_slice(), b"{}".as_slice());
     let long = vec![in alloc; b' '; MAX_LINE - 1]?;
-    line.add(long.as_slice())?;
+    let added = line.add(long.as_slice());
+    drop(long);
+    added?;
     assert!(&rt; line.is_long && line.bytes.is_empty() && !line.is_empty());
     line.clear();
     assert!(&rt; line.is_empty());
     assert_eq!(&rt; line_end(b"{}\n{}\n"), Some(2));
     assert_eq!(&rt; LINE_END, 10);
+    drop(line);
     Ok(())
 }

@@ -10,10 +10,13 @@ pub fn is_asked_by<R: Abort>(rt: &R, alloc: Global, call: &Call, line: &str) -> 
     assert!(rt; has_op(call), "at {line}");
     let written = line_of(alloc, call)?;
     assert_eq!(rt; written.as_str(), line);
+    drop(written);
     match call_of(alloc, line.as_bytes())? {
         Some(read) => {
             let again = line_of(alloc, &read)?;
             assert_eq!(rt; again.as_str(), line);
+            drop(again);
+            drop(read);
         }
         None => assert!(rt; false, "no call is read of {line}"),
     }
