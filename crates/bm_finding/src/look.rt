@@ -13,7 +13,7 @@ ghost use Rattle.bm_finding.specs.Marking.{marked_if};
 ghost use Rattle.bm_finding.specs.Looked.{IsLook, AreUsable, replicas_on, is_to_go, deletes_of};
 ghost use Rattle.std.specs.Prelude.{[]};
 
-use crate::replicas::{Usable, contains, fill_counted, mark_on, usable_among};
+use crate::replicas::{Usable, contains_near, fill_counted, mark_on, usable_among};
 use bm_arena::{Arena, Slot};
 use bm_base::{BlockId, BlockInfo, Delete, Marks, Refusal, ReplicaId, ReplicaMap, StorageId};
 use bm_place::{ExcessRoom, fill_excess};
@@ -118,8 +118,9 @@ impl Look {
         ensures { OnOk result (into.new.items ≡ into.old.items
             ++ replicas_on self.now.excess.items (entries self.now.replicas)) }
     {
+        let mut near = 0;
         for (replica, _) in self.replicas.entries() {
-            if contains(self.excess.as_slice(), replica.storage) {
+            if contains_near(self.excess.as_slice(), replica.storage, &mut near) {
                 into.push(*replica)?;
             }
         }

@@ -14,8 +14,7 @@ use bm_base::{BlockId, Marks, Rack, ReplicaId, ReplicaMap, StorageId, StorageIds
 use bm_topo::Topology;
 use std::alloc::{AllocError, Global};
 
-/// Of how many storages, at most, each is looked at where one is looked for, and how many replicas, at most, are put as they were linked.
-/// Among more it is looked for by halves, and more are put in order first.
+/// How many replicas, at most, are put as they were linked. More are put in order first.
 const FEW: usize = 8;
 
 /// The storages of a block's usable replicas.
@@ -119,16 +118,16 @@ fn clear(replicas: &mut ReplicaMap<Marks>)
     replicas.retain(|_| false);
 }
 
-/// Marks those on these storages, which are in rising order, as being in excess: one search among the storages for each replica. Takes
-/// no memory.
+/// Marks those on these storages, which are in rising order, as being in excess: both lists are gone over together. Takes no memory.
 pub(crate) fn mark_on(replicas: &mut ReplicaMap<Marks>, excess: &[StorageId])
     requires { IsNonDecreasing excess.now }
     ensures { replicas.new
         ≡ map_of.revise replicas.old (λ q m. marked_if (has excess.now q.storage) m) }
 {
+    let mut near = 0;
     for at in 0..replicas.len() {
         if let Some((replica, marks)) = replicas.entry_at(at) {
-            let is_excess = contains(excess, replica.storage);
+            let is_excess = contains_near(excess, replica.storage, &mut near);
             replicas.set_at(at, marked_if(is_excess, marks));
         }
     }
@@ -201,13 +200,51 @@ fn marked_if(is_excess: bool, marks: Marks) -> Marks
     }
 }
 
-/// Whether a storage is among these, which are in rising order. Takes O(log n) steps for n of them.
-pub(crate) fn contains(storages: &[StorageId], storage: StorageId) -> bool
+/// Whether a storage is among these, which are in rising order. The place `near` is looked at first, and is then the place at which it
+/// stands or would: so of storages that are asked for in rising order each mostly takes two looks. Any place will do; elsewhere it takes
+/// O(log n) steps for n of them.
+pub(crate) fn contains_near(storages: &[StorageId], storage: StorageId, near: &mut usize) -> bool
     requires { IsNonDecreasing storages.now }
     ensures { result ≡ has storages.now storage }
 {
-    if storages.len() <= FEW {
-        return storages.iter().any(|other| *other == storage);
+    if stands_at(storages, storage, *near) {
+        return true;
     }
-    storages.binary_search(&storage).is_ok()
+    let behind = near.wrapping_add(1);
+    if stands_at(storages, storage, behind) {
+        *near = behind;
+        return true;
+    }
+    if is_missing_at(storages, storage, behind) {
+        return false;
+    }
+    let found = storages.binary_search(&storage);
+    *near = place_in(&found);
+    found.is_ok()
+}
+
+/// Whether a storage stands at a place.
+fn stands_at(storages: &[StorageId], storage: StorageId, at: usize) -> bool
+    ensures { result ≡ true → has storages.now storage ≡ true }
+{
+    at < storages.len() && storages[at] == storage
+}
+
+/// Whether a storage would stand at a place, between a lesser and a greater one.
+fn is_missing_at(storages: &[StorageId], storage: StorageId, at: usize) -> bool
+    requires { IsNonDecreasing storages.now }
+    ensures { result ≡ true → has storages.now storage ≡ false }
+{
+    if at > storages.len() {
+        return false;
+    }
+    (at == 0 || storages[at - 1] < storage) && (at == storages.len() || storage < storages[at])
+}
+
+/// The place that a search by halves tells.
+fn place_in(found: &Result<usize, usize>) -> usize {
+    match found {
+        Ok(place) => *place,
+        Err(place) => place.wrapping_sub(1),
+    }
 }

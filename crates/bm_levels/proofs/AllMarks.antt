@@ -2,6 +2,7 @@
 --     changed_first, change_next, change_end      the first so many changed, one more, and all
 --     change_none, unchanged_step                 one more whose marks stay as they are
 --     keeps_itself, keeps_then                    what a change of one block keeps, and two of them
+--     marks_found                                 the marks of the replica at a place
 --     block_replicas, block_known                 what is held where the marks of all replicas at a slot changed
 use Rattle.std.specs.Prelude.{◌≡◌, ◌≢◌, ℕ, zero, suc, ◌+◌, ◌≤◌, true, false, ◌==◌, if◌then◌else◌, List, [], ◌∷◌, length, map, slice_get, Option, Some, None, option_map, option_and_then}
 use Rattle.std.specs.Option.{option_map_or}
@@ -185,3 +186,28 @@ module _ (f : ℕ → Marks → Marks) (a c : Contents) (slot b : ℕ) (lawful :
 
   pub block_known : known_of (block_at c slot) ≡ known_of (block_at a slot) → blocks_of c ≡ blocks_of a
   block_known known = blocks-kept a c slot rest.ids rest.blocks known
+
+-- the replica at a place of a list is the one that is found on its storage, where no two are on one
+listed_at : (rs : List (ℕ × Marks)) (n : ℕ) (r : ℕ × Marks) → slice_get rs n ≡ Some r → Among r.0 (keys_at rs)
+listed_at [] n r e = cc
+listed_at (x ∷ rs) zero r e = let same : x ≡ r = (cc) in inl (ap (λ (z : ℕ × Marks). z.0) (sym same))
+listed_at (x ∷ rs) (suc n) r e = inr (listed_at rs n r e)
+
+found_at : (rs : List (ℕ × Marks)) (n : ℕ) (r : ℕ × Marks) → Distinct (keys_at rs) → slice_get rs n ≡ Some r → find_marks rs r.0 ≡ Some r.1
+found_at [] n r d e = cc
+found_at (x ∷ rs) zero r d e =
+    let same : x ≡ r = (cc) in
+    ap (λ b. cond b (Some x.1) (find_marks rs r.0)) (eq-eqb x.0 r.0 (ap (λ (z : ℕ × Marks). z.0) same)) ∙ ap (λ (z : ℕ × Marks). Some z.1) same
+found_at (x ∷ rs) (suc n) r d e =
+    let apart : x.0 ≢ r.0 = λ same. d.0 (let P : ℕ → Type 0 = λ z. Among z (keys_at rs) in subst P (sym same) (listed_at rs n r e)) in
+    ap (λ b. cond b (Some x.1) (find_marks rs r.0)) (ne_eqb x.0 r.0 apart) ∙ found_at rs n r d.1 e
+
+pub marks_found : (a : Contents) (slot n s found : ℕ) (m : Marks) → IsLawful a → option_and_then (λ (k : Block). slice_get k.replicas n) (block_at a slot) ≡ Some (found, m) → (found == s) ≡ true
+    → Some m ≡ marks_at a slot s
+marks_found a slot n s found m lawful there same =
+    sym (let P : ℕ → Type 0 = λ z. marks_at a slot z ≡ Some m in subst P (eqb-true found s same) (on (block_at a slot) (once_at a slot lawful) there))
+  where
+    on : (o : Option Block) → Distinct (keys_at (option_map_or (λ (k : Block). k.replicas) o [])) → option_and_then (λ (k : Block). slice_get k.replicas n) o ≡ Some (found, m)
+        → option_and_then (λ (k : Block). find_marks k.replicas found) o ≡ Some m
+    on None d e = cc
+    on (Some k) d e = found_at k.replicas n (found, m) d e

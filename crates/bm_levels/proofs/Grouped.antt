@@ -1,5 +1,5 @@
 -- The replicas of a list, those of one block together.
---     storage_searched                what a search by halves tells of a storage
+--     storage_searched, storage_there     what a search by halves tells of a storage, and a look at one place
 --     listed_marks, other_marks       the marks of a replica by that
 --     of_one_block, group_marks       whether a list of one block has a replica, and the marks of those that it has
 --     some_of_block, head_of_block, place_or_length, none_left      a block in a list, and those of it at the list's head
@@ -51,6 +51,11 @@ module _ (ps : List ReplicaId) (rises : AreByStorage ps) (s : ℕ) where
       sym (list_any_none (λ (p : ReplicaId). p.storage == s) ps (All-from_get_or (λ (p : ReplicaId). (p.storage == s) ≡ false) ps nowhere (λ k h.
       ne_eqb (get_or ps k nowhere).storage s (λ same.
       grind (arith, λ (lt : k < at). ranked _ s _ (sym ((parted comparisons_rise).0 k nowhere (omega arith) lt)), λ (le : at ≤ k). ranked _ s _ (sym ((parted comparisons_rise).1 k nowhere le h)))))))
+
+-- the replica at a place of the list
+pub storage_there : (ps : List ReplicaId) (s at : ℕ) (p : ReplicaId) → at < length ps → ((get_or ps at p).storage == s) ≡ true → has_storage ps s ≡ true
+unfolding has_storage
+storage_there ps s at p within same = list_any_at (λ (q : ReplicaId). q.storage == s) ps at p within same
 
 -- the marks of a replica that was looked for in a list
 module _ (ps : List ReplicaId) (s : ℕ) (m : Marks) (r : Bool) (told : r ≡ has_storage ps s) where

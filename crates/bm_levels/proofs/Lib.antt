@@ -28,3 +28,4 @@ pub mod RoundStart
 pub mod Bare
 pub mod Unlinking
 pub mod Wishes
+pub mod DeleteOrdered

@@ -80,7 +80,8 @@ impl Count {
     }
 }
 
-fn is_plain(marks: Marks) -> bool
+/// Whether a replica is good, not in excess and not ordered to be deleted.
+pub(crate) fn is_plain(marks: Marks) -> bool
     ensures { result ≡ judged.is_plain marks }
 {
     marks.is_usable() && !marks.ordered

@@ -1,5 +1,5 @@
 // Replicas of a list that are of one block, marked together.
-ghost use Rattle.std.specs.Prelude.{◌≡◌, ◌==◌, not, position};
+ghost use Rattle.std.specs.Prelude.{◌≡◌, ◌==◌, true, not, position};
 ghost use Rattle.std.specs.List.{position_or_len};
 ghost use Rattle.bm_arena.specs.Contents.{block_at, known_of, KeepsAllBut, IsLawful};
 ghost use Rattle.bm_arena.specs.Holding.{replicas_at};
@@ -33,18 +33,38 @@ pub(crate) fn with_excess(marks: Marks) -> Marks
     }
 }
 
-/// Whether a list has a replica on a storage: a search by halves.
-fn is_listed(listed: &[ReplicaId], storage: StorageId) -> bool
+/// Whether a list has a replica on a storage. The place `near` is looked at first, and is then the place behind it: so of storages that
+/// are asked for in rising order, all of the list, each takes one look. Elsewhere it is a search by halves.
+fn is_listed(listed: &[ReplicaId], storage: StorageId, near: &mut usize) -> bool
     requires { AreByStorage listed.now }
     ensures { result ≡ has_storage listed.now storage }
 {
-    listed
-        .binary_search_by_key(&storage, |replica| replica.storage)
-        .is_ok()
+    if stands_at(listed, storage, *near) {
+        *near = near.wrapping_add(1);
+        return true;
+    }
+    let found = listed.binary_search_by_key(&storage, |replica| replica.storage);
+    *near = place_behind(&found);
+    found.is_ok()
+}
+
+/// Whether the replica at a place of a list is on a storage.
+fn stands_at(listed: &[ReplicaId], storage: StorageId, at: usize) -> bool
+    ensures { result ≡ true → has_storage listed.now storage ≡ true }
+{
+    at < listed.len() && listed[at].storage == storage
+}
+
+/// The place behind the one that a search by halves tells.
+fn place_behind(found: &Result<usize, usize>) -> usize {
+    match found {
+        Ok(place) => place.wrapping_add(1),
+        Err(place) => *place,
+    }
 }
 
 /// The replicas of the block at a slot are in excess whose storages are in a list. Goes once over the block's replicas, and looks for
-/// each in the list by halves. Takes no memory.
+/// each in the list, where they stand in one order at the next place. Takes no memory.
 pub(crate) fn mark_listed(arena: &mut Arena, slot: Slot, listed: &[ReplicaId])
     requires { AreByStorage listed.now }
     ensures replicas { replicas_at arena.new slot
@@ -54,9 +74,10 @@ pub(crate) fn mark_listed(arena: &mut Arena, slot: Slot, listed: &[ReplicaId])
     ensures lawful { IsLawful arena.new }
 {
     arena.lawful();
+    let mut near = 0;
     for place in 0..arena.triplet_count(slot) {
         if let Some((storage, marks)) = arena.triplet_at(slot, place) {
-            if is_listed(listed, storage) {
+            if is_listed(listed, storage, &mut near) {
                 arena.set_marks_near(slot, storage, with_excess(marks), place);
             }
         }

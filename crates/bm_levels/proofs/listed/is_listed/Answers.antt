@@ -6,6 +6,6 @@ use Rattle.bm_levels.proofs.listed.is_listed.Goals as goal
 
 pub returns : goal.returns
 returns c =
-    let facts = c.binary_search_by_key.ensures in
+    let facts = c.binary_search_by_key-found.ensures in
     let by_key = facts.position (λ (p : ReplicaId). p.storage) (answers_always _ _ _ (λ f a r g called. search rules)) in
-    c.is_ok.ensures.value ∙ storage_searched c.args.listed.now c.requires c.args.storage c.binary_search_by_key.result facts.bound by_key
+    c.is_ok.ensures.value ∙ storage_searched c.args.listed.now c.requires c.args.storage c.binary_search_by_key-found.result facts.bound by_key
