@@ -13,3 +13,4 @@ pub mod Permuted
 pub mod Further
 pub mod Visited
 pub mod Covering
+pub mod Missing

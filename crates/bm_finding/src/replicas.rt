@@ -1,5 +1,5 @@
 // The replicas of one block, with their marks as a round begins.
-ghost use Rattle.std.specs.Prelude.{◌≡◌, true, filter_map, IfOk, OnOk};
+ghost use Rattle.std.specs.Prelude.{◌≡◌, true, false, filter_map, IfOk, OnOk};
 ghost use Rattle.std.specs.List.Sorted.{IsNonDecreasing};
 ghost use Rattle.bm_base.specs.Map as map_of;
 ghost use Rattle.bm_base.specs.Lists.{has};

@@ -54,7 +54,7 @@ loop-at-preserved c =
     elim c.match-entry_at.branch [
       | in-Some w ↦
           let e : ReplicaId × Marks = (w.in-Some.replica, w.in-Some.marks) in
-          let value : w.marked_if.result ≡ marked_if (has c.args.excess.now e.0.storage) e.1 = w.marked_if.ensures ∙ ap (λ t. marked_if t e.1) w.contains-is_excess.ensures in
+          let value : w.marked_if.result ≡ marked_if (has c.args.excess.now e.0.storage) e.1 = w.marked_if.ensures ∙ ap (λ t. marked_if t e.1) w.contains_near-is_excess.ensures in
           one_done f xs (entries c.loop-at.replicas) _ c.loop-at.at e c.loop-at.invariant (sym w.in-Some.ensures)
           (ap entries w.replicas-is ∙ w.set_at.ensures e (sym w.in-Some.ensures) ∙ ap (λ x. slice_set (entries c.loop-at.replicas) c.loop-at.at (e.0, x)) value)
       | in_default w ↦ ap entries w.replicas-is ∙ none_done f xs _ c.loop-at.at c.loop-at.invariant (sym w.in_default.ensures)
