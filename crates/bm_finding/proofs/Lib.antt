@@ -14,3 +14,4 @@ pub mod Further
 pub mod Visited
 pub mod Covering
 pub mod Missing
+pub mod TwoSorts
