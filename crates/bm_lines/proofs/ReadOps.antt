@@ -6,9 +6,9 @@ use Rattle.bm_base.specs.declared.replica.Stamp.{Stamp}
 use Rattle.bm_base.specs.declared.event.Entry.{Entry}
 use Rattle.bm_base.specs.declared.event.Remaining.{Remaining}
 use Rattle.bm_base.specs.declared.call.Call.{Call}
-use Rattle.bm_lines.specs.declared.op.Op.{Op}
-use Rattle.bm_lines.specs.declared.op.Op.TheVariants.{Register, Heartbeat, Dead, StorageFailed, Drain, Undrain, Add, Delete, SetReplication, Restamp, Received, Deleted, Corrupt, Report, Round, ListReplicas, ListCorrupt, ListMissing, ListExcess, ListStorage, ListPlaces, Level, Retired}
-use Rattle.bm_lines.specs.CallOf.{register_from, add_from, received_from, heartbeat_from, set_replication_from, restamp_from, deleted_from, corrupt_from, report_from, call_for, call_in}
+use Rattle.bm_lines.specs.declared.reading.op.Op.{Op}
+use Rattle.bm_lines.specs.declared.reading.op.Op.TheVariants.{Register, Heartbeat, Dead, StorageFailed, Drain, Undrain, Add, Delete, SetReplication, Restamp, Received, Deleted, Corrupt, Report, Round, ListReplicas, ListCorrupt, ListMissing, ListExcess, ListStorage, ListPlaces, Level, Retired}
+use Rattle.bm_lines.specs.Reading.CallOf.{register_from, add_from, received_from, heartbeat_from, set_replication_from, restamp_from, deleted_from, corrupt_from, report_from, call_for, call_in}
 use Rattle.bm_lines.specs.Asking.{has_op}
 
 abbrev pub HasOp : Option Call → Type 0
