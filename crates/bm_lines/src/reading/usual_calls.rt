@@ -1,7 +1,7 @@
 // The fields of the usual calls, in the order in which they are written: each up to the end of the line.
 ghost use Rattle.std.specs.Prelude.{◌≡◌, ◌++◌, true, IfOk, IfSome, codes};
+ghost use Rattle.bm_base.specs.Fitting.{FitsStamp};
 ghost use Rattle.bm_lines.specs.Asking.{stamp_text};
-ghost use Rattle.bm_lines.specs.Fitting.{FitsStamp};
 ghost use Rattle.bm_lines.specs.Reading.Usual.{Asks};
 
 use super::usual_entries::entries_then;
