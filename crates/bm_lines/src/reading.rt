@@ -2,7 +2,6 @@
 
 mod call;
 mod fields;
-mod from_fields;
 mod json_numbers;
 mod lists;
 mod numbers;

@@ -6,11 +6,10 @@ ghost use Rattle.bm_lines.specs.Reading.CallOf.{call_for, call_in, call_of};
 ghost use Rattle.bm_lines.specs.Reading.Tokens.{Knows};
 
 use super::fields::{Fields, fields_of};
-use super::from_fields as from;
-use super::numbers::{small, stamp_from};
+use super::numbers::{block_of, node_of, small, stamp_from, storage_of};
 use super::op::Op;
 use super::usual::usual_call;
-use bm_base::Call;
+use bm_base::{Call, Event, Items, Rack};
 use json::Error;
 use std::alloc::{AllocError, Global};
 
@@ -42,48 +41,78 @@ fn read_call(alloc: Global, line: &[u8]) -> Result<Option<Call>, AllocError>
     }
 }
 
-fn call_in(fields: Fields) -> Option<Call>
+fn call_in(mut fields: Fields) -> Option<Call>
     ensures { (d : Data) → Knows fields d → result ≡ call_in d }
 {
     match fields.op {
-        Some(op) => call_for(op, fields),
+        Some(op) => call_for(op, &mut fields),
         None => None,
     }
 }
 
-/// The call of this name with the fields of the object, or `None` where one is missing.
-fn call_for(op: Op, fields: Fields) -> Option<Call>
-    ensures { (d : Data) → Knows fields d → result ≡ call_for op d }
+/// The call of this name with the fields of the object, whose list it takes, or `None` where one is missing.
+fn call_for(op: Op, fields: &mut Fields) -> Option<Call>
+    ensures { (d : Data) → Knows fields.old d → result ≡ call_for op d }
 {
     let numbers = fields.numbers;
-    let node = small(numbers.node);
-    let storage = small(numbers.storage);
-    let id = numbers.id;
-    let repl = small(numbers.repl);
+    let node = node_of(numbers.node);
+    let storage = storage_of(numbers.storage);
+    let id = block_of(numbers.id);
     let stamp = stamp_from(numbers.generation, numbers.len);
+    let repl = small(numbers.repl);
     match op {
-        Op::Register => from::register_from(node, small(numbers.rack), fields.storages),
-        Op::Heartbeat => from::heartbeat_from(node, fields.remaining),
-        Op::Dead => from::dead_from(node),
-        Op::StorageFailed => from::storage_failed_from(storage),
-        Op::Drain => from::drain_from(node),
-        Op::Undrain => from::undrain_from(node),
-        Op::Add => from::add_from(id, stamp, repl),
-        Op::Delete => from::delete_from(id),
-        Op::SetReplication => from::set_replication_from(id, repl),
-        Op::Restamp => from::restamp_from(id, stamp),
-        Op::Received => from::received_from(storage, id, stamp),
-        Op::Deleted => from::deleted_from(storage, id),
-        Op::Corrupt => from::corrupt_from(storage, id),
-        Op::Report => from::report_from(storage, fields.blocks),
+        Op::Register => Some(Call::Apply(Event::Register {
+            node: node?,
+            rack: Rack(small(numbers.rack)?),
+            storages: Items::from_vec(fields.storages.take()?),
+        })),
+        Op::Heartbeat => Some(Call::Apply(Event::Heartbeat {
+            node: node?,
+            remaining: Items::from_vec(fields.remaining.take()?),
+        })),
+        Op::Dead => Some(Call::Apply(Event::Dead { node: node? })),
+        Op::StorageFailed => Some(Call::Apply(Event::StorageFailed { storage: storage? })),
+        Op::Drain => Some(Call::Apply(Event::Drain { node: node? })),
+        Op::Undrain => Some(Call::Apply(Event::Undrain { node: node? })),
+        Op::Add => Some(Call::Apply(Event::AddBlock {
+            id: id?,
+            stamp: stamp?,
+            repl: repl?,
+        })),
+        Op::Delete => Some(Call::Apply(Event::DeleteBlock { id: id? })),
+        Op::SetReplication => Some(Call::Apply(Event::SetReplication {
+            id: id?,
+            repl: repl?,
+        })),
+        Op::Restamp => Some(Call::Apply(Event::Restamp {
+            id: id?,
+            stamp: stamp?,
+        })),
+        Op::Received => Some(Call::Apply(Event::Received {
+            storage: storage?,
+            id: id?,
+            stamp: stamp?,
+        })),
+        Op::Deleted => Some(Call::Apply(Event::Deleted {
+            storage: storage?,
+            id: id?,
+        })),
+        Op::Corrupt => Some(Call::Apply(Event::Corrupt {
+            storage: storage?,
+            id: id?,
+        })),
+        Op::Report => Some(Call::Apply(Event::FullReport {
+            storage: storage?,
+            entries: Items::from_vec(fields.blocks.take()?),
+        })),
         Op::Round => Some(Call::Round),
         Op::ListReplicas => Some(Call::Replicas),
         Op::ListCorrupt => Some(Call::Corrupt),
         Op::ListMissing => Some(Call::Missing),
         Op::ListExcess => Some(Call::Excess),
-        Op::ListStorage => from::blocks_on_from(storage),
-        Op::ListPlaces => from::places_from(id),
-        Op::Level => from::level_from(id),
-        Op::Retired => from::retired_from(node),
+        Op::ListStorage => Some(Call::BlocksOn(storage?)),
+        Op::ListPlaces => Some(Call::Places(id?)),
+        Op::Level => Some(Call::LevelOf(id?)),
+        Op::Retired => Some(Call::Retired(node?)),
     }
 }

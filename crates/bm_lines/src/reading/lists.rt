@@ -1,10 +1,10 @@
 // The lists of a line's object: `None` where the value is no array, or where an item of it is none of the list.
-ghost use Rattle.std.specs.Prelude.{◌≡◌, ◌≢◌, ◌<◌, ◌≤◌, length, None, IfOk, IfErr, OnOk, option_map, option_and_then};
+ghost use Rattle.std.specs.Prelude.{◌≡◌, ◌≢◌, ◌<◌, ◌≤◌, length, None, IfOk, IfErr, OnOk, option_map};
 ghost use Rattle.json.specs.declared.error.Error.TheVariants.{OutOfMemory};
-ghost use Rattle.bm_lines.specs.Reading.Fields.{below_32, small_in, entry_in, remaining_in, each};
+ghost use Rattle.bm_lines.specs.Reading.Fields.{small_in, entry_in, remaining_in, each};
 ghost use Rattle.bm_lines.specs.Reading.Tokens.{value_at, items_at, Takes, TakesItems, with_item, each_in};
 
-use super::numbers::small;
+use super::numbers::storage_of;
 use super::passing::{begins_array, number_in};
 use super::rows::row_in;
 use bm_base::{Entry, Remaining, StorageId};
@@ -61,12 +61,6 @@ fn storages_among(
         storages = with_item(storages, storage)?;
     }
     Ok(storages)
-}
-
-fn storage_of(number: Option<u64>) -> Option<StorageId>
-    ensures { result ≡ option_and_then below_32 number }
-{
-    Some(StorageId(small(number)?))
 }
 
 /// A list of storage and remaining bytes, two numbers each.

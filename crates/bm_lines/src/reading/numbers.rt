@@ -4,7 +4,7 @@ ghost use Rattle.std.specs.Str.{bytes_eq};
 ghost use Rattle.bm_lines.specs.Reading.Fields.{below_32, stamp_from};
 ghost use Rattle.bm_lines.specs.Reading.Tokens.{after, numbers_after};
 
-use bm_base::{Gen, Stamp};
+use bm_base::{BlockId, Gen, NodeId, Stamp, StorageId};
 
 /// Each is a whole number below 2^64, or `None` where there is no such field.
 #[derive(Clone, Copy, Drop)]
@@ -47,6 +47,24 @@ pub fn small(number: Option<u64>) -> Option<u32>
     ensures { result ≡ option_and_then below_32 number }
 {
     u32::try_from(number?).ok()
+}
+
+pub fn node_of(number: Option<u64>) -> Option<NodeId>
+    ensures { result ≡ option_and_then below_32 number }
+{
+    Some(NodeId(small(number)?))
+}
+
+pub fn storage_of(number: Option<u64>) -> Option<StorageId>
+    ensures { result ≡ option_and_then below_32 number }
+{
+    Some(StorageId(small(number)?))
+}
+
+pub fn block_of(number: Option<u64>) -> Option<BlockId>
+    ensures { result ≡ number }
+{
+    Some(BlockId(number?))
 }
 
 /// A stamp of its generation and length.
