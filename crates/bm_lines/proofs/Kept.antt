@@ -6,12 +6,12 @@ use Rattle.std.proofs.lemmas.Slice.Eq.{bytes_eq-Decides}
 use Rattle.serde_json.specs.Data.{Data, object, Items, Members, put}
 use Rattle.serde_json.specs.Find.{get_member, as_str, as_array}
 use Rattle.serde_json.proofs.Views.{get_member-put, get_member-put_other}
-use Rattle.bm_lines.specs.declared.fields.Fields.{Fields}
-use Rattle.bm_lines.specs.declared.rows.Row.{Row}
-use Rattle.bm_lines.specs.declared.rows.Row.TheVariants as row
-use Rattle.bm_lines.specs.Op.{op_of}
-use Rattle.bm_lines.specs.Fields.{number_in, small_in, each, listed, entry_among, entry_in, remaining_among, remaining_in}
-use Rattle.bm_lines.specs.Reading.{row_among, row_in, row_with, row_entry, row_remaining, with_item, each_in, after, Becomes, Knows}
+use Rattle.bm_lines.specs.declared.reading.fields.Fields.{Fields}
+use Rattle.bm_lines.specs.declared.reading.rows.Row.{Row}
+use Rattle.bm_lines.specs.declared.reading.rows.Row.TheVariants as row
+use Rattle.bm_lines.specs.Reading.Op.{op_of}
+use Rattle.bm_lines.specs.Reading.Fields.{number_in, small_in, each, listed, entry_among, entry_in, remaining_among, remaining_in}
+use Rattle.bm_lines.specs.Reading.Tokens.{row_among, row_in, row_with, row_entry, row_remaining, with_item, each_in, after, Becomes, Knows}
 
 -- ---- rows
 

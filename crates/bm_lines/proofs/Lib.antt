@@ -1,4 +1,4 @@
-pub mod Reading
+pub mod CallOfLemmas
 pub mod TextLemmas
 pub mod Plain
 pub mod Sound

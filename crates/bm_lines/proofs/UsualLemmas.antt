@@ -2,7 +2,7 @@
 use Rattle.std.proofs.Common.{◌≡◌, ◌≢◌, ℕ, ◌+◌, ◌-◌, ◌*◌, ◌<◌, ◌≤◌, ◌^◌, List, ◌++◌, Option, Some, None, IfSome, decimal, length, get_or, take, drop, refl, ap, sym, ◌∙◌, arith, codes, append_assoc}
 use Rattle.bm_base.specs.declared.event.Entry.{Entry}
 use Rattle.bm_lines.specs.Asking.{call_fields, line_text, entry_text}
-use Rattle.bm_lines.specs.Usual.{Asks}
+use Rattle.bm_lines.specs.Reading.Usual.{Asks}
 use Rattle.bm_base.specs.declared.call.Call.{Call}
 use Rattle.std.specs.Char.{digit_value}
 use Rattle.std.specs.Option.{MatchOption}

@@ -11,8 +11,8 @@ use Rattle.serde_json.specs.Data.{Num, Data, null, boolean, number, string, arra
 use Rattle.serde_json.specs.Find.{as_array, as_u64}
 use Rattle.serde_json.specs.Read.{number_of, of_json, converted}
 use Rattle.bm_lines.proofs.Turns.{converted-array, converted-object, item_read, item_refused, items_over, member_read, member_refused, key_refused, members_over}
-use Rattle.bm_lines.specs.Fields.{listed}
-use Rattle.bm_lines.specs.Reading.{opens_array, value_at, items_at, members_at, Takes, TakesItems, TakesMembers}
+use Rattle.bm_lines.specs.Reading.Fields.{listed}
+use Rattle.bm_lines.specs.Reading.Tokens.{opens_array, value_at, items_at, members_at, Takes, TakesItems, TakesMembers}
 
 -- ---- the first token
 

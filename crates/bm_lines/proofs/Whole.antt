@@ -11,8 +11,8 @@ use Rattle.json.proofs.Grammar.{value_is}
 use Rattle.serde_json.specs.Data.{Data, object, no_members}
 use Rattle.serde_json.specs.Read.{of_json, converted, read}
 use Rattle.bm_base.specs.declared.call.Call.{Call}
-use Rattle.bm_lines.specs.CallOf.{call_in}
-use Rattle.bm_lines.specs.Reading.{opens_object, value_at, members_at, TakesMembers}
+use Rattle.bm_lines.specs.Reading.CallOf.{call_in}
+use Rattle.bm_lines.specs.Reading.Tokens.{opens_object, value_at, members_at, TakesMembers}
 use Rattle.bm_lines.proofs.Turns.{whole, whole_read, whole_and_more, whole_refused}
 use Rattle.bm_lines.proofs.Values.{Begun, begun, at_object}
 

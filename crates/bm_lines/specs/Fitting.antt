@@ -1,15 +1,12 @@
 -- The numbers of a call fit their types.
 use Rattle.std.specs.Prelude.{◌<◌, ◌^◌, All}
-use Rattle.bm_base.specs.declared.replica.Stamp.{Stamp}
 use Rattle.bm_base.specs.declared.event.Entry.{Entry}
 use Rattle.bm_base.specs.declared.event.Remaining.{Remaining}
 use Rattle.bm_base.specs.declared.event.Event.{Event}
 use Rattle.bm_base.specs.declared.event.Event.TheVariants.{Register, Heartbeat, Dead, StorageFailed, Drain, Undrain, AddBlock, DeleteBlock, SetReplication, Restamp, Received, Deleted, Corrupt, FullReport}
 use Rattle.bm_base.specs.declared.call.Call.{Call}
 use Rattle.bm_base.specs.declared.call.Call.TheVariants as call
-
-abbrev pub FitsStamp : Stamp → Type 0
-FitsStamp stamp = (stamp.generation < 2 ^ 64) × (stamp.len < 2 ^ 64)
+use Rattle.bm_base.specs.Fitting.{FitsStamp}
 
 abbrev pub FitsEntry : Entry → Type 0
 FitsEntry e = (e.from < 2 ^ 64) × (e.to < 2 ^ 64) × FitsStamp e.stamp

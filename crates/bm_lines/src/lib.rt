@@ -5,30 +5,16 @@
 //! (`Asking`) and what is printed for an answer (`Print`). `CALLING.md` has a caller.
 #![tactic(auto)]
 
-mod call;
-mod fields;
-mod from_fields;
-mod json_numbers;
 mod limits;
 mod line;
-mod lists;
-mod numbers;
-mod op;
-mod passing;
 mod print;
 mod print_items;
-mod rows;
-mod usual;
-mod usual_calls;
-mod usual_entries;
-mod usual_numbers;
-mod usual_remaining;
+mod reading;
 mod writing;
 mod writing_fields;
 
-pub use call::call_of;
 pub use limits::MAX_LINE;
 pub use line::{LINE_END, Line, line_end};
 pub use print::answer_line;
-pub use usual::usual_call;
+pub use reading::{call_of, usual_call};
 pub use writing::{has_op, line_of};

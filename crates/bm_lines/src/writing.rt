@@ -1,7 +1,7 @@
 // The line that asks for a call.
 ghost use Rattle.std.specs.Prelude.{◌≡◌, ◌++◌, true, Some, IfOk, OnOk, string_bytes};
 ghost use Rattle.bm_lines.specs.Asking.{has_op, event_op, call_op, event_fields, call_fields, line_text};
-ghost use Rattle.bm_lines.specs.CallOf.{call_of};
+ghost use Rattle.bm_lines.specs.Reading.CallOf.{call_of};
 ghost use Rattle.bm_lines.specs.Lines.{IsPart};
 ghost use Rattle.bm_lines.specs.Fitting.{FitsWhole, FitsWholeEvent};
 

@@ -1,7 +1,7 @@
 -- What a line asks, by its length.
 use Rattle.std.proofs.Common.{◌≡◌, ℕ, ◌<◌, ◌≤◌, List, length, refl}
 use Rattle.std.proofs.lemmas.Bool.{lt-ltb, le-ltb}
-use Rattle.bm_lines.specs.CallOf.{call_of}
+use Rattle.bm_lines.specs.Reading.CallOf.{call_of}
 use Rattle.bm_tool.specs.Text.{asked, asked_by}
 use Rattle.bm_lines.specs.declared.limits.TheConstants.{MAX_LINE}
 use Rattle.bm_tool.specs.declared.reply.Asked.TheVariants.{Long}

@@ -10,7 +10,7 @@ use Rattle.bm_lines.specs.declared.limits.TheConstants.{MAX_LINE}
 use Rattle.bm_tool.specs.declared.reply.Asked.{Asked}
 use Rattle.bm_tool.specs.declared.reply.Asked.TheVariants.{Long, Bad, Asks}
 use Rattle.bm_lines.specs.Print.{answer_text}
-use Rattle.bm_lines.specs.CallOf.{call_of}
+use Rattle.bm_lines.specs.Reading.CallOf.{call_of}
 use Rattle.bm_lines.specs.Lines.{lines_of, ended}
 
 abbrev pub asked_by : Option Call → Asked

@@ -6,7 +6,7 @@ use Rattle.bm_base.specs.State.{State}
 use Rattle.bm_base.specs.Calls.{step}
 use Rattle.bm_base.specs.Answering.{is_refused}
 use Rattle.bm_lines.specs.declared.limits.TheConstants.{MAX_LINE}
-use Rattle.bm_lines.specs.CallOf.{call_of}
+use Rattle.bm_lines.specs.Reading.CallOf.{call_of}
 use Rattle.bm_lines.specs.Print.{answer_text}
 
 -- a line without the line end, 10, where it has one

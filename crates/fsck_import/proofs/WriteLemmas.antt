@@ -5,7 +5,7 @@ use Rattle.std.proofs.lemmas.Grind.{flat_map-append}
 use Rattle.std.specs.Io.KnownBytes.{Appends, Keeps}
 use Rattle.bm_base.specs.declared.call.Call.{Call}
 use Rattle.bm_lines.specs.Asking.{line_text}
-use Rattle.bm_lines.specs.CallOf.{call_of}
+use Rattle.bm_lines.specs.Reading.CallOf.{call_of}
 use Rattle.bm_lines.specs.Lines.{IsPart, ended, lines_of}
 use Rattle.fsck_import.specs.Cuts.{Text}
 use Rattle.fsck_import.specs.Writing.{lines_for, IsLineOf, Tells}

@@ -1,6 +1,6 @@
 use Rattle.std.proofs.Common.{◌∙◌, ap, sym, subst}
 use Rattle.bm_lines.specs.Lines.{IsPart}
-use Rattle.bm_lines.specs.CallOf.{call_of}
+use Rattle.bm_lines.specs.Reading.CallOf.{call_of}
 use Rattle.bm_lines.proofs.AskingBack.{call_of-line_text, IsPart-line_text}
 use Rattle.bm_lines.proofs.writing.line_of.Goals as goal
 

@@ -1,5 +1,5 @@
 use Rattle.std.proofs.Common.{◌∙◌, ap}
-use Rattle.bm_lines.specs.CallOf.{call_of}
+use Rattle.bm_lines.specs.Reading.CallOf.{call_of}
 use Rattle.bm_tool.specs.Text.{asked_by}
 use Rattle.bm_tool.proofs.AskedLemmas.{asked-long, asked-short}
 use Rattle.bm_tool.proofs.reply.asked_by.Goals as goal
