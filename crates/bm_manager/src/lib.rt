@@ -4,9 +4,9 @@
 mod alike;
 mod asking;
 mod calls;
-mod commanding;
 mod manager;
 mod publishing;
+mod round;
 
 pub use alike::answers_alike;
 pub use manager::Manager;
