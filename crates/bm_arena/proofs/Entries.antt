@@ -9,6 +9,7 @@ use Rattle.std.proofs.lemmas.Option.{none-some, same_Some}
 use Rattle.std.proofs.Math.ListN.{get_or-map}
 use Rattle.slab.specs.Slab.{Slab, get, Updates}
 use Rattle.bm_arena.specs.declared.types.Entry.{Entry}
+use Rattle.bm_arena.specs.declared.types.TheConstants.{TRIPLETS_IN_PLACE}
 use Rattle.bm_arena.specs.Triplets.{Block, find_triplet, triplet_at, links_of, seen_slots, seen_entry}
 use Rattle.bm_base.specs.SlotLists.{Distinct}
 use Rattle.bm_base.specs.SlotLinks.{end_of_links}
@@ -186,7 +187,7 @@ module _ (old new : Slab Entry) (key : ℕ) (e : Entry) (vacant : get old key �
     };
   }
 
-  pub IsAdded-view : (steps bound : ℕ) → e.info ≡ None → e.triplets.capacity ≡ 3
+  pub IsAdded-view : (steps bound : ℕ) → e.info ≡ None → e.triplets.capacity ≡ TRIPLETS_IN_PLACE
       → IsAdded
       (record { blocks = seen_slots old; ids = ids; lists = lists_from old heads; delimiter = delimiter; steps = steps; bound = bound })
       (record { blocks = seen_slots new; ids = ids ++ (e.id, key) ∷ []; lists = lists_from new heads; delimiter = delimiter; steps = steps; bound = max bound (key + 1) })
@@ -204,7 +205,7 @@ module _ (old new : Slab Entry) (key : ℕ) (e : Entry) (vacant : get old key �
     bound = refl;
   }
     where
-      empty_seen : e.info ≡ None → e.triplets.capacity ≡ 3 → seen_entry e ≡ empty_block e.id
+      empty_seen : e.info ≡ None → e.triplets.capacity ≡ TRIPLETS_IN_PLACE → seen_entry e ≡ empty_block e.id
       empty_seen no_info three = rw (no_info, three, bare) refl
 
 -- the first arena
@@ -264,7 +265,7 @@ module _ (slots mid new : Slab Entry) (capacity key slot : ℕ) (e : Entry) (ids
   pub add_entry-arena : IsArena new entries heads delimiter
   add_entry-arena = rw (entries_are, ← same_key) (IsArena-added mid new key e vacant up bare ids heads delimiter mid_arena (sym absent) key_below each_listed)
 
-  pub add_entry-added : (steps bound above : ℕ) → above ≡ max bound (slot + 1) → e.info ≡ None → e.triplets.capacity ≡ 3
+  pub add_entry-added : (steps bound above : ℕ) → above ≡ max bound (slot + 1) → e.info ≡ None → e.triplets.capacity ≡ TRIPLETS_IN_PLACE
       → IsAdded
       (record { blocks = seen_slots slots; ids = ids; lists = lists_from slots heads; delimiter = delimiter; steps = steps; bound = bound })
       (record { blocks = seen_slots new; ids = entries; lists = lists_from new heads; delimiter = delimiter; steps = steps; bound = above })

@@ -1,10 +1,10 @@
 -- What is kept when it is set what is known of a block, and when a number gets an entry.
-use Rattle.std.proofs.Common.{◌≡◌, ◌≢◌, ℕ, [], Bool, true, false, cond, eqb, eq-eqb, eqb-true, Option, Some, None, is_some, IsSome, refl, subst, inl, inr, sym, ap, ◌∙◌}
+use Rattle.std.proofs.Common.{◌≡◌, ◌≢◌, ℕ, Bool, true, false, cond, eqb, eq-eqb, eqb-true, Option, Some, None, is_some, IsSome, refl, subst, inl, inr, sym, ap, ◌∙◌}
 use Rattle.std.specs.Option.{option_map, option_and_then}
 use Rattle.std.proofs.lemmas.Bool.{cases_eq, false≢true}
 use Rattle.bm_base.specs.declared.replica.BlockInfo.{BlockInfo}
 use Rattle.bm_arena.specs.Triplets.{Block}
-use Rattle.bm_arena.specs.Contents.{Contents, block_at, slot_of, marks_at, find_marks, with_info, IsAdded, IsLawful}
+use Rattle.bm_arena.specs.Contents.{Contents, block_at, slot_of, marks_at, find_marks, with_info, empty_block, IsAdded, IsLawful}
 use Rattle.bm_arena.specs.Holding.{replicas_of, blocks_of, with_known}
 use Rattle.bm_arena.proofs.Changed.{changed_at, changed-here, changed-elsewhere, changed-blind}
 use Rattle.bm_arena.proofs.Held.{replicas-kept, blocks-set, same_replicas, same_blocks}
@@ -47,7 +47,7 @@ module _ (a c : Contents) (id slot : ℕ) (lawful : IsLawful a) (new : slot_of a
   pub added-here : slot_of c id ≡ Some slot
   added-here = added.found id ∙ ap (λ t. cond t (Some slot) (slot_of a id)) (eq-eqb id id refl)
 
-  looked : {X : Type 0} (f : Block → Option X) → f (record { id = id; info = None; replicas = []; room = 3 }) ≡ None
+  looked : {X : Type 0} (f : Block → Option X) → f (empty_block id) ≡ None
       → (b : ℕ) → option_and_then (λ k. option_and_then f (block_at c k)) (slot_of c b) ≡ option_and_then (λ k. option_and_then f (block_at a k)) (slot_of a b)
   looked f empty b =
       elim (cases_eq b id) [

@@ -12,12 +12,13 @@ use Rattle.slab.specs.Slab.{Slab, get}
 use Rattle.bm_arena.specs.declared.types.Entry.{Entry}
 use Rattle.bm_arena.specs.declared.types.Triplet.{Triplet}
 use Rattle.bm_base.specs.declared.replica.Marks.{Marks}
-use Rattle.bm_arena.specs.Triplets.{Block, find_triplet, triplet_at, seen_slots, seen_entry, change_block, added, removed, attached, detached, first_after}
+use Rattle.bm_arena.specs.Triplets.{Block, find_triplet, triplet_at, seen_slots, seen_entry, change_block, added, removed, attached, detached}
 use Rattle.bm_arena.specs.Contents.{Contents, with_replica, without_replica, linked_front, unlinked, moved_front, count_up}
 use Rattle.bm_arena.specs.Inside.{list_from, lists_from, IsSound, AreIds, IsArena}
 use Rattle.bm_arena.proofs.Triplets.{read, get_or-set_here}
 use Rattle.bm_arena.proofs.Seeing.{marks_in, marks_of, none_inside, marks-seen, lookup-lists_from}
 use Rattle.bm_arena.proofs.Operations.{linked-seen, out-seen, moved-seen, linked-sound, linked-view, out-sound, out-view, moved-sound, moved-view}
+use Rattle.bm_arena.proofs.Linking.{first_after}
 
 length-set_value : (storage : ℕ) (w : Option ℕ) (es : List (ℕ × Option ℕ)) → length (set_value (nat_eq storage) es w) ≡ length es
 length-set_value storage w [] = refl

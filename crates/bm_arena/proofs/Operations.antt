@@ -11,7 +11,7 @@ use Rattle.slab.specs.Slab.{Slab, get}
 use Rattle.bm_arena.specs.declared.types.Entry.{Entry}
 use Rattle.bm_arena.specs.declared.types.Triplet.{Triplet}
 use Rattle.bm_base.specs.declared.replica.Marks.{Marks}
-use Rattle.bm_arena.specs.Triplets.{Block, find_triplet, triplet_at, links_of, seen_slots, seen_entry, change_block, added, removed, attached, detached, first_after, fill_first, is_of, with_triplets}
+use Rattle.bm_arena.specs.Triplets.{Block, find_triplet, triplet_at, links_of, seen_slots, seen_entry, change_block, added, removed, attached, detached, fill_first, is_of, with_triplets}
 use Rattle.bm_base.specs.SlotLists.{Among, Distinct, without}
 use Rattle.bm_arena.specs.Lists.{IsList}
 use Rattle.bm_arena.specs.Contents.{Contents, with_replica, without_replica, linked_front, unlinked, moved_front, count_up}
@@ -20,7 +20,7 @@ use Rattle.bm_base.proofs.SlotLists.{Among-without_other, without-gone}
 use Rattle.bm_arena.proofs.Lists.{Chain-frame}
 use Rattle.bm_arena.proofs.Triplets.{read, triplet_at-elsewhere, triplet_at-kept, get-at_slot, length-at_slot}
 use Rattle.bm_arena.proofs.Replicas.{seen-added, seen-removed, keys, none-absent, found-push_here, found-push_other, found-fill_first_here, found-fill_first_other, Distinct-push, Distinct-fill_first, map-fill_first}
-use Rattle.bm_arena.proofs.Linking.{attached-storage, attached-list, seen-attached, length-attached, detached-storage, detached-list, seen-detached, length-detached}
+use Rattle.bm_arena.proofs.Linking.{first_after, attached-storage, attached-list, seen-attached, length-attached, detached-storage, detached-list, seen-detached, length-detached}
 use Rattle.bm_arena.proofs.Sound.{lists-step, IsSound-step, Chain-member}
 use Rattle.bm_arena.proofs.Seeing.{same_presence, lookup-lists_from, seen_at, storages_seen, once-change}
 

@@ -8,6 +8,7 @@ use Rattle.indexmap.specs.IndexMap.{swap_remove_entry}
 use Rattle.bm_base.specs.declared.replica.Marks.{Marks}
 use Rattle.bm_base.specs.declared.replica.Tag.TheVariants.{Good}
 use Rattle.bm_base.specs.declared.replica.BlockInfo.{BlockInfo}
+use Rattle.bm_arena.specs.declared.types.TheConstants.{TRIPLETS_IN_PLACE}
 use Rattle.bm_arena.specs.Triplets.{Block, change_block, fill_first}
 use Rattle.bm_base.specs.SlotLists.{Among, Distinct, without}
 
@@ -103,9 +104,9 @@ slot_of a id = lookup (nat_eq id) a.ids
 abbrev pub IsEntry : Contents → ℕ → Type 0
 IsEntry a slot = (id : ℕ) × (slot_of a id ≡ Some slot)
 
--- an entry with no block and no replica
+-- an entry with no block and no replica: it has room for as many as stand in place
 abbrev pub empty_block : ℕ → Block
-empty_block id = record { id = id; info = None; replicas = []; room = 3 }
+empty_block id = record { id = id; info = None; replicas = []; room = TRIPLETS_IN_PLACE }
 
 -- a number that was not there has an empty entry at a slot that was vacant
 pub record IsAdded (old new : Contents) (id slot : ℕ) : Type 0 where

@@ -1,7 +1,7 @@
 -- Triplets in a block's vector, found by their storage.
 use Rattle.std.specs.Prelude.{◌≡◌, ℕ, ◌==◌, List, map, [], ◌∷◌, Option, Some, None, if◌then◌else◌, Bool}
 use Rattle.std.specs.Option.{option_map, option_and_then, option_map_or}
-use Rattle.std.specs.Prelude.{slice_set, slice_index_or, take, length, ◌++◌, is_some}
+use Rattle.std.specs.Prelude.{slice_set, slice_index_or, take, length, ◌++◌}
 use Rattle.slab.specs.Slab.{Slab, get}
 use Rattle.bm_base.specs.declared.replica.Marks.{Marks}
 use Rattle.bm_base.specs.declared.replica.BlockInfo.{BlockInfo}
@@ -120,10 +120,6 @@ attached slots first x storage =
 -- the slab after the neighbours of a triplet were linked to each other
 abbrev pub detached : Slab Entry → Triplet → ℕ → Slab Entry
 detached slots t storage = previous_set (next_set slots t.previous storage t.next) t.next storage t.previous
-
--- the list's first slot after a triplet was taken out of it
-abbrev pub first_after : Option ℕ → Triplet → Option ℕ
-first_after first t = if is_some t.previous then first else t.next
 
 -- in no block two triplets are of one storage
 abbrev pub AreOnce : Slab Entry → Type 0

@@ -8,7 +8,7 @@ ghost use Rattle.bm_base.specs.SlotLinks.{end_of_links};
 ghost use Rattle.bm_base.specs.SlotLists.{Distinct};
 ghost use Rattle.bm_arena.specs.Triplets.{seen_triplet, with_capacity, capacity_at, at_slot, added, removed, fill_first, is_of, attached, detached, find_triplet, change_triplet, storages_in, with_previous, with_next, with_triplet_marks, triplet_at, change_at, AreOnce};
 
-use crate::types::{Entry, Triplet};
+use crate::types::{Entry, TRIPLETS_IN_PLACE, Triplet};
 use bm_base::{BlockInfo, Marks, NO_LINK, SlotLink, StorageId};
 use slab::Slab;
 use smallvec::SmallVec;
@@ -292,7 +292,7 @@ pub(crate) fn add_triplet(slots: &mut Slab<Entry>, slot: usize, triplet: Triplet
 }
 
 // Takes a storage's triplet out of a block's: the last one fills its place.
-fn fill_place(triplets: &mut SmallVec<Triplet, 3>, storage: u32)
+fn fill_place(triplets: &mut SmallVec<Triplet, TRIPLETS_IN_PLACE>, storage: u32)
     ensures items { triplets.new.items ≡ fill_first (is_of storage) triplets.old.items }
     ensures capacity { triplets.new.capacity ≡ triplets.old.capacity }
 {

@@ -30,10 +30,13 @@ pub(crate) const NO_MARKS: Marks = Marks {
     ordered: false,
 };
 
+/// How many replicas of a block stand in its entry itself; where it has more, they stand in memory of their own.
+pub(crate) const TRIPLETS_IN_PLACE: usize = 3;
+
 /// A block, or a number that is only reserved.
 #[derive(Drop)]
 pub(crate) struct Entry {
     pub(crate) id: u64,
     pub(crate) info: Option<BlockInfo>,
-    pub(crate) triplets: SmallVec<Triplet, 3>,
+    pub(crate) triplets: SmallVec<Triplet, TRIPLETS_IN_PLACE>,
 }

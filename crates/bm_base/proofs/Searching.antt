@@ -1,9 +1,12 @@
 -- What a binary search in entries whose keys strictly rise finds.
-use Rattle.std.proofs.Common.{◌≡◌, ℕ, ◌<◌, ◌≤◌, suc, zero, List, [], ◌∷◌, length, get_or, cond, Option, Some, None, is_some, IsTrue, T, arith, refl, sym, ap, subst, ◌∙◌, Ordering, Less, Equal, Greater, is_eq}
-use Rattle.std.specs.Ordering.{is_lt, ordering_reverse}
+use Rattle.std.proofs.Common.{◌≡◌, ℕ, ◌<◌, ◌≤◌, ◌+◌, ◌-◌, suc, zero, Bool, true, false, ltb, List, [], ◌∷◌, length, get_or, take, drop, cond, Option, Some, None, is_some, IsTrue, T, arith, refl, sym, ap, subst, ◌∙◌, Ordering, Less, Equal, Greater, is_eq}
+use Rattle.std.specs.Ordering.{is_lt, is_gt, ordering_reverse}
 use Rattle.std.specs.Cmp.{IsTotalOrder}
+use Rattle.std.specs.List.Sorted.{IsPartitionedBy, IsPartitionPoint}
 use Rattle.std.specs.FinMap.{find, is_sorted}
 use Rattle.std.specs.FinMap.Entries.{below_all}
+use Rattle.std.proofs.lemmas.Bool.{ltb-true, ltb-false}
+use Rattle.std.proofs.lemmas.List.{get_or-take, get_or-drop, length-drop, length-take-le}
 use Rattle.bm_base.specs.Conjunction.{both, first, second}
 use Rattle.bm_base.specs.Place.{place, further}
 use Rattle.bm_base.proofs.MapLaws.{find_below}
@@ -12,6 +15,19 @@ less : (r : Ordering) → T (is_lt r) → r ≡ Less
 less Less h = refl
 less Equal h = absurd h
 less Greater h = absurd h
+
+greater : (r : Ordering) → is_gt r ≡ true → r ≡ Greater
+greater Less h = cc
+greater Equal h = cc
+greater Greater h = refl
+
+passed : (r : Ordering) (n i : ℕ) → i < further r n → (r ≡ Greater) × (i < suc n)
+passed Less n i lt = absurd (omega (arith, lt))
+passed Equal n i lt = absurd (omega (arith, lt))
+passed Greater n i lt = (refl, lt)
+
+differ : {Y : Type 0} → true ≡ false → Y
+differ e = cc
 
 above : {K : Type 0} (R : K → K → Ordering) → IsTotalOrder R → (k x y : K) → R x y ≡ Less → R k y ≡ Greater → R k x ≡ Greater
 above R o k x y p q =
@@ -51,6 +67,60 @@ module _ {K X : Type 0} (R : K → K → Ordering) (o : IsTotalOrder R) where
         | Equal ↦ omega arith
         | Greater ↦ omega (arith, rest)
       ]
+
+  -- the key is greater than each entry before its place
+  greater_before : (k : K) (es : List (K × X)) (i : ℕ) (d : K × X) → i < place R k es → R k (get_or es i d).0 ≡ Greater
+  greater_before k [] i d lt = absurd (omega (arith, lt))
+  greater_before k (e ∷ es) zero d lt = (passed (R k e.0) (place R k es) zero lt).0
+  greater_before k (e ∷ es) (suc i) d lt = greater_before k es i d (omega (arith, (passed (R k e.0) (place R k es) (suc i) lt).1))
+
+  -- an entry that the key is greater than
+  abbrev pub is_behind : K → K × X → Bool
+  is_behind k e = is_gt (R k e.0)
+
+  -- the entries from the least place of a key to the greatest
+  module _ (k : K) (es : List (K × X)) (least most : ℕ) (h : T (is_sorted R es)) (inside : most ≤ length es) where
+    abbrev those : List (K × X)
+    those = take (most - least) (drop least es)
+
+    those_length : length those ≡ most - least
+    those_length = length-take-le (most - least) (drop least es) (omega (arith, length-drop least es, inside))
+
+    those_read : (i : ℕ) (d : K × X) → i < length those → get_or those i d ≡ get_or es (least + i) d
+    those_read i d lt = get_or-take (most - least) (drop least es) i d (omega (arith, lt, those_length)) ∙ get_or-drop least es i d
+
+    place_past : (i : ℕ) (d : K × X) → i < length those → is_behind k (get_or those i d) ≡ true → least + i < place R k es
+    place_past i d lt is = place_behind k es (least + i) d h (omega (arith, lt, those_length, inside)) (greater _ (sym (ap (is_behind k) (those_read i d lt)) ∙ is))
+
+    pub those_parted : IsPartitionedBy (is_behind k) those
+    those_parted i j d le lt is =
+        ap (is_behind k) (those_read i d (omega (arith, le, lt))) ∙ ap is_gt (greater_before k es (least + i) d (omega (arith, le, place_past j d lt is)))
+
+    no_less : (i : ℕ) (d : K × X) → i ≤ length those → least ≤ place R k es → ((j : ℕ) → j < i → is_behind k (get_or those j d) ≡ true) → least + i ≤ place R k es
+    no_less zero d le from pass = omega (arith, from)
+    no_less (suc i) d le from pass = omega (arith, place_past i d (omega (arith, le)) (pass i (omega arith)))
+
+    no_more : (i : ℕ) (d : K × X) → i < length those → is_behind k (get_or those i d) ≡ false → place R k es ≤ least + i
+    no_more i d lt is =
+        place_before k es (least + i) d (omega (arith, lt, those_length, inside)) (λ e. differ (sym (ap is_gt e) ∙ sym (ap (is_behind k) (those_read i d lt)) ∙ is))
+
+    parted_place : (i : ℕ) (d : K × X) → i ≤ length those → least ≤ place R k es → place R k es ≤ most
+        → IsPartitionPoint (λ e. is_behind k e ≡ true) (λ e. is_behind k e ≡ false) those i → least + i ≡ place R k es
+    parted_place i d le from upto point =
+        let low : least + i ≤ place R k es = no_less i d le from (λ j lt. point.0 j d (omega arith) lt) in
+        let high : place R k es ≤ least + i = elim (ltb i (length those)) as (λ b. ltb i (length those) ≡ b → place R k es ≤ least + i) [
+          | true ↦ λ e. let lt = ltb-true i (length those) e in no_more i d lt (point.1 i d (omega arith) lt)
+          | false ↦ λ e. omega (arith, ltb-false i (length those) e, those_length, upto)
+        ] refl in
+        omega (arith, low, high)
+
+  -- the place of a key among entries, found among those from its least place to its greatest
+  pub place_parted : (k : K) (es : List (K × X)) (least most i : ℕ) → T (is_sorted R es) → least ≤ place R k es → place R k es ≤ most → most ≤ length es → i ≤ length (take (most - least) (drop least es))
+      → IsPartitionPoint (λ e. is_behind k e ≡ true) (λ e. is_behind k e ≡ false) (take (most - least) (drop least es)) i → least + i ≡ place R k es
+  place_parted k [] least most i h from upto inside le point =
+      let none : List (K × X) = [] in
+      omega (arith, from, upto, inside, le, length-take-le (most - least) (drop least none) (omega (arith, inside)))
+  place_parted k (e ∷ es) least most i h from upto inside le point = parted_place k (e ∷ es) least most h inside i e le from upto point
 
   -- the place is not behind the entries
   pub place_within : (k : K) (es : List (K × X)) → place R k es ≤ length es

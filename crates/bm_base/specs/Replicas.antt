@@ -13,6 +13,10 @@ abbrev pub is_good : Tag → Bool
 is_good Good = true
 is_good _ = false
 
+abbrev pub is_stale : Tag → Bool
+is_stale Stale = true
+is_stale _ = false
+
 abbrev pub is_bad : Tag → Bool
 is_bad Bad = true
 is_bad _ = false

@@ -43,6 +43,18 @@ impl Tag {
         matches!(self, Tag::Good)
     }
 
+    pub fn is_stale(self) -> bool
+        ensures { result ≡ replicas.is_stale self }
+    {
+        matches!(self, Tag::Stale)
+    }
+
+    pub fn is_bad(self) -> bool
+        ensures { result ≡ replicas.is_bad self }
+    {
+        matches!(self, Tag::Bad)
+    }
+
     pub fn is_stray(self) -> bool
         ensures { result ≡ replicas.is_stray self }
     {

@@ -27,16 +27,8 @@ pub(crate) fn place_between<K: Ord + Copy, V: Copy>(
     requires inside { most ≤ length entries.now }
     ensures { result ≡ place K.cmp key.now entries.now }
 {
-    let mut low = least;
-    let mut high = most;
-    while low < high {
-        let middle = low + (high - low) / 2;
-        match key.cmp(&entries[middle].0) {
-            Ordering::Greater => low = middle + 1,
-            _ => high = middle,
-        }
-    }
-    low
+    let behind = entries[least..most].partition_point(|entry| key.cmp(&entry.0).is_gt());
+    least + behind
 }
 
 /// The value at a key.

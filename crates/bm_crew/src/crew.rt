@@ -7,7 +7,7 @@ ghost use Rattle.bm_crew.specs.Readiness.{Readiness};
 ghost use Rattle.bm_crew.specs.Teams.{IsTeamFor, helpers_in};
 
 use crate::gate::Gate;
-use crate::slots::filled;
+use crate::slots::results_from_slots;
 use crate::team::Team;
 use bm_base::Refusal;
 use std::alloc::Global;
@@ -36,7 +36,12 @@ impl<T, U> Model for Ready<T, U> {
 
     ghost view = { λ r. record { room = r.room; helpers = helpers_in r.team } };
 
-    ghost invariant = { λ r. MatchOption r.team (r.room ≡ 0) (IsTeamFor r.room) × (r.slots.items ≡ []) × (r.room ≤ vec_capacity r.slots) × (r.results.items ≡ []) × (r.room ≤ vec_capacity r.results) };
+    ghost invariant = { λ r.
+        MatchOption r.team (r.room ≡ 0) (IsTeamFor r.room)
+        × (r.slots.items ≡ [])
+        × (r.room ≤ vec_capacity r.slots)
+        × (r.results.items ≡ [])
+        × (r.room ≤ vec_capacity r.results) };
 }
 
 impl Crew {
@@ -112,6 +117,6 @@ impl<T: Send + Drop, U: Send + Drop> Ready<T, U> {
             gate.at(shard);
             work(shard, piece)
         };
-        filled(team.work(rt, items, slots, &job), results)
+        results_from_slots(team.work(rt, items, slots, &job), results)
     }
 }

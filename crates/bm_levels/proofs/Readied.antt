@@ -11,8 +11,8 @@ use Rattle.bm_base.specs.Map.{get}
 use Rattle.bm_base.specs.Replicas.{rack_of, is_draining, is_multi_rack}
 use Rattle.bm_arena.specs.Triplets.{Block}
 use Rattle.bm_arena.specs.Contents.{Contents, block_at, slot_of, marks_at, find_marks, room_at, with_room, IsLawful}
-use Rattle.bm_arena.specs.Holding.{info_at, info_in, replica_in}
-use Rattle.bm_arena.proofs.Held.{get-replicas_of, get-blocks_of}
+use Rattle.bm_arena.specs.Holding.{info_at}
+use Rattle.bm_arena.proofs.Held.{info_in, replica_in, get-replicas_of, get-blocks_of}
 use Rattle.bm_report.specs.Expanded.{IsPrepared}
 use Rattle.bm_report.specs.Aborted.{is_bare_block, is_bare_number}
 use Rattle.bm_levels.specs.Judged.{level_in, level_by, is_settled_at}

@@ -15,7 +15,7 @@ use Rattle.bm_base.specs.Transfers.{class_of, is_on_racks}
 use Rattle.bm_place.specs.declared.few.Few.{Few}
 use Rattle.bm_place.specs.declared.few.Few.TheVariants.{Nothing, One, Two, More}
 use Rattle.bm_place.specs.declared.standing.Standing.{Standing}
-use Rattle.bm_place.specs.Few.{two_of, three_of, with_number, with_numbers, is_one, are_two}
+use Rattle.bm_place.specs.Few.{two_of, three_of, with_number, is_one, are_two}
 use Rattle.bm_place.specs.Standing.{with_known, with_storage, with_storages, nowhere, standing_of, class_on, class_in}
 
 abbrev Set : Type 0
@@ -60,6 +60,11 @@ shape-put r (a ∷ b ∷ c ∷ es) = put_more r a b c es (put nat_cmp r tt es) (
 
 abbrev marked : List ℕ → Set
 marked xs = map (λ x. (x, tt)) xs
+
+-- the different ones seen, with each of these
+abbrev with_numbers : Few → List ℕ → Few
+with_numbers seen [] = seen
+with_numbers seen (n ∷ ns) = with_numbers (with_number seen n) ns
 
 shape-all : (xs : List ℕ) (m : Map by_number (Unit {0})) → shape (insert_all m (marked xs)).list ≡ with_numbers (shape m.list) xs
 unfolding insert

@@ -11,7 +11,11 @@ use Rattle.bm_base.proofs.Maps.{same_key, key_itself}
 use Rattle.bm_place.specs.declared.seats.Seat.{Seat}
 use Rattle.bm_place.specs.declared.spans.Span.{Span}
 use Rattle.bm_place.specs.Foremost.{IsAmong}
-use Rattle.bm_place.specs.Spans.{IsWithin, IsEndOf, AreSpannedTo, AreSpanned, widened, with_places}
+use Rattle.bm_place.specs.Spans.{IsWithin, IsEndOf, AreSpanned, widened, with_places}
+
+-- of the first storages, each that has a node stands within the span of the node
+abbrev pub AreSpannedTo : ℕ → List Seat → Map by_number Span → Type 0
+AreSpannedTo k seats spans = (i : ℕ) (e : Seat) (n : ℕ) → i < k → slice_get seats i ≡ Some e → e.node ≡ Some n → IsWithin i (get spans n)
 
 -- Elements and places.
 

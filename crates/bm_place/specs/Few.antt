@@ -1,5 +1,5 @@
 -- The different numbers of a list, as far as two.
-use Rattle.std.specs.Prelude.{ℕ, Bool, true, false, List, [], ◌∷◌}
+use Rattle.std.specs.Prelude.{ℕ, Bool, true, false}
 use Rattle.std.specs.declared.cmp.Ordering.{Ordering}
 use Rattle.std.specs.declared.cmp.Ordering.TheVariants.{Less, Equal, Greater}
 use Rattle.std.specs.Ordering.{nat_cmp}
@@ -24,11 +24,6 @@ with_number Nothing n = One n
 with_number (One p) n = two_of (nat_cmp n p) n p
 with_number (Two p q) n = three_of (nat_cmp n p) (nat_cmp n q) p q
 with_number More n = More
-
--- the same with each of these
-abbrev pub with_numbers : Few → List ℕ → Few
-with_numbers seen [] = seen
-with_numbers seen (n ∷ ns) = with_numbers (with_number seen n) ns
 
 -- whether it is just one
 abbrev pub is_one : Few → Bool

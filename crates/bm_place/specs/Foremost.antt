@@ -25,10 +25,6 @@ cmp_alike s t = ordering_then (nat_cmp (room_on t) (room_on s)) (nat_cmp s.stora
 abbrev pub goes_before : Target → Target → Bool
 goes_before s t = is_lt (cmp_alike s t)
 
--- the one of the two that goes before the other
-abbrev pub better : Target → Target → Target
-better s t = if goes_before s t then s else t
-
 -- another than the best so far, if it is like the target and goes before the best; else that
 abbrev pub better_of : Target → Target → Option Target → Target
 better_of best t None = best

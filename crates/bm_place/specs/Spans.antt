@@ -13,10 +13,6 @@ abbrev pub IsWithin : ℕ → Option Span → Type 0
 IsWithin i None = ⊥
 IsWithin i (Some s) = (s.from ≤ i) × (i < s.to)
 
--- of the first storages, each that has a node stands within the span of the node
-abbrev pub AreSpannedTo : ℕ → List Seat → Map by_number Span → Type 0
-AreSpannedTo k seats spans = (i : ℕ) (e : Seat) (n : ℕ) → i < k → slice_get seats i ≡ Some e → e.node ≡ Some n → IsWithin i (get spans n)
-
 -- each storage that has a node stands within the span of the node
 abbrev pub AreSpanned : List Seat → Map by_number Span → Type 0
 AreSpanned seats spans = (i : ℕ) (e : Seat) (n : ℕ) → slice_get seats i ≡ Some e → e.node ≡ Some n → IsWithin i (get spans n)

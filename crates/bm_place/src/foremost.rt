@@ -16,7 +16,7 @@ pub fn foremost_of(alloc: Global, rows: &[(u64, Target)]) -> Result<Vec<Target>,
     ensures { IfOk result (λ v. v.items ≡ nodes.foremost_in_order (map (λ e. e.1) rows.now)) }
 {
     let firsts = firsts_of(alloc, rows)?;
-    sorted(alloc, firsts.entries())
+    targets_in_order(alloc, firsts.entries())
 }
 
 /// By node the one of its targets that goes before the others.
@@ -44,7 +44,7 @@ fn enter(firsts: &mut NumberMap<Target>, target: &Target) -> Result<(), AllocErr
 }
 
 /// These targets in their order.
-fn sorted(alloc: Global, firsts: &[(u64, Target)]) -> Result<Vec<Target>, AllocError>
+fn targets_in_order(alloc: Global, firsts: &[(u64, Target)]) -> Result<Vec<Target>, AllocError>
     ensures { IfOk result (λ v. v.items ≡ nodes.all_in_order [] (map (λ e. e.1) firsts.now)) }
 {
     let mut foremost = Vec::new(alloc);

@@ -18,13 +18,13 @@ pub struct Seat {
 pub fn seats_of(alloc: Global, rows: &[(u64, Target)]) -> Result<Vec<Seat>, AllocError>
     ensures { IfOk result (λ v. IsPermutation (map (λ e. seating.seat_of e.1) rows.now) v.items) }
 {
-    let mut seats = listed(alloc, rows)?;
+    let mut seats = seats_in_row_order(alloc, rows)?;
     seats.sort_unstable_by_key(|seat| number_of(seat.node));
     Ok(seats)
 }
 
 /// The same, in the order of the rows.
-fn listed(alloc: Global, rows: &[(u64, Target)]) -> Result<Vec<Seat>, AllocError>
+fn seats_in_row_order(alloc: Global, rows: &[(u64, Target)]) -> Result<Vec<Seat>, AllocError>
     ensures { IfOk result (λ v. v.items ≡ map (λ e. seating.seat_of e.1) rows.now) }
 {
     let mut seats = Vec::with_capacity(alloc, rows.len())?;

@@ -55,7 +55,7 @@ fn enter(
 {
     match node {
         Some(node) => {
-            let span = widened(spans.get(u64::from(node.0)), from, to);
+            let span = widen_span(spans.get(u64::from(node.0)), from, to);
             spans.insert(u64::from(node.0), span)
         }
         None => Ok(()),
@@ -63,7 +63,7 @@ fn enter(
 }
 
 /// A span with further places, behind it, or of these places alone.
-fn widened(span: Option<Span>, from: usize, to: usize) -> Span
+fn widen_span(span: Option<Span>, from: usize, to: usize) -> Span
     ensures { result ≡ places.widened span from to }
 {
     match span {

@@ -17,10 +17,10 @@ use Rattle.bm_arena.specs.Contents.{Contents, slot_of, marks_at, HasRoom}
 use Rattle.bm_base.proofs.Entries.{length-expanded}
 use Rattle.bm_report.specs.declared.types.Named.{Named}
 use Rattle.bm_report.specs.declared.tally.Tally.{Tally}
-use Rattle.bm_report.specs.Midway.{AreHere, HaveRoom, IsEntered, IsCounted, IsSmall, IsUnderway, DropsLostExcess, told_of, slot_in}
+use Rattle.bm_report.specs.Midway.{AreHere, HaveRoom, IsEntered, IsCounted, IsSmall, DropsLostExcess, told_of, slot_in}
 use Rattle.bm_report.specs.Ready.{named_in, named_of, HasPlace, CanBeEntered}
 use Rattle.bm_report.specs.Expanded.{told_to}
-use Rattle.bm_report.proofs.Underway.{underway-first, underway-next, underway-last, here-part, here-rest, room-part}
+use Rattle.bm_report.proofs.Underway.{IsUnderway, underway-first, underway-next, underway-last, here-part, here-rest, room-part}
 use Rattle.bm_report.proofs.LostExcess.{drops-join, drops-same, here-ids}
 
 abbrev named_by_ids : List Told → List (ℕ × ℕ) → List Named

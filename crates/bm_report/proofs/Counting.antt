@@ -18,12 +18,12 @@ use Rattle.bm_base.specs.Calls.{new_replicas}
 use Rattle.bm_base.proofs.MapLaws.{same_map, get-insert, get-keep, get-revise, entries-keep, entries-revise}
 use Rattle.bm_base.proofs.Differences.{both_parts, none_new}
 use Rattle.bm_report.specs.declared.types.Named.{Named}
-use Rattle.bm_report.specs.Midway.{entered_at, entered_one, entered_all, fresh, out_all, without_lost_excess, lost_excess_out_all, last_stamp, midway_marks}
+use Rattle.bm_report.specs.Midway.{entered_at, entered_one, entered_all, fresh, out_all, without_lost_excess, lost_excess_out_all, midway_marks}
 use Rattle.bm_report.proofs.Sisters.{sisters_apart}
 use Rattle.bm_report.proofs.Maps.{Held, tie, tied, is_replaced, len-put_new}
 use Rattle.bm_report.proofs.Once.{get-entered_at}
 use Rattle.bm_report.proofs.Chaining.{entered_one_is}
-use Rattle.bm_report.proofs.Reported.{entered-own, out-at, lost_excess_out_all-at}
+use Rattle.bm_report.proofs.Reported.{last_stamp, entered-own, out-at, lost_excess_out_all-at}
 
 abbrev pub has : Held → ReplicaId → Bool
 has K q = contains_key K q

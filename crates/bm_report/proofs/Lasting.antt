@@ -12,11 +12,11 @@ use Rattle.bm_base.specs.State.{Cluster, Holdings}
 use Rattle.bm_base.specs.Replicas.{is_good, are_sisters}
 use Rattle.bm_base.specs.Events.{entered, report}
 use Rattle.bm_report.specs.declared.types.Named.{Named}
-use Rattle.bm_report.specs.Midway.{midway_marks, without_lost_excess, last_stamp, told_of, IsOncePerNode}
+use Rattle.bm_report.specs.Midway.{midway_marks, without_lost_excess, told_of, IsOncePerNode}
 use Rattle.bm_report.specs.Ready.{HasGoodExcess}
 use Rattle.bm_base.proofs.Clusters.{sisters_turned, no_sister_itself}
 use Rattle.bm_report.proofs.Maps.{Held}
-use Rattle.bm_report.proofs.Reported.{report_own, report_other, entered_without_lost_excess}
+use Rattle.bm_report.proofs.Reported.{last_stamp, report_own, report_other, entered_without_lost_excess}
 
 module _ (C : Cluster) (H : Holdings) (s : ℕ) (ns : List Named) where
   abbrev after_it : Held

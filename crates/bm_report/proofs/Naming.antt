@@ -8,8 +8,8 @@ use Rattle.bm_base.specs.declared.ids.Part.{Part}
 use Rattle.bm_base.specs.Entries.{Told, told_by, expanded}
 use Rattle.bm_base.specs.Events.{is_named}
 use Rattle.bm_base.specs.Shards.{shard_of}
-use Rattle.bm_report.specs.Expanded.{of_part, told_from, told_to}
-use Rattle.bm_report.proofs.Running.{told_next, told_rest, told_both}
+use Rattle.bm_report.specs.Expanded.{of_part, told_to}
+use Rattle.bm_report.proofs.Running.{told_from, told_next, told_rest, told_both}
 
 pub named_apart : (ts : List Told) (b : ℕ) → is_named ts b ≡ false → is_named ts b ≡ true → ⊥
 named_apart ts b out in_it = false≢true (sym out ∙ in_it)

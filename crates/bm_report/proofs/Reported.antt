@@ -1,6 +1,6 @@
 -- What was entered and swept, without lost excess, is the report of the definition.
 use Rattle.std.proofs.Common.{◌≡◌, ℕ, Bool, true, false, cond, not, ◌&&◌, ◌||◌, List, [], ◌∷◌, map, Option, Some, None, is_some, IsSome, refl, inl, inr, sym, ap, ◌∙◌, eqb-true, eqb}
-use Rattle.std.specs.Prelude.{◌==◌}
+use Rattle.std.specs.Prelude.{◌==◌, if◌then◌else◌}
 use Rattle.std.specs.List.{list_any}
 use Rattle.std.specs.Option.{option_map, option_map_or, option_or, option_and_then}
 use Rattle.std.proofs.lemmas.Bool.{cases_Bool}
@@ -17,12 +17,17 @@ use Rattle.bm_base.specs.Events.{same_stamp, was_bad, was_excess, entered_tag, e
 use Rattle.bm_base.proofs.MapLaws.{same_map, get-insert, get-keep, get-remove}
 use Rattle.bm_base.proofs.Ties.{replica_tie}
 use Rattle.bm_report.specs.declared.types.Named.{Named}
-use Rattle.bm_report.specs.Midway.{midway_marks, without_lost_excess, entered_one, entered_all, out_all, lost_excess_out_one, lost_excess_out_all, last_stamp, told_of}
+use Rattle.bm_report.specs.Midway.{midway_marks, without_lost_excess, entered_one, entered_all, out_all, lost_excess_out_one, lost_excess_out_all, told_of}
 use Rattle.bm_arena.proofs.Words.{eqb_turned}
 use Rattle.bm_base.proofs.Clusters.{no_sister_itself}
 use Rattle.bm_report.proofs.Maps.{Held, tie, tied}
 use Rattle.bm_report.proofs.Once.{get-entered_at}
 use Rattle.bm_report.proofs.Chaining.{entered_one_is}
+
+-- the stamp that counts of a named block: that of its last entry
+abbrev pub last_stamp : List Named → ℕ → Option Stamp
+last_stamp [] b = None
+last_stamp (n ∷ ns) b = option_or (last_stamp ns b) (if n.id == b then Some n.stamp else None)
 
 -- marks of a block that is named twice
 

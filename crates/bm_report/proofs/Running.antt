@@ -12,7 +12,11 @@ use Rattle.bm_base.specs.declared.replica.Stamp.{Stamp}
 use Rattle.bm_base.specs.Entries.{Told, count_up, told_by, expanded, run_length}
 use Rattle.bm_base.specs.Shards.{shard_of}
 use Rattle.bm_report.proofs.Underway.{drop_next, drop_all}
-use Rattle.bm_report.specs.Expanded.{of_part, told_to, told_from}
+use Rattle.bm_report.specs.Expanded.{of_part, told_to}
+
+-- what an entry tells of its numbers from b on
+abbrev pub told_from : Entry → ℕ → List Told
+told_from e b = map (λ n. record { id = n; stamp = e.stamp }) (count_up b (e.to + 1 - b))
 
 pub nothing : {X : Type 0} (l : List X) → l ++ [] ≡ l
 nothing [] = refl

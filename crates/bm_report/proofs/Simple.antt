@@ -21,9 +21,14 @@ use Rattle.bm_arena.specs.Contents.{Contents, block_at, slot_of, marks_at, find_
 use Rattle.bm_arena.specs.Holding.{replicas_of}
 use Rattle.bm_report.specs.Midway.{IsOncePerNode, IsExcessGood, is_excess_good}
 use Rattle.bm_report.specs.Ready.{HasGoodExcess}
-use Rattle.bm_report.specs.Tested.{IsSingle, AreLow}
+use Rattle.bm_report.specs.Tested.{IsSingle}
 use Rattle.bm_arena.proofs.Held.{get-replicas_of}
 use Rattle.bm_base.proofs.Clusters.{no_sister_itself}
+
+-- each entry ends below 1000
+abbrev pub AreLow : List Entry → Type 0
+AreLow [] = Unit {0}
+AreLow (e ∷ es) = (e.to < 1000) × AreLow es
 
 only_one : (rs : List (ℕ × Marks)) (s : ℕ) (r : ℕ × Marks) → length (r ∷ rs) ≤ 1 → IsSome (find_marks (r ∷ rs) s) → r.0 ≡ s
 only_one [] s r few some = by (r.0 == s) refl some

@@ -20,7 +20,7 @@ use Rattle.bm_base.proofs.SlotLists.{Among-without, Among-without_other, without
 use Rattle.bm_report.specs.declared.types.Named.{Named}
 use Rattle.bm_report.specs.declared.tally.Tally.{Tally}
 use Rattle.bm_arena.specs.Holding.{replicas_of, blocks_of, holdings_of}
-use Rattle.bm_report.specs.Midway.{after, behind, without_all, number_at, slot_in, entered_all, fresh, out_all, lost_excess_out_all, last_stamp, told_of, count_ups, AreHere, HaveRoom, IsOncePerNode, IsExcessGood, IsEntered, IsCounted, IsSwept, DropsLostExcess, IsListed}
+use Rattle.bm_report.specs.Midway.{after, behind, without_all, number_at, slot_in, entered_all, fresh, out_all, lost_excess_out_all, told_of, count_ups, AreHere, HaveRoom, IsOncePerNode, IsExcessGood, IsEntered, IsCounted, IsSwept, DropsLostExcess, IsListed}
 use Rattle.bm_arena.proofs.Held.{get-replicas_of, blocks-kept, one_number}
 use Rattle.bm_arena.proofs.Staying.{entries-chain, entries-others}
 use Rattle.bm_report.proofs.Behind.{Among-after}
@@ -29,7 +29,7 @@ use Rattle.bm_report.proofs.Maps.{Held, tie, get-here, some_is}
 use Rattle.bm_report.proofs.Swept.{delimiter_before, number-leads}
 use Rattle.bm_report.proofs.Underway.{listed-chain}
 use Rattle.bm_report.proofs.LostExcess.{here-ids}
-use Rattle.bm_report.proofs.Reported.{reported}
+use Rattle.bm_report.proofs.Reported.{last_stamp, reported}
 use Rattle.bm_report.proofs.Counting.{came, came_and_went, len-lost_excess_out}
 
 same_slot : (x y : ℕ) → Some x ≡ Some y → x ≡ y

@@ -12,13 +12,21 @@ use Rattle.bm_base.specs.SlotLists.{first_of, slot_after}
 use Rattle.bm_arena.specs.Contents.{Contents, block_at, slot_of, marks_at, list_of, find_marks, known_of, count_up, IsLawful, KeepsOthers}
 use Rattle.bm_report.specs.declared.tally.Tally.{Tally}
 use Rattle.bm_arena.specs.Holding.{replicas_of}
-use Rattle.bm_report.specs.Midway.{after, behind, number_at, out_all, count_ups, swept_tally, IsSwept, IsSweeping}
+use Rattle.bm_report.specs.Midway.{IsListed, after, behind, number_at, out_all, count_ups, swept_tally, IsSwept}
 use Rattle.bm_arena.proofs.Held.{replicas-out, blocks-kept}
 use Rattle.bm_arena.proofs.Staying.{entries-none, entries-chain, entries-others}
 use Rattle.bm_report.proofs.Behind.{after-without, Among-after}
 use Rattle.bm_report.proofs.Frames.{some_there}
 use Rattle.bm_report.proofs.Maps.{get-here, len-out}
 use Rattle.bm_report.proofs.Underway.{listed-none, listed-chain, listed-push}
+
+-- some of the slots behind the delimiter are out, and the rest is to be
+pub record IsSweeping (s : ℕ) (first now : Contents) (t u : Tally) (listed_first listed_now : List ℕ) : Type 0 where
+  pub put : IsSome (marks_at now now.delimiter s)
+  pub swept : (last : Contents) (v : Tally) → IsSwept s (behind now s) now last u v → IsSwept s (behind first s) first last t v
+  pub listed : IsListed first now listed_first listed_now
+  pub removed : u.removed + length (behind now s) < 2 ^ 127
+  pub steps : u.steps + length (behind now s) < 2 ^ 127
 
 -- the slot after the delimiter is the first one behind it
 pub first-after : (d : ℕ) (xs : List ℕ) → slot_after d xs ≡ first_of (after d xs)

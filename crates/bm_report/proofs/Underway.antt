@@ -13,9 +13,19 @@ use Rattle.bm_arena.proofs.Replicas.{Among-left, Among-last}
 use Rattle.bm_report.specs.declared.types.Named.{Named}
 use Rattle.bm_report.specs.declared.tally.Tally.{Tally}
 use Rattle.bm_arena.specs.Holding.{replicas_of, blocks_of}
-use Rattle.bm_report.specs.Midway.{AreHere, HaveRoom, IsOncePerNode, IsEntered, IsCounted, IsListed, IsSmall, IsUnderway}
+use Rattle.bm_report.specs.Midway.{AreHere, HaveRoom, IsOncePerNode, IsEntered, IsCounted, IsListed, IsSmall}
 use Rattle.bm_report.proofs.Chaining.{entered-none, counted-none, entered-append, counted-append, here-framed, room-framed}
 use Rattle.bm_report.proofs.Once.{once-entered_all}
+
+-- Some of the named blocks are entered, and the rest is to be: what stands now, and what comes of it in the end.
+pub record IsUnderway (C : Cluster) (s : ℕ) (all rest : List Named) (first now : Contents) (t u : Tally) : Type 0 where
+  pub here : AreHere now rest
+  pub room : HaveRoom now s rest
+  pub once : IsOncePerNode C (replicas_of now)
+  pub head : HasHead now s
+  pub small : IsSmall u (length rest)
+  pub entered : (last : Contents) → IsEntered C s rest now last → IsEntered C s all first last
+  pub counted : (last : Contents) (v : Tally) → IsCounted C s rest now last u v → IsCounted C s all first last t v
 
 -- listing
 

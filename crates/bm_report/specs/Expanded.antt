@@ -1,8 +1,8 @@
 -- What a shard is told by the entries of a report, and what a look-up of its numbers leaves as it was.
-use Rattle.std.specs.Prelude.{◌≡◌, ◌≢◌, ℕ, ◌+◌, ◌-◌, ◌≤◌, List, map, IsSome, Some, true}
+use Rattle.std.specs.Prelude.{◌≡◌, ◌≢◌, ℕ, ◌≤◌, List, IsSome, Some, true}
 use Rattle.bm_base.specs.declared.ids.Part.{Part}
 use Rattle.bm_base.specs.declared.event.Entry.{Entry}
-use Rattle.bm_base.specs.Entries.{Told, count_up, expanded}
+use Rattle.bm_base.specs.Entries.{Told, expanded}
 use Rattle.bm_parts.specs.Parts.{told_of}
 use Rattle.bm_arena.specs.Triplets.{Block}
 use Rattle.bm_arena.specs.Contents.{Contents, block_at, slot_of, marks_at, list_of, room_at, with_room, HasHead, HasRoom}
@@ -16,10 +16,6 @@ of_part part ts = told_of part.index part.shards ts
 -- what the entries of a report tell of a shard's numbers, in their order, repeats included
 abbrev pub told_to : Part → List Entry → List Told
 told_to part es = of_part part (expanded es)
-
--- what an entry tells of its numbers from b on
-abbrev pub told_from : Entry → ℕ → List Told
-told_from e b = map (λ n. record { id = n; stamp = e.stamp }) (count_up b (e.to + 1 - b))
 
 -- what was looked up of a number is so
 abbrev pub IsKnown : Contents → Known → Type 0

@@ -1,6 +1,6 @@
 -- A full report while it runs: which marks a replica has, which maps and lists there are, what is counted.
 use Rattle.std.specs.Prelude.{◌≡◌, ℕ, zero, suc, ◌+◌, ◌≤◌, ◌<◌, ◌^◌, ◌*◌, Bool, true, false, not, ◌&&◌, ◌||◌, ◌==◌, if◌then◌else◌, List, [], ◌∷◌, length, map, Option, Some, None, IsSome, ◌⊎◌}
-use Rattle.std.specs.Option.{option_map_or, option_or}
+use Rattle.std.specs.Option.{option_map_or}
 use Rattle.bm_base.specs.declared.replica.ReplicaId.{ReplicaId}
 use Rattle.bm_base.specs.declared.replica.Tag.{Tag}
 use Rattle.bm_base.specs.declared.replica.Tag.TheVariants.{Good, Stale, Bad, Stray}
@@ -96,11 +96,6 @@ abbrev pub lost_excess_out_all : ℕ → List Named → Map by_replica Marks →
 lost_excess_out_all s [] K = K
 lost_excess_out_all s (n ∷ ns) K = lost_excess_out_all s ns (lost_excess_out_one s n.id K)
 
--- the stamp that counts of a named block: that of its last entry
-abbrev pub last_stamp : List Named → ℕ → Option Stamp
-last_stamp [] b = None
-last_stamp (n ∷ ns) b = option_or (last_stamp ns b) (if n.id == b then Some n.stamp else None)
-
 abbrev pub told_of : Named → Told
 told_of n = record { id = n.id; stamp = n.stamp }
 
@@ -187,16 +182,6 @@ pub record IsListed (old new : Contents) (before after : List ℕ) : Type 0 wher
   pub only : (slot : ℕ) → Among slot after → Among slot before ⊎ IsEntry old slot
   pub ids : new.ids ≡ old.ids
 
--- Some of the named blocks are entered, and the rest is to be: what stands now, and what comes of it in the end.
-pub record IsUnderway (C : Cluster) (s : ℕ) (all rest : List Named) (first now : Contents) (t u : Tally) : Type 0 where
-  pub here : AreHere now rest
-  pub room : HaveRoom now s rest
-  pub once : IsOncePerNode C (replicas_of now)
-  pub head : HasHead now s
-  pub small : IsSmall u (length rest)
-  pub entered : (last : Contents) → IsEntered C s rest now last → IsEntered C s all first last
-  pub counted : (last : Contents) (v : Tally) → IsCounted C s rest now last u v → IsCounted C s all first last t v
-
 -- the slots xs, which stand behind the delimiter first, were taken out of the list of s
 pub record IsSwept (s : ℕ) (xs : List ℕ) (old new : Contents) (t u : Tally) : Type 0 where
   pub replicas : replicas_of new ≡ out_all s (map (number_at old) xs) (replicas_of old)
@@ -214,14 +199,6 @@ pub record IsSwept (s : ℕ) (xs : List ℕ) (old new : Contents) (t u : Tally) 
   pub lengths : len (replicas_of new) + length xs ≡ len (replicas_of old)
   pub others : (slot : ℕ) → (Among slot xs → ⊥) → block_at new slot ≡ block_at old slot
   pub entries : KeepsEntries old new
-
--- some of the slots behind the delimiter are out, and the rest is to be
-pub record IsSweeping (s : ℕ) (first now : Contents) (t u : Tally) (listed_first listed_now : List ℕ) : Type 0 where
-  pub put : IsSome (marks_at now now.delimiter s)
-  pub swept : (last : Contents) (v : Tally) → IsSwept s (behind now s) now last u v → IsSwept s (behind first s) first last t v
-  pub listed : IsListed first now listed_first listed_now
-  pub removed : u.removed + length (behind now s) < 2 ^ 127
-  pub steps : u.steps + length (behind now s) < 2 ^ 127
 
 -- the lost excess of the named blocks on s was dropped
 pub record DropsLostExcess (s : ℕ) (ns : List Named) (old new : Contents) : Type 0 where

@@ -1,7 +1,6 @@
 -- Arenas that tests can check to be lawful.
-use Rattle.std.specs.Prelude.{◌≡◌, ℕ, ◌≤◌, ◌<◌, List, [], ◌∷◌, length, IsTrue, Some}
+use Rattle.std.specs.Prelude.{◌≡◌, ℕ, ◌≤◌, length, IsTrue, Some}
 use Rattle.bm_base.specs.declared.replica.Marks.{Marks}
-use Rattle.bm_base.specs.declared.event.Entry.{Entry}
 use Rattle.bm_base.specs.Replicas.{is_good}
 use Rattle.bm_arena.specs.Triplets.{Block}
 use Rattle.bm_arena.specs.Contents.{Contents, block_at, marks_at}
@@ -10,8 +9,3 @@ use Rattle.bm_arena.specs.Contents.{Contents, block_at, marks_at}
 pub record IsSingle (a : Contents) (slot : ℕ) : Type 0 where
   pub few : (b : Block) → block_at a slot ≡ Some b → length b.replicas ≤ 1
   pub good : (storage : ℕ) (m : Marks) → marks_at a slot storage ≡ Some m → IsTrue m.excess → IsTrue (is_good m.tag)
-
--- each entry ends below 1000
-abbrev pub AreLow : List Entry → Type 0
-AreLow [] = Unit {0}
-AreLow (e ∷ es) = (e.to < 1000) × AreLow es

@@ -1,5 +1,5 @@
 // A full report, and a notice of a received replica, from the look-up of its numbers to its end.
-ghost use Rattle.std.specs.Prelude.{◌≡◌, ◌≢◌, ◌<◌, ◌+◌, ◌^◌, ◌∷◌, ◌&&◌, [], ℕ, if◌then◌else◌, length, None, Some, IsSome, IsTrue, OnOk, IfErr, ◌⊎◌, false};
+ghost use Rattle.std.specs.Prelude.{◌≡◌, ◌≢◌, ◌<◌, ◌+◌, ◌^◌, ◌∷◌, ◌&&◌, [], ℕ, if◌then◌else◌, length, None, Some, IsSome, IsTrue, OnOk, IsOk, IfOk, IfErr, ◌⊎◌, ◌↔◌, false};
 ghost use Rattle.bm_base.specs.declared.refusal.Refusal.TheVariants.{Memory};
 ghost use Rattle.bm_base.specs.Events as events;
 ghost use Rattle.bm_base.specs.Calls as calls;
@@ -84,9 +84,7 @@ impl Report {
         look_up(arena, storage, entries, part, &mut self.named)?;
         arena.lawful();
         self.changed.clear();
-        let Some(room) = self.named.len().checked_add(arena.slot_bound()) else {
-            return Err(Refusal::Memory);
-        };
+        let room = room_to_list(self.named.len(), arena.slot_bound())?;
         self.changed.reserve(room)?;
         Ok(())
     }
@@ -187,4 +185,14 @@ impl Report {
     {
         self.changed.as_slice()
     }
+}
+
+/// For how many slots a list of those that change needs room: for so many that are named, and for all that the arena has. `Memory` where
+/// that is no length of a list. Takes no memory.
+fn room_to_list(named: usize, slots: usize) -> Result<usize, Refusal>
+    ensures room { IfOk result (λ room. room ≡ named + slots) }
+    ensures fits { IsOk result ↔ (named + slots < 2 ^ 64) }
+    ensures refused { IfErr result (λ e. e ≡ Memory) }
+{
+    named.checked_add(slots).ok_or(Refusal::Memory)
 }

@@ -1,25 +1,11 @@
 // Storages of one node: a node keeps one replica of a block, so a new one takes the place of one on a sister storage.
-ghost use Rattle.std.specs.Prelude.{◌≡◌, ℕ, true, false, None, IsSome, IfSome, IfNone};
+ghost use Rattle.std.specs.Prelude.{◌≡◌, ℕ, true, None, IsSome, IfSome, IfNone};
 ghost use Rattle.bm_base.specs.Replicas as replicas;
 ghost use Rattle.bm_arena.specs.Contents.{marks_at};
 
 use bm_arena::{Arena, Slot};
 use bm_base::StorageId;
 use bm_topo::Topology;
-
-/// Whether two storages are different ones of one node.
-#[tactic(auto, unfolding(bm_base::specs::Replicas::are_sisters))]
-pub(crate) fn are_sisters(topology: &Topology, a: StorageId, b: StorageId) -> bool
-    ensures { result ≡ replicas.are_sisters topology.now.cluster a b }
-{
-    if b == a {
-        return false;
-    }
-    match topology.node_of(a) {
-        Some(node) => topology.has_storage(node, b),
-        None => false,
-    }
-}
 
 /// Another storage of the node on which the block in `slot` has a replica.
 pub(crate) fn sister_of(
@@ -36,7 +22,7 @@ pub(crate) fn sister_of(
 {
     for place in 0..arena.triplet_count(slot) {
         if let Some((other, _)) = arena.triplet_at(slot, place) {
-            if are_sisters(topology, storage, other) {
+            if topology.are_sisters(storage, other) {
                 return Some(other);
             }
         }

@@ -15,8 +15,8 @@ use Rattle.bm_base.proofs.Clusters.{eqb_turned}
 use Rattle.bm_arena.specs.Contents.{Contents}
 use Rattle.bm_arena.specs.Holding.{replicas_of}
 use Rattle.bm_report.specs.declared.types.Named.{Named}
-use Rattle.bm_report.specs.Midway.{last_stamp, told_of}
-use Rattle.bm_report.proofs.Reported.{report_own}
+use Rattle.bm_report.specs.Midway.{told_of}
+use Rattle.bm_report.proofs.Reported.{last_stamp, report_own}
 use Rattle.bm_shard.specs.Arrived.{has_arrived}
 
 -- what passes where a test fails

@@ -63,17 +63,17 @@ impl LikelyPlaces {
 
     /// Where a storage is likely to stand among the storages.
     pub(crate) fn of_storage(&self, number: u64) -> usize {
-        noted(&self.storages, self.storage_factor, number)
+        noted_place(&self.storages, self.storage_factor, number)
     }
 
     /// Where a node is likely to stand among the nodes.
     pub(crate) fn of_node(&self, number: u64) -> usize {
-        noted(&self.nodes, self.node_factor, number)
+        noted_place(&self.nodes, self.node_factor, number)
     }
 
     /// Where a node is likely to stand, or would stand, among those that drain.
     pub(crate) fn of_draining(&self, number: u64) -> usize {
-        noted(&self.draining, self.node_factor, number)
+        noted_place(&self.draining, self.node_factor, number)
     }
 }
 
@@ -122,7 +122,7 @@ fn note_places<V: Copy, W: Copy>(
 fn count_found<V: Copy>(notes: &[u16], factor: u64, entries: &[(u64, V)]) -> usize {
     let mut count = 0usize;
     for (number, _) in entries {
-        if let Some((other, _)) = entries.get(noted(notes, factor, *number)) {
+        if let Some((other, _)) = entries.get(noted_place(notes, factor, *number)) {
             if *other == *number {
                 count = count.wrapping_add(1);
             }
@@ -131,8 +131,8 @@ fn count_found<V: Copy>(notes: &[u16], factor: u64, entries: &[(u64, V)]) -> usi
     count
 }
 
-/// What is noted for a number.
-fn noted(notes: &[u16], factor: u64, number: u64) -> usize {
+/// The place that is noted for a number.
+fn noted_place(notes: &[u16], factor: u64, number: u64) -> usize {
     match notes.get(note_of(notes.len(), factor, number)) {
         Some(place) => *place as usize,
         None => 0,

@@ -53,8 +53,17 @@ impl Model for Topology {
     ghost coded = { coded_seen };
 
     ghost view = { λ t. record {
-      cluster = record { nodes = t.nodes.map; draining = t.draining.map; storages = t.storages.map };
-      room = record { nodes = t.nodes.room; draining = t.draining.room; racks = t.racks.room; storages = t.storages.room };
+      cluster = record {
+        nodes = t.nodes.map;
+        draining = t.draining.map;
+        storages = t.storages.map;
+      };
+      room = record {
+        nodes = t.nodes.room;
+        draining = t.draining.room;
+        racks = t.racks.room;
+        storages = t.storages.room;
+      };
     } };
 
     ghost invariant = { λ t. IsSound t.nodes.map t.racks.map t.draining.map t.storages.map };
@@ -86,7 +95,7 @@ impl Topology {
     }
 
     /// What is known of a storage: one look where it is likely to stand, and else a look-up.
-    fn stored(&self, storage: StorageId) -> Option<StorageInfo>
+    fn info_of(&self, storage: StorageId) -> Option<StorageInfo>
         ensures { result ≡ map.get self.now.cluster.storages storage }
     {
         let number = u64::from(storage.0);
@@ -133,7 +142,7 @@ impl Topology {
     pub fn node_of(&self, storage: StorageId) -> Option<NodeId>
         ensures { result ≡ replicas.node_of self.now.cluster storage }
     {
-        match self.stored(storage) {
+        match self.info_of(storage) {
             Some(info) => Some(info.node),
             None => None,
         }
@@ -144,7 +153,7 @@ impl Topology {
     pub fn knows_storage(&self, storage: StorageId) -> bool
         ensures { result ≡ knows_storage self.now.cluster storage }
     {
-        self.stored(storage).is_some()
+        self.info_of(storage).is_some()
     }
 
     /// Whether a storage is one of a node; not where it is not known.
@@ -154,6 +163,20 @@ impl Topology {
     {
         match self.node_of(storage) {
             Some(its_node) => its_node == node,
+            None => false,
+        }
+    }
+
+    /// Whether two storages are different ones of one node; not where one of them is not known.
+    #[tactic(auto, unfolding(bm_base::specs::Replicas::are_sisters))]
+    pub fn are_sisters(&self, a: StorageId, b: StorageId) -> bool
+        ensures { result ≡ replicas.are_sisters self.now.cluster a b }
+    {
+        if b == a {
+            return false;
+        }
+        match self.node_of(a) {
+            Some(node) => self.has_storage(node, b),
             None => false,
         }
     }
@@ -192,7 +215,7 @@ impl Topology {
         ensures drains { result.drains ≡ replicas.is_draining self.now.cluster storage }
         ensures remaining { result.remaining ≡ excess.remaining self.now.cluster storage }
     {
-        let Some(info) = self.stored(storage) else {
+        let Some(info) = self.info_of(storage) else {
             return Location {
                 node: None,
                 rack: None,
@@ -225,7 +248,7 @@ impl Topology {
         ensures { result ≡ option_map
             (λ i. i.remaining) (map.get self.now.cluster.storages storage) }
     {
-        match self.stored(storage) {
+        match self.info_of(storage) {
             Some(info) => Some(info.remaining),
             None => None,
         }

@@ -138,7 +138,10 @@ impl Model for Evidence {
 
     ghost view = { λ e.
         let first = named 0 e.seen.log in
-        record { home = record { book = e.seen.book; first = first }; log = chain first e.seen.log } };
+        record {
+          home = record { book = e.seen.book; first = first };
+          log = chain first e.seen.log;
+        } };
 }
 
 impl Evidence {

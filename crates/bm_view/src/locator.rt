@@ -50,7 +50,11 @@ impl Model for Locator {
 
     ghost Value = { Learnt };
 
-    ghost view = { λ l. record { home = l.answered.home; list = shown_in l.answered.log; told = l.told } };
+    ghost view = { λ l. record {
+      home = l.answered.home;
+      list = shown_in l.answered.log;
+      told = l.told;
+    } };
 
     ghost invariant = { λ l.
         (l.heard.home ≡ l.answered.home)

@@ -2,6 +2,7 @@
 ghost use Rattle.std.specs.Prelude.{◌≡◌, ◌^◌, ◌<◌, ◌↔◌, ◌⊎◌, [], ◌∷◌, All, IfOk, IfErr, vec_len};
 ghost use Rattle.std.specs.Arc.{arc_value};
 ghost use Rattle.left_right.specs.Sides.{view as sight};
+ghost use Rattle.bm_view.specs.declared.open.TheConstants.{MAX_READERS};
 ghost use Rattle.bm_view.specs.Version.{opening};
 ghost use Rattle.bm_view.specs.Journal.{opening_log};
 ghost use Rattle.bm_view.specs.Rule.{HasSeen};
@@ -17,6 +18,7 @@ use bm_base::Refusal;
 use std::alloc::{AllocError, Global};
 use std::sync::{Arc, Wait};
 
+/// How many locators there can be.
 const MAX_READERS: usize = 16;
 
 // The opening version: no calls and no rows.
@@ -90,7 +92,7 @@ pub fn open_view<R: Wait>(
     alloc: Global,
     readers: usize,
 ) -> Result<(Publisher, Vec<Locator>), Refusal>
-    ensures too_many { (result ≡ Err Refusal.BadConfig) ↔ (16 < readers) }
+    ensures too_many { (result ≡ Err Refusal.BadConfig) ↔ (MAX_READERS < readers) }
     ensures refused { IfErr result (λ refusal. (refusal ≡ Refusal.BadConfig)
         ⊎ (refusal ≡ Refusal.Memory)) }
     ensures publisher { IfOk result (λ made. made.0.list ≡ opening ∷ []) }

@@ -1,15 +1,9 @@
 -- Replicas counted by tag, and the blocks that they are of.
-use Rattle.std.specs.Prelude.{ℕ, Bool, true, false, not, nat_eq, List, map, filter, count_by}
+use Rattle.std.specs.Prelude.{ℕ, not, nat_eq, List, map, filter, count_by}
 use Rattle.std.specs.List.{dedup}
-use Rattle.bm_base.specs.declared.replica.Tag.{Tag}
-use Rattle.bm_base.specs.declared.replica.Tag.TheVariants.{Stale}
 use Rattle.bm_base.specs.declared.replica.Replica.{Replica}
-use Rattle.bm_base.specs.Replicas.{is_good, is_bad, is_stray}
+use Rattle.bm_base.specs.Replicas.{is_good, is_stale, is_bad, is_stray}
 use Rattle.cluster_report.specs.declared.counting.TagCounts.{TagCounts}
-
-abbrev pub is_stale : Tag → Bool
-is_stale Stale = true
-is_stale _ = false
 
 -- how many of these replicas have each tag
 abbrev pub tags_counted : List Replica → TagCounts

@@ -1,9 +1,9 @@
 // How many replicas there are of each tag, and which blocks they are of.
 ghost use Rattle.std.specs.Prelude.{◌≡◌, IfOk, count_by};
-ghost use Rattle.bm_base.specs.Replicas.{is_good, is_bad, is_stray};
-ghost use Rattle.cluster_report.specs.Counting.{is_stale, tags_counted, known_numbers, blocks_held};
+ghost use Rattle.bm_base.specs.Replicas.{is_good, is_stale, is_bad, is_stray};
+ghost use Rattle.cluster_report.specs.Counting.{tags_counted, known_numbers, blocks_held};
 
-use bm_base::{Replica, Tag};
+use bm_base::Replica;
 use std::alloc::{AllocError, Global};
 
 /// How many replicas have each tag.
@@ -81,23 +81,23 @@ fn block_number(replica: &Replica) -> u64
 fn is_good(replica: &Replica) -> bool
     ensures { result ≡ is_good replica.now.tag }
 {
-    matches!(replica.tag, Tag::Good)
+    replica.tag.is_good()
 }
 
 fn is_stale(replica: &Replica) -> bool
     ensures { result ≡ is_stale replica.now.tag }
 {
-    matches!(replica.tag, Tag::Stale)
+    replica.tag.is_stale()
 }
 
 fn is_bad(replica: &Replica) -> bool
     ensures { result ≡ is_bad replica.now.tag }
 {
-    matches!(replica.tag, Tag::Bad)
+    replica.tag.is_bad()
 }
 
 fn is_stray(replica: &Replica) -> bool
     ensures { result ≡ is_stray replica.now.tag }
 {
-    matches!(replica.tag, Tag::Stray)
+    replica.tag.is_stray()
 }

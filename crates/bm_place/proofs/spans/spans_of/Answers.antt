@@ -1,7 +1,6 @@
 use Rattle.std.proofs.Common.{get_or, sym, subst}
 use Rattle.std.proofs.lemmas.Option.{slice_get-get_or}
-use Rattle.bm_place.specs.Spans.{AreSpannedTo}
-use Rattle.bm_place.proofs.Spanning.{spanned_more, all_spanned}
+use Rattle.bm_place.proofs.Spanning.{AreSpannedTo, spanned_more, all_spanned}
 use Rattle.bm_place.proofs.spans.spans_of.Goals as goal
 
 pub loop-from-preserved : goal.loop-from-preserved

@@ -1,5 +1,5 @@
 use Rattle.std.proofs.Common.{◌-◌, length}
-use Rattle.bm_place.specs.Spans.{AreSpannedTo}
+use Rattle.bm_place.proofs.Spanning.{AreSpannedTo}
 use Rattle.bm_place.proofs.spans.spans_of.Given as goal
 
 -- the storages so far stand within the spans of their nodes

@@ -2,10 +2,10 @@ use Rattle.std.proofs.Common.{ℕ, ◌≡◌, ◌≤◌, ◌+◌, ◌%◌, List,
 use Rattle.std.proofs.Math.Nat.{add-mod_right}
 use Rattle.bm_base.specs.declared.event.Entry.{Entry}
 use Rattle.bm_base.specs.Entries.{Told, told_by}
-use Rattle.bm_report.specs.Expanded.{of_part, told_from}
+use Rattle.bm_report.specs.Expanded.{of_part}
 use Rattle.bm_report.specs.Ready.{named_of}
 use Rattle.bm_report.specs.Midway.{AreHere, DropsLostExcess}
-use Rattle.bm_report.proofs.Running.{told_first, told_next, told_past}
+use Rattle.bm_report.proofs.Running.{told_from, told_first, told_next, told_past}
 use Rattle.bm_report.proofs.ByNumber.{HasExcessToDrop, to_drop-first, to_drop-here, to_drop-next, to_drop-last}
 use Rattle.bm_report.proofs.by_number.drop_lost_excess_of_run.Goals as goal
 

@@ -1,8 +1,9 @@
 use Rattle.std.proofs.Common.{◌≡◌, ◌+◌, ◌-◌}
 use Rattle.bm_base.specs.Entries.{told_by}
 use Rattle.bm_base.specs.Shards.{shard_of}
-use Rattle.bm_report.specs.Expanded.{of_part, told_from}
+use Rattle.bm_report.specs.Expanded.{of_part}
 use Rattle.bm_report.proofs.ByNumber.{HasExcessToDrop}
+use Rattle.bm_report.proofs.Running.{told_from}
 use Rattle.bm_report.proofs.by_number.drop_lost_excess_of_run.Given as goal
 
 abbrev pub invariant-loop-next : goal.invariant-loop-next

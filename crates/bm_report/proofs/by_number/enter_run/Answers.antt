@@ -2,10 +2,10 @@ use Rattle.std.proofs.Common.{ℕ, ◌≡◌, ◌≤◌, ◌+◌, ◌%◌, List,
 use Rattle.std.proofs.Math.Nat.{add-mod_right}
 use Rattle.bm_base.specs.declared.event.Entry.{Entry}
 use Rattle.bm_base.specs.Entries.{Told, told_by}
-use Rattle.bm_report.specs.Expanded.{of_part, told_from}
+use Rattle.bm_report.specs.Expanded.{of_part}
 use Rattle.bm_report.specs.Ready.{named_of, CanBeEntered}
 use Rattle.bm_report.specs.Midway.{IsEntered, IsCounted}
-use Rattle.bm_report.proofs.Running.{told_first, told_next, told_past}
+use Rattle.bm_report.proofs.Running.{told_from, told_first, told_next, told_past}
 use Rattle.bm_report.proofs.ByNumber.{IsLeft, left-first, left-can, left-next, left-last}
 use Rattle.bm_report.proofs.by_number.enter_run.Goals as goal
 

@@ -1,5 +1,6 @@
 use Rattle.std.proofs.Common.{ℕ, List, [], length}
-use Rattle.bm_report.specs.Midway.{behind, IsSweeping}
+use Rattle.bm_report.specs.Midway.{behind}
+use Rattle.bm_report.proofs.Swept.{IsSweeping}
 use Rattle.bm_report.proofs.by_number.sweep_behind.Given as goal
 
 abbrev pub decreases-loop-slot : goal.decreases-loop-slot

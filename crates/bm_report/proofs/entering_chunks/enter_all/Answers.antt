@@ -2,10 +2,10 @@ use Rattle.std.proofs.Common.{◌∷◌, true, ◌≡◌, ◌++◌, length, [], 
 use Rattle.std.specs.Prelude.{◌==◌}
 use Rattle.std.proofs.lemmas.Bool.{eqb-true}
 use Rattle.bm_report.specs.declared.types.Named.{Named}
-use Rattle.bm_report.specs.Midway.{IsUnderway, AllStand}
+use Rattle.bm_report.specs.Midway.{AllStand}
 use Rattle.std.proofs.lemmas.List.{take-append-drop}
 use Rattle.bm_report.proofs.Quiet.{all_same, front_of, back_of}
-use Rattle.bm_report.proofs.Underway.{listed-chain, underway-next, underway-last, underway-split, here-part, room-part}
+use Rattle.bm_report.proofs.Underway.{IsUnderway, listed-chain, underway-next, underway-last, underway-split, here-part, room-part}
 use Rattle.bm_report.proofs.entering_chunks.enter_all.Goals as goal
 
 empty_of : (xs : List Named) → (length xs == 0) ≡ true → xs ≡ []

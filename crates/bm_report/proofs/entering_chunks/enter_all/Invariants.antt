@@ -1,6 +1,7 @@
 use Rattle.std.proofs.Common.{◌≡◌, ◌+◌, ◌≤◌, length, vec_len}
 use Rattle.std.specs.Prelude.{vec_capacity}
-use Rattle.bm_report.specs.Midway.{IsUnderway, IsListed, AllStand}
+use Rattle.bm_report.specs.Midway.{IsListed, AllStand}
+use Rattle.bm_report.proofs.Underway.{IsUnderway}
 use Rattle.bm_report.proofs.entering_chunks.enter_all.Given as goal
 
 abbrev pub decreases-loop-rest : goal.decreases-loop-rest

@@ -2,9 +2,8 @@ use Rattle.std.proofs.Common.{◌≡◌, suc, length, drop, ◌∷◌, [], false
 use Rattle.std.proofs.Common.{Bool, true, ◌||◌, List}
 use Rattle.std.proofs.lemmas.Option.{slice_get_read}
 use Rattle.bm_report.specs.declared.types.Named.{Named}
-use Rattle.bm_report.specs.Midway.{IsUnderway}
 use Rattle.bm_report.proofs.Quiet.{stands_same, one_of}
-use Rattle.bm_report.proofs.Underway.{listed-chain, underway-next, underway-last, drop_next, drop_all}
+use Rattle.bm_report.proofs.Underway.{IsUnderway, listed-chain, underway-next, underway-last, drop_next, drop_all}
 use Rattle.bm_report.proofs.entering_chunks.enter_chunk.Goals as goal
 
 both_false : (a b : Bool) → (a || b) ≡ false → (a ≡ false) × (b ≡ false)

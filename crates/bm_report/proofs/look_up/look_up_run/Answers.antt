@@ -1,13 +1,13 @@
 use Rattle.std.proofs.Common.{◌≡◌, ◌+◌, ◌%◌, ◌≤◌, ◌++◌, ◌∷◌, [], true, map, sym, ap, ◌∙◌, arith}
 use Rattle.std.proofs.Math.Nat.{add-mod_right}
 use Rattle.bm_base.specs.declared.event.Entry.{Entry}
-use Rattle.bm_report.specs.Expanded.{of_part, told_from}
+use Rattle.bm_report.specs.Expanded.{of_part}
 use Rattle.bm_base.specs.Events.{is_named}
 use Rattle.bm_report.specs.Midway.{told_of}
 use Rattle.std.proofs.Common.{refl}
 use Rattle.bm_report.proofs.Aborts.{naming-none, naming-chain}
 use Rattle.bm_report.proofs.Prepared.{prepared-none, prepared-chain, seen-prepared}
-use Rattle.bm_report.proofs.Running.{told_first, run_step}
+use Rattle.bm_report.proofs.Running.{told_from, told_first, run_step}
 use Rattle.bm_report.proofs.Naming.{named_apart, next_named, later_named}
 use Rattle.bm_report.proofs.look_up.look_up_run.Goals as goal
 

@@ -5,7 +5,8 @@ use Rattle.bm_base.specs.Entries.{told_by}
 use Rattle.bm_base.specs.Shards.{shard_of}
 use Rattle.bm_report.specs.Midway.{AreHere, HaveRoom, told_of}
 use Rattle.bm_report.specs.Aborted.{NamesNew}
-use Rattle.bm_report.specs.Expanded.{IsPrepared, IsSeen, of_part, told_from}
+use Rattle.bm_report.specs.Expanded.{IsPrepared, IsSeen, of_part}
+use Rattle.bm_report.proofs.Running.{told_from}
 use Rattle.bm_report.proofs.look_up.look_up_run.Given as goal
 
 abbrev pub invariant-loop-next : goal.invariant-loop-next

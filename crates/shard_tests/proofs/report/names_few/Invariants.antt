@@ -1,5 +1,5 @@
 use Rattle.std.proofs.Common.{drop}
-use Rattle.bm_report.specs.Tested.{AreLow}
+use Rattle.bm_report.proofs.Simple.{AreLow}
 use Rattle.shard_tests.proofs.report.names_few.Given as goal
 
 abbrev pub invariant-loop-entry : goal.invariant-loop-entry

@@ -11,14 +11,14 @@ returns-clause-ready c = record {
   space =
       let none : length c.reserve.new.self.items ≡ 0 = ap length (c.reserve.ensures.items ∙ c.clear.ensures.items) in
       let within = list_within c.look_up.new.arena c.args.storage c.lawful.ensures in
-      omega (arith, none, within, c.look_up.new.named.ok.0, c.len.ensures, c.slot_bound.ensures.bound, c.in-Some.ensures.1, c.in_ok-reserve.ensures.ok, c.reserve.new.self.ok.0);
+      omega (arith, none, within, c.look_up.new.named.ok.0, c.len.ensures, c.slot_bound.ensures.bound, c.in_ok-room.ensures.room, c.in_ok-reserve.ensures.ok, c.reserve.new.self.ok.0);
 }
 
 pub returns-in_err-look_up-clause-fresh : goal.returns-in_err-look_up-clause-fresh
 returns-in_err-look_up-clause-fresh c b none some = sym (names_told c.look_up.new.named.items b) ∙ c.look_up.ensures.fresh.fresh b none some
 
-pub returns-in_default-clause-fresh : goal.returns-in_default-clause-fresh
-returns-in_default-clause-fresh c b none some = sym (names_told c.look_up.new.named.items b) ∙ c.look_up.ensures.fresh.fresh b none some
+pub returns-in_err-room-clause-fresh : goal.returns-in_err-room-clause-fresh
+returns-in_err-room-clause-fresh c b none some = sym (names_told c.look_up.new.named.items b) ∙ c.look_up.ensures.fresh.fresh b none some
 
 pub returns-in_err-reserve-clause-fresh : goal.returns-in_err-reserve-clause-fresh
 returns-in_err-reserve-clause-fresh c b none some = sym (names_told c.look_up.new.named.items b) ∙ c.look_up.ensures.fresh.fresh b none some

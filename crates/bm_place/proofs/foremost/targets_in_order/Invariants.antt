@@ -1,6 +1,6 @@
 use Rattle.std.proofs.Common.{◌≡◌, map, drop, []}
 use Rattle.bm_place.specs.Foremost.{all_in_order}
-use Rattle.bm_place.proofs.foremost.sorted.Given as goal
+use Rattle.bm_place.proofs.foremost.targets_in_order.Given as goal
 
 -- what is left makes of them what all makes of none
 abbrev pub invariant-loop-first : goal.invariant-loop-first

@@ -1,6 +1,6 @@
 use Rattle.std.proofs.Common.{◌≡◌, ◌++◌, map, drop}
 use Rattle.bm_place.specs.Seats.{seat_of}
-use Rattle.bm_place.proofs.seats.listed.Given as goal
+use Rattle.bm_place.proofs.seats.seats_in_row_order.Given as goal
 
 -- with those that are left they are all
 abbrev pub invariant-loop-row : goal.invariant-loop-row
