@@ -10,12 +10,12 @@ ghost use Rattle.std.specs.Fn.{CalledAt};
 
 use crate::ids::{BlockId, StorageId};
 use crate::replica::ReplicaId;
-use crate::sorted::{find, place, put, replace};
+use crate::sorted::{find, place, place_to_put, put, replace};
 use std::alloc::{AllocError, Global};
 use std::marker::Model;
 
 /// A map from replicas, by block and then by storage. A look-up is a binary search; an insertion or a removal moves what
-/// stands behind it.
+/// stands behind it, and an insertion behind all takes one look.
 #[derive(Drop)]
 pub struct ReplicaMap<V> {
     entries: Vec<(ReplicaId, V)>,
@@ -75,7 +75,7 @@ impl<V: Copy> ReplicaMap<V> {
         ensures ok { OnOk result (self.new ≡ map.insert self.old key value) }
         ensures err { OnErr result (self.new ≡ self.old) }
     {
-        let at = place(&self.entries, &key);
+        let at = place_to_put(&self.entries, &key);
         put(&mut self.entries, at, key, value)?;
         Ok(())
     }

@@ -14,6 +14,18 @@ pub fn place<K: Ord + Copy, V: Copy>(entries: &[(K, V)], key: &K) -> usize
     place_between(entries, key, 0, entries.len())
 }
 
+/// The same, of a key that mostly comes behind all that are there: the last of them is looked at first.
+pub(crate) fn place_to_put<K: Ord + Copy, V: Copy>(entries: &[(K, V)], key: &K) -> usize
+    requires { T (list.is_sorted K.cmp entries.now) }
+    ensures { result ≡ place K.cmp key.now entries.now }
+{
+    let count = entries.len();
+    if count > 0 && key.cmp(&entries[count - 1].0).is_gt() {
+        return count;
+    }
+    place(entries, key)
+}
+
 /// How many entries stand before the key's place, of which they are at least `least` and at most `most`.
 pub(crate) fn place_between<K: Ord + Copy, V: Copy>(
     entries: &[(K, V)],
