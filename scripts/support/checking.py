@@ -1,6 +1,7 @@
 """What the checks on built programs share."""
 
 import os
+import re
 import subprocess
 import sys
 import tempfile
@@ -18,6 +19,25 @@ class Failed(Exception):
 def want(is_so, why):
     if not is_so:
         raise Failed(why)
+
+
+def code_blocks(page):
+    """Of a page's text what stands four columns in, block by block."""
+    blocks = re.findall(r"(?:^    .*\n)+", page, re.MULTILINE)
+    return [re.sub(r"^    ", "", block, flags=re.MULTILINE) for block in blocks]
+
+
+def block_that_begins(page, start):
+    found = [block for block in code_blocks(page) if block.startswith(start)]
+    want(len(found) == 1, f"{len(found)} blocks begin with {start!r}")
+    return found[0]
+
+
+def stands_in(told, path):
+    """What a page prints of a file's code stands there once, but for how its lines are broken."""
+    words, code = told.split(), path.read_text().split()
+    places = [at for at in range(len(code)) if code[at : at + len(words)] == words]
+    want(len(places) == 1, f"it stands {len(places)} times in {path.name}")
 
 
 class Report:

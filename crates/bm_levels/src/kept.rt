@@ -45,7 +45,11 @@ impl Model for KeptLevels {
 
     ghost Value = { Kept };
 
-    ghost view = { λ k. record { levels = k.levels; unsettled = k.unsettled; wishing = k.wishing } };
+    ghost view = { λ k. record {
+      levels = k.levels;
+      unsettled = k.unsettled;
+      wishing = k.wishing;
+    } };
 
     ghost invariant = { λ k. HasWishing k.levels k.wishing };
 }

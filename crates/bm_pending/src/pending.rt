@@ -38,7 +38,10 @@ impl Model for PendingTransfers {
 
     ghost Value = { OnTheWay };
 
-    ghost view = { λ p. record { map = map_of p.by_block.entries; rooms = rooms_of p.by_block.entries } };
+    ghost view = { λ p. record {
+      map = map_of p.by_block.entries;
+      rooms = rooms_of p.by_block.entries;
+    } };
 
     ghost invariant = { λ p. IsPending p.by_block.entries };
 }

@@ -29,9 +29,13 @@ impl Model for LevelLists {
 
     ghost Value = { Levels };
 
-    ghost view = { λ a. record { levels = a.levels.items; lists = five a.lists.heads a.lists.next.items a.lists.previous.items } };
+    ghost view = { λ a. record {
+      levels = a.levels.items;
+      lists = five a.lists.heads a.lists.next.items a.lists.previous.items;
+    } };
 
-    ghost invariant = { λ a. AreLevels a.lists.heads a.lists.next.items a.lists.previous.items a.levels.items };
+    ghost invariant = { λ a. AreLevels a.lists.heads a.lists.next.items a.lists.previous.items
+        a.levels.items };
 }
 
 impl LevelLists {

@@ -28,9 +28,13 @@ impl Model for SlotSet {
 
     ghost Value = { Members };
 
-    ghost view = { λ a. record { slots = list_from a.lists.heads a.lists.next.items a.lists.previous.items 0; room = length a.lists.previous.items } };
+    ghost view = { λ a. record {
+      slots = list_from a.lists.heads a.lists.next.items a.lists.previous.items 0;
+      room = length a.lists.previous.items;
+    } };
 
-    ghost invariant = { λ a. AreMembers a.lists.heads a.lists.next.items a.lists.previous.items a.count };
+    ghost invariant = { λ a. AreMembers a.lists.heads a.lists.next.items a.lists.previous.items
+        a.count };
 }
 
 impl SlotSet {

@@ -54,7 +54,12 @@ impl Model for Shard {
       round = s.round;
       pend = s.pend;
       levels = levels_of s.blocks;
-      room = record { entries = numbers_of s.blocks.arena; lists = heads_of s.blocks.arena; report = report_of s.report s.prepared; transfers = s.pending.rooms };
+      room = record {
+        entries = numbers_of s.blocks.arena;
+        lists = heads_of s.blocks.arena;
+        report = report_of s.report s.prepared;
+        transfers = s.pending.rooms;
+      };
     } };
 
     ghost invariant = { λ s. IsShard s.part s.blocks s.report s.prepared };

@@ -24,7 +24,11 @@ impl<'a> Model for Place<'a> {
 
     ghost Value = { spec.Place };
 
-    ghost view = { λ p. record { rack = p.rack.now; address = p.address.now; storage = p.storage.now } };
+    ghost view = { λ p. record {
+      rack = p.rack.now;
+      address = p.address.now;
+      storage = p.storage.now;
+    } };
 }
 
 impl<'a> Place<'a> {

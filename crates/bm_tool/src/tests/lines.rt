@@ -1,8 +1,7 @@
 // Lines as they come: what is read, and what is answered by `BadLine` or `LongLine`.
 use crate::tests::noting::ByteByByte;
-use crate::tests::support::{FIRST_PATH, FIRST_PATH_ANSWERS, run_over, run_with, usual};
+use crate::tests::support::{FIRST_PATH, FIRST_PATH_ANSWERS, run_over, usual};
 use crate::{Counted, Summary, run};
-use bm_base::Config;
 use std::alloc::{AllocError, Global};
 use std::process::Abort;
 use std::random::RandomSource;
@@ -246,7 +245,7 @@ fn nine_lines(alloc: Global) -> Result<Vec<u8>, Fail> {
 fn nine_lines_of_which_two_are_accepted(rt: HostRuntime) -> Result<(), Fail> {
     let alloc = rt.alloc();
     let input = nine_lines(alloc)?;
-    let (result, text) = run_with(&rt, alloc, &Config::standard(), input.as_slice());
+    let (result, text) = run_over(&rt, alloc, input.as_slice());
     let summary = Summary {
         lines: 9,
         accepted: 2,
