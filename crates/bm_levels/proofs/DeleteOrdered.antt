@@ -121,8 +121,8 @@ module _ (old : Leveled) (a : Contents) (slot : ℕ) (changed : IsChangedAt old.
       | inr differs ↦ let P : Option Block → Type 0 = λ o. IsSome o in h.room z (subst P (changed.blocks z differs) there)
     ];
     unsettled = λ z.
-    let P : Bool → Type 0 = λ b. IsUnsettled old.kept z ↔ (b ≡ false) in
-    subst P (sym (alike_at is_settled_at settled z)) (h.unsettled z);
+        let P : Bool → Type 0 = λ b. IsUnsettled old.kept z ↔ (b ≡ false) in
+        subst P (sym (alike_at is_settled_at settled z)) (h.unsettled z);
     unknown = λ z e. h.unknown z (sym (alike_at (option_and_then (λ (b : Block). b.info)) (known_info (block_at a slot) (block_at old.arena slot) known) z) ∙ e);
   }
 

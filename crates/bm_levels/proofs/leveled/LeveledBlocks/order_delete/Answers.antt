@@ -55,8 +55,8 @@ returns-else-is_plain-clause-levels c =
     let here = subst P (sym c.self.view_is) c.requires.slot.1 in
     let was : marks_at c.self.inside.arena c.args.slot s ≡ Some c.args.marks = subst M (sym c.self.view_is) c.requires.replica in
     let after : c.set_marks_near.new.self ≡ record c.self.inside.arena { blocks = change_block (with_marks s (as_ordered c.args.marks)) c.self.inside.arena.blocks c.args.slot } =
-        c.set_marks_near.ensures.after
-        ∙ ap (λ (m : Marks). record c.self.inside.arena { blocks = change_block (with_marks s m) c.self.inside.arena.blocks c.args.slot }) c.with_order.ensures in
+    c.set_marks_near.ensures.after
+    ∙ ap (λ (m : Marks). record c.self.inside.arena { blocks = change_block (with_marks s m) c.self.inside.arena.blocks c.args.slot }) c.with_order.ensures in
     let Q : Leveled → Type 0 = λ v. AreLevels C v → AreLevels C (record { arena = c.set_marks_near.new.self; kept = c.self.inside.kept }) in
     subst Q c.self.view_is (levels_alike (record { arena = c.self.inside.arena; kept = c.self.inside.kept }) c.set_marks_near.new.self c.args.slot
     (record { blocks = r.blocks; delimiter = r.delimiter; apart = (c.lawful.ensures.found c.requires.slot.0 c.args.slot here).0; held = held_by c.self.inside.arena c.args.slot (c.lawful.ensures.found c.requires.slot.0 c.args.slot here) })
