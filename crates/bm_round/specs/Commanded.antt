@@ -1,5 +1,5 @@
 -- What a round chooses and commands.
-use Rattle.std.specs.Prelude.{◌≡◌, ◌≤◌, ℕ, true, List, map, filter, length, replicate}
+use Rattle.std.specs.Prelude.{◌≡◌, ◌≤◌, ℕ, true, List, [], map, filter, take, length, replicate}
 use Rattle.std.specs.List.{All}
 use Rattle.bm_base.specs.declared.commands.Transfer.{Transfer}
 use Rattle.bm_base.specs.declared.commands.Delete.{Delete}
@@ -27,6 +27,13 @@ HasFewDeletes C most ds = (n : ℕ) → length (filter (λ d. has_storage C n d.
 -- what each alive node is commanded, where it is anything or not
 abbrev pub commands_by_node : Cluster → List Transfer → List Delete → List NodeCommands
 commands_by_node C ts ds = map (node_commands C ts ds) (keys C.nodes)
+
+-- of these deletes the first so many on the storages of a node, and those of each alive node
+abbrev pub first_commands : ℕ → Cluster → List Delete → ℕ → NodeCommands
+first_commands most C ds n = let k = node_commands C [] ds n in record k { deletes = take most k.deletes }
+
+abbrev pub first_by_node : ℕ → Cluster → List Delete → List NodeCommands
+first_by_node most C ds = map (first_commands most C ds) (keys C.nodes)
 
 -- each transfer has its source on the node that is told of it
 abbrev pub SendsItsOwn : Cluster → NodeCommands → Type 0
