@@ -17,7 +17,7 @@ const NAME: &str = "report_again";
 /// Which allocations are refused in turn.
 const DEPTH: u32 = 9;
 
-const ALL_ADDED: &str = "Done(Done { added: 1000, removed: 0 })\n";
+const ALL_ADDED: &str = "Done(Done { added: 1000, removed: 0 })";
 
 pub fn go_over<R: Print + Eprint + Threads + Wait + Sync>(
     rt: &R,

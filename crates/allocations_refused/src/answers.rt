@@ -61,6 +61,16 @@ pub fn ask<R: Threads + Wait + Sync>(
     }
 }
 
+/// The same of a call that is a value already.
+pub fn answer_line<R: Threads + Wait + Sync>(
+    rt: &R,
+    manager: &mut Manager,
+    call: &Call,
+    text: &mut String,
+) -> Result<(), AllocError> {
+    write_and_drop(manager.answer(rt, &NoGate, call), text)
+}
+
 /// Makes the call. `Err` where it is refused.
 pub fn make<R: Threads + Wait + Sync>(
     rt: &R,
@@ -74,7 +84,7 @@ pub fn make<R: Threads + Wait + Sync>(
     }
 }
 
-/// Makes the call, and compares the line that is its answer.
+/// Makes the call, and compares the text of its answer.
 pub fn compare<R: Threads + Wait + Sync>(
     rt: &R,
     alloc: Global,
@@ -103,6 +113,10 @@ pub fn compare_in_window<R: Eprint + Threads + Wait + Sync>(
     }
 }
 
+pub fn wants_memory(answer: &Answer) -> bool {
+    matches!(answer, Answer::Refused(Refusal::Memory))
+}
+
 fn refusal_in(answer: Answer) -> Result<(), Refusal> {
     let refusal = match &answer {
         Answer::Refused(refusal) => Err(*refusal),
@@ -124,16 +138,17 @@ fn compare_and_drop(alloc: Global, answer: Answer, expected: &str) -> Result<Out
     outcome
 }
 
-fn write_line(answer: &Answer, text: &mut String) -> Result<(), AllocError> {
+/// Writes the answer as a line.
+pub fn write_line(answer: &Answer, text: &mut String) -> Result<(), AllocError> {
     write!(text, "{answer:?}\n")
 }
 
 fn outcome_of(alloc: Global, answer: &Answer, expected: &str) -> Result<Outcome, AllocError> {
-    if matches!(answer, Answer::Refused(Refusal::Memory)) {
+    if wants_memory(answer) {
         return Ok(Outcome::WantsMemory);
     }
     let mut text = String::new(alloc);
-    match write_line(answer, &mut text) {
+    match write!(text, "{answer:?}") {
         Ok(()) => Ok(outcome_by(text.as_str() == expected)),
         Err(error) => Err(error),
     }

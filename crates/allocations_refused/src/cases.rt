@@ -1,4 +1,5 @@
-// The calls that are tried, each with the calls that go before it on a cluster of four nodes.
+// The calls that are tried, each with the calls that go before it on a cluster of four nodes, and what it is to answer. The answers
+// were worked out by hand from the rules.
 
 use crate::told::Told;
 
@@ -7,6 +8,8 @@ pub struct Case {
     pub name: &'static str,
     pub before: &'static [Told],
     pub call: Told,
+    /// What the call answers while there is memory.
+    pub answer: &'static str,
     /// Whether the call may be refused for want of memory.
     pub takes_memory: bool,
 }
@@ -23,7 +26,7 @@ pub static CLUSTER: [Told; 8] = [
     Told::Heartbeat(4, 41),
 ];
 
-const NOTHING: &[Told] = &[];
+pub const NOTHING: &[Told] = &[];
 
 /// Two blocks of which a report brings the first replicas, beside two numbers that are no block's.
 const TWO_BLOCKS: &[Told] = &[Told::Add(7, 3), Told::Add(8, 3)];
@@ -86,52 +89,171 @@ const OF_ALL_KINDS: &[Told] = &[
     Told::Drain(2),
 ];
 
+const NONE_CHANGED: &str = "Done(Done { added: 0, removed: 0 })";
+
+const ONE_ADDED: &str = "Done(Done { added: 1, removed: 0 })";
+
+const THREE_ADDED: &str = "Done(Done { added: 3, removed: 0 })";
+
+const FOUR_ADDED: &str = "Done(Done { added: 4, removed: 0 })";
+
+const ONE_REMOVED: &str = "Done(Done { added: 0, removed: 1 })";
+
+const TWO_REMOVED: &str = "Done(Done { added: 0, removed: 2 })";
+
+/// Blocks 1 and 2 are not among them.
+const THOUSAND_FOR_TWO: &str = "Done(Done { added: 1000, removed: 2 })";
+
+/// All three blocks are at level 2, where a node sends two copies at most. So blocks 1 and 2 are copied, each by both nodes that have
+/// it, to both nodes of the other rack, and block 3 has to wait.
+const TWO_COPIED_TWICE: &str = "Commanded(Commands { round: 1, nodes: Items { vec: [\
+    NodeCommands { node: NodeId(1), transfers: Items { vec: [\
+    Transfer { block: BlockId(1), stamp: Stamp { generation: Gen(1), len: 10 }, \
+    source: StorageId(11), target: StorageId(31) }, \
+    Transfer { block: BlockId(2), stamp: Stamp { generation: Gen(1), len: 10 }, \
+    source: StorageId(11), target: StorageId(31) }] }, deletes: Items { vec: [] } }, \
+    NodeCommands { node: NodeId(2), transfers: Items { vec: [\
+    Transfer { block: BlockId(1), stamp: Stamp { generation: Gen(1), len: 10 }, \
+    source: StorageId(21), target: StorageId(41) }, \
+    Transfer { block: BlockId(2), stamp: Stamp { generation: Gen(1), len: 10 }, \
+    source: StorageId(21), target: StorageId(41) }] }, deletes: Items { vec: [] } }] } })";
+
+/// By the round before, blocks 2 and 3 are on their way to storage 31 and block 4 to storage 11, and what is to be deleted is ordered;
+/// a second copy of block 4 was for node 2, which drains since. So block 3 lacks one copy: the drained replica is sent to node 1, the
+/// only node that has none; and block 4 lacks one, which node 4 alone may take.
+const TWO_COPIED_ONCE: &str = "Commanded(Commands { round: 2, nodes: Items { vec: [\
+    NodeCommands { node: NodeId(2), transfers: Items { vec: [\
+    Transfer { block: BlockId(3), stamp: Stamp { generation: Gen(1), len: 10 }, \
+    source: StorageId(21), target: StorageId(11) }] }, deletes: Items { vec: [] } }, \
+    NodeCommands { node: NodeId(3), transfers: Items { vec: [\
+    Transfer { block: BlockId(4), stamp: Stamp { generation: Gen(1), len: 10 }, \
+    source: StorageId(31), target: StorageId(41) }] }, deletes: Items { vec: [] } }] } })";
+
+const EIGHT_REPLICAS: &str = "Replicas(Items { vec: [\
+    Replica { block: BlockId(1), storage: StorageId(11), tag: Good }, \
+    Replica { block: BlockId(1), storage: StorageId(31), tag: Good }, \
+    Replica { block: BlockId(2), storage: StorageId(11), tag: Good }, \
+    Replica { block: BlockId(2), storage: StorageId(21), tag: Stale }, \
+    Replica { block: BlockId(3), storage: StorageId(21), tag: Good }, \
+    Replica { block: BlockId(3), storage: StorageId(41), tag: Bad }, \
+    Replica { block: BlockId(4), storage: StorageId(31), tag: Good }, \
+    Replica { block: BlockId(6), storage: StorageId(41), tag: Stray }] })";
+
+const STALE_AND_BAD: &str = "ReplicaIds(Items { vec: [\
+    ReplicaId { block: BlockId(2), storage: StorageId(21) }, \
+    ReplicaId { block: BlockId(3), storage: StorageId(41) }] })";
+
+/// Of two on two racks with as many bytes left, that on the storage of the greater number.
+const ONE_TOO_MANY: &str =
+    "ReplicaIds(Items { vec: [ReplicaId { block: BlockId(1), storage: StorageId(31) }] })";
+
+const BLOCK_5: &str = "Blocks(Items { vec: [BlockId(5)] })";
+
+const BLOCKS_1_AND_2: &str = "Blocks(Items { vec: [BlockId(1), BlockId(2)] })";
+
+/// Also where it is in excess.
+const BOTH_PLACES: &str = "Storages(Items { vec: [StorageId(11), StorageId(31)] })";
+
 macro_rules! taking {
-    ($name:expr, $before:expr, $call:expr) => {
-        Case { name: $name, before: $before, call: $call, takes_memory: true }
+    ($name:expr, $before:expr, $call:expr, $answer:expr) => {
+        Case { name: $name, before: $before, call: $call, answer: $answer, takes_memory: true }
     };
 }
 
 macro_rules! bare {
-    ($name:expr, $call:expr) => {
-        Case { name: $name, before: OF_ALL_KINDS, call: $call, takes_memory: false }
+    ($name:expr, $call:expr, $answer:expr) => {
+        Case { name: $name, before: OF_ALL_KINDS, call: $call, answer: $answer, takes_memory: false }
     };
 }
 
 /// Each call that may be refused for want of memory, with what goes before it, and then each call that takes none, on blocks of all
 /// kinds.
 pub static CASES: [Case; 33] = [
-    taking!("report_of_four", TWO_BLOCKS, Told::Report(11, FOUR_NUMBERS)),
-    taking!("report_of_a_thousand", OF_ALL_KINDS, THOUSAND_REPORTED),
-    taking!("report_in_runs", ONE_BLOCK, Told::Report(11, RUNS)),
-    taking!("report_of_nothing", OF_ALL_KINDS, Told::Report(11, &[])),
-    taking!("register", NOTHING, Told::Register(5, 1, 51)),
-    taking!("round", TO_COPY, Told::Round),
-    taking!("round_of_all_kinds", OF_ALL_KINDS, Told::Round),
-    taking!("drain", ON_ONE_NODE, Told::Drain(1)),
-    taking!("undrain", OF_ALL_KINDS, Told::Undrain(2)),
-    taking!("dead", OF_ALL_KINDS, Told::Dead(1)),
-    taking!("storage_failed", OF_ALL_KINDS, Told::Failed(31)),
-    taking!("add", THREE_OF_A_SHARD, Told::Add(12, 3)),
-    taking!("received", THREE_REPLICAS, Told::Received(41, 5, 1)),
-    taking!("received_stray", OF_ALL_KINDS, Told::Received(11, 10, 1)),
-    taking!("replicas", OF_ALL_KINDS, Told::Replicas),
-    taking!("corrupt_replicas", OF_ALL_KINDS, Told::Corrupt),
-    taking!("excess_replicas", OF_ALL_KINDS, Told::Excess),
-    taking!("missing_blocks", OF_ALL_KINDS, Told::Missing),
-    taking!("blocks_on", OF_ALL_KINDS, Told::BlocksOn(11)),
-    taking!("places", OF_ALL_KINDS, Told::Places(1)),
-    bare!("heartbeat", Told::Heartbeat(1, 11)),
-    bare!("delete", Told::Delete(4)),
-    bare!("set_replication", Told::Replication(2, 5)),
-    bare!("restamp", Told::Restamp(1, 2)),
-    bare!("deleted", Told::Deleted(31, 1)),
-    bare!("corrupt", Told::Spoilt(11, 1)),
-    bare!("level", Told::Level(2)),
-    bare!("retired", Told::Retired(2)),
-    bare!("calls", Told::Calls),
-    bare!("rounds", Told::Rounds),
-    bare!("unknown_block", Told::Places(99)),
-    bare!("unknown_storage", Told::BlocksOn(99)),
-    bare!("known_node", Told::Register(1, 1, 61)),
+    taking!(
+        "report_of_four",
+        TWO_BLOCKS,
+        Told::Report(11, FOUR_NUMBERS),
+        FOUR_ADDED
+    ),
+    taking!(
+        "report_of_a_thousand",
+        OF_ALL_KINDS,
+        THOUSAND_REPORTED,
+        THOUSAND_FOR_TWO
+    ),
+    taking!(
+        "report_in_runs",
+        ONE_BLOCK,
+        Told::Report(11, RUNS),
+        THREE_ADDED
+    ),
+    taking!(
+        "report_of_nothing",
+        OF_ALL_KINDS,
+        Told::Report(11, &[]),
+        TWO_REMOVED
+    ),
+    taking!("register", NOTHING, Told::Register(5, 1, 51), NONE_CHANGED),
+    taking!("round", TO_COPY, Told::Round, TWO_COPIED_TWICE),
+    taking!(
+        "round_of_all_kinds",
+        OF_ALL_KINDS,
+        Told::Round,
+        TWO_COPIED_ONCE
+    ),
+    taking!("drain", ON_ONE_NODE, Told::Drain(1), NONE_CHANGED),
+    taking!("undrain", OF_ALL_KINDS, Told::Undrain(2), NONE_CHANGED),
+    taking!("dead", OF_ALL_KINDS, Told::Dead(1), TWO_REMOVED),
+    taking!(
+        "storage_failed",
+        OF_ALL_KINDS,
+        Told::Failed(31),
+        TWO_REMOVED
+    ),
+    taking!("add", THREE_OF_A_SHARD, Told::Add(12, 3), NONE_CHANGED),
+    taking!(
+        "received",
+        THREE_REPLICAS,
+        Told::Received(41, 5, 1),
+        ONE_ADDED
+    ),
+    taking!(
+        "received_stray",
+        OF_ALL_KINDS,
+        Told::Received(11, 10, 1),
+        ONE_ADDED
+    ),
+    taking!("replicas", OF_ALL_KINDS, Told::Replicas, EIGHT_REPLICAS),
+    taking!(
+        "corrupt_replicas",
+        OF_ALL_KINDS,
+        Told::Corrupt,
+        STALE_AND_BAD
+    ),
+    taking!("excess_replicas", OF_ALL_KINDS, Told::Excess, ONE_TOO_MANY),
+    taking!("missing_blocks", OF_ALL_KINDS, Told::Missing, BLOCK_5),
+    taking!(
+        "blocks_on",
+        OF_ALL_KINDS,
+        Told::BlocksOn(11),
+        BLOCKS_1_AND_2
+    ),
+    taking!("places", OF_ALL_KINDS, Told::Places(1), BOTH_PLACES),
+    bare!("heartbeat", Told::Heartbeat(1, 11), NONE_CHANGED),
+    bare!("delete", Told::Delete(4), NONE_CHANGED),
+    bare!("set_replication", Told::Replication(2, 5), NONE_CHANGED),
+    bare!("restamp", Told::Restamp(1, 2), NONE_CHANGED),
+    bare!("deleted", Told::Deleted(31, 1), ONE_REMOVED),
+    bare!("corrupt", Told::Spoilt(11, 1), NONE_CHANGED),
+    bare!("level", Told::Level(2), "LevelIs(Some(Highest))"),
+    bare!("retired", Told::Retired(2), "IsRetired(false)"),
+    bare!("calls", Told::Calls, "Number(24)"),
+    bare!("rounds", Told::Rounds, "Number(1)"),
+    bare!("unknown_block", Told::Places(99), "Refused(UnknownBlock)"),
+    bare!(
+        "unknown_storage",
+        Told::BlocksOn(99),
+        "Refused(UnknownStorage)"
+    ),
+    bare!("known_node", Told::Register(1, 1, 61), "Refused(NodeKnown)"),
 ];

@@ -1,7 +1,8 @@
 //! Makes each call of a manager and of a view that takes memory, and the allocation of one number in it is refused:
 //! `allocations_refused [MOST]` goes from the first allocation to that of number `MOST`, with a new manager each time, of three shards
 //! and one or two workers. A call that was refused has changed nothing that can be asked for, and is accepted when it is made once
-//! more; an accepted one is answered as by a manager of one shard and one worker, and leaves the same.
+//! more; an accepted one is answered as was worked out by hand, and leaves the same as on a manager of one shard and one worker. In a
+//! list of calls the one that is refused is passed over.
 //!
 //! Standard output has how many answers were the expected ones. Lines on standard error say where the calls begin and end: a check
 //! runs this program so that the allocations are refused. Where nothing refuses them, all calls are accepted.
@@ -10,6 +11,7 @@
 mod again;
 mod answers;
 mod cases;
+mod lists;
 mod managers;
 mod seen;
 mod tally;
@@ -56,5 +58,6 @@ fn go_over_all<R: Print + Eprint + Threads + Wait + Sync>(
 ) -> Result<(), Refusal> {
     managers::go_over(rt, alloc, most)?;
     again::go_over(rt, alloc, most)?;
+    lists::go_over(rt, alloc, most)?;
     views::go_over(rt, alloc, most)
 }

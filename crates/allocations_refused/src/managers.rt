@@ -1,6 +1,6 @@
 // Calls of managers: each allocation of a call is refused once, with a new manager each time.
 
-use crate::answers::{Outcome, ask, compare, compare_in_window, make};
+use crate::answers::{Outcome, compare, compare_in_window, make};
 use crate::cases::{CASES, CLUSTER, Case};
 use crate::seen::{ask_all, shows};
 use crate::tally::Tally;
@@ -12,12 +12,13 @@ use std::alloc::{AllocError, Global};
 use std::sync::Wait;
 use std::thread::Threads;
 
-/// A case, with what a manager of one shard and one worker shows, of which nothing is refused.
+/// A case, with what a manager of one shard and one worker shows before and after the call, of which nothing is refused.
 #[derive(Drop)]
 struct Trial {
     case: Case,
+    /// Whether its answer was the expected one.
+    is_answered: bool,
     before: String,
-    answer: String,
     after: String,
 }
 
@@ -71,6 +72,7 @@ fn go_over_turns<R: Print + Eprint + Threads + Wait + Sync>(
 ) -> Result<(), Refusal> {
     let name = trial.case.name;
     let mut tally = Tally::new();
+    tally.note(trial.is_answered);
     for turn in 1..=turns {
         let window = Window {
             name,
@@ -90,8 +92,8 @@ fn trial_of<R: Threads + Wait + Sync>(
 ) -> Result<Trial, Refusal> {
     let mut trial = Trial {
         case: *case,
+        is_answered: false,
         before: String::new(alloc),
-        answer: String::new(alloc),
         after: String::new(alloc),
     };
     match expect(rt, alloc, &mut trial) {
@@ -132,7 +134,9 @@ fn write_all<R: Threads + Wait + Sync>(
     trial: &mut Trial,
 ) -> Result<(), AllocError> {
     ask_all(rt, alloc, manager, &mut trial.before)?;
-    ask(rt, alloc, manager, trial.case.call, &mut trial.answer)?;
+    let case = trial.case;
+    let outcome = compare(rt, alloc, manager, case.call, case.answer)?;
+    trial.is_answered = outcome == Outcome::AsExpected;
     ask_all(rt, alloc, manager, &mut trial.after)
 }
 
@@ -199,14 +203,8 @@ fn make_in_turn<R: Eprint + Threads + Wait + Sync>(
     window: &Window,
     tally: &mut Tally,
 ) -> Result<(), AllocError> {
-    let first = compare_in_window(
-        rt,
-        alloc,
-        manager,
-        trial.case.call,
-        trial.answer.as_str(),
-        window,
-    )?;
+    let case = trial.case;
+    let first = compare_in_window(rt, alloc, manager, case.call, case.answer, window)?;
     let outcome = if first == Outcome::WantsMemory {
         make_again(rt, alloc, manager, trial, tally)?
     } else {
@@ -228,5 +226,5 @@ fn make_again<R: Threads + Wait + Sync>(
 ) -> Result<Outcome, AllocError> {
     tally.refuse();
     tally.note(trial.case.takes_memory && shows(rt, alloc, manager, trial.before.as_str())?);
-    compare(rt, alloc, manager, trial.case.call, trial.answer.as_str())
+    compare(rt, alloc, manager, trial.case.call, trial.case.answer)
 }

@@ -143,7 +143,7 @@ fn compare_with_new<R: Threads + Wait + Sync>(
 }
 
 /// Notes whether two managers answer all questions in the same way.
-fn note_alike<R: Threads + Wait + Sync>(
+pub fn note_alike<R: Threads + Wait + Sync>(
     rt: &R,
     alloc: Global,
     manager: &mut Manager,
@@ -383,7 +383,18 @@ fn show_to<R: Eprint + Threads + Wait + Sync>(
 {
     show_first(rt, manager, publisher, first, second, tally)?;
     make_all(rt, alloc, manager, &SECOND_REPLICA)?;
-    show_second(rt, manager, publisher, first, second, window, tally)
+    let before = seen(rt, alloc, manager)?;
+    show_second(
+        rt,
+        alloc,
+        manager,
+        before.as_str(),
+        publisher,
+        first,
+        second,
+        window,
+        tally,
+    )
 }
 
 fn show_first<R: Threads + Wait + Sync>(
@@ -402,9 +413,12 @@ fn show_first<R: Threads + Wait + Sync>(
     Ok(())
 }
 
+/// Shows the second version, by which nothing changes that the manager answers.
 fn show_second<R: Eprint + Threads + Wait + Sync>(
     rt: &R,
+    alloc: Global,
     manager: &mut Manager,
+    before: &str,
     publisher: &mut Publisher,
     first: &mut Locator,
     second: &mut Locator,
@@ -413,16 +427,21 @@ fn show_second<R: Eprint + Threads + Wait + Sync>(
 ) -> Result<(), Refusal>
     requires { first.old.home ≡ publisher.old.home }
 {
-    let receipt = published(rt, manager, publisher, first, second, window, tally)?;
+    let receipt = published(
+        rt, alloc, manager, before, publisher, first, second, window, tally,
+    )?;
     tally.note(receipt.calls() == 11);
     tally.note(learn_and_read(first, second, receipt, &TWO));
+    tally.note(shows(rt, alloc, manager, before)?);
     Ok(())
 }
 
-/// Publishes with one allocation refused, and once more where that was the answer, and both locators still read the first version.
+/// Publishes with one allocation refused, and once more where that was the answer, and nothing had changed.
 fn published<R: Eprint + Threads + Wait + Sync>(
     rt: &R,
+    alloc: Global,
     manager: &mut Manager,
+    before: &str,
     publisher: &mut Publisher,
     first: &mut Locator,
     second: &mut Locator,
@@ -440,8 +459,25 @@ fn published<R: Eprint + Threads + Wait + Sync>(
         }
         Err(_) => {
             tally.refuse();
-            tally.note(publisher.calls() == 10 && both_read(first, second, found(10, &ONE)));
+            let calls = publisher.calls();
+            tally.note(is_as_before(rt, alloc, manager, before, calls, first, second)?);
             publish(rt, manager, publisher)
         }
     }
+}
+
+/// Whether so many calls and what both locators read are of the first version still, and the manager answers as before.
+fn is_as_before<R: Threads + Wait + Sync>(
+    rt: &R,
+    alloc: Global,
+    manager: &mut Manager,
+    before: &str,
+    calls: u64,
+    first: &mut Locator,
+    second: &mut Locator,
+) -> Result<bool, AllocError>
+    ensures { first.new.home ≡ first.old.home }
+{
+    let is_read = both_read(first, second, found(10, &ONE));
+    Ok(calls == 10 && is_read && shows(rt, alloc, manager, before)?)
 }

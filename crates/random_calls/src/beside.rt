@@ -1,12 +1,13 @@
 // Lists of calls, many times: four threads work each in five shards, after each call what stands is published, and two threads read
-// beside. Each answer is that of a manager of one shard and one thread, and so is each read; and no reader goes back.
+// beside. Each answer is that of a manager of one shard and one thread, and so is each read; and no reader goes back. That the reads
+// come between the calls, and not all behind them, is counted over all lists: a reader finds a later version than at its read before.
 ghost use Rattle.std.specs.Prelude.{◌≡◌};
 
 use crate::alike::are_alike;
 use crate::counts::Counts;
 use crate::dice::Dice;
 use crate::drawing;
-use crate::readers::{Home, Notice, make_notice, read_beside};
+use crate::readers::{Home, Notice, Reads, make_notice, read_beside};
 use bm_base::{Answer, BlockId, Call, Config, Places, Refusal};
 use bm_crew::NoGate;
 use bm_manager::Manager;
@@ -24,7 +25,11 @@ const SHARDS: u32 = 5;
 
 const WORKERS: u32 = 4;
 
-/// Whether so many lists are answered and read as they should be.
+/// How often readers have to find a later version than at the read before, over all lists. Where all reads come behind the last call,
+/// that is never.
+const LEAST_LATER: u32 = 1;
+
+/// Whether so many lists are answered and read as they should be, and readers went from one version to a later one.
 pub fn are_all_alike<R: Eprint + Threads + Wait + Sync>(
     rt: &R,
     alloc: Global,
@@ -33,24 +38,28 @@ pub fn are_all_alike<R: Eprint + Threads + Wait + Sync>(
 ) -> Result<bool, Refusal> {
     let mut dice = Dice::new(seed);
     let mut counts = Counts::new();
+    let mut later = 0u32;
     for time in 0..times {
-        let wrong = list_beside(rt, alloc, &mut dice, &mut counts)?;
+        let reads = list_beside(rt, alloc, &mut dice, &mut counts)?;
+        let wrong = reads.wrong;
         if wrong > 0 {
             let _ = eprintln!(rt; "list {time}: {wrong} answers or reads are wrong");
             return Ok(false);
         }
+        later = later.saturating_add(reads.later);
     }
     counts.tell(rt);
-    Ok(counts.are_enough())
+    let _ = eprintln!(rt; "{later} times a reader found a later version than at its read before");
+    Ok(counts.are_enough() && later >= LEAST_LATER)
 }
 
-/// A list that is drawn, beside two readers. How many answers and reads are wrong.
+/// A list that is drawn, beside two readers. An answer that is wrong counts as a read that is.
 fn list_beside<R: Threads + Wait + Sync>(
     rt: &R,
     alloc: Global,
     dice: &mut Dice,
     counts: &mut Counts,
-) -> Result<u32, Refusal> {
+) -> Result<Reads, Refusal> {
     match List::new(rt, alloc, dice, counts) {
         Ok(list) => beside_once(rt, alloc, &list),
         Err(refusal) => Err(refusal),
@@ -166,17 +175,17 @@ fn located_in(manager: &Manager, block: BlockId) -> Located {
     Located { calls, places }
 }
 
-/// The list beside two readers. How many answers and reads are wrong.
+/// The list beside two readers.
 fn beside_once<R: Threads + Wait + Sync>(
     rt: &R,
     alloc: Global,
     list: &List,
-) -> Result<u32, Refusal> {
+) -> Result<Reads, Refusal> {
     match Manager::new(alloc, config(SHARDS, WORKERS)) {
         Ok(mut manager) => {
-            let wrong = beside_view(rt, alloc, list, &mut manager);
+            let reads = beside_view(rt, alloc, list, &mut manager);
             drop(manager);
-            wrong
+            reads
         }
         Err(refusal) => Err(refusal),
     }
@@ -187,20 +196,26 @@ fn beside_view<R: Threads + Wait + Sync>(
     alloc: Global,
     list: &List,
     manager: &mut Manager,
-) -> Result<u32, Refusal> {
+) -> Result<Reads, Refusal> {
     let (mut publisher, mut locators) = open_view(rt, alloc, 2)?;
-    let wrong = match locators.pop() {
+    let reads = match locators.pop() {
         Some(one) => match locators.pop() {
             Some(other) => beside_both(rt, alloc, list, manager, &mut publisher, one, other),
             None => {
                 drop(one);
-                Ok(1)
+                Ok(no_reader())
             }
         },
-        None => Ok(1),
+        None => Ok(no_reader()),
     };
     publisher.end(rt);
-    wrong
+    reads
+}
+
+fn no_reader() -> Reads {
+    let mut reads = Reads::new();
+    reads.add_wrong(1);
+    reads
 }
 
 fn beside_both<R: Threads + Wait + Sync>(
@@ -211,7 +226,7 @@ fn beside_both<R: Threads + Wait + Sync>(
     publisher: &mut Publisher,
     one: Locator,
     other: Locator,
-) -> Result<u32, Refusal>
+) -> Result<Reads, Refusal>
     requires { (one.home ≡ publisher.old.home) × (other.home ≡ publisher.old.home) }
 {
     beside::<Brand, R>(rt, alloc, list, manager, publisher, one, other)
@@ -225,7 +240,7 @@ fn beside<J: Home + Send + Sync, R: Threads + Wait + Sync>(
     publisher: &mut Publisher,
     one: Locator,
     other: Locator,
-) -> Result<u32, Refusal>
+) -> Result<Reads, Refusal>
     requires { (publisher.old.home ≡ J.home) × ((one.home ≡ J.home) × (other.home ≡ J.home)) }
 {
     match unbounded(alloc) {
@@ -251,7 +266,7 @@ fn beside_one<J: Home + Send + Sync, R: Threads + Wait + Sync>(
     to_one: Sender<Notice<J>>,
     one: (Locator, Receiver<Notice<J>>),
     other: Locator,
-) -> Result<u32, Refusal>
+) -> Result<Reads, Refusal>
     requires { (publisher.old.home ≡ J.home) × ((one.0.home ≡ J.home) × (other.home ≡ J.home)) }
 {
     match unbounded(alloc) {
@@ -278,24 +293,25 @@ fn join_all<J: Home + Send + Sync, R: Threads + Wait + Sync>(
     to_other: Sender<Notice<J>>,
     one: (Locator, Receiver<Notice<J>>),
     other: (Locator, Receiver<Notice<J>>),
-) -> u32
+) -> Reads
     requires { (publisher.old.home ≡ J.home) × ((one.0.home ≡ J.home) × (other.0.home ≡ J.home)) }
 {
     let (one, from_one) = one;
     let (other, from_other) = other;
-    let (answers, reads) = join(
+    let (wrong, mut reads) = join(
         rt,
         || -> u32
             requires { publisher.now.home ≡ J.home }
         { make_all::<J, R>(rt, list, manager, publisher, to_one, to_other) },
-        move || -> u32
+        move || -> Reads
             requires { (one.home ≡ J.home) × (other.home ≡ J.home) }
         { read_both::<J, R>(rt, list, one, from_one, other, from_other) },
     );
-    answers.saturating_add(reads)
+    reads.add_wrong(wrong);
+    reads
 }
 
-/// Two threads read beside. How many reads of both are wrong.
+/// Two threads read beside.
 fn read_both<J: Home + Send + Sync, R: Threads + Wait + Sync>(
     rt: &R,
     list: &List,
@@ -303,19 +319,19 @@ fn read_both<J: Home + Send + Sync, R: Threads + Wait + Sync>(
     from_one: Receiver<Notice<J>>,
     other: Locator,
     from_other: Receiver<Notice<J>>,
-) -> u32
+) -> Reads
     requires { (one.home ≡ J.home) × (other.home ≡ J.home) }
 {
     let (first, second) = join(
         rt,
-        move || -> u32
+        move || -> Reads
             requires { one.home ≡ J.home }
         { read_beside::<J, R>(rt, list, one, from_one) },
-        move || -> u32
+        move || -> Reads
             requires { other.home ≡ J.home }
         { read_beside::<J, R>(rt, list, other, from_other) },
     );
-    first.saturating_add(second)
+    first.plus(second)
 }
 
 /// Makes the calls, publishes after each, and tells each reader of it. How many answers differ, or can't be told.

@@ -7,8 +7,8 @@
 //!
 //! Ends with status 1 where two answers differ, where a read is of no version that was published or goes back, where memory is
 //! refused, where an argument is no number, and where the run was too poor to show much: fewer than so many events of each kind
-//! accepted, rounds that command something, lists that are not empty, and refusals. (Fewer calls than a list has show little, and
-//! are not judged so.)
+//! accepted, rounds that command something, lists that are not empty, and refusals; or, beside readers, none of these that went from
+//! one version to a later one. (Fewer calls than a list has show little, and are not judged so.)
 #![tactic(auto)]
 
 mod alike;

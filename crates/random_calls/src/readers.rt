@@ -10,6 +10,49 @@ use std::sync::Wait;
 /// How often a reader reads before each receipt, and after it.
 const READS: u32 = 20;
 
+/// What was read.
+#[derive(Clone, Copy)]
+pub struct Reads {
+    /// Of the read before, how many calls its version has.
+    last: Option<u64>,
+    /// How often a reader read a later version than at its read before.
+    pub later: u32,
+    /// How many reads were of no version, or went back.
+    pub wrong: u32,
+}
+
+impl Reads {
+    pub fn new() -> Reads {
+        Reads {
+            last: None,
+            later: 0,
+            wrong: 0,
+        }
+    }
+
+    /// A read of a version of so many calls.
+    fn note(&mut self, calls: u64, is_right: bool) {
+        let is_later = matches!(self.last, Some(before) if before < calls);
+        self.later = self.later.saturating_add(u32::from(is_later));
+        self.add_wrong(u32::from(!is_right));
+        self.last = Some(calls);
+    }
+
+    /// So many more are wrong.
+    pub fn add_wrong(&mut self, count: u32) {
+        self.wrong = self.wrong.saturating_add(count);
+    }
+
+    /// Those of two readers.
+    pub fn plus(self, other: Reads) -> Reads {
+        Reads {
+            last: None,
+            later: self.later.saturating_add(other.later),
+            wrong: self.wrong.saturating_add(other.wrong),
+        }
+    }
+}
+
 /// Names what one `open_view` made, for receipts that cross a channel. A call picks it.
 pub trait Home {
     ghost use Rattle.bm_view.specs.Holders.{Home};
@@ -40,41 +83,39 @@ pub fn make_notice<J: Home>(receipt: Receipt) -> Notice<J>
     }
 }
 
-/// Reads at once, and before and after each receipt that comes. How many reads are of no version, or go back.
+/// Reads before and after each receipt that comes.
 pub fn read_beside<J: Home, R: Wait>(
     rt: &R,
     list: &List,
     mut locator: Locator,
     from: Receiver<Notice<J>>,
-) -> u32
+) -> Reads
     requires { locator.home ≡ J.home }
 {
-    let mut wrong = 0u32;
+    let mut reads = Reads::new();
     let mut last = 0;
     for notice in from.iter(rt) {
-        wrong = wrong.saturating_add(read_many(list, &mut locator, &mut last));
+        read_many(list, &mut locator, &mut last, &mut reads);
         let Notice { receipt, of: _ } = notice;
         last = receipt.calls().max(last);
         locator.learn(receipt);
-        wrong = wrong.saturating_add(read_many(list, &mut locator, &mut last));
+        read_many(list, &mut locator, &mut last, &mut reads);
     }
-    wrong
+    reads
 }
 
-/// Reads many times. Counts the reads that are of no version, and those that are older than the one before or than `last`.
-fn read_many(list: &List, locator: &mut Locator, last: &mut u64) -> u32
+/// Reads many times. A read that is of no version, or older than the one before or than `last`, is wrong.
+fn read_many(list: &List, locator: &mut Locator, last: &mut u64, reads: &mut Reads)
     ensures { locator.new.home ≡ locator.old.home }
 {
-    let mut wrong = 0u32;
     for _ in 0..READS {
         match locator.locate(list.block) {
             Some(seen) => {
                 let is_known = list.located.as_slice().iter().any(|one| *one == seen);
-                wrong = wrong.saturating_add(u32::from(seen.calls < *last || !is_known));
+                reads.note(seen.calls, seen.calls >= *last && is_known);
                 *last = seen.calls;
             }
-            None => wrong = wrong.saturating_add(1),
+            None => reads.add_wrong(1),
         }
     }
-    wrong
 }
