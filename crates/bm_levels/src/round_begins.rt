@@ -24,7 +24,7 @@ const FEW: usize = 2;
 impl LeveledBlocks {
     /// As a round begins: marks of excess whose delete was not ordered are dropped, and the replicas of `surplus` are in excess. Goes
     /// once over the replicas of the unsettled blocks. Of `surplus` it looks up each, or where there are more than two of a block that
-    /// block once, goes over its replicas and looks for each among them by halves; only blocks whose marks change are judged anew,
+    /// block once, and goes over its replicas and those listed together; only blocks whose marks change are judged anew,
     /// and settled blocks are not looked at. Takes no memory.
     pub fn mark_excess_anew(&mut self, topology: &Topology, surplus: &[ReplicaId])
         requires surplus { surplus.now
