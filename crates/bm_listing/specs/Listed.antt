@@ -10,7 +10,7 @@ use Rattle.bm_base.specs.State.{Cluster, by_replica}
 use Rattle.bm_base.specs.Replicas.{is_corrupt, is_usable, is_live_on, has_storage, is_draining}
 use Rattle.bm_arena.specs.Triplets.{Block}
 use Rattle.bm_arena.specs.Contents.{Contents, block_at, slot_of, marks_at, list_of}
-use Rattle.bm_arena.specs.Holding.{info_at}
+use Rattle.bm_arena.specs.Holding.{info_at, id_at}
 use Rattle.bm_levels.specs.Judged.{storages_at}
 use Rattle.bm_listing.specs.declared.replicas.Wanted.{Wanted}
 use Rattle.bm_listing.specs.declared.replicas.Wanted.TheVariants.{All, Corrupt, Excess}
@@ -36,10 +36,6 @@ listed_on p a slots = flat_map (λ slot. listed_at p (block_at a slot)) slots
 -- the replicas of a map that pass, rising
 abbrev pub replicas_passing : (Marks → Bool) → Map by_replica Marks → List Replica
 replicas_passing p m = map (λ e. record { block = e.0.block; storage = e.0.storage; tag = e.1.tag }) (filter (λ e. p e.1) (entries m))
-
--- the number of the block at a slot
-abbrev pub id_at : Contents → ℕ → ℕ
-id_at a slot = option_map_or (λ (b : Block). b.id) (block_at a slot) 0
 
 -- whether fewer replicas of a known block are live than are wanted
 abbrev pub lacks_live : Cluster → Option Block → Bool
