@@ -6,7 +6,8 @@ use Rattle.std.specs.FinMap.Entries.{is_sorted-put, below_all}
 use Rattle.std.specs.List.Retain.{IsFiltered}
 use Rattle.std.proofs.Common.{sym, ap, subst, ◌∙◌}
 use Rattle.bm_base.specs.Conjunction.{both, first, second}
-use Rattle.bm_base.specs.Map.{Map, Order, entries, get, insert, len, same_entries_map}
+use Rattle.bm_base.specs.Map.{Map, Order, entries, get, insert, len}
+use Rattle.bm_base.specs.MapCode.{same_entries_map}
 use Rattle.bm_base.specs.OfSorted.{of_sorted, entries-of_sorted, list-of_sorted}
 use Rattle.bm_base.proofs.MapLaws.{is_sorted-items_where_true}
 

@@ -1,7 +1,10 @@
 -- The definitions of the whole state machine, from the ground up.
 -- Words of maps and lists.
 pub mod Conjunction
+pub mod Altered
+pub mod MapSorted
 pub mod Map
+pub mod MapCode
 pub mod OfSorted
 pub mod Place
 pub mod Table

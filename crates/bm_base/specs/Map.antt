@@ -1,25 +1,22 @@
 -- A finite map that computes: its entries in the rising order of their keys, and so one list for each map.
 --     Order K          how keys compare: a total order in which only equal keys tie
---     Map o X          from keys in the order o to values of X.    code      its code, from those of the keys and of the values
+--     Map o X          from keys in the order o to values of X
 --     Set o            of keys in the order o
 --     get, contains_key, insert, remove, len, keys, entries      as Rust's `BTreeMap`
 --     alter m f        each value anew by its key: `None` takes the entry out
 --     keep m p         the entries that pass
 --     revise m f       each value changed by its key.     revise_at m k f      the value at one key changed, if it is there
 --     insert_all m es  the entries one after another, so that the last of a key counts
--- The laws stand in proofs/MapLaws.
+-- The laws stand in proofs/MapLaws, what the field `sorted` needs in MapSorted, and the code of a map in MapCode.
 use Rattle.std.specs.Prelude.{◌≡◌, ℕ, Bool, if◌then◌else◌, List, [], ◌∷◌, map, length, is_some, Option, Some, None, T}
 use Rattle.std.specs.declared.cmp.Ordering.{Ordering}
 use Rattle.std.specs.declared.cmp.Ordering.TheVariants.{Equal}
-use Rattle.std.specs.Ordering.{eq_by_cmp, is_lt, nat_cmp}
+use Rattle.std.specs.Ordering.{eq_by_cmp, nat_cmp}
 use Rattle.std.specs.Cmp.{IsTotalOrder, nat_cmp_total}
 use Rattle.std.specs.FinMap.{find, put, is_sorted, nat_cmp-IsAntisymmetric}
-use Rattle.std.specs.FinMap.Entries.{is_sorted-put, below_all}
-use Rattle.std.specs.Coded.{Coded, coded×, coded_list}
-use base.Stored.{coded_via}
-use mathlib.Core.HLevel.{Σ_prop_path}
-use lib.Dec.{T_prop}
-use Rattle.bm_base.specs.Conjunction.{both, first, second}
+use Rattle.std.specs.FinMap.Entries.{is_sorted-put}
+use Rattle.bm_base.specs.Altered.{alter_list}
+use Rattle.bm_base.specs.MapSorted.{is_sorted-alter}
 
 -- how keys compare
 pub record Order (K : Type 0) : Type 0 where
@@ -34,34 +31,6 @@ by_number = record { cmp = nat_cmp; total = nat_cmp_total; same = nat_cmp-IsAnti
 pub record Map {K : Type 0} (o : Order K) (X : Type 0) : Type 0 where
   pub list : List (K × X)
   pub sorted : T (is_sorted o.cmp list)
-
--- one entry before others, if there is a value
-abbrev pub with_value : {K X : Type 0} → K → Option X → List (K × X) → List (K × X)
-with_value k None es = es
-with_value k (Some v) es = (k, v) ∷ es
-
--- each value anew by its key
-abbrev pub alter_list : {K X : Type 0} → (K → X → Option X) → List (K × X) → List (K × X)
-alter_list f [] = []
-alter_list f (e ∷ es) = with_value e.0 (f e.0 e.1) (alter_list f es)
-
-module _ {K X : Type 0} (R : K → K → Ordering) where
-  below_with_value : (x k : K) (v : Option X) (es : List (K × X)) → T (is_lt (R x k)) → T (below_all R x es) → T (below_all R x (with_value k v es))
-  below_with_value x k None es p h = h
-  below_with_value x k (Some v) es p h = both _ _ p h
-
-  below_alter : (f : K → X → Option X) (x : K) (es : List (K × X)) → T (below_all R x es) → T (below_all R x (alter_list f es))
-  below_alter f x [] h = tt
-  below_alter f x (e ∷ es) h = below_with_value x e.0 (f e.0 e.1) (alter_list f es) (first _ _ h) (below_alter f x es (second _ _ h))
-
-  sorted_with_value : (k : K) (v : Option X) (es : List (K × X)) → T (below_all R k es) → T (is_sorted R es) → T (is_sorted R (with_value k v es))
-  sorted_with_value k None es b h = h
-  sorted_with_value k (Some v) es b h = both _ _ b h
-
-  -- altered entries stay in order
-  pub is_sorted-alter : (f : K → X → Option X) (es : List (K × X)) → T (is_sorted R es) → T (is_sorted R (alter_list f es))
-  is_sorted-alter f [] h = tt
-  is_sorted-alter f (e ∷ es) h = sorted_with_value e.0 (f e.0 e.1) (alter_list f es) (below_alter f e.0 es (first _ _ h)) (is_sorted-alter f es (second _ _ h))
 
 -- a finite set: its members, each with nothing beside it
 abbrev pub Set : {K : Type 0} → Order K → Type 0
@@ -107,12 +76,3 @@ module _ {K X : Type 0} {o : Order K} where
 
   unfoldable pub keys : Map o X → List K
   keys m = map (λ e. e.0) (entries m)
-
-  -- maps with the same entries are equal
-  pub same_entries_map : (m n : Map o X) → m.list ≡ n.list → m ≡ n
-  same_entries_map m n e =
-      let both : ◌≡◌ {A = (es : List (K × X)) × T (is_sorted o.cmp es)} (m.list, m.sorted) (n.list, n.sorted) = Σ_prop_path (λ es. T_prop _) e in
-      λ i. record { list = (both i).0; sorted = (both i).1 }
-
-  abbrev pub code : Coded K → Coded X → Coded (Map o X)
-  code k x = coded_via (coded_list (coded× k x)) (λ m. m.list) same_entries_map

@@ -26,7 +26,7 @@ use Rattle.bm_base.proofs.Options.{there, is_there, chained}
 use Rattle.bm_base.proofs.RisingParts.{wish_is}
 use Rattle.bm_arena.specs.Triplets.{Block}
 use Rattle.bm_arena.specs.Contents.{Contents, block_at, slot_of, marks_at, IsLawful}
-use Rattle.bm_arena.specs.Holding.{info_at, replicas_of}
+use Rattle.bm_arena.specs.Holding.{info_at, replicas_of, id_at}
 use Rattle.bm_arena.proofs.Held.{get-replicas_of, get-blocks_of}
 use Rattle.bm_parts.specs.Settled.{IsSettled}
 use Rattle.bm_parts.specs.Before.{is_before, wishes_before, part_before}
@@ -43,7 +43,7 @@ use Rattle.bm_levels.proofs.Levels.{level_is_at_slot}
 use Rattle.bm_levels.proofs.Settled.{all_plain_at, few_at}
 use Rattle.bm_finding.specs.declared.visiting.Found.{Found}
 use Rattle.bm_finding.specs.Visits.{visits, key_at, keyed_at}
-use Rattle.bm_finding.specs.Gathering.{id_at, wishes_at, HasFound, IsInOrder}
+use Rattle.bm_finding.specs.Gathering.{wishes_at, HasFound, IsInOrder}
 use Rattle.bm_finding.proofs.Collecting.{gathered_of}
 use Rattle.bm_finding.proofs.Listing.{excess_listed, wishes_listed, deletes_listed, wish_level}
 use Rattle.bm_finding.proofs.Passing.{Passing, passing_listed, passing_gathered}

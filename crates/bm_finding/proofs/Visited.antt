@@ -9,7 +9,7 @@ use Rattle.bm_base.specs.SlotLists.{Among, Distinct}
 use Rattle.bm_base.specs.Lists.{has}
 use Rattle.bm_arena.specs.Triplets.{Block}
 use Rattle.bm_arena.specs.Contents.{Contents, block_at, slot_of, IsLawful}
-use Rattle.bm_arena.specs.Holding.{info_at}
+use Rattle.bm_arena.specs.Holding.{info_at, id_at}
 use Rattle.bm_arena.proofs.Replicas.{Among-append, Among-left}
 use Rattle.bm_levels.specs.Judged.{is_settled_at}
 use Rattle.bm_levels.specs.Kept.{Kept, level_of_slot, IsUnsettled, AreWishing, wishes_copies}
@@ -18,7 +18,6 @@ use Rattle.bm_levels.proofs.Alike.{has_among, among_has}
 use Rattle.bm_levels.proofs.ManySlots.{marker_settled}
 use Rattle.bm_parts.specs.Before.{is_before}
 use Rattle.bm_finding.specs.Visits.{visits, key_at, is_told}
-use Rattle.bm_finding.specs.Gathering.{id_at}
 
 -- Lists with no slot in common.
 

@@ -1,6 +1,5 @@
 -- What is found of several blocks as a round begins, one block after another.
 use Rattle.std.specs.Prelude.{◌≡◌, ℕ, List, Option, option_to_list}
-use Rattle.std.specs.Option.{option_map_or}
 use Rattle.std.specs.List.{flat_map}
 use Rattle.std.specs.List.Sorted.{IsPermutation, IsSortedByKey}
 use Rattle.bm_base.specs.declared.replica.ReplicaId.{ReplicaId}
@@ -11,15 +10,9 @@ use Rattle.bm_base.specs.State.{Cluster, Holdings}
 use Rattle.bm_base.specs.Replicas.{has_enough_live}
 use Rattle.bm_base.specs.RoundParts.{started_holdings}
 use Rattle.bm_parts.specs.Before.{wishes_before}
-use Rattle.bm_arena.specs.Triplets.{Block}
-use Rattle.bm_arena.specs.Contents.{Contents, block_at}
 use Rattle.bm_finding.specs.Looked.{own_replicas, too_many, replicas_on, deletes_of}
 use Rattle.bm_finding.specs.Wanting.{wish_in}
 use Rattle.bm_finding.specs.declared.visiting.Found.{Found}
-
--- the number of the block at a slot
-abbrev pub id_at : Contents → ℕ → ℕ
-id_at a slot = option_map_or (λ (b : Block). b.id) (block_at a slot) 0
 
 -- the replicas of a block that are too many as round r begins
 abbrev pub excess_at : Cluster → ℕ → ℕ → Holdings → ℕ → List ReplicaId

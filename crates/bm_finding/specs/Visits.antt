@@ -5,8 +5,8 @@ use Rattle.bm_base.specs.Lists.{has}
 use Rattle.bm_base.specs.Levels.{level_number}
 use Rattle.bm_parts.specs.Before.{is_before}
 use Rattle.bm_arena.specs.Contents.{Contents}
+use Rattle.bm_arena.specs.Holding.{id_at}
 use Rattle.bm_levels.specs.Kept.{Kept, level_of_slot}
-use Rattle.bm_finding.specs.Gathering.{id_at}
 
 -- the level and the number of the block at a slot; 5 where it has no level
 abbrev pub key_at : Kept → Contents → ℕ → ℕ × ℕ

@@ -1,7 +1,7 @@
 // By what slots are put in order: the level of their block, and its number.
 ghost use Rattle.std.specs.Prelude.{◌≡◌};
 ghost use Rattle.bm_parts.specs.Before as before;
-ghost use Rattle.bm_finding.specs.Gathering as gathering;
+ghost use Rattle.bm_arena.specs.Holding as holding;
 ghost use Rattle.bm_finding.specs.Visits as visits;
 
 use bm_arena::{Arena, Slot};
@@ -24,7 +24,7 @@ pub(crate) fn key_of(kept: &KeptLevels, arena: &Arena, slot: Slot) -> Key
 
 /// The number of the block at a slot; 0 where no block stands.
 fn number_of(arena: &Arena, slot: Slot) -> u64
-    ensures { result ≡ gathering.id_at arena.now slot }
+    ensures { result ≡ holding.id_at arena.now slot }
 {
     if arena.has_entry(slot) {
         arena.id_of(slot).0

@@ -4,8 +4,9 @@ ghost use Rattle.std.specs.Option.{option_map_or};
 ghost use Rattle.bm_base.specs.declared.refusal.Refusal.TheVariants.{Memory};
 ghost use Rattle.bm_base.specs.SlotLists.{Among};
 ghost use Rattle.bm_arena.specs.Contents.{slot_of};
+ghost use Rattle.bm_arena.specs.Holding.{id_at};
 ghost use Rattle.bm_levels.specs.Held.{holdings_with};
-ghost use Rattle.bm_finding.specs.Gathering.{HasFound, id_at};
+ghost use Rattle.bm_finding.specs.Gathering.{HasFound};
 
 use crate::look::Look;
 use bm_arena::{Arena, Slot};

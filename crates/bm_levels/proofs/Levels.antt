@@ -17,7 +17,7 @@ use Rattle.bm_arena.specs.Triplets.{Block}
 use Rattle.bm_arena.specs.Contents.{Contents, block_at, slot_of, marks_at, find_marks, IsLawful}
 use Rattle.bm_arena.proofs.Held.{get-replicas_of, get-blocks_of}
 use Rattle.bm_levels.specs.Judged.{storages_at, level_in, level_by}
-use Rattle.bm_levels.specs.Held.{holdings_with, LevelIsAtSlot}
+use Rattle.bm_levels.specs.Held.{holdings_with}
 use Rattle.bm_levels.proofs.Alike.{same_length, has_among, among_has, once_distinct, passing_distinct, passing_found}
 
 module _ (a : Contents) (pending : Map by_replica ℕ) (lawful : IsLawful a) (b slot : ℕ) (k : Block) (here : slot_of a b ≡ Some slot) (stands : block_at a slot ≡ Some k) where
@@ -63,7 +63,8 @@ no_level : (C : Cluster) (H : Holdings) (b : ℕ) → get H.blocks b ≡ None �
 unfolding level
 no_level C H b e = ap (λ o. option_and_then (λ (i : BlockInfo). level_of (length (live C H b)) (length (drained C H b)) i.repl (length (racks C (live C H b))) (is_multi_rack C)) o) e
 
-pub level_is_at_slot : LevelIsAtSlot
+pub level_is_at_slot : (C : Cluster) (a : Contents) (pending : Map by_replica ℕ) (b : ℕ) → IsLawful a
+    → level C (holdings_with a pending) b ≡ option_and_then (λ slot. level_in C (block_at a slot)) (slot_of a b)
 unfolding holdings_with
 level_is_at_slot C a pending b lawful = by (slot_of a b) refl
   where

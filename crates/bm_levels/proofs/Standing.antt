@@ -2,23 +2,27 @@
 use Rattle.std.specs.Prelude.{◌≡◌, ℕ, Bool, true, false, ◌==◌, List, [], ◌∷◌, Option, Some, None, IsSome, is_some, option_and_then}
 use Rattle.std.proofs.Common.{cond, refl, sym, ap, subst, ◌∙◌}
 use Rattle.std.proofs.lemmas.Bool.{eq-eqb}
+use Rattle.std.specs.List.{list_any}
+use Rattle.bm_base.specs.declared.event.Remaining.{Remaining}
 use Rattle.bm_base.specs.declared.replica.Marks.{Marks}
-use Rattle.bm_base.specs.Map.{get}
+use Rattle.bm_base.specs.Map.{get, contains_key}
 use Rattle.bm_base.specs.State.{Cluster, replica_at}
 use Rattle.bm_base.specs.SlotLists.{Among}
 use Rattle.bm_base.specs.Replicas.{rack_of, has_storage, is_draining, is_multi_rack}
-use Rattle.bm_base.specs.Events.{heartbeat, without_node, without_storage}
+use Rattle.bm_base.specs.Events.{register, heartbeat, without_node, without_storage}
+use Rattle.bm_base.specs.Refusals.{knows_storage}
 use Rattle.bm_base.proofs.Each.{Each, each_then}
+use Rattle.bm_parts.specs.LevelLaws.{IsRacked}
 use Rattle.bm_parts.proofs.Deaths.{rack_elsewhere, draining_elsewhere, rack_left, draining_left}
 use Rattle.bm_parts.proofs.Leveling.{heartbeat_leaves_racks, stands_before}
 use Rattle.bm_arena.specs.Triplets.{Block}
-use Rattle.bm_arena.specs.Contents.{block_at, list_of, marks_at, find_marks, slot_of, IsLawful}
+use Rattle.bm_arena.specs.Contents.{Contents, block_at, list_of, marks_at, find_marks, slot_of, IsLawful}
 use Rattle.bm_arena.specs.Holding.{replicas_of, holdings_of}
 use Rattle.bm_report.proofs.Maps.{get-here}
 use Rattle.bm_levels.specs.declared.around.Turning.{Turning}
 use Rattle.bm_levels.specs.Judged.{drains_then, level_by}
 use Rattle.bm_levels.specs.Leveled.{Leveled, IsLeveled, AreLevels}
-use Rattle.bm_levels.specs.LevelsBy.{AreLevelsBy, IsSameForHeld, heartbeat_leaves_all_levels, register_is_same_for_held}
+use Rattle.bm_levels.specs.LevelsBy.{AreLevelsBy, IsSameForHeld}
 use Rattle.bm_levels.proofs.Agreeing.{levels_agree}
 use Rattle.bm_levels.proofs.Leaving.{led_by}
 
@@ -83,13 +87,16 @@ module _ (C D : Cluster) (v : Leveled) (lawful : IsLawful v.arena) (leveled : Is
   pub levels_for_held : AreLevelsBy (rack_of C) (is_draining C) (is_multi_rack D) v → AreLevels D v
   levels_for_held = levels_alike (rack_of C) (rack_of D) (is_draining C) (is_draining D) (is_multi_rack D) v stands
 
-pub heartbeat_leaves : heartbeat_leaves_all_levels
+-- a heartbeat leaves all levels
+pub heartbeat_leaves : (C : Cluster) (rs : List Remaining) (v : Leveled) → AreLevels C v → AreLevels (heartbeat C rs) v
 heartbeat_leaves C rs v h slot =
     let law = heartbeat_leaves_racks C rs in
     h slot ∙ ap (λ m. level_by (rack_of C) (is_draining C) m (block_at v.arena slot)) (sym law.2)
     ∙ level_alike (rack_of C) (rack_of (heartbeat C rs)) (is_draining C) (is_draining (heartbeat C rs)) (is_multi_rack (heartbeat C rs)) (block_at v.arena slot) (λ s _. (sym (law.0 s), sym (law.1 s)))
 
-pub register_is_same : register_is_same_for_held
+-- a new node changes nothing for the replicas that are held
+pub register_is_same : (C : Cluster) (n rack : ℕ) (ss : List ℕ) (a : Contents) → contains_key C.nodes n ≡ false → list_any (knows_storage C) ss ≡ false → IsRacked C (holdings_of a)
+    → IsSameForHeld C (register C n rack ss) a
 unfolding holdings_of
 register_is_same C n rack ss a new unknown racked = record {
   rack = λ q there. (stands_before C n rack ss new unknown q.storage (racked q there)).0;

@@ -1,20 +1,16 @@
--- Levels by racks and nodes that drain which need not be those of one cluster; and what leaves all levels.
-use Rattle.std.specs.Prelude.{◌≡◌, ℕ, if◌then◌else◌, Bool, true, false, List, Option, IsSome}
-use Rattle.std.specs.List.{list_any}
-use Rattle.bm_base.specs.declared.event.Remaining.{Remaining}
+-- Levels by racks and nodes that drain which need not be those of one cluster.
+use Rattle.std.specs.Prelude.{◌≡◌, ℕ, if◌then◌else◌, Bool, true, Option, IsSome}
 use Rattle.bm_base.specs.declared.replica.ReplicaId.{ReplicaId}
-use Rattle.bm_base.specs.Map.{get, contains_key}
+use Rattle.bm_base.specs.Map.{get}
 use Rattle.bm_base.specs.State.{Cluster}
 use Rattle.bm_base.specs.SlotLists.{Among}
 use Rattle.bm_base.specs.Replicas.{rack_of, has_storage, is_draining}
-use Rattle.bm_base.specs.Events.{register, heartbeat, drain, undrain}
-use Rattle.bm_base.specs.Refusals.{knows_storage}
-use Rattle.bm_parts.specs.LevelLaws.{IsRacked}
+use Rattle.bm_base.specs.Events.{drain, undrain}
 use Rattle.bm_arena.specs.Contents.{Contents, block_at, list_of}
-use Rattle.bm_arena.specs.Holding.{replicas_of, holdings_of}
+use Rattle.bm_arena.specs.Holding.{replicas_of}
 use Rattle.bm_levels.specs.Judged.{level_by}
 use Rattle.bm_levels.specs.Kept.{level_of_slot}
-use Rattle.bm_levels.specs.Leveled.{Leveled, AreLevels}
+use Rattle.bm_levels.specs.Leveled.{Leveled}
 
 -- the level of each slot is that of its block, where storages stand on these racks and on nodes that drain, and the alive nodes on two
 -- racks or more
@@ -42,13 +38,3 @@ IsOff C node a slot = (storage : ℕ) → has_storage C node storage ≡ true �
 -- the cluster once a node begins or ceases to drain
 abbrev pub with_draining : Cluster → ℕ → Bool → Cluster
 with_draining C node drains = if drains then drain C node else undrain C node
-
--- a heartbeat leaves all levels
-abbrev pub heartbeat_leaves_all_levels : Type 0
-heartbeat_leaves_all_levels = (C : Cluster) (rs : List Remaining) (v : Leveled) → AreLevels C v → AreLevels (heartbeat C rs) v
-
--- a new node changes nothing for the replicas that are held
-abbrev pub register_is_same_for_held : Type 0
-register_is_same_for_held =
-    (C : Cluster) (n rack : ℕ) (ss : List ℕ) (a : Contents) → contains_key C.nodes n ≡ false → list_any (knows_storage C) ss ≡ false → IsRacked C (holdings_of a)
-    → IsSameForHeld C (register C n rack ss) a

@@ -27,9 +27,12 @@ use Rattle.bm_levels.specs.Judged.{storages_at}
 use Rattle.bm_levels.specs.Held.{holdings_with}
 use Rattle.bm_levels.proofs.Alike.{among_has, has_among, passing_distinct}
 use Rattle.bm_levels.proofs.Levels.{alike}
-use Rattle.bm_listing.specs.Listed.{good_storages}
 use Rattle.bm_listing.proofs.Found.{each_marks, marks_pass}
 use Rattle.bm_listing.proofs.Numbers.{Rise, numbers_rise, lesser_storage, same_numbers}
+
+-- the storages of the good replicas of a block
+abbrev pub good_storages : Contents → ℕ → List ℕ
+good_storages a b = option_map_or (λ slot. storages_at (λ _ m. is_good m.tag) (replicas_at a slot)) (slot_of a b) []
 
 -- Going over the replicas at a slot.
 

@@ -27,7 +27,7 @@ use Rattle.std.proofs.lemmas.Simd.{map-map}
 use Rattle.bm_parts.proofs.JoinedReplicas.{listed_rises}
 use Rattle.bm_parts.proofs.Gathered.{gathered_alike}
 use Rattle.bm_levels.specs.Kept.{slots_led}
-use Rattle.bm_listing.specs.Listed.{shown, listed_at, listed_on, replicas_passing, IsListed}
+use Rattle.bm_listing.specs.Listed.{shown, listed_at, listed_on, replicas_passing}
 use Rattle.bm_listing.proofs.Apart.{AreApart, IsNew, apart_append, gathered_sorted}
 use Rattle.bm_listing.proofs.Gathering.{those}
 use Rattle.bm_listing.proofs.Led.{IsOwn, led_once, led_own, has_led}
@@ -96,6 +96,10 @@ any_on t f (u ∷ ss) s e h = list_any-append t (f u) (flat_map f ss) ∙ by (u 
     by false is e rest = or_right (list_any t (f u)) (list_any t (flat_map f ss)) (rest e h)
 
 -- Replicas of all blocks.
+
+-- a replica that the map has and that passes, as a query shows it
+abbrev IsListed : (Marks → Bool) → Map by_replica Marks → Replica → Type 0
+IsListed p m r = (k : Marks) × (get m (replica_key r) ≡ Some k) × (p k ≡ true) × (r.tag ≡ k.tag)
 
 module _ (p : Marks → Bool) (a : Contents) (lawful : IsLawful a) where
   abbrev at_slot : ℕ → List Replica

@@ -24,7 +24,7 @@ use Rattle.bm_base.proofs.Maps.{key_itself, not_tied, each_entry}
 use Rattle.bm_base.proofs.Options.{chained}
 use Rattle.bm_base.proofs.Sets.{has_keys}
 use Rattle.bm_arena.specs.Contents.{Contents, slot_of, IsLawful}
-use Rattle.bm_arena.specs.Holding.{info_at, blocks_of}
+use Rattle.bm_arena.specs.Holding.{info_at, blocks_of, id_at}
 use Rattle.bm_arena.proofs.Held.{get-blocks_of}
 use Rattle.bm_parts.specs.Found.{IsGathered}
 use Rattle.bm_parts.proofs.Filters.{any_shown, all_each, filter_all}
@@ -32,7 +32,7 @@ use Rattle.bm_parts.proofs.Gathered.{gathered_alike}
 use Rattle.bm_parts.proofs.JoinedReplicas.{listed_rises}
 use Rattle.bm_levels.specs.Kept.{slots_led}
 use Rattle.bm_levels.specs.Held.{holdings_with}
-use Rattle.bm_listing.specs.Listed.{id_at, known_on, with_slot}
+use Rattle.bm_listing.specs.Listed.{known_on, with_slot}
 use Rattle.bm_listing.proofs.Apart.{AreApart, IsNew, gathered_sorted}
 use Rattle.bm_listing.proofs.Led.{IsOwn, led_once, led_own, has_led}
 use Rattle.bm_listing.proofs.Numbers.{any_same}

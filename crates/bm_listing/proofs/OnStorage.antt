@@ -25,14 +25,13 @@ use Rattle.bm_base.proofs.Stands.{any_replica}
 use Rattle.bm_base.proofs.Ties.{replica_tie}
 use Rattle.bm_parts.proofs.Filters.{map_filter}
 use Rattle.bm_arena.specs.Contents.{block_at, slot_of, marks_at, list_of, IsLawful}
-use Rattle.bm_arena.specs.Holding.{replicas_of}
+use Rattle.bm_arena.specs.Holding.{replicas_of, id_at}
 use Rattle.bm_arena.proofs.Held.{get-replicas_of}
 use Rattle.bm_levels.specs.Judged.{level_in}
 use Rattle.bm_levels.specs.Held.{holdings_with}
 use Rattle.bm_levels.specs.Kept.{level_of_slot}
 use Rattle.bm_levels.specs.Leveled.{Leveled, IsLeveled, AreLevels}
 use Rattle.bm_levels.proofs.Levels.{level_is_at_slot}
-use Rattle.bm_listing.specs.Listed.{id_at}
 use Rattle.bm_listing.proofs.Numbers.{Rise, numbers_rise, same_numbers}
 use Rattle.bm_listing.proofs.Owned.{among_map, among_from_map, id_found, led_to, ids_distinct, own_listed, own_leveled}
 

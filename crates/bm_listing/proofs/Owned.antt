@@ -8,11 +8,10 @@ use Rattle.bm_base.specs.SlotLists.{Among, Distinct}
 use Rattle.bm_base.proofs.Options.{there, chained}
 use Rattle.bm_arena.specs.Triplets.{Block}
 use Rattle.bm_arena.specs.Contents.{Contents, block_at, slot_of, marks_at, list_of, IsLawful}
-use Rattle.bm_arena.specs.Holding.{info_at}
+use Rattle.bm_arena.specs.Holding.{info_at, id_at}
 use Rattle.bm_levels.specs.Kept.{level_of_slot}
 use Rattle.bm_levels.specs.Leveled.{Leveled, IsLeveled}
 use Rattle.bm_base.specs.declared.level.Level.{Level}
-use Rattle.bm_listing.specs.Listed.{id_at}
 use Rattle.bm_listing.proofs.Led.{IsOwn}
 
 pub among_at : (xs : List ℕ) (i d : ℕ) → i < length xs → Among (get_or xs i d) xs

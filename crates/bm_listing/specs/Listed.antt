@@ -1,18 +1,17 @@
 -- What is come upon at the slots of an arena, in their order, and the rising lists that are made of it.
-use Rattle.std.specs.Prelude.{◌≡◌, ℕ, Bool, true, false, ◌&&◌, nat_lt, List, [], length, map, filter, flat_map, Option, Some, is_some}
+use Rattle.std.specs.Prelude.{ℕ, Bool, true, false, ◌&&◌, nat_lt, List, [], length, map, filter, flat_map, Option, is_some}
 use Rattle.std.specs.Option.{option_map_or, unwrap_or}
 use Rattle.std.specs.List.{list_any}
 use Rattle.bm_base.specs.declared.replica.Marks.{Marks}
 use Rattle.bm_base.specs.declared.replica.Replica.{Replica}
 use Rattle.bm_base.specs.declared.replica.BlockInfo.{BlockInfo}
-use Rattle.bm_base.specs.Map.{Map, get, entries}
+use Rattle.bm_base.specs.Map.{Map, entries}
 use Rattle.bm_base.specs.State.{Cluster, by_replica}
-use Rattle.bm_base.specs.Replicas.{is_corrupt, is_good, is_usable, is_live_on, has_storage, is_draining}
+use Rattle.bm_base.specs.Replicas.{is_corrupt, is_usable, is_live_on, has_storage, is_draining}
 use Rattle.bm_arena.specs.Triplets.{Block}
 use Rattle.bm_arena.specs.Contents.{Contents, block_at, slot_of, marks_at, list_of}
-use Rattle.bm_arena.specs.Holding.{replicas_at, info_at}
+use Rattle.bm_arena.specs.Holding.{info_at, id_at}
 use Rattle.bm_levels.specs.Judged.{storages_at}
-use Rattle.bm_parts.specs.QueryLaws.{replica_key}
 use Rattle.bm_listing.specs.declared.replicas.Wanted.{Wanted}
 use Rattle.bm_listing.specs.declared.replicas.Wanted.TheVariants.{All, Corrupt, Excess}
 
@@ -37,18 +36,6 @@ listed_on p a slots = flat_map (λ slot. listed_at p (block_at a slot)) slots
 -- the replicas of a map that pass, rising
 abbrev pub replicas_passing : (Marks → Bool) → Map by_replica Marks → List Replica
 replicas_passing p m = map (λ e. record { block = e.0.block; storage = e.0.storage; tag = e.1.tag }) (filter (λ e. p e.1) (entries m))
-
--- a replica that the map has and that passes, as a query shows it
-abbrev pub IsListed : (Marks → Bool) → Map by_replica Marks → Replica → Type 0
-IsListed p m r = (k : Marks) × (get m (replica_key r) ≡ Some k) × (p k ≡ true) × (r.tag ≡ k.tag)
-
--- the number of the block at a slot
-abbrev pub id_at : Contents → ℕ → ℕ
-id_at a slot = option_map_or (λ (b : Block). b.id) (block_at a slot) 0
-
--- the storages of the good replicas of a block
-abbrev pub good_storages : Contents → ℕ → List ℕ
-good_storages a b = option_map_or (λ slot. storages_at (λ _ m. is_good m.tag) (replicas_at a slot)) (slot_of a b) []
 
 -- whether fewer replicas of a known block are live than are wanted
 abbrev pub lacks_live : Cluster → Option Block → Bool

@@ -51,7 +51,8 @@ pub struct Scheduled {
 
 impl Model for Scheduled {
     ghost use Rattle.std.specs.Coded.{coded_ℕ};
-    ghost use Rattle.bm_base.specs.Map.{Map, by_number, code};
+    ghost use Rattle.bm_base.specs.Map.{Map, by_number};
+    ghost use Rattle.bm_base.specs.MapCode.{code};
     ghost use Rattle.bm_place.specs.declared.scheduled.Target.{Target};
     ghost use Rattle.bm_place.specs.Targets.{coded_target};
 

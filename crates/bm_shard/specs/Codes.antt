@@ -4,7 +4,8 @@ use Rattle.std.specs.Coded.{Coded, code_by, coded×, coded_ℕ, coded_list, code
 use Rattle.bm_base.specs.declared.level.Level.{Level}
 use Rattle.bm_base.specs.declared.ids.Part.{Part}
 use Rattle.bm_base.specs.declared.replica.Stamp.{Stamp}
-use Rattle.bm_base.specs.Map.{Map, by_number, code}
+use Rattle.bm_base.specs.Map.{Map, by_number}
+use Rattle.bm_base.specs.MapCode.{code}
 use Rattle.bm_base.specs.State.{Holdings}
 use Rattle.bm_base.specs.Codes.{coded_holdings, coded_stamp}
 use Rattle.bm_base.specs.Entries.{Told}

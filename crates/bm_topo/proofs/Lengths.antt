@@ -1,6 +1,7 @@
 -- How many entries a table has after each change.
 use Rattle.std.proofs.Common.{ℕ, ◌+◌, ◌≤◌, true, false, cond, List, [], ◌∷◌, length, Option, Some, None, arith}
-use Rattle.bm_base.specs.Map.{Map, by_number, entries, len, insert, insert_all, alter, alter_list, with_value, remove, revise, revise_at, contains_key}
+use Rattle.bm_base.specs.Map.{Map, by_number, entries, len, insert, insert_all, alter, remove, revise, revise_at, contains_key}
+use Rattle.bm_base.specs.Altered.{with_value, alter_list}
 use Rattle.bm_base.proofs.Differences.{len-insert}
 
 module _ {X : Type 0} where

@@ -2,7 +2,8 @@
 use Rattle.std.proofs.Common.{◌≡◌, ℕ, false, Option, Some, None, is_some, refl, sym, ap, ◌∙◌}
 use Rattle.std.specs.Option.{option_map_or}
 use Rattle.std.proofs.lemmas.List.{nil_from_length}
-use Rattle.bm_base.specs.Map.{Map, by_number, empty, entries, get, len, contains_key, same_entries_map}
+use Rattle.bm_base.specs.Map.{Map, by_number, empty, entries, get, len, contains_key}
+use Rattle.bm_base.specs.MapCode.{same_entries_map}
 use Rattle.bm_base.specs.State.{Cluster}
 use Rattle.bm_base.specs.Replicas.{node_of, drains, is_draining}
 use Rattle.bm_base.proofs.MapLaws.{get-empty}

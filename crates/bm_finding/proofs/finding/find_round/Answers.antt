@@ -6,9 +6,10 @@ use Rattle.bm_base.specs.State.{by_replica}
 use Rattle.bm_base.specs.Ordered.{by_pair}
 use Rattle.bm_base.specs.RoundParts.{wish_key, delete_key}
 use Rattle.bm_arena.specs.Contents.{Contents, slot_of, IsLawful}
+use Rattle.bm_arena.specs.Holding.{id_at}
 use Rattle.bm_levels.specs.Held.{holdings_with}
 use Rattle.bm_finding.specs.Visits.{visits, keyed_at}
-use Rattle.bm_finding.specs.Gathering.{id_at, HasFound, IsInOrder}
+use Rattle.bm_finding.specs.Gathering.{HasFound, IsInOrder}
 use Rattle.bm_finding.proofs.Visited.{AreListed}
 use Rattle.bm_finding.proofs.Covering.{told_known, all_found}
 use Rattle.bm_finding.proofs.finding.find_round.Goals as goal

@@ -6,8 +6,8 @@ use Rattle.std.proofs.lemmas.List.{map-append}
 use Rattle.bm_base.specs.declared.level.Level.TheVariants.{NoUsableReplica}
 use Rattle.bm_base.specs.SlotLists.{Among}
 use Rattle.bm_arena.specs.Contents.{Contents, IsLawful}
+use Rattle.bm_arena.specs.Holding.{id_at}
 use Rattle.bm_levels.specs.Kept.{Kept, level_of_slot}
-use Rattle.bm_listing.specs.Listed.{id_at}
 use Rattle.bm_listing.proofs.Led.{IsOwn}
 use Rattle.bm_listing.proofs.Owned.{among_turn, same_map, own_leveled, answered_id}
 use Rattle.bm_listing.proofs.OnStorage.{at_level}

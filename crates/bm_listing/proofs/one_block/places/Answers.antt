@@ -6,8 +6,7 @@ use Rattle.bm_arena.specs.Contents.{Contents}
 use Rattle.bm_arena.specs.Holding.{replicas_at}
 use Rattle.bm_levels.specs.Held.{holdings_with}
 use Rattle.bm_levels.specs.Judged.{storages_at}
-use Rattle.bm_listing.specs.Listed.{good_storages}
-use Rattle.bm_listing.proofs.AtSlot.{sorted_places}
+use Rattle.bm_listing.proofs.AtSlot.{sorted_places, good_storages}
 use Rattle.bm_listing.proofs.one_block.places.Goals as goal
 use Rattle.bm_listing.proofs.one_block.places.Goals.{in-Some+in_ok-push_good, in_default}
 

@@ -4,8 +4,7 @@ use Rattle.bm_base.specs.declared.limits.TheConstants.{MAX_PLACES}
 use Rattle.bm_base.specs.Replicas.{is_good}
 use Rattle.bm_arena.specs.Holding.{replicas_at}
 use Rattle.bm_levels.specs.Judged.{storages_at}
-use Rattle.bm_listing.specs.Listed.{good_storages}
-use Rattle.bm_listing.proofs.AtSlot.{sorted_places}
+use Rattle.bm_listing.proofs.AtSlot.{sorted_places, good_storages}
 use Rattle.bm_listing.proofs.rows.first_places.Goals as goal
 
 pub returns-clause-places : goal.returns-clause-places

@@ -1,6 +1,7 @@
 use Rattle.std.proofs.Common.{map, take}
+use Rattle.bm_arena.specs.Holding.{id_at}
 use Rattle.bm_levels.specs.Held.{holdings_with}
-use Rattle.bm_finding.specs.Gathering.{HasFound, id_at}
+use Rattle.bm_finding.specs.Gathering.{HasFound}
 use Rattle.bm_finding.proofs.visiting.Start.visit_all.Given as goal
 
 abbrev pub invariant-loop-keyed : goal.invariant-loop-keyed
