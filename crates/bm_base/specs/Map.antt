@@ -7,6 +7,7 @@
 --     keep m p         the entries that pass
 --     revise m f       each value changed by its key.     revise_at m k f      the value at one key changed, if it is there
 --     insert_all m es  the entries one after another, so that the last of a key counts
+--     values es        the values of these entries, in the same order
 -- The laws stand in proofs/MapLaws, what the field `sorted` needs in MapSorted, and the code of a map in MapCode.
 use Rattle.std.specs.Prelude.{◌≡◌, ℕ, Bool, if◌then◌else◌, List, [], ◌∷◌, map, length, is_some, Option, Some, None, T}
 use Rattle.std.specs.declared.cmp.Ordering.{Ordering}
@@ -31,6 +32,10 @@ by_number = record { cmp = nat_cmp; total = nat_cmp_total; same = nat_cmp-IsAnti
 pub record Map {K : Type 0} (o : Order K) (X : Type 0) : Type 0 where
   pub list : List (K × X)
   pub sorted : T (is_sorted o.cmp list)
+
+-- the values of these entries
+abbrev pub values : {K X : Type 0} → List (K × X) → List X
+values es = map (λ e. e.1) es
 
 -- a finite set: its members, each with nothing beside it
 abbrev pub Set : {K : Type 0} → Order K → Type 0

@@ -5,7 +5,7 @@ use Rattle.std.specs.Option.{option_map_or}
 use Rattle.bm_base.specs.declared.replica.Tag.{Tag}
 use Rattle.bm_base.specs.declared.replica.Tag.TheVariants.{Good, Stale, Bad, Stray}
 use Rattle.bm_base.specs.declared.replica.Marks.{Marks}
-use Rattle.bm_base.specs.Map.{get, contains_key, entries}
+use Rattle.bm_base.specs.Map.{get, contains_key, entries, values}
 use Rattle.bm_base.specs.State.{Cluster, Holdings}
 use Rattle.bm_base.specs.Lists.{distinct}
 
@@ -89,4 +89,4 @@ racks C ss = distinct (filter_map (rack_of C) ss)
 
 -- the alive nodes stand on two racks or more
 unfoldable pub is_multi_rack : Cluster → Bool
-is_multi_rack C = nat_lt 1 (length (distinct (map (λ e. e.1) (entries C.nodes))))
+is_multi_rack C = nat_lt 1 (length (distinct (values (entries C.nodes))))

@@ -18,3 +18,7 @@ put_on b m (r ∷ rs) = put_on b (insert m (replica_at b r.0) (counted_again r.1
 -- of these replicas, the storages of those that pass
 abbrev pub storages_in : (ℕ → Marks → Bool) → List (ReplicaId × Marks) → List ℕ
 storages_in p es = map (λ e. e.0.storage) (filter (λ e. p e.0.storage e.1) es)
+
+-- the storages of all of them
+abbrev pub all_storages : List (ReplicaId × Marks) → List ℕ
+all_storages es = storages_in (λ _ _. true) es

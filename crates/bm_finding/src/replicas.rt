@@ -6,7 +6,7 @@ ghost use Rattle.bm_base.specs.Lists.{has};
 ghost use Rattle.bm_base.specs.Replicas as replicas;
 ghost use Rattle.bm_base.specs.Spread.{spread};
 ghost use Rattle.bm_arena.specs.Holding.{replicas_at};
-ghost use Rattle.bm_finding.specs.Marking.{marked_if, put_on, storages_in};
+ghost use Rattle.bm_finding.specs.Marking.{marked_if, put_on, all_storages};
 ghost use Rattle.bm_finding.specs.Looked.{AreUsable};
 
 use bm_arena::{Arena, Slot};
@@ -160,7 +160,7 @@ pub(crate) fn storages_of(
     alloc: Global,
     run: &[(ReplicaId, Marks)],
 ) -> Result<StorageIds, AllocError>
-    ensures { IfOk result (λ v. v ≡ storages_in (λ _ _. true) run.now) }
+    ensures { IfOk result (λ v. v ≡ all_storages run.now) }
 {
     let mut storages = StorageIds::new(alloc);
     for (replica, _) in run {

@@ -2,6 +2,7 @@
 ghost use Rattle.std.specs.Prelude.{◌≡◌, ◌++◌, ◌∷◌, [], ℕ, List, map, Some, nat_le, false, IfOk, IfErr, OnOk};
 ghost use Rattle.std.specs.Option.{option_map_or};
 ghost use Rattle.bm_base.specs.declared.refusal.Refusal.TheVariants.{Memory};
+ghost use Rattle.bm_base.specs.Map.{values};
 ghost use Rattle.bm_base.specs.SlotLists.{Among};
 ghost use Rattle.bm_arena.specs.Contents.{slot_of};
 ghost use Rattle.bm_arena.specs.Holding.{id_at};
@@ -39,7 +40,7 @@ pub(crate) struct Start<'a> {
 impl<'a> Start<'a> {
     /// Looks at the blocks at these slots, each beside its key.
     pub(crate) fn visit_all(&self, alloc: Global, slots: &[(Key, Slot)]) -> Result<Found, Refusal>
-        requires { (slot : ℕ) → Among slot (map (λ e. e.1) slots.now)
+        requires { (slot : ℕ) → Among slot (values slots.now)
             → (id : ℕ) × (slot_of self.now.arena.now id ≡ Some slot) }
         ensures found { IfOk result
             (HasFound self.now.topology.now.cluster self.now.pend self.now.round

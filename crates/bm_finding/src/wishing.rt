@@ -1,12 +1,12 @@
 // What one block wishes for.
-ghost use Rattle.std.specs.Prelude.{◌≡◌, true, length, ◌++◌, option_and_then, option_to_list, OnOk, IfOk, IfErr};
+ghost use Rattle.std.specs.Prelude.{◌≡◌, length, ◌++◌, option_and_then, option_to_list, OnOk, IfOk, IfErr};
 ghost use Rattle.bm_base.specs.declared.refusal.Refusal.TheVariants.{Memory};
 ghost use Rattle.bm_base.specs.Map.{entries};
 ghost use Rattle.bm_base.specs.Replicas as replicas;
 ghost use Rattle.bm_base.specs.Levels as levels;
 ghost use Rattle.bm_parts.specs.Before.{wishes_before};
 ghost use Rattle.bm_pending.specs.Remaining.{targets_left};
-ghost use Rattle.bm_finding.specs.Marking.{storages_in};
+ghost use Rattle.bm_finding.specs.Marking.{all_storages};
 ghost use Rattle.bm_finding.specs.Wanting.{count_at, wish_by};
 
 use crate::keys::is_before;
@@ -31,7 +31,7 @@ impl<'a> Start<'a> {
             ++ wishes_before self.now.bound
             (option_to_list (option_and_then
             (λ i. wish_by self.now.topology.now.cluster look.now.id i usable.live usable.drained
-            (storages_in (λ _ _. true) (entries look.now.replicas))
+            (all_storages (entries look.now.replicas))
             (targets_left self.now.pend self.now.round self.now.pending.now look.now.id))
             look.now.info))) }
         ensures refused { IfErr result (λ e. e ≡ Memory) }

@@ -57,6 +57,10 @@ waits_for C a n storage = (has_storage C n storage && is_draining C storage) && 
 abbrev pub known_on : Contents → List ℕ → List (ℕ × ℕ)
 known_on a slots = map (λ slot. (id_at a slot, slot)) (filter (λ slot. is_some (info_at a slot)) slots)
 
+-- a block's number stands beside its slot
+abbrev pub HasItsSlot : Contents → ℕ × ℕ → Type 0
+HasItsSlot a e = slot_of a e.0 ≡ Some e.1
+
 -- a block's number, and its slot
 abbrev pub with_slot : Contents → ℕ → ℕ × ℕ
 with_slot a b = (b, unwrap_or (slot_of a b) 0)

@@ -11,7 +11,7 @@ ghost use Rattle.bm_arena.specs.Contents.{block_at, slot_of};
 ghost use Rattle.bm_arena.specs.Holding.{blocks_of};
 ghost use Rattle.bm_levels.specs.Kept.{slots_led};
 ghost use Rattle.bm_levels.specs.Held.{holdings_with};
-ghost use Rattle.bm_listing.specs.Listed.{known_on, with_slot};
+ghost use Rattle.bm_listing.specs.Listed.{known_on, with_slot, HasItsSlot};
 
 use crate::one_block::push_good;
 use bm_arena::{Arena, Slot};
@@ -51,7 +51,7 @@ fn gathered_blocks(alloc: Global, arena: &Arena) -> Result<Vec<(BlockId, Slot)>,
 fn known_blocks(alloc: Global, arena: &Arena) -> Result<Vec<(BlockId, Slot)>, Refusal>
     ensures blocks { IfOk result
         (λ v. v.items ≡ map (with_slot arena.now) (keys (blocks_of arena.now))) }
-    ensures slots { IfOk result (λ v. All (λ p. slot_of arena.now p.0 ≡ Some p.1) v.items) }
+    ensures slots { IfOk result (λ v. All (HasItsSlot arena.now) v.items) }
     ensures refused { IfErr result (λ e. e ≡ Memory) }
 {
     arena.lawful();

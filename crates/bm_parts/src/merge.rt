@@ -1,9 +1,8 @@
 // Sorted lists merged into one, by halves: of k lists with n entries in all each entry is copied about log k times.
-ghost use Rattle.std.specs.Prelude.{◌≡◌, ◌≤◌, [], map, T, IfOk};
-ghost use Rattle.std.specs.List.{flat_map};
+ghost use Rattle.std.specs.Prelude.{◌≡◌, ◌≤◌, [], T, IfOk};
 ghost use Rattle.std.specs.FinMap.{is_sorted};
 ghost use Rattle.bm_base.specs.Ordered.{pair_cmp};
-ghost use Rattle.bm_parts.specs.Merging.{put_all, AreSorted};
+ghost use Rattle.bm_parts.specs.Merging.{put_all, as_lists, items_of_all, AreSorted};
 
 use std::alloc::{AllocError, Global};
 use std::cmp::Ordering;
@@ -16,8 +15,8 @@ pub fn merge_all<V: Copy>(
     alloc: Global,
     lists: &[Vec<(Key, V)>],
 ) -> Result<Vec<(Key, V)>, AllocError>
-    requires { AreSorted (map (λ l. l.items) lists.now) }
-    ensures merged { IfOk result (λ v. v.items ≡ put_all [] (flat_map (λ l. l.items) lists.now)) }
+    requires { AreSorted (as_lists lists.now) }
+    ensures merged { IfOk result (λ v. v.items ≡ put_all [] (items_of_all lists.now)) }
     ensures sorted { IfOk result (λ v. T (is_sorted pair_cmp v.items)) }
 {
     let count = lists.len();

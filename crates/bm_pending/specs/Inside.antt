@@ -1,5 +1,5 @@
 -- How the entries of the blocks stand for the transfers on their way.
-use Rattle.std.specs.Prelude.{ℕ, ◌-◌, not, ◌==◌, List, [], ◌∷◌, length, map, nat_eq, T}
+use Rattle.std.specs.Prelude.{ℕ, ◌-◌, not, ◌==◌, List, [], ◌∷◌, length, map, filter, nat_eq, T}
 use Rattle.std.specs.Option.{option_map_or}
 use Rattle.std.specs.Ordering.{nat_cmp}
 use Rattle.std.specs.FinMap.{is_sorted}
@@ -7,6 +7,7 @@ use Rattle.std.specs.Map.{lookup}
 use Rattle.smallvec.specs.SmallVec.{SmallVec}
 use Rattle.bm_base.specs.Map.{Map, empty, insert, keep}
 use Rattle.bm_base.specs.State.{by_replica, replica_at}
+use Rattle.bm_pending.specs.OnTheWay.{is_expired}
 
 -- the targets of one block with the rounds of their commands
 abbrev pub Targets : Type 0
@@ -25,6 +26,14 @@ map_of (e ∷ es) = with_block e.0 e.1.items (map_of es)
 -- the targets of a block
 abbrev pub targets_at : List (ℕ × Targets) → ℕ → List (ℕ × ℕ)
 targets_at es b = option_map_or (λ (v : Targets). v.items) (lookup (nat_eq b) es) []
+
+-- of the targets of a block, those whose transfers are given up as round r begins
+abbrev pub expired_among : ℕ → ℕ → List (ℕ × ℕ) → List (ℕ × ℕ)
+expired_among pend r ts = filter (λ t. is_expired pend r t.1) ts
+
+-- the storages of the others
+abbrev pub storages_left : ℕ → ℕ → List (ℕ × ℕ) → List ℕ
+storages_left pend r ts = map (λ t. t.0) (filter (λ t. not (is_expired pend r t.1)) ts)
 
 abbrev pub room_in : Targets → ℕ
 room_in v = v.capacity - length v.items

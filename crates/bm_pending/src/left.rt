@@ -1,6 +1,6 @@
 // The targets of a block that a round leaves on their way.
-ghost use Rattle.std.specs.Prelude.{◌≡◌, not, map, filter, IfOk};
-ghost use Rattle.bm_pending.specs.OnTheWay.{is_expired};
+ghost use Rattle.std.specs.Prelude.{◌≡◌, IfOk};
+ghost use Rattle.bm_pending.specs.Inside.{storages_left};
 
 use crate::targets::is_expired;
 use bm_base::{StorageId, StorageIds};
@@ -13,8 +13,7 @@ pub(crate) fn left_among(
     pend: u32,
     round: u64,
 ) -> Result<StorageIds, AllocError>
-    ensures { IfOk result
-        (λ v. v ≡ map (λ t. t.0) (filter (λ t. not (is_expired pend round t.1)) targets.now)) }
+    ensures { IfOk result (λ v. v ≡ storages_left pend round targets.now) }
 {
     let mut left = StorageIds::new(alloc);
     for target in targets {

@@ -1,5 +1,5 @@
 // Transfers as lists: those of a block, and all of them, or all that are given up, in order.
-ghost use Rattle.std.specs.Prelude.{◌≡◌, ◌≤◌, ◌+◌, ℕ, [], false, nat_eq, filter, map, length, ◌++◌, OnOk, OnErr, IfOk, IfErr, IsOk, T, vec_len, vec_capacity};
+ghost use Rattle.std.specs.Prelude.{◌≡◌, ◌≤◌, ◌+◌, ℕ, [], false, nat_eq, map, length, ◌++◌, OnOk, OnErr, IfOk, IfErr, IsOk, T, vec_len, vec_capacity};
 ghost use Rattle.std.specs.Ordering.{nat_cmp};
 ghost use Rattle.std.specs.FinMap as list;
 ghost use Rattle.std.specs.List.{list_any, IsDistinct};
@@ -8,7 +8,7 @@ ghost use Rattle.bm_base.specs.declared.refusal.Refusal.TheVariants.{Memory};
 ghost use Rattle.bm_base.specs.Map.{entries};
 ghost use Rattle.bm_base.specs.State.{replica_at};
 ghost use Rattle.bm_pending.specs.OnTheWay.{is_expired, expired_of};
-ghost use Rattle.bm_pending.specs.Inside.{targets_at, map_of};
+ghost use Rattle.bm_pending.specs.Inside.{targets_at, expired_among, map_of};
 
 use crate::by_block::{Blocks, targets_in};
 use crate::targets::is_expired;
@@ -98,7 +98,7 @@ fn expiring_in(blocks: &Blocks, alloc: Global, pend: u32, round: u64) -> Result<
     ensures rising { IfOk result (λ v. IsNonDecreasing v.items) }
     ensures distinct { IfOk result (λ v. IsDistinct nat_eq v.items) }
     ensures absent { IfOk result (λ v. (b : ℕ) → list_any (nat_eq b) v.items ≡ false
-        → filter (λ t. is_expired pend round t.1) (targets_at blocks.now.entries b) ≡ []) }
+        → expired_among pend round (targets_at blocks.now.entries b) ≡ []) }
     ensures refused { IfErr result (λ e. e ≡ Memory) }
 {
     let mut numbers = Vec::new(alloc);
@@ -120,7 +120,7 @@ fn push_expired(
     into: &mut Vec<ReplicaId>,
 ) -> Result<(), Refusal>
     ensures items { OnOk result (into.new.items ≡ into.old.items
-        ++ map (λ t. replica_at block t.0) (filter (λ t. is_expired pend round t.1) targets.now)) }
+        ++ map (λ t. replica_at block t.0) (expired_among pend round targets.now)) }
     ensures refused { IfErr result (λ e. e ≡ Memory) }
 {
     for target in targets {

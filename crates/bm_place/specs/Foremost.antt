@@ -1,10 +1,10 @@
 -- The targets that go before the others of their nodes.
-use Rattle.std.specs.Prelude.{◌≡◌, ◌≤◌, ℕ, zero, suc, Bool, true, false, ◌&&◌, ◌==◌, ◌⊎◌, if◌then◌else◌, List, [], ◌∷◌, map, Option, Some, None}
+use Rattle.std.specs.Prelude.{◌≡◌, ◌≤◌, ℕ, zero, suc, Bool, true, false, ◌&&◌, ◌==◌, ◌⊎◌, if◌then◌else◌, List, [], ◌∷◌, Option, Some, None}
 use Rattle.std.specs.declared.cmp.Ordering.{Ordering}
 use Rattle.std.specs.Ordering.{nat_cmp, ordering_then, is_lt}
 use Rattle.std.specs.Bool.{beq}
 use Rattle.std.specs.Option.{option_eq, option_map_or}
-use Rattle.bm_base.specs.Map.{Map, by_number, empty, entries, get, insert}
+use Rattle.bm_base.specs.Map.{Map, by_number, empty, entries, get, insert, values}
 use Rattle.bm_place.specs.declared.scheduled.Target.{Target}
 use Rattle.bm_place.specs.Targets.{room_on}
 
@@ -56,7 +56,7 @@ all_in_order cs (t ∷ ts) = all_in_order (with_in_order cs t) ts
 
 -- the first of these targets of each node, in order
 abbrev pub foremost_in_order : List Target → List Target
-foremost_in_order ts = all_in_order [] (map (λ e. e.1) (entries (with_firsts empty ts)))
+foremost_in_order ts = all_in_order [] (values (entries (with_firsts empty ts)))
 
 -- a target in the place of the one at a place, and from there behind those that go before it
 abbrev pub put_back : Target → ℕ → List Target → List Target

@@ -50,6 +50,19 @@ IsCountable S s = IfSome (get S.nodes s) (λ n. count_at S.counts n < max_transf
 abbrev pub HasRoomFor : Map by_number Target → ℕ → ℕ → Type 0
 HasRoomFor rows len s = IfSome (get rows s) (λ t. len + t.scheduled ≤ t.remaining)
 
+-- the source that was found with the help of a table of sources
+pub record IsFoundSource (C : Cluster) (S : Senders) (sends : ℕ → ℕ) (urgency : Level) (usable : List ℕ) (found : Option ℕ) : Type 0 where
+  pub source : IsLeastSource C sends urgency usable found
+  -- one transfer more from it can be counted in the table
+  pub countable : IfSome found (IsCountable S)
+
+-- the target that was found with the help of a table of targets
+pub record IsFoundTarget (C : Cluster) (rows : Map by_number Target) (sent : ℕ → ℕ) (urgency : Level) (holders barred : List ℕ) (len : ℕ) (found : Option ℕ)
+    : Type 0 where
+  pub target : IsLeastTarget C sent urgency holders barred len found
+  -- the length fits on it by the table
+  pub fits : IfSome found (HasRoomFor rows len)
+
 -- so many bytes more are sent to a storage
 abbrev pub with_sent : Map by_number Target → ℕ → ℕ → Map by_number Target
 with_sent rows s len = revise_at rows s (λ t. record t { scheduled = t.scheduled + len })

@@ -1,5 +1,5 @@
 // The targets that go before the others of their nodes.
-ghost use Rattle.std.specs.Prelude.{◌≡◌, ◌<◌, ◌==◌, not, [], map, filter_map, length, Some, position, IfOk, OnOk};
+ghost use Rattle.std.specs.Prelude.{◌≡◌, ◌<◌, ◌==◌, not, [], filter_map, length, Some, position, IfOk, OnOk};
 ghost use Rattle.bm_base.specs.Map as table;
 ghost use Rattle.bm_place.specs.Foremost as nodes;
 ghost use Rattle.bm_place.specs.Scan as scanned;
@@ -13,7 +13,7 @@ use std::alloc::{AllocError, Global};
 /// Of the targets of each node the one that goes before the others, in their order. Goes over them once, by a look-up or two each,
 /// and sorts those of the nodes.
 pub fn foremost_of(alloc: Global, rows: &[(u64, Target)]) -> Result<Vec<Target>, AllocError>
-    ensures { IfOk result (λ v. v.items ≡ nodes.foremost_in_order (map (λ e. e.1) rows.now)) }
+    ensures { IfOk result (λ v. v.items ≡ nodes.foremost_in_order (table.values rows.now)) }
 {
     let firsts = firsts_of(alloc, rows)?;
     targets_in_order(alloc, firsts.entries())
@@ -21,7 +21,7 @@ pub fn foremost_of(alloc: Global, rows: &[(u64, Target)]) -> Result<Vec<Target>,
 
 /// By node the one of its targets that goes before the others.
 fn firsts_of(alloc: Global, rows: &[(u64, Target)]) -> Result<NumberMap<Target>, AllocError>
-    ensures { IfOk result (λ m. m.map ≡ nodes.with_firsts table.empty (map (λ e. e.1) rows.now)) }
+    ensures { IfOk result (λ m. m.map ≡ nodes.with_firsts table.empty (table.values rows.now)) }
 {
     let mut firsts = NumberMap::new(alloc);
     for row in rows {
@@ -45,7 +45,7 @@ fn enter(firsts: &mut NumberMap<Target>, target: &Target) -> Result<(), AllocErr
 
 /// These targets in their order.
 fn targets_in_order(alloc: Global, firsts: &[(u64, Target)]) -> Result<Vec<Target>, AllocError>
-    ensures { IfOk result (λ v. v.items ≡ nodes.all_in_order [] (map (λ e. e.1) firsts.now)) }
+    ensures { IfOk result (λ v. v.items ≡ nodes.all_in_order [] (table.values firsts.now)) }
 {
     let mut foremost = Vec::new(alloc);
     for first in firsts {

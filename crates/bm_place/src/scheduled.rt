@@ -6,6 +6,7 @@ ghost use Rattle.bm_base.specs.declared.commands.Transfer.{Transfer};
 ghost use Rattle.bm_base.specs.State.{Cluster};
 ghost use Rattle.bm_base.specs.Map as map;
 ghost use Rattle.bm_base.specs.Transfers as transfers;
+ghost use Rattle.bm_place.specs.Tables.{nothing_yet};
 ghost use Rattle.bm_place.specs.Targets as targets;
 ghost use Rattle.bm_place.specs.Found.{HasRoomFor, with_sent, targets_with};
 ghost use Rattle.bm_place.specs.Foremost.{AreForemost, IsKept};
@@ -72,7 +73,7 @@ impl Scheduled {
     /// storages of the cluster once, by a few look-ups each, and sorts them by their nodes, and one of each node by room.
     pub fn new(alloc: Global, topology: &Topology) -> Result<Scheduled, Refusal>
         ensures none_yet { IfOk result
-            (λ t. t ≡ targets.target_table topology.now.cluster (λ _. 0)) }
+            (λ t. t ≡ targets.target_table topology.now.cluster nothing_yet) }
         ensures of_transfers { IfOk result (λ t. t ≡ targets_with topology.now.cluster []) }
         ensures refused { IfErr result (λ e. e ≡ Memory) }
     {
@@ -121,7 +122,7 @@ impl Scheduled {
 
 /// The storages of a cluster, by rising number, to none of which anything is sent yet.
 fn rows_of(alloc: Global, topology: &Topology) -> Result<NumberMap<Target>, AllocError>
-    ensures { IfOk result (λ rows. rows.map ≡ targets.target_table topology.now.cluster (λ _. 0)) }
+    ensures { IfOk result (λ rows. rows.map ≡ targets.target_table topology.now.cluster nothing_yet) }
 {
     let mut rows = NumberMap::new(alloc);
     rows.reserve(topology.storage_count() as usize)?;

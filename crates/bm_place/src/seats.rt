@@ -1,5 +1,5 @@
 // The storages of each node side by side.
-ghost use Rattle.std.specs.Prelude.{◌≡◌, map, IfOk};
+ghost use Rattle.std.specs.Prelude.{◌≡◌, IfOk};
 ghost use Rattle.std.specs.List.Sorted.{IsPermutation};
 ghost use Rattle.bm_place.specs.Seats as seating;
 
@@ -16,7 +16,7 @@ pub struct Seat {
 
 /// The storages of some rows, by their nodes. Goes over the rows once, and sorts.
 pub fn seats_of(alloc: Global, rows: &[(u64, Target)]) -> Result<Vec<Seat>, AllocError>
-    ensures { IfOk result (λ v. IsPermutation (map (λ e. seating.seat_of e.1) rows.now) v.items) }
+    ensures { IfOk result (λ v. IsPermutation (seating.seats_of rows.now) v.items) }
 {
     let mut seats = seats_in_row_order(alloc, rows)?;
     seats.sort_unstable_by_key(|seat| number_of(seat.node));
@@ -25,7 +25,7 @@ pub fn seats_of(alloc: Global, rows: &[(u64, Target)]) -> Result<Vec<Seat>, Allo
 
 /// The same, in the order of the rows.
 fn seats_in_row_order(alloc: Global, rows: &[(u64, Target)]) -> Result<Vec<Seat>, AllocError>
-    ensures { IfOk result (λ v. v.items ≡ map (λ e. seating.seat_of e.1) rows.now) }
+    ensures { IfOk result (λ v. v.items ≡ seating.seats_of rows.now) }
 {
     let mut seats = Vec::with_capacity(alloc, rows.len())?;
     for row in rows {

@@ -1,11 +1,10 @@
 // The source of a copy.
 ghost use Rattle.std.specs.Prelude.{◌≡◌, ◌<◌, ◌&&◌, nat_lt, option_map, ℕ, List};
 ghost use Rattle.bm_base.specs.declared.commands.Transfer.{Transfer};
-ghost use Rattle.std.specs.Option.{IfSome};
 ghost use Rattle.bm_base.specs.Map as map;
 ghost use Rattle.bm_base.specs.Replicas.{is_draining};
 ghost use Rattle.bm_base.specs.Transfers as transfers;
-ghost use Rattle.bm_place.specs.Found.{IsLeastSource, IsCountable, senders_with};
+ghost use Rattle.bm_place.specs.Found.{IsFoundSource, senders_with};
 ghost use Rattle.bm_place.specs.Sources as sources;
 ghost use Rattle.bm_place.specs.Tables as tables;
 ghost use Rattle.bm_place.specs.Scan as scanned;
@@ -38,10 +37,7 @@ pub fn least_source(
     streams: &Streams,
 ) -> Option<StorageId>
     ensures found { (sends : ℕ → ℕ) → streams.now ≡ sources.sender_table topology.now.cluster sends
-        → IsLeastSource topology.now.cluster sends level usable.now result }
-    ensures countable { (sends : ℕ → ℕ)
-        → streams.now ≡ sources.sender_table topology.now.cluster sends
-        → IfSome result (IsCountable streams.now) }
+        → IsFoundSource topology.now.cluster streams.now sends level usable.now result }
     ensures of_transfers { (chosen : List Transfer)
         → streams.now ≡ senders_with topology.now.cluster chosen
         → result ≡ transfers.least_source topology.now.cluster chosen level usable.now }

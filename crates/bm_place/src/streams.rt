@@ -39,7 +39,7 @@ impl Streams {
     /// No node is a source yet. `Memory` where a growth of the tables is refused. Looks up each storage of the cluster once.
     pub fn new(alloc: Global, topology: &Topology) -> Result<Streams, Refusal>
         ensures none_yet { IfOk result
-            (λ t. t ≡ sources.sender_table topology.now.cluster (λ _. 0)) }
+            (λ t. t ≡ sources.sender_table topology.now.cluster tables.nothing_yet) }
         ensures of_transfers { IfOk result (λ t. t ≡ senders_with topology.now.cluster []) }
         ensures refused { IfErr result (λ e. e ≡ Memory) }
     {

@@ -3,7 +3,7 @@ ghost use Rattle.std.specs.Prelude.{◌≡◌, ◌&&◌, false, ℕ, List, optio
 ghost use Rattle.std.specs.Option.{IfSome};
 ghost use Rattle.bm_base.specs.declared.commands.Transfer.{Transfer};
 ghost use Rattle.bm_base.specs.Transfers as transfers;
-ghost use Rattle.bm_place.specs.Found.{IsLeastTarget, HasRoomFor, targets_with};
+ghost use Rattle.bm_place.specs.Found.{IsFoundTarget, targets_with};
 ghost use Rattle.bm_place.specs.Targets as targets;
 ghost use Rattle.bm_place.specs.Foremost as nodes;
 ghost use Rattle.bm_place.specs.Scan as scanned;
@@ -35,9 +35,8 @@ pub fn least_target(
     scheduled: &Scheduled,
 ) -> Option<StorageId>
     ensures found { (sent : ℕ → ℕ) → scheduled.now ≡ targets.target_table topology.now.cluster sent
-        → IsLeastTarget topology.now.cluster sent level held.now barred.now len result }
-    ensures fits { (sent : ℕ → ℕ) → scheduled.now ≡ targets.target_table topology.now.cluster sent
-        → IfSome result (HasRoomFor scheduled.now len) }
+        → IsFoundTarget topology.now.cluster scheduled.now sent level held.now barred.now len
+        result }
     ensures of_transfers { (chosen : List Transfer)
         → scheduled.now ≡ targets_with topology.now.cluster chosen
         → result ≡ transfers.least_target topology.now.cluster chosen level held.now

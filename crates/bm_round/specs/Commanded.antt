@@ -1,5 +1,7 @@
 -- What a round chooses and commands.
-use Rattle.std.specs.Prelude.{◌≡◌, ◌≤◌, ℕ, true, List, [], map, filter, take, length, replicate}
+use Rattle.std.specs.Prelude.{◌≡◌, ◌≤◌, ℕ, true, List, [], map, filter, flat_map, take, length, replicate, T}
+use Rattle.std.specs.Ordering.{nat_cmp}
+use Rattle.std.specs.FinMap.{is_sorted}
 use Rattle.std.specs.List.{All}
 use Rattle.bm_base.specs.declared.commands.Transfer.{Transfer}
 use Rattle.bm_base.specs.declared.commands.Delete.{Delete}
@@ -9,7 +11,7 @@ use Rattle.bm_base.specs.declared.round.Wish.{Wish}
 use Rattle.bm_base.specs.Map.{keys}
 use Rattle.bm_base.specs.State.{Cluster, RoundLimits}
 use Rattle.bm_base.specs.Replicas.{has_storage}
-use Rattle.bm_base.specs.Rounds.{node_commands}
+use Rattle.bm_base.specs.Rounds.{node_commands, has_commands}
 use Rattle.bm_base.specs.Choices.{chosen_transfers, transfers_over}
 
 -- these are the transfers that are chosen of these parts
@@ -34,6 +36,18 @@ first_commands most C ds n = let k = node_commands C [] ds n in record k { delet
 
 abbrev pub first_by_node : ℕ → Cluster → List Delete → List NodeCommands
 first_by_node most C ds = map (first_commands most C ds) (keys C.nodes)
+
+-- the deletes of all nodes, one node after another
+abbrev pub deletes_of_all : List NodeCommands → List Delete
+deletes_of_all ks = flat_map (λ k. k.deletes) ks
+
+-- they stand by rising number of their nodes, each node once
+abbrev pub RiseByNode : List NodeCommands → Type 0
+RiseByNode ks = T (is_sorted nat_cmp (map (λ k. (k.node, k)) ks))
+
+-- the node is told something
+abbrev pub HasCommands : NodeCommands → Type 0
+HasCommands k = has_commands k ≡ true
 
 -- each transfer has its source on the node that is told of it
 abbrev pub SendsItsOwn : Cluster → NodeCommands → Type 0

@@ -1,8 +1,6 @@
 // What each DataNode is commanded.
-ghost use Rattle.std.specs.Prelude.{◌≡◌, true, map, filter, IfOk, IfErr, T};
+ghost use Rattle.std.specs.Prelude.{◌≡◌, filter, IfOk, IfErr};
 ghost use Rattle.std.specs.List.{All};
-ghost use Rattle.std.specs.Ordering.{nat_cmp};
-ghost use Rattle.std.specs.FinMap.{is_sorted};
 ghost use Rattle.bm_base.specs.declared.refusal.Refusal.TheVariants.{Memory};
 ghost use Rattle.bm_base.specs.Rounds as rounds;
 ghost use Rattle.bm_round.specs.Commanded as commanded;
@@ -25,8 +23,8 @@ pub fn commands(
 ) -> Result<Commands, Refusal>
     ensures commands { IfOk result (λ k. k
         ≡ rounds.commands_of topology.now.cluster round chosen.now.transfers chosen.now.deletes) }
-    ensures rising { IfOk result (λ k. T (is_sorted nat_cmp (map (λ n. (n.node, n)) k.nodes))) }
-    ensures some_command { IfOk result (λ k. All (λ n. rounds.has_commands n ≡ true) k.nodes) }
+    ensures rising { IfOk result (λ k. commanded.RiseByNode k.nodes) }
+    ensures some_command { IfOk result (λ k. All commanded.HasCommands k.nodes) }
     ensures own_transfers { IfOk result
         (λ k. All (commanded.SendsItsOwn topology.now.cluster) k.nodes) }
     ensures own_deletes { IfOk result

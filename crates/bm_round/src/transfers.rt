@@ -9,6 +9,7 @@ ghost use Rattle.bm_base.specs.Choices as choices;
 ghost use Rattle.bm_place.specs.Found.{IsCountable, HasRoomFor};
 ghost use Rattle.bm_round.specs.Commanded.{with_copies};
 ghost use Rattle.bm_round.specs.Counted.{IsCounted};
+ghost use Rattle.bm_round.specs.Merging.{wishes_behind};
 
 use crate::chosen_so_far::ChosenSoFar;
 use bm_base::{Config, Refusal, Transfer, Wish};
@@ -24,10 +25,10 @@ pub(crate) fn choose_transfers(
     topology: &Topology,
     config: &Config,
 ) -> Result<Vec<Transfer>, Refusal>
-    requires apart { has_repeats (map (λ w. w.block) (map (λ w. w.now) wishes.now)) ≡ false }
+    requires apart { has_repeats (map (λ w. w.block) (wishes_behind wishes.now)) ≡ false }
     ensures transfers { IfOk result (λ v. v.items
         ≡ choices.transfers_over (limits_of config.now) topology.now.cluster []
-        (choices.one_by_one (map (λ w. w.now) wishes.now))) }
+        (choices.one_by_one (wishes_behind wishes.now))) }
     ensures refused { IfErr result (λ e. e ≡ Memory) }
 {
     if wishes.is_empty() {

@@ -1,11 +1,11 @@
 -- How many nodes stand on each rack: what a topology counts.
-use Rattle.std.specs.Prelude.{◌≡◌, ℕ, zero, suc, Bool, ◌==◌, nat_lt, if◌then◌else◌, ◌-◌, List, [], ◌∷◌, map, length, count_by, Option, Some, None}
-use Rattle.bm_base.specs.Map.{Map, by_number, entries, get, remove, revise_at}
+use Rattle.std.specs.Prelude.{◌≡◌, ℕ, zero, suc, Bool, ◌==◌, nat_lt, if◌then◌else◌, ◌-◌, List, [], ◌∷◌, length, count_by, Option, Some, None}
+use Rattle.bm_base.specs.Map.{Map, by_number, entries, get, remove, revise_at, values}
 use Rattle.bm_base.specs.Lists.{distinct}
 
 -- the racks of the nodes
 abbrev pub racks_of : Map by_number ℕ → List ℕ
-racks_of nodes = map (λ e. e.1) (entries nodes)
+racks_of nodes = values (entries nodes)
 
 -- how many nodes stand on rack r
 unfoldable pub on_rack : Map by_number ℕ → ℕ → ℕ

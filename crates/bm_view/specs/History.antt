@@ -1,5 +1,5 @@
 -- The one list of versions, and where it stands in a journal.
-use Rattle.std.specs.Prelude.{◌+◌, ◌-◌, ◌<◌, ◌≤◌, Bool, true, false, List, [], ◌∷◌, length, slice_index_or}
+use Rattle.std.specs.Prelude.{ℕ, ◌+◌, ◌-◌, ◌<◌, ◌≤◌, Bool, true, false, List, [], ◌∷◌, length, slice_index_or}
 use Rattle.std.specs.List.Sorted.{IsNonDecreasingBy}
 use mathlib.Core.List.{IsPrefix}
 use Rattle.bm_view.specs.declared.journal.Entry.{Entry}
@@ -9,6 +9,10 @@ use Rattle.bm_view.specs.Version.{opening}
 -- the last version; no list of a contract is empty
 abbrev pub last_of : List Version → Version
 last_of list = slice_index_or list (length list - 1) opening
+
+-- the last version is of so many calls at most
+abbrev pub EndsBy : ℕ → List Version → Type 0
+EndsBy calls list = (last_of list).calls ≤ calls
 
 -- it begins with the opening version, and its calls never fall
 pub record IsHistory (list : List Version) : Type 0 where

@@ -4,7 +4,7 @@ ghost use mathlib.Core.List.{IsPrefix};
 ghost use Rattle.left_right.specs.Sides.{view as sight};
 ghost use Rattle.bm_view.specs.Version.{places_in, opening};
 ghost use Rattle.bm_view.specs.Journal.{opening_log};
-ghost use Rattle.bm_view.specs.History.{last_of, shown_in, IsHistory};
+ghost use Rattle.bm_view.specs.History.{last_of, shown_in, EndsBy, IsHistory};
 ghost use Rattle.bm_view.specs.Rule.{Sees, HasSeen};
 
 use crate::count::Count;
@@ -177,7 +177,7 @@ impl Locator {
         ensures later { OnSome result (IsPrefix self.old.list self.new.list) }
         ensures told { OnSome result (All (λ known. IsPrefix known self.new.list) self.old.told) }
         ensures no_older { IfSome result
-            (λ found. All (λ known. (last_of known).calls ≤ found.calls) self.old.told) }
+            (λ found. All (EndsBy found.calls) self.old.told) }
     {
         let Some(seen) = replace_with(&mut self.seat, id, read) else {
             return None;

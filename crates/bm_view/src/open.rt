@@ -3,6 +3,7 @@ ghost use Rattle.std.specs.Prelude.{◌≡◌, ◌^◌, ◌<◌, ◌↔◌, ◌�
 ghost use Rattle.std.specs.Arc.{arc_value};
 ghost use Rattle.left_right.specs.Sides.{view as sight};
 ghost use Rattle.bm_view.specs.declared.open.TheConstants.{MAX_READERS};
+ghost use Rattle.bm_view.specs.Holders.{IsNewAt};
 ghost use Rattle.bm_view.specs.Version.{opening};
 ghost use Rattle.bm_view.specs.Journal.{opening_log};
 ghost use Rattle.bm_view.specs.Rule.{HasSeen};
@@ -70,8 +71,7 @@ fn make_locators(
     ensures shown { writer.new.desk.shown.value ≡ writer.old.desk.shown.value }
     ensures count { IfOk result (λ made. vec_len made ≡ readers) }
     ensures each { IfOk result
-        (λ made. All (λ l. l ≡ record { home = journal.now.home; list = opening ∷ []; told = [] })
-        made.items) }
+        (λ made. All (IsNewAt journal.now.home) made.items) }
 {
     let mut locators = Vec::new(alloc);
     for _ in 0..readers {
@@ -98,8 +98,7 @@ pub fn open_view<R: Wait>(
     ensures publisher { IfOk result (λ made. made.0.list ≡ opening ∷ []) }
     ensures count { IfOk result (λ made. vec_len made.1 ≡ readers) }
     ensures locators { IfOk result
-        (λ made. All (λ l. l ≡ record { home = made.0.home; list = opening ∷ []; told = [] })
-        made.1.items) }
+        (λ made. All (IsNewAt made.0.home) made.1.items) }
 {
     if readers > MAX_READERS {
         return Err(Refusal::BadConfig);

@@ -26,16 +26,14 @@ returns-clause-found c sends made =
     ∙ ap (λ f. least_source_by C f c.args.level usable) (λ i s. count_as C sends s i) in
     let least : IsLeastOf (source_cmp C streams) test usable c.storage_of.result =
     subst (IsLeastOf (source_cmp C streams) test usable) (sym chosen) (least-bears (source_cmp C streams) (source_cmp_total C streams) test usable) in
-    record { choice = chosen; least = least; drained_first = drained_taken C streams c.args.level usable c.storage_of.result least }
+    record {
+      source = record { choice = chosen; least = least; drained_first = drained_taken C streams c.args.level usable c.storage_of.result least };
+      countable =
+          subst (λ S. IfSome c.storage_of.result (IsCountable S)) (sym made) (countable C sends c.args.level (source_cmp C streams) usable c.storage_of.result least);
+    }
 
 pub returns-clause-of_transfers : goal.returns-clause-of_transfers
 unfolding least_source
 returns-clause-of_transfers c chosen made =
     let C = c.args.topology.now.cluster in
-    (returns-clause-found c (transfers_by C chosen) made).choice ∙ ap (λ f. least_source_by C f c.args.level c.args.usable.now) (λ i s. streams_as C chosen s i)
-
-pub returns-clause-countable : goal.returns-clause-countable
-returns-clause-countable c sends made =
-    let C = c.args.topology.now.cluster in
-    subst (λ S. IfSome c.storage_of.result (IsCountable S)) (sym made)
-    (countable C sends c.args.level (source_cmp C (streams_by C sends)) c.args.usable.now c.storage_of.result (returns-clause-found c sends made).least)
+    (returns-clause-found c (transfers_by C chosen) made).source.choice ∙ ap (λ f. least_source_by C f c.args.level c.args.usable.now) (λ i s. streams_as C chosen s i)

@@ -23,16 +23,15 @@ returns-clause-found c sent made =
     let chosen = c.least_fitting.ensures sent made in
     let least : IsLeastOf (target_cmp C sent held) test (keys C.storages) c.least_fitting.result =
     subst (IsLeastOf (target_cmp C sent held) test (keys C.storages)) (sym chosen) (least-bears (target_cmp C sent held) (target_cmp_total C sent held) test (keys C.storages)) in
+    let room = has_room C sent c.args.level held barred c.args.len c.least_fitting.result least in
     record {
-      choice = chosen;
-      least = least;
-      room = has_room C sent c.args.level held barred c.args.len c.least_fitting.result least;
-      unbarred_node = on_unbarred_node C sent c.args.level held barred c.args.len c.least_fitting.result least;
-      not_draining = on_kept_node C sent c.args.level held barred c.args.len c.least_fitting.result least;
-      other_rack = on_other_rack C sent c.args.level held barred c.args.len c.least_fitting.result least;
+      target = record {
+        choice = chosen;
+        least = least;
+        room = room;
+        unbarred_node = on_unbarred_node C sent c.args.level held barred c.args.len c.least_fitting.result least;
+        not_draining = on_kept_node C sent c.args.level held barred c.args.len c.least_fitting.result least;
+        other_rack = on_other_rack C sent c.args.level held barred c.args.len c.least_fitting.result least;
+      };
+      fits = subst (λ T. IfSome c.least_fitting.result (HasRoomFor T c.args.len)) (sym made) (fits_row C sent c.args.len c.least_fitting.result room);
     }
-
-pub returns-clause-fits : goal.returns-clause-fits
-returns-clause-fits c sent made =
-    subst (λ T. IfSome c.least_fitting.result (HasRoomFor T c.args.len)) (sym made)
-    (fits_row c.args.topology.now.cluster sent c.args.len c.least_fitting.result (returns-clause-found c sent made).room)
