@@ -50,23 +50,27 @@ abbrev pub is_refused : Answer → Bool
 is_refused (answer.Refused r) = true
 is_refused _ = false
 
--- Below, `step` says what a call answers, and the state that it leaves, where memory never lacks.
+-- Below, `answering` says what a call answers, and the state that it leaves, where memory never lacks: `Calls.step` is such a function.
 
--- An answer that a call may give in a state: that of the step, or want of memory where the step refuses nothing.
+-- whether memory may lack: the call takes some, and nothing else refuses it
+abbrev pub may_lack_memory : (State → Call → Answer × State) → State → Call → Bool
+may_lack_memory answering M k = call_takes_memory k && not (is_refused (answering M k).0)
+
+-- An answer that a call may give in a state: that one, or want of memory where it refuses nothing.
 abbrev pub MayAnswer : (State → Call → Answer × State) → State → Call → Answer → Type 0
-MayAnswer step M k a = (a ≡ (step M k).0) ⊎ (IsTrue (call_takes_memory k && not (is_refused (step M k).0)) × (a ≡ answer.Refused Memory))
+MayAnswer answering M k a = (a ≡ (answering M k).0) ⊎ (IsTrue (may_lack_memory answering M k) × (a ≡ answer.Refused Memory))
 
--- the state after a call that gave this answer: that of the step, but for want of memory
+-- the state after a call that gave this answer: that one, but for want of memory
 abbrev pub state_left : (State → Call → Answer × State) → State → Call → Answer → State
-state_left step M k a = if wants_memory a then M else (step M k).1
+state_left answering M k a = if wants_memory a then M else (answering M k).1
 
 -- the answers that a list of calls may give, and the state that they leave
 abbrev pub MayAnswerAll : (State → Call → Answer × State) → State → List Call → List Answer → Type 0
-MayAnswerAll step M [] [] = Unit {0}
-MayAnswerAll step M (k ∷ ks) (a ∷ rest) = MayAnswer step M k a × MayAnswerAll step (state_left step M k a) ks rest
-MayAnswerAll step M [] (a ∷ rest) = ⊥
-MayAnswerAll step M (k ∷ ks) [] = ⊥
+MayAnswerAll answering M [] [] = Unit {0}
+MayAnswerAll answering M (k ∷ ks) (a ∷ rest) = MayAnswer answering M k a × MayAnswerAll answering (state_left answering M k a) ks rest
+MayAnswerAll answering M [] (a ∷ rest) = ⊥
+MayAnswerAll answering M (k ∷ ks) [] = ⊥
 
 abbrev pub state_left_by : (State → Call → Answer × State) → State → List Call → List Answer → State
-state_left_by step M (k ∷ ks) (a ∷ rest) = state_left_by step (state_left step M k a) ks rest
-state_left_by step M _ _ = M
+state_left_by answering M (k ∷ ks) (a ∷ rest) = state_left_by answering (state_left answering M k a) ks rest
+state_left_by answering M _ _ = M

@@ -8,18 +8,53 @@ use Rattle.bm_base.specs.declared.replica.ReplicaId.{ReplicaId}
 use Rattle.bm_base.specs.declared.replica.Tag.{Tag}
 use Rattle.bm_base.specs.declared.replica.Tag.TheVariants.{Good, Stale, Bad, Stray}
 use Rattle.bm_base.specs.declared.replica.Marks.{Marks}
+use Rattle.bm_base.specs.declared.replica.BlockInfo.{BlockInfo}
 use Rattle.bm_base.specs.declared.replica.Stamp.{Stamp}
 use Rattle.bm_base.specs.declared.storage.StorageInfo.{StorageInfo}
 use Rattle.bm_base.specs.declared.event.Remaining.{Remaining}
 use Rattle.bm_base.specs.declared.event.Event.{Event}
 use Rattle.bm_base.specs.declared.event.Event.TheVariants.{Register, Dead, StorageFailed, Heartbeat, Drain, Undrain, AddBlock, DeleteBlock, SetReplication, Restamp, Received, Deleted, Corrupt, FullReport}
-use Rattle.bm_base.specs.Map.{Map, by_number, get, insert, insert_all, keep, revise, revise_at, remove}
+use Rattle.bm_base.specs.Map.{Map, by_number, get, insert, insert_all, without, revise, revise_at, remove}
 use Rattle.bm_base.specs.State.{Cluster, Holdings, State, replica_at}
 use Rattle.bm_base.specs.Replicas.{is_good, is_bad, has_storage, are_sisters, drains}
 use Rattle.bm_base.specs.Entries.{Told, expanded}
 
 abbrev pub same_stamp : Stamp → Stamp → Bool
 same_stamp a b = (a.generation == b.generation) && (a.len == b.len)
+
+-- The cluster.
+
+-- the node and its storages are there, with no remaining bytes yet, and it does not drain
+unfoldable pub register : Cluster → ℕ → ℕ → List ℕ → Cluster
+register C n rack ss = record {
+  nodes = insert C.nodes n rack;
+  draining = remove C.draining n;
+  storages = insert_all C.storages (map (λ s. (s, record { node = n; remaining = 0 })) ss);
+}
+
+-- the remaining bytes of storages that are there, one told after another, so that the last of a storage counts
+abbrev pub set_remaining : Map by_number StorageInfo → List Remaining → Map by_number StorageInfo
+set_remaining m [] = m
+set_remaining m (r ∷ rs) = set_remaining (revise_at m r.storage (λ i. record i { remaining = r.remaining })) rs
+
+unfoldable pub heartbeat : Cluster → List Remaining → Cluster
+heartbeat C rs = record C { storages = set_remaining C.storages rs }
+
+unfoldable pub without_node : Cluster → ℕ → Cluster
+without_node C n = record {
+  nodes = remove C.nodes n;
+  draining = remove C.draining n;
+  storages = without C.storages (has_storage C n);
+}
+
+unfoldable pub without_storage : Cluster → ℕ → Cluster
+without_storage C s = record C { storages = remove C.storages s }
+
+unfoldable pub drain : Cluster → ℕ → Cluster
+drain C n = record C { draining = insert C.draining n tt }
+
+unfoldable pub undrain : Cluster → ℕ → Cluster
+undrain C n = record C { draining = remove C.draining n }
 
 -- Entering a reported replica. "Was" speaks of the holdings that are handed in.
 
@@ -29,9 +64,13 @@ was_bad H p = option_map_or (λ m. is_bad m.tag) (get H.replicas p) false
 unfoldable pub was_excess : Holdings → ReplicaId → Bool
 was_excess H p = option_map_or (λ m. m.excess) (get H.replicas p) false
 
--- stray where the block is not known; else bad if it was bad; else good if the stamp is the block's; else stale
+-- of a known block: bad if it was bad; else good if the stamp is the block's; else stale
+abbrev pub tag_of_known : Holdings → ReplicaId → Stamp → BlockInfo → Tag
+tag_of_known H p stamp i = if was_bad H p then Bad else if same_stamp stamp i.stamp then Good else Stale
+
+-- stray where the block is not known
 unfoldable pub entered_tag : Holdings → ReplicaId → Stamp → Tag
-entered_tag H p stamp = option_map_or (λ i. if was_bad H p then Bad else if same_stamp stamp i.stamp then Good else Stale) (get H.blocks p.block) Stray
+entered_tag H p stamp = option_map_or (tag_of_known H p stamp) (get H.blocks p.block) Stray
 
 -- in excess if it was and is good now; not ordered
 unfoldable pub entered : Holdings → ReplicaId → Stamp → Marks
@@ -48,7 +87,7 @@ replaces C p q = (q.block == p.block) && are_sisters C p.storage q.storage
 -- the replica is there, those that it replaces leave, and the transfer to it has arrived
 unfoldable pub enter : Cluster → Holdings → ReplicaId → Stamp → Holdings
 enter C H p stamp = record H {
-  replicas = insert (keep H.replicas (λ q _. not (replaces C p q))) p (entered H p stamp);
+  replicas = insert (without H.replicas (replaces C p)) p (entered H p stamp);
   pending = remove H.pending p;
 }
 
@@ -66,29 +105,29 @@ leaves_by_report C s ts q = if q.storage == s then not (is_named ts q.block) els
 unfoldable pub report : Cluster → Holdings → ℕ → List Told → Holdings
 report C H s ts = record H {
   replicas =
-      insert_all (keep H.replicas (λ q _. not (leaves_by_report C s ts q)))
+      insert_all (without H.replicas (leaves_by_report C s ts))
       (map (λ t. (replica_at t.id s, entered H (replica_at t.id s) t.stamp)) ts);
-  pending = keep H.pending (λ q _. not ((q.storage == s) && is_named ts q.block));
+  pending = without H.pending (λ q. (q.storage == s) && is_named ts q.block);
 }
 
 -- Blocks.
 
 unfoldable pub without_pending : Holdings → ℕ → Holdings
-without_pending H b = record H { pending = keep H.pending (λ q _. not (q.block == b)) }
+without_pending H b = record H { pending = without H.pending (λ q. q.block == b) }
 
 -- the marks of the block's replicas changed
 unfoldable pub revise_block : Holdings → ℕ → (Marks → Marks) → Holdings
 revise_block H b f = record H { replicas = revise H.replicas (λ q m. if q.block == b then f m else m) }
 
--- of a deleted block
+-- The marks of a replica, but for whether its delete was ordered, which stays as it was. Of one whose block is deleted:
 abbrev pub as_stray : Marks → Marks
 as_stray m = record m { tag = Stray; excess = false }
 
--- of a replica found corrupt
+-- of one that is found corrupt:
 abbrev pub as_bad : Marks → Marks
 as_bad m = record m { tag = Bad; excess = false }
 
--- of a block with another stamp
+-- of one whose block has another stamp:
 abbrev pub as_restamped : Marks → Marks
 as_restamped m = record m { tag = (if is_good m.tag then Stale else m.tag); excess = false }
 
@@ -119,43 +158,13 @@ remove_replica H p = record H { replicas = remove H.replicas p }
 -- the replicas on the storages that pass leave, and so do the transfers to them
 unfoldable pub without_storages : Holdings → (ℕ → Bool) → Holdings
 without_storages H gone = record H {
-  replicas = keep H.replicas (λ q _. not (gone q.storage));
-  pending = keep H.pending (λ q _. not (gone q.storage));
+  replicas = without H.replicas (λ q. gone q.storage);
+  pending = without H.pending (λ q. gone q.storage);
 }
 
 -- A node begins to drain: the transfers to its storages leave. Nothing changes where it drains already.
 unfoldable pub begun_to_drain : Cluster → Holdings → ℕ → Holdings
-begun_to_drain C H n = if drains C n then H else record H { pending = keep H.pending (λ q _. not (has_storage C n q.storage)) }
-
--- The cluster.
-
--- the node and its storages are there, with no remaining bytes yet, and it does not drain
-unfoldable pub register : Cluster → ℕ → ℕ → List ℕ → Cluster
-register C n rack ss = record {
-  nodes = insert C.nodes n rack;
-  draining = remove C.draining n;
-  storages = insert_all C.storages (map (λ s. (s, record { node = n; remaining = 0 })) ss);
-}
-
--- the remaining bytes of storages that are there, one told after another, so that the last of a storage counts
-abbrev pub set_remaining : Map by_number StorageInfo → List Remaining → Map by_number StorageInfo
-set_remaining m [] = m
-set_remaining m (r ∷ rs) = set_remaining (revise_at m r.storage (λ i. record i { remaining = r.remaining })) rs
-
-unfoldable pub heartbeat : Cluster → List Remaining → Cluster
-heartbeat C rs = record C { storages = set_remaining C.storages rs }
-
-unfoldable pub without_node : Cluster → ℕ → Cluster
-without_node C n = record { nodes = remove C.nodes n; draining = remove C.draining n; storages = keep C.storages (λ s _. not (has_storage C n s)) }
-
-unfoldable pub without_storage : Cluster → ℕ → Cluster
-without_storage C s = record C { storages = remove C.storages s }
-
-unfoldable pub drain : Cluster → ℕ → Cluster
-drain C n = record C { draining = insert C.draining n tt }
-
-unfoldable pub undrain : Cluster → ℕ → Cluster
-undrain C n = record C { draining = remove C.draining n }
+begun_to_drain C H n = if drains C n then H else record H { pending = without H.pending (λ q. has_storage C n q.storage) }
 
 -- what an event makes of the cluster
 unfoldable pub change_cluster : Cluster → Event → Cluster

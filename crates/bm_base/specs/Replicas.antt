@@ -53,9 +53,13 @@ drains C n = contains_key C.draining n
 unfoldable pub is_draining : Cluster → ℕ → Bool
 is_draining C s = option_map_or (drains C) (node_of C s) false
 
--- whether two storages are different ones of one node
+-- whether two storages are of one node
+abbrev pub share_node : Cluster → ℕ → ℕ → Bool
+share_node C s t = option_map_or (λ n. has_storage C n t) (node_of C s) false
+
+-- whether they are different ones of one node
 unfoldable pub are_sisters : Cluster → ℕ → ℕ → Bool
-are_sisters C s t = not (t == s) && option_map_or (λ n. has_storage C n t) (node_of C s) false
+are_sisters C s t = not (t == s) && share_node C s t
 
 -- the storages of the block's replicas that pass a test of storage and marks, rising
 unfoldable pub storages_where : (ℕ → Marks → Bool) → Holdings → ℕ → List ℕ

@@ -3,15 +3,14 @@ use Rattle.std.specs.Prelude.{ℕ, ◌-◌, true, if◌then◌else◌, ◌==◌,
 use Rattle.bm_base.specs.declared.replica.ReplicaId.{ReplicaId}
 use Rattle.bm_base.specs.declared.replica.BlockInfo.{BlockInfo}
 use Rattle.bm_base.specs.declared.level.Level.{Level}
-use Rattle.bm_base.specs.declared.level.Level.TheVariants.{Highest, VeryUnderReplicated, UnderReplicated, BadlyDistributed}
 use Rattle.bm_base.specs.declared.commands.Transfer.{Transfer}
 use Rattle.bm_base.specs.declared.commands.Delete.{Delete}
 use Rattle.bm_base.specs.Map.{get, keys, entries}
 use Rattle.bm_base.specs.State.{Cluster, Holdings}
 use Rattle.bm_base.specs.Lists.{has}
 use Rattle.bm_base.specs.Replicas.{live, drained, storages_where}
-use Rattle.bm_base.specs.Levels.{level, is_at, level_number}
-use Rattle.bm_base.specs.Excess.{without_expired, without_unordered_excess, excess_in, marked}
+use Rattle.bm_base.specs.Levels.{level, is_at, level_number, urgent_levels}
+use Rattle.bm_base.specs.Excess.{is_expired, without_expired, without_unordered_excess, excess_in, marked}
 use Rattle.bm_base.specs.Transfers.{pending_targets, wished_count}
 use Rattle.bm_base.specs.Deletes.{deletable_on}
 use Rattle.bm_base.specs.Rounds.{finished}
@@ -25,7 +24,7 @@ started_holdings C pend r H = marked C (without_unordered_excess (without_expire
 
 -- the transfers that leave as round r begins
 unfoldable pub expired : ℕ → ℕ → Holdings → List ReplicaId
-expired pend r H = map (λ e. e.0) (filter (λ e. nat_le pend (r - e.1)) (entries H.pending))
+expired pend r H = map (λ e. e.0) (filter (λ e. is_expired pend r e.1) (entries H.pending))
 
 -- the live replicas that are too many
 unfoldable pub surplus : Cluster → Holdings → List ReplicaId
@@ -53,7 +52,7 @@ wish_at C H urgency b =
 
 -- what all blocks wish for, by level and then by block
 unfoldable pub wishes_by_block : Cluster → Holdings → List Wish
-wishes_by_block C H = flat_map (λ urgency. filter_map (wish_at C H urgency) (keys H.blocks)) (Highest ∷ VeryUnderReplicated ∷ UnderReplicated ∷ BadlyDistributed ∷ [])
+wishes_by_block C H = flat_map (λ urgency. filter_map (wish_at C H urgency) (keys H.blocks)) urgent_levels
 
 -- all replicas that are to be deleted and were not ordered to be, by storage and then by block
 unfoldable pub deletable : Cluster → Holdings → List Delete
