@@ -1,11 +1,12 @@
 -- The lines of an input: the calls that they ask for are made one after another, and what is refused is told.
-use Rattle.std.specs.Prelude.{ℕ, ◌+◌, ◌==◌, Bool, true, ◌&&◌, List, [], ◌∷◌, ◌++◌, length, nat_lt, if◌then◌else◌, Option, Some, None, is_none, codes, decimal}
+use Rattle.std.specs.Prelude.{◌≡◌, ℕ, ◌+◌, ◌==◌, Bool, true, ◌&&◌, List, [], ◌∷◌, ◌++◌, length, nat_lt, if◌then◌else◌, Option, Some, None, IfSome, is_none, codes, decimal}
 use Rattle.bm_base.specs.declared.call.Call.{Call}
 use Rattle.bm_base.specs.declared.call.Answer.{Answer}
 use Rattle.bm_base.specs.State.{State}
 use Rattle.bm_base.specs.Calls.{step}
 use Rattle.bm_base.specs.Answering.{is_refused}
 use Rattle.bm_lines.specs.declared.limits.TheConstants.{MAX_LINE}
+use Rattle.bm_lines.specs.Lines.{lines_of}
 use Rattle.bm_lines.specs.Reading.CallOf.{call_of}
 use Rattle.bm_lines.specs.Print.{answer_text}
 
@@ -44,6 +45,10 @@ after_lines M (l ∷ ls) = after_lines (after_line M l) ls
 unfoldable pub all_accepted : State → List (List ℕ) → Bool
 all_accepted M [] = true
 all_accepted M (l ∷ ls) = is_none (told M l) && all_accepted (after_line M l) ls
+
+-- the answer is whether all lines of an input are accepted, where the input is known
+abbrev pub SaysIfAccepted : Bool → State → Option (List ℕ) → Type 0
+SaysIfAccepted answer M known = IfSome known (λ input. answer ≡ all_accepted M (lines_of input))
 
 -- the note on the line of this number
 unfoldable pub note_text : ℕ → Option (List ℕ) → List ℕ

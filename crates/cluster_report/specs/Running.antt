@@ -1,11 +1,11 @@
 -- What a whole run writes.
-use Rattle.std.specs.Prelude.{◌≡◌, ⊤, ℕ, Bool, List}
+use Rattle.std.specs.Prelude.{◌≡◌, ⊤, ℕ, List}
 use Rattle.bm_base.specs.declared.config.Config.{Config}
 use Rattle.bm_base.specs.State.{State, first_state}
 use Rattle.bm_lines.specs.Lines.{lines_of}
 use Rattle.cluster_report.specs.declared.fault.Fault.{Fault}
 use Rattle.cluster_report.specs.declared.fault.Fault.TheVariants as fault
-use Rattle.cluster_report.specs.Reading.{after_lines, all_accepted, notes_text}
+use Rattle.cluster_report.specs.Reading.{after_lines, notes_text}
 use Rattle.cluster_report.specs.Reports.{report_of}
 use Rattle.cluster_report.specs.Text.{report_text}
 
@@ -16,10 +16,6 @@ state_of_input config input = after_lines (first_state config) (lines_of input)
 -- the text of the report on that state
 abbrev pub report_on : Config → List ℕ → List ℕ
 report_on config input = report_text (report_of (state_of_input config input))
-
--- whether every line was accepted
-abbrev pub is_accepted : Config → List ℕ → Bool
-is_accepted config input = all_accepted (first_state config) (lines_of input)
 
 -- the notes on the lines that were refused
 abbrev pub notes_on : Config → List ℕ → List ℕ

@@ -1,7 +1,7 @@
 // How urgent blocks are, counted by level, and the most urgent ones.
-ghost use Rattle.std.specs.Prelude.{◌≡◌, ◌++◌, IfOk, map, count_by, filter, is_none};
+ghost use Rattle.std.specs.Prelude.{◌≡◌, ◌++◌, IfOk, map, count_by, is_none};
 ghost use Rattle.bm_base.specs.Levels.{is_at, level};
-ghost use Rattle.cluster_report.specs.Levels.{leveled, levels_counted, most_urgent};
+ghost use Rattle.cluster_report.specs.Levels.{all_at, leveled, levels_counted, most_urgent};
 
 use bm_base::{BlockId, Level};
 use bm_manager::Manager;
@@ -131,7 +131,7 @@ fn and_all_at(
     urgency: Level,
 ) -> Result<Vec<Leveled>, AllocError>
     ensures { IfOk result (λ v. v.items
-        ≡ urgent.items ++ filter (λ l. is_at urgency l.level) levels.now) }
+        ≡ urgent.items ++ all_at urgency levels.now) }
 {
     let mut more = all_at(alloc, levels, urgency)?;
     urgent.append(&mut more)?;
@@ -140,7 +140,7 @@ fn and_all_at(
 
 /// Those at one level.
 fn all_at(alloc: Global, levels: &[Leveled], urgency: Level) -> Result<Vec<Leveled>, AllocError>
-    ensures { IfOk result (λ v. v.items ≡ filter (λ l. is_at urgency l.level) levels.now) }
+    ensures { IfOk result (λ v. v.items ≡ all_at urgency levels.now) }
 {
     levels
         .iter()

@@ -3,7 +3,7 @@ ghost use Rattle.std.specs.Prelude.{◌≡◌, ◌⊎◌, Some, IfOk, OnOk, IfSo
 ghost use Rattle.std.specs.Io.KnownBytes.{Appends};
 ghost use Rattle.bm_lines.specs.Lines.{lines_of};
 ghost use Rattle.cluster_report.specs.Sessions.{IsInStep};
-ghost use Rattle.cluster_report.specs.Reading.{without_end, told, after_line, after_lines, all_accepted, note_text, notes_text};
+ghost use Rattle.cluster_report.specs.Reading.{without_end, told, after_line, after_lines, SaysIfAccepted, note_text, notes_text};
 
 use crate::fault::Fault;
 use crate::session::Session;
@@ -25,8 +25,8 @@ pub fn read_lines<R: BufRead, N: Write, H: Threads + Wait + Sync>(
     requires { IsInStep session.old }
     ensures state { OnOk result (IfSome (R.remaining reader.old) (λ input.
         session.new.manager ≡ after_lines session.old.manager (lines_of input))) }
-    ensures accepted { IfOk result (λ all. IfSome (R.remaining reader.old) (λ input.
-        all ≡ all_accepted session.old.manager (lines_of input))) }
+    ensures accepted { IfOk result (λ all.
+        SaysIfAccepted all session.old.manager (R.remaining reader.old)) }
     ensures notes { OnOk result (IfSome (R.remaining reader.old) (λ input.
         Appends (N.contents notes.old) (N.contents notes.new)
         (notes_text 1 session.old.manager (lines_of input)))) }

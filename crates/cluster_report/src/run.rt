@@ -1,11 +1,12 @@
 // A whole run, from a reader to a writer.
 ghost use Rattle.std.specs.Prelude.{◌≡◌, IfOk, IfErr, IfSome, OnOk, string_bytes};
 ghost use Rattle.std.specs.Io.KnownBytes.{Appends};
+ghost use Rattle.bm_base.specs.State.{first_state};
 ghost use Rattle.bm_lines.specs.Lines.{lines_of};
-ghost use Rattle.cluster_report.specs.Reading.{after_lines, all_accepted, notes_text};
+ghost use Rattle.cluster_report.specs.Reading.{after_lines, SaysIfAccepted, notes_text};
 ghost use Rattle.cluster_report.specs.Sessions.{IsInStep};
 ghost use Rattle.cluster_report.specs.Reports.{report_of};
-ghost use Rattle.cluster_report.specs.Running.{report_on, is_accepted, notes_on, WritesNothing};
+ghost use Rattle.cluster_report.specs.Running.{report_on, notes_on, WritesNothing};
 ghost use Rattle.cluster_report.specs.Text.{report_text};
 
 use crate::fault::Fault;
@@ -32,8 +33,8 @@ pub fn run<R: BufRead, W: Write, N: Write, H: Threads + Wait + Sync>(
     // Where the reader tells its bytes, the report is that of the state after all calls that their lines ask for.
     ensures text { OnOk result (IfSome (R.remaining reader.old) (λ input.
         Appends (W.contents writer.old) (W.contents writer.new) (report_on config.now input))) }
-    ensures accepted { IfOk result (λ all. IfSome (R.remaining reader.old) (λ input.
-        all ≡ is_accepted config.now input)) }
+    ensures accepted { IfOk result (λ all.
+        SaysIfAccepted all (first_state config.now) (R.remaining reader.old)) }
     // Each line that was refused is told by its number, and no other.
     ensures notes { OnOk result (IfSome (R.remaining reader.old) (λ input.
         Appends (N.contents notes.old) (N.contents notes.new) (notes_on config.now input))) }
@@ -59,8 +60,8 @@ fn report<R: BufRead, W: Write, N: Write, H: Threads + Wait + Sync>(
     ensures text { OnOk result (IfSome (R.remaining reader.old) (λ input.
         Appends (W.contents writer.old) (W.contents writer.new)
         (report_text (report_of (after_lines session.old.manager (lines_of input)))))) }
-    ensures accepted { IfOk result (λ all. IfSome (R.remaining reader.old) (λ input.
-        all ≡ all_accepted session.old.manager (lines_of input))) }
+    ensures accepted { IfOk result (λ all.
+        SaysIfAccepted all session.old.manager (R.remaining reader.old)) }
     ensures notes { OnOk result (IfSome (R.remaining reader.old) (λ input.
         Appends (N.contents notes.old) (N.contents notes.new)
         (notes_text 1 session.old.manager (lines_of input)))) }

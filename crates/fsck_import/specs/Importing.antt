@@ -1,5 +1,5 @@
 -- What a whole run writes, and why it ends without.
-use Rattle.std.specs.Prelude.{◌≡◌, ⊤, ℕ, false, Option, Result, Ok, Err}
+use Rattle.std.specs.Prelude.{◌≡◌, ⊤, ℕ, false, Option, IfSome, Result, Ok, Err}
 use Rattle.std.specs.List.Sorted.{IsPermutation}
 use Rattle.bm_base.specs.Lists.{has_repeats}
 use Rattle.fsck_import.specs.Cuts.{Text}
@@ -31,6 +31,10 @@ pub record TellsCluster (text : Text) (remaining : ℕ) (old new : Option Text) 
 abbrev pub IsRunFault : Fault → Result Cluster Unread → Type 0
 IsRunFault (fault.Refused unread) told = told ≡ Err unread
 IsRunFault _ told = ⊤
+
+-- a fault of a run on a text, where it is known
+abbrev pub IsFaultOfRun : Fault → Option Text → Type 0
+IsFaultOfRun f known = IfSome known (λ text. IsRunFault f (cluster_of text))
 
 -- a run that ends before it writes leaves the writer as it was
 abbrev pub WritesNothing : {W : Type 0} → Fault → W → W → Type 0

@@ -1,5 +1,5 @@
 -- What a whole text says of a cluster.
-use Rattle.std.specs.Prelude.{◌≡◌, ⊤, ℕ, ◌+◌, ◌==◌, List, [], ◌∷◌, Result, Ok, Err, if◌then◌else◌}
+use Rattle.std.specs.Prelude.{◌≡◌, ⊤, ℕ, ◌+◌, ◌==◌, List, [], ◌∷◌, Option, IfSome, Result, Ok, Err, if◌then◌else◌}
 use Rattle.bm_lines.specs.Lines.{lines_of}
 use Rattle.fsck_import.specs.Cuts.{Text}
 use Rattle.fsck_import.specs.Clusters.{no_cluster, after_bytes, after_ok, at_end}
@@ -23,6 +23,10 @@ after_lines n c (line ∷ lines) = after_ok (λ d. after_lines (n + 1) d lines) 
 abbrev pub cluster_of : Text → Result Cluster Unread
 cluster_of text = after_lines 1 no_cluster (lines_of text)
 
+-- this comes of a text, where it is known
+abbrev pub TextGives : Option Text → Result Cluster Unread → Type 0
+TextGives known outcome = IfSome known (λ text. cluster_of text ≡ outcome)
+
 -- a line without the line end, 10, where it has one
 abbrev pub without_end : Text → Text
 without_end [] = []
@@ -37,3 +41,7 @@ IsReadFault fault.Read told = ⊤
 IsReadFault fault.Write told = ⊥
 IsReadFault fault.Table told = ⊥
 IsReadFault fault.LongReport told = ⊥
+
+-- a fault of reading a text, where it is known
+abbrev pub IsFaultOfText : Fault → Option Text → Type 0
+IsFaultOfText f known = IfSome known (λ text. IsReadFault f (cluster_of text))

@@ -2,10 +2,9 @@
 ghost use Rattle.std.specs.Prelude.{◌≡◌, ◌⊎◌, Ok, IfSome, IfErr, OnOk};
 ghost use Rattle.std.specs.Io.KnownBytes.{Appends};
 ghost use Rattle.fsck_import.specs.CallsFor.{calls_for};
-ghost use Rattle.fsck_import.specs.Reading.{cluster_of};
 ghost use Rattle.fsck_import.specs.NameTable.{TellsNames, table_of};
 ghost use Rattle.fsck_import.specs.Writing.{Tells, IsTableFault, IsWriteFault};
-ghost use Rattle.fsck_import.specs.Importing.{TellsCluster, IsRunFault, WritesNothing};
+ghost use Rattle.fsck_import.specs.Importing.{TellsCluster, IsFaultOfRun, WritesNothing};
 
 use crate::cluster::Cluster;
 use crate::destination::Destination;
@@ -29,8 +28,7 @@ pub fn import<R: BufRead, W: Write, N: Destination>(
         TellsCluster text remaining (W.contents writer.old) (W.contents writer.new))) }
     ensures named { OnOk result (IfSome (R.remaining reader.old) (λ text.
         TellsNames text (N.contents names.old) (N.contents names.new))) }
-    ensures refused { IfErr result
-        (λ f. IfSome (R.remaining reader.old) (λ text. IsRunFault f (cluster_of text))) }
+    ensures refused { IfErr result (λ f. IsFaultOfRun f (R.remaining reader.old)) }
     // Where a line is refused or a read fails, the writer is as it was, and so is what takes the names.
     ensures nothing_written { IfErr result (λ f. WritesNothing f writer.old writer.new) }
     ensures nothing_named { IfErr result (λ f. WritesNothing f names.old names.new) }

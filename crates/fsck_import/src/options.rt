@@ -1,5 +1,5 @@
 // The options of the program.
-ghost use Rattle.std.specs.Prelude.{◌≡◌, false, Some, IfOk, codes, map, option_map, string_bytes};
+ghost use Rattle.std.specs.Prelude.{◌≡◌, false, Some, IfOk, codes, map, option_copied, string_bytes};
 ghost use Rattle.clap.specs.Words.{FailsBy, app_of, kind_of, rule_of};
 ghost use Rattle.clap.specs.Simple.{new_rule};
 ghost use Rattle.clap.specs.declared.error.kind.ErrorKind.TheVariants.{ValueValidation};
@@ -24,7 +24,7 @@ pub struct Asked<'a> {
 pub fn asked_by<'a>(alloc: Global, words: &'a [String]) -> Result<Asked<'a>, Error>
     ensures remaining { IfOk result (λ a. Some a.remaining
         ≡ remaining_for (given (codes "remaining") (map string_bytes words.entry.now))) }
-    ensures names { IfOk result (λ a. option_map (λ s. s.now) a.names
+    ensures names { IfOk result (λ a. option_copied a.names
         ≡ given (codes "names") (map string_bytes words.entry.now)) }
     ensures refused { FailsBy (refusals_of (map string_bytes words.entry.now)) result }
 {
@@ -80,7 +80,7 @@ fn named<'a>(alloc: Global, name: &'a str) -> Arg<'a>
 
 /// The bytes that remain on each storage, by the option's text. `None` where it is no number below 2^64.
 fn remaining_for(text: Option<&str>) -> Option<u64>
-    ensures { result ≡ remaining_for (option_map (λ s. s.now) text.entry) }
+    ensures { result ≡ remaining_for (option_copied text.entry) }
 {
     match text {
         Some(text) => number_of(text),

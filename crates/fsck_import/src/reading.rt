@@ -1,6 +1,6 @@
 // A whole text, from a reader.
-ghost use Rattle.std.specs.Prelude.{◌≡◌, Ok, Err, IfOk, IfErr, IfSome, OnOk, ◌⊎◌};
-ghost use Rattle.fsck_import.specs.Reading.{cluster_of, without_end, at_line, IsReadFault};
+ghost use Rattle.std.specs.Prelude.{◌≡◌, Ok, Err, IfOk, IfErr, OnOk, ◌⊎◌};
+ghost use Rattle.fsck_import.specs.Reading.{TextGives, without_end, at_line, IsReadFault, IsFaultOfText};
 ghost use Rattle.fsck_import.specs.Clusters.{no_cluster, after_bytes, at_end};
 
 use crate::cluster::Cluster;
@@ -12,10 +12,8 @@ use std::io::{BufRead, ErrorKind};
 
 /// The cluster of which a text tells. No more of the text is held than one line.
 pub fn read_cluster<R: BufRead>(alloc: Global, reader: &mut R) -> Result<Cluster, Fault>
-    ensures text { IfOk result
-        (λ c. IfSome (R.remaining reader.old) (λ text. cluster_of text ≡ Ok c)) }
-    ensures refused { IfErr result
-        (λ f. IfSome (R.remaining reader.old) (λ text. IsReadFault f (cluster_of text))) }
+    ensures text { IfOk result (λ c. TextGives (R.remaining reader.old) (Ok c)) }
+    ensures refused { IfErr result (λ f. IsFaultOfText f (R.remaining reader.old)) }
 {
     let mut cluster = Cluster::new(alloc);
     if let Err(fault) = take_text(alloc, reader, &mut cluster) {
@@ -27,10 +25,8 @@ pub fn read_cluster<R: BufRead>(alloc: Global, reader: &mut R) -> Result<Cluster
 /// Takes a whole text.
 fn take_text<R: BufRead>(alloc: Global, reader: &mut R, cluster: &mut Cluster) -> Result<(), Fault>
     requires { cluster.old ≡ no_cluster }
-    ensures text { OnOk result (IfSome (R.remaining reader.old)
-        (λ text. cluster_of text ≡ Ok cluster.new)) }
-    ensures refused { IfErr result
-        (λ f. IfSome (R.remaining reader.old) (λ text. IsReadFault f (cluster_of text))) }
+    ensures text { OnOk result (TextGives (R.remaining reader.old) (Ok cluster.new)) }
+    ensures refused { IfErr result (λ f. IsFaultOfText f (R.remaining reader.old)) }
 {
     let number = take_lines(alloc, reader, cluster)?;
     ended(cluster, number)
@@ -43,10 +39,9 @@ fn take_lines<R: BufRead>(
     cluster: &mut Cluster,
 ) -> Result<u64, Fault>
     requires { cluster.old ≡ no_cluster }
-    ensures text { IfOk result (λ n. IfSome (R.remaining reader.old)
-        (λ text. cluster_of text ≡ at_line n (at_end cluster.new))) }
-    ensures refused { IfErr result
-        (λ f. IfSome (R.remaining reader.old) (λ text. IsReadFault f (cluster_of text))) }
+    ensures text { IfOk result (λ n. TextGives (R.remaining reader.old)
+        (at_line n (at_end cluster.new))) }
+    ensures refused { IfErr result (λ f. IsFaultOfText f (R.remaining reader.old)) }
 {
     let mut line = Vec::new(alloc);
     for number in 1..u64::MAX {

@@ -1,5 +1,5 @@
 -- What is read of the tokens of a line. Private clauses alone cite it.
-use Rattle.std.specs.Prelude.{◌≡◌, ℕ, Bool, true, false, List, [], ◌∷◌, ◌++◌, length, if◌then◌else◌, Option, Some, None, option_map, option_and_then, unwrap_or, codes}
+use Rattle.std.specs.Prelude.{◌≡◌, ℕ, Bool, true, false, List, [], ◌∷◌, ◌++◌, length, if◌then◌else◌, Option, Some, None, option_map, option_and_then, unwrap_or, codes, vec_items}
 use Rattle.std.specs.Str.{bytes_eq}
 use Rattle.json.specs.Token.{Token}
 use Rattle.json.specs.Json as json
@@ -43,6 +43,17 @@ TakesItems depth old P new = (ds : Items) × (items_at depth (length old) old �
 -- and of members
 abbrev pub TakesMembers : ℕ → List Token → (Data → Type 0) → List Token → Type 0
 TakesMembers depth old P new = (ms : Members) × (members_at depth (length old) no_members old ≡ Some (ms, new)) × P (object ms)
+
+-- `old` is a value from which f makes the result, and then `new`
+abbrev pub Reads : {A : Type 0} → (Data → A) → ℕ → List Token → A → List Token → Type 0
+Reads f depth old result new = Takes depth old (λ d. result ≡ f d) new
+
+-- the same of items, as a list
+abbrev pub ReadsItems : {A : Type 0} → (List Data → A) → ℕ → List Token → A → List Token → Type 0
+ReadsItems f depth old result new = TakesItems depth old (λ ds. result ≡ f ds) new
+
+abbrev pub IsNoArray : Data → Type 0
+IsNoArray d = as_array d ≡ None
 
 abbrev pub opens_array : Token → Bool
 opens_array Token.begin_array = true
@@ -130,9 +141,9 @@ op_in d = option_and_then op_of (as_str d)
 pub record Becomes (old new : Fields) (name : List ℕ) (d : Data) : Type 0 where
   pub op : new.op ≡ after (codes "op") name (op_in d) old.op
   pub numbers : new.numbers ≡ numbers_after name (number_in d) old.numbers
-  pub storages : option_map (λ v. v.items) new.storages ≡ after (codes "storages") name (each_in small_in d) (option_map (λ v. v.items) old.storages)
-  pub remaining : option_map (λ v. v.items) new.remaining ≡ after (codes "remaining") name (each_in remaining_in d) (option_map (λ v. v.items) old.remaining)
-  pub blocks : option_map (λ v. v.items) new.blocks ≡ after (codes "blocks") name (each_in entry_in d) (option_map (λ v. v.items) old.blocks)
+  pub storages : option_map vec_items new.storages ≡ after (codes "storages") name (each_in small_in d) (option_map vec_items old.storages)
+  pub remaining : option_map vec_items new.remaining ≡ after (codes "remaining") name (each_in remaining_in d) (option_map vec_items old.remaining)
+  pub blocks : option_map vec_items new.blocks ≡ after (codes "blocks") name (each_in entry_in d) (option_map vec_items old.blocks)
 
 pub record Knows (fields : Fields) (d : Data) : Type 0 where
   pub op : fields.op ≡ option_and_then op_of (option_and_then as_str (get (codes "op") d))
@@ -143,6 +154,6 @@ pub record Knows (fields : Fields) (d : Data) : Type 0 where
   pub rack : fields.numbers.rack ≡ number_field (codes "rack") d
   pub generation : fields.numbers.generation ≡ number_field (codes "gen") d
   pub len : fields.numbers.len ≡ number_field (codes "len") d
-  pub storages : option_map (λ v. v.items) fields.storages ≡ small_list_field (codes "storages") d
-  pub remaining : option_map (λ v. v.items) fields.remaining ≡ remaining_field (codes "remaining") d
-  pub blocks : option_map (λ v. v.items) fields.blocks ≡ entries_field (codes "blocks") d
+  pub storages : option_map vec_items fields.storages ≡ small_list_field (codes "storages") d
+  pub remaining : option_map vec_items fields.remaining ≡ remaining_field (codes "remaining") d
+  pub blocks : option_map vec_items fields.blocks ≡ entries_field (codes "blocks") d

@@ -1,7 +1,8 @@
 // The call that a line asks for.
-ghost use Rattle.std.specs.Prelude.{◌≡◌, true, IfOk, IfSome};
+ghost use Rattle.std.specs.Prelude.{◌≡◌, true, IfOk};
 ghost use Rattle.serde_json.specs.Data.{Data};
 ghost use Rattle.bm_lines.specs.Asking.{has_op};
+ghost use Rattle.bm_lines.specs.Found.{IfFound};
 ghost use Rattle.bm_lines.specs.Reading.CallOf.{call_for, call_in, call_of};
 ghost use Rattle.bm_lines.specs.Reading.Tokens.{Knows};
 
@@ -17,7 +18,7 @@ use std::alloc::{AllocError, Global};
 pub fn call_of(alloc: Global, line: &[u8]) -> Result<Option<Call>, AllocError>
     ensures call { IfOk result (λ o. o ≡ call_of line.now) }
     // It can be written again: `line_of` asks for no more.
-    ensures has_op { IfOk result (λ o. IfSome o (λ k. has_op k ≡ true)) }
+    ensures has_op { IfFound result (λ k. has_op k ≡ true) }
 {
     match usual_call(alloc, line)? {
         Some(call) => Ok(Some(call)),
@@ -29,7 +30,7 @@ pub fn call_of(alloc: Global, line: &[u8]) -> Result<Option<Call>, AllocError>
 #[inline(never)]
 fn read_call(alloc: Global, line: &[u8]) -> Result<Option<Call>, AllocError>
     ensures call { IfOk result (λ o. o ≡ call_of line.now) }
-    ensures has_op { IfOk result (λ o. IfSome o (λ k. has_op k ≡ true)) }
+    ensures has_op { IfFound result (λ k. has_op k ≡ true) }
 {
     let Ok(text) = str::from_utf8(line) else {
         return Ok(None);

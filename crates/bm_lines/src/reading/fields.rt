@@ -4,7 +4,7 @@ ghost use Rattle.json.specs.declared.error.Error.TheVariants.{OutOfMemory};
 ghost use Rattle.serde_json.specs.Data.{Data, object, no_members};
 ghost use Rattle.serde_json.specs.Read.{read};
 ghost use Rattle.bm_lines.specs.Reading.CallOf.{call_in};
-ghost use Rattle.bm_lines.specs.Reading.Tokens.{value_at, members_at, Takes, TakesMembers, Becomes, Knows, op_in};
+ghost use Rattle.bm_lines.specs.Reading.Tokens.{value_at, members_at, Takes, TakesMembers, Reads, Becomes, Knows, op_in};
 
 use super::lists::{entries_in, remaining_in, storages_in};
 use super::numbers::Numbers;
@@ -71,7 +71,7 @@ impl Fields {
 
 /// The next value as the name of a call.
 fn op_in(reader: &mut Reader<'_>) -> Result<Option<Op>, Invalid>
-    ensures ok { IfOk result (λ o. Takes 126 reader.old (λ d. o ≡ op_in d) reader.new) }
+    ensures ok { IfOk result (λ o. Reads op_in 126 reader.old o reader.new) }
     ensures err { OnErr result (value_at 126 reader.old ≡ None) }
     ensures shorter { OnOk result (length reader.new < length reader.old) }
 {

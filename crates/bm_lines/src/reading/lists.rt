@@ -1,8 +1,8 @@
 // The lists of a line's object: `None` where the value is no array, or where an item of it is none of the list.
-ghost use Rattle.std.specs.Prelude.{◌≡◌, ◌≢◌, ◌<◌, ◌≤◌, length, None, IfOk, IfErr, OnOk, option_map};
+ghost use Rattle.std.specs.Prelude.{◌≡◌, ◌≢◌, ◌<◌, ◌≤◌, length, None, IfOk, IfErr, OnOk, option_map, vec_items};
 ghost use Rattle.json.specs.declared.error.Error.TheVariants.{OutOfMemory};
 ghost use Rattle.bm_lines.specs.Reading.Fields.{small_in, entry_in, remaining_in, each};
-ghost use Rattle.bm_lines.specs.Reading.Tokens.{value_at, items_at, Takes, TakesItems, with_item, each_in};
+ghost use Rattle.bm_lines.specs.Reading.Tokens.{value_at, items_at, Reads, ReadsItems, with_item, each_in};
 
 use super::numbers::storage_of;
 use super::passing::{begins_array, number_in};
@@ -14,7 +14,7 @@ use std::alloc::{AllocError, Global};
 /// The list with one item more, unless the list or the item is missing.
 fn with_item<T: Drop>(list: Option<Vec<T>>, item: Option<T>) -> Result<Option<Vec<T>>, AllocError>
     ensures { IfOk result
-        (λ o. option_map (λ v. v.items) o ≡ with_item (option_map (λ v. v.items) list) item) }
+        (λ o. option_map vec_items o ≡ with_item (option_map vec_items list) item) }
 {
     match (list, item) {
         (Some(mut list), Some(item)) => {
@@ -31,8 +31,8 @@ pub fn storages_in(
     reader: &mut Reader<'_>,
     depth: usize,
 ) -> Result<Option<Vec<StorageId>>, Error>
-    ensures ok { IfOk result (λ o. Takes depth reader.old
-        (λ d. option_map (λ v. v.items) o ≡ each_in small_in d) reader.new) }
+    ensures ok { IfOk result (λ o. Reads (each_in small_in) depth reader.old
+        (option_map vec_items o) reader.new) }
     ensures err { IfErr result (λ e. e ≢ OutOfMemory → value_at depth reader.old ≡ None) }
     ensures shorter { OnOk result (length reader.new < length reader.old) }
 {
@@ -48,8 +48,8 @@ fn storages_among(
     reader: &mut Reader<'_>,
     depth: usize,
 ) -> Result<Option<Vec<StorageId>>, Error>
-    ensures ok { IfOk result (λ o. TakesItems depth reader.old
-        (λ ds. option_map (λ v. v.items) o ≡ each small_in ds) reader.new) }
+    ensures ok { IfOk result (λ o. ReadsItems (each small_in) depth reader.old
+        (option_map vec_items o) reader.new) }
     ensures err { IfErr result (λ e. e ≢ OutOfMemory
         → items_at depth (length reader.old) reader.old ≡ None) }
     ensures shorter { OnOk result (length reader.new ≤ length reader.old) }
@@ -69,8 +69,8 @@ pub fn remaining_in(
     reader: &mut Reader<'_>,
     depth: usize,
 ) -> Result<Option<Vec<Remaining>>, Error>
-    ensures ok { IfOk result (λ o. Takes depth reader.old
-        (λ d. option_map (λ v. v.items) o ≡ each_in remaining_in d) reader.new) }
+    ensures ok { IfOk result (λ o. Reads (each_in remaining_in) depth reader.old
+        (option_map vec_items o) reader.new) }
     ensures err { IfErr result (λ e. e ≢ OutOfMemory → value_at depth reader.old ≡ None) }
     ensures shorter { OnOk result (length reader.new < length reader.old) }
 {
@@ -86,8 +86,8 @@ fn remaining_among(
     reader: &mut Reader<'_>,
     depth: usize,
 ) -> Result<Option<Vec<Remaining>>, Error>
-    ensures ok { IfOk result (λ o. TakesItems depth reader.old
-        (λ ds. option_map (λ v. v.items) o ≡ each remaining_in ds) reader.new) }
+    ensures ok { IfOk result (λ o. ReadsItems (each remaining_in) depth reader.old
+        (option_map vec_items o) reader.new) }
     ensures err { IfErr result (λ e. e ≢ OutOfMemory
         → items_at depth (length reader.old) reader.old ≡ None) }
     ensures shorter { OnOk result (length reader.new ≤ length reader.old) }
@@ -108,8 +108,8 @@ pub fn entries_in(
     reader: &mut Reader<'_>,
     depth: usize,
 ) -> Result<Option<Vec<Entry>>, Error>
-    ensures ok { IfOk result (λ o. Takes depth reader.old
-        (λ d. option_map (λ v. v.items) o ≡ each_in entry_in d) reader.new) }
+    ensures ok { IfOk result (λ o. Reads (each_in entry_in) depth reader.old
+        (option_map vec_items o) reader.new) }
     ensures err { IfErr result (λ e. e ≢ OutOfMemory → value_at depth reader.old ≡ None) }
     ensures shorter { OnOk result (length reader.new < length reader.old) }
 {
@@ -125,8 +125,8 @@ fn entries_among(
     reader: &mut Reader<'_>,
     depth: usize,
 ) -> Result<Option<Vec<Entry>>, Error>
-    ensures ok { IfOk result (λ o. TakesItems depth reader.old
-        (λ ds. option_map (λ v. v.items) o ≡ each entry_in ds) reader.new) }
+    ensures ok { IfOk result (λ o. ReadsItems (each entry_in) depth reader.old
+        (option_map vec_items o) reader.new) }
     ensures err { IfErr result (λ e. e ≢ OutOfMemory
         → items_at depth (length reader.old) reader.old ≡ None) }
     ensures shorter { OnOk result (length reader.new ≤ length reader.old) }

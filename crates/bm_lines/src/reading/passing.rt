@@ -3,9 +3,8 @@ ghost use Rattle.std.specs.Prelude.{◌≡◌, ◌<◌, ◌≤◌, ◌∷◌, tr
 ghost use Rattle.json.specs.Reads.{token_of};
 ghost use Rattle.json.specs.Token.{begin_array};
 ghost use Rattle.serde_json.specs.Data.{no_members};
-ghost use Rattle.serde_json.specs.Find.{as_array};
 ghost use Rattle.bm_lines.specs.Reading.Fields.{number_in};
-ghost use Rattle.bm_lines.specs.Reading.Tokens.{value_at, items_at, members_at, Takes, TakesItems, TakesMembers, Shows, seen_number, seen_text, opens_array, opens_object};
+ghost use Rattle.bm_lines.specs.Reading.Tokens.{value_at, items_at, members_at, Takes, TakesItems, TakesMembers, Reads, IsNoArray, Shows, seen_number, seen_text, opens_array, opens_object};
 
 use super::json_numbers::number_of;
 use json::{Invalid, Reader, Token};
@@ -121,7 +120,7 @@ pub fn begins_array(reader: &mut Reader<'_>, depth: usize) -> Result<bool, Inval
     ensures array { IfOk result (λ is_so. is_so ≡ true
         → (0 < depth) × (reader.old ≡ begin_array ∷ reader.new)) }
     ensures other { IfOk result (λ is_so. is_so ≡ false
-        → Takes depth reader.old (λ d. as_array d ≡ None) reader.new) }
+        → Takes depth reader.old IsNoArray reader.new) }
     ensures err { OnErr result (value_at depth reader.old ≡ None) }
     ensures shorter { OnOk result (length reader.new < length reader.old) }
 {
@@ -148,7 +147,7 @@ pub fn opens_object(token: &Token<'_>) -> bool
 
 /// The next value as a whole number below 2^64.
 pub fn number_in(reader: &mut Reader<'_>, depth: usize) -> Result<Option<u64>, Invalid>
-    ensures ok { IfOk result (λ n. Takes depth reader.old (λ d. n ≡ number_in d) reader.new) }
+    ensures ok { IfOk result (λ n. Reads number_in depth reader.old n reader.new) }
     ensures err { OnErr result (value_at depth reader.old ≡ None) }
     ensures shorter { OnOk result (length reader.new < length reader.old) }
 {

@@ -1,7 +1,7 @@
 // Short arrays of numbers, as an item of a report or a heartbeat.
 ghost use Rattle.std.specs.Prelude.{◌≡◌, ◌≤◌, ◌<◌, length, None, IfOk, OnOk, OnErr};
 ghost use Rattle.bm_lines.specs.Reading.Fields.{entry_from, remaining_from};
-ghost use Rattle.bm_lines.specs.Reading.Tokens.{value_at, items_at, Takes, TakesItems, row_in, row_among, row_with, row_entry, row_remaining};
+ghost use Rattle.bm_lines.specs.Reading.Tokens.{value_at, items_at, Reads, ReadsItems, row_in, row_among, row_with, row_entry, row_remaining};
 
 use super::numbers::{small, stamp_from};
 use super::passing::{begins_array, number_in};
@@ -58,7 +58,7 @@ impl Row {
 
 /// The next value as a row.
 pub fn row_in(reader: &mut Reader<'_>, depth: usize) -> Result<Row, Invalid>
-    ensures ok { IfOk result (λ row. Takes depth reader.old (λ d. row ≡ row_in d) reader.new) }
+    ensures ok { IfOk result (λ row. Reads row_in depth reader.old row reader.new) }
     ensures err { OnErr result (value_at depth reader.old ≡ None) }
     ensures shorter { OnOk result (length reader.new < length reader.old) }
 {
@@ -70,8 +70,7 @@ pub fn row_in(reader: &mut Reader<'_>, depth: usize) -> Result<Row, Invalid>
 }
 
 fn row_among(reader: &mut Reader<'_>, depth: usize) -> Result<Row, Invalid>
-    ensures ok { IfOk result
-        (λ row. TakesItems depth reader.old (λ ds. row ≡ row_among ds) reader.new) }
+    ensures ok { IfOk result (λ row. ReadsItems row_among depth reader.old row reader.new) }
     ensures err { OnErr result (items_at depth (length reader.old) reader.old ≡ None) }
     ensures shorter { OnOk result (length reader.new ≤ length reader.old) }
 {

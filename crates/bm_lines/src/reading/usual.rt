@@ -1,7 +1,8 @@
 // Lines as `line_of` writes them, read with no value in between. Whatever else a line may be is left to `serde_json`.
-ghost use Rattle.std.specs.Prelude.{◌≡◌, ◌++◌, true, IfOk, IfSome, codes};
+ghost use Rattle.std.specs.Prelude.{◌≡◌, ◌++◌, true, IfSome, codes};
 ghost use Rattle.bm_lines.specs.Asking.{has_op, line_text};
 ghost use Rattle.bm_lines.specs.Fitting.{FitsWhole};
+ghost use Rattle.bm_lines.specs.Found.{IfFound};
 ghost use Rattle.bm_lines.specs.Reading.Usual.{Asks, op_text};
 
 use super::op::Op;
@@ -16,9 +17,9 @@ use std::alloc::{AllocError, Global};
 /// The call that a line asks for, where the line stands as `line_of` writes it and its op is one of those that come often. `None` says
 /// nothing of a line.
 pub fn usual_call(alloc: Global, line: &[u8]) -> Result<Option<Call>, AllocError>
-    ensures text { IfOk result (λ o. IfSome o (λ k. line.now ≡ line_text k)) }
-    ensures fits { IfOk result (λ o. IfSome o (λ k. FitsWhole k)) }
-    ensures has_op { IfOk result (λ o. IfSome o (λ k. has_op k ≡ true)) }
+    ensures text { IfFound result (λ k. line.now ≡ line_text k) }
+    ensures fits { IfFound result FitsWhole }
+    ensures has_op { IfFound result (λ k. has_op k ≡ true) }
 {
     let Some(behind) = after(line, b"{\"op\":\"") else {
         return Ok(None);
@@ -78,7 +79,7 @@ fn seldom_op_then(bytes: &[u8]) -> Option<(Op, &[u8])>
 /// The call of this op with these fields, which end the line.
 #[inline(always)]
 fn call_with(alloc: Global, op: Op, fields: &[u8]) -> Result<Option<Call>, AllocError>
-    ensures { IfOk result (λ o. IfSome o (λ k. Asks (op_text op) fields.now k)) }
+    ensures { IfFound result (Asks (op_text op) fields.now) }
 {
     match op {
         Op::Add => Ok(add(fields)),

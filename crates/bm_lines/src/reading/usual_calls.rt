@@ -1,7 +1,8 @@
 // The fields of the usual calls, in the order in which they are written: each up to the end of the line.
-ghost use Rattle.std.specs.Prelude.{◌≡◌, ◌++◌, true, IfOk, IfSome, codes};
+ghost use Rattle.std.specs.Prelude.{◌≡◌, ◌++◌, true, IfSome, codes};
 ghost use Rattle.bm_base.specs.Fitting.{FitsStamp};
 ghost use Rattle.bm_lines.specs.Asking.{stamp_text};
+ghost use Rattle.bm_lines.specs.Found.{IfFound};
 ghost use Rattle.bm_lines.specs.Reading.Usual.{Asks};
 
 use super::usual_entries::entries_then;
@@ -108,7 +109,7 @@ pub fn level(fields: &[u8]) -> Option<Call>
 }
 
 pub fn report(alloc: Global, fields: &[u8]) -> Result<Option<Call>, AllocError>
-    ensures { IfOk result (λ o. IfSome o (λ k. Asks (codes "report") fields.now k)) }
+    ensures { IfFound result (Asks (codes "report") fields.now) }
 {
     let Some((storage, fields)) = small_then(fields, b",\"storage\":") else {
         return Ok(None);
@@ -126,7 +127,7 @@ pub fn report(alloc: Global, fields: &[u8]) -> Result<Option<Call>, AllocError>
 }
 
 pub fn heartbeat(alloc: Global, fields: &[u8]) -> Result<Option<Call>, AllocError>
-    ensures { IfOk result (λ o. IfSome o (λ k. Asks (codes "heartbeat") fields.now k)) }
+    ensures { IfFound result (Asks (codes "heartbeat") fields.now) }
 {
     let Some((node, fields)) = small_then(fields, b",\"node\":") else {
         return Ok(None);

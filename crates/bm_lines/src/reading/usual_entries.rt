@@ -1,7 +1,8 @@
 // The entries of a report as they are written.
-ghost use Rattle.std.specs.Prelude.{◌≡◌, ◌++◌, ◌<◌, All, IfOk, IfSome, codes, length};
+ghost use Rattle.std.specs.Prelude.{◌≡◌, ◌++◌, ◌<◌, All, IfSome, codes, length};
 ghost use Rattle.bm_lines.specs.Asking.{list_text, entry_text, with_commas};
 ghost use Rattle.bm_lines.specs.Fitting.{FitsEntry};
+ghost use Rattle.bm_lines.specs.Found.{IfFound};
 
 use super::usual_numbers::{after, number_then};
 use bm_base::{BlockId, Entry, Gen, Stamp};
@@ -12,9 +13,9 @@ pub fn entries_then<'l>(
     alloc: Global,
     fields: &'l [u8],
 ) -> Result<Option<(Vec<Entry>, &'l [u8])>, AllocError>
-    ensures text { IfOk result (λ o. IfSome o (λ p. fields.now
-        ≡ list_text (codes "blocks") entry_text p.0.items ++ p.1.now)) }
-    ensures fits { IfOk result (λ o. IfSome o (λ p. All FitsEntry p.0.items)) }
+    ensures text { IfFound result (λ p. fields.now
+        ≡ list_text (codes "blocks") entry_text p.0.items ++ p.1.now) }
+    ensures fits { IfFound result (λ p. All FitsEntry p.0.items) }
 {
     let Some(list) = after(fields, b",\"blocks\":[") else {
         return Ok(None);
@@ -33,9 +34,9 @@ fn entry_list<'l>(
     alloc: Global,
     list: &'l [u8],
 ) -> Result<Option<(Vec<Entry>, &'l [u8])>, AllocError>
-    ensures text { IfOk result
-        (λ o. IfSome o (λ p. list.now ≡ with_commas entry_text p.0.items ++ p.1.now)) }
-    ensures fits { IfOk result (λ o. IfSome o (λ p. All FitsEntry p.0.items)) }
+    ensures text { IfFound result
+        (λ p. list.now ≡ with_commas entry_text p.0.items ++ p.1.now) }
+    ensures fits { IfFound result (λ p. All FitsEntry p.0.items) }
 {
     let mut entries = Vec::new(alloc);
     let Some((first, mut rest)) = entry_then(list) else {

@@ -1,7 +1,8 @@
 // The remaining bytes of a heartbeat as they are written.
-ghost use Rattle.std.specs.Prelude.{◌≡◌, ◌++◌, ◌<◌, All, IfOk, IfSome, codes, length};
+ghost use Rattle.std.specs.Prelude.{◌≡◌, ◌++◌, ◌<◌, All, IfSome, codes, length};
 ghost use Rattle.bm_lines.specs.Asking.{list_text, remaining_text, with_commas};
 ghost use Rattle.bm_lines.specs.Fitting.{FitsRemaining};
+ghost use Rattle.bm_lines.specs.Found.{IfFound};
 
 use super::usual_numbers::{after, number_then, small_then};
 use bm_base::{Remaining, StorageId};
@@ -12,9 +13,9 @@ pub fn remaining_then<'l>(
     alloc: Global,
     fields: &'l [u8],
 ) -> Result<Option<(Vec<Remaining>, &'l [u8])>, AllocError>
-    ensures text { IfOk result (λ o. IfSome o (λ p. fields.now
-        ≡ list_text (codes "remaining") remaining_text p.0.items ++ p.1.now)) }
-    ensures fits { IfOk result (λ o. IfSome o (λ p. All FitsRemaining p.0.items)) }
+    ensures text { IfFound result (λ p. fields.now
+        ≡ list_text (codes "remaining") remaining_text p.0.items ++ p.1.now) }
+    ensures fits { IfFound result (λ p. All FitsRemaining p.0.items) }
 {
     let Some(list) = after(fields, b",\"remaining\":[") else {
         return Ok(None);
@@ -33,9 +34,9 @@ fn remaining_list<'l>(
     alloc: Global,
     list: &'l [u8],
 ) -> Result<Option<(Vec<Remaining>, &'l [u8])>, AllocError>
-    ensures text { IfOk result
-        (λ o. IfSome o (λ p. list.now ≡ with_commas remaining_text p.0.items ++ p.1.now)) }
-    ensures fits { IfOk result (λ o. IfSome o (λ p. All FitsRemaining p.0.items)) }
+    ensures text { IfFound result
+        (λ p. list.now ≡ with_commas remaining_text p.0.items ++ p.1.now) }
+    ensures fits { IfFound result (λ p. All FitsRemaining p.0.items) }
 {
     let mut told = Vec::new(alloc);
     let Some((first, mut rest)) = told_then(list) else {

@@ -1,4 +1,4 @@
-use Rattle.std.proofs.Common.{◌≡◌, ◌<◌, ◌∷◌, option_map, arith}
+use Rattle.std.proofs.Common.{◌≡◌, ◌<◌, ◌∷◌, option_map, vec_items, arith}
 use Rattle.std.proofs.lemmas.Result.{IfOk-weaker, IfErr-weaker}
 use Rattle.json.specs.Token.{begin_array}
 use Rattle.bm_lines.specs.Reading.Fields.{each, small_in}
@@ -8,7 +8,7 @@ use Rattle.bm_lines.proofs.reading.lists.storages_in.Goals as goal
 pub returns-then-branch-clause-ok : goal.returns-then-branch-clause-ok
 returns-then-branch-clause-ok c =
     let opened : (0 < c.args.depth) × (c.args.reader.now ≡ begin_array ∷ c.begins_array.new.reader) = grind arith in
-    IfOk-weaker c.storages_among.result _ _ (λ o. takes_array c.args.depth c.args.reader.now c.begins_array.new.reader _ (λ ds. option_map (λ v. v.items) o ≡ each small_in ds) _ opened (λ ds h. h)) c.storages_among.ensures.ok
+    IfOk-weaker c.storages_among.result _ _ (λ o. takes_array c.args.depth c.args.reader.now c.begins_array.new.reader _ (λ ds. option_map vec_items o ≡ each small_in ds) _ opened (λ ds h. h)) c.storages_among.ensures.ok
 
 pub returns-then-branch-clause-err : goal.returns-then-branch-clause-err
 returns-then-branch-clause-err c =
