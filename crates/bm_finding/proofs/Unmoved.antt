@@ -8,7 +8,8 @@ use Rattle.bm_base.specs.Map.{Map, get, empty, entries}
 use Rattle.bm_base.specs.State.{by_replica}
 use Rattle.bm_base.specs.Lists.{has}
 use Rattle.bm_base.proofs.MapLaws.{same_map, get-empty, entries-keep}
-use Rattle.bm_pending.specs.OnTheWay.{OnTheWay, blocks_in, is_expired}
+use Rattle.bm_base.specs.Excess.{is_expired}
+use Rattle.bm_pending.specs.OnTheWay.{OnTheWay, blocks_in}
 use Rattle.bm_pending.specs.Remaining.{targets_left}
 
 module _ (p : OnTheWay) (listed : (q : ReplicaId) → IsSome (get p.map q) → has (blocks_in p) q.block ≡ true) (none : length (blocks_in p) ≡ 0) where

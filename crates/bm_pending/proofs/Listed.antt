@@ -15,7 +15,8 @@ use Rattle.bm_base.specs.declared.replica.ReplicaId.{ReplicaId}
 use Rattle.bm_base.specs.Map.{Map, entries, get, keep}
 use Rattle.bm_base.specs.State.{by_replica, replica_at, replica_cmp}
 use Rattle.bm_base.proofs.MapLaws.{same_map, entries-keep}
-use Rattle.bm_pending.specs.OnTheWay.{is_expired, expired_of}
+use Rattle.bm_base.specs.Excess.{is_expired}
+use Rattle.bm_pending.specs.OnTheWay.{expired_of}
 use Rattle.bm_pending.specs.Inside.{Targets, map_of, targets_at}
 use Rattle.bm_pending.proofs.Seeing.{get-map_of}
 use Rattle.bm_pending.proofs.Changes.{is_sorted-filter, get-kept}

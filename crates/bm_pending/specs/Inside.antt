@@ -7,7 +7,7 @@ use Rattle.std.specs.Map.{lookup}
 use Rattle.smallvec.specs.SmallVec.{SmallVec}
 use Rattle.bm_base.specs.Map.{Map, empty, insert, keep}
 use Rattle.bm_base.specs.State.{by_replica, replica_at}
-use Rattle.bm_pending.specs.OnTheWay.{is_expired}
+use Rattle.bm_base.specs.Excess.{is_expired}
 
 -- the targets of one block with the rounds of their commands
 abbrev pub Targets : Type 0

@@ -1,11 +1,12 @@
 -- What a contract sees of the transfers on their way.
 -- Source: Hadoop 2's PendingReplicationBlocks.
-use Rattle.std.specs.Prelude.{ℕ, Bool, ◌-◌, ◌==◌, nat_le, nat_eq, List, map, filter}
+use Rattle.std.specs.Prelude.{ℕ, ◌==◌, nat_eq, List, map, filter}
 use Rattle.std.specs.Option.{unwrap_or}
 use Rattle.std.specs.Map.{lookup}
 use Rattle.bm_base.specs.declared.replica.ReplicaId.{ReplicaId}
 use Rattle.bm_base.specs.Map.{Map, entries}
 use Rattle.bm_base.specs.State.{by_replica}
+use Rattle.bm_base.specs.Excess.{is_expired}
 
 pub record OnTheWay : Type 0 where
   -- by block and target, the round in which the transfer was commanded
@@ -24,10 +25,6 @@ blocks_in p = map (λ e. e.0) p.rooms
 -- the targets of a block's transfers, rising
 abbrev pub targets_of : OnTheWay → ℕ → List ℕ
 targets_of p b = map (λ e. e.0.storage) (filter (λ e. e.0.block == b) (entries p.map))
-
--- whether a transfer that was commanded in round t is given up as round r begins
-abbrev pub is_expired : ℕ → ℕ → ℕ → Bool
-is_expired pend r t = nat_le pend (r - t)
 
 -- the transfers that are given up as round r begins, by block and then by target
 abbrev pub expired_of : ℕ → ℕ → Map by_replica ℕ → List ReplicaId

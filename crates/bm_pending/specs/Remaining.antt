@@ -1,7 +1,8 @@
 -- The transfers that a round leaves on their way.
 use Rattle.std.specs.Prelude.{ℕ, not, ◌==◌, List, map, filter}
 use Rattle.bm_base.specs.Map.{entries, keep}
-use Rattle.bm_pending.specs.OnTheWay.{OnTheWay, is_expired}
+use Rattle.bm_base.specs.Excess.{is_expired}
+use Rattle.bm_pending.specs.OnTheWay.{OnTheWay}
 
 -- the targets of a block's transfers that are not given up as round r begins, rising
 abbrev pub targets_left : ℕ → ℕ → OnTheWay → ℕ → List ℕ

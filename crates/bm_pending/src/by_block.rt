@@ -5,7 +5,7 @@ ghost use Rattle.std.specs.FinMap as list;
 ghost use Rattle.std.specs.Map.{keys_of};
 ghost use Rattle.bm_base.specs.declared.refusal.Refusal.TheVariants.{Memory};
 ghost use Rattle.bm_base.specs.Lists.{has};
-ghost use Rattle.bm_pending.specs.OnTheWay.{is_expired};
+ghost use Rattle.bm_base.specs.Excess.{is_expired};
 ghost use Rattle.bm_pending.specs.Inside.{targets_at, room_at};
 
 use crate::targets::{Targets, drop_expired, drop_storages, drop_target, put};

@@ -7,7 +7,8 @@ ghost use Rattle.bm_base.specs.Map as map;
 ghost use Rattle.bm_base.specs.State.{replica_at};
 ghost use Rattle.bm_base.specs.Lists.{has};
 ghost use Rattle.bm_pending.specs.Remaining as remaining;
-ghost use Rattle.bm_pending.specs.OnTheWay.{room, blocks_in, targets_of, is_expired, expired_of};
+ghost use Rattle.bm_base.specs.Excess.{is_expired};
+ghost use Rattle.bm_pending.specs.OnTheWay.{room, blocks_in, targets_of, expired_of};
 
 use crate::by_block::{
     Blocks, drop_block, drop_empty_rooms, drop_expired_in, drop_in, drop_storages_in, find_in,

@@ -4,7 +4,7 @@ ghost use Rattle.std.specs.Ordering.{nat_cmp};
 ghost use Rattle.std.specs.FinMap as list;
 ghost use Rattle.smallvec.specs.SmallVec.{HasRoomFor};
 ghost use Rattle.bm_base.specs.Lists.{has};
-ghost use Rattle.bm_pending.specs.OnTheWay.{is_expired};
+ghost use Rattle.bm_base.specs.Excess.{is_expired};
 
 use bm_base::StorageId;
 use bm_base::sorted::place;

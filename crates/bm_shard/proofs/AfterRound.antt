@@ -8,7 +8,7 @@ use Rattle.bm_base.specs.declared.replica.Marks.{Marks}
 use Rattle.bm_base.specs.Map.{Map, revise, keep, insert_all}
 use Rattle.bm_base.specs.State.{Cluster, by_replica, replica_at}
 use Rattle.bm_base.specs.Replicas.{storages_where}
-use Rattle.bm_base.specs.Excess.{without_expired, without_unordered_excess, marked, excess_in}
+use Rattle.bm_base.specs.Excess.{is_expired, without_expired, without_unordered_excess, marked, excess_in}
 use Rattle.bm_base.specs.Rounds.{is_commanded, finished}
 use Rattle.bm_base.specs.RoundParts.{surplus, started_holdings, round_on_part, own_transfers, own_deletes}
 use Rattle.bm_arena.specs.Contents.{Contents}
@@ -16,7 +16,6 @@ use Rattle.bm_arena.specs.Holding.{replicas_of, blocks_of, holdings_of}
 use Rattle.bm_levels.specs.Held.{holdings_with}
 use Rattle.bm_base.specs.declared.ids.Part.{Part}
 use Rattle.bm_levels.specs.Leveled.{Leveled}
-use Rattle.bm_pending.specs.OnTheWay.{is_expired}
 use Rattle.bm_shard.specs.Seen.{Seen, Room}
 use Rattle.bm_shard.specs.Inside.{levels_of}
 use Rattle.bm_shard.specs.Standing.{IsSameButRoom}
