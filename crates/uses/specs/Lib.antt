@@ -1,3 +1,4 @@
 pub mod Beside
+pub mod Copying
 pub mod Printing
 pub mod Turns

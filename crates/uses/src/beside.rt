@@ -5,7 +5,7 @@ ghost use Rattle.bm_base.specs.Refusals.{refusal_of};
 ghost use Rattle.bm_base.specs.declared.refusal.Refusal.TheVariants.{Memory};
 ghost use Rattle.bm_view.specs.History.{last_of};
 ghost use Rattle.uses.specs.Turns.{StopsAmong};
-ghost use Rattle.uses.specs.Beside.{IsNoOlder};
+ghost use Rattle.uses.specs.Beside.{IsNoOlder, IsToldAfter};
 
 use bm_base::{BlockId, Event, Refusal};
 use bm_crew::NoGate;
@@ -88,7 +88,7 @@ pub fn apply_beside_reader<R: Threads + Wait + Sync>(
     ensures state { OnOk result.changes (manager.new ≡ fold after_event manager.old events.now) }
     ensures stopped { IfErr result.changes
         (λ e. StopsAmong manager.old events.now e manager.new) }
-    ensures told { IfOk result.seen (λ seen. All (λ s. manager.old.calls < s.told) seen.items) }
+    ensures told { IfOk result.seen (λ seen. All (IsToldAfter manager.old.calls) seen.items) }
     ensures no_older { IfOk result.seen (λ seen. All IsNoOlder seen.items) }
     ensures calls { (last_of publisher.new.list).calls ≤ manager.new.calls }
     ensures home { (publisher.new.home ≡ publisher.old.home)
@@ -113,7 +113,7 @@ fn in_two_threads<J: Home + Send + Sync, R: Threads + Wait + Sync>(
     ensures state { OnOk result.changes (manager.new ≡ fold after_event manager.old events.now) }
     ensures stopped { IfErr result.changes
         (λ e. StopsAmong manager.old events.now e manager.new) }
-    ensures told { IfOk result.seen (λ seen. All (λ s. J.before < s.told) seen.items) }
+    ensures told { IfOk result.seen (λ seen. All (IsToldAfter J.before) seen.items) }
     ensures no_older { IfOk result.seen (λ seen. All IsNoOlder seen.items) }
     ensures calls { (last_of publisher.new.list).calls ≤ manager.new.calls }
     ensures home { (publisher.new.home ≡ J.home) × (locator.new.home ≡ J.home) }
@@ -130,7 +130,7 @@ fn in_two_threads<J: Home + Send + Sync, R: Threads + Wait + Sync>(
         &mut || -> Result<Vec<Seen>, AllocError>
             requires { locator.now.home ≡ J.home }
             ensures home { locator.exit.now.home ≡ J.home }
-            ensures told { IfOk result (λ seen. All (λ s. J.before < s.told) seen.items) }
+            ensures told { IfOk result (λ seen. All (IsToldAfter J.before) seen.items) }
             ensures no_older { IfOk result (λ seen. All IsNoOlder seen.items) }
         { look_at_each::<J, R>(rt, alloc, locator, &from, id) },
         &mut || -> Result<(), Refusal>
@@ -207,7 +207,7 @@ fn look_at_each<J: Home, R: Wait>(
 ) -> Result<Vec<Seen>, AllocError>
     requires { locator.old.home ≡ J.home }
     ensures home { locator.new.home ≡ J.home }
-    ensures told { IfOk result (λ seen. All (λ s. J.before < s.told) seen.items) }
+    ensures told { IfOk result (λ seen. All (IsToldAfter J.before) seen.items) }
     ensures no_older { IfOk result (λ seen. All IsNoOlder seen.items) }
 {
     let mut seen = Vec::new(alloc);

@@ -1,12 +1,12 @@
 // One more copy of a block: from where, and to where.
-ghost use Rattle.std.specs.Prelude.{◌≡◌, ◌≤◌, ℕ, true, false, [], Some, IfOk, IfErr, IfSome, option_map, option_and_then};
-ghost use Rattle.bm_base.specs.declared.commands.Transfer.{Transfer};
+ghost use Rattle.std.specs.Prelude.{◌≡◌, ◌≤◌, ℕ, true, false, [], Some, IfOk, IfErr, IfSome};
 ghost use Rattle.bm_base.specs.declared.refusal.Refusal.TheVariants.{Memory};
 ghost use Rattle.bm_base.specs.Excess.{remaining};
 ghost use Rattle.bm_base.specs.Lists.{has};
 ghost use Rattle.bm_base.specs.Replicas.{node_of, has_storage};
-ghost use Rattle.bm_base.specs.Transfers.{least_source, least_target};
+ghost use Rattle.bm_lines.specs.Found.{IfFound};
 ghost use Rattle.bm_place.specs.Found.{senders_with, targets_with};
+ghost use Rattle.uses.specs.Copying.{first_copy};
 
 use bm_base::{BlockId, Level, Refusal, Stamp, StorageId, Transfer};
 use bm_place::{Scheduled, Streams, least_source, least_target};
@@ -22,16 +22,12 @@ pub fn first_copy(
     block: BlockId,
     stamp: Stamp,
 ) -> Result<Option<Transfer>, Refusal>
-    ensures copy { IfOk result (λ copy. copy ≡ option_and_then
-        (λ source. option_map
-        (λ target. record { block = block; stamp = stamp; source = source; target = target })
-        (least_target topology.now.cluster [] level live.now live.now stamp.len))
-        (least_source topology.now.cluster [] level live.now)) }
-    ensures room { IfOk result (λ copy. IfSome copy
-        (λ t. stamp.len ≤ remaining topology.now.cluster t.target)) }
-    ensures node { IfOk result (λ copy. IfSome copy (λ t. (holder node : ℕ)
+    ensures copy { IfOk result (λ copy. copy
+        ≡ first_copy topology.now.cluster live.now level block stamp) }
+    ensures room { IfFound result (λ t. stamp.len ≤ remaining topology.now.cluster t.target) }
+    ensures node { IfFound result (λ t. (holder node : ℕ)
         → has live.now holder ≡ true → node_of topology.now.cluster holder ≡ Some node
-        → has_storage topology.now.cluster node t.target ≡ false)) }
+        → has_storage topology.now.cluster node t.target ≡ false) }
     ensures refused { IfErr result (λ e. e ≡ Memory) }
 {
     let streams = Streams::new(alloc, topology)?;
@@ -51,11 +47,7 @@ fn copy_by(
 ) -> Option<Transfer>
     requires streams { streams.now ≡ senders_with topology.now.cluster [] }
     requires scheduled { scheduled.now ≡ targets_with topology.now.cluster [] }
-    ensures copy { result ≡ option_and_then
-        (λ source. option_map
-        (λ target. record { block = block; stamp = stamp; source = source; target = target })
-        (least_target topology.now.cluster [] level live.now live.now stamp.len))
-        (least_source topology.now.cluster [] level live.now) }
+    ensures copy { result ≡ first_copy topology.now.cluster live.now level block stamp }
     ensures room { IfSome result (λ t. stamp.len ≤ remaining topology.now.cluster t.target) }
     ensures node { IfSome result (λ t. (holder node : ℕ)
         → has live.now holder ≡ true → node_of topology.now.cluster holder ≡ Some node

@@ -1,5 +1,6 @@
 // A line read, and written anew.
-ghost use Rattle.std.specs.Prelude.{◌≡◌, IfOk, IfSome, is_some, string_bytes};
+ghost use Rattle.std.specs.Prelude.{◌≡◌, IfOk, is_some, string_bytes};
+ghost use Rattle.bm_lines.specs.Found.{IfFound};
 ghost use Rattle.bm_lines.specs.Reading.CallOf.{call_of};
 
 use bm_lines::{call_of, line_of};
@@ -8,7 +9,7 @@ use std::alloc::{AllocError, Global};
 /// The line in the usual order and with no space, or `None` where it asks for no call.
 pub fn tidied(alloc: Global, line: &[u8]) -> Result<Option<String>, AllocError>
     ensures some { IfOk result (λ o. is_some o ≡ is_some (call_of line.now)) }
-    ensures same { IfOk result (λ o. IfSome o (λ s. call_of (string_bytes s) ≡ call_of line.now)) }
+    ensures same { IfFound result (λ s. call_of (string_bytes s) ≡ call_of line.now) }
 {
     match call_of(alloc, line)? {
         Some(call) => {

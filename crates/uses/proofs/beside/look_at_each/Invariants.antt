@@ -1,10 +1,10 @@
-use Rattle.std.proofs.Common.{◌≡◌, ◌<◌, All}
-use Rattle.uses.specs.Beside.{IsNoOlder}
+use Rattle.std.proofs.Common.{◌≡◌, All}
+use Rattle.uses.specs.Beside.{IsNoOlder, IsToldAfter}
 use Rattle.uses.proofs.beside.look_at_each.Given as goal
 
 -- the locator stays that of its view, each receipt so far was new, and nothing seen was older than it
 abbrev pub invariant-loop-notice : goal.invariant-loop-notice
 invariant-loop-notice g l =
     (l.locator.home ≡ l.fn.locator.home)
-    × All (λ s. g.J.Home.before < s.told) l.seen.items
+    × All (IsToldAfter g.J.Home.before) l.seen.items
     × All IsNoOlder l.seen.items

@@ -1,0 +1,14 @@
+-- One more copy of a block.
+use Rattle.std.specs.Prelude.{ℕ, List, [], Option, option_map, option_and_then}
+use Rattle.bm_base.specs.declared.commands.Transfer.{Transfer}
+use Rattle.bm_base.specs.declared.level.Level.{Level}
+use Rattle.bm_base.specs.declared.replica.Stamp.{Stamp}
+use Rattle.bm_base.specs.State.{Cluster}
+use Rattle.bm_base.specs.Transfers.{least_source, least_target}
+
+-- the first copy of a round for a block with these live replicas, at this level: from the least source to the least target
+abbrev pub first_copy : Cluster → List ℕ → Level → ℕ → Stamp → Option Transfer
+first_copy C live urgency block stamp =
+    option_and_then (λ source. option_map (λ target. record { block = block; stamp = stamp; source = source; target = target })
+    (least_target C [] urgency live live stamp.len))
+    (least_source C [] urgency live)
