@@ -1,5 +1,5 @@
 -- What is asked of shards one by one, each beside its index, and what is gathered of their answers.
-use Rattle.std.specs.Prelude.{◌≡◌, ℕ, List, [], ◌∷◌, Option, Some, None, Result, Ok, Err, IfOk, IfErr}
+use Rattle.std.specs.Prelude.{◌≡◌, ℕ, List, [], ◌∷◌, map, Option, Some, None, Result, Ok, Err, IfOk, IfErr}
 use Rattle.bm_base.specs.declared.refusal.Refusal.{Refusal}
 use Rattle.bm_base.specs.declared.refusal.Refusal.TheVariants.{Memory}
 use Rattle.bm_shard.specs.Seen.{Seen}
@@ -12,6 +12,10 @@ pub record HasAnswered {A : Type 0} (f : Seen → A) (s : ℕ × Seen) (made : �
   pub shard : made.1.shard ≡ s.1
   pub answer : IfOk made.1.answer (λ a. a ≡ f s.1)
   pub refused : IfErr made.1.answer (λ e. e ≡ Memory)
+
+-- what shards answer, where each answers f of itself
+abbrev pub each_answer : {A : Type 0} → (Seen → A) → List (ℕ × Seen) → List A
+each_answer f ss = map (λ s. f s.1) ss
 
 abbrev pub shard_answered : {A : Type 0} → ℕ × Answered A → ℕ × Seen
 shard_answered f = (f.0, f.1.shard)

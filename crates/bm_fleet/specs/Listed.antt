@@ -2,6 +2,8 @@
 use Rattle.std.specs.Prelude.{ℕ, ◌+◌, List, [], ◌∷◌, map, slice_index_or}
 use Rattle.bm_base.specs.declared.replica.Replica.{Replica}
 use Rattle.bm_base.specs.declared.replica.ReplicaId.{ReplicaId}
+use Rattle.bm_base.specs.State.{Holdings}
+use Rattle.bm_base.specs.Queries.{blocks_on}
 use Rattle.bm_base.specs.Versions.{Row, table}
 use Rattle.bm_parts.specs.QueryLaws.{replica_key}
 use Rattle.bm_shard.specs.Seen.{Seen}
@@ -22,6 +24,14 @@ keyed_id q = (pair_of q, q)
 
 abbrev pub keyed_block : ℕ → (ℕ × ℕ) × ℕ
 keyed_block b = (pair_of_number b, b)
+
+-- what is listed of each shard, each element with its key
+abbrev pub keyed_lists : {X : Type 0} → (X → (ℕ × ℕ) × X) → (Holdings → List X) → List (ℕ × Seen) → List (List ((ℕ × ℕ) × X))
+keyed_lists keyed listed ss = map (λ s. map keyed (listed s.1.holdings)) ss
+
+-- so the blocks that have a replica on a storage
+abbrev pub keyed_blocks_on : ℕ → List (ℕ × Seen) → List (List ((ℕ × ℕ) × ℕ))
+keyed_blocks_on storage ss = keyed_lists keyed_block (λ H. blocks_on H storage) ss
 
 -- rows by block
 

@@ -25,3 +25,7 @@ pub record IsMadeAt (R : Seen → Seen → Type 0) (place : ℕ) (old new : List
   pub there : slice_get old place ≡ Some shard
   pub now : new ≡ slice_set old place (shard.0, made)
   pub holds : R shard.1 made
+
+-- so the one at this place changed as the event changes it, and this was answered
+abbrev pub IsChangedAt : Cluster → Event → ℕ → List (ℕ × Seen) → List (ℕ × Seen) → Done → Type 0
+IsChangedAt C e place old new d = IsMadeAt (λ S T. IsChanged C e S T d) place old new

@@ -1,10 +1,12 @@
 -- What is found and chosen for a round of all shards.
-use Rattle.std.specs.Prelude.{◌≡◌, ℕ, List, map}
+use Rattle.std.specs.Prelude.{◌≡◌, ℕ, List, map, Option, Result, IfOk}
+use Rattle.std.specs.Option.{IfSome}
 use Rattle.bm_base.specs.declared.replica.ReplicaId.{ReplicaId}
 use Rattle.bm_base.specs.declared.round.RoundPart.{RoundPart}
 use Rattle.bm_base.specs.State.{RoundLimits, Cluster}
 use Rattle.bm_base.specs.Rounds.{commands_of}
 use Rattle.bm_base.specs.Choices.{chosen_transfers, chosen_deletes}
+use Rattle.bm_parts.specs.Before.{part_before}
 use Rattle.bm_shard.specs.Seen.{Seen}
 use Rattle.bm_shard.specs.Standing.{next_part}
 use Rattle.bm_fleet.specs.declared.round_choice.ChosenCommands.{ChosenCommands}
@@ -15,6 +17,14 @@ next_parts C ss = map (λ (s : ℕ × Seen). next_part C s.1) ss
 
 abbrev pub next_excess : Cluster → List (ℕ × Seen) → List (List ReplicaId)
 next_excess C ss = map (λ (s : ℕ × Seen). (next_part C s.1).excess) ss
+
+-- the parts with the wishes before a bound alone
+abbrev pub next_parts_before : Option (ℕ × ℕ) → Cluster → List (ℕ × Seen) → List RoundPart
+next_parts_before bound C ss = map (λ (s : ℕ × Seen). part_before bound (next_part C s.1)) ss
+
+-- where nothing was refused and something was found, P is true of that
+abbrev pub IfFound : {A E : Type 0} → Result (Option A) E → (A → Type 0) → Type 0
+IfFound r P = IfOk r (λ o. IfSome o P)
 
 -- of the parts at least which replicas are in excess is what the shards have
 abbrev pub HasExcess : Cluster → List (ℕ × Seen) → List RoundPart → Type 0

@@ -3,7 +3,7 @@ ghost use Rattle.std.specs.Prelude.{◌≡◌, ◌≤◌, ◌<◌, ℕ, [], List
 ghost use Rattle.std.specs.List.{AllZip, filter_map};
 ghost use Rattle.bm_base.specs.declared.refusal.Refusal.TheVariants.{Memory};
 ghost use Rattle.bm_shard.specs.Seen.{Seen};
-ghost use Rattle.bm_fleet.specs.FromShards.{HasAnswered, shard_answered, answer_in, first_fault};
+ghost use Rattle.bm_fleet.specs.FromShards.{HasAnswered, each_answer, shard_answered, answer_in, first_fault};
 
 use crate::gathering::first_refusal;
 use bm_base::Refusal;
@@ -60,7 +60,7 @@ pub(crate) fn answers_of<A: Drop>(
         → AllZip (HasAnswered f) ss answered.items → result.0.items ≡ ss }
     ensures answers { (f : Seen → A) → (ss : List (ℕ × Seen))
         → AllZip (HasAnswered f) ss answered.items
-        → IfOk result.1 (λ v. v.items ≡ map (λ s. f s.1) ss) }
+        → IfOk result.1 (λ v. v.items ≡ each_answer f ss) }
     ensures refused { (f : Seen → A) → (ss : List (ℕ × Seen))
         → AllZip (HasAnswered f) ss answered.items → IfErr result.1 (λ e. e ≡ Memory) }
 {

@@ -2,7 +2,8 @@
 ghost use Rattle.std.specs.Prelude.{◌≡◌, [], map, IfOk, IfErr};
 ghost use Rattle.std.specs.List.{flat_map};
 ghost use Rattle.bm_base.specs.declared.refusal.Refusal.TheVariants.{Memory};
-ghost use Rattle.bm_parts.specs.Merging.{put_all, AreSorted};
+ghost use Rattle.bm_base.specs.Map.{values};
+ghost use Rattle.bm_parts.specs.Merging.{put_all, as_lists, AreSorted};
 ghost use Rattle.bm_fleet.specs.Listed.{keyed_rows, row_at, places_from, places_of_all};
 
 use crate::joining::joined;
@@ -24,7 +25,7 @@ type RowPlace = (usize, usize);
 pub(crate) fn joined_rows(alloc: Global, mut tables: Vec<Rows>) -> Result<Vec<Row>, Refusal>
     requires { AreSorted (map keyed_rows tables.items) }
     ensures joined { IfOk result
-        (λ v. v.items ≡ map (λ e. e.1) (put_all [] (flat_map keyed_rows tables.items))) }
+        (λ v. v.items ≡ values (put_all [] (flat_map keyed_rows tables.items))) }
     ensures refused { IfErr result (λ e. e ≡ Memory) }
 {
     if tables.len() == 1 {
@@ -39,7 +40,7 @@ pub(crate) fn joined_rows(alloc: Global, mut tables: Vec<Rows>) -> Result<Vec<Ro
 fn merged_rows(alloc: Global, tables: &[Rows]) -> Result<Vec<Row>, Refusal>
     requires { AreSorted (map keyed_rows tables.now) }
     ensures joined { IfOk result
-        (λ v. v.items ≡ map (λ e. e.1) (put_all [] (flat_map keyed_rows tables.now))) }
+        (λ v. v.items ≡ values (put_all [] (flat_map keyed_rows tables.now))) }
     ensures refused { IfErr result (λ e. e ≡ Memory) }
 {
     let keyed = keyed_places(alloc, tables)?;
@@ -74,7 +75,7 @@ fn row_at(tables: &[Rows], place: RowPlace) -> Row
 
 /// The place of each row of each list, with its key.
 fn keyed_places(alloc: Global, tables: &[Rows]) -> Result<Vec<Vec<(Key, RowPlace)>>, AllocError>
-    ensures { IfOk result (λ v. map (λ l. l.items) v.items ≡ places_of_all 0 tables.now) }
+    ensures { IfOk result (λ v. as_lists v.items ≡ places_of_all 0 tables.now) }
 {
     let mut lists = Vec::with_capacity(alloc, tables.len())?;
     for list in 0..tables.len() {

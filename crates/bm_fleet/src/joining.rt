@@ -1,8 +1,8 @@
 // Lists of the shards, joined into one by one merge.
-ghost use Rattle.std.specs.Prelude.{◌≡◌, [], map, IfOk, IfErr};
-ghost use Rattle.std.specs.List.{flat_map};
+ghost use Rattle.std.specs.Prelude.{◌≡◌, [], IfOk, IfErr};
 ghost use Rattle.bm_base.specs.declared.refusal.Refusal.TheVariants.{Memory};
-ghost use Rattle.bm_parts.specs.Merging.{put_all, AreSorted};
+ghost use Rattle.bm_base.specs.Map.{values};
+ghost use Rattle.bm_parts.specs.Merging.{put_all, as_lists, items_of_all, AreSorted};
 
 use bm_base::Refusal;
 use bm_parts::merge::{Key, merge_all};
@@ -11,9 +11,9 @@ use std::alloc::{AllocError, Global};
 /// The elements of all lists, each of which rises by its keys, in the order of the keys. Of n elements in k lists each is copied about
 /// log k times.
 pub(crate) fn joined<T: Copy>(alloc: Global, lists: &[Vec<(Key, T)>]) -> Result<Vec<T>, Refusal>
-    requires { AreSorted (map (λ l. l.items) lists.now) }
+    requires { AreSorted (as_lists lists.now) }
     ensures joined { IfOk result
-        (λ v. v.items ≡ map (λ e. e.1) (put_all [] (flat_map (λ l. l.items) lists.now))) }
+        (λ v. v.items ≡ values (put_all [] (items_of_all lists.now))) }
     ensures refused { IfErr result (λ e. e ≡ Memory) }
 {
     let merged = merge_all(alloc, lists)?;
@@ -21,7 +21,7 @@ pub(crate) fn joined<T: Copy>(alloc: Global, lists: &[Vec<(Key, T)>]) -> Result<
 }
 
 fn without_keys<T: Copy>(alloc: Global, keyed: &[(Key, T)]) -> Result<Vec<T>, AllocError>
-    ensures { IfOk result (λ v. v.items ≡ map (λ e. e.1) keyed.now) }
+    ensures { IfOk result (λ v. v.items ≡ values keyed.now) }
 {
     let mut values = Vec::with_capacity(alloc, keyed.len())?;
     for entry in keyed {

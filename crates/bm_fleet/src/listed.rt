@@ -2,9 +2,10 @@
 ghost use Rattle.std.specs.Prelude.{◌≡◌, map, IfOk, IfErr};
 ghost use Rattle.bm_base.specs.declared.refusal.Refusal.TheVariants.{Memory};
 ghost use Rattle.bm_base.specs.Queries as queries;
+ghost use Rattle.bm_parts.specs.Merging.{as_lists};
 ghost use Rattle.bm_shard.specs.Standing.{StandsIn};
 ghost use Rattle.bm_fleet.specs.Whole.{EachStandsIn};
-ghost use Rattle.bm_fleet.specs.Listed.{keyed_replica, keyed_id, keyed_block};
+ghost use Rattle.bm_fleet.specs.Listed.{keyed_replica, keyed_id, keyed_block, keyed_lists, keyed_blocks_on};
 
 use bm_base::{BlockId, Refusal, Replica, ReplicaId, StorageId};
 use bm_parts::merge::Key;
@@ -18,8 +19,7 @@ pub(crate) fn lists_of_replicas(
     shards: &[(u32, Shard)],
 ) -> Result<Vec<Vec<(Key, Replica)>>, Refusal>
     ensures lists { IfOk result
-        (λ v. map (λ l. l.items) v.items
-        ≡ map (λ s. map keyed_replica (queries.all_replicas s.1.holdings)) shards.now) }
+        (λ v. as_lists v.items ≡ keyed_lists keyed_replica queries.all_replicas shards.now) }
     ensures refused { IfErr result (λ e. e ≡ Memory) }
 {
     let mut lists = Vec::new(alloc);
@@ -37,8 +37,7 @@ pub(crate) fn lists_of_corrupt(
     shards: &[(u32, Shard)],
 ) -> Result<Vec<Vec<(Key, ReplicaId)>>, Refusal>
     ensures lists { IfOk result
-        (λ v. map (λ l. l.items) v.items
-        ≡ map (λ s. map keyed_id (queries.corrupt_replicas s.1.holdings)) shards.now) }
+        (λ v. as_lists v.items ≡ keyed_lists keyed_id queries.corrupt_replicas shards.now) }
     ensures refused { IfErr result (λ e. e ≡ Memory) }
 {
     let mut lists = Vec::new(alloc);
@@ -56,8 +55,7 @@ pub(crate) fn lists_of_excess(
     shards: &[(u32, Shard)],
 ) -> Result<Vec<Vec<(Key, ReplicaId)>>, Refusal>
     ensures lists { IfOk result
-        (λ v. map (λ l. l.items) v.items
-        ≡ map (λ s. map keyed_id (queries.excess_replicas s.1.holdings)) shards.now) }
+        (λ v. as_lists v.items ≡ keyed_lists keyed_id queries.excess_replicas shards.now) }
     ensures refused { IfErr result (λ e. e ≡ Memory) }
 {
     let mut lists = Vec::new(alloc);
@@ -77,9 +75,8 @@ pub(crate) fn lists_of_missing(
 ) -> Result<Vec<Vec<(Key, BlockId)>>, Refusal>
     requires { EachStandsIn topology.now.cluster shards.now }
     ensures lists { IfOk result
-        (λ v. map (λ l. l.items) v.items
-        ≡ map (λ s. map keyed_block (queries.missing_blocks topology.now.cluster s.1.holdings))
-        shards.now) }
+        (λ v. as_lists v.items
+        ≡ keyed_lists keyed_block (queries.missing_blocks topology.now.cluster) shards.now) }
     ensures refused { IfErr result (λ e. e ≡ Memory) }
 {
     let mut lists = Vec::new(alloc);
@@ -114,8 +111,7 @@ pub(crate) fn lists_of_blocks_on(
     storage: StorageId,
 ) -> Result<Vec<Vec<(Key, BlockId)>>, Refusal>
     ensures lists { IfOk result
-        (λ v. map (λ l. l.items) v.items
-        ≡ map (λ s. map keyed_block (queries.blocks_on s.1.holdings storage)) shards.now) }
+        (λ v. as_lists v.items ≡ keyed_blocks_on storage shards.now) }
     ensures refused { IfErr result (λ e. e ≡ Memory) }
 {
     let mut lists = Vec::new(alloc);

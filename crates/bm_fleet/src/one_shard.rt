@@ -11,7 +11,7 @@ ghost use Rattle.bm_shard.specs.Seen.{Seen};
 ghost use Rattle.bm_shard.specs.Standing.{StandsIn, IsSameButRoom};
 ghost use Rattle.bm_fleet.specs.Whole.{AreShards, EachStandsIn, EachTook, held_by};
 ghost use Rattle.bm_fleet.specs.Worked.{Accepts};
-ghost use Rattle.bm_fleet.specs.OneShard.{IsChanged, IsMadeAt};
+ghost use Rattle.bm_fleet.specs.OneShard.{IsChanged, IsChangedAt, IsMadeAt};
 
 use bm_base::{BlockId, Done, Event, Refusal, shard_of};
 use bm_shard::Shard;
@@ -74,8 +74,7 @@ fn change_at(
     requires standing { (s : ℕ × Seen) → slice_get shards.old.items place ≡ Some s
         → StandsIn topology.now.cluster s.1 }
     ensures changed { IfOk result
-        (λ d. IsMadeAt (λ S T. IsChanged topology.now.cluster event.now S T d) place
-        shards.old.items shards.new.items) }
+        (IsChangedAt topology.now.cluster event.now place shards.old.items shards.new.items) }
     ensures same { OnErr result (IsMadeAt IsSameButRoom place shards.old.items shards.new.items) }
     ensures refused { IfErr result (Refuses None (takes_memory event.now)) }
 {

@@ -1,16 +1,13 @@
 // What all shards have for a round: of their first wishes, or of all.
 ghost use Rattle.std.specs.Prelude.{◌≡◌, ◌≤◌, [], None, IsSome, map, false, IfOk, IfErr, vec_len, vec_capacity};
-ghost use Rattle.std.specs.Option.{IfSome};
 ghost use Rattle.std.specs.List.{All};
 ghost use Rattle.bm_base.specs.declared.refusal.Refusal.TheVariants.{Memory};
 ghost use Rattle.bm_base.specs.State.{limits_of};
 ghost use Rattle.bm_base.specs.Lists.{has_repeats};
 ghost use Rattle.bm_base.specs.Configuration.{config_refusal};
 ghost use Rattle.bm_base.specs.Choices as choices;
-ghost use Rattle.bm_parts.specs.Before.{part_before};
-ghost use Rattle.bm_shard.specs.Standing.{next_part};
 ghost use Rattle.bm_fleet.specs.RoundWorked.{CanFind};
-ghost use Rattle.bm_fleet.specs.RoundChosen.{next_parts, HasExcess, IsChosen};
+ghost use Rattle.bm_fleet.specs.RoundChosen.{next_parts, next_parts_before, IfFound, HasExcess, IsChosen};
 
 use crate::answered::{AskRoom, answers_of, ask_room};
 use crate::round_choice::{ChosenCommands, choice_of};
@@ -106,11 +103,10 @@ fn found_before<R: Threads + Wait + Sync, G: Gate + Sync>(
         (λ w. w.block) (choices.merged_wishes (next_parts topology.now.cluster shards.items)))
         ≡ false }
     ensures shards { result.0.items ≡ shards.items }
-    ensures excess { IfOk result.1
-        (λ o. IfSome o (λ f. HasExcess topology.now.cluster shards.items f.parts.items)) }
-    ensures chosen { IfOk result.1
-        (λ o. IfSome o (λ f. IsChosen (limits_of config.now) topology.now.cluster round
-        shards.items f.choice)) }
+    ensures excess { IfFound result.1
+        (λ f. HasExcess topology.now.cluster shards.items f.parts.items) }
+    ensures chosen { IfFound result.1
+        (λ f. IsChosen (limits_of config.now) topology.now.cluster round shards.items f.choice) }
     ensures whole { bound ≡ None → IfOk result.1 (λ o. IsSome o) }
     ensures refused { IfErr result.1 (λ e. e ≡ Memory) }
 {
@@ -146,8 +142,7 @@ fn parts_of<R: Threads + Wait + Sync, G: Gate + Sync>(
     requires shards { All (CanFind topology.now.cluster round) shards.items }
     ensures shards { result.0.items ≡ shards.items }
     ensures parts { IfOk result.1
-        (λ v. v.items ≡ map (λ s. part_before bound (next_part topology.now.cluster s.1))
-        shards.items) }
+        (λ v. v.items ≡ next_parts_before bound topology.now.cluster shards.items) }
     ensures refused { IfErr result.1 (λ e. e ≡ Memory) }
 {
     let AskRoom {

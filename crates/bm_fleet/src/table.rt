@@ -3,7 +3,7 @@ ghost use Rattle.std.specs.Prelude.{◌≡◌, ◌≤◌, ◌<◌, [], map, leng
 ghost use Rattle.std.specs.List.{AllZip};
 ghost use Rattle.bm_base.specs.declared.refusal.Refusal.TheVariants.{Memory};
 ghost use Rattle.bm_base.specs.Versions as versions;
-ghost use Rattle.bm_fleet.specs.FromShards.{HasAnswered};
+ghost use Rattle.bm_fleet.specs.FromShards.{HasAnswered, each_answer};
 ghost use Rattle.bm_fleet.specs.Listed.{rows_of};
 ghost use Rattle.bm_fleet.specs.Whole.{AreShards, held_by};
 
@@ -66,7 +66,7 @@ fn tables_of<R: Threads + Wait + Sync>(
     requires back { (room.back.items ≡ []) × (vec_len shards ≤ vec_capacity room.back) }
     requires answers { (room.answers.items ≡ []) × (vec_len shards ≤ vec_capacity room.answers) }
     ensures shards { result.0.items ≡ shards.items }
-    ensures tables { IfOk result.1 (λ v. v.items ≡ map (λ s. rows_of s.1) shards.items) }
+    ensures tables { IfOk result.1 (λ v. v.items ≡ each_answer rows_of shards.items) }
     ensures refused { IfErr result.1 (λ e. e ≡ Memory) }
 {
     let AskRoom {
