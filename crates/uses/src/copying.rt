@@ -1,12 +1,8 @@
 // One more copy of a block: from where, and to where.
-ghost use Rattle.std.specs.Prelude.{◌≡◌, ◌≤◌, ℕ, true, false, [], Some, IfOk, IfErr, IfSome};
+ghost use Rattle.std.specs.Prelude.{◌≡◌, [], IfOk, IfErr};
 ghost use Rattle.bm_base.specs.declared.refusal.Refusal.TheVariants.{Memory};
-ghost use Rattle.bm_base.specs.Excess.{remaining};
-ghost use Rattle.bm_base.specs.Lists.{has};
-ghost use Rattle.bm_base.specs.Replicas.{node_of, has_storage};
-ghost use Rattle.bm_lines.specs.Found.{IfFound};
 ghost use Rattle.bm_place.specs.Found.{senders_with, targets_with};
-ghost use Rattle.uses.specs.Copying.{first_copy};
+ghost use Rattle.uses.specs.Copying.{first_copy, FitsOnTarget, GoesToAnotherNode};
 
 use bm_base::{BlockId, Level, Refusal, Stamp, StorageId, Transfer};
 use bm_place::{Scheduled, Streams, least_source, least_target};
@@ -24,10 +20,8 @@ pub fn first_copy(
 ) -> Result<Option<Transfer>, Refusal>
     ensures copy { IfOk result (λ copy. copy
         ≡ first_copy topology.now.cluster live.now level block stamp) }
-    ensures room { IfFound result (λ t. stamp.len ≤ remaining topology.now.cluster t.target) }
-    ensures node { IfFound result (λ t. (holder node : ℕ)
-        → has live.now holder ≡ true → node_of topology.now.cluster holder ≡ Some node
-        → has_storage topology.now.cluster node t.target ≡ false) }
+    ensures room { IfOk result (FitsOnTarget topology.now.cluster stamp.len) }
+    ensures node { IfOk result (GoesToAnotherNode topology.now.cluster live.now) }
     ensures refused { IfErr result (λ e. e ≡ Memory) }
 {
     let streams = Streams::new(alloc, topology)?;
@@ -48,10 +42,8 @@ fn copy_by(
     requires streams { streams.now ≡ senders_with topology.now.cluster [] }
     requires scheduled { scheduled.now ≡ targets_with topology.now.cluster [] }
     ensures copy { result ≡ first_copy topology.now.cluster live.now level block stamp }
-    ensures room { IfSome result (λ t. stamp.len ≤ remaining topology.now.cluster t.target) }
-    ensures node { IfSome result (λ t. (holder node : ℕ)
-        → has live.now holder ≡ true → node_of topology.now.cluster holder ≡ Some node
-        → has_storage topology.now.cluster node t.target ≡ false) }
+    ensures room { FitsOnTarget topology.now.cluster stamp.len result }
+    ensures node { GoesToAnotherNode topology.now.cluster live.now result }
 {
     let source = least_source(live, level, topology, streams)?;
     let target = least_target(live, live, stamp.len, level, topology, scheduled)?;
