@@ -1,8 +1,8 @@
-use Rattle.std.proofs.Common.{◌≡◌, subst}
+use Rattle.std.proofs.Common.{subst}
 use Rattle.std.specs.Prelude.{IfOk, IfSome, OnOk}
 use Rattle.std.specs.Io.KnownBytes.{Appends}
 use Rattle.bm_lines.specs.Lines.{lines_of}
-use Rattle.cluster_report.specs.Reading.{after_lines, all_accepted, notes_text}
+use Rattle.cluster_report.specs.Reading.{after_lines, SaysIfAccepted, notes_text}
 use Rattle.cluster_report.specs.Reports.{report_of}
 use Rattle.cluster_report.specs.Text.{report_text}
 use Rattle.cluster_report.proofs.run.run.Goals as goal
@@ -15,7 +15,7 @@ returns-clause-text g c =
 
 pub returns-clause-accepted : goal.returns-clause-accepted
 returns-clause-accepted g c =
-    subst (λ M. IfOk c.report.result (λ all. IfSome (g.R.Read.remaining c.args.reader.now) (λ input. all ≡ all_accepted M (lines_of input))))
+    subst (λ M. IfOk c.report.result (λ all. SaysIfAccepted all M (g.R.Read.remaining c.args.reader.now)))
     c.in-Ok.ensures.state c.report.ensures.accepted
 
 pub returns-clause-notes : goal.returns-clause-notes
