@@ -1,5 +1,5 @@
 -- What is come upon at the slots of an arena, in their order, and the rising lists that are made of it.
-use Rattle.std.specs.Prelude.{◌≡◌, ℕ, Bool, true, false, ◌&&◌, nat_lt, List, [], length, map, filter, flat_map, Option, is_some}
+use Rattle.std.specs.Prelude.{◌≡◌, ℕ, Bool, true, false, ◌&&◌, nat_lt, List, [], length, map, filter, flat_map, Option, Some, is_some}
 use Rattle.std.specs.Option.{option_map_or, unwrap_or}
 use Rattle.std.specs.List.{list_any}
 use Rattle.bm_base.specs.declared.replica.Marks.{Marks}
