@@ -22,10 +22,6 @@ next_excess C ss = map (λ (s : ℕ × Seen). (next_part C s.1).excess) ss
 abbrev pub next_parts_before : Option (ℕ × ℕ) → Cluster → List (ℕ × Seen) → List RoundPart
 next_parts_before bound C ss = map (λ (s : ℕ × Seen). part_before bound (next_part C s.1)) ss
 
--- where nothing was refused and something was found, P is true of that
-abbrev pub IfFound : {A E : Type 0} → Result (Option A) E → (A → Type 0) → Type 0
-IfFound r P = IfOk r (λ o. IfSome o P)
-
 -- of the parts at least which replicas are in excess is what the shards have
 abbrev pub HasExcess : Cluster → List (ℕ × Seen) → List RoundPart → Type 0
 HasExcess C ss ps = map (λ (p : RoundPart). p.excess) ps ≡ next_excess C ss

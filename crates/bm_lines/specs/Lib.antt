@@ -1,7 +1,6 @@
 -- The definitions of lines: how bytes are cut into them, and which call a line asks for.
 pub mod Lines
 pub mod Held
-pub mod Found
 pub mod Reading
 pub mod Print
 pub mod Asking

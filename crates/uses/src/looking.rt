@@ -1,5 +1,6 @@
 // A reader that is told of a version, and looks.
-ghost use Rattle.std.specs.Prelude.{◌≡◌, ◌≤◌, IfOk, IfSome};
+ghost use Rattle.std.specs.Prelude.{◌≡◌, ◌≤◌};
+ghost use Rattle.bm_base.specs.Answering.{IfFound};
 ghost use Rattle.bm_view.specs.History.{last_of};
 
 use bm_base::{BlockId, Refusal};
@@ -20,8 +21,7 @@ pub fn publish_and_look<R: Threads + Wait + Sync>(
     requires calls { (last_of publisher.old.list).calls ≤ manager.old.calls }
     requires home { locator.old.home ≡ publisher.old.home }
     ensures same { manager.new ≡ manager.old }
-    ensures no_older { IfOk result (λ seen. IfSome seen
-        (λ found. manager.old.calls ≤ found.calls)) }
+    ensures no_older { IfFound result (λ found. manager.old.calls ≤ found.calls) }
 {
     let receipt = manager.publish(rt, publisher)?;
     locator.learn(receipt);

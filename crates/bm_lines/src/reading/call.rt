@@ -2,7 +2,7 @@
 ghost use Rattle.std.specs.Prelude.{◌≡◌, true, IfOk};
 ghost use Rattle.serde_json.specs.Data.{Data};
 ghost use Rattle.bm_lines.specs.Asking.{has_op};
-ghost use Rattle.bm_lines.specs.Found.{IfFound};
+ghost use Rattle.bm_base.specs.Answering.{IfFound};
 ghost use Rattle.bm_lines.specs.Reading.CallOf.{call_for, call_in, call_of};
 ghost use Rattle.bm_lines.specs.Reading.Tokens.{Knows};
 

@@ -2,7 +2,7 @@
 ghost use Rattle.std.specs.Prelude.{◌≡◌, ◌++◌, true, IfSome, codes};
 ghost use Rattle.bm_base.specs.Fitting.{FitsStamp};
 ghost use Rattle.bm_lines.specs.Asking.{stamp_text};
-ghost use Rattle.bm_lines.specs.Found.{IfFound};
+ghost use Rattle.bm_base.specs.Answering.{IfFound};
 ghost use Rattle.bm_lines.specs.Reading.Usual.{Asks};
 
 use super::usual_entries::entries_then;

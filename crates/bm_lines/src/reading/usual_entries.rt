@@ -2,7 +2,7 @@
 ghost use Rattle.std.specs.Prelude.{◌≡◌, ◌++◌, ◌<◌, All, IfSome, codes, length};
 ghost use Rattle.bm_lines.specs.Asking.{list_text, entry_text, with_commas};
 ghost use Rattle.bm_lines.specs.Fitting.{FitsEntry};
-ghost use Rattle.bm_lines.specs.Found.{IfFound};
+ghost use Rattle.bm_base.specs.Answering.{IfFound};
 
 use super::usual_numbers::{after, number_then};
 use bm_base::{BlockId, Entry, Gen, Stamp};

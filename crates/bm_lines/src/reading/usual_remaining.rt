@@ -2,7 +2,7 @@
 ghost use Rattle.std.specs.Prelude.{◌≡◌, ◌++◌, ◌<◌, All, IfSome, codes, length};
 ghost use Rattle.bm_lines.specs.Asking.{list_text, remaining_text, with_commas};
 ghost use Rattle.bm_lines.specs.Fitting.{FitsRemaining};
-ghost use Rattle.bm_lines.specs.Found.{IfFound};
+ghost use Rattle.bm_base.specs.Answering.{IfFound};
 
 use super::usual_numbers::{after, number_then, small_then};
 use bm_base::{Remaining, StorageId};
