@@ -1,5 +1,6 @@
 -- Shards that were prepared, and shards that were changed, all together.
 use Rattle.std.specs.Prelude.{◌≡◌, ℕ, suc, ◌+◌, ◌≤◌, Bool, true, false, List, [], ◌∷◌, map, length, Result, Ok, Err, OnOk, IfErr, None}
+use Rattle.std.specs.Result.{result_and}
 use Rattle.std.specs.List.{All, AllZip}
 use Rattle.std.proofs.Common.{refl, sym, ap, subst, ◌∙◌, arith}
 use Rattle.std.proofs.lemmas.List.Elements.{All-nil, All-cons, All-head, All-tail}
@@ -18,7 +19,7 @@ use Rattle.bm_parts.specs.Whole.{EachPart, done_of_all}
 use Rattle.bm_parts.proofs.Changing.{whole_changes_by_event, done_adds_up}
 use Rattle.bm_shard.specs.Seen.{Seen, IsReadyFor}
 use Rattle.bm_fleet.specs.Worked.{IsSame, Accepts, IsPrepared, CanCommit, IsCommitted}
-use Rattle.bm_fleet.specs.Gathered.{or_else, outcome_of, done_of, shard_of_prepared, shard_of_committed, IsFew}
+use Rattle.bm_fleet.specs.Gathered.{outcome_of, done_of, shard_of_prepared, shard_of_committed, IsFew}
 use Rattle.bm_fleet.specs.Whole.{parts_of, held_by, AreIndexed, AreShards, EachStandsIn, EachTook}
 use Rattle.bm_fleet.specs.declared.crewed.Prepared.{Prepared}
 use Rattle.bm_fleet.specs.declared.crewed.Committed.{Committed}
@@ -45,7 +46,7 @@ module _ (C : Cluster) (e : Event) where
   prepared_refused (s ∷ ss) [] r each is = absurd each
   prepared_refused (s ∷ ss) (p ∷ ps) r each is = by p.1.outcome each.0.refused (λ g. prepared_refused ss ps r each.1 g) is
     where
-      by : (o : Result (Unit {0}) Refusal) → IfErr o (Refuses None (takes_memory e)) → (outcome_of ps ≡ Err r → r ≡ Memory) → or_else o (outcome_of ps) ≡ Err r → r ≡ Memory
+      by : (o : Result (Unit {0}) Refusal) → IfErr o (Refuses None (takes_memory e)) → (outcome_of ps ≡ Err r → r ≡ Memory) → result_and o (outcome_of ps) ≡ Err r → r ≡ Memory
       by (Ok x) h later f = later f
       by (Err x) h later f = sym (same_err x r f) ∙ memory_alone (takes_memory e) x h
 
@@ -57,7 +58,7 @@ module _ (C : Cluster) (e : Event) where
   all_ready (s ∷ ss) [] each h accepts fine = absurd each
   all_ready (s ∷ ss) (p ∷ ps) each h accepts fine = by p.1.outcome refl fine (all_ready ss ps each.1 h.1 (All-tail (Accepts e) s ss accepts))
     where
-      by : (o : Result (Unit {0}) Refusal) → p.1.outcome ≡ o → or_else o (outcome_of ps) ≡ Ok tt → (outcome_of ps ≡ Ok tt → All (CanCommit C e) (map shard_of_prepared ps))
+      by : (o : Result (Unit {0}) Refusal) → p.1.outcome ≡ o → result_and o (outcome_of ps) ≡ Ok tt → (outcome_of ps ≡ Ok tt → All (CanCommit C e) (map shard_of_prepared ps))
           → All (CanCommit C e) (shard_of_prepared p ∷ map shard_of_prepared ps)
       by (Err r) is g rest = cc
       by (Ok x) is g rest =

@@ -1,42 +1,42 @@
 -- What shards that were asked one by one answered, gathered.
 use Rattle.std.specs.Prelude.{◌≡◌, ℕ, List, [], ◌∷◌, ◌++◌, map, Some, Result, Ok, Err, IfOk, IfErr}
+use Rattle.std.specs.Result.{result_and, result_ok}
 use Rattle.std.specs.List.{AllZip, filter_map, cons_option}
 use Rattle.std.proofs.Common.{refl, sym, ap, ◌∙◌, append-nil}
 use Rattle.std.proofs.lemmas.List.Elements.{filter_map-append}
 use Rattle.bm_base.specs.declared.refusal.Refusal.{Refusal}
 use Rattle.bm_base.specs.declared.refusal.Refusal.TheVariants.{Memory}
 use Rattle.bm_shard.specs.Seen.{Seen}
-use Rattle.bm_fleet.specs.Gathered.{or_else}
-use Rattle.bm_fleet.specs.FromShards.{HasAnswered, shard_answered, answer_in, fault_in, first_fault}
+use Rattle.bm_fleet.specs.FromShards.{HasAnswered, shard_answered, fault_in, first_fault}
 use Rattle.bm_fleet.specs.declared.answered.Answered.{Answered}
 use Rattle.bm_fleet.proofs.OneMore.{same_err, or_else_ok, or_else_again}
 
-or_ok : (a b : Result (Unit {0}) Refusal) → or_else a b ≡ Ok tt → (a ≡ Ok tt) × (b ≡ Ok tt)
+or_ok : (a b : Result (Unit {0}) Refusal) → result_and a b ≡ Ok tt → (a ≡ Ok tt) × (b ≡ Ok tt)
 or_ok (Ok x) b e = (refl, e)
 or_ok (Err r) b e = cc
 
 module _ {A : Type 0} where
   -- One more is gathered.
 
-  fault_push : (fs : List (ℕ × Answered A)) (f : ℕ × Answered A) → first_fault (fs ++ f ∷ []) ≡ or_else (first_fault fs) (fault_in f.1.answer)
+  fault_push : (fs : List (ℕ × Answered A)) (f : ℕ × Answered A) → first_fault (fs ++ f ∷ []) ≡ result_and (first_fault fs) (fault_in f.1.answer)
   fault_push [] f = or_else_ok (fault_in f.1.answer)
-  fault_push (g ∷ fs) f = ap (or_else (fault_in g.1.answer)) (fault_push fs f) ∙ or_else_again (fault_in g.1.answer) (first_fault fs) (fault_in f.1.answer)
+  fault_push (g ∷ fs) f = ap (result_and (fault_in g.1.answer)) (fault_push fs f) ∙ or_else_again (fault_in g.1.answer) (first_fault fs) (fault_in f.1.answer)
 
   pub fault_push_ok : (fs : List (ℕ × Answered A)) (f : ℕ × Answered A) (a : A) → f.1.answer ≡ Ok a → first_fault (fs ++ f ∷ []) ≡ first_fault fs
-  fault_push_ok fs f a e = fault_push fs f ∙ ap (λ r. or_else (first_fault fs) (fault_in r)) e ∙ or_else_ok (first_fault fs)
+  fault_push_ok fs f a e = fault_push fs f ∙ ap (λ r. result_and (first_fault fs) (fault_in r)) e ∙ or_else_ok (first_fault fs)
 
-  pub fault_push_err : (fs : List (ℕ × Answered A)) (f : ℕ × Answered A) (r : Refusal) → f.1.answer ≡ Err r → first_fault (fs ++ f ∷ []) ≡ or_else (first_fault fs) (Err r)
-  fault_push_err fs f r e = fault_push fs f ∙ ap (λ x. or_else (first_fault fs) (fault_in x)) e
+  pub fault_push_err : (fs : List (ℕ × Answered A)) (f : ℕ × Answered A) (r : Refusal) → f.1.answer ≡ Err r → first_fault (fs ++ f ∷ []) ≡ result_and (first_fault fs) (Err r)
+  fault_push_err fs f r e = fault_push fs f ∙ ap (λ x. result_and (first_fault fs) (fault_in x)) e
 
   abbrev pub answers_in : List (ℕ × Answered A) → List A
-  answers_in fs = filter_map (λ (f : ℕ × Answered A). answer_in f.1.answer) fs
+  answers_in fs = filter_map (λ (f : ℕ × Answered A). result_ok f.1.answer) fs
 
   pub answers_push_ok : (fs : List (ℕ × Answered A)) (f : ℕ × Answered A) (a : A) → f.1.answer ≡ Ok a → answers_in (fs ++ f ∷ []) ≡ answers_in fs ++ a ∷ []
-  answers_push_ok fs f a e = filter_map-append (λ (f : ℕ × Answered A). answer_in f.1.answer) fs (f ∷ []) ∙ ap (λ r. answers_in fs ++ cons_option (answer_in r) []) e
+  answers_push_ok fs f a e = filter_map-append (λ (f : ℕ × Answered A). result_ok f.1.answer) fs (f ∷ []) ∙ ap (λ r. answers_in fs ++ cons_option (result_ok r) []) e
 
   pub answers_push_err : (fs : List (ℕ × Answered A)) (f : ℕ × Answered A) (r : Refusal) → f.1.answer ≡ Err r → answers_in (fs ++ f ∷ []) ≡ answers_in fs
   answers_push_err fs f r e =
-      filter_map-append (λ (f : ℕ × Answered A). answer_in f.1.answer) fs (f ∷ []) ∙ ap (λ x. answers_in fs ++ cons_option (answer_in x) []) e ∙ append-nil (answers_in fs)
+      filter_map-append (λ (f : ℕ × Answered A). result_ok f.1.answer) fs (f ∷ []) ∙ ap (λ x. answers_in fs ++ cons_option (result_ok x) []) e ∙ append-nil (answers_in fs)
 
   -- All of them.
 
@@ -48,7 +48,7 @@ module _ {A : Type 0} where
     same_shards (s ∷ ss) [] each = absurd each
     same_shards (s ∷ ss) (m ∷ fs) each = λ j. (each.0.index j, each.0.shard j) ∷ same_shards ss fs each.1 j
 
-    answered_ok : (o : Result A Refusal) (n : A) → fault_in o ≡ Ok tt → IfOk o (λ a. a ≡ n) → answer_in o ≡ Some n
+    answered_ok : (o : Result A Refusal) (n : A) → fault_in o ≡ Ok tt → IfOk o (λ a. a ≡ n) → result_ok o ≡ Some n
     answered_ok (Ok a) n e h = ap Some h
     answered_ok (Err r) n e h = cc
 
@@ -68,6 +68,6 @@ module _ {A : Type 0} where
     answer_refused (s ∷ ss) [] r each e = absurd each
     answer_refused (s ∷ ss) (m ∷ fs) r each e = by m.1.answer each.0.refused (λ g. answer_refused ss fs r each.1 g) e
       where
-        by : (o : Result A Refusal) → IfErr o (λ e. e ≡ Memory) → (first_fault fs ≡ Err r → r ≡ Memory) → or_else (fault_in o) (first_fault fs) ≡ Err r → r ≡ Memory
+        by : (o : Result A Refusal) → IfErr o (λ e. e ≡ Memory) → (first_fault fs ≡ Err r → r ≡ Memory) → result_and (fault_in o) (first_fault fs) ≡ Err r → r ≡ Memory
         by (Ok a) h later g = later g
         by (Err x) h later g = sym (same_err x r g) ∙ h

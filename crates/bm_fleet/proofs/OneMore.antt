@@ -1,12 +1,13 @@
 -- One more is gathered.
 use Rattle.std.specs.Prelude.{◌≡◌, ℕ, ◌+◌, List, [], ◌∷◌, ◌++◌, map, Result, Ok, Err}
+use Rattle.std.specs.Result.{result_and}
 use Rattle.std.proofs.Common.{refl, ap, ◌∙◌, arith, subst}
 use Rattle.std.specs.List.{All}
 use Rattle.std.proofs.lemmas.List.Elements.{All-head, All-tail}
 use Rattle.bm_base.specs.declared.refusal.Refusal.{Refusal}
 use Rattle.bm_fleet.specs.declared.crewed.Prepared.{Prepared}
 use Rattle.bm_fleet.specs.declared.crewed.Committed.{Committed}
-use Rattle.bm_fleet.specs.Gathered.{or_else, outcome_of, done_of}
+use Rattle.bm_fleet.specs.Gathered.{outcome_of, done_of}
 
 pub map_push : {X Y : Type 0} (f : X → Y) (xs : List X) (x : X) → map f (xs ++ x ∷ []) ≡ map f xs ++ f x ∷ []
 map_push f [] x = refl
@@ -15,17 +16,17 @@ map_push f (y ∷ xs) x = ap (λ ys. f y ∷ ys) (map_push f xs x)
 pub same_err : (a b : Refusal) → ◌≡◌ {A = Result (Unit {0}) Refusal} (Err a) (Err b) → a ≡ b
 same_err a b e = cc
 
-pub or_else_ok : (o : Result (Unit {0}) Refusal) → or_else o (Ok tt) ≡ o
+pub or_else_ok : (o : Result (Unit {0}) Refusal) → result_and o (Ok tt) ≡ o
 or_else_ok (Ok x) = refl
 or_else_ok (Err e) = refl
 
-pub or_else_again : (a b c : Result (Unit {0}) Refusal) → or_else a (or_else b c) ≡ or_else (or_else a b) c
+pub or_else_again : (a b c : Result (Unit {0}) Refusal) → result_and a (result_and b c) ≡ result_and (result_and a b) c
 or_else_again (Ok x) b c = refl
 or_else_again (Err e) b c = refl
 
-pub outcome_push : (ps : List (ℕ × Prepared)) (p : ℕ × Prepared) → outcome_of (ps ++ p ∷ []) ≡ or_else (outcome_of ps) p.1.outcome
+pub outcome_push : (ps : List (ℕ × Prepared)) (p : ℕ × Prepared) → outcome_of (ps ++ p ∷ []) ≡ result_and (outcome_of ps) p.1.outcome
 outcome_push [] p = or_else_ok p.1.outcome
-outcome_push (q ∷ ps) p = ap (or_else q.1.outcome) (outcome_push ps p) ∙ or_else_again q.1.outcome (outcome_of ps) p.1.outcome
+outcome_push (q ∷ ps) p = ap (result_and q.1.outcome) (outcome_push ps p) ∙ or_else_again q.1.outcome (outcome_of ps) p.1.outcome
 
 pub done_push : (cs : List (ℕ × Committed)) (c : ℕ × Committed)
     → ((done_of (cs ++ c ∷ [])).added ≡ (done_of cs).added + c.1.done.added) × ((done_of (cs ++ c ∷ [])).removed ≡ (done_of cs).removed + c.1.done.removed)

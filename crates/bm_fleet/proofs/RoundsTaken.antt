@@ -1,5 +1,6 @@
 -- Shards that took a round.
 use Rattle.std.specs.Prelude.{◌≡◌, ℕ, suc, ◌+◌, ◌<◌, ◌^◌, List, [], ◌∷◌, map, length, Some, Result, Ok, Err, IfErr, OnOk, option_map, slice_get}
+use Rattle.std.specs.Result.{result_and}
 use Rattle.std.specs.List.{All, AllZip}
 use Rattle.std.proofs.Common.{refl, sym, ap, subst, ◌∙◌}
 use Rattle.std.proofs.lemmas.List.Elements.{All-nil, All-cons, All-head, All-tail}
@@ -16,7 +17,7 @@ use Rattle.bm_shard.specs.Seen.{Seen, IsReadyForRound}
 use Rattle.bm_shard.specs.Standing.{next_part}
 use Rattle.bm_fleet.specs.Whole.{parts_of, held_by, AreIndexed, AreShards, EachStandsIn, EachTook}
 use Rattle.bm_fleet.specs.Worked.{IsSame}
-use Rattle.bm_fleet.specs.Gathered.{or_else, outcome_of, shard_of_prepared}
+use Rattle.bm_fleet.specs.Gathered.{outcome_of, shard_of_prepared}
 use Rattle.bm_fleet.specs.RoundWorked.{HasPart, IsPreparedForRound, CanCommitRound, HasTakenRound}
 use Rattle.bm_fleet.specs.declared.crewed.Prepared.{Prepared}
 use Rattle.bm_fleet.proofs.Staying.{count_of, stands_still, are_shards}
@@ -38,7 +39,7 @@ module _ (C : Cluster) (chosen : Chosen) where
   prepared_for_round_refused (s ∷ ss) [] r each e = absurd each
   prepared_for_round_refused (s ∷ ss) (p ∷ ps) r each e = by p.1.outcome each.0.refused (λ g. prepared_for_round_refused ss ps r each.1 g) e
     where
-      by : (o : Result (Unit {0}) Refusal) → IfErr o (λ e. e ≡ Memory) → (outcome_of ps ≡ Err r → r ≡ Memory) → or_else o (outcome_of ps) ≡ Err r → r ≡ Memory
+      by : (o : Result (Unit {0}) Refusal) → IfErr o (λ e. e ≡ Memory) → (outcome_of ps ≡ Err r → r ≡ Memory) → result_and o (outcome_of ps) ≡ Err r → r ≡ Memory
       by (Ok x) h later f = later f
       by (Err x) h later f = sym (same_err x r f) ∙ h
 
@@ -54,7 +55,7 @@ module _ (C : Cluster) (chosen : Chosen) where
       same : p.1.shard ≡ record s.1 { levels = p.1.shard.levels; room = p.1.shard.room }
       same = each.0.same.1.rest
 
-      by : (o : Result (Unit {0}) Refusal) → p.1.outcome ≡ o → or_else o (outcome_of ps) ≡ Ok tt → (outcome_of ps ≡ Ok tt → All (CanCommitRound C all chosen) (map shard_of_prepared ps))
+      by : (o : Result (Unit {0}) Refusal) → p.1.outcome ≡ o → result_and o (outcome_of ps) ≡ Ok tt → (outcome_of ps ≡ Ok tt → All (CanCommitRound C all chosen) (map shard_of_prepared ps))
           → All (CanCommitRound C all chosen) (shard_of_prepared p ∷ map shard_of_prepared ps)
       by (Err r) is g rest = cc
       by (Ok x) is g rest =

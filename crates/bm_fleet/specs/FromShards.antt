@@ -1,9 +1,9 @@
 -- What is asked of shards one by one, each beside its index, and what is gathered of their answers.
 use Rattle.std.specs.Prelude.{◌≡◌, ℕ, List, [], ◌∷◌, map, Option, Some, None, Result, Ok, Err, IfOk, IfErr}
+use Rattle.std.specs.Result.{result_and}
 use Rattle.bm_base.specs.declared.refusal.Refusal.{Refusal}
 use Rattle.bm_base.specs.declared.refusal.Refusal.TheVariants.{Memory}
 use Rattle.bm_shard.specs.Seen.{Seen}
-use Rattle.bm_fleet.specs.Gathered.{or_else}
 use Rattle.bm_fleet.specs.declared.answered.Answered.{Answered}
 
 -- the same shard, and what is to be told of it, or that this was refused for want of memory
@@ -20,10 +20,6 @@ each_answer f ss = map (λ s. f s.1) ss
 abbrev pub shard_answered : {A : Type 0} → ℕ × Answered A → ℕ × Seen
 shard_answered f = (f.0, f.1.shard)
 
-abbrev pub answer_in : {A : Type 0} → Result A Refusal → Option A
-answer_in (Ok a) = Some a
-answer_in (Err e) = None
-
 abbrev pub fault_in : {A : Type 0} → Result A Refusal → Result (Unit {0}) Refusal
 fault_in (Ok a) = Ok tt
 fault_in (Err e) = Err e
@@ -31,4 +27,4 @@ fault_in (Err e) = Err e
 -- the first refusal
 abbrev pub first_fault : {A : Type 0} → List (ℕ × Answered A) → Result (Unit {0}) Refusal
 first_fault [] = Ok tt
-first_fault (f ∷ fs) = or_else (fault_in f.1.answer) (first_fault fs)
+first_fault (f ∷ fs) = result_and (fault_in f.1.answer) (first_fault fs)

@@ -1,5 +1,6 @@
 -- What was gathered of shards that a crew worked.
 use Rattle.std.specs.Prelude.{ℕ, ◌+◌, ◌<◌, ◌^◌, List, [], ◌∷◌, Result, Ok, Err}
+use Rattle.std.specs.Result.{result_and}
 use Rattle.bm_base.specs.declared.event.Done.{Done}
 use Rattle.bm_base.specs.declared.refusal.Refusal.{Refusal}
 use Rattle.bm_shard.specs.Seen.{Seen}
@@ -12,15 +13,10 @@ shard_of_prepared p = (p.0, p.1.shard)
 abbrev pub shard_of_committed : ℕ × Committed → ℕ × Seen
 shard_of_committed c = (c.0, c.1.shard)
 
--- the first of two outcomes that is a refusal
-abbrev pub or_else : Result (Unit {0}) Refusal → Result (Unit {0}) Refusal → Result (Unit {0}) Refusal
-or_else (Err e) other = Err e
-or_else (Ok x) other = other
-
 -- the first refusal
 abbrev pub outcome_of : List (ℕ × Prepared) → Result (Unit {0}) Refusal
 outcome_of [] = Ok tt
-outcome_of (p ∷ ps) = or_else p.1.outcome (outcome_of ps)
+outcome_of (p ∷ ps) = result_and p.1.outcome (outcome_of ps)
 
 -- the answers, added up
 abbrev pub done_of : List (ℕ × Committed) → Done

@@ -1,9 +1,10 @@
 // Shards that a crew asked one by one, and their answers, gathered. No shard changes.
 ghost use Rattle.std.specs.Prelude.{◌≡◌, ◌≤◌, ◌<◌, ℕ, [], List, map, length, IfOk, IfErr, vec_len, vec_capacity};
+ghost use Rattle.std.specs.Result.{result_ok};
 ghost use Rattle.std.specs.List.{AllZip, filter_map};
 ghost use Rattle.bm_base.specs.declared.refusal.Refusal.TheVariants.{Memory};
 ghost use Rattle.bm_shard.specs.Seen.{Seen};
-ghost use Rattle.bm_fleet.specs.FromShards.{HasAnswered, each_answer, shard_answered, answer_in, first_fault};
+ghost use Rattle.bm_fleet.specs.FromShards.{HasAnswered, each_answer, shard_answered, first_fault};
 
 use crate::gathering::first_refusal;
 use bm_base::Refusal;
@@ -80,7 +81,7 @@ fn gather_answers<A: Drop>(
     requires back { (back.items ≡ []) × (vec_len answered ≤ vec_capacity back) }
     requires answers { (answers.items ≡ []) × (vec_len answered ≤ vec_capacity answers) }
     ensures shards { result.0.items ≡ map shard_answered answered.items }
-    ensures answers { result.1.items ≡ filter_map (λ f. answer_in f.1.answer) answered.items }
+    ensures answers { result.1.items ≡ filter_map (λ f. result_ok f.1.answer) answered.items }
     ensures outcome { result.2 ≡ first_fault answered.items }
 {
     let mut outcome = Ok(());

@@ -13,7 +13,7 @@ ghost use Rattle.bm_shard.specs.Standing as shard;
 ghost use Rattle.bm_fleet.specs.Whole.{StandsIn, AreShards, EachStandsIn, held_by};
 
 use crate::fleet::Fleet;
-use crate::joining::joined;
+use crate::joining::join;
 use crate::listed::{
     lists_of_blocks_on, lists_of_corrupt, lists_of_excess, lists_of_missing, lists_of_replicas,
 };
@@ -40,7 +40,7 @@ impl Fleet {
         ensures refused { IfErr result (λ e. e ≡ Memory) }
     {
         let lists = lists_of_replicas(self.alloc, self.shards.as_slice())?;
-        let all = joined(self.alloc, lists.as_slice())?;
+        let all = join(self.alloc, lists.as_slice())?;
         Ok(Items::from_vec(all))
     }
 
@@ -50,7 +50,7 @@ impl Fleet {
         ensures refused { IfErr result (λ e. e ≡ Memory) }
     {
         let lists = lists_of_corrupt(self.alloc, self.shards.as_slice())?;
-        let all = joined(self.alloc, lists.as_slice())?;
+        let all = join(self.alloc, lists.as_slice())?;
         Ok(Items::from_vec(all))
     }
 
@@ -60,7 +60,7 @@ impl Fleet {
         ensures refused { IfErr result (λ e. e ≡ Memory) }
     {
         let lists = lists_of_excess(self.alloc, self.shards.as_slice())?;
-        let all = joined(self.alloc, lists.as_slice())?;
+        let all = join(self.alloc, lists.as_slice())?;
         Ok(Items::from_vec(all))
     }
 
@@ -73,7 +73,7 @@ impl Fleet {
         ensures refused { IfErr result (λ e. e ≡ Memory) }
     {
         let lists = lists_of_missing(self.alloc, self.shards.as_slice(), topology)?;
-        let all = joined(self.alloc, lists.as_slice())?;
+        let all = join(self.alloc, lists.as_slice())?;
         Ok(Items::from_vec(all))
     }
 
@@ -83,7 +83,7 @@ impl Fleet {
         ensures refused { IfErr result (λ e. e ≡ Memory) }
     {
         let lists = lists_of_blocks_on(self.alloc, self.shards.as_slice(), storage)?;
-        let all = joined(self.alloc, lists.as_slice())?;
+        let all = join(self.alloc, lists.as_slice())?;
         Ok(Items::from_vec(all))
     }
 

@@ -1,9 +1,10 @@
 // Shards that a crew worked, gathered. Nothing here takes memory.
 ghost use Rattle.std.specs.Prelude.{◌≡◌, ◌≤◌, [], map, length, vec_len, vec_capacity};
+ghost use Rattle.std.specs.Result.{result_and};
 ghost use Rattle.std.specs.List.{All, AllZip};
 ghost use Rattle.bm_shard.specs.Standing.{IsSameButRoom};
 ghost use Rattle.bm_fleet.specs.Worked.{IsSame};
-ghost use Rattle.bm_fleet.specs.Gathered.{or_else, outcome_of, done_of, shard_of_prepared, shard_of_committed, IsFew};
+ghost use Rattle.bm_fleet.specs.Gathered.{outcome_of, done_of, shard_of_prepared, shard_of_committed, IsFew};
 
 use crate::crewed::{Committed, Prepared};
 use bm_base::{Done, Refusal};
@@ -31,7 +32,7 @@ pub(crate) fn first_refusal(
     first: Result<(), Refusal>,
     next: Result<(), Refusal>,
 ) -> Result<(), Refusal>
-    ensures { result ≡ or_else first next }
+    ensures { result ≡ result_and first next }
 {
     match first {
         Ok(()) => next,

@@ -6,7 +6,7 @@ ghost use Rattle.bm_base.specs.Map.{values};
 ghost use Rattle.bm_parts.specs.Merging.{put_all, as_lists, AreSorted};
 ghost use Rattle.bm_fleet.specs.Listed.{keyed_rows, row_at, places_from, places_of_all};
 
-use crate::joining::joined;
+use crate::joining::join;
 use bm_base::{BlockId, Items, Places, Refusal};
 use bm_parts::merge::Key;
 use std::alloc::{AllocError, Global};
@@ -44,7 +44,7 @@ fn merged_rows(alloc: Global, tables: &[Rows]) -> Result<Vec<Row>, Refusal>
     ensures refused { IfErr result (λ e. e ≡ Memory) }
 {
     let keyed = keyed_places(alloc, tables)?;
-    let order = joined(alloc, keyed.as_slice())?;
+    let order = join(alloc, keyed.as_slice())?;
     Ok(rows_at(alloc, tables, order.as_slice())?)
 }
 

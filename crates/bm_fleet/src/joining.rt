@@ -10,7 +10,7 @@ use std::alloc::{AllocError, Global};
 
 /// The elements of all lists, each of which rises by its keys, in the order of the keys. Of n elements in k lists each is copied about
 /// log k times.
-pub(crate) fn joined<T: Copy>(alloc: Global, lists: &[Vec<(Key, T)>]) -> Result<Vec<T>, Refusal>
+pub(crate) fn join<T: Copy>(alloc: Global, lists: &[Vec<(Key, T)>]) -> Result<Vec<T>, Refusal>
     requires { AreSorted (as_lists lists.now) }
     ensures joined { IfOk result
         (λ v. v.items ≡ values (put_all [] (items_of_all lists.now))) }

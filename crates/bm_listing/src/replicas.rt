@@ -64,7 +64,7 @@ fn push_replicas(
 }
 
 /// The replicas that are wanted, in the order of the arena.
-fn gathered(alloc: Global, arena: &Arena, wanted: Wanted) -> Result<Vec<Replica>, Refusal>
+fn gather(alloc: Global, arena: &Arena, wanted: Wanted) -> Result<Vec<Replica>, Refusal>
     ensures items { IfOk result
         (λ v. v.items ≡ listed_on (wants wanted) arena.now (slots_led arena.now)) }
     ensures refused { IfErr result (λ e. e ≡ Memory) }
@@ -89,24 +89,24 @@ fn key(replica: &Replica) -> ReplicaId
 }
 
 /// The replicas that are wanted, by block and storage.
-fn listed(alloc: Global, arena: &Arena, wanted: Wanted) -> Result<Vec<Replica>, Refusal>
+fn list(alloc: Global, arena: &Arena, wanted: Wanted) -> Result<Vec<Replica>, Refusal>
     ensures items { IfOk result
         (λ v. v.items ≡ replicas_passing (wants wanted) (replicas_of arena.now)) }
     ensures refused { IfErr result (λ e. e ≡ Memory) }
 {
     arena.lawful();
-    let mut all = gathered(alloc, arena, wanted)?;
+    let mut all = gather(alloc, arena, wanted)?;
     all.sort_by_key(|replica| key(replica))?;
     Ok(all)
 }
 
 /// Which replicas are wanted, by block and storage.
-fn ids_listed(alloc: Global, arena: &Arena, wanted: Wanted) -> Result<Vec<ReplicaId>, Refusal>
+fn list_ids(alloc: Global, arena: &Arena, wanted: Wanted) -> Result<Vec<ReplicaId>, Refusal>
     ensures items { IfOk result
         (λ v. v.items ≡ map replica_key (replicas_passing (wants wanted) (replicas_of arena.now))) }
     ensures refused { IfErr result (λ e. e ≡ Memory) }
 {
-    let all = listed(alloc, arena, wanted)?;
+    let all = list(alloc, arena, wanted)?;
     let mut ids = Vec::new(alloc);
     for replica in &all {
         ids.push(key(replica))?;
@@ -121,7 +121,7 @@ pub fn all_replicas(alloc: Global, blocks: &LeveledBlocks) -> Result<Items<Repli
         → IfOk result (λ v. v ≡ queries.all_replicas (holdings_with blocks.now.arena pending)) }
     ensures refused { IfErr result (λ e. e ≡ Memory) }
 {
-    Ok(Items::from_vec(listed(alloc, blocks.arena(), Wanted::All)?))
+    Ok(Items::from_vec(list(alloc, blocks.arena(), Wanted::All)?))
 }
 
 /// The stale and bad replicas, by block and storage. May answer `Memory`.
@@ -131,7 +131,7 @@ pub fn corrupt_replicas(alloc: Global, blocks: &LeveledBlocks) -> Result<Items<R
         → IfOk result (λ v. v ≡ queries.corrupt_replicas (holdings_with blocks.now.arena pending)) }
     ensures refused { IfErr result (λ e. e ≡ Memory) }
 {
-    Ok(Items::from_vec(ids_listed(alloc, blocks.arena(), Wanted::Corrupt)?))
+    Ok(Items::from_vec(list_ids(alloc, blocks.arena(), Wanted::Corrupt)?))
 }
 
 /// The replicas in excess, by block and storage. May answer `Memory`.
@@ -141,5 +141,5 @@ pub fn excess_replicas(alloc: Global, blocks: &LeveledBlocks) -> Result<Items<Re
         → IfOk result (λ v. v ≡ queries.excess_replicas (holdings_with blocks.now.arena pending)) }
     ensures refused { IfErr result (λ e. e ≡ Memory) }
 {
-    Ok(Items::from_vec(ids_listed(alloc, blocks.arena(), Wanted::Excess)?))
+    Ok(Items::from_vec(list_ids(alloc, blocks.arena(), Wanted::Excess)?))
 }

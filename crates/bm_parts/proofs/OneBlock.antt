@@ -8,7 +8,7 @@ use Rattle.bm_base.specs.declared.replica.Marks.{Marks}
 use Rattle.bm_base.specs.declared.replica.BlockInfo.{BlockInfo}
 use Rattle.bm_base.specs.Map.{get}
 use Rattle.bm_base.specs.State.{Cluster, Holdings, replica_at}
-use Rattle.bm_base.specs.Replicas.{is_usable, is_live_on, is_drained_on, storages_where, racks, is_multi_rack}
+use Rattle.bm_base.specs.Replicas.{is_usable, is_live_on, is_drained_on, storages_where, racks, is_multi_rack, usable}
 use Rattle.bm_base.specs.Levels.{level, level_of}
 use Rattle.bm_base.specs.Events.{change_holdings}
 use Rattle.bm_base.specs.Rounds.{is_commanded, finished}
@@ -16,7 +16,7 @@ use Rattle.bm_base.specs.Shards.{shard_of, cut}
 use Rattle.bm_parts.specs.Parts.{IsSameOf, block_of}
 use Rattle.bm_parts.specs.LevelLaws as law
 use Rattle.bm_parts.specs.Settled as settled_law
-use Rattle.bm_parts.specs.Settled.{IsSettled, usable}
+use Rattle.bm_parts.specs.Settled.{IsSettled}
 use Rattle.bm_parts.proofs.Parts.{cut_is_part, one_part_changed}
 use Rattle.bm_parts.proofs.Storages.{storages_of_same, storages_revised}
 

@@ -8,14 +8,14 @@ use Rattle.bm_base.specs.declared.replica.BlockInfo.{BlockInfo}
 use Rattle.bm_base.specs.Map.{get, keep, revise}
 use Rattle.bm_base.specs.State.{Cluster, Holdings, replica_at}
 use Rattle.bm_base.specs.Lists.{has}
-use Rattle.bm_base.specs.Replicas.{is_usable, is_live_on, is_drained_on, is_draining, has_storage, drains, live, drained, storages_where, racks, is_multi_rack}
+use Rattle.bm_base.specs.Replicas.{is_usable, is_live_on, is_drained_on, is_draining, has_storage, drains, live, drained, storages_where, racks, is_multi_rack, usable}
 use Rattle.bm_base.specs.Levels.{level, level_of}
 use Rattle.bm_base.specs.Excess.{without_expired, without_unordered_excess, excess_among, excess_of, excess_in, marked}
 use Rattle.bm_base.specs.Deletes.{is_deletable}
 use Rattle.bm_base.proofs.MapLaws.{get-revise}
 use Rattle.bm_base.specs.RoundParts.{started_holdings}
 use Rattle.bm_parts.specs.Settled as law
-use Rattle.bm_parts.specs.Settled.{IsSettled, plain, usable}
+use Rattle.bm_parts.specs.Settled.{IsSettled, plain}
 use Rattle.std.proofs.lemmas.Bool.{and_parts, and_right, or_parts}
 use Rattle.bm_parts.proofs.OneBlock.{settled_is_of_its_block}
 use Rattle.bm_parts.proofs.Storages.{storages_left, storages_revised, fewer_where}

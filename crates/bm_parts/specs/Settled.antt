@@ -9,7 +9,7 @@ use Rattle.bm_base.specs.declared.replica.Tag.TheVariants.{Good}
 use Rattle.bm_base.specs.declared.replica.BlockInfo.{BlockInfo}
 use Rattle.bm_base.specs.Map.{get}
 use Rattle.bm_base.specs.State.{Cluster, Holdings, replica_at}
-use Rattle.bm_base.specs.Replicas.{is_usable, live, drained, storages_where}
+use Rattle.bm_base.specs.Replicas.{is_usable, live, drained, storages_where, usable}
 use Rattle.bm_base.specs.Levels.{level}
 use Rattle.bm_base.specs.Excess.{excess_in, without_expired, without_unordered_excess}
 use Rattle.bm_base.specs.Deletes.{is_deletable}
@@ -20,10 +20,6 @@ use Rattle.bm_base.specs.RoundParts.{started_holdings}
 -- good, not in excess and not ordered
 abbrev pub plain : Marks
 plain = record { tag = Good; excess = false; ordered = false }
-
--- the storages of the block's usable replicas, live or drained, rising
-abbrev pub usable : Holdings → ℕ → List ℕ
-usable H b = storages_where (λ _ m. is_usable m) H b
 
 -- All replicas of the block are good ones with no mark, and there are no more of them than are wanted, whichever nodes drain.
 pub record IsSettled (H : Holdings) (b : ℕ) : Type 0 where

@@ -122,7 +122,8 @@ impl Scheduled {
 
 /// The storages of a cluster, by rising number, to none of which anything is sent yet.
 fn rows_of(alloc: Global, topology: &Topology) -> Result<NumberMap<Target>, AllocError>
-    ensures { IfOk result (λ rows. rows.map ≡ targets.target_table topology.now.cluster nothing_yet) }
+    ensures { IfOk result
+        (λ rows. rows.map ≡ targets.target_table topology.now.cluster nothing_yet) }
 {
     let mut rows = NumberMap::new(alloc);
     rows.reserve(topology.storage_count() as usize)?;

@@ -19,8 +19,8 @@ use Rattle.bm_arena.specs.Contents.{Contents, block_at, slot_of, marks_at, list_
 use Rattle.bm_base.proofs.SlotLists.{Among-without, Among-without_other, without-gone, Distinct-without}
 use Rattle.bm_report.specs.declared.types.Named.{Named}
 use Rattle.bm_report.specs.declared.tally.Tally.{Tally}
-use Rattle.bm_arena.specs.Holding.{replicas_of, blocks_of, holdings_of}
-use Rattle.bm_report.specs.Midway.{after, behind, without_all, number_at, slot_in, entered_all, fresh, out_all, lost_excess_out_all, told_of, count_ups, AreHere, HaveRoom, IsOncePerNode, IsExcessGood, IsEntered, IsCounted, IsSwept, DropsLostExcess, IsListed}
+use Rattle.bm_arena.specs.Holding.{replicas_of, blocks_of, holdings_of, id_at}
+use Rattle.bm_report.specs.Midway.{after, behind, without_all, slot_in, entered_all, fresh, out_all, lost_excess_out_all, told_of, count_ups, AreHere, HaveRoom, IsOncePerNode, IsExcessGood, IsEntered, IsCounted, IsSwept, DropsLostExcess, IsListed}
 use Rattle.bm_arena.proofs.Held.{get-replicas_of, blocks-kept, one_number}
 use Rattle.bm_arena.proofs.Staying.{entries-chain, entries-others}
 use Rattle.bm_report.proofs.Behind.{Among-after}
@@ -166,13 +166,13 @@ module _ (C : Cluster) (s : ℕ) (ns : List Named) (a0 a1 : Contents) (lawful0 :
     ids2 = entered.frame.ids ∙ others1.ids
 
     bs : List ℕ
-    bs = map (number_at a2) (behind a2 s)
+    bs = map (id_at a2) (behind a2 s)
 
     slot2 : (b : ℕ) → slot_of a2 b ≡ slot_of a0 b
     slot2 b = ap (λ l. lookup (nat_eq b) l) ids2
 
     -- a slot behind is led to by its number
-    leads2 : (x : ℕ) → Among x (behind a2 s) → slot_of a2 (number_at a2 x) ≡ Some x
+    leads2 : (x : ℕ) → Among x (behind a2 s) → slot_of a2 (id_at a2 x) ≡ Some x
     leads2 x m =
         let P : ℕ → Type 0 = λ k. Among k (behind a2 s) in
         number-leads a2 lawful2 x s (λ same. delimiter_before a2.delimiter (list_of a2 s) (lawful2.distinct s) (subst P same m))
@@ -181,7 +181,7 @@ module _ (C : Cluster) (s : ℕ) (ns : List Named) (a0 a1 : Contents) (lawful0 :
     named_stay : (b : ℕ) → is_some (last_stamp ns b) ≡ true → list_any (λ k. k == b) bs ≡ false
     unfolding bs
     named_stay b named =
-        any-out (number_at a2) b (behind a2 s) (λ x m is.
+        any-out (id_at a2) b (behind a2 s) (λ x m is.
         let at : slot_of a0 b ≡ Some x = sym (slot2 b) ∙ ap (slot_of a2) (sym is) ∙ leads2 x m in
         let P : List ℕ → Type 0 = λ l. Among x l in
         gone-named a0 ns b here named x at (list_of a0 s) (lawful0.distinct s) (subst P behind2 m))
@@ -190,14 +190,14 @@ module _ (C : Cluster) (s : ℕ) (ns : List Named) (a0 a1 : Contents) (lawful0 :
     unfolding bs
     others_leave b named some = by (slot_of a0 b) refl
       where
-        by : (o : Option ℕ) → slot_of a0 b ≡ o → list_any (λ k. k == b) (map (number_at a2) (behind a2 s)) ≡ true
+        by : (o : Option ℕ) → slot_of a0 b ≡ o → list_any (λ k. k == b) (map (id_at a2) (behind a2 s)) ≡ true
         by None e = absurd (some_there (get (replicas_of a0) (replica_at b s)) some (get-replicas_of a0 (replica_at b s) ∙ ap (λ o. option_and_then (λ k. marks_at a0 k s) o) e))
         by (Some x) e =
             let Q : Option Marks → Type 0 = λ o. IsSome o in
             let stands : Among x (list_of a0 s) = (lawful0.exact x s).1 (subst Q (get-here a0 b x s e) some) in
             let P : List ℕ → Type 0 = λ l. Among x l in
             let left : Among x (behind a2 s) = subst P (sym behind2) (kept-other a0 lawful0 ns b here named x e (list_of a0 s) stands) in
-            any-in (number_at a2) b x (behind a2 s) left (one_number a2 lawful2 (number_at a2 x) b x (leads2 x left) (slot2 b ∙ e))
+            any-in (id_at a2) b x (behind a2 s) left (one_number a2 lawful2 (id_at a2 x) b x (leads2 x left) (slot2 b ∙ e))
 
     replicas4 : replicas_of a4 ≡ replicas_of a3
     replicas4 = replicas-beside a3 a4 lawful3 others4.ids others4.blocks
@@ -284,7 +284,7 @@ module _ (C : Cluster) (s : ℕ) (ns : List Named) (a0 a1 : Contents) (lawful0 :
           by None e = drops.absent slot (marks4 ∙ e) ∙ same4
           by (Some m) e =
               let at = number-leads a0 lawful0 slot s apart (some_is (marks_at a0 slot s) m e) in
-              drops.others slot m (marks4 ∙ e) (good (replica_at (number_at a0 slot) s) m (get-here a0 (number_at a0 slot) slot s at ∙ e)) ∙ same4
+              drops.others slot m (marks4 ∙ e) (good (replica_at (id_at a0 slot) s) m (get-here a0 (id_at a0 slot) slot s at ∙ e)) ∙ same4
 
       -- a block that is on another storage alone and is not named
       pub others5 : (slot : ℕ) → slot ≢ a0.delimiter → marks_at a0 slot s ≡ None → (Among slot (map slot_in ns) → ⊥) → block_at a5 slot ≡ block_at a0 slot

@@ -11,8 +11,8 @@ use Rattle.bm_base.specs.SlotLists.{Among, Distinct, without}
 use Rattle.bm_base.specs.SlotLists.{first_of, slot_after}
 use Rattle.bm_arena.specs.Contents.{Contents, block_at, slot_of, marks_at, list_of, find_marks, known_of, count_up, IsLawful, KeepsOthers}
 use Rattle.bm_report.specs.declared.tally.Tally.{Tally}
-use Rattle.bm_arena.specs.Holding.{replicas_of}
-use Rattle.bm_report.specs.Midway.{IsListed, after, behind, number_at, out_all, count_ups, swept_tally, IsSwept}
+use Rattle.bm_arena.specs.Holding.{replicas_of, id_at}
+use Rattle.bm_report.specs.Midway.{IsListed, after, behind, out_all, count_ups, swept_tally, IsSwept}
 use Rattle.bm_arena.proofs.Held.{replicas-out, blocks-kept}
 use Rattle.bm_arena.proofs.Staying.{entries-none, entries-chain, entries-others}
 use Rattle.bm_report.proofs.Behind.{after-without, Among-after}
@@ -68,10 +68,10 @@ map_same f g [] e = refl
 map_same f g (x ∷ xs) e = λ i. e x i ∷ map_same f g xs e i
 
 -- a slot with a replica is led to by its number
-pub number-leads : (a : Contents) → IsLawful a → (x s : ℕ) → x ≢ a.delimiter → IsSome (marks_at a x s) → slot_of a (number_at a x) ≡ Some x
+pub number-leads : (a : Contents) → IsLawful a → (x s : ℕ) → x ≢ a.delimiter → IsSome (marks_at a x s) → slot_of a (id_at a x) ≡ Some x
 number-leads a lawful x s apart some = by (block_at a x) refl
   where
-    by : (o : Option Block) → block_at a x ≡ o → slot_of a (number_at a x) ≡ Some x
+    by : (o : Option Block) → block_at a x ≡ o → slot_of a (id_at a x) ≡ Some x
     by None e = absurd (some_there (marks_at a x s) some (ap (λ o. option_and_then (λ (b : Block). find_marks b.replicas s) o) e))
     by (Some b) e = ap (λ o. slot_of a (option_map_or (λ (k : Block). k.id) o 0)) e ∙ lawful.known x b e apart
 
@@ -100,7 +100,7 @@ pub swept-cons : (s x : ℕ) (xs : List ℕ) (a b c : Contents) (t u v : Tally) 
 swept-cons s x xs a b c t u v f g = record {
   replicas =
       g.replicas
-      ∙ (λ i. out_all s (map_same (number_at b) (number_at a) xs (λ y. number_known (block_at b y) (block_at a y) (f.known y)) i) (f.replicas i));
+      ∙ (λ i. out_all s (map_same (id_at b) (id_at a) xs (λ y. number_known (block_at b y) (block_at a y) (f.known y)) i) (f.replicas i));
   ids = g.ids ∙ f.ids;
   delimiter = g.delimiter ∙ f.delimiter;
   marker = ap (block_at c) (sym f.delimiter) ∙ g.marker ∙ ap (block_at b) f.delimiter ∙ f.marker;
@@ -145,11 +145,11 @@ module _ (s x : ℕ) (a b : Contents) (lawful : IsLawful a) (next : slot_after a
   pub swept-there : IsSome (marks_at a x s)
   swept-there = (lawful.exact x s).0 (Among-after a.delimiter x (list_of a s) among_behind)
 
-  leads : slot_of a (number_at a x) ≡ Some x
+  leads : slot_of a (id_at a x) ≡ Some x
   leads = number-leads a lawful x s swept-apart swept-there
 
-  out : replicas_of b ≡ remove (replicas_of a) (replica_at (number_at a x) s)
-  out = replicas-out a b lawful x s (number_at a x) leads others.ids others.blocks others.marks gone
+  out : replicas_of b ≡ remove (replicas_of a) (replica_at (id_at a x) s)
+  out = replicas-out a b lawful x s (id_at a x) leads others.ids others.blocks others.marks gone
 
   shorter : behind b s ≡ rest_of (behind a s)
   shorter =
@@ -168,8 +168,8 @@ module _ (s x : ℕ) (a b : Contents) (lawful : IsLawful a) (next : slot_after a
   pub swept-one : (t u : Tally) → u ≡ swept_tally t → IsSwept s (x ∷ []) a b t u
   swept-one t u is =
       let P : Tally → Type 0 = λ v. IsSwept s (x ∷ []) a b t v in
-      let some : IsSome (get (replicas_of a) (replica_at (number_at a x) s)) = let Q : Option Marks → Type 0 = λ o. IsSome o in subst Q (sym (get-here a (number_at a x) x s leads)) swept-there in
-      let fewer = len-out (replicas_of a) (replica_at (number_at a x) s) some in
+      let some : IsSome (get (replicas_of a) (replica_at (id_at a x) s)) = let Q : Option Marks → Type 0 = λ o. IsSome o in subst Q (sym (get-here a (id_at a x) x s leads)) swept-there in
+      let fewer = len-out (replicas_of a) (replica_at (id_at a x) s) some in
       let here = ap len out in
       subst P (sym is)
       (record {
@@ -201,7 +201,7 @@ module _ (s x : ℕ) (a b : Contents) (lawful : IsLawful a) (next : slot_after a
       record {
         put = subst Q (sym same) f.put;
         swept = λ c w g. (subst P whole-behind f.swept) c w (swept-cons s x (behind b s) a b c u v w (swept-one u v v_is) g);
-        listed = listed-chain first a b ls ms ns f.listed (listed-push a b x ms ns others.blocks ns_is (number_at a x, leads) others.ids);
+        listed = listed-chain first a b ls ms ns f.listed (listed-push a b x ms ns others.blocks ns_is (id_at a x, leads) others.ids);
         removed = omega (arith, removed_is, count, f.removed);
         steps = omega (arith, steps_is, count, f.steps);
       }

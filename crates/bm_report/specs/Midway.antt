@@ -17,7 +17,7 @@ use Rattle.bm_base.specs.SlotLists.{Among, without}
 use Rattle.bm_arena.specs.Contents.{Contents, block_at, slot_of, marks_at, list_of, HasHead, HasRoom, count_up, known_of, IsEntry, KeepsEntries}
 use Rattle.bm_report.specs.declared.types.Named.{Named}
 use Rattle.bm_report.specs.declared.tally.Tally.{Tally}
-use Rattle.bm_arena.specs.Holding.{replicas_of, blocks_of, info_at}
+use Rattle.bm_arena.specs.Holding.{replicas_of, blocks_of, info_at, id_at}
 
 -- The marks of a reported replica while the report runs. The mark "in excess" says that it was so before the report, also
 -- where it is not good now; so a block that is named again finds what was before the report.
@@ -78,10 +78,6 @@ behind a s = after a.delimiter (list_of a s)
 abbrev pub without_all : List Named → List ℕ → List ℕ
 without_all [] xs = xs
 without_all (n ∷ ns) xs = without_all ns (without n.slot xs)
-
--- the number of the block in a slot
-abbrev pub number_at : Contents → ℕ → ℕ
-number_at a slot = option_map_or (λ (b : Block). b.id) (block_at a slot) 0
 
 -- the replicas of these blocks on s are out
 abbrev pub out_all : ℕ → List ℕ → Map by_replica Marks → Map by_replica Marks
@@ -184,7 +180,7 @@ pub record IsListed (old new : Contents) (before after : List ℕ) : Type 0 wher
 
 -- the slots xs, which stand behind the delimiter first, were taken out of the list of s
 pub record IsSwept (s : ℕ) (xs : List ℕ) (old new : Contents) (t u : Tally) : Type 0 where
-  pub replicas : replicas_of new ≡ out_all s (map (number_at old) xs) (replicas_of old)
+  pub replicas : replicas_of new ≡ out_all s (map (id_at old) xs) (replicas_of old)
   pub ids : new.ids ≡ old.ids
   pub delimiter : new.delimiter ≡ old.delimiter
   pub marker : block_at new old.delimiter ≡ block_at old old.delimiter

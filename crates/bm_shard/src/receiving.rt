@@ -14,7 +14,7 @@ use bm_report::Applied;
 use bm_topo::Topology;
 
 /// How many replicas came and went.
-fn done(applied: Applied) -> Done
+fn done_of(applied: Applied) -> Done
     ensures { (result.added ≡ applied.added) × (result.removed ≡ applied.removed) }
 {
     Done {
@@ -49,7 +49,7 @@ impl Shard {
             .receive(&self.report, topology, storage, id, stamp);
         self.pending.remove(id, storage);
         self.blocks.arena().lawful();
-        done(applied)
+        done_of(applied)
     }
 
     /// A storage reported all its replicas, as was looked up: they are there, others on it leave, and the transfers of those that
@@ -72,6 +72,6 @@ impl Shard {
         drop_arrived(&mut self.pending, self.blocks.arena(), storage);
         self.blocks.drop_bare(self.report.changed());
         self.blocks.arena().lawful();
-        done(applied)
+        done_of(applied)
     }
 }

@@ -59,8 +59,8 @@ pub fn reply_to<H: Threads + Wait + Sync>(
         ⊎ (manager.new ≡ asked_next manager.old asked.now)) }
 {
     match asked {
-        Asked::Long => refused(alloc, "refused 21 LongLine\n"),
-        Asked::Bad => refused(alloc, "refused 20 BadLine\n"),
+        Asked::Long => refusal_reply(alloc, "refused 21 LongLine\n"),
+        Asked::Bad => refusal_reply(alloc, "refused 20 BadLine\n"),
         Asked::Asks(call) => {
             let answer = manager.answer(rt, &NoGate, call);
             reply_of(alloc, call, &answer)
@@ -95,7 +95,7 @@ fn is_refused(answer: &Answer) -> bool
     matches!(answer, Answer::Refused(_))
 }
 
-fn refused(alloc: Global, text: &str) -> Result<Reply, AllocError>
+fn refusal_reply(alloc: Global, text: &str) -> Result<Reply, AllocError>
     ensures { IfOk result (λ r. (string_bytes r.text ≡ text.now) × (r.is_refused ≡ true)) }
 {
     Ok(Reply {

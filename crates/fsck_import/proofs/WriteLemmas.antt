@@ -1,5 +1,6 @@
 -- Lines that were written, and how they are read.
 use Rattle.std.proofs.Common.{◌≡◌, ◌≤◌, List, [], ◌∷◌, ◌++◌, Option, Some, None, map, length, refl, sym, ap, ◌∙◌, subst, append_assoc, append-nil}
+use Rattle.bm_lines.specs.declared.limits.TheConstants.{MAX_LINE}
 use Rattle.std.specs.List.{AllByRecursion}
 use Rattle.std.proofs.lemmas.Grind.{flat_map-append}
 use Rattle.std.specs.Io.KnownBytes.{Appends, Keeps}
@@ -29,7 +30,7 @@ calls-told : (calls : List Call) → AllByRecursion (λ call. IsLineOf call (lin
 calls-told [] each = refl
 calls-told (k ∷ calls) each = rw (each.0.asks, calls-told calls each.1) refl
 
-short-told : (calls : List Call) → AllByRecursion (λ call. IsLineOf call (line_text call)) calls → AllByRecursion (λ line. length line ≤ 4194304) (map line_text calls)
+short-told : (calls : List Call) → AllByRecursion (λ call. IsLineOf call (line_text call)) calls → AllByRecursion (λ line. length line ≤ MAX_LINE) (map line_text calls)
 short-told [] each = tt
 short-told (k ∷ calls) each = (each.0.short, short-told calls each.1)
 
@@ -62,7 +63,7 @@ pub all_told : (calls : List Call) (a b : Option Text) → ToldSoFar calls a b �
 all_told calls a b told = record {
   written = told.written;
   read = ap (map call_of) (lines-told calls told.each) ∙ calls-told calls told.each;
-  short = subst (AllByRecursion (λ line. length line ≤ 4194304)) (sym (lines-told calls told.each)) (short-told calls told.each);
+  short = subst (AllByRecursion (λ line. length line ≤ MAX_LINE)) (sym (lines-told calls told.each)) (short-told calls told.each);
 }
 
 -- what stands written after a flush

@@ -1,5 +1,6 @@
 -- The lines that are written for calls, and how they are read.
 use Rattle.std.specs.Prelude.{◌≡◌, ⊤, ◌≤◌, true, List, Some, All, map, length, Option}
+use Rattle.bm_lines.specs.declared.limits.TheConstants.{MAX_LINE}
 use Rattle.std.specs.List.{flat_map, AllByRecursion}
 use Rattle.std.specs.Io.KnownBytes.{Appends}
 use Rattle.bm_base.specs.declared.call.Call.{Call}
@@ -22,13 +23,13 @@ HaveLines calls = All (λ call. has_op call ≡ true) calls
 pub record IsLineOf (call : Call) (line : Text) : Type 0 where
   pub asks : call_of line ≡ Some call
   pub whole : IsPart line
-  pub short : length line ≤ 4194304
+  pub short : length line ≤ MAX_LINE
 
 -- what was written tells these calls: the line tool cuts it into lines of which each asks for its call, and none is too long to be read
 pub record Tells (calls : List Call) (old new : Option Text) : Type 0 where
   pub written : Appends old new (lines_for calls)
   pub read : map call_of (lines_of (lines_for calls)) ≡ map Some calls
-  pub short : AllByRecursion (λ line. length line ≤ 4194304) (lines_of (lines_for calls))
+  pub short : AllByRecursion (λ line. length line ≤ MAX_LINE) (lines_of (lines_for calls))
 
 -- a fault of writing: memory lacks, a write fails, or a line would be too long
 abbrev pub IsWriteFault : Fault → Type 0

@@ -14,7 +14,7 @@ use Rattle.bm_base.specs.declared.call.Answer.TheVariants as answer
 use Rattle.bm_base.specs.Map.{get, entries, keys}
 use Rattle.bm_base.specs.State.{Cluster, Holdings, State, replica_at}
 use Rattle.bm_base.specs.Lists.{has}
-use Rattle.bm_base.specs.Replicas.{is_usable, is_live_on, is_drained_on, node_of, has_storage, drains, is_draining, storages_where, live, drained, has_enough_live}
+use Rattle.bm_base.specs.Replicas.{is_usable, is_live_on, is_drained_on, node_of, has_storage, drains, is_draining, storages_where, live, drained, has_enough_live, usable}
 use Rattle.bm_base.specs.Queries.{missing_blocks, is_held_back_by, is_retired}
 use Rattle.bm_base.specs.Events.{without_node, without_storages, change_cluster, change_holdings}
 use Rattle.bm_base.specs.Refusals.{node_refusal}
@@ -29,7 +29,6 @@ use Rattle.bm_parts.proofs.Storages.{storages_left}
 use Rattle.bm_parts.proofs.Deaths.{draining_elsewhere}
 use Rattle.laws_of_events.proofs.Listing.{stored_where, usable_marks, marks_usable, missing_is, is_missing}
 use Rattle.laws_of_events.specs.Draining as law
-use Rattle.bm_parts.specs.Settled.{usable}
 
 -- Draining storages.
 

@@ -1,5 +1,6 @@
 -- The lists of queries rise.
 use Rattle.std.proofs.Common.{◌≡◌, ℕ, zero, suc, ◌<◌, Bool, true, false, cond, ◌&&◌, List, [], ◌∷◌, map, filter, length, AllPairs, inl, inr, refl, sym, subst, ◌∙◌, map-id, T, Ordering, Less, Equal, Greater, is_lt, eqb-true, arith}
+use Rattle.bm_parts.specs.QueryLaws.{replica_key}
 use Rattle.std.specs.Prelude.{◌==◌, slice_index_or}
 use Rattle.std.specs.Ordering.{nat_cmp, ordering_then}
 use Rattle.std.specs.Cmp.{ranked}
@@ -84,9 +85,9 @@ replicas_rise H = subst (Rise (λ e f. law.IsBefore e.0 f.0)) (map-id (entries H
 
 -- The queries.
 
-all_rise : (H : Holdings) → AllPairs (λ q r. law.IsBefore (law.id_of q) (law.id_of r)) (all_replicas H)
+all_rise : (H : Holdings) → AllPairs (λ q r. law.IsBefore (replica_key q) (replica_key r)) (all_replicas H)
 unfolding all_replicas
-all_rise H = rise_pairs _ (all_replicas H) (rise_mapped (λ e f. law.IsBefore e.0 f.0) (λ q r. law.IsBefore (law.id_of q) (law.id_of r)) (λ e. record { block = e.0.block; storage = e.0.storage; tag = e.1.tag }) (λ e f h. h) (entries H.replicas) (replicas_rise H))
+all_rise H = rise_pairs _ (all_replicas H) (rise_mapped (λ e f. law.IsBefore e.0 f.0) (λ q r. law.IsBefore (replica_key q) (replica_key r)) (λ e. record { block = e.0.block; storage = e.0.storage; tag = e.1.tag }) (λ e f h. h) (entries H.replicas) (replicas_rise H))
 
 where_rise : (test : Marks → Bool) (H : Holdings) → AllPairs law.IsBefore (replicas_where test H)
 unfolding replicas_where

@@ -12,10 +12,9 @@ use Rattle.bm_base.specs.declared.call.Answer.TheVariants as answer
 use Rattle.bm_base.specs.Map.{get}
 use Rattle.bm_base.specs.Lists.{has}
 use Rattle.bm_base.specs.State.{Cluster, Holdings, State, replica_at, first_state}
-use Rattle.bm_base.specs.Replicas.{live, drains, is_draining}
+use Rattle.bm_base.specs.Replicas.{live, drains, is_draining, usable}
 use Rattle.bm_base.specs.Queries.{missing_blocks, is_retired}
 use Rattle.bm_base.specs.Calls.{done_by, after_event, counted, step, state_after}
-use Rattle.bm_parts.specs.Settled.{usable}
 use Rattle.laws_of_events.specs.Reports.{held_after}
 use Rattle.laws_of_events.specs.Changes.{cluster_after, IsOn}
 use Rattle.laws_of_events.specs.Queries.{IsHeld}

@@ -1,5 +1,6 @@
 -- What queries list: just what is held, and all of it.
 use Rattle.std.specs.Prelude.{◌≡◌, ℕ, ◌<◌, AllPairs, Bool, false, ◌&&◌, ◌==◌, ◌↔◌, ◌⊎◌, IsTrue, IsSome, List, Some}
+use Rattle.bm_parts.specs.QueryLaws.{replica_key}
 use Rattle.std.specs.List.{list_any}
 use Rattle.bm_base.specs.declared.replica.ReplicaId.{ReplicaId}
 use Rattle.bm_base.specs.declared.replica.Replica.{Replica}
@@ -51,12 +52,9 @@ missing_have_no_usable_replica = (C : Cluster) (H : Holdings) → IsLawfulHoldin
 abbrev pub IsBefore : ReplicaId → ReplicaId → Type 0
 IsBefore p q = (p.block < q.block) ⊎ ((p.block ≡ q.block) × (p.storage < q.storage))
 
-abbrev pub id_of : Replica → ReplicaId
-id_of r = replica_at r.block r.storage
-
 -- each list rises, so that nothing stands in it twice
 pub record ListsRise (C : Cluster) (H : Holdings) : Type 0 where
-  pub replicas : AllPairs (λ q r. IsBefore (id_of q) (id_of r)) (all_replicas H)
+  pub replicas : AllPairs (λ q r. IsBefore (replica_key q) (replica_key r)) (all_replicas H)
   pub corrupt : AllPairs IsBefore (corrupt_replicas H)
   pub excess : AllPairs IsBefore (excess_replicas H)
   pub missing : AllPairs (λ b c. b < c) (missing_blocks C H)

@@ -5,7 +5,7 @@ use Rattle.bm_base.specs.declared.replica.Marks.{Marks}
 use Rattle.bm_base.specs.Map.{get}
 use Rattle.bm_base.specs.State.{Cluster, Holdings, replica_at}
 use Rattle.bm_base.specs.Lists.{has, has_repeats}
-use Rattle.bm_base.specs.Replicas.{live, drained, sources_of, is_usable, is_draining, storages_where}
+use Rattle.bm_base.specs.Replicas.{live, drained, sources_of, is_usable, is_draining, storages_where, usable}
 
 -- a storage stands among a block's live ones exactly where its replica of the block is good and not in excess, and its node does
 -- not drain
@@ -19,10 +19,6 @@ abbrev pub DrainedIsGoodNotInExcessAndDraining : Type 0
 DrainedIsGoodNotInExcessAndDraining =
     (C : Cluster) (H : Holdings) (b s : ℕ)
     → (has (drained C H b) s ≡ true) ↔ ((m : Marks) × (get H.replicas (replica_at b s) ≡ Some m) × (m.tag ≡ Good) × (m.excess ≡ false) × (is_draining C s ≡ true))
-
--- those of a block's usable replicas, whatever their nodes
-abbrev pub usable : Holdings → ℕ → List ℕ
-usable H b = storages_where (λ _ m. is_usable m) H b
 
 -- the usable ones are these two together
 abbrev pub UsableIsLiveOrDrained : Type 0

@@ -1,19 +1,15 @@
 -- How many nodes, storages, and entries and numbers of a report there may be.
 use Rattle.std.specs.Prelude.{ℕ, zero, suc, ◌+◌, ◌-◌, List, [], ◌∷◌, ◌++◌, map, replicate}
+use Rattle.std.specs.List.{range_with_len}
 use Rattle.bm_base.specs.declared.replica.Tag.TheVariants.{Good}
 use Rattle.bm_base.specs.declared.refusal.Refusal.TheVariants.{UnknownNode, NodeKnown, UnknownStorage, StorageKnown, TooMany, CallsSpent}
 use Rattle.bm_base.specs.declared.call.Call.{Call}
 use Rattle.bm_base.specs.declared.call.Answer.{Answer}
 use Rattle.worked_examples.specs.Script.{◌gives◌, Holds, HoldsOnCluster, usual, register, dead, storage_failed, report, entry, run, list_replicas, add_block, ok, replicas, replica, refused}
 
--- so many numbers from the first on
-abbrev pub numbers_from : ℕ → ℕ → List ℕ
-numbers_from first zero = []
-numbers_from first (suc k) = first ∷ numbers_from (first + 1) k
-
 -- the 258 accepted calls are the last that can be counted
 abbrev pub no_257th_node : Type 0
-no_257th_node = Holds (record usual { first_call = 18446744073709551357 }) (map (λ n. register n 1 [] gives ok 0 0) (numbers_from 1 256) ++ (
+no_257th_node = Holds (record usual { first_call = 18446744073709551357 }) (map (λ n. register n 1 [] gives ok 0 0) (range_with_len 1 256) ++ (
     register 257 1 [] gives refused TooMany
     ∷ register 257 1 (7 ∷ 7 ∷ []) gives refused StorageKnown
     ∷ register 256 1 (7 ∷ 7 ∷ []) gives refused NodeKnown

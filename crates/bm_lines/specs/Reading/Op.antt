@@ -1,5 +1,6 @@
 -- The names of the calls in an input line.
 use Rattle.std.specs.Prelude.{ℕ, List, if◌then◌else◌, Option, Some, None, codes}
+use Rattle.std.specs.Option.{option_or}
 use Rattle.std.specs.Str.{bytes_eq}
 use Rattle.bm_lines.specs.declared.reading.op.Op.{Op}
 use Rattle.bm_lines.specs.declared.reading.op.Op.TheVariants.{Register, Heartbeat, Dead, StorageFailed, Drain, Undrain, Add, Delete, SetReplication, Restamp, Received, Deleted, Corrupt, Report, Round, ListReplicas, ListCorrupt, ListMissing, ListExcess, ListStorage, ListPlaces, Level, Retired}
@@ -37,9 +38,6 @@ question_of name =
     else (if bytes_eq name (codes "retired") then Some Retired
     else None))))))))
 
-abbrev pub first_found : Option Op → Option Op → Option Op
-first_found (Some op) other = Some op
-first_found None other = other
-
+-- the op of this name
 abbrev pub op_of : List ℕ → Option Op
-op_of name = first_found (event_of name) (question_of name)
+op_of name = option_or (event_of name) (question_of name)

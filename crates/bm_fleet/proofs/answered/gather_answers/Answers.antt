@@ -1,7 +1,7 @@
 use Rattle.std.specs.Prelude.{ℕ, Err}
+use Rattle.std.specs.Result.{result_and}
 use Rattle.std.proofs.Common.{arith, ◌∙◌, ◌∷◌, [], ◌++◌, ap, sym, length-append}
 use Rattle.bm_fleet.specs.declared.answered.Answered.{Answered}
-use Rattle.bm_fleet.specs.Gathered.{or_else}
 use Rattle.bm_fleet.specs.FromShards.{shard_answered}
 use Rattle.bm_crew.proofs.Zips.{take_one}
 use Rattle.bm_fleet.proofs.OneMore.{map_push}
@@ -33,7 +33,7 @@ loop-index-preserved g c =
       rest = take_one _ _ _ _ _ inv.rest c.in-Some.ensures.steps.0;
       shards = c.push_reserved.ensures.items ∙ rw inv.shards (sym (map_push shard_answered c.loop-index.yielded one));
       answers = inv.answers ∙ sym (answers_push_err c.loop-index.yielded one _ c.in-Err.is);
-      outcome = c.first_refusal-outcome.ensures ∙ ap (λ o. or_else o (Err c.in-Err.refusal)) inv.outcome ∙ sym (fault_push_err c.loop-index.yielded one _ c.in-Err.is);
+      outcome = c.first_refusal-outcome.ensures ∙ ap (λ o. result_and o (Err c.in-Err.refusal)) inv.outcome ∙ sym (fault_push_err c.loop-index.yielded one _ c.in-Err.is);
       count = omega (arith, inv.count, long, c.push_reserved.ensures.len);
       few = omega (arith, inv.few, long);
       room = omega (arith, inv.room, c.push_reserved.ensures.capacity);

@@ -3,8 +3,8 @@ use Rattle.bm_fleet.specs.Listed.{row_at}
 use Rattle.bm_fleet.proofs.RowPlaces.{places_sorted, rows_in_order}
 use Rattle.bm_fleet.proofs.joined_rows.merged_rows.Goals as goal
 
-pub joined-requires : goal.joined-requires
-joined-requires c = places_sorted c.args.tables.now _ (ap (map (λ l. l.items)) c.as_slice.ensures.value ∙ c.in_ok-keyed.ensures) c.requires
+pub join-requires : goal.join-requires
+join-requires c = places_sorted c.args.tables.now _ (ap (map (λ l. l.items)) c.as_slice.ensures.value ∙ c.in_ok-keyed.ensures) c.requires
 
 pub returns-clause-joined : goal.returns-clause-joined
 returns-clause-joined c =

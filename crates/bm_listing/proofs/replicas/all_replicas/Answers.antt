@@ -9,4 +9,4 @@ use Rattle.bm_listing.proofs.replicas.all_replicas.Goals as goal
 pub returns-clause-all : goal.returns-clause-all
 unfolding all_replicas holdings_with
 returns-clause-all c pending =
-    c.from_vec.ensures ∙ c.in_ok-listed.ensures.items ∙ all_passing (replicas_of c.arena.result.now) ∙ ap (λ (a : Contents). all_replicas (holdings_with a pending)) c.arena.ensures
+    c.from_vec.ensures ∙ c.in_ok-list.ensures.items ∙ all_passing (replicas_of c.arena.result.now) ∙ ap (λ (a : Contents). all_replicas (holdings_with a pending)) c.arena.ensures

@@ -11,4 +11,4 @@ use Rattle.bm_listing.proofs.replicas.corrupt_replicas.Goals as goal
 pub returns-clause-corrupt : goal.returns-clause-corrupt
 unfolding replicas_where holdings_with
 returns-clause-corrupt c pending =
-    c.from_vec.ensures ∙ c.in_ok-ids_listed.ensures.items ∙ ids_passing (wants Corrupt) (replicas_of c.arena.result.now) ∙ ap (λ (a : Contents). corrupt_replicas (holdings_with a pending)) c.arena.ensures
+    c.from_vec.ensures ∙ c.in_ok-list_ids.ensures.items ∙ ids_passing (wants Corrupt) (replicas_of c.arena.result.now) ∙ ap (λ (a : Contents). corrupt_replicas (holdings_with a pending)) c.arena.ensures

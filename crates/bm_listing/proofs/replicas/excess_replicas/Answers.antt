@@ -11,4 +11,4 @@ use Rattle.bm_listing.proofs.replicas.excess_replicas.Goals as goal
 pub returns-clause-excess : goal.returns-clause-excess
 unfolding replicas_where holdings_with
 returns-clause-excess c pending =
-    c.from_vec.ensures ∙ c.in_ok-ids_listed.ensures.items ∙ ids_passing (wants Excess) (replicas_of c.arena.result.now) ∙ ap (λ (a : Contents). excess_replicas (holdings_with a pending)) c.arena.ensures
+    c.from_vec.ensures ∙ c.in_ok-list_ids.ensures.items ∙ ids_passing (wants Excess) (replicas_of c.arena.result.now) ∙ ap (λ (a : Contents). excess_replicas (holdings_with a pending)) c.arena.ensures

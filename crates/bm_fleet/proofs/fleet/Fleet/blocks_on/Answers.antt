@@ -8,8 +8,8 @@ use Rattle.bm_fleet.specs.Listed.{keyed_block}
 use Rattle.bm_fleet.proofs.Asked.{blocks_sorted, blocks_joined}
 use Rattle.bm_fleet.proofs.fleet.Fleet.blocks_on.Goals as goal
 
-pub joined-requires : goal.joined-requires
-joined-requires c =
+pub join-requires : goal.join-requires
+join-requires c =
     blocks_sorted c.as_slice-2.result.now c.as_slice.result.now (λ l. l.items) (λ H. blocks_on H c.args.storage) (blocks_on_join c.args.storage)
     (ap (map (λ l. l.items)) c.as_slice-2.ensures.value ∙ c.in_ok-lists.ensures.lists)
 

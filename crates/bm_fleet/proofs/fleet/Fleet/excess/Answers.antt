@@ -8,8 +8,8 @@ use Rattle.bm_fleet.specs.Listed.{keyed_id}
 use Rattle.bm_fleet.proofs.Asked.{ids_sorted, ids_joined}
 use Rattle.bm_fleet.proofs.fleet.Fleet.excess.Goals as goal
 
-pub joined-requires : goal.joined-requires
-joined-requires c =
+pub join-requires : goal.join-requires
+join-requires c =
     ids_sorted c.as_slice-2.result.now c.as_slice.result.now (λ l. l.items) excess_replicas (marked_replicas_join _)
     (ap (map (λ l. l.items)) c.as_slice-2.ensures.value ∙ c.in_ok-lists.ensures.lists)
 

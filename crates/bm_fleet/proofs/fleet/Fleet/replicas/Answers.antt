@@ -7,8 +7,8 @@ use Rattle.bm_fleet.specs.Listed.{keyed_replica}
 use Rattle.bm_fleet.proofs.Asked.{replicas_sorted, replicas_joined}
 use Rattle.bm_fleet.proofs.fleet.Fleet.replicas.Goals as goal
 
-pub joined-requires : goal.joined-requires
-joined-requires c =
+pub join-requires : goal.join-requires
+join-requires c =
     replicas_sorted c.as_slice-2.result.now c.as_slice.result.now (λ l. l.items)
     (ap (map (λ l. l.items)) c.as_slice-2.ensures.value ∙ c.in_ok-lists.ensures.lists)
 

@@ -6,8 +6,8 @@ use Rattle.bm_levels.proofs.Slots.{led_next, led_none, led_end}
 use Rattle.bm_listing.specs.Listed.{wants, listed_on}
 use Rattle.bm_listing.proofs.Led.{own_among}
 use Rattle.bm_listing.proofs.Gathering.{put_slot}
-use Rattle.bm_listing.proofs.replicas.gathered.Goals as goal
-use Rattle.bm_listing.proofs.replicas.gathered.Goals.{in-Some+in_ok-push_replicas, in_default}
+use Rattle.bm_listing.proofs.replicas.gather.Goals as goal
+use Rattle.bm_listing.proofs.replicas.gather.Goals.{in-Some+in_ok-push_replicas, in_default}
 
 pub push_replicas-requires : goal.push_replicas-requires
 push_replicas-requires c =

@@ -5,7 +5,7 @@ use Rattle.bm_base.specs.declared.replica.Replica.{Replica}
 use Rattle.bm_parts.specs.QueryLaws.{replica_key}
 use Rattle.bm_listing.specs.Listed.{wants}
 use Rattle.bm_listing.proofs.Found.{sorted_replicas}
-use Rattle.bm_listing.proofs.replicas.listed.Goals as goal
+use Rattle.bm_listing.proofs.replicas.list.Goals as goal
 
 pub returns-clause-items : goal.returns-clause-items
 returns-clause-items c =
