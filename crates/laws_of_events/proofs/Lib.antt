@@ -43,3 +43,7 @@ pub mod DrainLaws
 pub mod Retiring
 -- for no_transfer_to_draining
 pub mod Spared
+
+-- On proofs of other crates alone: of bm_base Orderly (calls_lead_to_orderly), Accepting (event_keeps_lawful), First
+--   (first_state_is_lawful) and Rounding (round_keeps_lawful); of bm_parts Parts (cut_gives_parts, event_changes_one_part,
+--   every_number_has_its_shard, parts_change_by_themselves, parts_give_back_whole) and PartSums (parts_answers_add_up).
