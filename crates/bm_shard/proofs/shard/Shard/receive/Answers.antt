@@ -34,11 +34,11 @@ returns-clause-changed c =
     c.receive-applied.ensures.levels old.part old.round old.pend _ _ (λ H. enter C H (replica_at c.args.id c.args.storage) c.args.stamp) _ c.args.self.now c.self.view_is
     (λ i. record { blocks = received.blocks i; replicas = received.replicas i; pending = c.remove.ensures.map i })
     (λ i. record {
-      added = (c.done.ensures.0 ∙ received.added ∙ ap (λ m. new_replicas (replicas_of old.blocks.arena) m) received.replicas) i;
-      removed = (c.done.ensures.1 ∙ received.removed ∙ ap (λ m. new_replicas m (replicas_of old.blocks.arena)) received.replicas) i;
+      added = (c.done_of.ensures.0 ∙ received.added ∙ ap (λ m. new_replicas (replicas_of old.blocks.arena) m) received.replicas) i;
+      removed = (c.done_of.ensures.1 ∙ received.removed ∙ ap (λ m. new_replicas m (replicas_of old.blocks.arena)) received.replicas) i;
     })
 
-none : (c : goal.After-done) → HasNoneBare c.receive-applied.new.self.arena
+none : (c : goal.After-done_of) → HasNoneBare c.receive-applied.new.self.arena
 none c = none_received c.args.topology.now.cluster (holdings_of c.self.inside.blocks.arena) c.self.inside.blocks.arena c.receive-applied.new.self.arena c.args.storage c.args.id c.args.stamp (subst (λ a. IsLawful a) c.arena.ensures c.lawful-2.ensures) c.receive-applied.ensures.received.entries.ids c.receive-applied.ensures.received.others c.receive-applied.ensures.received.replicas (λ n h. prepared_one c.self.inside.prepared c.self.inside.report c.args.storage c.args.id c.args.stamp n (looked_up c.self.inside.report c.self.inside.prepared c.args.storage _ (ap (λ (S : Seen). S.room.report) c.self.view_is ∙ c.requires.ready)).0 (looked_up c.self.inside.report c.self.inside.prepared c.args.storage _ (ap (λ (S : Seen). S.room.report) c.self.view_is ∙ c.requires.ready)).1 (c.self.invariant.bare n h))
 
 pub invariant_of-self : goal.invariant_of-self

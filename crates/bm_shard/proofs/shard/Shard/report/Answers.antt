@@ -47,17 +47,17 @@ returns-clause-changed c ts seen =
     let arrived = c.drop_arrived.ensures ∙ arrived_named C (holdings_of old.blocks.arena) s old.report.named c.arena-2.result.now there old.pending.map in
     let P : List Told → Type 0 = λ l. HasChanged C C c.args.self.now
     (seen_of new c.drop_arrived.new.pending.map old.part old.round old.pend (record { entries = numbers_of new.arena; lists = heads_of new.arena; report = None; transfers = c.drop_arrived.new.pending.rooms }))
-    (report C c.args.self.now.holdings s l) c.done.result in
+    (report C c.args.self.now.holdings s l) c.done_of.result in
     subst P (looked_up old.report old.prepared s ts (ap (λ (S : Seen). S.room.report) c.self.view_is ∙ seen)).1
     (changed_seen C C old.blocks new old.pending.map c.drop_arrived.new.pending.map (subst (λ a. IsLawful a) c.arena.ensures c.lawful-2.ensures) c.lawful.ensures (subst (λ a. IsLawful a) c.arena-3.ensures c.lawful-3.ensures)
     (λ h. c.drop_bare.ensures.levels C (reported.levels h)) old.part old.round old.pend _ _ (λ H. report C H s (told old.report)) _ c.args.self.now c.self.view_is
     (λ i. record { blocks = (c.drop_bare.ensures.blocks ∙ reported.blocks) i; replicas = replicas i; pending = arrived i })
     (λ i. record {
-      added = (c.done.ensures.0 ∙ reported.added ∙ ap (λ m. new_replicas (replicas_of old.blocks.arena) m) reported.replicas) i;
-      removed = (c.done.ensures.1 ∙ reported.removed ∙ ap (λ m. new_replicas m (replicas_of old.blocks.arena)) reported.replicas) i;
+      added = (c.done_of.ensures.0 ∙ reported.added ∙ ap (λ m. new_replicas (replicas_of old.blocks.arena) m) reported.replicas) i;
+      removed = (c.done_of.ensures.1 ∙ reported.removed ∙ ap (λ m. new_replicas m (replicas_of old.blocks.arena)) reported.replicas) i;
     }))
 
-none : (c : goal.After-done) → levels.HasNoneBare c.drop_bare.new.self.arena
+none : (c : goal.After-done_of) → levels.HasNoneBare c.drop_bare.new.self.arena
 none c =
     let a = c.self.inside.blocks.arena in
     let m = c.apply_report-applied.new.self.arena in
