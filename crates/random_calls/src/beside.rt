@@ -283,8 +283,7 @@ fn beside_one<J: Home + Send + Sync, R: Threads + Wait + Sync>(
     }
 }
 
-/// Makes the calls beside two threads that read. The readers are the first of the two: where no thread can be started they come last, and
-/// find all receipts.
+/// Makes the calls beside two threads that read.
 fn join_all<J: Home + Send + Sync, R: Threads + Wait + Sync>(
     rt: &R,
     list: &List,
@@ -299,14 +298,14 @@ fn join_all<J: Home + Send + Sync, R: Threads + Wait + Sync>(
 {
     let (one, from_one) = one;
     let (other, from_other) = other;
-    let (mut reads, wrong) = join(
+    let (wrong, mut reads) = join(
         rt,
-        move || -> Reads
-            requires { (one.home ≡ J.home) × (other.home ≡ J.home) }
-        { read_both::<J, R>(rt, list, one, from_one, other, from_other) },
         || -> u32
             requires { publisher.now.home ≡ J.home }
         { make_all::<J, R>(rt, list, manager, publisher, to_one, to_other) },
+        move || -> Reads
+            requires { (one.home ≡ J.home) × (other.home ≡ J.home) }
+        { read_both::<J, R>(rt, list, one, from_one, other, from_other) },
     );
     reads.add_wrong(wrong);
     reads

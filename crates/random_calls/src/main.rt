@@ -4,6 +4,7 @@
 //!
 //! `random_calls beside [TIMES [SEED]]` makes so many lists of 100 calls on a manager with five shards and four workers, publishes
 //! after each call, and has two threads read beside it: each answer and each read must be those of a manager with one of both.
+//! It wants threads: where none can be started, its readers wait for calls that come behind them, and it does not end.
 //!
 //! Ends with status 1 where two answers differ, where a read is of no version that was published or goes back, where memory is
 //! refused, where an argument is no number, and where the run was too poor to show much: fewer than so many events of each kind
