@@ -3,7 +3,7 @@
 use crate::answers::{Outcome, compare, compare_in_window};
 use crate::cases::{CLUSTER, THOUSAND_REPORTED};
 use crate::managers::{config, make_all};
-use crate::seen::{seen, shows};
+use crate::seen::{answers_to_all, shows};
 use crate::tally::Tally;
 use crate::windows::Window;
 use bm_base::Refusal;
@@ -66,7 +66,7 @@ fn go_on<R: Eprint + Threads + Wait + Sync>(
     tally: &mut Tally,
 ) -> Result<(), Refusal> {
     make_all(rt, alloc, manager, &CLUSTER)?;
-    let before = seen(rt, alloc, manager)?;
+    let before = answers_to_all(rt, alloc, manager)?;
     Ok(report_again(rt, alloc, manager, before.as_str(), workers, most, tally)?)
 }
 

@@ -2,7 +2,7 @@
 // that of a value which goes at the end of its scope is one for each.
 
 use crate::told::{Told, call_of};
-use crate::windows::{Window, begun, ended};
+use crate::windows::{Window, tell_begin, tell_end};
 use bm_base::{Answer, Call, Refusal};
 use bm_crew::NoGate;
 use bm_manager::Manager;
@@ -40,9 +40,9 @@ fn answer_in_window<R: Eprint + Threads + Wait + Sync>(
     window: &Window,
 ) -> Result<Answer, AllocError> {
     let call = call_of(alloc, told)?;
-    begun(rt, window);
+    tell_begin(rt, window);
     let answer = manager.answer(rt, &NoGate, &call);
-    ended(rt, window);
+    tell_end(rt, window);
     drop(call);
     Ok(answer)
 }
@@ -113,10 +113,6 @@ pub fn compare_in_window<R: Eprint + Threads + Wait + Sync>(
     }
 }
 
-pub fn wants_memory(answer: &Answer) -> bool {
-    matches!(answer, Answer::Refused(Refusal::Memory))
-}
-
 fn refusal_in(answer: Answer) -> Result<(), Refusal> {
     let refusal = match &answer {
         Answer::Refused(refusal) => Err(*refusal),
@@ -144,7 +140,7 @@ pub fn write_line(answer: &Answer, text: &mut String) -> Result<(), AllocError> 
 }
 
 fn outcome_of(alloc: Global, answer: &Answer, expected: &str) -> Result<Outcome, AllocError> {
-    if wants_memory(answer) {
+    if answer.wants_memory() {
         return Ok(Outcome::WantsMemory);
     }
     let mut text = String::new(alloc);

@@ -2,14 +2,14 @@
 // call of a list that is refused is passed over: what the others answer, and what they leave, is that of a manager which was made these
 // alone.
 
-use crate::answers::{answer_line, wants_memory, write_line};
+use crate::answers::{answer_line, write_line};
 use crate::cases::{CLUSTER, NOTHING};
 use crate::managers::{config, make_all};
-use crate::seen::{seen, shows};
+use crate::seen::{answers_to_all, shows};
 use crate::tally::Tally;
 use crate::told::{Told, call_of};
 use crate::views::note_alike;
-use crate::windows::{Window, begun, ended};
+use crate::windows::{Window, tell_begin, tell_end};
 use bm_base::{Answer, Call, Config, Items, Refusal};
 use bm_crew::NoGate;
 use bm_manager::{Manager, answers_alike};
@@ -231,7 +231,7 @@ fn answer_and_note<R: Eprint + Threads + Wait + Sync>(
     tally: &mut Tally,
 ) -> Result<(), Refusal> {
     make_all(rt, alloc, manager, list.before)?;
-    match answered(rt, alloc, manager, list, window, tally) {
+    match answer_with_refusal(rt, alloc, manager, list, window, tally) {
         Ok(answers) => {
             let noted = note_left(rt, alloc, manager, list, answers.as_slice(), tally);
             drop(answers);
@@ -242,7 +242,7 @@ fn answer_and_note<R: Eprint + Threads + Wait + Sync>(
 }
 
 /// Makes the calls with one allocation refused, and once more where there was no room for the answers, and nothing had changed.
-fn answered<R: Eprint + Threads + Wait + Sync>(
+fn answer_with_refusal<R: Eprint + Threads + Wait + Sync>(
     rt: &R,
     alloc: Global,
     manager: &mut Manager,
@@ -250,7 +250,7 @@ fn answered<R: Eprint + Threads + Wait + Sync>(
     window: &Window,
     tally: &mut Tally,
 ) -> Result<Items<Answer>, Refusal> {
-    let before = seen(rt, alloc, manager)?;
+    let before = answers_to_all(rt, alloc, manager)?;
     match answered_in_window(rt, manager, list, window) {
         Ok(answers) => {
             tally.note(true);
@@ -279,9 +279,9 @@ fn answered_in_window<R: Eprint + Threads + Wait + Sync>(
     list: &List,
     window: &Window,
 ) -> Result<Items<Answer>, Refusal> {
-    begun(rt, window);
+    tell_begin(rt, window);
     let answers = answer_all(rt, manager, list);
-    ended(rt, window);
+    tell_end(rt, window);
     answers
 }
 
@@ -377,9 +377,9 @@ fn two_in_window<R: Eprint + Threads + Wait + Sync>(
     list: &List,
     window: &Window,
 ) -> Result<(Items<Answer>, Items<Answer>), Refusal> {
-    begun(rt, window);
+    tell_begin(rt, window);
     let answered = answer_by_two(rt, alloc, list, window);
-    ended(rt, window);
+    tell_end(rt, window);
     answered
 }
 
@@ -439,7 +439,7 @@ fn note_answers<R: Threads + Wait + Sync>(
 fn count_refused(answers: &[Answer]) -> u32 {
     let mut count = 0u32;
     for answer in answers {
-        count = count.saturating_add(u32::from(wants_memory(answer)));
+        count = count.saturating_add(u32::from(answer.wants_memory()));
     }
     count
 }
@@ -455,7 +455,7 @@ fn lines_of(alloc: Global, answers: &[Answer]) -> Result<String, AllocError> {
 
 fn write_accepted(answers: &[Answer], text: &mut String) -> Result<(), AllocError> {
     for answer in answers {
-        if !wants_memory(answer) {
+        if !answer.wants_memory() {
             write_line(answer, text)?;
         }
     }
@@ -486,7 +486,7 @@ fn answer_accepted<R: Threads + Wait + Sync>(
     text: &mut String,
 ) -> Result<(), AllocError> {
     for (call, answer) in list.calls.iter().zip(answers.iter()) {
-        if !wants_memory(answer) {
+        if !answer.wants_memory() {
             answer_line(rt, other, call, text)?;
         }
     }

@@ -32,7 +32,7 @@ const MOST: u32 = 3;
 
 /// Ends with status 1 where memory is refused outside the windows, and where the argument is no number.
 fn main(rt: HostRuntime) -> ExitCode {
-    let Some(most) = asked(&rt) else {
+    let Some(most) = read_most(&rt) else {
         return ExitCode::FAILURE;
     };
     match go_over_all(&rt, rt.alloc(), most) {
@@ -44,7 +44,7 @@ fn main(rt: HostRuntime) -> ExitCode {
     }
 }
 
-fn asked<R: Runtime + AllocGlobal>(rt: &R) -> Option<u32> {
+fn read_most<R: Runtime + AllocGlobal>(rt: &R) -> Option<u32> {
     match env::args(rt).ok()?.skip(1).next() {
         Some(word) => word.as_str().parse::<u32>().ok(),
         None => Some(MOST),

@@ -24,7 +24,7 @@ const NODES: u32 = 6;
 const BLOCKS: u64 = 11;
 
 /// The answers to all questions.
-pub fn seen<R: Threads + Wait + Sync>(
+pub fn answers_to_all<R: Threads + Wait + Sync>(
     rt: &R,
     alloc: Global,
     manager: &mut Manager,
@@ -43,7 +43,7 @@ pub fn shows<R: Threads + Wait + Sync>(
     manager: &mut Manager,
     expected: &str,
 ) -> Result<bool, AllocError> {
-    match seen(rt, alloc, manager) {
+    match answers_to_all(rt, alloc, manager) {
         Ok(text) => Ok(text.as_str() == expected),
         Err(error) => Err(error),
     }

@@ -3,10 +3,10 @@ ghost use Rattle.std.specs.Prelude.{◌≡◌, ◌≤◌, IfOk, IfErr};
 
 use crate::cases::CLUSTER;
 use crate::managers::{config, make_all};
-use crate::seen::{seen, shows};
+use crate::seen::{answers_to_all, shows};
 use crate::tally::Tally;
 use crate::told::Told;
-use crate::windows::{Window, begun, ended};
+use crate::windows::{Window, tell_begin, tell_end};
 use bm_base::{BlockId, Config, Places, Refusal, StorageId};
 use bm_manager::Manager;
 use bm_view::{Located, Locator, Publisher, Receipt, open_view};
@@ -120,9 +120,9 @@ fn new_in_window<R: Eprint>(
         workers,
         turn,
     };
-    begun(rt, &window);
+    tell_begin(rt, &window);
     let made = Manager::new(alloc, config(workers));
-    ended(rt, &window);
+    tell_end(rt, &window);
     made
 }
 
@@ -150,7 +150,7 @@ pub fn note_alike<R: Threads + Wait + Sync>(
     other: &mut Manager,
     tally: &mut Tally,
 ) -> Result<(), AllocError> {
-    let text = seen(rt, alloc, manager)?;
+    let text = answers_to_all(rt, alloc, manager)?;
     tally.note(shows(rt, alloc, other, text.as_str())?);
     Ok(())
 }
@@ -196,9 +196,9 @@ fn open_in_window<R: Eprint + Wait>(
         workers: 1,
         turn,
     };
-    begun(rt, &window);
+    tell_begin(rt, &window);
     let opened = open_view(rt, alloc, 2);
-    ended(rt, &window);
+    tell_end(rt, &window);
     opened
 }
 
@@ -208,13 +208,13 @@ fn last_reads_nothing(locators: &mut Vec<Locator>) -> bool {
         Some(mut locator) => {
             let located = locator.locate(BLOCK);
             drop(locator);
-            located == found(0, &[])
+            located == found_on(0, &[])
         }
         None => false,
     }
 }
 
-fn found(calls: u64, storages: &[StorageId]) -> Option<Located> {
+fn found_on(calls: u64, storages: &[StorageId]) -> Option<Located> {
     Some(Located {
         calls,
         places: Places::first_of(storages),
@@ -338,9 +338,9 @@ fn publish_in_window<R: Eprint + Threads + Wait + Sync>(
     ensures receipt { IfOk result (λ r. r.home ≡ publisher.new.home) }
     ensures home { publisher.new.home ≡ publisher.old.home }
 {
-    begun(rt, window);
+    tell_begin(rt, window);
     let shown = publish(rt, manager, publisher);
-    ended(rt, window);
+    tell_end(rt, window);
     shown
 }
 
@@ -363,7 +363,7 @@ fn learn_and_read(
     requires { receipt.home ≡ first.old.home }
     ensures { first.new.home ≡ first.old.home }
 {
-    let expected = found(receipt.calls(), storages);
+    let expected = found_on(receipt.calls(), storages);
     first.learn(receipt);
     both_read(first, second, expected)
 }
@@ -383,7 +383,7 @@ fn show_to<R: Eprint + Threads + Wait + Sync>(
 {
     show_first(rt, manager, publisher, first, second, tally)?;
     make_all(rt, alloc, manager, &SECOND_REPLICA)?;
-    let before = seen(rt, alloc, manager)?;
+    let before = answers_to_all(rt, alloc, manager)?;
     show_second(
         rt,
         alloc,
@@ -427,7 +427,7 @@ fn show_second<R: Eprint + Threads + Wait + Sync>(
 ) -> Result<(), Refusal>
     requires { first.old.home ≡ publisher.old.home }
 {
-    let receipt = published(
+    let receipt = publish_with_refusal(
         rt, alloc, manager, before, publisher, first, second, window, tally,
     )?;
     tally.note(receipt.calls() == 11);
@@ -437,7 +437,7 @@ fn show_second<R: Eprint + Threads + Wait + Sync>(
 }
 
 /// Publishes with one allocation refused, and once more where that was the answer, and nothing had changed.
-fn published<R: Eprint + Threads + Wait + Sync>(
+fn publish_with_refusal<R: Eprint + Threads + Wait + Sync>(
     rt: &R,
     alloc: Global,
     manager: &mut Manager,
@@ -478,6 +478,6 @@ fn is_as_before<R: Threads + Wait + Sync>(
 ) -> Result<bool, AllocError>
     ensures { first.new.home ≡ first.old.home }
 {
-    let is_read = both_read(first, second, found(10, &ONE));
+    let is_read = both_read(first, second, found_on(10, &ONE));
     Ok(calls == 10 && is_read && shows(rt, alloc, manager, before)?)
 }

@@ -10,7 +10,7 @@ pub struct Window {
 }
 
 /// From here on the allocation is refused.
-pub fn begun(rt: &impl Eprint, window: &Window) {
+pub fn tell_begin(rt: &impl Eprint, window: &Window) {
     let Window {
         name,
         workers,
@@ -20,7 +20,7 @@ pub fn begun(rt: &impl Eprint, window: &Window) {
 }
 
 /// No longer.
-pub fn ended(rt: &impl Eprint, window: &Window) {
+pub fn tell_end(rt: &impl Eprint, window: &Window) {
     let Window { name, workers, .. } = window;
     let _ = eprintln!(rt; "ended {name}/{workers}");
 }

@@ -141,7 +141,7 @@ fn remember(slots: &mut Slots, block: u64, slot: usize) {
     }
 }
 
-fn named(slots: &Slots, slot: Option<usize>) -> Answer {
+fn name_of(slots: &Slots, slot: Option<usize>) -> Answer {
     match slot {
         None => Answer::Nothing,
         Some(slot) if slot == slots.seven => Answer::SlotOf(7),
@@ -260,7 +260,7 @@ fn set_bad(arena: &mut Arena, slot: usize, storage: StorageId) -> Answer {
     Answer::Fine
 }
 
-fn done(rt: &impl Abort, alloc: Global, arena: &mut Arena, slots: &Slots, deed: Deed) -> Answer {
+fn do_deed(rt: &impl Abort, alloc: Global, arena: &mut Arena, slots: &Slots, deed: Deed) -> Answer {
     match deed {
         Deed::Reserve(first, count) => reserve(rt, alloc, arena, first, count),
         Deed::Link(block, storage) => link(arena, slot_of(slots, block), StorageId(storage)),
@@ -375,7 +375,7 @@ fn length_of(arena: &Arena, storage: StorageId) -> u64 {
     length
 }
 
-fn counted(arena: &Arena, count: Count) -> u64 {
+fn count_of(arena: &Arena, count: Count) -> u64 {
     match count {
         Count::Blocks => arena.count() as u64,
         Count::Steps => arena.steps(),
@@ -385,7 +385,7 @@ fn counted(arena: &Arena, count: Count) -> u64 {
 }
 
 /// The numbers of the first three blocks of a storage's list, and how many it has.
-fn walked(arena: &Arena, storage: StorageId) -> Answer {
+fn walk(arena: &Arena, storage: StorageId) -> Answer {
     let mut numbers = [0; 3];
     let mut count = 0;
     for slot in arena.walk(storage) {
@@ -422,7 +422,7 @@ fn info(info: Option<BlockInfo>) -> Answer {
     }
 }
 
-fn marked(marks: Option<Marks>) -> Answer {
+fn answer_marks(marks: Option<Marks>) -> Answer {
     match marks {
         None => Answer::Nothing,
         Some(marks) if marks == GOOD => Answer::Good,
@@ -443,23 +443,23 @@ fn answer_of(
             remember(slots, block, add(rt, arena, block));
             Answer::Fine
         }
-        Step::Do(deed) => done(rt, alloc, arena, slots, deed),
+        Step::Do(deed) => do_deed(rt, alloc, arena, slots, deed),
         Step::DoMany(many) => done_often(rt, alloc, arena, slots, many),
-        Step::Where(place) => named(slots, slot_asked(rt, arena, slots, place)),
-        Step::HowMany(count) => Answer::Number(counted(arena, count)),
+        Step::Where(place) => name_of(slots, slot_asked(rt, arena, slots, place)),
+        Step::HowMany(count) => Answer::Number(count_of(arena, count)),
         _ => looked_up(arena, slots, step),
     }
 }
 
 fn looked_up(arena: &Arena, slots: &Slots, step: Step) -> Answer {
     match step {
-        Step::Walk(storage) => walked(arena, StorageId(storage)),
+        Step::Walk(storage) => walk(arena, StorageId(storage)),
         Step::TripletAt(block, place) => replica(arena.triplet_at(slot_of(slots, block), place)),
         Step::IsDelimiter(block) => yes(arena.is_delimiter(slot_of(slots, block))),
         Step::HasHead(storage) => yes(arena.has_head(StorageId(storage))),
         Step::Info(block) => info(arena.info(slot_of(slots, block))),
         Step::Marks(block, storage) => {
-            marked(arena.marks(slot_of(slots, block), StorageId(storage)))
+            answer_of(arena.marks(slot_of(slots, block), StorageId(storage)))
         }
         _ => Answer::Other,
     }

@@ -48,7 +48,7 @@ pub fn find_round(
 {
     blocks.lawful();
     blocks.arena().lawful();
-    blocks.kept().lawful();
+    blocks.kept_levels().lawful();
     let start = Start {
         arena: blocks.arena(),
         pending,
@@ -57,13 +57,13 @@ pub fn find_round(
         round,
         bound,
     };
-    let mut slots = slots_to_visit(alloc, blocks.kept(), blocks.arena(), bound)?;
+    let mut slots = slots_to_visit(alloc, blocks.kept_levels(), blocks.arena(), bound)?;
     sort_slots(&mut slots)?;
     let mut found = start.visit_all(alloc, &slots)?;
     sort_excess(&mut found.excess)?;
     sort_wishes(&mut found.wishes)?;
     sort_deletes(&mut found.deletes)?;
-    let expired = pending.expired(alloc, pend, round)?;
+    let expired = pending.expired_transfers(alloc, pend, round)?;
     Ok(RoundPart {
         expired: Items::from_vec(expired),
         excess: Items::from_vec(found.excess),

@@ -20,8 +20,8 @@ pub fn likely_bound(
     most: usize,
     samples: usize,
 ) -> Result<Option<Key>, AllocError> {
-    let wishing = blocks.kept().wishing();
-    if blocks.kept().unsettled_count() > wishing.len() / WISHING_FOR_UNSETTLED {
+    let wishing = blocks.kept_levels().wishing_slots();
+    if blocks.kept_levels().unsettled_count() > wishing.len() / WISHING_FOR_UNSETTLED {
         return Ok(None);
     }
     let step = wishing.len() / samples.max(1) + 1;
@@ -41,7 +41,7 @@ fn push_key(
     into: &mut Vec<Key>,
 ) -> Result<(), AllocError> {
     let arena = blocks.arena();
-    let Some(level) = blocks.kept().level(slot) else {
+    let Some(level) = blocks.kept_levels().level(slot) else {
         return Ok(());
     };
     if arena.has_entry(slot) {

@@ -21,7 +21,7 @@ pub(crate) fn slots_to_visit(
         ≡ map (keyed_at kept.now arena.now) (visits kept.now arena.now bound)) }
 {
     let mut keyed = Vec::new(alloc);
-    for slot in kept.unsettled() {
+    for slot in kept.unsettled_slots() {
         keyed.push((key_of(kept, arena, slot), slot))?;
     }
     push_settled(kept, arena, bound, &mut keyed)?;
@@ -40,7 +40,7 @@ fn push_settled(
         ++ map (keyed_at kept.now arena.now)
         (filter (is_told kept.now arena.now bound) kept.now.wishing.slots)) }
 {
-    let members = kept.wishing();
+    let members = kept.wishing_slots();
     for member in members {
         let slot = *member as usize;
         let key = key_of(kept, arena, slot);

@@ -1,5 +1,5 @@
 -- What is asked of shards one by one, each beside its index, and what is gathered of their answers.
-use Rattle.std.specs.Prelude.{◌≡◌, ℕ, List, [], ◌∷◌, map, Option, Some, None, Result, Ok, Err, IfOk, IfErr}
+use Rattle.std.specs.Prelude.{◌≡◌, ℕ, List, [], ◌∷◌, map, Option, Some, None, Result, Ok, Err, IfOk, IfErr, Vec}
 use Rattle.std.specs.Result.{result_and}
 use Rattle.bm_base.specs.declared.refusal.Refusal.{Refusal}
 use Rattle.bm_base.specs.declared.refusal.Refusal.TheVariants.{Memory}
@@ -16,6 +16,12 @@ pub record HasAnswered {A : Type 0} (f : Seen → A) (s : ℕ × Seen) (made : �
 -- what shards answer, where each answers f of itself
 abbrev pub each_answer : {A : Type 0} → (Seen → A) → List (ℕ × Seen) → List A
 each_answer f ss = map (λ s. f s.1) ss
+
+-- of shards that were each to answer f of itself: they come back as they were, with all their answers, or want of memory
+pub record HasGathered {A G : Type 0} (f : Seen → A) (ss : List (ℕ × Seen)) (back : List (ℕ × Seen)) (answers : Result (Vec A G) Refusal) : Type 0 where
+  pub shards : back ≡ ss
+  pub answers : IfOk answers (λ v. v.items ≡ each_answer f ss)
+  pub refused : IfErr answers (λ e. e ≡ Memory)
 
 abbrev pub shard_answered : {A : Type 0} → ℕ × Answered A → ℕ × Seen
 shard_answered f = (f.0, f.1.shard)

@@ -4,7 +4,7 @@ ghost use Rattle.std.specs.Result.{result_ok};
 ghost use Rattle.std.specs.List.{AllZip, filter_map};
 ghost use Rattle.bm_base.specs.declared.refusal.Refusal.TheVariants.{Memory};
 ghost use Rattle.bm_shard.specs.Seen.{Seen};
-ghost use Rattle.bm_fleet.specs.FromShards.{HasAnswered, each_answer, shard_answered, first_fault};
+ghost use Rattle.bm_fleet.specs.FromShards.{HasAnswered, HasGathered, shard_answered, first_fault};
 
 use crate::gathering::first_refusal;
 use bm_base::Refusal;
@@ -57,13 +57,8 @@ pub(crate) fn answers_of<A: Drop>(
 ) -> (Vec<(u32, Shard)>, Result<Vec<A>, Refusal>)
     requires back { (back.items ≡ []) × (vec_len answered ≤ vec_capacity back) }
     requires answers { (answers.items ≡ []) × (vec_len answered ≤ vec_capacity answers) }
-    ensures shards { (f : Seen → A) → (ss : List (ℕ × Seen))
-        → AllZip (HasAnswered f) ss answered.items → result.0.items ≡ ss }
-    ensures answers { (f : Seen → A) → (ss : List (ℕ × Seen))
-        → AllZip (HasAnswered f) ss answered.items
-        → IfOk result.1 (λ v. v.items ≡ each_answer f ss) }
-    ensures refused { (f : Seen → A) → (ss : List (ℕ × Seen))
-        → AllZip (HasAnswered f) ss answered.items → IfErr result.1 (λ e. e ≡ Memory) }
+    ensures { (f : Seen → A) → (ss : List (ℕ × Seen)) → AllZip (HasAnswered f) ss answered.items
+        → HasGathered f ss result.0.items result.1 }
 {
     let (items, answers, outcome) = gather_answers(answered, back, answers);
     match outcome {

@@ -141,7 +141,7 @@ impl LeveledBlocks {
     }
 
     /// The levels and the unsettled slots, to be looked at.
-    pub fn kept(&self) -> &KeptLevels
+    pub fn kept_levels(&self) -> &KeptLevels
         ensures { result.now ≡ self.now.kept }
     {
         &self.kept

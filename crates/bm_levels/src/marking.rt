@@ -1,5 +1,5 @@
 // The marks of all replicas of one block, changed alike.
-ghost use Rattle.std.specs.Prelude.{◌≡◌, true, false, if◌then◌else◌};
+ghost use Rattle.std.specs.Prelude.{◌≡◌, false, if◌then◌else◌};
 ghost use Rattle.bm_base.specs.declared.replica.Tag.TheVariants.{Stale};
 ghost use Rattle.bm_base.specs.Replicas.{is_good};
 ghost use Rattle.bm_arena.specs.Contents.{block_at, known_of, KeepsAllBut, IsLawful};
@@ -52,13 +52,6 @@ fn tag_after_restamp(tag: Tag) -> Tag
     }
 }
 
-/// Whether two have the same marks.
-fn are_same(a: Marks, b: Marks) -> bool
-    ensures { result ≡ true → a ≡ b }
-{
-    a == b
-}
-
 /// Changes the marks of each replica of the block at a slot; nothing else changes. Marks that stay as they are are not written again.
 /// Answers whether any did not stay. Takes no memory.
 pub(crate) fn change_marks(arena: &mut Arena, slot: Slot, change: MarkChange) -> bool
@@ -74,7 +67,7 @@ pub(crate) fn change_marks(arena: &mut Arena, slot: Slot, change: MarkChange) ->
     for place in 0..arena.triplet_count(slot) {
         if let Some((storage, marks)) = arena.triplet_at(slot, place) {
             let after = change.apply(marks);
-            if !are_same(after, marks) {
+            if !after.is_same(marks) {
                 arena.set_marks_near(slot, storage, after, place);
                 is_changed = true;
             }

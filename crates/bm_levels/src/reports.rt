@@ -129,7 +129,7 @@ impl LeveledBlocks {
         self.arena.lawful();
         let applied = report.apply_full(&mut self.arena, topology, storage);
         self.kept
-            .judge_all_in(topology, &self.arena, report.changed());
+            .judge_all_in(topology, &self.arena, report.changed_slots());
         applied
     }
 }

@@ -52,11 +52,11 @@ impl LeveledBlocks {
         ensures entries { KeepsEntries self.old.arena self.new.arena }
         ensures levels { KeepsLevels topology.now.cluster self.old self.new }
     {
-        self.kept().lawful();
-        let mut at = self.kept().first_unsettled();
-        for _step in 0..self.kept().unsettled_count() {
+        self.kept_levels().lawful();
+        let mut at = self.kept_levels().first_unsettled();
+        for _step in 0..self.kept_levels().unsettled_count() {
             if let Some(slot) = at {
-                at = self.kept().next_unsettled(slot);
+                at = self.kept_levels().next_unsettled(slot);
                 self.begin_at(topology, slot);
             }
         }

@@ -47,7 +47,7 @@ impl KeptLevels {
     }
 
     /// The slots at which a round has to look, in any order.
-    pub fn unsettled(&self) -> Walk<'_>
+    pub fn unsettled_slots(&self) -> Walk<'_>
         ensures slots { result ≡ self.now.unsettled.slots }
         ensures once { Distinct result }
     {

@@ -12,7 +12,7 @@ use bm_queues::{LevelLists, SparseSet};
 impl KeptLevels {
     /// The slots at a level at which copies are wished for, in any order. They stand densely: one who goes over them does not wait for
     /// each to learn of the next.
-    pub fn wishing(&self) -> &[u32]
+    pub fn wishing_slots(&self) -> &[u32]
         ensures slots { result.now ≡ self.now.wishing.slots }
         ensures exact { AreWishing self.now result.now }
         ensures once { Distinct result.now }

@@ -43,7 +43,7 @@ pub fn missing_blocks(alloc: Global, blocks: &LeveledBlocks) -> Result<Items<Blo
     let arena = blocks.arena();
     arena.lawful();
     let mut ids = Vec::new(alloc);
-    for slot in blocks.kept().at_level(Level::NoUsableReplica) {
+    for slot in blocks.kept_levels().at_level(Level::NoUsableReplica) {
         ids.push(arena.id_of(slot))?;
     }
     ids.sort()?;

@@ -6,7 +6,8 @@ use Rattle.std.proofs.lemmas.Option.{same_Some}
 use Rattle.std.specs.FinMap.{find}
 use Rattle.std.specs.List.{list_any}
 use Rattle.bm_base.specs.Map.{Map, Order, get, entries}
-use Rattle.bm_base.specs.OfSorted.{of_sorted, entries-of_sorted}
+use Rattle.bm_base.specs.OfSorted.{of_sorted}
+use Rattle.bm_base.proofs.OfSorted.{entries-of_sorted}
 use Rattle.bm_base.proofs.MapLaws.{same_map}
 use Rattle.bm_base.proofs.SortedLaws.{get-of_sorted}
 use Rattle.bm_base.proofs.Options.{there}

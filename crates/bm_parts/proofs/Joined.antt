@@ -7,7 +7,8 @@ use Rattle.std.specs.FinMap.{is_sorted}
 use Rattle.std.proofs.lemmas.Bool.{or_left, or_right, eqb-false}
 use Rattle.std.proofs.lemmas.List.Folds.{list_any-append}
 use Rattle.bm_base.specs.Map.{Map, Order, entries, empty, get, insert, insert_all}
-use Rattle.bm_base.specs.OfSorted.{of_sorted, entries-of_sorted}
+use Rattle.bm_base.specs.OfSorted.{of_sorted}
+use Rattle.bm_base.proofs.OfSorted.{entries-of_sorted}
 use Rattle.bm_base.proofs.MapLaws.{same_map, get-insert, get-empty}
 use Rattle.bm_base.specs.Ordered.{ordered_by}
 use Rattle.bm_base.specs.Entries.{count_up}

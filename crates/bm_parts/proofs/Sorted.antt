@@ -6,7 +6,8 @@ use Rattle.std.specs.List.{list_any}
 use Rattle.std.specs.List.Sorted.{IsPermutation}
 use Rattle.std.proofs.lemmas.List.Sorted.{All-permutation, IsPermutation-sym, IsPermutation-map, list_any-IsPermutation}
 use Rattle.bm_base.specs.Map.{Map, Order, get, entries}
-use Rattle.bm_base.specs.OfSorted.{of_sorted, entries-of_sorted}
+use Rattle.bm_base.specs.OfSorted.{of_sorted}
+use Rattle.bm_base.proofs.OfSorted.{entries-of_sorted}
 use Rattle.bm_base.specs.Ordered.{ordered_by}
 use Rattle.bm_base.proofs.Each.{Each, each_all}
 use Rattle.bm_base.proofs.Maps.{key_itself, each_entry, passes_entry}

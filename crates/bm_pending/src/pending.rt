@@ -211,7 +211,12 @@ impl PendingTransfers {
     }
 
     /// The transfers that `drop_expired` takes out, by block and then by target. May answer `Memory`.
-    pub fn expired(&self, alloc: Global, pend: u32, round: u64) -> Result<Vec<ReplicaId>, Refusal>
+    pub fn expired_transfers(
+        &self,
+        alloc: Global,
+        pend: u32,
+        round: u64,
+    ) -> Result<Vec<ReplicaId>, Refusal>
         ensures items { IfOk result (λ v. v.items ≡ expired_of pend round self.now.map) }
         ensures refused { IfErr result (λ e. e ≡ Memory) }
     {

@@ -11,7 +11,8 @@ use Rattle.std.proofs.lemmas.Option.{slice_get_past}
 use Rattle.std.proofs.lemmas.Bool.Decides.{nat_tests}
 use Rattle.bm_base.specs.Lists.{has}
 use Rattle.bm_base.specs.Map.{Map, by_number, empty, entries, get, insert, insert_all, keys, len, revise_at, contains_key}
-use Rattle.bm_base.specs.OfSorted.{of_sorted, entries-of_sorted}
+use Rattle.bm_base.specs.OfSorted.{of_sorted}
+use Rattle.bm_base.proofs.OfSorted.{entries-of_sorted}
 use Rattle.bm_base.proofs.MapLaws.{same_map, get-insert, get-empty, get-revise}
 use Rattle.bm_base.proofs.SortedLaws.{get-of_sorted}
 use Rattle.bm_base.proofs.Ties.{number_tie}

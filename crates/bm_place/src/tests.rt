@@ -54,7 +54,7 @@ static NODES: [Node<'static>; 6] = [
 /// How many bytes are free on the storages of each of the nodes. A node with none is not in the cluster.
 const FOUR_NODES: [u64; 6] = [1000, 1000, 1000, 1000, 0, 0];
 
-fn named(rt: &impl Abort, alloc: Global, numbers: &[u32]) -> Vec<StorageId> {
+fn storages_numbered(rt: &impl Abort, alloc: Global, numbers: &[u32]) -> Vec<StorageId> {
     let mut storages = Vec::new(alloc);
     for number in numbers {
         storages.push(StorageId(*number)).expect(rt, "memory");
@@ -95,7 +95,7 @@ fn join(rt: &impl Abort, alloc: Global, topology: &mut Topology, node: &Node<'_>
     let joins = Event::Register {
         node: NodeId(node.number),
         rack: Rack(node.rack),
-        storages: Items::from_vec(named(rt, alloc, node.storages)),
+        storages: Items::from_vec(storages_numbered(rt, alloc, node.storages)),
     };
     take(rt, topology, &joins);
     take(rt, topology, &heartbeat(rt, alloc, node, free));
@@ -258,8 +258,8 @@ fn check_excess(
     chosen: &mut Vec<StorageId>,
     room: &mut ExcessRoom,
 ) {
-    let live = named(rt, alloc, case.live);
-    let wanted = named(rt, alloc, case.chosen);
+    let live = storages_numbered(rt, alloc, case.live);
+    let wanted = storages_numbered(rt, alloc, case.chosen);
     let alone = excess_of(alloc, live.as_slice(), case.repl, topology).expect(rt, "memory");
     assert!(rt; alone.as_slice() == wanted.as_slice());
     fill_excess(chosen, room, live.as_slice(), case.repl, topology).expect(rt, "memory");
@@ -419,7 +419,7 @@ fn source_after(
     topology: &Topology,
     case: &Source<'_>,
 ) -> Option<u32> {
-    let usable = named(rt, alloc, case.usable);
+    let usable = storages_numbered(rt, alloc, case.usable);
     let mut streams = Streams::new(alloc, topology).expect(rt, "memory");
     for source in case.sent {
         send(rt, &mut streams, StorageId(*source));
@@ -660,8 +660,8 @@ fn target_after(
     topology: &Topology,
     case: &Target<'_>,
 ) -> Option<u32> {
-    let held = named(rt, alloc, case.held);
-    let barred = named(rt, alloc, case.barred);
+    let held = storages_numbered(rt, alloc, case.held);
+    let barred = storages_numbered(rt, alloc, case.barred);
     let mut scheduled = Scheduled::new(alloc, topology).expect(rt, "memory");
     for (target, len) in case.filled {
         fill(rt, &mut scheduled, StorageId(*target), *len);

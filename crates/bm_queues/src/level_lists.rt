@@ -4,7 +4,7 @@ ghost use Rattle.bm_base.specs.declared.level.Level.{Level};
 ghost use Rattle.bm_base.specs.declared.refusal.Refusal.TheVariants.{Memory};
 ghost use Rattle.bm_base.specs.SlotLists.{first_of, without};
 ghost use Rattle.bm_queues.specs.Levels.{level_at, slots_of, next_of, with_room, moved, visited, IsLawful};
-ghost use Rattle.bm_queues.specs.Walks.{slots_from, IsOn, IsPast};
+ghost use Rattle.bm_queues.specs.Walks.{slots_from, IsOn, IsPast, GoesOn};
 
 use crate::level_byte::{LevelByte, no_level};
 use crate::slot_lists::SlotLists;
@@ -143,13 +143,8 @@ impl LevelLists {
     pub fn next(&self, slot: usize) -> Option<usize>
         requires { slot < length self.now.levels }
         ensures slot { result ≡ next_of self.now slot }
-        ensures on { (l : Level) → level_at self.now slot ≡ Some l
-            → IsOn result (slots_of self.now l) }
-        ensures rest { (l : Level) → level_at self.now slot ≡ Some l
-            → slots_from (slots_of self.now l) (Some slot)
-            ≡ slot ∷ slots_from (slots_of self.now l) result }
-        ensures past { (l : Level) → level_at self.now slot ≡ Some l
-            → IsPast slot result (slots_of self.now l) }
+        ensures goes_on { (l : Level) → level_at self.now slot ≡ Some l
+            → GoesOn slot result (slots_of self.now l) }
     {
         self.lists.next(slot)
     }

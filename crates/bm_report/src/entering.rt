@@ -7,7 +7,7 @@ ghost use Rattle.bm_arena.specs.Contents.{block_at, slot_of, marks_at, count_up,
 ghost use Rattle.bm_arena.specs.Holding.{replicas_of};
 ghost use Rattle.bm_report.specs.Midway.{behind, entered_at, IsFramed, IsOncePerNode, count_ups, IsEntered, IsCounted, IsSmall, Stands};
 
-use crate::marking::{are_same, is_excess_good, midway_marks};
+use crate::marking::{is_excess_good, midway_marks};
 use crate::sister_storages::sister_of;
 use crate::tally::Tally;
 use crate::types::Named;
@@ -76,7 +76,7 @@ pub(crate) fn move_known(
 {
     arena.lawful();
     arena.move_front(named.slot, storage);
-    if are_same(marks, was) {
+    if marks.is_same(was) {
         return false;
     }
     arena.set_marks(named.slot, storage, marks);

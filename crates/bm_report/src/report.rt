@@ -180,7 +180,7 @@ impl Report {
 
     /// The slots whose replicas or marks changed by `apply_full`, in any order. One may stand twice, and that of a block which the
     /// report names more than once, with different stamps, may stand there although its marks are in the end what they were.
-    pub fn changed(&self) -> &[Slot]
+    pub fn changed_slots(&self) -> &[Slot]
         ensures { result.now ≡ self.now.changed }
     {
         self.changed.as_slice()

@@ -70,7 +70,7 @@ impl Shard {
             .blocks
             .apply_report(&mut self.report, topology, storage);
         drop_arrived(&mut self.pending, self.blocks.arena(), storage);
-        self.blocks.drop_bare(self.report.changed());
+        self.blocks.drop_bare(self.report.changed_slots());
         self.blocks.arena().lawful();
         done_of(applied)
     }

@@ -6,7 +6,7 @@ ghost use Rattle.bm_lines.specs.Lines.{ended};
 ghost use Rattle.bm_lines.specs.Print.{answer_text};
 ghost use Rattle.bm_tool.specs.Text.{asked, asked_text, asked_next, asked_refused};
 
-use bm_base::{Answer, Call, Refusal};
+use bm_base::{Answer, Call};
 use bm_crew::NoGate;
 use bm_lines::{Line, answer_line, call_of};
 use bm_manager::Manager;
@@ -74,19 +74,13 @@ fn reply_of(alloc: Global, call: &Call, answer: &Answer) -> Result<Reply, AllocE
     ensures refused { IfOk result (λ r. r.is_refused ≡ is_refused answer.now) }
     ensures memory { IfOk result (λ _. wants_memory answer.now ≡ false) }
 {
-    if wants_memory(answer) {
+    if answer.wants_memory() {
         return Err(AllocError);
     }
     let mut text = answer_line(alloc, call, answer)?;
     text.push_str("\n")?;
     let is_refused = is_refused(answer);
     Ok(Reply { text, is_refused })
-}
-
-fn wants_memory(answer: &Answer) -> bool
-    ensures { result ≡ wants_memory answer.now }
-{
-    matches!(answer, Answer::Refused(Refusal::Memory))
 }
 
 fn is_refused(answer: &Answer) -> bool

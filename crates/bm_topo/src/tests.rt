@@ -183,7 +183,7 @@ fn give_up(topology: &mut Topology, event: &Event) -> Answer {
     Answer::Fine
 }
 
-fn checked(topology: &Topology, event: &Event) -> Answer {
+fn check(topology: &Topology, event: &Event) -> Answer {
     match topology.check(event) {
         Ok(()) => Answer::Fine,
         Err(refusal) => Answer::Refused(refusal),
@@ -204,7 +204,7 @@ fn number(found: Option<u64>) -> Answer {
 fn done_with(topology: &mut Topology, deed: Deed, event: &Event) -> Answer {
     match deed {
         Deed::Take => take(topology, event),
-        Deed::Check => checked(topology, event),
+        Deed::Check => check(topology, event),
         Deed::GiveUp => give_up(topology, event),
         Deed::Foresee => yes(topology.multi_after(event)),
     }

@@ -2,7 +2,7 @@
 
 use crate::MOST;
 use crate::tally::Tally;
-use crate::windows::{begun, ended};
+use crate::windows::{tell_begin, tell_end};
 use bm_arena::{Arena, Slot};
 use bm_base::{BlockId, BlockInfo, Gen, Marks, Refusal, Stamp, StorageId, Tag};
 use std::alloc::Global;
@@ -43,14 +43,14 @@ fn go_over_arena<R: Eprint>(
     tally: &mut Tally,
 ) -> Result<(), Refusal> {
     fill(arena, size)?;
-    begun(rt, "control");
+    tell_begin(rt, "control");
     tally.control(is_new_entry_refused(arena, size));
-    ended(rt, "control");
-    begun(rt, "arena");
+    tell_end(rt, "control");
+    tell_begin(rt, "arena");
     read_all(arena, size, tally);
     change_all(arena, size, tally);
     empty(arena, size, tally);
-    ended(rt, "arena");
+    tell_end(rt, "arena");
     Ok(())
 }
 

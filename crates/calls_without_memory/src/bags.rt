@@ -4,7 +4,7 @@ ghost use Rattle.bm_crew.specs.Bags.{room_of, given_of, IsCallerOf, IsHelperOf, 
 
 use crate::MOST;
 use crate::tally::Tally;
-use crate::windows::{begun, ended};
+use crate::windows::{tell_begin, tell_end};
 use bm_base::Refusal;
 use bm_crew::{Bag, BagPass};
 use std::alloc::Global;
@@ -16,16 +16,16 @@ pub fn go_over<R: Eprint + Wait>(rt: &R, alloc: Global) -> Result<Tally, Refusal
         let (bag, mut passes) = Bag::<u64>::open(alloc, size as usize, 2)?;
         let mut mine = passes.remove(0);
         let mut other = passes.remove(0);
-        begun(rt, "bag");
+        tell_begin(rt, "bag");
         put_all(rt, &bag, &mut mine, size as usize);
         take_all(rt, &bag, &mut other, 0, size / 2, &mut tally);
         bag.join(rt, &mut mine, other);
         take_all(rt, &bag, &mut mine, size / 2, size, &mut tally);
         tally.note(bag.take(rt, &mut mine).is_none());
-        ended(rt, "bag");
-        begun(rt, "control");
+        tell_end(rt, "bag");
+        tell_begin(rt, "control");
         tally.control(Bag::<u64>::open(alloc, size as usize, 1).is_err());
-        ended(rt, "control");
+        tell_end(rt, "control");
     }
     Ok(tally)
 }

@@ -6,7 +6,7 @@ ghost use Rattle.bm_place.specs.Targets.{target_table};
 use crate::MOST;
 use crate::clusters::{heartbeat, join_all, take_once};
 use crate::tally::Tally;
-use crate::windows::{begun, ended};
+use crate::windows::{tell_begin, tell_end};
 use bm_base::{Level, Refusal, StorageId};
 use bm_place::{Scheduled, Streams, least_source, least_target};
 use bm_topo::Topology;
@@ -46,9 +46,9 @@ fn go_over_cluster<R: Eprint>(
     join_all(topology, alloc, size)?;
     tell_all(topology, alloc, size)?;
     choose(rt, alloc, live, topology, tally)?;
-    begun(rt, "control");
+    tell_begin(rt, "control");
     tally.control(Streams::new(alloc, topology).is_err());
-    ended(rt, "control");
+    tell_end(rt, "control");
     Ok(())
 }
 
@@ -70,10 +70,10 @@ fn choose<R: Eprint>(
 ) -> Result<(), Refusal> {
     let mut streams = Streams::new(alloc, topology)?;
     let mut scheduled = Scheduled::new(alloc, topology)?;
-    begun(rt, "choices");
+    tell_begin(rt, "choices");
     choose_sources(live, topology, &mut streams, tally);
     choose_targets(live, topology, &mut scheduled, tally);
-    ended(rt, "choices");
+    tell_end(rt, "choices");
     Ok(())
 }
 

@@ -2,7 +2,7 @@
 
 use crate::MOST;
 use crate::tally::Tally;
-use crate::windows::{begun, ended};
+use crate::windows::{tell_begin, tell_end};
 use bm_base::{Event, Items, NodeId, Rack, Refusal, Remaining, StorageId};
 use bm_topo::Topology;
 use std::alloc::Global;
@@ -94,16 +94,16 @@ fn open_windows<R: Eprint>(
     tally: &mut Tally,
 ) -> Result<(), Refusal> {
     make_room(topology, told.last)?;
-    begun(rt, "registration");
+    tell_begin(rt, "registration");
     tally.note(take(topology, told.last).is_ok());
-    ended(rt, "registration");
+    tell_end(rt, "registration");
     make_room_to_drain(topology, told.number)?;
-    begun(rt, "control");
+    tell_begin(rt, "control");
     tally.control(make_room(topology, told.next).is_err());
-    ended(rt, "control");
-    begun(rt, "cluster");
+    tell_end(rt, "control");
+    tell_begin(rt, "cluster");
     tell(topology, size, told, tally);
-    ended(rt, "cluster");
+    tell_end(rt, "cluster");
     Ok(())
 }
 

@@ -3,7 +3,7 @@
 
 use crate::MOST;
 use crate::tally::Tally;
-use crate::windows::{begun, ended};
+use crate::windows::{tell_begin, tell_end};
 use bm_base::{
     BlockId, Config, Done, Event, Gen, Items, Level, NodeId, Rack, Refusal, Remaining, Stamp,
     StorageId,
@@ -73,16 +73,16 @@ fn open_windows<R: Eprint + Threads + Wait + Sync>(
     beats: &Event,
     tally: &mut Tally,
 ) {
-    begun(rt, "control");
+    tell_begin(rt, "control");
     tally.control(take_once(rt, manager, add_block(size)) == Err(Refusal::Memory));
-    ended(rt, "control");
+    tell_end(rt, "control");
     let before = manager.calls();
-    begun(rt, "manager");
+    tell_begin(rt, "manager");
     tally.note(take(rt, manager, beats) == Ok(NOTHING));
     tell_all(rt, manager, size, tally);
     tally.note(manager.calls().saturating_sub(before) == 1 + 5 * u64::from(size));
     tally.note(manager.rounds() == 0);
-    ended(rt, "manager");
+    tell_end(rt, "manager");
 }
 
 /// The manager takes an event. What it promises of it, no caller here wants to know.
@@ -112,7 +112,7 @@ fn fill<R: Threads + Wait + Sync>(
     take_once(rt, manager, register(alloc, size)?)?;
     for number in 0..size {
         take_once(rt, manager, add_block(number))?;
-        take_once(rt, manager, received(number))?;
+        take_once(rt, manager, received_event(number))?;
     }
     Ok(())
 }
@@ -163,7 +163,7 @@ fn add_block(number: u32) -> Event {
     }
 }
 
-fn received(number: u32) -> Event {
+fn received_event(number: u32) -> Event {
     Event::Received {
         storage: StorageId(number),
         id: block(number),

@@ -10,7 +10,7 @@ ghost use Rattle.bm_report.specs.Ready.{HasGoodExcess, IsReady};
 use crate::MOST;
 use crate::clusters::join_all;
 use crate::tally::Tally;
-use crate::windows::{begun, ended};
+use crate::windows::{tell_begin, tell_end};
 use bm_arena::{Arena, Marks};
 use bm_base::{BlockId, Entry, Gen, Part, Refusal, Stamp, StorageId, Tag};
 use bm_report::Report;
@@ -77,21 +77,21 @@ fn go_over_report<R: Eprint>(
     requires delimiter { block_at arena.old arena.old.delimiter ≡ Some (empty_block 0) }
 {
     make_ready(report, arena, size)?;
-    begun(rt, "report");
+    tell_begin(rt, "report");
     let applied = report.apply_full(arena, topology, StorageId(0));
     tally.note(applied.added == u128::from(size) && applied.removed == 0);
     tally.note(applied.steps == u128::from(size) + 2);
     tally.note(arena.count() == size as usize);
     read_all(arena, size, tally);
-    ended(rt, "report");
-    begun(rt, "control");
+    tell_end(rt, "report");
+    tell_begin(rt, "control");
     let last = size.saturating_mul(3);
     tally.control(name(report, arena, size.saturating_add(1), last).is_err());
-    ended(rt, "control");
-    begun(rt, "abort");
+    tell_end(rt, "control");
+    tell_begin(rt, "abort");
     report.abort(arena);
     tally.note(arena.count() == size as usize);
-    ended(rt, "abort");
+    tell_end(rt, "abort");
     Ok(())
 }
 

@@ -3,7 +3,7 @@ ghost use Rattle.std.specs.Prelude.{◌≡◌, IfOk, vec_len};
 
 use crate::MOST;
 use crate::tally::Tally;
-use crate::windows::{begun, ended};
+use crate::windows::{tell_begin, tell_end};
 use bm_base::Refusal;
 use bm_crew::{Crew, NoGate};
 use std::alloc::{AllocError, Global};
@@ -14,9 +14,9 @@ pub fn go_over<R: Eprint + Threads + Wait + Sync>(rt: &R, alloc: Global) -> Resu
     let mut tally = Tally::new();
     for size in 1..=MOST {
         go_over_one(rt, alloc, size, &mut tally)?;
-        begun(rt, "control");
+        tell_begin(rt, "control");
         tally.control(Crew::ready::<u64, u64>(alloc, size as usize, 1).is_err());
-        ended(rt, "control");
+        tell_end(rt, "control");
     }
     Ok(tally)
 }
@@ -29,10 +29,10 @@ fn go_over_one<R: Eprint + Threads + Wait + Sync>(
 ) -> Result<(), Refusal> {
     let items = pieces(alloc, size)?;
     let ready = Crew::ready::<u64, u64>(alloc, size as usize, 1)?;
-    begun(rt, "run");
+    tell_begin(rt, "run");
     let squares = ready.run(rt, items, &|_, x: u64| x.wrapping_mul(x), &NoGate);
     read_all(squares.as_slice(), size, tally);
-    ended(rt, "run");
+    tell_end(rt, "run");
     Ok(())
 }
 

@@ -2,7 +2,7 @@
 
 use crate::MOST;
 use crate::tally::Tally;
-use crate::windows::{begun, ended};
+use crate::windows::{tell_begin, tell_end};
 use bm_base::{Level, Refusal};
 use bm_queues::{LevelLists, SlotSet, Walk};
 use std::alloc::Global;
@@ -12,15 +12,15 @@ pub fn go_over_levels<R: Eprint>(rt: &R, alloc: Global) -> Result<Tally, Refusal
     for size in 1..=MOST as usize {
         let mut lists = LevelLists::new(alloc)?;
         lists.grow_to(size)?;
-        begun(rt, "levels");
+        tell_begin(rt, "levels");
         spread(&mut lists, size, &mut tally);
         gather(&mut lists, size, &mut tally);
         let count = take_levels(&mut lists, &mut tally);
         tally.note(count == size);
-        ended(rt, "levels");
-        begun(rt, "control");
+        tell_end(rt, "levels");
+        tell_begin(rt, "control");
         tally.control(lists.grow_to(size + 1).is_err());
-        ended(rt, "control");
+        tell_end(rt, "control");
     }
     Ok(tally)
 }
@@ -30,14 +30,14 @@ pub fn go_over_sets<R: Eprint>(rt: &R, alloc: Global) -> Result<Tally, Refusal> 
     for size in 1..=MOST as usize {
         let mut slots = SlotSet::new(alloc)?;
         slots.grow_to(size)?;
-        begun(rt, "set");
+        tell_begin(rt, "set");
         insert_all(&mut slots, size, &mut tally);
         let count = remove_all(&mut slots, &mut tally);
         tally.note(count == size && slots.len() == 0);
-        ended(rt, "set");
-        begun(rt, "control");
+        tell_end(rt, "set");
+        tell_begin(rt, "control");
         tally.control(slots.grow_to(size + 1).is_err());
-        ended(rt, "control");
+        tell_end(rt, "control");
     }
     Ok(tally)
 }

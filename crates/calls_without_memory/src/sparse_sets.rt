@@ -2,7 +2,7 @@
 
 use crate::MOST;
 use crate::tally::Tally;
-use crate::windows::{begun, ended};
+use crate::windows::{tell_begin, tell_end};
 use bm_base::Refusal;
 use bm_queues::SparseSet;
 use std::alloc::Global;
@@ -12,15 +12,15 @@ pub fn go_over<R: Eprint>(rt: &R, alloc: Global) -> Result<Tally, Refusal> {
     for size in 1..=MOST as usize {
         let mut slots = SparseSet::new(alloc);
         slots.grow_to(size)?;
-        begun(rt, "sparse");
+        tell_begin(rt, "sparse");
         insert_all(&mut slots, size, &mut tally);
         tally.note(slots.members().len() == size);
         remove_all(&mut slots, size, &mut tally);
         tally.note(slots.members().is_empty());
-        ended(rt, "sparse");
-        begun(rt, "control");
+        tell_end(rt, "sparse");
+        tell_begin(rt, "control");
         tally.control(slots.grow_to(size + 1).is_err());
-        ended(rt, "control");
+        tell_end(rt, "control");
     }
     Ok(tally)
 }

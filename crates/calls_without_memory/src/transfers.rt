@@ -4,7 +4,7 @@ ghost use Rattle.bm_pending.specs.OnTheWay.{room};
 
 use crate::MOST;
 use crate::tally::Tally;
-use crate::windows::{begun, ended};
+use crate::windows::{tell_begin, tell_end};
 use bm_base::{BlockId, HashSecret, Refusal, StorageId};
 use bm_pending::PendingTransfers;
 use std::alloc::Global;
@@ -50,10 +50,10 @@ fn open_windows<R: Eprint>(
 )
     requires { (b : ℕ) → b < size → 3 ≤ room pending.old b }
 {
-    begun(rt, "control");
+    tell_begin(rt, "control");
     tally.control(is_new_block_refused(pending, size));
-    ended(rt, "control");
-    begun(rt, "transfers");
+    tell_end(rt, "control");
+    tell_begin(rt, "transfers");
     insert_all(pending, size);
     read_all(pending, targets, size, tally);
     drop_some(pending, size, tally);
@@ -61,7 +61,7 @@ fn open_windows<R: Eprint>(
     pending.drop_empty_rooms();
     remove_all(pending, size, tally);
     pending.drop_empty_rooms();
-    ended(rt, "transfers");
+    tell_end(rt, "transfers");
 }
 
 /// Those that are too old, and then those to a storage.

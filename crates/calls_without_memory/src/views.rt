@@ -5,7 +5,7 @@ ghost use Rattle.bm_view.specs.History.{last_of};
 
 use crate::MOST;
 use crate::tally::Tally;
-use crate::windows::{begun, ended};
+use crate::windows::{tell_begin, tell_end};
 use bm_base::{BlockId, Places, Refusal, StorageId};
 use bm_view::{Located, Locator, Publisher, Receipt, Table, open_view};
 use std::alloc::{AllocError, Global};
@@ -16,9 +16,9 @@ pub fn go_over<R: Eprint + Wait>(rt: &R, alloc: Global) -> Result<Tally, Refusal
     for size in 1..=MOST {
         let table = table(alloc, size)?;
         go_over_view(rt, alloc, table, size, &mut tally)?;
-        begun(rt, "control");
+        tell_begin(rt, "control");
         tally.control(is_view_refused(rt, alloc));
-        ended(rt, "control");
+        tell_end(rt, "control");
     }
     Ok(tally)
 }
@@ -36,9 +36,9 @@ fn go_over_view<R: Eprint + Wait>(
         Some(locator) => publish_and_locate(rt, &mut publisher, locator, table, size, tally),
         None => Err(Refusal::BadConfig),
     };
-    begun(rt, "end");
+    tell_begin(rt, "end");
     publisher.end(rt);
-    ended(rt, "end");
+    tell_end(rt, "end");
     is_told
 }
 
@@ -65,11 +65,11 @@ fn publish_and_locate<R: Eprint + Wait>(
     requires home { locator.home ≡ publisher.old.home }
 {
     let receipt = publisher.publish(rt, table)?;
-    begun(rt, "view");
+    tell_begin(rt, "view");
     tally.note(receipt.calls() == u64::from(size));
     tally.note(publisher.calls() == u64::from(size));
     locate(&mut locator, receipt, size, tally);
-    ended(rt, "view");
+    tell_end(rt, "view");
     Ok(())
 }
 
@@ -77,15 +77,15 @@ fn locate(locator: &mut Locator, receipt: Receipt, size: u32, tally: &mut Tally)
     requires { receipt.home ≡ locator.old.home }
 {
     locator.learn(receipt);
-    tally.note(locator.locate(block(size)) == found(size, places(size)));
-    tally.note(locator.locate(block(0)) == found(size, Places::none()));
+    tally.note(locator.locate(block(size)) == found_on(size, places(size)));
+    tally.note(locator.locate(block(0)) == found_on(size, Places::none()));
 }
 
 fn block(number: u32) -> BlockId {
     BlockId(u64::from(number))
 }
 
-fn found(size: u32, places: Places) -> Option<Located> {
+fn found_on(size: u32, places: Places) -> Option<Located> {
     Some(Located {
         calls: u64::from(size),
         places,

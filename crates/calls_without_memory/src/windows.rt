@@ -1,11 +1,11 @@
 // Words for whoever watches the program. A line that can't be printed is left out, which the watcher sees.
 
 /// From here on no memory is needed.
-pub fn begun(rt: &impl Eprint, what: &str) {
+pub fn tell_begin(rt: &impl Eprint, what: &str) {
     let _ = eprintln!(rt; "begun {what}");
 }
 
 /// Memory may be needed again.
-pub fn ended(rt: &impl Eprint, what: &str) {
+pub fn tell_end(rt: &impl Eprint, what: &str) {
     let _ = eprintln!(rt; "ended {what}");
 }

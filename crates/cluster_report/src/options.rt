@@ -72,7 +72,7 @@ fn with<'a>(command: Command<'a>, arg: Arg<'a>) -> Result<Command<'a>, AllocErro
 }
 
 fn argument<'a>(alloc: Global, number: &Number) -> Arg<'a> {
-    named(alloc, number.name)
+    new_arg(alloc, number.name)
         .action(ArgAction::Set)
         .long(number.name)
         .value_name("N")
@@ -81,7 +81,7 @@ fn argument<'a>(alloc: Global, number: &Number) -> Arg<'a> {
         .value_parser(value_parser!(u32).range(1..=i64::from(number.most)))
 }
 
-fn named<'a>(alloc: Global, name: &'a str) -> Arg<'a> {
+fn new_arg<'a>(alloc: Global, name: &'a str) -> Arg<'a> {
     Arg::new(alloc, name)
 }
 

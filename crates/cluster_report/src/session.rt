@@ -2,7 +2,6 @@
 ghost use Rattle.std.specs.Prelude.{◌≡◌, Some, IfOk, OnOk, option_map, string_bytes};
 ghost use Rattle.bm_base.specs.State.{first_state};
 ghost use Rattle.bm_base.specs.Calls.{step};
-ghost use Rattle.bm_base.specs.Answering.{wants_memory};
 ghost use Rattle.cluster_report.specs.Sessions.{IsInStep};
 ghost use Rattle.cluster_report.specs.Reading.{told, told_of, after_line};
 
@@ -73,18 +72,12 @@ impl Session {
     {
         self.manager.lawful();
         let answer = self.manager.answer(rt, &NoGate, call);
-        if wants_memory(&answer) {
+        if answer.wants_memory() {
             return Err(AllocError);
         }
         self.book.take(call, &answer)?;
         told_of(self.alloc, call, &answer)
     }
-}
-
-fn wants_memory(answer: &Answer) -> bool
-    ensures { result ≡ wants_memory answer.now }
-{
-    matches!(answer, Answer::Refused(Refusal::Memory))
 }
 
 /// The text of a refusal; nothing of another answer.

@@ -174,17 +174,17 @@ fn argument<'a>(alloc: Global, number: &Number) -> Arg<'a> {
 }
 
 fn option<'a>(alloc: Global, name: &'a str, standard: &'a str) -> Arg<'a> {
-    named(alloc, name)
+    new_arg(alloc, name)
         .action(ArgAction::Set)
         .long(name)
         .default_value(standard)
 }
 
 fn flag<'a>(alloc: Global, name: &'a str) -> Arg<'a> {
-    named(alloc, name).action(ArgAction::SetTrue).long(name)
+    new_arg(alloc, name).action(ArgAction::SetTrue).long(name)
 }
 
-fn named<'a>(alloc: Global, name: &'a str) -> Arg<'a> {
+fn new_arg<'a>(alloc: Global, name: &'a str) -> Arg<'a> {
     Arg::new(alloc, name)
 }
 

@@ -84,9 +84,9 @@ fn copies_are_awaited_until_they_come_or_cannot(rt: HostRuntime) -> Result<(), F
     assert_eq!(rt; awaited.count(), 2);
     awaited.forget_lost(&Incident::NodeDrains(2), shape);
     assert_eq!(rt; awaited.count(), 1);
-    awaited.take_note(&received(4, 7));
+    awaited.take_note(&received_event(4, 7));
     assert_eq!(rt; awaited.count(), 1);
-    awaited.take_note(&received(2, 7));
+    awaited.take_note(&received_event(2, 7));
     assert_eq!(rt; awaited.count(), 0);
     await_copies(rt.alloc(), &mut awaited)?;
     awaited.give_up_old(105, 100);
@@ -98,7 +98,7 @@ fn await_copies(alloc: Global, awaited: &mut AwaitedCopies) -> Result<(), AllocE
     awaited.add_all(5, &commands(alloc)?)
 }
 
-fn received(storage: u32, block: u64) -> Event {
+fn received_event(storage: u32, block: u64) -> Event {
     Event::Received {
         storage: StorageId(storage),
         id: BlockId(block),

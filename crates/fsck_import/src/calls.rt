@@ -28,8 +28,8 @@ impl Cluster {
         let nodes = self.node_rows.as_slice();
         let rows = self.rows.as_slice();
         let calls = registers(alloc, nodes, rows)?;
-        let calls = joined(calls, heartbeats(alloc, nodes, rows, remaining)?)?;
-        joined(calls, self.blocks.adds(alloc)?)
+        let calls = join(calls, heartbeats(alloc, nodes, rows, remaining)?)?;
+        join(calls, self.blocks.adds(alloc)?)
     }
 
     fn into_rows(self) -> Rows
@@ -44,11 +44,11 @@ impl Cluster {
 fn with_reports(alloc: Global, calls: Vec<Call>, rows: Rows) -> Result<Vec<Call>, AllocError>
     ensures { IfOk result (λ all. all.items ≡ calls.items ++ map report rows) }
 {
-    joined(calls, reports(alloc, rows.into_vec())?)
+    join(calls, reports(alloc, rows.into_vec())?)
 }
 
 /// With more calls behind these.
-fn joined(mut calls: Vec<Call>, mut more: Vec<Call>) -> Result<Vec<Call>, AllocError>
+fn join(mut calls: Vec<Call>, mut more: Vec<Call>) -> Result<Vec<Call>, AllocError>
     ensures { IfOk result (λ all. all.items ≡ calls.items ++ more.items) }
 {
     calls.append(&mut more)?;

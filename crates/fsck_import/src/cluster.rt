@@ -139,7 +139,7 @@ impl Cluster {
     }
 
     /// How many blocks of the file were told.
-    fn seen(&self) -> usize
+    fn count_told(&self) -> usize
         ensures { result ≡ seen self.now }
     {
         self.blocks.len().saturating_sub(self.before)
@@ -149,7 +149,7 @@ impl Cluster {
     fn is_next(&self, index: u64) -> bool
         ensures { result ≡ is_next self.now index }
     {
-        if index != self.seen() as u64 {
+        if index != self.count_told() as u64 {
             return false;
         }
         match self.announced {
@@ -163,7 +163,7 @@ impl Cluster {
         ensures { result ≡ lacks_blocks self.now }
     {
         match self.announced {
-            Some(count) => self.seen() < count as usize,
+            Some(count) => self.count_told() < count as usize,
             None => false,
         }
     }
@@ -192,7 +192,7 @@ impl Cluster {
         ensures ok { OnOk result (after_block self.old words.now told ≡ Ok self.new) }
         ensures refused { IfErr result (λ f. IsCause f (after_block self.old words.now told)) }
     {
-        let repl = wanted(self.target, told.live);
+        let repl = count_wanted(self.target, told.live);
         if repl < 1 || repl > MAX_REPLICATION {
             return Err(LineFault::Refused(Refusal::BadReplication));
         }
@@ -319,7 +319,7 @@ fn is_whole(part: Part) -> bool
 }
 
 /// How many replicas of a block are wanted: as many as was told of its file, else as many as are live, and at least one.
-fn wanted(target: Option<u32>, live: Option<u32>) -> u32
+fn count_wanted(target: Option<u32>, live: Option<u32>) -> u32
     ensures { result ≡ wanted target live }
 {
     match target {

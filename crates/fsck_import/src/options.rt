@@ -63,7 +63,7 @@ fn option<'a>(alloc: Global, name: &'a str, value: &'a str, help: &'a str) -> Ar
     ensures rule { rule_of result ≡ option_rule name.entry.now }
     ensures local { result.global ≡ false }
 {
-    named(alloc, name)
+    new_arg(alloc, name)
         .action(ArgAction::Set)
         .long(name)
         .value_name(value)
@@ -71,7 +71,7 @@ fn option<'a>(alloc: Global, name: &'a str, value: &'a str, help: &'a str) -> Ar
 }
 
 /// An argument of which nothing but its name is said.
-fn named<'a>(alloc: Global, name: &'a str) -> Arg<'a>
+fn new_arg<'a>(alloc: Global, name: &'a str) -> Arg<'a>
     ensures rule { rule_of result ≡ new_rule name.entry.now }
     ensures local { result.global ≡ false }
 {

@@ -18,7 +18,7 @@ pub struct Listed<'a> {
 }
 
 /// A word without the bracket that opens a list, and whether it stands there.
-pub fn opened(word: &str) -> (&str, bool)
+pub fn strip_open(word: &str) -> (&str, bool)
     ensures { (result.0.now, result.1) ≡ opened word.now }
 {
     match behind_first(word, '[') {
@@ -28,7 +28,7 @@ pub fn opened(word: &str) -> (&str, bool)
 }
 
 /// A word of a list without what ends it, and whether that is the bracket that closes the list, and not a comma.
-pub fn ended(word: &str) -> Option<(&str, bool)>
+pub fn strip_end(word: &str) -> Option<(&str, bool)>
     ensures { option_map (λ p. (p.0.now, p.1)) result ≡ ended word.now }
 {
     match before_last(word, ']') {

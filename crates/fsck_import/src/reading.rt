@@ -29,7 +29,7 @@ fn take_text<R: BufRead>(alloc: Global, reader: &mut R, cluster: &mut Cluster) -
     ensures refused { IfErr result (λ f. IsFaultOfText f (R.remaining reader.old)) }
 {
     let number = take_lines(alloc, reader, cluster)?;
-    ended(cluster, number)
+    check_end(cluster, number)
 }
 
 /// Takes every line, and says which number the line behind the last would have.
@@ -78,7 +78,7 @@ fn take_numbered(
 }
 
 /// Whether a cluster is whole at the end of the text, where a line of this number would come next.
-fn ended(cluster: &Cluster, number: u64) -> Result<(), Fault>
+fn check_end(cluster: &Cluster, number: u64) -> Result<(), Fault>
     ensures text { OnOk result (at_line number (at_end cluster.now) ≡ Ok cluster.now) }
     ensures refused { IfErr result (λ f. IsReadFault f (at_line number (at_end cluster.now))) }
 {

@@ -421,7 +421,7 @@ fn import_all<R: BufRead, W: Write, N: Destination>(
 }
 
 /// The lines that are written for a text, and the table of names.
-fn imported(alloc: Global, text: &str, remaining: u64) -> Result<(Vec<u8>, Vec<u8>), Fault> {
+fn import_text(alloc: Global, text: &str, remaining: u64) -> Result<(Vec<u8>, Vec<u8>), Fault> {
     let mut reader = text.as_bytes();
     let mut lines = Vec::new(alloc);
     let mut names = no_names(alloc);
@@ -430,7 +430,7 @@ fn imported(alloc: Global, text: &str, remaining: u64) -> Result<(Vec<u8>, Vec<u
 }
 
 fn check_case(rt: &impl Abort, alloc: Global, case: &Case) -> Result<(), Fault> {
-    let (lines, names) = imported(alloc, case.text, case.remaining)?;
+    let (lines, names) = import_text(alloc, case.text, case.remaining)?;
     assert!(rt; lines.as_slice() == case.lines.as_bytes());
     if let Some(told) = case.names {
         assert!(rt; names.as_slice() == told.as_bytes());
@@ -447,8 +447,8 @@ fn lines_and_names_come_of_a_text(rt: HostRuntime) -> Result<(), Fail> {
 }
 
 /// The line of a text that is refused, and why.
-fn refused(alloc: Global, text: &str) -> Option<Unread> {
-    match imported(alloc, text, 1) {
+fn refusal_of(alloc: Global, text: &str) -> Option<Unread> {
+    match import_text(alloc, text, 1) {
         Err(Fault::Refused(unread)) => Some(unread),
         _ => None,
     }
@@ -457,7 +457,7 @@ fn refused(alloc: Global, text: &str) -> Option<Unread> {
 #[test]
 fn the_first_line_that_is_refused_is_named(rt: HostRuntime) {
     for (text, line, why) in &REFUSED {
-        let told = refused(rt.alloc(), text);
+        let told = refusal_of(rt.alloc(), text);
         assert!(rt; matches!(told, Some(Unread { line: l, why: w }) if l == *line && w == *why));
     }
 }

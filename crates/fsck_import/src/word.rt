@@ -5,7 +5,7 @@ ghost use Rattle.fsck_import.specs.Words.{fixed_word, valued_word, name_part, bl
 
 use crate::cuts::{cut_at, number_of, small_number_of};
 use crate::place::{before_last, place_of};
-use crate::place_list::{Listed, ended, opened};
+use crate::place_list::{Listed, strip_end, strip_open};
 use bm_base::{BlockId, Gen};
 
 /// What a word says, wherever it stands.
@@ -168,8 +168,8 @@ fn index_of(word: &str) -> Option<u64>
 fn listed_word(word: &str) -> Option<Word<'_>>
     ensures { result ≡ listed_word word.now }
 {
-    let (rest, opens) = opened(word);
-    let (text, closes) = ended(rest)?;
+    let (rest, opens) = strip_open(word);
+    let (text, closes) = strip_end(rest)?;
     match place_of(text) {
         Some(place) => Some(Word::Place(Listed {
             place,

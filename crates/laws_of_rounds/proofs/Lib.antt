@@ -50,5 +50,4 @@ pub mod Accepted
 
 -- On proofs of bm_base alone: Lively (drained_is_good_not_in_excess_and_draining, live_is_good_not_in_excess_and_not_draining),
 --   AfterRound (round_changes_no_tag), Kept and Tested (live_replica_is_not_deleted, enough_stay_live, last_good_replica_stays),
---   LastGood and Tested (only_good_replica_is_not_deleted). By computing: first_replica_makes_a_block_the_first_to_copy,
---   second_rack_may_raise_need.
+--   LastGood and Tested (only_good_replica_is_not_deleted).

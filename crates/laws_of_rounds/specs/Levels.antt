@@ -74,10 +74,3 @@ OneReplicaMoreIsNoMoreNeed =
 abbrev pub OneDrainedReplicaMoreIsNoMoreNeed : Type 0
 OneDrainedReplicaMoreIsNoMoreNeed =
     (live drained repl racks : ℕ) (multi : Bool) → need (level_of live (drained + 1) repl racks multi) ≤ need (level_of live drained repl racks multi)
-
-abbrev pub FirstReplicaMakesABlockTheFirstToCopy : Type 0
-FirstReplicaMakesABlockTheFirstToCopy =
-    (level_of 0 0 3 0 true ≡ Some NoUsableReplica) × (level_of 1 0 3 1 true ≡ Some Highest) × (level_of 0 1 3 0 true ≡ Some Highest)
-
-abbrev pub SecondRackMayRaiseNeed : Type 0
-SecondRackMayRaiseNeed = (level_of 2 0 2 1 false ≡ None) × (level_of 2 0 2 1 true ≡ Some BadlyDistributed)

@@ -51,15 +51,3 @@ pub fn one_replica_more_is_no_more_need()
 pub fn one_drained_replica_more_is_no_more_need()
     ensures { law.OneDrainedReplicaMoreIsNoMoreNeed }
 {}
-
-/// Where need is not counted as here but as the order in which rounds serve the levels, 0 before 1 before 2 before 3, and 4 not
-/// at all, one replica more may raise it: with none that is live or drained a block gets no copy, and with one it is the first to
-/// get one.
-pub fn first_replica_makes_a_block_the_first_to_copy()
-    ensures { law.FirstReplicaMakesABlockTheFirstToCopy }
-{}
-
-/// A node on a second rack may put a block in need, where all its live replicas stand on the one rack that there was.
-pub fn second_rack_may_raise_need()
-    ensures { law.SecondRackMayRaiseNeed }
-{}

@@ -90,22 +90,22 @@ fn come<R: Threads + Wait + Sync>(
     apply_made(rt, manager, register(alloc, 1))?;
     apply_made(rt, manager, register(alloc, 2))?;
     apply(rt, manager, add_block())?;
-    apply(rt, manager, received())?;
+    apply(rt, manager, received_event())?;
     apply_made(rt, manager, report(alloc))
 }
 
 /// All lists; their lengths are of no interest here.
 fn ask(manager: &Manager) -> Result<(), Refusal> {
-    had(manager.replicas())?;
-    had(manager.corrupt())?;
-    had(manager.missing())?;
-    had(manager.blocks_on(StorageId(21)))?;
-    had(manager.places(BLOCK))
+    forget(manager.replicas())?;
+    forget(manager.corrupt())?;
+    forget(manager.missing())?;
+    forget(manager.blocks_on(StorageId(21)))?;
+    forget(manager.places(BLOCK))
 }
 
 /// A round, and then all goes: the stray replica, the block, a storage, and the nodes with the rest.
 fn go<R: Threads + Wait + Sync>(rt: &R, manager: &mut Manager) -> Result<(), Refusal> {
-    had(manager.round(rt, &NoGate))?;
+    forget(manager.round(rt, &NoGate))?;
     let (storage, id) = (StorageId(21), STRAY);
     apply(rt, manager, Event::Deleted { storage, id })?;
     apply(rt, manager, Event::DeleteBlock { id: BLOCK })?;
@@ -134,11 +134,11 @@ fn apply<R: Threads + Wait + Sync>(
 ) -> Result<(), Refusal> {
     let done = manager.apply(rt, &NoGate, &event);
     drop(event);
-    had(done)
+    forget(done)
 }
 
 /// Whether there was an answer, which is of no interest.
-fn had<T: Drop>(answer: Result<T, Refusal>) -> Result<(), Refusal> {
+fn forget<T: Drop>(answer: Result<T, Refusal>) -> Result<(), Refusal> {
     match answer {
         Ok(_) => Ok(()),
         Err(refusal) => Err(refusal),
@@ -174,7 +174,7 @@ fn add_block() -> Event {
     }
 }
 
-fn received() -> Event {
+fn received_event() -> Event {
     Event::Received {
         storage: StorageId(11),
         id: BLOCK,

@@ -59,7 +59,7 @@ fn publish_one<R: Wait>(
     let table = version(alloc, calls)?;
     let receipt = publisher.publish(rt, table)?;
     locator.learn(receipt);
-    Ok(locator.locate(BLOCK) == found(calls))
+    Ok(locator.locate(BLOCK) == found_at(calls))
 }
 
 /// A version with one row.
@@ -71,7 +71,7 @@ fn version(alloc: Global, calls: u64) -> Result<Arc<Table>, AllocError>
     Ok(Arc::new(alloc, Table::new(calls, rows))?)
 }
 
-fn found(calls: u64) -> Option<Located> {
+fn found_at(calls: u64) -> Option<Located> {
     Some(Located {
         calls,
         places: Places::first_of([StorageId(11)].as_slice()),

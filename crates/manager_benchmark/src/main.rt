@@ -52,12 +52,12 @@ fn main(rt: HostRuntime) -> ExitCode {
         return ExitCode::FAILURE;
     };
     match runs_of(rt.alloc(), words.as_slice()) {
-        Ok(Some(runs)) => ended(&rt, measure_all(&rt, runs.as_slice())),
+        Ok(Some(runs)) => exit_code_of(&rt, measure_all(&rt, runs.as_slice())),
         Ok(None) => {
             let _ = eprintln!(rt; "arena COUNT, or: manager or memory COUNT [SHARDS WORKERS]");
             ExitCode::FAILURE
         }
-        Err(refusal) => ended(&rt, Err(refusal)),
+        Err(refusal) => exit_code_of(&rt, Err(refusal)),
     }
 }
 
@@ -66,7 +66,7 @@ fn words_of<R: Env + AllocGlobal>(rt: &R) -> Option<Vec<String>> {
     env::args(rt).ok()?.skip(1).collect(rt.alloc()).ok()
 }
 
-fn ended(rt: &impl Eprint, end: Result<(), Refusal>) -> ExitCode {
+fn exit_code_of(rt: &impl Eprint, end: Result<(), Refusal>) -> ExitCode {
     match end {
         Ok(()) => ExitCode::SUCCESS,
         Err(refusal) => {

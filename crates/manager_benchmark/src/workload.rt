@@ -34,7 +34,7 @@ pub fn block_number(i: u64) -> BlockId {
 }
 
 /// The bits of a number, mixed as by the generator SplitMix64.
-pub fn mixed(number: u64) -> u64 {
+pub fn mix_bits(number: u64) -> u64 {
     let spread = number
         .wrapping_mul(0x9E37_79B9_7F4A_7C15)
         .wrapping_add(0x1234_5678_9ABC_DEF1);
@@ -53,7 +53,7 @@ fn storage_of(node: u64, bits: u64) -> StorageId
 
 /// The three storages of the block `i`: one on a node, and two on different nodes of another rack.
 pub fn storages_of(i: u64) -> [StorageId; 3] {
-    let bits = mixed(i);
+    let bits = mix_bits(i);
     let first = bits % 256;
     let rack = (first / 16 + 1 + (bits >> 8) % 256 % 15) % 16;
     let second = (bits >> 16) % 16;
@@ -70,7 +70,7 @@ fn shuffle<T>(items: &mut [T], seed: u64) {
     let count = items.len();
     for k in 1..count {
         let place = count - k;
-        let chosen = mixed(seed.wrapping_mul(0x1_0000_0001).wrapping_add(place as u64));
+        let chosen = mix_bits(seed.wrapping_mul(0x1_0000_0001).wrapping_add(place as u64));
         let other = (chosen % (place as u64 + 1)) as usize;
         items.swap(place, other);
     }
@@ -155,7 +155,7 @@ pub fn heartbeat(alloc: Global, node: u32, free: [u64; 4]) -> Result<Event, Refu
 
 /// Bytes that are free on a storage: 4 TiB and some more, which its number draws.
 pub fn drawn_free(storage: StorageId) -> u64 {
-    let drawn = mixed((u64::from(storage.0) << 32) | 1);
+    let drawn = mix_bits((u64::from(storage.0) << 32) | 1);
     (1u64 << 42).wrapping_add(drawn >> 24)
 }
 
@@ -166,7 +166,7 @@ pub fn drawn_replicas(alloc: Global, blocks: u64, count: u64) -> Result<Vec<Repl
     for k in 0..count {
         let i = k.wrapping_mul(distance);
         let [first, second, third] = storages_of(i);
-        let storage = match mixed(k.wrapping_add(77)) % 3 {
+        let storage = match mix_bits(k.wrapping_add(77)) % 3 {
             0 => first,
             1 => second,
             _ => third,
@@ -193,10 +193,10 @@ pub fn shuffled_replicas(
 
 /// A block that is drawn as the `k`th; of no blocks the first.
 pub fn drawn_block(k: u64, blocks: u64) -> BlockId {
-    block_number(mixed(k).checked_rem(blocks).unwrap_or(0))
+    block_number(mix_bits(k).checked_rem(blocks).unwrap_or(0))
 }
 
 /// A node that is drawn as the `k`th.
 pub fn drawn_node(k: u64) -> u32 {
-    (mixed(k) % u64::from(NODES)) as u32
+    (mix_bits(k) % u64::from(NODES)) as u32
 }

@@ -15,7 +15,7 @@ use std::sync::Wait;
 use std::thread::Threads;
 use uses::{
     Pieces, Seen, SideBySide, apply_beside_reader, apply_counted, apply_or_free, arrival, for_node,
-    missing_if_dead, publish_and_look, replica_lines, tidied, turn,
+    missing_if_dead, publish_and_look, replica_lines, tidy_line, turn,
 };
 
 fn stamp() -> Stamp {
@@ -33,7 +33,7 @@ fn add(block: u64, repl: u32) -> Event {
     }
 }
 
-fn received(storage: u32, block: u64) -> Event {
+fn received_event(storage: u32, block: u64) -> Event {
     Event::Received {
         storage: StorageId(storage),
         id: BlockId(block),
@@ -82,11 +82,11 @@ enum Trial {
 
 fn try_on<R: Abort + Threads + Wait + Sync>(rt: &R, alloc: Global, config: Config, trial: Trial) {
     let mut manager = Manager::new(alloc, config).expect(rt, "memory");
-    tried(rt, alloc, &mut manager, trial);
+    try_one(rt, alloc, &mut manager, trial);
 }
 
 /// In a function of its own, since each step beside a manager that goes at the end makes the proof longer.
-fn tried<R: Abort + Threads + Wait + Sync>(
+fn try_one<R: Abort + Threads + Wait + Sync>(
     rt: &R,
     alloc: Global,
     manager: &mut Manager,
@@ -99,12 +99,12 @@ fn tried<R: Abort + Threads + Wait + Sync>(
             for event in &cluster(rt, alloc) {
                 manager.apply(rt, &NoGate, event).expect(rt, "memory");
             }
-            tried_on_cluster(rt, alloc, manager, trial);
+            try_on_cluster(rt, alloc, manager, trial);
         }
     }
 }
 
-fn tried_on_cluster<R: Abort + Threads + Wait + Sync>(
+fn try_on_cluster<R: Abort + Threads + Wait + Sync>(
     rt: &R,
     alloc: Global,
     manager: &mut Manager,
@@ -163,7 +163,7 @@ fn check_first_turn<R: Abort + Threads + Wait + Sync>(
 }
 
 fn check_second_turn<R: Abort + Threads + Wait + Sync>(rt: &R, manager: &mut Manager) {
-    let commands = turn(rt, manager, &[received(21, 7)]).expect(rt, "memory");
+    let commands = turn(rt, manager, &[received_event(21, 7)]).expect(rt, "memory");
     assert_eq!(rt; commands.round, 2);
     assert!(rt; commands.nodes.is_empty());
     assert!(rt; is_at(manager, 7, &[StorageId(11), StorageId(21)]));
@@ -180,7 +180,7 @@ fn a_turn_commands_the_copy_that_is_due(rt: HostRuntime) {
 }
 
 fn check_stop<R: Abort + Threads + Wait + Sync>(rt: &R, manager: &mut Manager) {
-    let told = [received(21, 7), dead(9), dead(1)];
+    let told = [received_event(21, 7), dead(9), dead(1)];
     assert!(rt; matches!(turn(rt, manager, &told), Err(Refusal::UnknownNode)));
     assert_eq!(rt; (manager.calls(), manager.rounds()), (8, 0));
     assert!(rt; is_at(manager, 7, &[StorageId(11), StorageId(21)]));
@@ -225,9 +225,9 @@ fn calls(rt: &impl Abort, alloc: Global) -> Vec<Call> {
         register(rt, alloc, 1, 11),
         register(rt, alloc, 1, 12),
         register(rt, alloc, 2, 21),
-        received(11, 7),
-        received(11, 8),
-        received(21, 8),
+        received_event(11, 7),
+        received_event(11, 8),
+        received_event(21, 8),
     ];
     let mut calls = Vec::new(alloc);
     for event in Vec::from_array(alloc, events).expect(rt, "memory") {
@@ -277,9 +277,10 @@ fn check_spare<R: Abort + Threads + Wait + Sync>(rt: &R, manager: &mut Manager) 
         added: 1,
         removed: 0,
     };
-    assert!(rt; apply_or_free(rt, manager, &mut spare, &received(21, 7)) == Ok(done));
+    assert!(rt; apply_or_free(rt, manager, &mut spare, &received_event(21, 7)) == Ok(done));
     assert!(rt;
-        apply_or_free(rt, manager, &mut spare, &received(99, 7)) == Err(Refusal::UnknownStorage)
+        apply_or_free(rt, manager, &mut spare, &received_event(99, 7))
+            == Err(Refusal::UnknownStorage)
     );
     assert_eq!(rt; spare, Some(5));
     assert!(rt; is_at(manager, 7, &[StorageId(11), StorageId(21)]));
@@ -290,7 +291,7 @@ fn nothing_is_freed_where_memory_is_ample(rt: HostRuntime) {
     try_on(&rt, rt.alloc(), Config::standard(), Trial::FreesNothing);
 }
 
-fn located(calls: u64, storages: &[StorageId]) -> Option<Located> {
+fn found_on(calls: u64, storages: &[StorageId]) -> Option<Located> {
     Some(Located {
         calls,
         places: Places::first_of(storages),
@@ -305,7 +306,7 @@ fn a_reader_sees_what_is_published(rt: HostRuntime) {
 /// Events after those of the cluster.
 fn changes() -> [Event; 3] {
     [
-        received(21, 7),
+        received_event(21, 7),
         Event::StorageFailed {
             storage: StorageId(11),
         },
@@ -319,9 +320,9 @@ fn changes() -> [Event; 3] {
 /// Block 7 after so many calls.
 fn version(calls: u64) -> Option<Located> {
     match calls {
-        8 => located(8, &[StorageId(11), StorageId(21)]),
-        9 => located(9, &[StorageId(21)]),
-        10 => located(10, &[]),
+        8 => found_on(8, &[StorageId(11), StorageId(21)]),
+        9 => found_on(9, &[StorageId(21)]),
+        10 => found_on(10, &[]),
         _ => None,
     }
 }
@@ -359,13 +360,13 @@ fn check_view<R: Abort + Threads + Wait + Sync>(
 ) {
     let (mut publisher, mut locators) = open_view(rt, alloc, 1).expect(rt, "memory");
     match locators.pop() {
-        Some(mut locator) => viewed(rt, alloc, manager, &mut publisher, &mut locator, trial),
+        Some(mut locator) => check_on_view(rt, alloc, manager, &mut publisher, &mut locator, trial),
         None => assert!(rt; false),
     }
     publisher.end(rt);
 }
 
-fn viewed<R: Abort + Threads + Wait + Sync>(
+fn check_on_view<R: Abort + Threads + Wait + Sync>(
     rt: &R,
     alloc: Global,
     manager: &mut Manager,
@@ -394,7 +395,7 @@ fn viewed<R: Abort + Threads + Wait + Sync>(
             check_beside(rt, alloc, manager, publisher, locator, &[], Ok(()), 0)
         }
         _ => {
-            let events = [received(21, 7), dead(9), dead(1)];
+            let events = [received_event(21, 7), dead(9), dead(1)];
             let want = Err(Refusal::UnknownNode);
             check_beside(rt, alloc, manager, publisher, locator, &events, want, 1)
         }
@@ -411,7 +412,7 @@ fn check_seen<R: Abort + Threads + Wait + Sync>(
     requires home { locator.old.home ≡ publisher.old.home }
 {
     let seen = publish_and_look(rt, manager, publisher, locator, BlockId(7));
-    assert!(rt; seen == Ok(located(7, &[StorageId(11)])));
+    assert!(rt; seen == Ok(found_on(7, &[StorageId(11)])));
 }
 
 fn check_beside<R: Abort + Threads + Wait + Sync>(
@@ -470,7 +471,7 @@ static TIDIED: [(&'static str, Option<&'static str>); 5] = [
 #[test]
 fn lines_are_tidied(rt: HostRuntime) {
     for (line, want) in &TIDIED {
-        let tidy = tidied(rt.alloc(), line.as_bytes()).expect(&rt, "memory");
+        let tidy = tidy_line(rt.alloc(), line.as_bytes()).expect(&rt, "memory");
         match (&tidy, want) {
             (Some(tidy), Some(want)) => assert_eq!(rt; tidy.as_str(), *want),
             (None, None) => {}
@@ -486,7 +487,7 @@ fn check_pieces<R: Abort + Threads + Wait + Sync>(rt: &R, alloc: Global, manager
     let events = [
         (add(7, 2), 0),
         (register(rt, alloc, 1, 11), 6),
-        (received(11, 7), 6),
+        (received_event(11, 7), 6),
         (dead(9), 6),
         (dead(1), 12),
     ];

@@ -140,7 +140,7 @@ static RUNS: [Runs<'static>; 4] = [
     },
 ];
 
-fn worked(work: Work, shard: u32, piece: u64) -> u64 {
+fn do_work(work: Work, shard: u32, piece: u64) -> u64 {
     match work {
         Work::Square => piece.wrapping_mul(piece),
         Work::AddShards => piece.wrapping_add(100 * shard as u64),
@@ -160,7 +160,7 @@ fn check_run<R: Abort + Threads + Wait + Sync>(
     let made = ready.run(
         rt,
         items,
-        &|shard, piece: u64| worked(work, shard, piece),
+        &|shard, piece: u64| do_work(work, shard, piece),
         &NoGate,
     );
     assert!(rt; made.as_slice() == runs.results);

@@ -155,7 +155,7 @@ fn shown_replicas(alloc: Global, replicas: &[ReplicaId]) -> Result<String, Alloc
 }
 
 /// The counts of an accepted event, the number of a refusal, the places, replicas, a number, or a round.
-fn shown(alloc: Global, answer: &Answer) -> Result<String, AllocError> {
+fn show(alloc: Global, answer: &Answer) -> Result<String, AllocError> {
     match answer {
         Answer::Done(done) => {
             let added = done.added;
@@ -273,7 +273,7 @@ fn config(shards: u32, workers: u32) -> Config {
 fn check_answers<R: Abort>(rt: &R, alloc: Global, answers: &[Answer], story: &[(Told<'_>, &str)]) {
     assert_eq!(rt; answers.len(), story.len());
     for (answer, (_, want)) in answers.iter().zip(story.iter()) {
-        let line = shown(alloc, answer).expect(rt, "memory");
+        let line = show(alloc, answer).expect(rt, "memory");
         assert_eq!(rt; line.as_str(), *want);
     }
 }
@@ -446,7 +446,7 @@ fn check_meetings<R: Abort + Threads + Wait + Sync>(rt: &R, alloc: Global, shard
         let call = call_of(alloc, *told).expect(rt, "memory");
         let answer = met_answer(rt, &mut manager, shards, &call, *crewed);
         drop(call);
-        let line = shown(alloc, &answer).expect(rt, "memory");
+        let line = show(alloc, &answer).expect(rt, "memory");
         drop(answer);
         assert_eq!(rt; line.as_str(), *want);
         drop(line);

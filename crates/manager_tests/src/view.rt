@@ -21,14 +21,14 @@ fn version(rt: &impl Abort, alloc: Global, calls: u64, storages: &[StorageId]) -
     Arc::new(alloc, Table::new(calls, rows)).expect(rt, "memory")
 }
 
-fn found(calls: u64, storages: &[StorageId]) -> Option<Located> {
+fn found_on(calls: u64, storages: &[StorageId]) -> Option<Located> {
     Some(Located {
         calls,
         places: Places::first_of(storages),
     })
 }
 
-fn named(rt: &impl Abort, alloc: Global, numbers: &[u32]) -> Vec<StorageId> {
+fn storages_numbered(rt: &impl Abort, alloc: Global, numbers: &[u32]) -> Vec<StorageId> {
     let mut storages = Vec::new(alloc);
     for number in numbers {
         storages.push(StorageId(*number)).expect(rt, "memory");
@@ -74,7 +74,7 @@ fn publish<R: Abort + Wait>(
     ensures receipt { result.home ≡ publisher.new.home }
     ensures home { publisher.new.home ≡ publisher.old.home }
 {
-    let storages = named(rt, alloc, numbers);
+    let storages = storages_numbered(rt, alloc, numbers);
     let table = version(rt, alloc, calls, storages.as_slice());
     assert!(rt; publisher.calls() <= calls);
     publisher.publish(rt, table).expect(rt, "memory")
@@ -107,8 +107,8 @@ fn has_found(
 ) -> bool
     ensures { locator.new.home ≡ locator.old.home }
 {
-    let storages = named(rt, alloc, numbers);
-    locator.locate(BlockId(block)) == found(calls, storages.as_slice())
+    let storages = storages_numbered(rt, alloc, numbers);
+    locator.locate(BlockId(block)) == found_on(calls, storages.as_slice())
 }
 
 /// Whether a step answers as it must.
@@ -217,8 +217,8 @@ fn check_seen(
     calls: u64,
     numbers: &[u32],
 ) {
-    let storages = named(rt, alloc, numbers);
-    check_all(rt, locators, found(calls, storages.as_slice()));
+    let storages = storages_numbered(rt, alloc, numbers);
+    check_all(rt, locators, found_on(calls, storages.as_slice()));
 }
 
 fn check_view<R: Abort + Wait>(rt: &R, alloc: Global, view: &View<'_>) {

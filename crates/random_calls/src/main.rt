@@ -148,7 +148,7 @@ fn list_alike<R: Eprint + Threads + Wait + Sync>(
     counts: &mut Counts,
     count: u32,
 ) -> Result<bool, Refusal> {
-    match Pair::new(alloc, drawn(dice)) {
+    match Pair::new(alloc, draw_config(dice)) {
         Ok(mut pair) => {
             let are_alike = pair.all_alike(rt, alloc, dice, counts, count);
             drop(pair);
@@ -226,7 +226,7 @@ impl Pair {
     ) -> bool {
         let answer = self.one.answer(rt, &NoGate, call);
         let told = self.other.answer(rt, &NoGate, call);
-        let is_fine = are_alike(&answer, &told) && !wants_memory(&answer);
+        let is_fine = are_alike(&answer, &told) && !answer.wants_memory();
         if is_fine {
             counts.add(call, &answer);
         } else {
@@ -238,13 +238,9 @@ impl Pair {
     }
 }
 
-fn wants_memory(answer: &Answer) -> bool {
-    matches!(answer, Answer::Refused(Refusal::Memory))
-}
-
 /// Any numbers of shards and workers; rounds with few commands, and copies that are soon given up, so that the limits of both
 /// are met.
-fn drawn(dice: &mut Dice) -> Config {
+fn draw_config(dice: &mut Dice) -> Config {
     let shards = 1 + dice.below(64);
     let workers = 1 + dice.below(16);
     let work = 1 + dice.below(3);

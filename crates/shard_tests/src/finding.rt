@@ -103,7 +103,7 @@ fn one_on_its_way(rt: &impl Abort, alloc: Global) -> PendingTransfers {
 }
 
 /// How many copies a shard wishes for, and how many transfers are too old, where block 7 alone wishes for some as it should.
-fn told(part: &RoundPart) -> Option<(u32, usize, usize)> {
+fn counts_of(part: &RoundPart) -> Option<(u32, usize, usize)> {
     let wishes = part.wishes.as_slice();
     if wishes.len() != 1 || !is_as_it_should_be(&wishes[0]) {
         return None;
@@ -137,7 +137,7 @@ fn copies_are_wished_for(rt: HostRuntime) {
     let blocks = block_with_one(&rt, alloc, &topology);
     let pending = PendingTransfers::new(alloc, HashSecret::none());
     let part = find_round(alloc, &blocks, &pending, &topology, 5, 1, None).expect(&rt, "memory");
-    assert!(rt; told(&part) == Some((2, 0, 0)));
+    assert!(rt; counts_of(&part) == Some((2, 0, 0)));
     drop(part);
     drop(pending);
     drop(blocks);
@@ -152,9 +152,9 @@ fn a_transfer_counts_until_it_is_too_old(rt: HostRuntime) {
     let blocks = block_with_one(&rt, alloc, &topology);
     let pending = one_on_its_way(&rt, alloc);
     let young = find_round(alloc, &blocks, &pending, &topology, 5, 5, None).expect(&rt, "memory");
-    assert!(rt; told(&young) == Some((1, 1, 0)));
+    assert!(rt; counts_of(&young) == Some((1, 1, 0)));
     let old = find_round(alloc, &blocks, &pending, &topology, 5, 6, None).expect(&rt, "memory");
-    assert!(rt; told(&old) == Some((2, 0, 1)));
+    assert!(rt; counts_of(&old) == Some((2, 0, 1)));
     drop(old);
     drop(young);
     drop(pending);

@@ -122,7 +122,7 @@ fn ask(pending: &PendingTransfers, alloc: Global, step: Step) -> Result<Answer, 
         Step::PushTargets(block) => targets(pending, alloc, block),
         Step::Entries => entries(pending, alloc),
         Step::Expired(pend, round) => {
-            let all = pending.expired(alloc, pend, round)?;
+            let all = pending.expired_transfers(alloc, pend, round)?;
             Ok(replicas(all.as_slice()))
         }
         _ => Ok(Answer::Nothing),

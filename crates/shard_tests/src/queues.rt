@@ -52,7 +52,7 @@ enum Answer {
     TooManySlots,
 }
 
-fn grown(grown: Result<(), Refusal>) -> Answer {
+fn answer_of(grown: Result<(), Refusal>) -> Answer {
     match grown {
         Ok(()) => Answer::Fine,
         Err(_) => Answer::Refused,
@@ -70,7 +70,7 @@ fn yes(is_so: bool) -> Answer {
     if is_so { Answer::Yes } else { Answer::No }
 }
 
-fn walked(walk: Walk<'_>) -> Answer {
+fn answer_walk(walk: Walk<'_>) -> Answer {
     let mut slots = [0; 2];
     let mut count = 0;
     for slot in walk {
@@ -110,13 +110,13 @@ fn next(lists: &LevelLists, at: usize) -> Answer {
 
 fn of_levels(lists: &mut LevelLists, step: LevelStep) -> Answer {
     match step {
-        LevelStep::GrowTo(room) => grown(lists.grow_to(room)),
+        LevelStep::GrowTo(room) => answer_of(lists.grow_to(room)),
         LevelStep::Set(slot, level) => set(lists, slot, level),
         LevelStep::Level(slot) => level(lists, slot),
         LevelStep::First(level) => slot(lists.first(level)),
         LevelStep::Next(slot) => next(lists, slot),
         LevelStep::Room => Answer::Number(lists.room()),
-        LevelStep::Walk(level) => walked(lists.walk(level)),
+        LevelStep::Walk(level) => answer_walk(lists.walk(level)),
     }
 }
 
@@ -219,14 +219,14 @@ fn next_in(slots: &SlotSet, at: usize) -> Answer {
 
 fn of_set(slots: &mut SlotSet, step: SetStep) -> Answer {
     match step {
-        SetStep::GrowTo(room) => grown(slots.grow_to(room)),
+        SetStep::GrowTo(room) => answer_of(slots.grow_to(room)),
         SetStep::Insert(slot) => insert(slots, slot),
         SetStep::Remove(slot) => remove(slots, slot),
         SetStep::Len => Answer::Number(slots.len()),
         SetStep::First => slot(slots.first()),
         SetStep::Next(slot) => next_in(slots, slot),
         SetStep::Room => Answer::Number(slots.room()),
-        SetStep::Walk => walked(slots.walk()),
+        SetStep::Walk => answer_walk(slots.walk()),
     }
 }
 

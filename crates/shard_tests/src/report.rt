@@ -138,7 +138,7 @@ fn is_excess_good(marks: Marks) -> bool
     !marks.excess || marks.tag.is_good()
 }
 
-fn known(rt: &impl Abort, arena: &mut Arena, id: u64) -> Answer {
+fn add_known(rt: &impl Abort, arena: &mut Arena, id: u64) -> Answer {
     let slot = arena.add_entry(BlockId(id)).expect(rt, "memory");
     let info = BlockInfo {
         stamp: stamp(1),
@@ -148,7 +148,7 @@ fn known(rt: &impl Abort, arena: &mut Arena, id: u64) -> Answer {
     Answer::Fine
 }
 
-fn linked(
+fn link(
     rt: &impl Abort,
     arena: &mut Arena,
     id: u64,
@@ -173,7 +173,7 @@ fn linked(
     Answer::Fine
 }
 
-fn reported(
+fn apply_report(
     rt: &impl Abort,
     world: &mut World,
     storage: StorageId,
@@ -227,7 +227,7 @@ fn names_few(entries: &[Entry]) -> bool
     true
 }
 
-fn readied(world: &mut World, storage: StorageId, entries: &[Entry]) -> Answer {
+fn ready(world: &mut World, storage: StorageId, entries: &[Entry]) -> Answer {
     match world
         .report
         .ready(&mut world.arena, storage, entries, WHOLE)
@@ -237,7 +237,7 @@ fn readied(world: &mut World, storage: StorageId, entries: &[Entry]) -> Answer {
     }
 }
 
-fn received(
+fn apply_notice(
     rt: &impl Abort,
     world: &mut World,
     storage: StorageId,
@@ -282,7 +282,7 @@ fn received_by_number(
     ))
 }
 
-fn walked(rt: &impl Abort, arena: &Arena, storage: StorageId) -> Answer {
+fn walk(rt: &impl Abort, arena: &Arena, storage: StorageId) -> Answer {
     let mut blocks = [0; 4];
     let mut count = 0;
     for slot in arena.walk(storage) {
@@ -314,20 +314,20 @@ fn given_up(world: &mut World) -> Answer {
     Answer::Fine
 }
 
-fn told(rt: &impl Abort, world: &mut World, step: Step) -> Answer {
+fn tell(rt: &impl Abort, world: &mut World, step: Step) -> Answer {
     match step {
-        Step::Known(id) => known(rt, &mut world.arena, id),
+        Step::Known(id) => add_known(rt, &mut world.arena, id),
         Step::Linked(id, storage, is_excess) => {
-            linked(rt, &mut world.arena, id, StorageId(storage), is_excess)
+            link(rt, &mut world.arena, id, StorageId(storage), is_excess)
         }
         Step::Reports(storage, lines) => {
             let entries = [entry(lines[0]), entry(lines[1]), entry(lines[2])];
-            reported(rt, world, StorageId(storage), entries.as_slice(), WHOLE)
+            apply_report(rt, world, StorageId(storage), entries.as_slice(), WHOLE)
         }
         Step::ReportsToPart(storage, lines, index, shards) => {
             let entries = [entry(lines[0]), entry(lines[1]), entry(lines[2])];
             let part = Part { index, shards };
-            reported(rt, world, StorageId(storage), entries.as_slice(), part)
+            apply_report(rt, world, StorageId(storage), entries.as_slice(), part)
         }
         Step::ReportsByNumber(storage, lines) => {
             let entries = [entry(lines[0]), entry(lines[1]), entry(lines[2])];
@@ -335,7 +335,7 @@ fn told(rt: &impl Abort, world: &mut World, step: Step) -> Answer {
         }
         Step::Readies(storage, lines) => {
             let entries = [entry(lines[0]), entry(lines[1]), entry(lines[2])];
-            readied(world, StorageId(storage), entries.as_slice())
+            ready(world, StorageId(storage), entries.as_slice())
         }
         Step::GivesUp => given_up(world),
         Step::GivesUpAll => all_given_up(world),
@@ -343,21 +343,21 @@ fn told(rt: &impl Abort, world: &mut World, step: Step) -> Answer {
             received_by_number(rt, world, StorageId(storage), id, generation)
         }
         Step::Receives(storage, id, generation) => {
-            received(rt, world, StorageId(storage), id, generation)
+            apply_notice(rt, world, StorageId(storage), id, generation)
         }
         Step::Deletes(storage, id) => {
             did(apply_deleted(&mut world.arena, StorageId(storage), BlockId(id)))
         }
-        _ => asked(rt, world, step),
+        _ => ask(rt, world, step),
     }
 }
 
-fn asked(rt: &impl Abort, world: &World, step: Step) -> Answer {
+fn ask(rt: &impl Abort, world: &World, step: Step) -> Answer {
     match step {
-        Step::Walk(storage) => walked(rt, &world.arena, StorageId(storage)),
+        Step::Walk(storage) => walk(rt, &world.arena, StorageId(storage)),
         Step::MarksOf(id, storage) => marks_of(&world.arena, id, StorageId(storage)),
         Step::Entries => Answer::Number(world.arena.count()),
-        Step::Changed => Answer::Number(world.report.changed().len()),
+        Step::Changed => Answer::Number(world.report.changed_slots().len()),
         _ => Answer::Nothing,
     }
 }
@@ -389,7 +389,7 @@ fn take(rt: &impl Abort, topology: &mut Topology, event: &Event) {
 fn go(rt: &impl Abort, alloc: Global, steps: &[(Step, Answer)]) {
     let mut world = one_node(rt, alloc);
     for (place, (step, must)) in steps.iter().enumerate() {
-        let is = told(rt, &mut world, *step);
+        let is = tell(rt, &mut world, *step);
         assert_eq!(rt; is, *must, "step {place}");
     }
 }
@@ -564,17 +564,17 @@ fn give_up_thousand(rt: &impl Abort, world: &mut World, from: u64) {
 #[test]
 fn thousand_reports_given_up_leave_nothing(rt: HostRuntime) {
     let mut world = one_node(&rt, rt.alloc());
-    let _ = linked(&rt, &mut world.arena, 7, StorageId(12), true);
+    let _ = link(&rt, &mut world.arena, 7, StorageId(12), true);
     for i in 0..1000u64 {
         give_up_thousand(&rt, &mut world, 1000 * (i + 1));
     }
     assert_eq!(&rt; world.arena.count(), 1);
     assert_eq!(&rt;
-        walked(&rt, &world.arena, StorageId(12)),
+        walk(&rt, &world.arena, StorageId(12)),
         Answer::Blocks([7, 0, 0, 0], 1)
     );
     assert_eq!(&rt;
-        walked(&rt, &world.arena, StorageId(11)),
+        walk(&rt, &world.arena, StorageId(11)),
         Answer::Blocks([0, 0, 0, 0], 0)
     );
     assert_eq!(&rt;

@@ -83,7 +83,7 @@ fn join(
     apply(rt, topology, shard, &heartbeat);
 }
 
-fn received(storage: u32, block: BlockId) -> Event {
+fn received_event(storage: u32, block: BlockId) -> Event {
     Event::Received {
         storage: StorageId(storage),
         id: block,
@@ -116,7 +116,7 @@ fn begin(rt: &impl Abort, alloc: Global, topology: &mut Topology, shard: &mut Sh
         repl: 3,
     };
     apply(rt, topology, shard, &add);
-    let done = apply(rt, topology, shard, &received(11, SEVEN));
+    let done = apply(rt, topology, shard, &received_event(11, SEVEN));
     assert!(rt; done.added == 1 && done.removed == 0);
 }
 
@@ -208,7 +208,7 @@ fn a_block_with_one_replica_is_copied_and_what_is_given_up_changes_nothing(rt: H
     let mut shard = fresh(&rt, alloc, &topology);
     begin(&rt, alloc, &mut topology, &mut shard);
     look(&rt, &shard);
-    give_up(&rt, &topology, &mut shard, &received(21, BlockId(8)));
+    give_up(&rt, &topology, &mut shard, &received_event(21, BlockId(8)));
     look(&rt, &shard);
     copy(&rt, alloc, &topology, &mut shard);
     drop(shard);

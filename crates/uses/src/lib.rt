@@ -9,14 +9,14 @@
 //! | to go on after want of memory | `apply_or_free` (`memory.rt`) | `bm_manager/CALLING.md` |
 //! | a reader that is told of a version | `publish_and_look` (`looking.rt`) | `bm_view/CALLING.md` |
 //! | changes, and a reader beside them in a thread of its own | `apply_beside_reader` (`beside.rt`) | `bm_view/CALLING.md` |
-//! | to read and write the tool's lines | `tidied` (`lines.rt`) | `bm_lines/CALLING.md` |
+//! | to read and write the tool's lines | `tidy_line` (`lines.rt`) | `bm_lines/CALLING.md` |
 //! | to look on at the work of a call | `apply_counted` (`counting.rt`) | `bm_crew/CALLING.md` |
-//! | which storages of a list still serve | `serving` (`storages.rt`) | `bm_topo/CALLING.md` |
+//! | which storages of a list still serve | `find_serving` (`storages.rt`) | `bm_topo/CALLING.md` |
 //! | from where and to where one more copy of a block is made | `first_copy` (`copying.rt`) | `bm_place/CALLING.md` |
 //! | what every DataNode is told, of what the shards found for a round | `commands_of_parts` (`commanding.rt`) | `bm_round/CALLING.md` |
 //! | a replica put into an arena | `put_replica` (`replicas.rt`) | `bm_arena/CALLING.md` |
 //! | a full report taken, or given up | `take_report` (`reporting.rt`) | `bm_report/CALLING.md` |
-//! | slots that are to be looked at, each once | `noted`, `in_order` (`slots.rt`) | `bm_queues/CALLING.md` |
+//! | slots that are to be looked at, each once | `note_slots`, `in_order` (`slots.rt`) | `bm_queues/CALLING.md` |
 //! | an event on the cluster and on one shard: made on both, or on neither | `take_event` (`one_shard.rt`) | `bm_shard/CALLING.md` |
 #![tactic(auto)]
 
@@ -42,7 +42,7 @@ pub use commanding::commands_of_parts;
 pub use copying::first_copy;
 pub use counting::{Pieces, apply_counted};
 pub use events::arrival;
-pub use lines::tidied;
+pub use lines::tidy_line;
 pub use looking::publish_and_look;
 pub use memory::apply_or_free;
 pub use name_node::{for_node, turn};
@@ -50,6 +50,6 @@ pub use one_shard::take_event;
 pub use printing::replica_lines;
 pub use replicas::put_replica;
 pub use reporting::take_report;
-pub use slots::{in_order, noted};
-pub use storages::serving;
-pub use what_if::{WhatIf, missing_if_dead, replayed};
+pub use slots::{in_order, note_slots};
+pub use storages::find_serving;
+pub use what_if::{WhatIf, missing_if_dead, replay};

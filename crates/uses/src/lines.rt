@@ -7,7 +7,7 @@ use bm_lines::{call_of, line_of};
 use std::alloc::{AllocError, Global};
 
 /// The line in the usual order and with no space, or `None` where it asks for no call.
-pub fn tidied(alloc: Global, line: &[u8]) -> Result<Option<String>, AllocError>
+pub fn tidy_line(alloc: Global, line: &[u8]) -> Result<Option<String>, AllocError>
     ensures some { IfOk result (λ o. is_some o ≡ is_some (call_of line.now)) }
     ensures same { IfFound result (λ s. call_of (string_bytes s) ≡ call_of line.now) }
 {

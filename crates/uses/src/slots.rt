@@ -8,7 +8,7 @@ use bm_queues::SlotSet;
 use std::alloc::{AllocError, Global};
 
 /// The set of some slots below a bound, as [`bm_arena::Arena::slot_bound`] is one.
-pub fn noted(alloc: Global, slots: &[usize], bound: usize) -> Result<SlotSet, Refusal>
+pub fn note_slots(alloc: Global, slots: &[usize], bound: usize) -> Result<SlotSet, Refusal>
     requires { All (λ slot. slot < bound) slots.now }
     ensures members { IfOk result (λ set. (slot : ℕ)
         → Among slot set.slots ↔ Among slot slots.now) }

@@ -8,7 +8,7 @@ use bm_topo::Topology;
 use std::alloc::{AllocError, Global};
 
 /// Those of a list of storages that are known and stand on nodes that do not drain, in the order of the list.
-pub fn serving(
+pub fn find_serving(
     alloc: Global,
     topology: &Topology,
     storages: &[StorageId],

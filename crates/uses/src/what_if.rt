@@ -25,7 +25,7 @@ pub struct WhatIf {
 
 /// A manager that has made these calls. A call that the definition refuses has changed nothing; where memory lacked for one,
 /// there is no manager, but `Memory`.
-pub fn replayed<R: Threads + Wait + Sync>(
+pub fn replay<R: Threads + Wait + Sync>(
     rt: &R,
     alloc: Global,
     config: Config,
@@ -53,7 +53,7 @@ fn make<R: Threads + Wait + Sync>(rt: &R, manager: &mut Manager, call: &Call) ->
     }
 }
 
-/// Which blocks are missing after these calls, and which would be if the node died then. It is refused as [`replayed`] is, and where
+/// Which blocks are missing after these calls, and which would be if the node died then. It is refused as [`replay`] is, and where
 /// the death is: `UnknownNode`, and `CallsSpent`.
 pub fn missing_if_dead<R: Threads + Wait + Sync>(
     rt: &R,
@@ -74,7 +74,7 @@ pub fn missing_if_dead<R: Threads + Wait + Sync>(
         let death = refusal_of (state_after (first_state config) calls.now) (Event.Dead node) in
         (e ≡ Memory) ⊎ ((config_refusal config ≡ Some e) ⊎ (death ≡ Some e))) }
 {
-    let mut manager = replayed(rt, alloc, config, calls)?;
+    let mut manager = replay(rt, alloc, config, calls)?;
     before_and_behind(rt, &mut manager, node)
 }
 

@@ -1,9 +1,10 @@
 -- How urgently blocks want replicas.
-use Rattle.std.specs.Prelude.{List, [], ◌∷◌, ◌++◌}
+use Rattle.std.specs.Prelude.{◌≡◌, true, false, Some, None, List, [], ◌∷◌, ◌++◌}
 use Rattle.bm_base.specs.declared.call.Call.{Call}
 use Rattle.bm_base.specs.declared.call.Answer.{Answer}
 use Rattle.bm_base.specs.declared.level.Level.TheVariants.{Highest, VeryUnderReplicated, UnderReplicated, BadlyDistributed, NoUsableReplica}
 use Rattle.bm_base.specs.declared.refusal.Refusal.TheVariants.{UnknownBlock, BadReplication}
+use Rattle.bm_base.specs.Levels.{level_of}
 use Rattle.worked_examples.specs.Script.{◌gives◌, HoldsOnCluster, usual, dead, add_block, set_replication, received, level, round, list_missing, list_excess, ok, at_level, at_no_level, commands, copies_by, copy, deletes_by, delete, blocks, replica_ids, refused}
 
 abbrev pub block_without_replicas_is_missing : Type 0
@@ -69,3 +70,12 @@ queue_follows_death = HoldsOnCluster (record usual { invalidate = 1 }) (
     ∷ round gives commands 2 (copies_by 3 (copy 1 31 21 ∷ []) ∷ copies_by 4 (copy 2 41 21 ∷ []) ∷ [])
     ∷ level 2 gives at_level BadlyDistributed
     ∷ [])
+
+-- Levels of counts: how many replicas are live, and how many drained, how many are wanted, on how many racks the live ones stand,
+-- and whether nodes stand on several racks.
+abbrev pub first_replica_makes_a_block_the_first_to_copy : Type 0
+first_replica_makes_a_block_the_first_to_copy =
+    (level_of 0 0 3 0 true ≡ Some NoUsableReplica) × (level_of 1 0 3 1 true ≡ Some Highest) × (level_of 0 1 3 0 true ≡ Some Highest)
+
+abbrev pub second_rack_may_raise_need : Type 0
+second_rack_may_raise_need = (level_of 2 0 2 1 false ≡ None) × (level_of 2 0 2 1 true ≡ Some BadlyDistributed)

@@ -26,3 +26,14 @@ pub fn badly_distributed_block_gets_second_rack()
 pub fn queue_follows_death()
     ensures { example.queue_follows_death }
 {}
+
+/// The order in which rounds serve the levels, 0 before 1 before 2 before 3, and 4 not at all, is no order of need: with no replica
+/// that is live or drained a block gets no copy, and with one it is the first to get one.
+pub fn first_replica_makes_a_block_the_first_to_copy()
+    ensures { example.first_replica_makes_a_block_the_first_to_copy }
+{}
+
+/// A node on a second rack may put a block in need, where all its live replicas stand on the one rack that there was.
+pub fn second_rack_may_raise_need()
+    ensures { example.second_rack_may_raise_need }
+{}

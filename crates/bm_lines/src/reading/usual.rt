@@ -7,7 +7,7 @@ ghost use Rattle.bm_lines.specs.Reading.Usual.{Asks, op_text};
 
 use super::op::Op;
 use super::usual_calls::{
-    add, corrupt, delete, deleted, heartbeat, level, places, received, report, restamp,
+    add, corrupt, delete, heartbeat, level, places, read_deleted, read_received, report, restamp,
     set_replication,
 };
 use super::usual_numbers::after;
@@ -83,8 +83,8 @@ fn call_with(alloc: Global, op: Op, fields: &[u8]) -> Result<Option<Call>, Alloc
 {
     match op {
         Op::Add => Ok(add(fields)),
-        Op::Received => Ok(received(fields)),
-        Op::Deleted => Ok(deleted(fields)),
+        Op::Received => Ok(read_received(fields)),
+        Op::Deleted => Ok(read_deleted(fields)),
         Op::Corrupt => Ok(corrupt(fields)),
         Op::Delete => Ok(delete(fields)),
         Op::SetReplication => Ok(set_replication(fields)),

@@ -26,7 +26,7 @@ pub fn add(fields: &[u8]) -> Option<Call>
     }))
 }
 
-pub fn received(fields: &[u8]) -> Option<Call>
+pub fn read_received(fields: &[u8]) -> Option<Call>
     ensures { IfSome result (λ k. Asks (codes "received") fields.now k) }
 {
     let (storage, fields) = small_then(fields, b",\"storage\":")?;
@@ -41,7 +41,7 @@ pub fn received(fields: &[u8]) -> Option<Call>
     }))
 }
 
-pub fn deleted(fields: &[u8]) -> Option<Call>
+pub fn read_deleted(fields: &[u8]) -> Option<Call>
     ensures { IfSome result (λ k. Asks (codes "deleted") fields.now k) }
 {
     let (storage, fields) = small_then(fields, b",\"storage\":")?;

@@ -203,7 +203,7 @@ fn push_brackets(line: &mut Vec<u8>, depth: usize) -> Result<(), AllocError> {
 }
 
 /// A line with so many brackets within brackets beside its fields.
-fn nested(alloc: Global, depth: usize) -> Result<Vec<u8>, Fail> {
+fn nest(alloc: Global, depth: usize) -> Result<Vec<u8>, Fail> {
     let mut line = Vec::new(alloc);
     line.extend_from_slice(b"{\"op\":\"list_places\",\"id\":7,\"x\":")?;
     push_brackets(&mut line, depth)?;
@@ -221,7 +221,7 @@ fn nesting_is_limited_by_the_parser(rt: HostRuntime) -> Result<(), Fail> {
         (127, BAD),
         (200, BAD),
     ] {
-        let line = nested(alloc, depth)?;
+        let line = nest(alloc, depth)?;
         let (_, text) = run_over(&rt, alloc, line.as_slice());
         assert_eq!(rt; text.as_slice(), want.as_bytes(), "at {depth}");
     }

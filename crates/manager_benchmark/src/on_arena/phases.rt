@@ -48,7 +48,7 @@ impl Blocks {
     }
 
     // The block that is dealt with as the `i`th, and its slot.
-    fn visited(&self, i: u64) -> Option<(u64, Slot)> {
+    fn block_at(&self, i: u64) -> Option<(u64, Slot)> {
         let count = self.slots.len() as u64;
         if count == 0 {
             return None;
@@ -75,7 +75,7 @@ impl Blocks {
     pub fn find_all(&self) -> u64 {
         let mut found = 0u64;
         for i in 0..self.slots.len() {
-            if let Some((block, _)) = self.visited(i as u64) {
+            if let Some((block, _)) = self.block_at(i as u64) {
                 found = found.saturating_add(u64::from(self.arena.find(BlockId(block)).is_some()));
             }
         }
@@ -86,7 +86,7 @@ impl Blocks {
     pub fn mark_all(&self) -> u64 {
         let mut marked = 0u64;
         for i in 0..self.slots.len() {
-            if let Some((block, slot)) = self.visited(i as u64) {
+            if let Some((block, slot)) = self.block_at(i as u64) {
                 for k in 0..3 {
                     let marks = self.arena.marks(slot, storage_of(block, k));
                     marked = marked.saturating_add(u64::from(marks.is_some()));
@@ -100,7 +100,7 @@ impl Blocks {
     pub fn move_all(&mut self) -> u64 {
         let before = self.arena.steps();
         for i in 0..self.slots.len() {
-            if let Some((block, slot)) = self.visited(i as u64) {
+            if let Some((block, slot)) = self.block_at(i as u64) {
                 for k in 0..3 {
                     move_front(&mut self.arena, slot, storage_of(block, k));
                 }
@@ -124,7 +124,7 @@ impl Blocks {
     pub fn unlink_all(&mut self) -> u64 {
         let before = self.arena.steps();
         for i in 0..self.slots.len() {
-            if let Some((block, slot)) = self.visited(i as u64) {
+            if let Some((block, slot)) = self.block_at(i as u64) {
                 for k in 0..3 {
                     unlink(&mut self.arena, slot, storage_of(block, k));
                 }
@@ -137,7 +137,7 @@ impl Blocks {
     pub fn drop_all(&mut self) -> u64 {
         let before = self.arena.count() as u64;
         for i in 0..self.slots.len() {
-            if let Some((_, slot)) = self.visited(i as u64) {
+            if let Some((_, slot)) = self.block_at(i as u64) {
                 if self.arena.is_bare(slot) && !self.arena.is_delimiter(slot) {
                     self.arena.drop_entry(slot);
                 }

@@ -148,7 +148,7 @@ impl Shard {
         Ok(Counts {
             added: applied.added,
             removed: applied.removed,
-            changed: self.report.changed().len() as u128,
+            changed: self.report.changed_slots().len() as u128,
         })
     }
 

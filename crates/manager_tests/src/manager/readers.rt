@@ -81,7 +81,7 @@ fn publish_and_learn<R: Abort + Threads + Wait + Sync>(
     calls
 }
 
-fn found(rt: &impl Abort, alloc: Global, calls: u64, numbers: &[u32]) -> Option<Located> {
+fn found_on(rt: &impl Abort, alloc: Global, calls: u64, numbers: &[u32]) -> Option<Located> {
     let mut storages = Vec::new(alloc);
     for number in numbers {
         storages.push(StorageId(*number)).expect(rt, "memory");
@@ -148,10 +148,10 @@ fn go<R: Abort + Threads + Wait + Sync>(
         }
         Step::Publish(calls) => publish_and_learn(rt, manager, publisher, first) == calls,
         Step::First(block, calls, numbers) => {
-            first.locate(BlockId(block)) == found(rt, alloc, calls, numbers)
+            first.locate(BlockId(block)) == found_on(rt, alloc, calls, numbers)
         }
         Step::Second(block, calls, numbers) => {
-            second.locate(BlockId(block)) == found(rt, alloc, calls, numbers)
+            second.locate(BlockId(block)) == found_on(rt, alloc, calls, numbers)
         }
     }
 }
@@ -219,13 +219,13 @@ static BESIDE: [(Told<'static>, &'static [u32]); 6] = [
 fn is_published(rt: &impl Abort, alloc: Global, seen: Located) -> bool {
     let calls = seen.calls;
     if calls <= CLUSTER.len() as u64 {
-        return calls == 0 && Some(seen) == found(rt, alloc, 0, &[]);
+        return calls == 0 && Some(seen) == found_on(rt, alloc, 0, &[]);
     }
     let made = (calls - CLUSTER.len() as u64) as usize;
     match BESIDE.get(made - 1) {
         Some(one) => {
             let numbers = one.1;
-            Some(seen) == found(rt, alloc, calls, numbers)
+            Some(seen) == found_on(rt, alloc, calls, numbers)
         }
         None => false,
     }

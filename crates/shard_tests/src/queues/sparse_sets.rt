@@ -30,7 +30,7 @@ enum Answer {
     TooManySlots,
 }
 
-fn grown(grown: Result<(), Refusal>) -> Answer {
+fn answer_of(grown: Result<(), Refusal>) -> Answer {
     match grown {
         Ok(()) => Answer::Fine,
         Err(_) => Answer::Refused,
@@ -79,7 +79,7 @@ fn members(slots: &SparseSet) -> Answer {
 
 fn of_set(slots: &mut SparseSet, step: Step) -> Answer {
     match step {
-        Step::GrowTo(room) => grown(slots.grow_to(room)),
+        Step::GrowTo(room) => answer_of(slots.grow_to(room)),
         Step::Insert(slot) => insert(slots, slot),
         Step::Remove(slot) => remove(slots, slot),
         Step::Contains(slot) => contains(slots, slot),

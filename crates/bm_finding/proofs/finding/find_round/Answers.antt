@@ -18,9 +18,9 @@ pub visit_all-requires : goal.visit_all-requires
 visit_all-requires c slot there =
     let v = c.args.blocks.now in
     let lawful : IsLawful v.arena = subst IsLawful c.arena.ensures c.lawful-2.ensures in
-    let listed : AreListed v.kept = subst AreListed c.kept.ensures (record { unsettled = c.lawful-3.ensures.unsettled; wishing = c.lawful-3.ensures.wishing; once = c.lawful-3.ensures.wishing_once }) in
+    let listed : AreListed v.kept = subst AreListed c.kept_levels.ensures (record { unsettled = c.lawful-3.ensures.unsettled; wishing = c.lawful-3.ensures.wishing; once = c.lawful-3.ensures.wishing_once }) in
     let keyed : c.in_ok-slots.slots.items ≡ map (keyed_at v.kept v.arena) (visits v.kept v.arena c.args.bound) =
-    c.in_ok-slots.ensures ∙ (λ j. map (keyed_at (c.kept-2.ensures j) (c.arena-3.ensures j)) (visits (c.kept-2.ensures j) (c.arena-3.ensures j) c.args.bound)) in
+    c.in_ok-slots.ensures ∙ (λ j. map (keyed_at (c.kept_levels-2.ensures j) (c.arena-3.ensures j)) (visits (c.kept_levels-2.ensures j) (c.arena-3.ensures j) c.args.bound)) in
     let moved : IsPermutation (map (keyed_at v.kept v.arena) (visits v.kept v.arena c.args.bound)) c.deref.result.now =
     subst (IsPermutation (map (keyed_at v.kept v.arena) (visits v.kept v.arena c.args.bound))) (sym c.deref.ensures.value)
     (subst (λ (xs : List ((ℕ × ℕ) × ℕ)). IsPermutation xs c.sort_slots.new.slots.items) keyed c.in_ok-sort_slots.ensures) in
@@ -33,9 +33,9 @@ returns-clause-part c =
     let C = c.args.topology.now.cluster in
     let pending = c.args.pending.now.map in
     let lawful : IsLawful v.arena = subst IsLawful c.arena.ensures c.lawful-2.ensures in
-    let listed : AreListed v.kept = subst AreListed c.kept.ensures (record { unsettled = c.lawful-3.ensures.unsettled; wishing = c.lawful-3.ensures.wishing; once = c.lawful-3.ensures.wishing_once }) in
+    let listed : AreListed v.kept = subst AreListed c.kept_levels.ensures (record { unsettled = c.lawful-3.ensures.unsettled; wishing = c.lawful-3.ensures.wishing; once = c.lawful-3.ensures.wishing_once }) in
     let keyed : c.in_ok-slots.slots.items ≡ map (keyed_at v.kept v.arena) (visits v.kept v.arena c.args.bound) =
-    c.in_ok-slots.ensures ∙ (λ j. map (keyed_at (c.kept-2.ensures j) (c.arena-3.ensures j)) (visits (c.kept-2.ensures j) (c.arena-3.ensures j) c.args.bound)) in
+    c.in_ok-slots.ensures ∙ (λ j. map (keyed_at (c.kept_levels-2.ensures j) (c.arena-3.ensures j)) (visits (c.kept_levels-2.ensures j) (c.arena-3.ensures j) c.args.bound)) in
     let moved : IsPermutation (map (keyed_at v.kept v.arena) (visits v.kept v.arena c.args.bound)) c.deref.result.now =
     subst (IsPermutation (map (keyed_at v.kept v.arena) (visits v.kept v.arena c.args.bound))) (sym c.deref.ensures.value)
     (subst (λ (xs : List ((ℕ × ℕ) × ℕ)). IsPermutation xs c.sort_slots.new.slots.items) keyed c.in_ok-sort_slots.ensures) in

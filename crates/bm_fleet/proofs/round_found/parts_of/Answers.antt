@@ -10,10 +10,10 @@ abbrev told : Cluster → Option (ℕ × ℕ) → Seen → RoundPart
 told C bound S = part_before bound (next_part C S)
 
 pub returns-clause-shards : goal.returns-clause-shards
-returns-clause-shards g c = c.answers_of.ensures.shards (told c.args.topology.now.cluster c.args.bound) c.args.shards.items c.find_all-found.ensures.each
+returns-clause-shards g c = (c.answers_of.ensures (told c.args.topology.now.cluster c.args.bound) c.args.shards.items c.find_all-found.ensures.each).shards
 
 pub returns-clause-parts : goal.returns-clause-parts
-returns-clause-parts g c = c.answers_of.ensures.answers (told c.args.topology.now.cluster c.args.bound) c.args.shards.items c.find_all-found.ensures.each
+returns-clause-parts g c = (c.answers_of.ensures (told c.args.topology.now.cluster c.args.bound) c.args.shards.items c.find_all-found.ensures.each).answers
 
 pub returns-clause-refused : goal.returns-clause-refused
-returns-clause-refused g c = c.answers_of.ensures.refused (told c.args.topology.now.cluster c.args.bound) c.args.shards.items c.find_all-found.ensures.each
+returns-clause-refused g c = (c.answers_of.ensures (told c.args.topology.now.cluster c.args.bound) c.args.shards.items c.find_all-found.ensures.each).refused

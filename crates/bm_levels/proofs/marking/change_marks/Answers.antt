@@ -8,7 +8,7 @@ use Rattle.bm_levels.specs.Changes.{changed}
 use Rattle.bm_levels.proofs.Slots.{none_at}
 use Rattle.bm_levels.proofs.AllMarks.{keeps_itself, keeps_then, changed_step, unchanged_step, change_end, change_count, count_at}
 use Rattle.bm_levels.proofs.marking.change_marks.Goals as goal
-use Rattle.bm_levels.proofs.marking.change_marks.Goals.{in-Some+then-not-are_same, in-Some+else-not-are_same, in_default}
+use Rattle.bm_levels.proofs.marking.change_marks.Goals.{in-Some+then-not-is_same, in-Some+else-not-is_same, in_default}
 
 pub loop-place-init : goal.loop-place-init
 loop-place-init c = record { replicas = refl; known = refl; rest = keeps_itself c.args.slot c.args.arena.now; same = λ _. refl }
@@ -20,7 +20,7 @@ loop-place-preserved c =
     let i = c.loop-place.place in
     let h = c.loop-place.invariant in
     elim c.match-triplet_at.branch [
-      | in-Some+then-not-are_same w ↦
+      | in-Some+then-not-is_same w ↦
           let g = w.set_marks_near.ensures in
           let K : Contents → Type 0 = λ a. KeepsAllBut slot c.loop-place.arena a in
           record {
@@ -30,11 +30,11 @@ loop-place-preserved c =
             rest = keeps_then slot c.args.arena.now c.loop-place.arena c.match-triplet_at.arena h.rest (subst K (sym w.arena-is) g.rest);
             same = λ none. absurd (true≢false (sym w.is_changed-is ∙ none));
           }
-      | in-Some+else-not-are_same w ↦
+      | in-Some+else-not-is_same w ↦
           let K : Contents → Type 0 = λ a. KeepsAllBut slot c.loop-place.arena a in
           record {
             replicas = ap (λ (a : Contents). replicas_at a slot) w.arena-is
-                ∙ unchanged_step f c.args.arena.now c.loop-place.arena slot i _ _ w.apply-after.result w.apply-after.ensures (w.are_same.ensures w.if-not-are_same.false) h.replicas (sym w.in-Some.ensures);
+                ∙ unchanged_step f c.args.arena.now c.loop-place.arena slot i _ _ w.apply-after.result w.apply-after.ensures (w.is_same.ensures.same w.if-not-is_same.false) h.replicas (sym w.in-Some.ensures);
             known = ap (λ (a : Contents). known_of (block_at a slot)) w.arena-is ∙ h.known;
             rest = keeps_then slot c.args.arena.now c.loop-place.arena c.match-triplet_at.arena h.rest (subst K (sym w.arena-is) (keeps_itself slot c.loop-place.arena));
             same = λ none. w.arena-is ∙ h.same (sym w.is_changed-is ∙ none);

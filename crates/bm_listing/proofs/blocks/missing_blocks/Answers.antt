@@ -20,7 +20,7 @@ own_turn c =
     let all = c.at_level-slot-items.result in
     let road = YieldsList-from_first (λ (x : ℕ). x) (λ (rest : List ℕ). rest) all c.into_iter-slot-iterator.ensures.into_iter_gives in
     let there = among_turn all c.loop-slot.yielded c.in-Some.slot (YieldsList-turn road c.loop-slot.yielded _ c.loop-slot.yielded_by _ _ c.in-Some.slot c.in-Some.is c.next.ensures.steps) in
-    own_leveled v lawful c.lawful.ensures NoUsableReplica c.in-Some.slot (ap (λ (k : Kept). level_of_slot k c.in-Some.slot) (sym c.kept.ensures) ∙ (c.at_level-slot-items.ensures.exact c.in-Some.slot).0 there)
+    own_leveled v lawful c.lawful.ensures NoUsableReplica c.in-Some.slot (ap (λ (k : Kept). level_of_slot k c.in-Some.slot) (sym c.kept_levels.ensures) ∙ (c.at_level-slot-items.ensures.exact c.in-Some.slot).0 there)
 
 pub id_of-requires : goal.id_of-requires
 id_of-requires c =
@@ -38,7 +38,7 @@ loop-slot-preserved c =
     let P : Contents → Type 0 = λ a. IsOwn a c.in-Some.slot in
     let own =
     subst P (sym c.arena-arena.ensures)
-    (own_leveled v lawful c.lawful.ensures NoUsableReplica c.in-Some.slot (ap (λ (k : Kept). level_of_slot k c.in-Some.slot) (sym c.kept.ensures) ∙ (c.at_level-slot-items.ensures.exact c.in-Some.slot).0 there)) in
+    (own_leveled v lawful c.lawful.ensures NoUsableReplica c.in-Some.slot (ap (λ (k : Kept). level_of_slot k c.in-Some.slot) (sym c.kept_levels.ensures) ∙ (c.at_level-slot-items.ensures.exact c.in-Some.slot).0 there)) in
     let id = answered_id a c.in-Some.slot c.id_of.result own c.id_of.ensures in
     c.in_ok-push.ensures.items ∙ (λ i. c.loop-slot.invariant i ++ id i ∷ []) ∙ sym (map-append (id_at a) c.loop-slot.yielded (c.in-Some.slot ∷ []))
 
@@ -53,4 +53,4 @@ returns-clause-missing c C levels pending =
     let P : List ℕ → Type 0 = λ xs. IsPermutation xs c.sort.new.self.items in
     let Q : Kept → Type 0 = λ k. (slot : ℕ) → Among slot all ↔ (level_of_slot k slot ≡ Some NoUsableReplica) in
     c.from_vec.ensures
-    ∙ at_level C v lawful c.lawful.ensures levels pending all c.sort.new.self.items (subst Q c.kept.ensures c.at_level-slot-items.ensures.exact) c.at_level-slot-items.ensures.once (subst P ids c.sort.ensures.permutation) c.in_ok-sort.ensures.sorted
+    ∙ at_level C v lawful c.lawful.ensures levels pending all c.sort.new.self.items (subst Q c.kept_levels.ensures c.at_level-slot-items.ensures.exact) c.at_level-slot-items.ensures.once (subst P ids c.sort.ensures.permutation) c.in_ok-sort.ensures.sorted

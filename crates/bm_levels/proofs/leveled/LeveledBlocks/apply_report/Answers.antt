@@ -14,7 +14,7 @@ pub judge_all_in-requires : goal.judge_all_in-requires
 judge_all_in-requires c = record {
   room = λ slot there.
       let P : List ℕ → Type 0 = λ l. Among slot l in
-      elim (c.apply_full-applied.ensures.listed slot (subst P c.changed.ensures there)) [
+      elim (c.apply_full-applied.ensures.listed slot (subst P c.changed_slots.ensures there)) [
         | inl old ↦ absurd (subst P c.requires.fresh old)
         | inr e ↦ c.self.invariant.room slot (held_by c.self.inside.arena slot (c.lawful.ensures.found e.0 slot e.1))
       ];
@@ -27,11 +27,11 @@ each : (c : goal.After-judge_all_in) → (slot : ℕ) → slot ≢ c.self.inside
     → (IsJudged (rack_of c.args.topology.now.cluster) (is_draining c.args.topology.now.cluster) (is_multi_rack c.args.topology.now.cluster) (block_at c.apply_full-applied.new.arena slot) c.judge_all_in.new.self slot)
     ⊎ ((block_at c.apply_full-applied.new.arena slot ≡ block_at c.self.inside.arena slot) × IsSameAt c.self.inside.kept c.judge_all_in.new.self slot)
 each c slot ne =
-    elim (dec_among slot c.changed.result.now) [
+    elim (dec_among slot c.changed_slots.result.now) [
       | inl there ↦ inl (c.judge_all_in.ensures.judged slot there)
       | inr absent ↦
           let P : List ℕ → Type 0 = λ l. Among slot l → ⊥ in
-          inr (c.apply_full-applied.ensures.changed slot ne (subst P c.changed.ensures absent), c.judge_all_in.ensures.others slot absent)
+          inr (c.apply_full-applied.ensures.changed slot ne (subst P c.changed_slots.ensures absent), c.judge_all_in.ensures.others slot absent)
     ]
 
 mark : (c : goal.After-judge_all_in) → IsSameAt c.self.inside.kept c.judge_all_in.new.self c.self.inside.arena.delimiter
@@ -39,7 +39,7 @@ mark c =
     c.judge_all_in.ensures.others c.self.inside.arena.delimiter
     (λ there.
     let P : List ℕ → Type 0 = λ l. Among c.self.inside.arena.delimiter l in
-    elim (c.apply_full-applied.ensures.listed c.self.inside.arena.delimiter (subst P c.changed.ensures there)) [
+    elim (c.apply_full-applied.ensures.listed c.self.inside.arena.delimiter (subst P c.changed_slots.ensures there)) [
       | inl old ↦ subst P c.requires.fresh old
       | inr e ↦ (c.lawful.ensures.found e.0 c.self.inside.arena.delimiter e.1).0 refl
     ])

@@ -16,8 +16,8 @@ loop-step-init c =
     let Q : Kept → Type 0 = λ K. IsOn at K.unsettled.slots in
     let R : Kept → Type 0 = λ K. slots_from K.unsettled.slots at ≡ K.unsettled.slots in
     record {
-      going = going_first v at c.unsettled_count-step-end.result (subst P c.kept.ensures c.lawful.ensures.unsettled) (subst Q c.kept-2.ensures c.first_unsettled-at.ensures.on) (subst R c.kept-2.ensures c.first_unsettled-at.ensures.rest)
-          (c.unsettled_count-step-end.ensures ∙ ap (λ (K : Kept). length K.unsettled.slots) c.kept-3.ensures);
+      going = going_first v at c.unsettled_count-step-end.result (subst P c.kept_levels.ensures c.lawful.ensures.unsettled) (subst Q c.kept_levels-2.ensures c.first_unsettled-at.ensures.on) (subst R c.kept_levels-2.ensures c.first_unsettled-at.ensures.rest)
+          (c.unsettled_count-step-end.ensures ∙ ap (λ (K : Kept). length K.unsettled.slots) c.kept_levels-3.ensures);
       levels = λ h. h;
     }
 
@@ -38,7 +38,7 @@ loop-step-preserved c =
           let next = w.next_unsettled-at.ensures in
           let g = w.begin_at.ensures in
           let new = w.begin_at.new.self in
-          let is = w.kept-in-Some.ensures in
+          let is = w.kept_levels-in-Some.ensures in
           let Q : Option ℕ → Type 0 = λ o. IsGoing old new o (step + 1) end in
           let On : Kept → Type 0 = λ K. IsOn then K.unsettled.slots in
           let Past : Kept → Type 0 = λ K. IsPast x then K.unsettled.slots in

@@ -64,8 +64,8 @@ none c =
     let reported = c.apply_report-applied.ensures in
     let P : List ℕ → Type 0 = λ l. levels.IsSameBeside l a m in
     let is_looked = looked_up c.self.inside.report c.self.inside.prepared c.args.storage c.requires.ready.0 (ap (λ (S : Seen). S.room.report) c.self.view_is ∙ c.requires.ready.1) in
-    none_reported c.args.topology.now.cluster (holdings_of a) c.args.storage c.self.inside.report.named a m c.drop_bare.new.self.arena c.changed.result.now (subst (λ x. IsLawful x) c.arena.ensures c.lawful-2.ensures) reported.entries.ids
-    (subst P (sym c.changed.ensures) reported.changed) reported.replicas (λ n h. prepared_report c.self.inside.prepared c.self.inside.report c.args.storage n is_looked.0 (c.self.invariant.bare n h)) c.drop_bare.ensures.bare c.drop_bare.ensures.left
+    none_reported c.args.topology.now.cluster (holdings_of a) c.args.storage c.self.inside.report.named a m c.drop_bare.new.self.arena c.changed_slots.result.now (subst (λ x. IsLawful x) c.arena.ensures c.lawful-2.ensures) reported.entries.ids
+    (subst P (sym c.changed_slots.ensures) reported.changed) reported.replicas (λ n h. prepared_report c.self.inside.prepared c.self.inside.report c.args.storage n is_looked.0 (c.self.invariant.bare n h)) c.drop_bare.ensures.bare c.drop_bare.ensures.left
 
 pub invariant_of-self : goal.invariant_of-self
 invariant_of-self c = record { index = c.self.invariant.index; ready = λ s e. absurd (none_looked_up s e); fresh = λ s e. absurd (none_looked_up s e); bare = λ b h. absurd (none c b h) }

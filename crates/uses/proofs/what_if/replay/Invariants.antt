@@ -1,7 +1,7 @@
 use Rattle.std.proofs.Common.{◌≡◌, drop}
 use Rattle.bm_base.specs.State.{first_state}
 use Rattle.bm_base.specs.Calls.{state_after}
-use Rattle.uses.proofs.what_if.replayed.Given as goal
+use Rattle.uses.proofs.what_if.replay.Given as goal
 
 -- from here the calls that are left lead to where all of them lead
 abbrev pub invariant-loop-call : goal.invariant-loop-call

@@ -1,7 +1,7 @@
 use Rattle.std.proofs.Common.{◌≡◌, ◌&&◌, not, filter, take}
 use Rattle.bm_base.specs.Refusals.{knows_storage}
 use Rattle.bm_base.specs.Replicas.{is_draining}
-use Rattle.uses.proofs.storages.serving.Given as goal
+use Rattle.uses.proofs.storages.find_serving.Given as goal
 
 -- of the storages so far those that serve are found
 abbrev pub invariant-loop-storage : goal.invariant-loop-storage

@@ -1,6 +1,6 @@
 use Rattle.std.proofs.Common.{◌≤◌, ◌↔◌, ℕ, take}
 use Rattle.bm_base.specs.SlotLists.{Among}
-use Rattle.uses.proofs.slots.noted.Given as goal
+use Rattle.uses.proofs.slots.note_slots.Given as goal
 
 -- the slots so far are the members
 abbrev pub invariant-loop-slot : goal.invariant-loop-slot

@@ -1,6 +1,6 @@
 use Rattle.std.proofs.Common.{refl}
 use Rattle.bm_base.specs.Levels.{level_of}
-use Rattle.laws_of_rounds.proofs.levels.second_rack_may_raise_need.Goals as goal
+use Rattle.worked_examples.proofs.levels.second_rack_may_raise_need.Goals as goal
 
 pub returns : goal.returns
 unfolding level_of

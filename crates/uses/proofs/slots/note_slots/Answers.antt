@@ -2,7 +2,7 @@ use Rattle.std.proofs.Common.{◌↔◌, ℕ, List, arith, sym, subst, take, tak
 use Rattle.std.proofs.lemmas.List.{take_more}
 use Rattle.bm_base.specs.SlotLists.{Among}
 use Rattle.uses.proofs.Members.{one_more}
-use Rattle.uses.proofs.slots.noted.Goals as goal
+use Rattle.uses.proofs.slots.note_slots.Goals as goal
 
 pub loop-slot-preserved : goal.loop-slot-preserved
 loop-slot-preserved c =

@@ -8,7 +8,7 @@ use Rattle.bm_report.specs.Ready.{told}
 use Rattle.bm_report.specs.Expanded.{told_to}
 use Rattle.bm_report.proofs.Simple.{ok_then, simple_once}
 use Rattle.bm_report.proofs.Running.{told_one}
-use Rattle.shard_tests.proofs.report.received.Goals as goal
+use Rattle.shard_tests.proofs.report.apply_notice.Goals as goal
 
 pub apply_received-requires-clause-told : goal.apply_received-requires-clause-told
 apply_received-requires-clause-told g c =
