@@ -459,7 +459,7 @@ fn looked_up(arena: &Arena, slots: &Slots, step: Step) -> Answer {
         Step::HasHead(storage) => yes(arena.has_head(StorageId(storage))),
         Step::Info(block) => info(arena.info(slot_of(slots, block))),
         Step::Marks(block, storage) => {
-            answer_of(arena.marks(slot_of(slots, block), StorageId(storage)))
+            answer_marks(arena.marks(slot_of(slots, block), StorageId(storage)))
         }
         _ => Answer::Other,
     }

@@ -18,10 +18,10 @@ abbrev pub each_answer : {A : Type 0} → (Seen → A) → List (ℕ × Seen) �
 each_answer f ss = map (λ s. f s.1) ss
 
 -- of shards that were each to answer f of itself: they come back as they were, with all their answers, or want of memory
-pub record HasGathered {A G : Type 0} (f : Seen → A) (ss : List (ℕ × Seen)) (back : List (ℕ × Seen)) (answers : Result (Vec A G) Refusal) : Type 0 where
+pub record HasGathered {A G : Type 0} (f : Seen → A) (ss : List (ℕ × Seen)) (back : List (ℕ × Seen)) (made : Result (Vec A G) Refusal) : Type 0 where
   pub shards : back ≡ ss
-  pub answers : IfOk answers (λ v. v.items ≡ each_answer f ss)
-  pub refused : IfErr answers (λ e. e ≡ Memory)
+  pub answers : IfOk made (λ v. v.items ≡ each_answer f ss)
+  pub refused : IfErr made (λ e. e ≡ Memory)
 
 abbrev pub shard_answered : {A : Type 0} → ℕ × Answered A → ℕ × Seen
 shard_answered f = (f.0, f.1.shard)

@@ -227,7 +227,7 @@ fn names_few(entries: &[Entry]) -> bool
     true
 }
 
-fn ready(world: &mut World, storage: StorageId, entries: &[Entry]) -> Answer {
+fn make_ready(world: &mut World, storage: StorageId, entries: &[Entry]) -> Answer {
     match world
         .report
         .ready(&mut world.arena, storage, entries, WHOLE)
@@ -335,7 +335,7 @@ fn tell(rt: &impl Abort, world: &mut World, step: Step) -> Answer {
         }
         Step::Readies(storage, lines) => {
             let entries = [entry(lines[0]), entry(lines[1]), entry(lines[2])];
-            ready(world, StorageId(storage), entries.as_slice())
+            make_ready(world, StorageId(storage), entries.as_slice())
         }
         Step::GivesUp => given_up(world),
         Step::GivesUpAll => all_given_up(world),
