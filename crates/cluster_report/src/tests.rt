@@ -23,7 +23,7 @@ fn run_all<R: BufRead, W: Write, N: Write, H: Threads + Wait + Sync>(
 }
 
 /// The report on these lines, what is told of refused ones, and whether all were accepted.
-fn report_on<H: Threads + Wait + Sync>(
+fn report_of_lines<H: Threads + Wait + Sync>(
     rt: &H,
     alloc: Global,
     lines: &str,
@@ -128,7 +128,7 @@ fn check_case<R: Abort + Threads + Wait + Sync>(
     alloc: Global,
     case: &Case,
 ) -> Result<(), Fail> {
-    let (report, notes, accepted) = report_on(rt, alloc, case.lines)?;
+    let (report, notes, accepted) = report_of_lines(rt, alloc, case.lines)?;
     assert!(rt; report.as_str() == case.report);
     assert!(rt; notes.as_str() == case.notes);
     assert!(rt; accepted == case.accepted);
@@ -151,7 +151,7 @@ const MANY: &str = "{\"op\":\"register\",\"node\":1,\"rack\":1,\"storages\":[1]}
 #[test]
 fn no_more_than_ten_blocks_are_named(rt: HostRuntime) -> Result<(), Fail> {
     let lines = lines_of_many(rt.alloc())?;
-    let (report, _, _) = report_on(&rt, rt.alloc(), lines.as_str())?;
+    let (report, _, _) = report_of_lines(&rt, rt.alloc(), lines.as_str())?;
     assert!(rt; report.contains("level 0 12\n"));
     assert!(rt; report.contains("level 4 12\n"));
     assert!(rt; report.contains("transfers 0\nmissing block 13\n"));
@@ -250,7 +250,7 @@ fn check_copies<R: Abort + Threads + Wait + Sync>(
 ) -> Result<(), Fail> {
     let mut lines = String::from_str(alloc, COPIES)?;
     lines.push_str(last)?;
-    let (report, notes, accepted) = report_on(rt, alloc, lines.as_str())?;
+    let (report, notes, accepted) = report_of_lines(rt, alloc, lines.as_str())?;
     assert!(rt; report.contains(transfers));
     assert!(rt; notes.is_empty());
     assert!(rt; accepted);

@@ -2,7 +2,7 @@
 ghost use Rattle.std.specs.Prelude.{◌≡◌, ◌≤◌, IfSome};
 ghost use Rattle.bm_view.specs.History.{last_of};
 
-use super::{found, version};
+use super::{found_on, version};
 use bm_base::{BlockId, StorageId};
 use bm_view::{Located, Locator, Publisher, Receipt, open_view};
 use crossbeam_channel::{Receiver, Sender, unbounded};
@@ -21,9 +21,9 @@ const READS: u32 = 5_000;
 // What block 7 has in the version of so many calls.
 fn at(calls: u64) -> Option<Located> {
     match calls {
-        0 => found(0, &[]),
-        10 => found(10, &[StorageId(11)]),
-        _ => found(calls, &[StorageId(11), StorageId(31)]),
+        0 => found_on(0, &[]),
+        10 => found_on(10, &[StorageId(11)]),
+        _ => found_on(calls, &[StorageId(11), StorageId(31)]),
     }
 }
 
@@ -235,5 +235,5 @@ fn reads_beside_a_publisher_never_go_back(rt: HostRuntime) {
         None => (1, None),
     };
     publisher.end(&rt);
-    assert_eq!(rt; seen, (0, found(VERSIONS, &[StorageId(11)])));
+    assert_eq!(rt; seen, (0, found_on(VERSIONS, &[StorageId(11)])));
 }
