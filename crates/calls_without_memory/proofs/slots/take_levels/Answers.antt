@@ -26,11 +26,11 @@ level-requires c =
 pub loop-at-smaller : goal.loop-at-smaller
 loop-at-smaller c =
     let at_highest = highest c.loop-at.lists c.loop-at.at c.in-Some.slot c.lawful.ensures.lawful c.loop-at.invariant c.in-Some.is in
-    let here = ap length (rw (← c.in-Some.is) at (c.next-at.ensures.rest Highest at_highest)) in
-    let rest = ap length (c.set.ensures.rest Highest c.next-at.result (c.next-at.ensures.past Highest at_highest)) in
+    let here = ap length (rw (← c.in-Some.is) at (c.next-at.ensures.goes_on Highest at_highest).rest) in
+    let rest = ap length (c.set.ensures.rest Highest c.next-at.result (c.next-at.ensures.goes_on Highest at_highest).past) in
     omega (arith, here, rest)
 
 pub loop-at-preserved : goal.loop-at-preserved
 loop-at-preserved c =
     let at_highest = highest c.loop-at.lists c.loop-at.at c.in-Some.slot c.lawful.ensures.lawful c.loop-at.invariant c.in-Some.is in
-    c.set.ensures.on Highest c.next-at.result (c.next-at.ensures.past Highest at_highest) (c.next-at.ensures.on Highest at_highest)
+    c.set.ensures.on Highest c.next-at.result (c.next-at.ensures.goes_on Highest at_highest).past (c.next-at.ensures.goes_on Highest at_highest).on
