@@ -12,9 +12,10 @@ ghost use Rattle.bm_fleet.specs.Whole.{AreShards, EachStandsIn, EachTook, held_b
 
 use crate::crewed::{Committed, Prepared};
 use crate::gathering::{abort_all, gather_committed, gather_prepared};
+use crate::pass_room::{two_lists, two_passes};
 use crate::running::{commit_all, prepare_all};
 use bm_base::{Done, Event, Refusal};
-use bm_crew::{Crew, Gate, Ready};
+use bm_crew::{Gate, Ready};
 use bm_shard::Shard;
 use bm_topo::Topology;
 use std::alloc::Global;
@@ -43,11 +44,9 @@ fn event_room(alloc: Global, count: usize, workers: usize) -> Result<EventRoom, 
         × (count ≤ vec_capacity r.committed)) }
     ensures refused { IfErr result (λ e. e ≡ Memory) }
 {
-    let preparing = Crew::ready::<Shard, Prepared>(alloc, count, workers)?;
-    let committing = Crew::ready::<Shard, Committed>(alloc, count, workers)?;
-    let prepared = Vec::with_capacity(alloc, count)?;
-    let aborted = Vec::with_capacity(alloc, count)?;
     let committed = Vec::with_capacity(alloc, count)?;
+    let (preparing, committing) = two_passes::<Prepared, Committed>(alloc, count, workers)?;
+    let (prepared, aborted) = two_lists(alloc, count)?;
     Ok(EventRoom {
         preparing,
         committing,

@@ -15,6 +15,7 @@ mod joined_rows;
 mod joining;
 mod listed;
 mod one_shard;
+mod pass_room;
 mod round_choice;
 mod round_crewed;
 mod round_found;

@@ -4,8 +4,9 @@ ghost use Rattle.bm_base.specs.declared.refusal.Refusal.TheVariants.{Memory};
 
 use crate::answered::{AskRoom, ask_room};
 use crate::crewed::Prepared;
+use crate::pass_room::{two_lists, two_passes};
 use bm_base::{Refusal, RoundPart};
-use bm_crew::{Crew, Ready};
+use bm_crew::Ready;
 use bm_shard::Shard;
 use std::alloc::Global;
 
@@ -34,10 +35,8 @@ pub(crate) fn round_room(alloc: Global, count: usize, workers: usize) -> Result<
     ensures refused { IfErr result (λ e. e ≡ Memory) }
 {
     let finding = ask_room(alloc, count, workers)?;
-    let preparing = Crew::ready::<Shard, Prepared>(alloc, count, workers)?;
-    let committing = Crew::ready::<Shard, Shard>(alloc, count, workers)?;
-    let prepared = Vec::with_capacity(alloc, count)?;
-    let aborted = Vec::with_capacity(alloc, count)?;
+    let (preparing, committing) = two_passes::<Prepared, Shard>(alloc, count, workers)?;
+    let (prepared, aborted) = two_lists(alloc, count)?;
     Ok(RoundRoom {
         finding,
         preparing,
