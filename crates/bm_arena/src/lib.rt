@@ -11,8 +11,6 @@ mod links;
 mod look_ups;
 mod numbers;
 mod storage_lists;
-#[cfg(test)]
-mod tests;
 mod types;
 mod usual_slots;
 mod walk;

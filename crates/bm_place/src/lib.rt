@@ -24,6 +24,3 @@ pub use scheduled::Scheduled;
 pub use source::least_source;
 pub use streams::Streams;
 pub use target::least_target;
-
-#[cfg(test)]
-mod tests;

@@ -9,6 +9,3 @@ mod tables;
 mod topology;
 
 pub use topology::{Location, Topology};
-
-#[cfg(test)]
-mod tests;

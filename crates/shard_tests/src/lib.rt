@@ -3,6 +3,8 @@
 #![tactic(auto)]
 
 #[cfg(test)]
+mod arena;
+#[cfg(test)]
 mod finding;
 #[cfg(test)]
 mod levels;
@@ -11,6 +13,8 @@ mod listing;
 #[cfg(test)]
 mod pending;
 #[cfg(test)]
+mod placement;
+#[cfg(test)]
 mod queues;
 #[cfg(test)]
 mod report;
@@ -18,3 +22,5 @@ mod report;
 mod round;
 #[cfg(test)]
 mod shard;
+#[cfg(test)]
+mod topology;

@@ -1,6 +1,10 @@
 // On clusters of a few nodes the choices are those worked out by hand: a list of cases for each question.
-use crate::{ExcessRoom, Scheduled, Streams, excess_of, fill_excess, least_source, least_target};
+ghost use Rattle.shard_tests.specs.Tables.{AreSenders, AreTargets};
+
 use bm_base::{Event, Items, Level, NodeId, Rack, Remaining, StorageId};
+use bm_place::{
+    ExcessRoom, Scheduled, Streams, excess_of, fill_excess, least_source, least_target,
+};
 use bm_topo::Topology;
 use std::alloc::Global;
 use std::process::Abort;
@@ -50,6 +54,8 @@ static NODES: [Node<'static>; 6] = [
         storages: &SEVENTEEN,
     },
 ];
+
+const NO_STORAGE: [StorageId; 0] = [];
 
 /// How many bytes are free on the storages of each of the nodes. A node with none is not in the cluster.
 const FOUR_NODES: [u64; 6] = [1000, 1000, 1000, 1000, 0, 0];
@@ -403,14 +409,17 @@ static SOURCES: [Source<'static>; 12] = [
     },
 ];
 
-/// One transfer more from a storage.
-fn send(rt: &impl Abort, streams: &mut Streams, source: StorageId) {
-    let node = streams
-        .nodes
-        .get(u64::from(source.0))
-        .expect(rt, "a storage of the cluster");
-    assert!(rt; streams.count_of(node) < 256_000);
-    streams.add(source);
+/// One transfer more from a storage, which may send it at the highest level.
+fn send(rt: &impl Abort, topology: &Topology, streams: &mut Streams, source: StorageId)
+    requires { AreSenders topology.now.cluster streams.old }
+    ensures { AreSenders topology.now.cluster streams.new }
+{
+    let usable = [source];
+    let found = least_source(usable.as_slice(), Level::Highest, topology, streams);
+    assert!(rt; found == Some(source));
+    if let Some(found) = found {
+        streams.add(found);
+    }
 }
 
 fn source_after(
@@ -422,7 +431,7 @@ fn source_after(
     let usable = storages_numbered(rt, alloc, case.usable);
     let mut streams = Streams::new(alloc, topology).expect(rt, "memory");
     for source in case.sent {
-        send(rt, &mut streams, StorageId(*source));
+        send(rt, topology, &mut streams, StorageId(*source));
     }
     number_of(least_source(usable.as_slice(), case.level, topology, &streams))
 }
@@ -643,15 +652,40 @@ static TARGETS: [Target<'static>; 18] = [
     },
 ];
 
-/// So many bytes more to a storage.
-fn fill(rt: &impl Abort, scheduled: &mut Scheduled, target: StorageId, len: u64) {
-    let row = scheduled
-        .rows
-        .get(u64::from(target.0))
-        .expect(rt, "a storage of the cluster");
-    assert!(rt; row.scheduled <= row.remaining);
-    assert!(rt; len <= row.remaining - row.scheduled);
-    scheduled.add(target, len);
+/// A storage on each of the nodes 1 to 4 that this storage is not on.
+fn on_other_nodes(storage: u32) -> &'static [u32] {
+    match storage {
+        31 => &[11, 21, 41],
+        41 => &[11, 21, 31],
+        _ => &[11, 21, 31, 41],
+    }
+}
+
+/// So many bytes more to a storage: the target where all other nodes are excluded.
+fn fill(
+    rt: &impl Abort,
+    alloc: Global,
+    topology: &Topology,
+    scheduled: &mut Scheduled,
+    target: u32,
+    len: u64,
+)
+    requires { AreTargets topology.now.cluster scheduled.old }
+    ensures { AreTargets topology.now.cluster scheduled.new }
+{
+    let barred = storages_numbered(rt, alloc, on_other_nodes(target));
+    let found = least_target(
+        NO_STORAGE.as_slice(),
+        barred.as_slice(),
+        len,
+        Level::Highest,
+        topology,
+        scheduled,
+    );
+    assert!(rt; found == Some(StorageId(target)));
+    if let Some(found) = found {
+        scheduled.add(found, len);
+    }
 }
 
 fn target_after(
@@ -664,7 +698,7 @@ fn target_after(
     let barred = storages_numbered(rt, alloc, case.barred);
     let mut scheduled = Scheduled::new(alloc, topology).expect(rt, "memory");
     for (target, len) in case.filled {
-        fill(rt, &mut scheduled, StorageId(*target), *len);
+        fill(rt, alloc, topology, &mut scheduled, *target, *len);
     }
     number_of(least_target(
         held.as_slice(),

@@ -1,11 +1,9 @@
 // With ample memory each event that no check refuses is taken, and the cluster answers what was worked out by hand: each test is
 // a list of steps with what each must answer, and one function goes over them.
-use crate::Topology;
-use crate::likely_places::LikelyPlaces;
 use bm_base::{
     BlockId, Entry, Event, Gen, Items, NodeId, Rack, Refusal, Remaining, Stamp, StorageId,
-    StorageInfo,
 };
+use bm_topo::Topology;
 use std::alloc::Global;
 use std::process::Abort;
 
@@ -676,44 +674,4 @@ fn nodes_drain_until_they_stay_or_die(rt: HostRuntime) {
         FOUR_NODES.as_slice(),
         NODES_DRAIN_UNTIL_THEY_STAY_OR_DIE.as_slice(),
     );
-}
-
-const INFO: StorageInfo = StorageInfo {
-    node: NodeId(348),
-    remaining: 0,
-};
-
-/// The products of these numbers with the first factor begin with the same bits, so that all would share one note: 14 bits of the storages',
-/// 10 of the nodes'.
-const CHOSEN_STORAGES: [(u64, StorageInfo); 4] = [
-    (16_203, INFO),
-    (27_149, INFO),
-    (44_860, INFO),
-    (62_571, INFO),
-];
-
-const CHOSEN_NODES: [(u64, Rack); 4] = [
-    (348, Rack(1)),
-    (1_335, Rack(1)),
-    (1_945, Rack(1)),
-    (2_932, Rack(1)),
-];
-
-/// By another factor each of them has a note of its own, and so stands where it is noted; of the nodes that drain as many as are less stand
-/// before it.
-#[test]
-fn numbers_that_would_share_a_note_stand_where_they_are_noted(rt: HostRuntime) {
-    let draining = [(1_335, ()), (1_945, ())];
-    let mut places = LikelyPlaces::new();
-    places.note(
-        CHOSEN_STORAGES.as_slice(),
-        CHOSEN_NODES.as_slice(),
-        draining.as_slice(),
-    );
-    let storages = [16_203, 27_149, 44_860, 62_571].map(|number| places.of_storage(number));
-    assert!(rt; storages == [0, 1, 2, 3]);
-    let nodes = [348, 1_335, 1_945, 2_932].map(|number| places.of_node(number));
-    assert!(rt; nodes == [0, 1, 2, 3]);
-    let before = [348, 1_335, 1_945, 2_932].map(|number| places.of_draining(number));
-    assert!(rt; before == [0, 0, 1, 2]);
 }

@@ -1,7 +1,6 @@
 // The lists of two storages and the delimiter, and each call once with ample memory: each test is a list of steps with what each
 // must answer, and one function goes over them.
-use crate::Arena;
-use crate::usual_slots::UsualSlots;
+use bm_arena::Arena;
 use bm_base::{BlockId, BlockInfo, Gen, Marks, Stamp, StorageId, Tag};
 use std::alloc::Global;
 use std::process::Abort;
@@ -665,24 +664,4 @@ fn delimiter_stands_in_1024_lists(rt: HostRuntime) {
         NOTHING.as_slice(),
         DELIMITER_STANDS_IN_1024_LISTS.as_slice(),
     );
-}
-
-/// The slot that a number is guessed to have where these numbers got these slots.
-fn guess_after(added: &[(u64, usize)], id: u64) -> Option<usize> {
-    let mut usual = UsualSlots::new();
-    for (number, slot) in added {
-        usual.add(*number, *slot);
-    }
-    usual.guess(id, added.len())
-}
-
-/// Numbers one after another, and each third number, as a shard of three has them: also of those that came before the rule was found.
-#[test]
-fn usual_slots_are_guessed(rt: HostRuntime) {
-    let each = [(100, 1), (101, 2), (102, 3), (103, 4), (104, 5)];
-    assert!(rt; guess_after(each.as_slice(), 101) == Some(2));
-    assert!(rt; guess_after(each.as_slice(), 104) == Some(5));
-    let thirds = [(300, 1), (303, 2), (306, 3), (309, 4), (312, 5)];
-    assert!(rt; guess_after(thirds.as_slice(), 300) == Some(1));
-    assert!(rt; guess_after(thirds.as_slice(), 312) == Some(5));
 }
