@@ -2,8 +2,13 @@
 use crate::rows::{USUAL, run_with};
 use std::test::Fail;
 
-const ANSWERS: &str =
-    "refused 20 BadLine\nrefused 20 BadLine\nrefused 20 BadLine\nrefused 21 LongLine\nround 1\nround 2\n";
+const ANSWERS: &str = "refused 20 BadLine
+refused 20 BadLine
+refused 20 BadLine
+refused 21 LongLine
+round 1
+round 2
+";
 
 #[test]
 fn bad_and_long_lines(rt: HostRuntime) -> Result<(), Fail> {

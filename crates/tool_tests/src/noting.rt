@@ -87,7 +87,8 @@ impl<'a> NotingReader<'a> {
         }
     }
 
-    /// How many bytes of the first path's answers are to be flushed at a read: those to all lines that were read before.
+    /// How many bytes of the first path's answers are to be flushed at a read: those to all lines
+    /// that were read before.
     fn flushed_at(&self, read: usize) -> usize {
         match (self.pieces, read) {
             (_, 0) => 0,

@@ -8,7 +8,8 @@ use std::sync::Wait;
 use std::test::Fail;
 use std::thread::Threads;
 
-/// A script behind lines of which each is answered by `ok 0 0`, and its answers, worked out by hand.
+/// A script behind lines of which each is answered by `ok 0 0`, and its answers, worked out by
+/// hand.
 pub struct Row {
     pub name: &'static str,
     pub config: Config,
@@ -64,7 +65,8 @@ pub const TWO_ROUNDS: Config = Config { pend: 2, ..USUAL };
 
 pub const NOTHING: &str = "";
 
-/// Four DataNodes with a storage each, two on each of two racks, and 1,000 bytes free on each storage.
+/// Four DataNodes with a storage each, two on each of two racks, and 1,000 bytes free on each
+/// storage.
 pub const CLUSTER: &str = r#"{"op":"register","node":1,"rack":1,"storages":[11]}
 {"op":"register","node":2,"rack":1,"storages":[21]}
 {"op":"register","node":3,"rack":2,"storages":[31]}
@@ -97,7 +99,8 @@ pub fn run_with<H: Threads + Wait + RandomSource + Sync>(
     (result, writer.into_inner())
 }
 
-/// Each script is answered as its row says, whatever the number of shards and workers, and its lines are counted.
+/// Each script is answered as its row says, whatever the number of shards and workers, and its
+/// lines are counted.
 pub fn go<H: Abort + Threads + Wait + RandomSource + Sync>(
     rt: &H,
     alloc: Global,

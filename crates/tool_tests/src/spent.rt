@@ -1,5 +1,5 @@
-// Rounds and accepted calls are numbered up to the last number of 64 bits. No option of the tool says where they begin, so
-// that these scripts can only be run here.
+// Rounds and accepted calls are numbered up to the last number of 64 bits. No option of the tool
+// says where they begin, so that these scripts can only be run here.
 use crate::rows::{ALL_SPENT, CLUSTER, FIRST_PATH, LAST_CALL, LAST_ROUND, NOTHING, Row, go};
 use std::test::Fail;
 

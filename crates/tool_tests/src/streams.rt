@@ -1,5 +1,5 @@
-// Readers and writers that fail, and answers that are waited for: what no script on standard streams can see. The input is always
-// the first path.
+// Readers and writers that fail, and answers that are waited for: what no script on standard
+// streams can see. The input is always the first path.
 use crate::noting::{Notes, Noting, NotingReader, Pieces};
 use crate::rows::{FIRST_PATH, FIRST_PATH_ANSWERS, USUAL};
 use bm_base::Config;
@@ -56,11 +56,11 @@ fn run_noted<H: Threads + Wait + RandomSource + Sync>(
     run(rt, alloc, &mut reader, &mut writer, &config)
 }
 
-/// What comes by one read, what fails, and then the numbers of reads, of writes and flushes, of bytes written, and of these of bytes
-/// flushed: the failed read or call is the last.
+/// What comes by one read, what fails, and then the numbers of reads, of writes and flushes, of
+/// bytes written, and of these of bytes flushed: the failed read or call is the last.
 const CASES: [(Pieces, Cause, [usize; 4]); 23] = [
-    // By lines each answer goes out before the next read: the calls are a write and a flush for each line, and the flush at the
-    // end; the reads are four lines and the end of input.
+    // By lines each answer goes out before the next read: the calls are a write and a flush for
+    // each line, and the flush at the end; the reads are four lines and the end of input.
     (Pieces::Lines, Cause::Nothing, [5, 9, 34, 34]),
     (Pieces::Lines, Cause::Config, [0, 0, 0, 0]),
     (Pieces::Lines, Cause::Read(0), [1, 0, 0, 0]),
