@@ -1,26 +1,51 @@
 // Lines that ask for no call, and lines up to the limit of 4,194,304 bytes.
-use crate::rows::{USUAL, run_with};
-use std::test::Fail;
+use crate::rows::{NOTHING, Row, USUAL, is_answered};
+use std::alloc::AllocError;
 
-const ANSWERS: &str = "refused 20 BadLine
+const ROW: Row = Row {
+    name: "bad_and_long_lines",
+    config: USUAL,
+    before: NOTHING,
+    script: "",
+    answers: "refused 20 BadLine
 refused 20 BadLine
 refused 20 BadLine
 refused 21 LongLine
 round 1
 round 2
-";
+",
+};
+
+const THREE_BAD_LINES: &str = r#"{
+{"op":"fly"}
+{"op":"dead","node":4294967296}
+"#;
+
+const ROUND: &str = "\n{\"op\":\"round\"}";
+
+/// The parts of the script, each with the number of spaces behind it: a line is a byte too long, and
+/// the next one is just as long as may be.
+const PARTS: [(&str, usize); 3] = [
+    (THREE_BAD_LINES, 4_194_305),
+    (ROUND, 4_194_304 - 14),
+    (ROUND, 0),
+];
 
 #[test]
-fn bad_and_long_lines(rt: HostRuntime) -> Result<(), Fail> {
+fn bad_and_long_lines(rt: HostRuntime) -> Result<(), AllocError> {
     let alloc = rt.alloc();
     let mut input = Vec::new(alloc);
-    input.extend_from_slice(b"{\n{\"op\":\"fly\"}\n{\"op\":\"dead\",\"node\":4294967296}\n")?;
-    input.extend_from_slice(vec![in alloc; b' '; 4_194_305]?.as_slice())?;
-    input.extend_from_slice(b"\n{\"op\":\"round\"}")?;
-    input.extend_from_slice(vec![in alloc; b' '; 4_194_304 - 14]?.as_slice())?;
-    input.extend_from_slice(b"\n{\"op\":\"round\"}")?;
-    let (result, text) = run_with(&rt, alloc, &USUAL, input.as_slice());
-    assert!(rt; result.is_ok());
-    assert_eq!(rt; text.as_slice(), ANSWERS.as_bytes());
+    for (text, spaces) in PARTS.as_slice() {
+        push_part(&mut input, text, *spaces)?;
+    }
+    is_answered(&rt, alloc, &ROW, input.as_slice());
+    Ok(())
+}
+
+fn push_part(input: &mut Vec<u8>, text: &str, spaces: usize) -> Result<(), AllocError> {
+    input.extend_from_slice(text.as_bytes())?;
+    for _ in 0..spaces {
+        input.push(b' ')?;
+    }
     Ok(())
 }

@@ -55,7 +55,7 @@ fn count(counter: &Cell<usize>, more: usize) -> usize {
 }
 
 /// What one read gives.
-#[derive(Clone, Copy, Debug, PartialEq, Eq)]
+#[derive(Clone, Copy)]
 pub enum Pieces {
     /// The next line.
     Lines,
@@ -100,7 +100,7 @@ impl<'a> NotingReader<'a> {
     }
 
     fn next_piece(&self) -> usize {
-        if self.pieces == Pieces::Lines {
+        if matches!(self.pieces, Pieces::Lines) {
             for (at, byte) in self.left.iter().enumerate() {
                 if *byte == b'\n' {
                     return at + 1;

@@ -5,7 +5,6 @@ use std::alloc::{AllocError, Global};
 use std::process::Abort;
 use std::random::RandomSource;
 use std::sync::Wait;
-use std::test::Fail;
 use std::thread::Threads;
 
 /// A script behind lines of which each is answered by `ok 0 0`, and its answers, worked out by
@@ -105,39 +104,45 @@ pub fn go<H: Abort + Threads + Wait + RandomSource + Sync>(
     rt: &H,
     alloc: Global,
     rows: &[Row],
-) -> Result<(), Fail> {
+) -> Result<(), AllocError> {
+    let mut input = Vec::new(alloc);
     for row in rows {
-        let input = input_of(alloc, row)?;
-        let counts = counts_of(row);
-        for (shards, workers) in SHARDS_AND_WORKERS {
-            let config = Config {
-                shards,
-                workers,
-                ..row.config
-            };
-            let (result, text) = run_with(rt, alloc, &config, input.as_slice());
-            let answers = text.as_slice().get(answered_before(row)..).unwrap_or(&[]);
-            assert_eq!(rt;
-                (result, answers),
-                (Ok(counts), row.answers.as_bytes()),
-                "{} with {shards} shards and {workers} workers",
-                row.name
-            );
-        }
+        input.clear();
+        input.extend_from_slice(row.before.as_bytes())?;
+        input.extend_from_slice(row.script.as_bytes())?;
+        is_answered(rt, alloc, row, input.as_slice());
     }
     Ok(())
 }
 
-fn input_of(alloc: Global, row: &Row) -> Result<Vec<u8>, AllocError> {
-    let mut input = Vec::new(alloc);
-    input.extend_from_slice(row.before.as_bytes())?;
-    input.extend_from_slice(row.script.as_bytes())?;
-    Ok(input)
+/// The input is answered as the row says.
+pub fn is_answered<H: Abort + Threads + Wait + RandomSource + Sync>(
+    rt: &H,
+    alloc: Global,
+    row: &Row,
+    input: &[u8],
+) {
+    for (shards, workers) in SHARDS_AND_WORKERS.as_slice() {
+        let config = Config {
+            shards: *shards,
+            workers: *workers,
+            ..row.config
+        };
+        let (result, text) = run_with(rt, alloc, &config, input);
+        let is_so = result == Ok(counts_of(row))
+            && answers_in(row, text.as_slice()) == row.answers.as_bytes();
+        assert!(rt;
+            is_so,
+            "{} with {shards} shards and {workers} workers",
+            row.name
+        );
+    }
 }
 
-/// The length of the answers to the lines before the script: seven bytes each.
-fn answered_before(row: &Row) -> usize {
-    row.before.lines().count().saturating_mul(7)
+/// What follows the answers to the lines before the script, which are seven bytes each.
+fn answers_in<'t>(row: &Row, text: &'t [u8]) -> &'t [u8] {
+    let before = row.before.lines().count().saturating_mul(7);
+    text.get(before..).unwrap_or(&[])
 }
 
 /// How many lines have an answer, and how many of these are refusals.

@@ -1,7 +1,7 @@
 // Rounds and accepted calls are numbered up to the last number of 64 bits. No option of the tool
 // says where they begin, so that these scripts can only be run here.
 use crate::rows::{ALL_SPENT, CLUSTER, FIRST_PATH, LAST_CALL, LAST_ROUND, NOTHING, Row, go};
-use std::test::Fail;
+use std::alloc::AllocError;
 
 const SPENT: [Row; 6] = [
     Row {
@@ -85,6 +85,6 @@ refused 6 BlockKnown
 ];
 
 #[test]
-fn rounds_and_calls_run_out(rt: HostRuntime) -> Result<(), Fail> {
+fn rounds_and_calls_run_out(rt: HostRuntime) -> Result<(), AllocError> {
     go(&rt, rt.alloc(), SPENT.as_slice())
 }

@@ -10,7 +10,7 @@ use std::sync::Wait;
 use std::thread::Threads;
 
 /// What is refused to a run or fails.
-#[derive(Clone, Copy, Debug, PartialEq, Eq)]
+#[derive(Clone, Copy)]
 enum Cause {
     Nothing,
     /// The configuration, which has no shard.
@@ -89,14 +89,10 @@ const CASES: [(Pieces, Cause, [usize; 4]); 23] = [
 
 #[test]
 fn failed_reads_and_writes_end_the_run(rt: HostRuntime) {
-    for (pieces, cause, want) in CASES {
+    for (at, (pieces, cause, want)) in CASES.iter().enumerate() {
         let notes = Notes::new();
-        let result = run_noted(&rt, rt.alloc(), pieces, cause, &notes);
-        assert_eq!(rt;
-            (result, notes.counts()),
-            (end_by(cause), want),
-            "{pieces:?} {cause:?}"
-        );
-        assert!(rt; notes.is_as_wanted(), "{pieces:?} {cause:?}");
+        let result = run_noted(&rt, rt.alloc(), *pieces, *cause, &notes);
+        let is_so = result == end_by(*cause) && notes.counts() == *want && notes.is_as_wanted();
+        assert!(rt; is_so, "case {at}");
     }
 }

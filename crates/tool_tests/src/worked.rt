@@ -4,7 +4,7 @@ use crate::rows::{
     CLUSTER, FIRST_PATH, FIRST_PATH_ANSWERS, NOTHING, ONE_COPY_A_NODE, ONE_DELETE, Row, TWO_ROUNDS,
     USUAL, go,
 };
-use std::test::Fail;
+use std::alloc::AllocError;
 
 const WORKED: [Row; 21] = [
     Row {
@@ -529,6 +529,6 @@ refused 3 UnknownStorage
 
 /// Each worked example has its answers, byte for byte, with each number of shards and workers.
 #[test]
-fn same_bytes_for_any_shards_and_workers(rt: HostRuntime) -> Result<(), Fail> {
+fn same_bytes_for_any_shards_and_workers(rt: HostRuntime) -> Result<(), AllocError> {
     go(&rt, rt.alloc(), WORKED.as_slice())
 }
