@@ -38,7 +38,7 @@ fn bad_and_long_lines(rt: HostRuntime) -> Result<(), AllocError> {
     for (text, spaces) in PARTS.as_slice() {
         push_part(&mut input, text, *spaces)?;
     }
-    is_answered(&rt, alloc, &ROW, input.as_slice());
+    is_answered(&rt, alloc, &ROW, input.as_slice(), 3, 2);
     Ok(())
 }
 

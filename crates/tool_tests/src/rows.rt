@@ -110,7 +110,9 @@ pub fn go<H: Abort + Threads + Wait + RandomSource + Sync>(
         input.clear();
         input.extend_from_slice(row.before.as_bytes())?;
         input.extend_from_slice(row.script.as_bytes())?;
-        is_answered(rt, alloc, row, input.as_slice());
+        for (shards, workers) in SHARDS_AND_WORKERS.as_slice() {
+            is_answered(rt, alloc, row, input.as_slice(), *shards, *workers);
+        }
     }
     Ok(())
 }
@@ -121,22 +123,22 @@ pub fn is_answered<H: Abort + Threads + Wait + RandomSource + Sync>(
     alloc: Global,
     row: &Row,
     input: &[u8],
+    shards: u32,
+    workers: u32,
 ) {
-    for (shards, workers) in SHARDS_AND_WORKERS.as_slice() {
-        let config = Config {
-            shards: *shards,
-            workers: *workers,
-            ..row.config
-        };
-        let (result, text) = run_with(rt, alloc, &config, input);
-        let is_so = result == Ok(counts_of(row))
-            && answers_in(row, text.as_slice()) == row.answers.as_bytes();
-        assert!(rt;
-            is_so,
-            "{} with {shards} shards and {workers} workers",
-            row.name
-        );
-    }
+    let config = Config {
+        shards,
+        workers,
+        ..row.config
+    };
+    let (result, text) = run_with(rt, alloc, &config, input);
+    let answers = answers_in(row, text.as_slice());
+    let is_so = result == Ok(counts_of(row)) && answers == row.answers.as_bytes();
+    assert!(rt;
+        is_so,
+        "{} with {shards} shards and {workers} workers",
+        row.name
+    );
 }
 
 /// What follows the answers to the lines before the script, which are seven bytes each.
