@@ -11,6 +11,14 @@ TOP = Path(__file__).resolve().parents[2]
 
 EXAMPLES = TOP / "examples"
 
+# The line tool with one shard and one worker, with fewer workers than shards, and with more: no answer depends on it.
+SHARDS_AND_WORKERS = [
+    ["--shards", "1", "--workers", "1"],
+    ["--shards", "3", "--workers", "2"],
+    ["--shards", "5", "--workers", "4"],
+    ["--shards", "2", "--workers", "16"],
+]
+
 
 class Failed(Exception):
     """What a check found wrong."""

@@ -2,8 +2,8 @@
 use Rattle.std.specs.Prelude.{ℕ, List, codes}
 use Rattle.clap.specs.declared.error.kind.ErrorKind.{ErrorKind}
 use Rattle.clap.specs.declared.error.kind.ErrorKind.TheVariants as kind
-use Rattle.bm_tool.specs.declared.fault.Fault.{Fault}
-use Rattle.bm_tool.specs.declared.fault.Fault.TheVariants.{Config, Read, Write, Memory, TooMuch}
+use Rattle.bm_session.specs.declared.fault.Fault.{Fault}
+use Rattle.bm_session.specs.declared.fault.Fault.TheVariants.{Config, Read, Write, Memory, TooMuch}
 use Rattle.bm_tool.specs.declared.status.End.{End}
 use Rattle.bm_tool.specs.declared.status.End.TheVariants.{Answered, Helped, Faulted, Misused}
 

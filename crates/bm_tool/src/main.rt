@@ -7,20 +7,13 @@ ghost use Rattle.clap.specs.Words.{kind_of};
 ghost use Rattle.bm_tool.specs.Options.{EndsBy, refusals_of};
 ghost use Rattle.bm_tool.specs.Status.{end_of};
 
-mod ends;
-mod fault;
-mod limits;
 mod options;
-mod reply;
-mod session;
 mod status;
-mod whole_run;
 
 use bm_base::Config;
+use bm_session::{Counted, Fault, Summary, run};
 use clap::Error;
 use clap::error::ErrorKind;
-use ends::Counted;
-use fault::{Fault, Summary};
 use options::config_of;
 use status::{End, fault_text, status_of};
 use std::env::Env;
@@ -30,7 +23,6 @@ use std::random::RandomSource;
 use std::sync::Wait;
 use std::thread::Threads;
 use std::{env, io};
-use whole_run::run;
 
 /// Reads the options, and makes the run that they ask for.
 fn main(rt: HostRuntime) -> ExitCode {
@@ -116,6 +108,3 @@ fn run_on_streams<R: Input + Print + AllocGlobal + Threads + Wait + RandomSource
         other => other,
     }
 }
-
-#[cfg(test)]
-mod tests;

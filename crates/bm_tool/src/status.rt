@@ -2,10 +2,10 @@
 ghost use Rattle.std.specs.Prelude.{◌≡◌};
 ghost use Rattle.bm_tool.specs.Status.{fault_text, status_of};
 
-use crate::fault::Fault;
+use bm_session::Fault;
 
 /// How the program ended.
-#[derive(Clone, Copy, Debug, PartialEq, Eq)]
+#[derive(Clone, Copy)]
 pub enum End {
     /// The whole input was answered.
     Answered,

@@ -1,0 +1,176 @@
+-- A whole run: what was read and handed on.
+use Rattle.std.proofs.Common.{◌≡◌, ℕ, Bool, true, zero, suc, ◌+◌, ◌<◌, ◌≤◌, List, [], ◌∷◌, ◌++◌, length, take, drop, refl, sym, ap, ◌∙◌, append_assoc, append-nil, arith, inl, inr}
+use Rattle.std.specs.Prelude.{Option, Some, None, Result, Ok, Err, IfOk, IfErr, IfSome, OnOk}
+use Rattle.std.specs.Io.KnownBytes.{Appends, Consumes, Keeps, IsAtEnd}
+use Rattle.std.proofs.lemmas.List.{take-append-drop}
+use Rattle.std.proofs.lemmas.Result.{IfOk-weaker, IfErr-weaker, MatchResult-from_both}
+use Rattle.std.proofs.Math.Seq.{take-append-add}
+use Rattle.bm_base.specs.declared.config.Config.{Config}
+use Rattle.bm_base.specs.State.{State, first_state}
+use Rattle.bm_session.specs.declared.limits.TheConstants.{MAX_LINES, MAX_BYTES, PIECE}
+use Rattle.bm_session.specs.declared.session.Session.{Session}
+use Rattle.bm_session.specs.declared.fault.Summary.{Summary}
+use Rattle.bm_session.specs.declared.fault.Fault.{Fault}
+use Rattle.bm_session.specs.declared.fault.Fault.TheVariants as fault
+use Rattle.bm_lines.specs.Lines.{lines_of, whole_lines}
+use Rattle.bm_session.specs.Text.{texts, text}
+use Rattle.bm_session.specs.Starting.{StartFault}
+use Rattle.bm_session.specs.Progress.{Progress, PieceFault, IsSummary}
+use Rattle.bm_session.specs.Outcome.{Faulted, Leaves, FaultCounts, HasCause, ConfigOfFault, ChecksConfig}
+use Rattle.bm_base.specs.Configuration.{config_refusal}
+use Rattle.bm_session.proofs.LineLemmas.{whole_lines-split}
+use Rattle.bm_session.proofs.ProgressLemmas.{Appends-nil, answered_more}
+
+-- ---- known bytes
+
+pub Consumes-nil : (known : Option (List ℕ)) → Consumes known known []
+Consumes-nil None = tt
+Consumes-nil (Some xs) = refl
+
+pub Consumes-then : (a b c : Option (List ℕ)) (xs ys : List ℕ) → Consumes a b xs → Consumes b c ys → Consumes a c (xs ++ ys)
+Consumes-then None b c xs ys p q = tt
+Consumes-then (Some old) None c xs ys p q = absurd p
+Consumes-then (Some old) (Some mid) None xs ys p q = absurd q
+Consumes-then (Some old) (Some mid) (Some new) xs ys p q = rw (p, q) (sym (append_assoc xs ys new))
+
+pub Consumes-keeps : (a b c : Option (List ℕ)) (xs : List ℕ) → Consumes a b xs → Keeps b c → Consumes a c xs
+Consumes-keeps None b c xs p q = tt
+Consumes-keeps (Some old) None c xs p q = absurd p
+Consumes-keeps (Some old) (Some mid) None xs p q = absurd q
+Consumes-keeps (Some old) (Some mid) (Some new) xs p q = rw q p
+
+-- ---- parts of lists
+
+pub take_whole : {A : Type 0} (n : ℕ) (xs : List A) → length xs ≤ n → take n xs ≡ xs
+take_whole zero [] h = refl
+take_whole (suc n) [] h = refl
+take_whole zero (x ∷ xs) h = absurd (omega arith)
+take_whole (suc n) (x ∷ xs) h = ap (λ ys. x ∷ ys) (take_whole n xs (omega arith))
+
+pub take-take : (m n : ℕ) (xs : List ℕ) → m ≤ n → take m (take n xs) ≡ take m xs
+take-take zero n xs h = refl
+take-take (suc m) zero xs h = absurd (omega arith)
+take-take (suc m) (suc n) [] h = refl
+take-take (suc m) (suc n) (x ∷ xs) h = ap (λ ys. x ∷ ys) (take-take m n xs (omega arith))
+
+-- what is taken of what was read: all that there is room for
+pub take_room : (xs ys : List ℕ) (most room n : ℕ) → length xs + room ≡ most → room ≤ n → take most (xs ++ take n ys) ≡ xs ++ take room ys
+take_room xs ys most room n e h = rw (← e, take-append-add xs (take n ys) room, take-take room n ys h) refl
+
+-- ---- the outcome
+
+-- a run that did not begin has read and written nothing
+pub faulted_at_start : (config : Config) (last : ℕ) (old : Option (List ℕ)) (f : Fault) → StartFault config f → Faulted config [] last old old f
+unfolding texts whole_lines
+faulted_at_start config last old fault.Config h = (refl, refl)
+faulted_at_start config last old fault.Read h = absurd h
+faulted_at_start config last old fault.Write h = tt
+faulted_at_start config last old fault.Memory h = record {
+  done = [];
+  piece = [];
+  read = refl;
+  is_last = omega arith;
+  bounded = omega arith;
+  answered = 0;
+  written = record { no_fewer = omega arith; no_more = omega arith; wrote = Appends-nil old };
+}
+faulted_at_start config last old fault.TooMuch h = absurd h
+
+pub counts_at_start : (config : Config) (reads writes : ℕ) (f : Fault) → StartFault config f → FaultCounts reads reads writes writes f
+counts_at_start config reads writes fault.Config h = (refl, refl)
+counts_at_start config reads writes fault.Read h = absurd h
+counts_at_start config reads writes fault.Write h = absurd h
+counts_at_start config reads writes fault.Memory h = (refl, refl)
+counts_at_start config reads writes fault.TooMuch h = absurd h
+
+pub config_at_start : (config : Config) (f : Fault) → StartFault config f → ConfigOfFault config f
+config_at_start config fault.Config h = h
+config_at_start config fault.Read h = absurd h
+config_at_start config fault.Write h = absurd h
+config_at_start config fault.Memory h = h
+config_at_start config fault.TooMuch h = absurd h
+
+-- a run that began was configured well
+pub config_of_piece : (config : Config) (start new : Option (List ℕ)) (state : State) (done piece : List ℕ) (before now : ℕ) (f : Fault) → config_refusal config ≡ None
+    → PieceFault (first_state config) start new state done piece before now f → ConfigOfFault config f
+config_of_piece config start new state done piece before now fault.Config allowed h = absurd h
+config_of_piece config start new state done piece before now fault.Read allowed h = allowed
+config_of_piece config start new state done piece before now fault.Write allowed h = allowed
+config_of_piece config start new state done piece before now fault.Memory allowed h = allowed
+config_of_piece config start new state done piece before now fault.TooMuch allowed h = allowed
+
+pub config_of_finished : (config : Config) (start new : Option (List ℕ)) (state : State) (done piece : List ℕ) (before now : ℕ) (result : Result Summary Fault) → config_refusal config ≡ None
+    → IfErr result (PieceFault (first_state config) start new state done piece before now) → ChecksConfig config result
+config_of_finished config start new state done piece before now (Ok s) allowed h = allowed
+config_of_finished config start new state done piece before now (Err f) allowed h = config_of_piece config start new state done piece before now f allowed h
+
+-- no read failed
+pub flushed_at_start : (config : Config) (old new : Bool) (f : Fault) → StartFault config f → f ≡ fault.Read → old ≡ true → new ≡ true
+flushed_at_start config old new fault.Config h e = cc
+flushed_at_start config old new fault.Read h e = absurd h
+flushed_at_start config old new fault.Write h e = absurd h
+flushed_at_start config old new fault.Memory h e = cc
+flushed_at_start config old new fault.TooMuch h e = absurd h
+
+pub flushed_of_piece : (M : State) (start new : Option (List ℕ)) (state : State) (done piece : List ℕ) (before now : ℕ) (was is : Bool) (f : Fault) → PieceFault M start new state done piece before now f
+    → f ≡ fault.Read → was ≡ true → is ≡ true
+flushed_of_piece M start new state done piece before now was is fault.Config h e = absurd h
+flushed_of_piece M start new state done piece before now was is fault.Read h e = absurd h
+flushed_of_piece M start new state done piece before now was is fault.Write h e = cc
+flushed_of_piece M start new state done piece before now was is fault.Memory h e = cc
+flushed_of_piece M start new state done piece before now was is fault.TooMuch h e = cc
+
+-- the bytes that were handed on are the first of the input
+pub faulted_of_piece : (config : Config) (done piece more : List ℕ) (last : ℕ) (old new : Option (List ℕ)) (state : State) (before now : ℕ) (f : Fault) → take MAX_BYTES (done ++ (piece ++ more)) ≡ done ++ piece
+    → length (piece ++ more) ≤ last → length (piece ++ more) ≤ PIECE → PieceFault (first_state config) old new state done piece before now f → Faulted config (done ++ (piece ++ more)) last old new f
+faulted_of_piece config done piece more last old new state before now fault.Config t l b h = absurd h
+faulted_of_piece config done piece more last old new state before now fault.Read t l b h = absurd h
+faulted_of_piece config done piece more last old new state before now fault.Write t l b h = tt
+faulted_of_piece config done piece more last old new state before now fault.Memory t l b h = record { done = done; piece = piece ++ more; read = refl; is_last = l; bounded = b; answered = h.1.answered; written = answered_more _ old new done piece more _ h.1.written }
+faulted_of_piece config done piece more last old new state before now fault.TooMuch t l b h = (inr (rw t h.1.0), rw t h.1.1)
+
+-- the same where all of them were handed on
+pub faulted_of_whole : (config : Config) (done piece : List ℕ) (last : ℕ) (old new : Option (List ℕ)) (state : State) (before now : ℕ) (f : Fault) → take MAX_BYTES (done ++ piece) ≡ done ++ piece
+    → length piece ≤ last → length piece ≤ PIECE → PieceFault (first_state config) old new state done piece before now f → Faulted config (done ++ piece) last old new f
+faulted_of_whole config done piece last old new state before now f t l b h =
+    rw append-nil at (faulted_of_piece config done piece [] last old new state before now f (rw append-nil t) (rw append-nil l) (rw append-nil b) h)
+
+pub counts_of_piece : (M : State) (start new : Option (List ℕ)) (state : State) (done piece : List ℕ) (reads reads' before now : ℕ) (f : Fault) → reads' ≡ reads → PieceFault M start new state done piece before now f
+    → FaultCounts reads reads' before now f
+counts_of_piece M start new state done piece reads reads' before now fault.Config e h = absurd h
+counts_of_piece M start new state done piece reads reads' before now fault.Read e h = absurd h
+counts_of_piece M start new state done piece reads reads' before now fault.Write e h = (e, h)
+counts_of_piece M start new state done piece reads reads' before now fault.Memory e h = (e, h.0)
+counts_of_piece M start new state done piece reads reads' before now fault.TooMuch e h = (e, h.0)
+
+-- too many bytes: all lines of those that are taken are answered
+pub too_many_bytes : (config : Config) (all bytes : List ℕ) (last : ℕ) (old new : Option (List ℕ)) (s : Session) → take MAX_BYTES all ≡ bytes → MAX_BYTES < length all
+    → Progress (first_state config) old new s bytes → Faulted config all last old new fault.TooMuch
+too_many_bytes config all bytes last old new s t many p =
+    (inl many, rw (t, whole_lines-split p.splits, take_whole MAX_LINES p.lines (omega (arith, p.count, s.few))) p.wrote)
+
+pub finished_leaves : (config : Config) (input : List ℕ) (last : ℕ) (left old new : Option (List ℕ)) (state : State) (before now : ℕ) (result : Result Summary Fault) → IsAtEnd left → length input ≤ MAX_BYTES
+    → IfOk result (λ summary. Appends old new (texts (first_state config) (lines_of input)) × IsSummary (first_state config) (lines_of input) summary)
+    → IfErr result (PieceFault (first_state config) old new state input [] before now) → Leaves config input left last old new result
+finished_leaves config input last left old new state before now result at_end bounded ok err =
+    MatchResult-from_both result _ _
+    (IfOk-weaker result _ _ (λ summary h. record { at_end = at_end; bounded = bounded; wrote = h.0; counted = h.1 }) ok)
+    (IfErr-weaker result _ _ (λ f h. rw append-nil at (faulted_of_piece config input [] [] last old new state before now f (rw append-nil (take_whole MAX_BYTES input bounded)) (omega arith) (omega arith) h)) err)
+
+pub finished_causes : (M : State) (start new : Option (List ℕ)) (state : State) (done piece : List ℕ) (reads reads' before now : ℕ) (result : Result Summary Fault) → reads' ≡ reads → OnOk result (now ≡ before)
+    → IfErr result (PieceFault M start new state done piece before now) → HasCause reads reads' before now result
+finished_causes M start new state done piece reads reads' before now result same ok err =
+    MatchResult-from_both result _ _ (IfOk-weaker result _ _ (λ _ h. (same, h)) ok) (IfErr-weaker result _ _ (λ f h. counts_of_piece M start new state done piece reads reads' before now f same h) err)
+
+pub room_split : (ys : List ℕ) (room n : ℕ) → room ≤ n → take n ys ≡ take room ys ++ drop room (take n ys)
+room_split ys room n h = rw (← take-take room n ys h, take-append-drop) refl
+
+-- all that the reader told was read
+pub text_of_known : (config : Config) (before left : Option (List ℕ)) (input : List ℕ) (old new : Option (List ℕ)) (result : Result Summary Fault) → Consumes before left input → IsAtEnd left
+    → IfOk result (λ summary. Appends old new (texts (first_state config) (lines_of input)) × IsSummary (first_state config) (lines_of input) summary)
+    → OnOk result (IfSome before (λ xs. Appends old new (text config xs)))
+text_of_known config None left input old new result c e ok = IfOk-weaker result _ _ (λ _ _. tt) ok
+text_of_known config (Some xs) None input old new result c e ok = absurd c
+text_of_known config (Some xs) (Some ys) input old new result c e ok =
+    let all : xs ≡ input = c ∙ rw e (append-nil input) in
+    IfOk-weaker result _ _ (λ _ h. rw all h.0) ok

@@ -1,0 +1,72 @@
+-- What a run that read an input leaves.
+use Rattle.std.specs.Prelude.{◌≡◌, ℕ, ◌+◌, ◌<◌, ◌≤◌, ◌⊎◌, List, [], ◌++◌, length, take, Option, Some, None, Result, MatchResult, Bool, true, IfErr}
+use Rattle.std.specs.Io.KnownBytes.{Appends, IsAtEnd}
+use Rattle.bm_base.specs.declared.config.Config.{Config}
+use Rattle.bm_base.specs.declared.refusal.Refusal.TheVariants.{BadConfig}
+use Rattle.bm_base.specs.Configuration.{config_refusal}
+use Rattle.bm_base.specs.State.{first_state}
+use Rattle.bm_session.specs.declared.fault.Summary.{Summary}
+use Rattle.bm_session.specs.declared.limits.TheConstants.{MAX_LINES, MAX_BYTES, PIECE}
+use Rattle.bm_session.specs.declared.fault.Fault.{Fault}
+use Rattle.bm_session.specs.declared.fault.Fault.TheVariants as fault
+use Rattle.bm_lines.specs.Lines.{lines_of, whole_lines}
+use Rattle.bm_session.specs.Text.{texts, text}
+use Rattle.bm_session.specs.Progress.{Answered, IsSummary}
+
+-- more bytes or lines were read than a run takes
+abbrev pub IsTooMuch : List ℕ → Type 0
+IsTooMuch input = (MAX_BYTES < length input) ⊎ (MAX_LINES < length (lines_of (take MAX_BYTES input)))
+
+-- the input was read to its end, and all of it is answered
+pub record Finished (config : Config) (input : List ℕ) (left old new : Option (List ℕ)) (summary : Summary) : Type 0 where
+  pub at_end : IsAtEnd left
+  pub bounded : length input ≤ MAX_BYTES
+  pub wrote : Appends old new (text config input)
+  pub counted : IsSummary (first_state config) (lines_of input) summary
+
+-- Memory was refused. The input is what was read before, and the last piece, which is no longer than what the last read gave: all
+-- lines whose end was read before are answered, of those whose end is in the piece some first ones, and no more is written.
+pub record WantsMemory (config : Config) (input : List ℕ) (last : ℕ) (old new : Option (List ℕ)) : Type 0 where
+  pub done : List ℕ
+  pub piece : List ℕ
+  pub read : input ≡ done ++ piece
+  pub is_last : length piece ≤ last
+  pub bounded : length piece ≤ PIECE
+  pub answered : ℕ
+  pub written : Answered (first_state config) old new done piece answered
+
+-- what stands written after each fault, where the last read gave so many bytes
+abbrev pub Faulted : Config → List ℕ → ℕ → Option (List ℕ) → Option (List ℕ) → Fault → Type 0
+Faulted config input last old new fault.Config = (input ≡ []) × (new ≡ old)
+Faulted config input last old new fault.Read = (length input ≤ MAX_BYTES) × (length (lines_of input) ≤ MAX_LINES) × Appends old new (texts (first_state config) (whole_lines input))
+Faulted config input last old new fault.Write = Unit {0}
+Faulted config input last old new fault.Memory = WantsMemory config input last old new
+Faulted config input last old new fault.TooMuch = IsTooMuch input × Appends old new (texts (first_state config) (take MAX_LINES (whole_lines (take MAX_BYTES input))))
+
+abbrev pub Leaves : Config → List ℕ → Option (List ℕ) → ℕ → Option (List ℕ) → Option (List ℕ) → Result Summary Fault → Type 0
+Leaves config input left last old new result = MatchResult result (Finished config input left old new) (Faulted config input last old new)
+
+-- the failures of the reader and of the writer, before and after
+abbrev pub FaultCounts : ℕ → ℕ → ℕ → ℕ → Fault → Type 0
+FaultCounts reads reads' writes writes' fault.Config = (reads' ≡ reads) × (writes' ≡ writes)
+FaultCounts reads reads' writes writes' fault.Read = (reads' ≡ reads + 1) × (writes' ≡ writes)
+FaultCounts reads reads' writes writes' fault.Write = (reads' ≡ reads) × (writes' ≡ writes + 1)
+FaultCounts reads reads' writes writes' fault.Memory = (reads' ≡ reads) × (writes' ≡ writes)
+FaultCounts reads reads' writes writes' fault.TooMuch = (reads' ≡ reads) × (writes' ≡ writes)
+
+abbrev pub HasCause : ℕ → ℕ → ℕ → ℕ → Result Summary Fault → Type 0
+HasCause reads reads' writes writes' result = MatchResult result (λ _. (reads' ≡ reads) × (writes' ≡ writes)) (FaultCounts reads reads' writes writes')
+
+-- whether the configuration was the cause of a fault
+abbrev pub ConfigOfFault : Config → Fault → Type 0
+ConfigOfFault config fault.Config = config_refusal config ≡ Some BadConfig
+ConfigOfFault config _ = config_refusal config ≡ None
+
+-- a run refuses the configuration exactly where it is outside its ranges
+abbrev pub ChecksConfig : Config → Result Summary Fault → Type 0
+ChecksConfig config result = MatchResult result (λ _. config_refusal config ≡ None) (ConfigOfFault config)
+
+-- Where a read fails, all that was written before is flushed, if it was so at the start. That it is flushed before each read, and
+-- not on the way out alone, no clause about the end of a run can say.
+abbrev pub IsFlushedAtRead : Bool → Bool → Result Summary Fault → Type 0
+IsFlushedAtRead old new result = IfErr result (λ f. f ≡ fault.Read → old ≡ true → new ≡ true)

@@ -1,0 +1,69 @@
+-- How far a run has come, and what stands written when it ends.
+use Rattle.std.specs.Prelude.{◌≡◌, ℕ, ◌+◌, ◌<◌, ◌≤◌, ◌⊎◌, List, ◌++◌, length, take, Option}
+use Rattle.std.specs.Io.KnownBytes.{Appends}
+use Rattle.bm_base.specs.State.{State}
+use Rattle.bm_session.specs.declared.limits.TheConstants.{MAX_LINES}
+use Rattle.bm_session.specs.declared.session.Session.{Session}
+use Rattle.bm_session.specs.declared.fault.Summary.{Summary}
+use Rattle.bm_session.specs.declared.fault.Fault.{Fault}
+use Rattle.bm_session.specs.declared.fault.Fault.TheVariants.{Config, Read, Write, Memory, TooMuch}
+use Rattle.bm_lines.specs.Lines.{Splits, lines_of, whole_lines}
+use Rattle.bm_session.specs.Text.{line_next, texts, after, refusals}
+use Rattle.bm_lines.specs.Held.{Holds}
+
+-- the session has answered the whole lines of these bytes, from the state M on
+pub record Progress (M : State) (start now : Option (List ℕ)) (s : Session) (bytes : List ℕ) : Type 0 where
+  pub lines : List (List ℕ)
+  pub rest : List ℕ
+  pub splits : Splits bytes lines rest
+  pub holds : Holds s.line rest
+  pub state : s.manager ≡ after M lines
+  pub wrote : Appends start now (texts M lines)
+  pub count : s.lines ≡ length lines
+  pub refused : s.refused ≡ refusals M lines
+  pub begun : 0 < length rest → length lines < MAX_LINES
+
+-- The first n lines are answered, each by a whole line, and no more is written: all lines whose end was read before the piece,
+-- and of those whose end is in the piece some first ones.
+pub record Answered (M : State) (start now : Option (List ℕ)) (done piece : List ℕ) (n : ℕ) : Type 0 where
+  pub no_fewer : length (whole_lines done) ≤ n
+  pub no_more : n ≤ length (whole_lines (done ++ piece))
+  pub wrote : Appends start now (texts M (take n (whole_lines (done ++ piece))))
+
+-- the state is that before the line, or that after it
+abbrev pub MayBeWorked : State → List ℕ → State → Type 0
+MayBeWorked M line now = (now ≡ M) ⊎ (now ≡ line_next M line)
+
+-- Memory was refused within the piece. What was worked is what is answered, and at most one line more: the one at which memory was
+-- refused. So no answer to a line before it is lost.
+pub record Interrupted (M : State) (start now : Option (List ℕ)) (state : State) (done piece : List ℕ) : Type 0 where
+  pub answered : ℕ
+  pub written : Answered M start now done piece answered
+  pub worked : (state ≡ after M (take answered (lines_of (done ++ piece)))) ⊎ (state ≡ after M (take (answered + 1) (lines_of (done ++ piece))))
+
+-- there are too many lines, and those that may be are answered
+abbrev pub Overflows : State → Option (List ℕ) → Option (List ℕ) → List ℕ → Type 0
+Overflows M start now bytes = (MAX_LINES < length (lines_of bytes)) × Appends start now (texts M (take MAX_LINES (whole_lines bytes)))
+
+-- why a line was not answered: the failures of the writer and what it holds, before and after
+abbrev pub LineFault : Option (List ℕ) → Option (List ℕ) → ℕ → ℕ → Fault → Type 0
+LineFault old new before now Config = ⊥
+LineFault old new before now Read = ⊥
+LineFault old new before now Write = now ≡ before + 1
+LineFault old new before now Memory = (now ≡ before) × (new ≡ old)
+LineFault old new before now TooMuch = ⊥
+
+-- why a piece behind these bytes was not all taken
+abbrev pub PieceFault : State → Option (List ℕ) → Option (List ℕ) → State → List ℕ → List ℕ → ℕ → ℕ → Fault → Type 0
+PieceFault M start new state done piece before now Config = ⊥
+PieceFault M start new state done piece before now Read = ⊥
+PieceFault M start new state done piece before now Write = now ≡ before + 1
+PieceFault M start new state done piece before now Memory = (now ≡ before) × Interrupted M start new state done piece
+PieceFault M start new state done piece before now TooMuch = (now ≡ before) × Overflows M start new (done ++ piece)
+
+-- what is counted of the lines
+pub record IsSummary (M : State) (lines : List (List ℕ)) (summary : Summary) : Type 0 where
+  pub lines_read : summary.lines ≡ length lines
+  pub lines_few : summary.lines ≤ MAX_LINES
+  pub lines_refused : summary.refused ≡ refusals M lines
+  pub lines_accepted : summary.accepted + summary.refused ≡ summary.lines

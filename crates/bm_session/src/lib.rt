@@ -1,0 +1,19 @@
+//! A run of the line tool: answers each line that it reads from a reader by a line that it writes
+//! to a writer. The program `bm_tool` calls it on the standard streams; any other program or test
+//! can call it on bytes in memory or on streams of its own.
+//!
+//! `run` is the whole of it. `specs/` says which text answers an input (`Text`), what was written
+//! where a run ends early (`Outcome`), and how readers and writers count their failures (`Ends`,
+//! `Counted`).
+#![tactic(auto)]
+
+mod ends;
+mod fault;
+mod limits;
+mod reply;
+mod session;
+mod whole_run;
+
+pub use ends::{Counted, Sink, Source};
+pub use fault::{Fault, Summary};
+pub use whole_run::run;

@@ -1,0 +1,192 @@
+// The state of a run between two reads.
+ghost use Rattle.std.specs.Prelude.{◌≡◌, true, ◌≤◌, ◌<◌, ◌+◌, ◌^◌, ◌∷◌, [], ◌++◌, ℕ, List, Option, length, None, IfOk, OnOk, OnErr, IfErr};
+ghost use Rattle.bm_base.specs.State.{State, first_state};
+ghost use Rattle.bm_base.specs.Configuration.{config_refusal};
+ghost use Rattle.bm_lines.specs.Held.{Holds, is_begun};
+ghost use Rattle.bm_session.specs.Starting.{StartFault};
+ghost use Rattle.bm_session.specs.declared.limits.TheConstants.{MAX_LINES};
+
+use crate::ends::Sink;
+use crate::fault::{Fault, Summary};
+use crate::limits::MAX_LINES;
+use crate::reply::{asked_by, reply_to};
+use bm_base::{Config, HashSecret, Refusal};
+use bm_lines::{Line, line_end};
+use bm_manager::Manager;
+use std::alloc::Global;
+use std::sync::Wait;
+use std::thread::Threads;
+
+/// The manager, the line that is being read, and how many lines were answered and refused.
+#[derive(Drop)]
+pub struct Session {
+    pub alloc: Global,
+    pub manager: Manager,
+    pub line: Line,
+    pub lines: u64,
+    pub refused: u64,
+    ghost few: { lines ≤ MAX_LINES },
+    ghost counted: { refused ≤ lines },
+    ghost begun: { is_begun line ≡ true → lines < MAX_LINES },
+}
+
+impl Session {
+    ghost use Rattle.bm_lines.specs.Lines.{line_end, lines_of};
+    ghost use Rattle.bm_session.specs.Text.{texts};
+    ghost use Rattle.std.specs.Io.KnownBytes.{Appends};
+    ghost use Rattle.bm_session.specs.Progress.{Progress, MayBeWorked, LineFault, PieceFault, IsSummary};
+
+    /// Nothing is read and nothing answered yet.
+    pub fn new(alloc: Global, config: &Config, secret: HashSecret) -> Result<Session, Fault>
+        ensures allowed { OnOk result (config_refusal config.now ≡ None) }
+        ensures ok { IfOk result (λ s. (start : Option (List ℕ))
+            → Progress (first_state config.now) start start s []) }
+        ensures err { IfErr result (StartFault config.now) }
+    {
+        let manager = manager_of(alloc, config, secret)?;
+        Ok(Session {
+            alloc,
+            manager,
+            line: Line::new(alloc),
+            lines: 0,
+            refused: 0,
+        })
+    }
+
+    /// Answers the line that is held, and begins the next.
+    pub fn end_line<W: Sink, H: Threads + Wait + Sync>(
+        &mut self,
+        rt: &H,
+        writer: &mut W,
+    ) -> Result<(), Fault>
+        requires sound { W.faults writer.old ≡ 0 }
+        requires few { self.old.lines < MAX_LINES }
+        ensures ok { OnOk result ((M : State) (start : Option (List ℕ)) (bytes : List ℕ)
+            → Progress M start (W.contents writer.old) self.old bytes
+            → Progress M start (W.contents writer.new) self.new (bytes ++ line_end ∷ [])) }
+        ensures faults { OnOk result (W.faults writer.new ≡ W.faults writer.old) }
+        ensures err { IfErr result (LineFault (W.contents writer.old) (W.contents writer.new)
+            (W.faults writer.old) (W.faults writer.new)) }
+        ensures worked { OnErr result ((rest : List ℕ) → Holds self.old.line rest
+            → MayBeWorked self.old.manager rest self.new.manager) }
+    {
+        let asked = asked_by(self.alloc, &self.line)?;
+        let reply = reply_to(rt, self.alloc, &mut self.manager, &asked)?;
+        if writer.write_all(reply.text.as_bytes()).is_err() {
+            return Err(Fault::Write);
+        }
+        self.line.clear();
+        self.lines += 1;
+        self.refused += u64::from(reply.is_refused);
+        Ok(())
+    }
+
+    /// Takes the bytes up to the first line end, and gives back those behind it.
+    fn take_line<'p, W: Sink, H: Threads + Wait + Sync>(
+        &mut self,
+        rt: &H,
+        piece: &'p [u8],
+        writer: &mut W,
+    ) -> Result<&'p [u8], Fault>
+        requires sound { W.faults writer.old ≡ 0 }
+        requires few { self.old.lines < MAX_LINES }
+        requires more { 0 < length piece.now }
+        ensures ok { IfOk result (λ left. (M : State) (start : Option (List ℕ)) (bytes : List ℕ)
+            → Progress M start (W.contents writer.old) self.old bytes
+            → (taken : List ℕ) × (piece.now ≡ taken ++ left.now)
+            × Progress M start (W.contents writer.new) self.new (bytes ++ taken)) }
+        ensures shorter { IfOk result (λ left. length left.now < length piece.now) }
+        ensures faults { OnOk result (W.faults writer.new ≡ W.faults writer.old) }
+        ensures err { IfErr result (λ f. (M : State) (start : Option (List ℕ)) (bytes : List ℕ)
+            → Progress M start (W.contents writer.old) self.old bytes
+            → PieceFault M start (W.contents writer.new) self.new.manager bytes piece.now
+            (W.faults writer.old) (W.faults writer.new) f) }
+    {
+        match line_end(piece) {
+            Some(at) => {
+                self.line.add(&piece[..at])?;
+                self.end_line(rt, writer)?;
+                Ok(&piece[at + 1..])
+            }
+            None => {
+                self.line.add(piece)?;
+                Ok(&piece[piece.len()..])
+            }
+        }
+    }
+
+    /// Answers all lines whose end is in the piece, flushes, and keeps the rest.
+    pub fn take_piece<W: Sink, H: Threads + Wait + Sync>(
+        &mut self,
+        rt: &H,
+        piece: &[u8],
+        writer: &mut W,
+    ) -> Result<(), Fault>
+        requires sound { W.faults writer.old ≡ 0 }
+        ensures ok { OnOk result ((M : State) (start : Option (List ℕ)) (bytes : List ℕ)
+            → Progress M start (W.contents writer.old) self.old bytes
+            → Progress M start (W.contents writer.new) self.new (bytes ++ piece.now)) }
+        ensures flushed { OnOk result (W.is_flushed writer.new ≡ true) }
+        ensures faults { OnOk result (W.faults writer.new ≡ W.faults writer.old) }
+        ensures err { IfErr result (λ f. (M : State) (start : Option (List ℕ)) (bytes : List ℕ)
+            → Progress M start (W.contents writer.old) self.old bytes
+            → PieceFault M start (W.contents writer.new) self.new.manager bytes piece.now
+            (W.faults writer.old) (W.faults writer.new) f) }
+    {
+        let mut left = piece;
+        while !left.is_empty() {
+            if self.lines == MAX_LINES {
+                return Err(Fault::TooMuch);
+            }
+            left = self.take_line(rt, left, writer)?;
+        }
+        match writer.flush() {
+            Ok(()) => Ok(()),
+            Err(_) => Err(Fault::Write),
+        }
+    }
+
+    /// Answers the rest, if there is one, and flushes.
+    pub fn finish<W: Sink, H: Threads + Wait + Sync>(
+        &mut self,
+        rt: &H,
+        writer: &mut W,
+    ) -> Result<Summary, Fault>
+        requires sound { W.faults writer.old ≡ 0 }
+        ensures ok { IfOk result (λ summary. (M : State) (start : Option (List ℕ)) (bytes : List ℕ)
+            → Progress M start (W.contents writer.old) self.old bytes
+            → Appends start (W.contents writer.new) (texts M (lines_of bytes))
+            × IsSummary M (lines_of bytes) summary) }
+        ensures flushed { OnOk result (W.is_flushed writer.new ≡ true) }
+        ensures faults { OnOk result (W.faults writer.new ≡ W.faults writer.old) }
+        ensures err { IfErr result (λ f. (M : State) (start : Option (List ℕ)) (bytes : List ℕ)
+            → Progress M start (W.contents writer.old) self.old bytes
+            → PieceFault M start (W.contents writer.new) self.new.manager bytes []
+            (W.faults writer.old) (W.faults writer.new) f) }
+    {
+        if !self.line.is_empty() {
+            self.end_line(rt, writer)?;
+        }
+        if writer.flush().is_err() {
+            return Err(Fault::Write);
+        }
+        Ok(Summary {
+            lines: self.lines,
+            accepted: self.lines - self.refused,
+            refused: self.refused,
+        })
+    }
+}
+
+/// A manager with this configuration, which is checked here and nowhere else.
+fn manager_of(alloc: Global, config: &Config, secret: HashSecret) -> Result<Manager, Fault>
+    ensures allowed { OnOk result (config_refusal config.now ≡ None) }
+    ensures ok { IfOk result (λ m. m ≡ first_state config.now) }
+    ensures err { IfErr result (StartFault config.now) }
+{
+    match Manager::with_secret(alloc, *config, secret) {
+        Ok(manager) => Ok(manager),
+        Err(Refusal::BadConfig) => Err(Fault::Config),
+        Err(_) => Err(Fault::Memory),
+    }
+}

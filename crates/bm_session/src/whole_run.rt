@@ -1,0 +1,73 @@
+// A whole run, from a reader to a writer.
+ghost use Rattle.std.specs.Prelude.{◌≡◌, ◌+◌, ◌<◌, ◌^◌, ℕ, List, IfSome, OnOk, true};
+ghost use Rattle.std.specs.Io.KnownBytes.{Appends, Consumes};
+ghost use Rattle.bm_session.specs.Text.{text};
+ghost use Rattle.bm_session.specs.Outcome.{Leaves, HasCause, ChecksConfig, IsFlushedAtRead};
+
+use crate::ends::{Sink, Source};
+use crate::fault::{Fault, Summary};
+use crate::limits::{MAX_BYTES, PIECE};
+use crate::session::Session;
+use bm_base::{Config, HashSecret};
+use std::alloc::Global;
+use std::random::RandomSource;
+use std::sync::Wait;
+use std::thread::Threads;
+
+/// Answers each line of the input by a line of the output. The tables hash by a secret that is drawn here, so that no lines can be made that
+/// are slow for the places of their numbers; no clause speaks of it, since no answer depends on it. A call on all shards is worked by a crew of as many threads as the
+/// configuration has workers, of which the calling one waits for the others: so the clauses say what holds where a run returns.
+pub fn run<R: Source, W: Sink, H: Threads + Wait + RandomSource + Sync>(
+    rt: &H,
+    alloc: Global,
+    reader: &mut R,
+    writer: &mut W,
+    config: &Config,
+) -> Result<Summary, Fault>
+    requires reads { R.faults reader.old ≡ 0 }
+    requires writes { W.faults writer.old ≡ 0 }
+    // The configuration is refused exactly where it is outside its ranges.
+    ensures config { ChecksConfig config.now result }
+    // Where the reader tells its bytes, what is written is their text.
+    ensures text { OnOk result (IfSome (R.remaining reader.old) (λ input.
+        Appends (W.contents writer.old) (W.contents writer.new) (text config.now input))) }
+    // What was read, and what stands written for it.
+    ensures leaves { (input : List ℕ)
+        × Consumes (R.remaining reader.old) (R.remaining reader.new) input
+        × Leaves config.now input (R.remaining reader.new) (R.last reader.new)
+        (W.contents writer.old) (W.contents writer.new) result }
+    ensures flushed { OnOk result (W.is_flushed writer.new ≡ true) }
+    // Where a read fails, no answer to what was read before is held back.
+    ensures at_reads { IsFlushedAtRead (W.is_flushed writer.old) (W.is_flushed writer.new) result }
+    // A fault of the reader or the writer comes only where a read, or a write or the flush, failed.
+    ensures cause { HasCause (R.faults reader.old) (R.faults reader.new)
+        (W.faults writer.old) (W.faults writer.new) result }
+{
+    let mut session = Session::new(alloc, config, secret_of(rt))?;
+    let mut buffer = [0u8; PIECE];
+    let mut count = 0usize;
+    loop {
+        let Ok(n) = reader.read(&mut buffer) else {
+            return Err(Fault::Read);
+        };
+        if n == 0 {
+            return session.finish(rt, writer);
+        }
+        let room = MAX_BYTES - count;
+        if n > room {
+            session.take_piece(rt, &buffer[..room], writer)?;
+            return Err(Fault::TooMuch);
+        }
+        session.take_piece(rt, &buffer[..n], writer)?;
+        count += n;
+    }
+}
+
+/// Random bytes of the system; no secret where it gives none.
+fn secret_of<H: RandomSource>(rt: &H) -> HashSecret {
+    let mut bytes = [0; 8];
+    match rt.fill_bytes(&mut bytes) {
+        Ok(()) => HashSecret::of(u64::from_le_bytes(bytes)),
+        Err(_) => HashSecret::none(),
+    }
+}
