@@ -165,6 +165,3 @@ fn all_rounds<R: Threads + Wait + Sync>(
     }
     Ok(rows)
 }
-
-#[cfg(test)]
-mod tests;

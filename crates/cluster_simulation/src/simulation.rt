@@ -1,5 +1,6 @@
 // The manager and its DataNodes, round by round.
-ghost use Rattle.std.specs.Prelude.{◌<◌};
+ghost use Rattle.std.specs.Prelude.{◌≡◌, ◌<◌, ◌+◌, ◌-◌, ◌^◌, OnOk, OnErr};
+ghost use Rattle.bm_base.specs.declared.refusal.Refusal.TheVariants.{Memory};
 
 use crate::awaited::AwaitedCopies;
 use crate::counting::count_blocks;
@@ -109,7 +110,11 @@ impl Simulation {
     }
 
     /// Counts a refusal; one for want of memory ends the run.
-    fn note_refusal(&mut self, why: Refusal) -> Result<(), AllocError> {
+    fn note_refusal(&mut self, why: Refusal) -> Result<(), AllocError>
+        ensures memory { OnErr result (why ≡ Memory) }
+        ensures counted { OnOk result (self.old.refused < 2 ^ 64 - 1
+            → self.new.refused ≡ self.old.refused + 1) }
+    {
         if matches!(why, Refusal::Memory) {
             return Err(AllocError);
         }
@@ -311,7 +316,10 @@ impl Simulation {
     }
 
     /// What stands now. The refusals are counted anew from here on.
-    fn count(&mut self, counts: &mut Counts) -> Result<(), AllocError> {
+    fn count(&mut self, counts: &mut Counts) -> Result<(), AllocError>
+        ensures counted { OnOk result (counts.new.refused ≡ self.old.refused) }
+        ensures counted_once { OnOk result (self.new.refused ≡ 0) }
+    {
         count_blocks(&self.manager, self.options.blocks, counts)?;
         counts.pending = self.awaited.count() as u64;
         counts.refused = self.refused;
@@ -319,6 +327,3 @@ impl Simulation {
         Ok(())
     }
 }
-
-#[cfg(test)]
-mod tests;
