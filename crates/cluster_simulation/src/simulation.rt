@@ -1,5 +1,6 @@
 // The manager and its DataNodes, round by round.
-ghost use Rattle.std.specs.Prelude.{◌≡◌, ◌<◌, ◌+◌, ◌-◌, ◌^◌, OnOk, OnErr};
+ghost use Rattle.std.specs.Prelude.{◌≡◌, ◌≢◌, ◌<◌, ◌+◌, ◌-◌, ◌^◌, None, IsSome, OnOk, OnErr};
+ghost use Rattle.bm_base.specs.Refusals.{refusal_of};
 ghost use Rattle.bm_base.specs.declared.refusal.Refusal.TheVariants.{Memory};
 
 use crate::awaited::AwaitedCopies;
@@ -102,7 +103,12 @@ impl Simulation {
     }
 
     /// Tells the manager of an event. A refusal is counted.
-    fn tell<R: Threads + Wait + Sync>(&mut self, rt: &R, event: &Event) -> Result<(), AllocError> {
+    fn tell<R: Threads + Wait + Sync>(&mut self, rt: &R, event: &Event) -> Result<(), AllocError>
+        ensures accepted { OnOk result (refusal_of self.old.manager event.now ≡ None
+            → self.new.refused ≡ self.old.refused) }
+        ensures refused { OnOk result (IsSome (refusal_of self.old.manager event.now)
+            → self.old.refused < 2 ^ 64 - 1 → self.new.refused ≡ self.old.refused + 1) }
+    {
         match self.manager.apply(rt, &NoGate, event) {
             Ok(_) => Ok(()),
             Err(why) => self.note_refusal(why),
@@ -112,6 +118,7 @@ impl Simulation {
     /// Counts a refusal; one for want of memory ends the run.
     fn note_refusal(&mut self, why: Refusal) -> Result<(), AllocError>
         ensures memory { OnErr result (why ≡ Memory) }
+        ensures other { OnOk result (why ≢ Memory) }
         ensures counted { OnOk result (self.old.refused < 2 ^ 64 - 1
             → self.new.refused ≡ self.old.refused + 1) }
     {
