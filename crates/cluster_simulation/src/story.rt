@@ -132,19 +132,6 @@ impl Incident {
             }
         }
     }
-
-    /// What it is in words: what is before the number of whom it strikes, that number, and what is after it.
-    fn words(&self) -> (&'static str, Option<u32>, &'static str) {
-        match *self {
-            Incident::NodeDies(node) => ("node ", Some(node), " dies"),
-            Incident::RackDies(rack) => ("all nodes of rack ", Some(rack), " die"),
-            Incident::NodeDrains(node) => ("node ", Some(node), " drains"),
-            Incident::DiskFails(storage) => ("disk ", Some(storage), " fails"),
-            Incident::BadReplicas { count: 1, .. } => ("a replica is found corrupt", None, ""),
-            Incident::BadReplicas { count, .. } =>
-                ("", Some(count), " replicas are found corrupt"),
-        }
-    }
 }
 
 fn only(alloc: Global, event: Event) -> Result<Vec<Event>, AllocError> {
@@ -196,11 +183,13 @@ fn find_corrupt(
 
 impl fmt::Display for Incident {
     fn fmt<W: fmt::Write>(&self, f: &mut fmt::Formatter<W>) -> fmt::Result {
-        let (before, number, after) = self.words();
-        f.write_str(before)?;
-        if let Some(number) = number {
-            write!(f, "{number}")?;
+        match *self {
+            Incident::NodeDies(node) => write!(f, "node {node} dies"),
+            Incident::RackDies(rack) => write!(f, "all nodes of rack {rack} die"),
+            Incident::NodeDrains(node) => write!(f, "node {node} drains"),
+            Incident::DiskFails(storage) => write!(f, "disk {storage} fails"),
+            Incident::BadReplicas { count: 1, .. } => f.write_str("a replica is found corrupt"),
+            Incident::BadReplicas { count, .. } => write!(f, "{count} replicas are found corrupt"),
         }
-        f.write_str(after)
     }
 }
