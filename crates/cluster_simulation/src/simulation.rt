@@ -44,7 +44,10 @@ impl Simulation {
         options: Options,
     ) -> Result<Simulation, AllocError> {
         let mut simulation = Simulation::before_all(alloc, options)?;
-        simulation.begin(rt)?;
+        if let Err(error) = simulation.begin(rt) {
+            drop(simulation);
+            return Err(error);
+        }
         Ok(simulation)
     }
 
@@ -61,18 +64,23 @@ impl Simulation {
         let mut dice = Dice::new(options.seed);
         let incident = Incident::draw(&mut dice, options.story, options.shape, options.blocks);
         let replicas = u64::from(options.blocks) * u64::from(options.replication);
-        let disks = Disks::new(alloc, options.shape, replicas)?;
-        Ok(Simulation {
-            alloc,
-            options,
-            dice,
-            incident,
-            manager,
-            disks,
-            orders: Orders::new(alloc, options.delay),
-            awaited: AwaitedCopies::new(alloc),
-            refused: 0,
-        })
+        match Disks::new(alloc, options.shape, replicas) {
+            Ok(disks) => Ok(Simulation {
+                alloc,
+                options,
+                dice,
+                incident,
+                manager,
+                disks,
+                orders: Orders::new(alloc, options.delay),
+                awaited: AwaitedCopies::new(alloc),
+                refused: 0,
+            }),
+            Err(error) => {
+                drop(manager);
+                Err(error)
+            }
+        }
     }
 
     fn begin<R: Threads + Wait + Sync>(&mut self, rt: &R) -> Result<(), AllocError> {
