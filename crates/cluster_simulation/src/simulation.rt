@@ -1,5 +1,5 @@
 // The manager and its DataNodes, round by round.
-ghost use Rattle.std.specs.Prelude.{◌≡◌, ◌≢◌, ◌<◌, ◌+◌, ◌-◌, ◌^◌, None, IsSome, OnOk, OnErr};
+ghost use Rattle.std.specs.Prelude.{◌≡◌, ◌<◌, ◌+◌, ◌-◌, ◌^◌, IsSome, OnOk, OnErr};
 ghost use Rattle.bm_base.specs.Refusals.{refusal_of};
 ghost use Rattle.bm_base.specs.declared.refusal.Refusal.TheVariants.{Memory};
 
@@ -112,9 +112,7 @@ impl Simulation {
 
     /// Tells the manager of an event. A refusal is counted.
     fn tell<R: Threads + Wait + Sync>(&mut self, rt: &R, event: &Event) -> Result<(), AllocError>
-        ensures accepted { OnOk result (refusal_of self.old.manager event.now ≡ None
-            → self.new.refused ≡ self.old.refused) }
-        ensures refused { OnOk result (IsSome (refusal_of self.old.manager event.now)
+        ensures { OnOk result (IsSome (refusal_of self.old.manager event.now)
             → self.old.refused < 2 ^ 64 - 1 → self.new.refused ≡ self.old.refused + 1) }
     {
         match self.manager.apply(rt, &NoGate, event) {
@@ -126,7 +124,6 @@ impl Simulation {
     /// Counts a refusal; one for want of memory ends the run.
     fn note_refusal(&mut self, why: Refusal) -> Result<(), AllocError>
         ensures memory { OnErr result (why ≡ Memory) }
-        ensures other { OnOk result (why ≢ Memory) }
         ensures counted { OnOk result (self.old.refused < 2 ^ 64 - 1
             → self.new.refused ≡ self.old.refused + 1) }
     {
