@@ -1,9 +1,14 @@
-// Stands before a program's reads of standard input and writes of standard output (LD_PRELOAD), and lets them fail where it is told
-// to. At the end the file that STREAM_LOG names gets a line `reads N writes M`, with how many there were, those that failed
-// among them; the end is `exit` or `_exit`.
+// Stands before a program's reads of standard input and its writes of standard output and standard
+// error (LD_PRELOAD), and lets them fail where the variables say. At the end, which is `exit` or
+// `_exit`, the file that STREAM_LOG names gets a line `reads N writes M`: how many reads of standard
+// input and writes of standard output there were, those that failed among them.
 //
-// With READ_BYTES=n a read gives n bytes at most, and with WRITE_BYTES=n a write takes n bytes at most. With READ_FAILS=k the k-th
-// read fails, and that one alone; with WRITE_FAILS=k the k-th write and all later ones.
+// With READ_BYTES=n a read gives n bytes at most, and with WRITE_BYTES=n a write takes n bytes at most.
+// With READ_FAILS=k the k-th read fails, and that one alone; with WRITE_FAILS=k the k-th write and all
+// later ones.
+//
+// With NOTE_BYTES=n a write to standard error takes n bytes at most. With NOTE_FAILS=k the k-th such
+// write fails, and that one alone, so that the program can still report the fault there.
 #define _GNU_SOURCE
 #include <errno.h>
 #include <fcntl.h>
@@ -19,8 +24,11 @@ static long read_bytes;
 static long read_fails;
 static long write_bytes;
 static long write_fails;
+static long note_bytes;
+static long note_fails;
 static atomic_long reads;
 static atomic_long writes;
+static atomic_long notes;
 static int log_file = -1;
 
 static long number_in(const char *name) {
@@ -35,6 +43,8 @@ __attribute__((constructor)) static void start(void) {
     read_fails = number_in("READ_FAILS");
     write_bytes = number_in("WRITE_BYTES");
     write_fails = number_in("WRITE_FAILS");
+    note_bytes = number_in("NOTE_BYTES");
+    note_fails = number_in("NOTE_FAILS");
 }
 
 static ssize_t failed(int error) {
@@ -75,11 +85,15 @@ ssize_t write(int file, const void *bytes, size_t count) {
         if (write_fails && number >= write_fails) return failed(ENOSPC);
         count = at_most(count, write_bytes);
     }
+    if (file == 2) {
+        if (atomic_fetch_add(&notes, 1) + 1 == note_fails) return failed(ENOSPC);
+        count = at_most(count, note_bytes);
+    }
     return syscall(SYS_write, file, bytes, count);
 }
 
 ssize_t writev(int file, const struct iovec *parts, int count) {
-    if (file != 1 || count < 1) return syscall(SYS_writev, file, parts, count);
+    if ((file != 1 && file != 2) || count < 1) return syscall(SYS_writev, file, parts, count);
     const struct iovec *part = first_part(parts, count);
     return write(file, part->iov_base, part->iov_len);
 }

@@ -140,6 +140,3 @@ fn report_on<R: Input + Print + AllocGlobal + Threads + Wait + Sync, N: Print>(
     let mut told = io::writer(notes);
     run(rt, alloc, &mut reader, &mut writer, &mut told, config)
 }
-
-#[cfg(test)]
-mod tests;

@@ -44,7 +44,9 @@ pub fn run<R: BufRead, W: Write, N: Write, H: Threads + Wait + Sync>(
     let Ok(mut session) = Session::new(alloc, config) else {
         return Err(Fault::Memory);
     };
-    report(rt, alloc, &mut session, reader, writer, notes)
+    let result = report(rt, alloc, &mut session, reader, writer, notes);
+    drop(session);
+    result
 }
 
 /// The same in a session that was just begun.

@@ -29,11 +29,18 @@ impl Session {
         ensures state { IfOk result (λ s. s.manager ≡ first_state config.now) }
         ensures in_step { IfOk result IsInStep }
     {
-        Ok(Session {
-            alloc,
-            manager: Manager::new(alloc, *config)?,
-            book: Book::new(alloc, config)?,
-        })
+        let manager = Manager::new(alloc, *config)?;
+        match Book::new(alloc, config) {
+            Ok(book) => Ok(Session {
+                alloc,
+                manager,
+                book,
+            }),
+            Err(why) => {
+                drop(manager);
+                Err(why)
+            }
+        }
     }
 
     /// Makes the call that a line asks for. Where none is made, what the line tool answers.

@@ -1,4 +1,9 @@
 // The copies that the manager awaits. It answers no question about them, so they are kept here by its rules.
+ghost use Rattle.std.specs.Prelude.{◌≡◌, ◌++◌, [], OnOk};
+ghost use Rattle.std.specs.List.{flat_map};
+ghost use Rattle.std.specs.Vec.{vec_len};
+ghost use Rattle.cluster_simulation.specs.Awaited.{commanded_to, without_copy, after_notice, without_old, without_lost};
+
 use crate::shape::Shape;
 use crate::story::Incident;
 use bm_base::{BlockId, Commands, Event, NodeCommands, StorageId};
@@ -19,25 +24,35 @@ pub struct AwaitedCopies {
 }
 
 impl AwaitedCopies {
-    pub fn new(alloc: Global) -> AwaitedCopies {
+    pub fn new(alloc: Global) -> AwaitedCopies
+        ensures { result.copies.items ≡ [] }
+    {
         AwaitedCopies {
             copies: Vec::new(alloc),
         }
     }
 
-    pub fn count(&self) -> usize {
+    pub fn count(&self) -> usize
+        ensures { result ≡ vec_len self.now.copies }
+    {
         self.copies.len()
     }
 
     /// The copies that a round commands.
-    pub fn add_all(&mut self, round: u32, commands: &Commands) -> Result<(), AllocError> {
+    pub fn add_all(&mut self, round: u32, commands: &Commands) -> Result<(), AllocError>
+        ensures { OnOk result (self.new.copies.items
+            ≡ self.old.copies.items ++ flat_map (commanded_to round) commands.now.nodes) }
+    {
         for node in commands.nodes.as_slice() {
             self.add_node(round, node)?;
         }
         Ok(())
     }
 
-    fn add_node(&mut self, round: u32, node: &NodeCommands) -> Result<(), AllocError> {
+    fn add_node(&mut self, round: u32, node: &NodeCommands) -> Result<(), AllocError>
+        ensures { OnOk result (self.new.copies.items
+            ≡ self.old.copies.items ++ commanded_to round node.now) }
+    {
         for transfer in node.transfers.as_slice() {
             self.copies.push(Awaited {
                 block: transfer.block,
@@ -49,25 +64,34 @@ impl AwaitedCopies {
     }
 
     /// A notice may tell that a copy has come.
-    pub fn take_note(&mut self, notice: &Event) {
+    #[tactic(auto, unfolding(crate::specs::Awaited::after_notice))]
+    pub fn take_note(&mut self, notice: &Event)
+        ensures { self.new.copies.items ≡ after_notice notice.now self.old.copies.items }
+    {
         if let Event::Received { storage, id, .. } = notice {
             self.arrive(*storage, *id);
         }
     }
 
-    fn arrive(&mut self, target: StorageId, block: BlockId) {
+    fn arrive(&mut self, target: StorageId, block: BlockId)
+        ensures { self.new.copies.items ≡ without_copy target block self.old.copies.items }
+    {
         self.copies
-            .retain(|copy| copy.block != block || copy.target != target);
+            .retain(|copy| !(copy.block == block && copy.target == target));
     }
 
     /// Copies for which rounds waited so long are given up as the next round begins.
-    pub fn give_up_old(&mut self, round: u32, patience: u32) {
+    pub fn give_up_old(&mut self, round: u32, patience: u32)
+        ensures { self.new.copies.items ≡ without_old round patience self.old.copies.items }
+    {
         self.copies
             .retain(|copy| round.saturating_sub(copy.round) < patience);
     }
 
     /// No copy is awaited on a disk that is lost, or on a node that begins to drain.
-    pub fn forget_lost(&mut self, incident: &Incident, shape: Shape) {
+    pub fn forget_lost(&mut self, incident: &Incident, shape: Shape)
+        ensures { self.new.copies.items ≡ without_lost incident.now shape self.old.copies.items }
+    {
         self.copies
             .retain(|copy| !incident.bars(shape, copy.target.0));
     }

@@ -1,5 +1,6 @@
 // What DataNodes tell the manager: themselves, what is free on their disks, and what they have done. The dead tell nothing.
-ghost use Rattle.std.specs.Prelude.{◌<◌};
+ghost use Rattle.std.specs.Prelude.{◌≡◌, ◌<◌, ◌&&◌, ◌++◌, ◌∷◌, [], is_some, IsSome, IfOk, false};
+ghost use Rattle.cluster_simulation.specs.Disks.{is_alive, holders, holds};
 
 use crate::disks::{Disks, STAMP};
 use crate::orders::Order;
@@ -57,7 +58,14 @@ pub fn carry_out(disks: &mut Disks, order: Order) -> Result<Option<Event>, Alloc
 }
 
 /// Both disks have to be alive, and the source has to hold the replica still.
-fn copy(disks: &mut Disks, transfer: Transfer) -> Result<Option<Event>, AllocError> {
+fn copy(disks: &mut Disks, transfer: Transfer) -> Result<Option<Event>, AllocError>
+    ensures done { IfOk result (λ notice. is_some notice
+        ≡ (is_alive disks.old transfer.source
+        && holds disks.old transfer.source transfer.block
+        && is_alive disks.old transfer.target)) }
+    ensures stored { IfOk result (λ notice. IsSome notice → holders disks.new transfer.block
+        ≡ holders disks.old transfer.block ++ transfer.target ∷ []) }
+{
     let Transfer {
         block,
         source,
@@ -76,7 +84,10 @@ fn copy(disks: &mut Disks, transfer: Transfer) -> Result<Option<Event>, AllocErr
     }))
 }
 
-fn remove(disks: &mut Disks, delete: Delete) -> Option<Event> {
+fn remove(disks: &mut Disks, delete: Delete) -> Option<Event>
+    ensures done { is_some result ≡ is_alive disks.old delete.storage }
+    ensures gone { IsSome result → holds disks.new delete.storage delete.block ≡ false }
+{
     let Delete { storage, block } = delete;
     if !disks.is_alive(storage) {
         return None;

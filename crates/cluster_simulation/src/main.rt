@@ -137,7 +137,9 @@ fn story_text<R: Threads + Wait + Sync>(
     options: Options,
 ) -> Result<String, AllocError> {
     let mut simulation = Simulation::new(rt, alloc, options)?;
-    rounds_text(rt, alloc, &mut simulation, &options)
+    let text = rounds_text(rt, alloc, &mut simulation, &options);
+    drop(simulation);
+    text
 }
 
 fn rounds_text<R: Threads + Wait + Sync>(
@@ -165,6 +167,3 @@ fn all_rounds<R: Threads + Wait + Sync>(
     }
     Ok(rows)
 }
-
-#[cfg(test)]
-mod tests;

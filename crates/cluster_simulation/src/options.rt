@@ -113,6 +113,11 @@ fn command<'a>(alloc: Global) -> Result<Command<'a>, AllocError> {
     let command = with_numbers(alloc, program(alloc), &CLUSTER)?;
     let command = with(command, seed(alloc))?;
     let command = with_numbers(alloc, command, &COURSE)?;
+    with_choices(alloc, command)
+}
+
+/// The command with the story and the form.
+fn with_choices<'a>(alloc: Global, command: Command<'a>) -> Result<Command<'a>, AllocError> {
     let command = with(command, story(alloc))?;
     let command = with(command, csv(alloc))?;
     with(command, svg(alloc)?)

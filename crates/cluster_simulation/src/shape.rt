@@ -1,5 +1,5 @@
 // How large the cluster is, and which storage stands on which node and rack.
-ghost use Rattle.std.specs.Prelude.{◌≡◌, ◌*◌, ◌<◌, ◌≤◌};
+ghost use Rattle.std.specs.Prelude.{◌≡◌, ◌*◌, ◌/◌, ◌%◌, ◌<◌, ◌≤◌};
 
 /// Nodes, racks, storages and blocks are numbered from 0. Node `n` stands on rack `n % racks`, and its storages are those from
 /// `n * storages` on.
@@ -31,12 +31,15 @@ impl Shape {
     }
 
     pub fn rack_of(&self, node: u32) -> u32
-        ensures { result < self.now.racks }
+        ensures rack { result ≡ node % self.now.racks }
+        ensures known { result < self.now.racks }
     {
         node % self.racks
     }
 
-    pub fn node_of(&self, storage: u32) -> u32 {
+    pub fn node_of(&self, storage: u32) -> u32
+        ensures { result ≡ storage / self.now.storages }
+    {
         storage / self.storages
     }
 

@@ -1,5 +1,7 @@
 // The manager and its DataNodes, round by round.
-ghost use Rattle.std.specs.Prelude.{◌<◌};
+ghost use Rattle.std.specs.Prelude.{◌≡◌, ◌<◌, ◌+◌, ◌-◌, ◌^◌, IsSome, OnOk, OnErr};
+ghost use Rattle.bm_base.specs.Refusals.{refusal_of};
+ghost use Rattle.bm_base.specs.declared.refusal.Refusal.TheVariants.{Memory};
 
 use crate::awaited::AwaitedCopies;
 use crate::counting::count_blocks;
@@ -42,7 +44,10 @@ impl Simulation {
         options: Options,
     ) -> Result<Simulation, AllocError> {
         let mut simulation = Simulation::before_all(alloc, options)?;
-        simulation.begin(rt)?;
+        if let Err(error) = simulation.begin(rt) {
+            drop(simulation);
+            return Err(error);
+        }
         Ok(simulation)
     }
 
@@ -59,18 +64,23 @@ impl Simulation {
         let mut dice = Dice::new(options.seed);
         let incident = Incident::draw(&mut dice, options.story, options.shape, options.blocks);
         let replicas = u64::from(options.blocks) * u64::from(options.replication);
-        let disks = Disks::new(alloc, options.shape, replicas)?;
-        Ok(Simulation {
-            alloc,
-            options,
-            dice,
-            incident,
-            manager,
-            disks,
-            orders: Orders::new(alloc, options.delay),
-            awaited: AwaitedCopies::new(alloc),
-            refused: 0,
-        })
+        match Disks::new(alloc, options.shape, replicas) {
+            Ok(disks) => Ok(Simulation {
+                alloc,
+                options,
+                dice,
+                incident,
+                manager,
+                disks,
+                orders: Orders::new(alloc, options.delay),
+                awaited: AwaitedCopies::new(alloc),
+                refused: 0,
+            }),
+            Err(error) => {
+                drop(manager);
+                Err(error)
+            }
+        }
     }
 
     fn begin<R: Threads + Wait + Sync>(&mut self, rt: &R) -> Result<(), AllocError> {
@@ -101,7 +111,10 @@ impl Simulation {
     }
 
     /// Tells the manager of an event. A refusal is counted.
-    fn tell<R: Threads + Wait + Sync>(&mut self, rt: &R, event: &Event) -> Result<(), AllocError> {
+    fn tell<R: Threads + Wait + Sync>(&mut self, rt: &R, event: &Event) -> Result<(), AllocError>
+        ensures { OnOk result (IsSome (refusal_of self.old.manager event.now)
+            → self.old.refused < 2 ^ 64 - 1 → self.new.refused ≡ self.old.refused + 1) }
+    {
         match self.manager.apply(rt, &NoGate, event) {
             Ok(_) => Ok(()),
             Err(why) => self.note_refusal(why),
@@ -109,7 +122,11 @@ impl Simulation {
     }
 
     /// Counts a refusal; one for want of memory ends the run.
-    fn note_refusal(&mut self, why: Refusal) -> Result<(), AllocError> {
+    fn note_refusal(&mut self, why: Refusal) -> Result<(), AllocError>
+        ensures memory { OnErr result (why ≡ Memory) }
+        ensures counted { OnOk result (self.old.refused < 2 ^ 64 - 1
+            → self.new.refused ≡ self.old.refused + 1) }
+    {
         if matches!(why, Refusal::Memory) {
             return Err(AllocError);
         }
@@ -311,7 +328,10 @@ impl Simulation {
     }
 
     /// What stands now. The refusals are counted anew from here on.
-    fn count(&mut self, counts: &mut Counts) -> Result<(), AllocError> {
+    fn count(&mut self, counts: &mut Counts) -> Result<(), AllocError>
+        ensures counted { OnOk result (counts.new.refused ≡ self.old.refused) }
+        ensures counted_once { OnOk result (self.new.refused ≡ 0) }
+    {
         count_blocks(&self.manager, self.options.blocks, counts)?;
         counts.pending = self.awaited.count() as u64;
         counts.refused = self.refused;
@@ -319,6 +339,3 @@ impl Simulation {
         Ok(())
     }
 }
-
-#[cfg(test)]
-mod tests;

@@ -1,5 +1,6 @@
 // What can go wrong in a cluster, and whom it strikes.
-ghost use Rattle.std.specs.Prelude.{◌<◌};
+ghost use Rattle.std.specs.Prelude.{◌≡◌, ◌<◌};
+ghost use Rattle.cluster_simulation.specs.Incidents.{kills, bars};
 
 use crate::dice::Dice;
 use crate::disks::Disks;
@@ -75,7 +76,10 @@ impl Incident {
     }
 
     /// Whether it takes the disk out of the cluster.
-    pub fn kills(&self, shape: Shape, storage: u32) -> bool {
+    #[tactic(auto, unfolding(crate::specs::Incidents::kills))]
+    pub fn kills(&self, shape: Shape, storage: u32) -> bool
+        ensures { result ≡ kills self.now shape storage }
+    {
         let node = shape.node_of(storage);
         match self {
             Incident::NodeDies(dead) => node == *dead,
@@ -86,7 +90,10 @@ impl Incident {
     }
 
     /// Whether no copy can come to the disk any more.
-    pub fn bars(&self, shape: Shape, storage: u32) -> bool {
+    #[tactic(auto, unfolding(crate::specs::Incidents::kills, crate::specs::Incidents::bars))]
+    pub fn bars(&self, shape: Shape, storage: u32) -> bool
+        ensures { result ≡ bars self.now shape storage }
+    {
         match self {
             Incident::NodeDrains(node) => shape.node_of(storage) == *node,
             _ => self.kills(shape, storage),

@@ -33,7 +33,7 @@ impl From<Refusal> for LineFault {
 }
 
 /// Why a run ends with nothing written, or with an unknown part of it where a write failed.
-#[derive(Clone, Copy, Debug, PartialEq, Eq, Error)]
+#[derive(Clone, Copy, Debug, Error)]
 pub enum Fault {
     #[error("memory fault")]
     Memory,
@@ -53,7 +53,7 @@ pub enum Fault {
 }
 
 /// A line that is not taken, counted from 1.
-#[derive(Clone, Copy, Debug, PartialEq, Eq, Error)]
+#[derive(Clone, Copy, Debug, Error)]
 #[error("line {line}: {why}")]
 pub struct Unread {
     pub line: u64,

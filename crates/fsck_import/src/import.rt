@@ -35,6 +35,7 @@ pub fn import<R: BufRead, W: Write, N: Destination>(
 {
     let cluster = read_cluster(alloc, reader)?;
     if let Err(fault) = put_names(alloc, &cluster, names) {
+        drop(cluster);
         return Err(fault);
     }
     write_cluster(alloc, writer, cluster, remaining)

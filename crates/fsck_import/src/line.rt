@@ -51,7 +51,7 @@ pub struct BlockTold {
 }
 
 /// Why a line is not taken.
-#[derive(Clone, Copy, Debug, PartialEq, Eq)]
+#[derive(Clone, Copy, Debug)]
 pub enum Refusal {
     NotText,
     /// It begins with the index of a block, and does not go on as a block's line.

@@ -149,6 +149,3 @@ fn run<R: Input + Print + AllocGlobal, N: Destination>(
     };
     import(alloc, &mut reader, &mut writer, names, remaining)
 }
-
-#[cfg(test)]
-mod tests;

@@ -17,6 +17,7 @@ pub fn read_cluster<R: BufRead>(alloc: Global, reader: &mut R) -> Result<Cluster
 {
     let mut cluster = Cluster::new(alloc);
     if let Err(fault) = take_text(alloc, reader, &mut cluster) {
+        drop(cluster);
         return Err(fault);
     }
     Ok(cluster)

@@ -1,0 +1,5 @@
+-- What the parts of a simulation are.
+pub mod Orders
+pub mod Incidents
+pub mod Awaited
+pub mod Disks
