@@ -89,8 +89,13 @@ def program(crate):
     return str(path)
 
 
-def stored_output(crate):
-    return (TOP / "crates" / crate / "stdout").read_bytes()
+def stored_output(crate, part=None):
+    """What a program must print, or the part of it under the heading `== PART`."""
+    text = (TOP / "crates" / crate / "stdout").read_text()
+    if part:
+        parts = re.split(r"^== (.*)\n", text, flags=re.MULTILINE)
+        text = dict(zip(parts[1::2], parts[2::2]))[part]
+    return text.encode()
 
 
 class Watch:

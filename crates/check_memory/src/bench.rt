@@ -1,0 +1,74 @@
+// What all checks are made on: made once, and made anew for each size and each turn.
+
+use crate::managers::config;
+use crate::tally::Tally;
+use bm_arena::Arena;
+use bm_base::{Config, Refusal};
+use bm_manager::Manager;
+use bm_topo::Topology;
+use std::alloc::Global;
+use std::mem;
+
+#[derive(Drop)]
+pub struct Bench {
+    pub alloc: Global,
+    pub manager: Manager,
+    /// The manager to which the first one is compared.
+    pub other: Manager,
+    pub topology: Topology,
+    pub arena: Arena,
+    /// What a manager answered before a call.
+    pub before: String,
+    /// What it is to answer after the call.
+    pub after: String,
+    pub now: String,
+    pub tally: Tally,
+}
+
+impl Bench {
+    pub fn new(alloc: Global) -> Result<Bench, Refusal> {
+        Ok(Bench {
+            alloc,
+            manager: Manager::new(alloc, Config::standard())?,
+            other: Manager::new(alloc, Config::standard())?,
+            topology: Topology::new(alloc)?,
+            arena: Arena::new(alloc)?,
+            before: String::new(alloc),
+            after: String::new(alloc),
+            now: String::new(alloc),
+            tally: Tally::EMPTY,
+        })
+    }
+
+    /// An empty manager in the place of the old one, which stays where the new one is refused.
+    pub fn renew_manager(&mut self, shards: u32, workers: u32) {
+        let made = Manager::new(self.alloc, config(shards, workers));
+        let replaced = self.replace_manager(made);
+        self.tally.require(replaced);
+    }
+
+    pub fn replace_manager(&mut self, made: Result<Manager, Refusal>) -> Result<(), Refusal> {
+        match made {
+            Ok(new) => {
+                drop(mem::replace(&mut self.manager, new));
+                Ok(())
+            }
+            Err(refusal) => Err(refusal),
+        }
+    }
+
+    /// An empty manager of one shard and one worker.
+    pub fn renew_other(&mut self) {
+        match Manager::new(self.alloc, Config::standard()) {
+            Ok(new) => drop(mem::replace(&mut self.other, new)),
+            Err(refusal) => self.tally.fail(refusal),
+        }
+    }
+
+    pub fn renew_topology(&mut self) {
+        match Topology::new(self.alloc) {
+            Ok(new) => drop(mem::replace(&mut self.topology, new)),
+            Err(refusal) => self.tally.fail(refusal),
+        }
+    }
+}

@@ -1,0 +1,290 @@
+// The calls that are tried, each with the calls before it on a cluster of four nodes, and its answer. The answers were worked out by
+// hand from the rules.
+
+use crate::short_calls::ShortCall;
+
+#[derive(Clone, Copy)]
+pub struct Case {
+    pub name: &'static str,
+    pub before: &'static [ShortCall],
+    pub call: ShortCall,
+    /// What the call answers while there is memory.
+    pub answer: &'static str,
+    /// Whether the call may be refused for lack of memory.
+    pub takes_memory: bool,
+}
+
+/// Two racks with two nodes each, on each of which a thousand bytes are free.
+pub static CLUSTER: [ShortCall; 8] = [
+    ShortCall::Register(1, 1, 11, 1),
+    ShortCall::Register(2, 1, 21, 1),
+    ShortCall::Register(3, 2, 31, 1),
+    ShortCall::Register(4, 2, 41, 1),
+    ShortCall::Heartbeat(1, 11),
+    ShortCall::Heartbeat(2, 21),
+    ShortCall::Heartbeat(3, 31),
+    ShortCall::Heartbeat(4, 41),
+];
+
+pub const NOTHING: &[ShortCall] = &[];
+
+/// Two blocks of which a report brings the first replicas, next to two numbers that are no block's.
+const TWO_BLOCKS: &[ShortCall] = &[ShortCall::Add(7, 3), ShortCall::Add(8, 3)];
+
+const ONE_BLOCK: &[ShortCall] = &[ShortCall::Add(8, 3)];
+
+const FOUR_NUMBERS: &[(u64, u64, u64)] = &[(7, 7, 1), (8, 8, 1), (9, 9, 1), (10, 10, 1)];
+
+const THOUSAND_NUMBERS: &[(u64, u64, u64)] = &[(1001, 2000, 1)];
+
+/// A report of a thousand new numbers.
+pub const THOUSAND_REPORTED: ShortCall = ShortCall::Report(11, THOUSAND_NUMBERS);
+
+/// Block 8 once more, behind a run, with another stamp.
+const RUNS: &[(u64, u64, u64)] = &[(7, 9, 1), (8, 8, 0)];
+
+/// Three blocks that want two further replicas each.
+const TO_COPY: &[ShortCall] = &[
+    ShortCall::Add(1, 4),
+    ShortCall::Received(11, 1, 1),
+    ShortCall::Received(21, 1, 1),
+    ShortCall::Add(2, 4),
+    ShortCall::Received(11, 2, 1),
+    ShortCall::Received(21, 2, 1),
+    ShortCall::Add(3, 4),
+    ShortCall::Received(11, 3, 1),
+    ShortCall::Received(21, 3, 1),
+];
+
+const ON_ONE_NODE: &[ShortCall] = &[ShortCall::Add(7, 1), ShortCall::Received(11, 7, 1)];
+
+/// A block with as many replicas as its entry holds; a further one makes it grow.
+const THREE_REPLICAS: &[ShortCall] = &[
+    ShortCall::Add(5, 4),
+    ShortCall::Received(11, 5, 1),
+    ShortCall::Received(21, 5, 1),
+    ShortCall::Received(31, 5, 1),
+];
+
+/// As many blocks of one of the three shards as its first capacity holds; a further one makes it grow.
+const THREE_OF_A_SHARD: &[ShortCall] = &[
+    ShortCall::Add(3, 3),
+    ShortCall::Add(6, 3),
+    ShortCall::Add(9, 3),
+];
+
+/// Blocks of which some replica is in excess, stale, bad, on its way, on a node that drains, or nowhere; and a stray one.
+const OF_ALL_KINDS: &[ShortCall] = &[
+    ShortCall::Add(1, 1),
+    ShortCall::Received(11, 1, 1),
+    ShortCall::Received(31, 1, 1),
+    ShortCall::Add(2, 2),
+    ShortCall::Received(11, 2, 1),
+    ShortCall::Received(21, 2, 0),
+    ShortCall::Add(3, 2),
+    ShortCall::Received(21, 3, 1),
+    ShortCall::Received(41, 3, 1),
+    ShortCall::Spoilt(41, 3),
+    ShortCall::Add(4, 3),
+    ShortCall::Received(31, 4, 1),
+    ShortCall::Add(5, 3),
+    ShortCall::Received(41, 6, 1),
+    ShortCall::Round,
+    ShortCall::Drain(2),
+];
+
+const NONE_CHANGED: &str = "Done(Done { added: 0, removed: 0 })";
+
+const ONE_ADDED: &str = "Done(Done { added: 1, removed: 0 })";
+
+const THREE_ADDED: &str = "Done(Done { added: 3, removed: 0 })";
+
+const FOUR_ADDED: &str = "Done(Done { added: 4, removed: 0 })";
+
+const ONE_REMOVED: &str = "Done(Done { added: 0, removed: 1 })";
+
+const TWO_REMOVED: &str = "Done(Done { added: 0, removed: 2 })";
+
+/// Blocks 1 and 2 are not among them.
+const THOUSAND_FOR_TWO: &str = "Done(Done { added: 1000, removed: 2 })";
+
+/// All three blocks are at level 2, where a node sends two copies at most. So blocks 1 and 2 are copied, each by both nodes that have
+/// it, to both nodes of the other rack, and block 3 has to wait.
+const TWO_COPIED_TWICE: &str = "Commanded(Commands { round: 1, nodes: Items { vec: [\
+    NodeCommands { node: NodeId(1), transfers: Items { vec: [\
+    Transfer { block: BlockId(1), stamp: Stamp { generation: Gen(1), len: 10 }, \
+    source: StorageId(11), target: StorageId(31) }, \
+    Transfer { block: BlockId(2), stamp: Stamp { generation: Gen(1), len: 10 }, \
+    source: StorageId(11), target: StorageId(31) }] }, deletes: Items { vec: [] } }, \
+    NodeCommands { node: NodeId(2), transfers: Items { vec: [\
+    Transfer { block: BlockId(1), stamp: Stamp { generation: Gen(1), len: 10 }, \
+    source: StorageId(21), target: StorageId(41) }, \
+    Transfer { block: BlockId(2), stamp: Stamp { generation: Gen(1), len: 10 }, \
+    source: StorageId(21), target: StorageId(41) }] }, deletes: Items { vec: [] } }] } })";
+
+/// By the round before, blocks 2 and 3 are on their way to storage 31 and block 4 to storage 11, and what is to be deleted is ordered;
+/// a second copy of block 4 was for node 2, which drains since. So block 3 lacks one copy: the drained replica is sent to node 1, the
+/// only node that has none; and block 4 lacks one, which node 4 alone may take.
+const TWO_COPIED_ONCE: &str = "Commanded(Commands { round: 2, nodes: Items { vec: [\
+    NodeCommands { node: NodeId(2), transfers: Items { vec: [\
+    Transfer { block: BlockId(3), stamp: Stamp { generation: Gen(1), len: 10 }, \
+    source: StorageId(21), target: StorageId(11) }] }, deletes: Items { vec: [] } }, \
+    NodeCommands { node: NodeId(3), transfers: Items { vec: [\
+    Transfer { block: BlockId(4), stamp: Stamp { generation: Gen(1), len: 10 }, \
+    source: StorageId(31), target: StorageId(41) }] }, deletes: Items { vec: [] } }] } })";
+
+const EIGHT_REPLICAS: &str = "Replicas(Items { vec: [\
+    Replica { block: BlockId(1), storage: StorageId(11), tag: Good }, \
+    Replica { block: BlockId(1), storage: StorageId(31), tag: Good }, \
+    Replica { block: BlockId(2), storage: StorageId(11), tag: Good }, \
+    Replica { block: BlockId(2), storage: StorageId(21), tag: Stale }, \
+    Replica { block: BlockId(3), storage: StorageId(21), tag: Good }, \
+    Replica { block: BlockId(3), storage: StorageId(41), tag: Bad }, \
+    Replica { block: BlockId(4), storage: StorageId(31), tag: Good }, \
+    Replica { block: BlockId(6), storage: StorageId(41), tag: Stray }] })";
+
+const STALE_AND_BAD: &str = "ReplicaIds(Items { vec: [\
+    ReplicaId { block: BlockId(2), storage: StorageId(21) }, \
+    ReplicaId { block: BlockId(3), storage: StorageId(41) }] })";
+
+/// Of two on two racks with as many bytes left, that on the storage of the greater number.
+const ONE_TOO_MANY: &str =
+    "ReplicaIds(Items { vec: [ReplicaId { block: BlockId(1), storage: StorageId(31) }] })";
+
+const BLOCK_5: &str = "Blocks(Items { vec: [BlockId(5)] })";
+
+const BLOCKS_1_AND_2: &str = "Blocks(Items { vec: [BlockId(1), BlockId(2)] })";
+
+/// Also where it is in excess.
+const BOTH_PLACES: &str = "Storages(Items { vec: [StorageId(11), StorageId(31)] })";
+
+macro_rules! taking {
+    ($name:expr, $before:expr, $call:expr, $answer:expr) => {
+        Case { name: $name, before: $before, call: $call, answer: $answer, takes_memory: true }
+    };
+}
+
+macro_rules! bare {
+    ($name:expr, $call:expr, $answer:expr) => {
+        Case { name: $name, before: OF_ALL_KINDS, call: $call, answer: $answer, takes_memory: false }
+    };
+}
+
+/// Each call that may be refused for lack of memory, with what goes before it, and then each call that takes none, on blocks of all
+/// kinds.
+pub static CASES: [Case; 33] = [
+    taking!(
+        "report_of_four",
+        TWO_BLOCKS,
+        ShortCall::Report(11, FOUR_NUMBERS),
+        FOUR_ADDED
+    ),
+    taking!(
+        "report_of_a_thousand",
+        OF_ALL_KINDS,
+        THOUSAND_REPORTED,
+        THOUSAND_FOR_TWO
+    ),
+    taking!(
+        "report_in_runs",
+        ONE_BLOCK,
+        ShortCall::Report(11, RUNS),
+        THREE_ADDED
+    ),
+    taking!(
+        "report_of_nothing",
+        OF_ALL_KINDS,
+        ShortCall::Report(11, &[]),
+        TWO_REMOVED
+    ),
+    taking!(
+        "register",
+        NOTHING,
+        ShortCall::Register(5, 1, 51, 1),
+        NONE_CHANGED
+    ),
+    taking!("round", TO_COPY, ShortCall::Round, TWO_COPIED_TWICE),
+    taking!(
+        "round_of_all_kinds",
+        OF_ALL_KINDS,
+        ShortCall::Round,
+        TWO_COPIED_ONCE
+    ),
+    taking!("drain", ON_ONE_NODE, ShortCall::Drain(1), NONE_CHANGED),
+    taking!("undrain", OF_ALL_KINDS, ShortCall::Undrain(2), NONE_CHANGED),
+    taking!("dead", OF_ALL_KINDS, ShortCall::Dead(1), TWO_REMOVED),
+    taking!(
+        "storage_failed",
+        OF_ALL_KINDS,
+        ShortCall::Failed(31),
+        TWO_REMOVED
+    ),
+    taking!("add", THREE_OF_A_SHARD, ShortCall::Add(12, 3), NONE_CHANGED),
+    taking!(
+        "received",
+        THREE_REPLICAS,
+        ShortCall::Received(41, 5, 1),
+        ONE_ADDED
+    ),
+    taking!(
+        "received_stray",
+        OF_ALL_KINDS,
+        ShortCall::Received(11, 10, 1),
+        ONE_ADDED
+    ),
+    taking!(
+        "replicas",
+        OF_ALL_KINDS,
+        ShortCall::Replicas,
+        EIGHT_REPLICAS
+    ),
+    taking!(
+        "corrupt_replicas",
+        OF_ALL_KINDS,
+        ShortCall::Corrupt,
+        STALE_AND_BAD
+    ),
+    taking!(
+        "excess_replicas",
+        OF_ALL_KINDS,
+        ShortCall::Excess,
+        ONE_TOO_MANY
+    ),
+    taking!("missing_blocks", OF_ALL_KINDS, ShortCall::Missing, BLOCK_5),
+    taking!(
+        "blocks_on",
+        OF_ALL_KINDS,
+        ShortCall::BlocksOn(11),
+        BLOCKS_1_AND_2
+    ),
+    taking!("places", OF_ALL_KINDS, ShortCall::Places(1), BOTH_PLACES),
+    bare!("heartbeat", ShortCall::Heartbeat(1, 11), NONE_CHANGED),
+    bare!("delete", ShortCall::Delete(4), NONE_CHANGED),
+    bare!(
+        "set_replication",
+        ShortCall::Replication(2, 5),
+        NONE_CHANGED
+    ),
+    bare!("restamp", ShortCall::Restamp(1, 2), NONE_CHANGED),
+    bare!("deleted", ShortCall::Deleted(31, 1), ONE_REMOVED),
+    bare!("corrupt", ShortCall::Spoilt(11, 1), NONE_CHANGED),
+    bare!("level", ShortCall::Level(2), "LevelIs(Some(Highest))"),
+    bare!("retired", ShortCall::Retired(2), "IsRetired(false)"),
+    bare!("calls", ShortCall::Calls, "Number(24)"),
+    bare!("rounds", ShortCall::Rounds, "Number(1)"),
+    bare!(
+        "unknown_block",
+        ShortCall::Places(99),
+        "Refused(UnknownBlock)"
+    ),
+    bare!(
+        "unknown_storage",
+        ShortCall::BlocksOn(99),
+        "Refused(UnknownStorage)"
+    ),
+    bare!(
+        "known_node",
+        ShortCall::Register(1, 1, 61, 1),
+        "Refused(NodeKnown)"
+    ),
+];

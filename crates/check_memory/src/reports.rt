@@ -1,0 +1,124 @@
+// Full reports: the first one of a storage names the blocks of a run, whose entries and room are there when it is applied.
+ghost use Rattle.std.specs.Prelude.{◌≡◌, [], None, Some, OnOk};
+ghost use Rattle.bm_base.specs.State.{Cluster};
+ghost use Rattle.bm_arena.specs.Contents.{block_at, empty_block, marks_at};
+ghost use Rattle.bm_report.specs.Expanded.{IsPrepared};
+ghost use Rattle.bm_arena.specs.Holding.{replicas_of};
+ghost use Rattle.bm_report.specs.Midway.{IsOncePerNode};
+ghost use Rattle.bm_report.specs.Ready.{HasGoodExcess, IsReady};
+
+use crate::arenas;
+use crate::marks::say;
+use crate::tally::Tally;
+use crate::topologies::join_all;
+use bm_arena::{Arena, Marks};
+use bm_base::{BlockId, Entry, Gen, Part, Refusal, Stamp, StorageId, Tag};
+use bm_report::Report;
+use bm_topo::Topology;
+use std::alloc::Global;
+
+const WHOLE: Part = Part {
+    index: 0,
+    shards: 1,
+};
+
+const STAMP: Stamp = Stamp {
+    generation: Gen(1),
+    len: 10,
+};
+
+const STRAY: Marks = Marks {
+    tag: Tag::Stray,
+    excess: false,
+    ordered: false,
+};
+
+/// The topology has one node.
+pub fn watch<R: Eprint>(
+    rt: &R,
+    alloc: Global,
+    topology: &mut Topology,
+    arena: &mut Arena,
+    size: u32,
+    tally: &mut Tally,
+) {
+    join_all(topology, alloc, 1, tally);
+    let mut report = Report::new(alloc);
+    let watched = watch_report(rt, alloc, &mut report, arena, topology, size, tally);
+    tally.require(watched);
+    drop(report);
+}
+
+fn watch_report<R: Eprint>(
+    rt: &R,
+    alloc: Global,
+    report: &mut Report,
+    arena: &mut Arena,
+    topology: &Topology,
+    size: u32,
+    tally: &mut Tally,
+) -> Result<(), Refusal> {
+    arenas::renew(alloc, arena)?;
+    make_ready(report, arena, size)?;
+    say(rt, "begun", "report");
+    apply(report, arena, topology, size, tally);
+    say(rt, "ended", "report");
+    say(rt, "begun", "control");
+    let last = size.saturating_mul(3);
+    tally.refuse_if(name(report, arena, size.saturating_add(1), last).is_err());
+    say(rt, "ended", "control");
+    say(rt, "begun", "abort");
+    report.abort(arena);
+    tally.note(arena.count() == size as usize);
+    say(rt, "ended", "abort");
+    Ok(())
+}
+
+fn apply(report: &mut Report, arena: &mut Arena, topology: &Topology, size: u32, tally: &mut Tally)
+    requires ready { IsReady report.old arena.old 0 }
+    requires once { (C : Cluster) → IsOncePerNode C (replicas_of arena.old) }
+    requires good { HasGoodExcess (replicas_of arena.old) }
+    requires free { marks_at arena.old arena.old.delimiter 0 ≡ None }
+{
+    let applied = report.apply_full(arena, topology, StorageId(0));
+    tally.note(applied.added == u128::from(size) && applied.removed == 0);
+    tally.note(applied.steps == u128::from(size) + 2);
+    tally.note(arena.count() == size as usize);
+    read_all(arena, size, tally);
+}
+
+/// Makes a report of the blocks with these numbers ready.
+fn name(report: &mut Report, arena: &mut Arena, from: u32, to: u32) -> Result<(), Refusal>
+    ensures ready { OnOk result (IsReady report.new arena.new 0) }
+    ensures kept { IsPrepared arena.old arena.new }
+{
+    let run = Entry {
+        from: BlockId(u64::from(from)),
+        to: BlockId(u64::from(to)),
+        stamp: STAMP,
+    };
+    let entries = [run];
+    report.ready(arena, StorageId(0), entries.as_slice(), WHOLE)
+}
+
+/// Makes the first report of an arena that holds nothing ready: of blocks 1 to the last one.
+fn make_ready(report: &mut Report, arena: &mut Arena, last: u32) -> Result<(), Refusal>
+    requires ids { arena.old.ids ≡ [] }
+    requires delimiter { block_at arena.old arena.old.delimiter ≡ Some (empty_block 0) }
+    ensures ready { OnOk result (IsReady report.new arena.new 0) }
+    ensures once { (C : Cluster) → IsOncePerNode C (replicas_of arena.new) }
+    ensures good { HasGoodExcess (replicas_of arena.new) }
+    ensures free { marks_at arena.new arena.new.delimiter 0 ≡ None }
+{
+    name(report, arena, 1, last)
+}
+
+/// Each block has a stray replica.
+fn read_all(arena: &Arena, last: u32, tally: &mut Tally) {
+    for number in 1..=last {
+        match arena.find(BlockId(u64::from(number))) {
+            Some(slot) => tally.note(arena.marks(slot, StorageId(0)) == Some(STRAY)),
+            None => tally.note(false),
+        }
+    }
+}

@@ -1,0 +1,104 @@
+// Every call that takes no memory. In windows named `control` calls are made that do take memory: where all are refused, some of these
+// must be.
+ghost use Rattle.std.specs.Prelude.{◌<◌};
+
+use crate::bench::Bench;
+use crate::tally::Tally;
+use crate::{
+    arenas, bags, block_events, choices, clusters, crews, reports, slots, transfers, views,
+};
+use bm_base::Refusal;
+use bm_topo::Topology;
+use std::alloc::Global;
+use std::sync::Wait;
+use std::thread::Threads;
+
+/// How many entries the greatest tables have.
+const MOST: u32 = 130;
+
+/// What the calls are made on.
+#[derive(Clone, Copy)]
+enum Group {
+    Arenas,
+    Levels,
+    Sets,
+    SparseSets,
+    Transfers,
+    Reports,
+    Clusters,
+    Choices,
+    Managers,
+    Bags,
+    Runs,
+    Views,
+}
+
+static GROUPS: [(&str, Group); 12] = [
+    ("arenas", Group::Arenas),
+    ("levels", Group::Levels),
+    ("sets", Group::Sets),
+    ("sparse sets", Group::SparseSets),
+    ("transfers", Group::Transfers),
+    ("reports", Group::Reports),
+    ("clusters", Group::Clusters),
+    ("choices", Group::Choices),
+    ("managers", Group::Managers),
+    ("bags", Group::Bags),
+    ("runs", Group::Runs),
+    ("views", Group::Views),
+];
+
+pub fn run<R: Print + Eprint + Threads + Wait + Sync>(rt: &R, bench: &mut Bench) {
+    for (name, group) in &GROUPS {
+        for size in 1..=MOST {
+            bench.renew_topology();
+            watch(rt, bench, *group, size);
+        }
+        let _ = print!(rt; "{name}");
+        bench.tally.print(rt, "control: ");
+    }
+}
+
+/// Makes the calls on a table of one size.
+fn watch<R: Eprint + Threads + Wait + Sync>(rt: &R, bench: &mut Bench, group: Group, size: u32)
+    requires { 0 < size }
+{
+    let alloc = bench.alloc;
+    let topology = &mut bench.topology;
+    let arena = &mut bench.arena;
+    let tally = &mut bench.tally;
+    match group {
+        Group::Arenas => arenas::watch(rt, alloc, arena, size, tally),
+        Group::Reports => reports::watch(rt, alloc, topology, arena, size, tally),
+        Group::Clusters => clusters::watch(rt, alloc, topology, size, tally),
+        Group::Views => views::watch(rt, alloc, size, tally),
+        Group::Managers => block_events::watch(rt, bench, size),
+        _ => {
+            let watched = watch_owned(rt, alloc, topology, group, size, tally);
+            tally.require(watched);
+        }
+    }
+}
+
+/// The same for groups that make their tables themselves.
+fn watch_owned<R: Eprint + Threads + Wait + Sync>(
+    rt: &R,
+    alloc: Global,
+    topology: &mut Topology,
+    group: Group,
+    size: u32,
+    tally: &mut Tally,
+) -> Result<(), Refusal>
+    requires { 0 < size }
+{
+    match group {
+        Group::Levels => slots::watch_levels(rt, alloc, size as usize, tally),
+        Group::Sets => slots::watch_set(rt, alloc, size as usize, tally),
+        Group::SparseSets => Ok(slots::watch_sparse_set(rt, alloc, size as usize, tally)),
+        Group::Transfers => transfers::watch(rt, alloc, size, tally),
+        Group::Choices => choices::watch(rt, alloc, topology, size, tally),
+        Group::Bags => bags::watch(rt, alloc, size, tally),
+        Group::Runs => crews::watch(rt, alloc, size, tally),
+        _ => Err(Refusal::BadConfig),
+    }
+}
