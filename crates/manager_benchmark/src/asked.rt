@@ -6,8 +6,6 @@ use std::alloc::Global;
 /// What is measured.
 #[derive(Clone, Copy)]
 pub enum Subject {
-    /// The arena alone.
-    Arena,
     /// A manager.
     Manager,
     /// How much memory a manager takes.
@@ -51,7 +49,6 @@ impl Run {
 
 fn subject_of(word: &str) -> Option<Subject> {
     match word {
-        "arena" => Some(Subject::Arena),
         "manager" => Some(Subject::Manager),
         "memory" => Some(Subject::Memory),
         _ => None,

@@ -86,9 +86,19 @@ pub fn order_of_storages(alloc: Global) -> Result<Vec<StorageId>, Refusal> {
     Ok(order)
 }
 
-/// The full report of each storage, by rising number.
+/// The full report of each storage, by ascending number.
 pub fn rising_reports(alloc: Global, blocks: u64) -> Result<Vec<Vec<Entry>>, Refusal> {
     let mut reports: Vec<Vec<Entry>> = Vec::new(alloc);
+    match fill_reports(alloc, blocks, &mut reports) {
+        Ok(()) => Ok(reports),
+        Err(refusal) => {
+            drop(reports);
+            Err(refusal)
+        }
+    }
+}
+
+fn fill_reports(alloc: Global, blocks: u64, reports: &mut Vec<Vec<Entry>>) -> Result<(), Refusal> {
     for _ in 0..STORAGES {
         reports.push(Vec::new(alloc))?;
     }
@@ -99,18 +109,11 @@ pub fn rising_reports(alloc: Global, blocks: u64) -> Result<Vec<Vec<Entry>>, Ref
             }
         }
     }
-    Ok(reports)
+    Ok(())
 }
 
-/// The same, each in an order of its own.
-pub fn shuffled_reports(alloc: Global, blocks: u64) -> Result<Vec<Vec<Entry>>, Refusal> {
-    let mut reports = rising_reports(alloc, blocks)?;
-    shuffle_each(reports.as_mut_slice());
-    Ok(reports)
-}
-
-// Brings each report into an order of its own.
-fn shuffle_each(reports: &mut [Vec<Entry>]) {
+/// Brings each report into an order of its own.
+pub fn shuffle_each(reports: &mut [Vec<Entry>]) {
     let mut seed = 0u64;
     for report in reports.iter_mut() {
         seed = seed.wrapping_add(1);
@@ -180,20 +183,23 @@ pub fn drawn_replicas(alloc: Global, blocks: u64, count: u64) -> Result<Vec<Repl
     Ok(drawn)
 }
 
-/// The same, in another order.
-pub fn shuffled_replicas(
-    alloc: Global,
-    blocks: u64,
-    count: u64,
-) -> Result<Vec<ReplicaId>, Refusal> {
-    let mut drawn = drawn_replicas(alloc, blocks, count)?;
-    shuffle(drawn.as_mut_slice(), 777);
-    Ok(drawn)
+/// Brings them into another order.
+pub fn shuffle_again(replicas: &mut [ReplicaId]) {
+    shuffle(replicas, 777);
 }
 
 /// A block that is drawn as the `k`th; of no blocks the first.
 pub fn drawn_block(k: u64, blocks: u64) -> BlockId {
     block_number(mix_bits(k).checked_rem(blocks).unwrap_or(0))
+}
+
+/// The blocks that are drawn first, this number of them.
+pub fn drawn_blocks(alloc: Global, count: u64, blocks: u64) -> Result<Vec<BlockId>, Refusal> {
+    let mut drawn = Vec::new(alloc);
+    for k in 0..count {
+        drawn.push(drawn_block(k, blocks))?;
+    }
+    Ok(drawn)
 }
 
 /// A node that is drawn as the `k`th.

@@ -1,0 +1,103 @@
+//! Makes the same calls, drawn by a seed, on a manager with one shard and one worker and on another one, whose numbers of shards
+//! and workers are drawn too, and compares each answer: `check_random [CALLS [SEED]]`. The calls come in lists of 2,000, each on
+//! two new managers. Standard output has how many calls were answered alike.
+//!
+//! `check_random beside [TIMES [SEED]]` makes TIMES lists of 100 calls, the other manager with five shards and four workers. It
+//! publishes after each call, and two threads read in parallel with the calls: each read must be of a state that a manager of one
+//! shard and one worker had.
+//!
+//! Ends with status 1 where two answers differ, where a read is of no version that was published or goes back, where memory is
+//! refused, where an argument is no number, and where the run was too poor to show much: fewer than so many events of each kind
+//! accepted, rounds that command something, lists that are not empty, and refusals; or, with readers, none of these that went from
+//! one version to a later one, as it is where no thread can be started. (Fewer calls than a list has show little, and are not
+//! judged so.)
+#![tactic(auto)]
+
+mod alike;
+mod beside;
+mod counts;
+mod dice;
+mod drawing;
+mod pair;
+mod readers;
+
+use bm_base::Refusal;
+use std::alloc::Global;
+use std::env::{self, Args};
+use std::process::ExitCode;
+
+const SEED: u64 = 20_260_123;
+
+/// How many lists are made with readers.
+const TIMES: u32 = 200;
+
+/// `count` calls, or as many lists with readers, by a seed.
+#[derive(Clone, Copy)]
+struct Asked {
+    is_beside: bool,
+    count: u32,
+    seed: u64,
+}
+
+fn main(rt: HostRuntime) -> ExitCode {
+    let Some(asked) = read_words(&rt) else {
+        return ExitCode::FAILURE;
+    };
+    let Asked { count, seed, .. } = asked;
+    if asked.is_beside {
+        let done = beside::are_all_alike(&rt, &rt, count, seed);
+        exit_code_of(&rt, done, count, "lists alike beside readers")
+    } else {
+        let done = pair::are_all_alike(&rt, &rt, count, seed);
+        exit_code_of(&rt, done, count, "calls alike")
+    }
+}
+
+fn exit_code_of(rt: &HostRuntime, done: Result<bool, Refusal>, count: u32, what: &str) -> ExitCode {
+    match done {
+        Ok(true) => {
+            let _ = println!(rt; "{count} {what}");
+            ExitCode::SUCCESS
+        }
+        Ok(false) => ExitCode::FAILURE,
+        Err(refusal) => {
+            let _ = eprintln!(rt; "refused: {refusal}");
+            ExitCode::FAILURE
+        }
+    }
+}
+
+/// What the arguments ask for. `None` where a word is no number.
+fn read_words(rt: &HostRuntime) -> Option<Asked> {
+    let mut words = env::args(rt).ok()?;
+    let _program = words.next();
+    read_all(&mut words)
+}
+
+fn read_all(words: &mut Args<Global>) -> Option<Asked> {
+    let first = words.next();
+    let is_beside = is_beside(&first);
+    let (word, otherwise) = if is_beside {
+        (words.next(), TIMES)
+    } else {
+        (first, pair::LIST)
+    };
+    let count = number_in(word, u64::from(otherwise))?;
+    Some(Asked {
+        is_beside,
+        count: u32::try_from(count).ok()?,
+        seed: number_in(words.next(), SEED)?,
+    })
+}
+
+fn is_beside(word: &Option<String>) -> bool {
+    matches!(word, Some(word) if word.as_str() == "beside")
+}
+
+/// The number that a word has, and another one where there is no word.
+fn number_in(word: Option<String>, otherwise: u64) -> Option<u64> {
+    match word {
+        Some(word) => word.as_str().parse::<u64>().ok(),
+        None => Some(otherwise),
+    }
+}

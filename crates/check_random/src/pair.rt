@@ -1,0 +1,179 @@
+// Two managers that differ in shards and workers, and calls that both have to answer alike.
+
+use crate::alike::are_alike;
+use crate::counts::Counts;
+use crate::dice::Dice;
+use crate::drawing;
+use bm_base::{Answer, Call, Config, HashSecret, Refusal};
+use bm_crew::NoGate;
+use bm_manager::Manager;
+use std::alloc::{AllocError, Global};
+use std::sync::Wait;
+use std::thread::Threads;
+
+/// How many calls are made on two managers before two new ones are.
+pub const LIST: u32 = 2000;
+
+/// What calls are drawn from, what happened in them, and where differences are printed.
+#[derive(Clone, Copy)]
+pub struct Run<'a> {
+    pub host: &'a HostRuntime,
+    pub dice: Dice,
+    pub counts: Counts,
+}
+
+impl<'a> Run<'a> {
+    pub fn new(host: &'a HostRuntime, seed: u64) -> Run<'a> {
+        Run {
+            host,
+            dice: Dice::new(seed),
+            counts: Counts::new(),
+        }
+    }
+}
+
+/// Whether all calls were answered alike, and enough happened.
+pub fn are_all_alike<R: Threads + Wait + Sync>(
+    rt: &R,
+    host: &HostRuntime,
+    calls: u32,
+    seed: u64,
+) -> Result<bool, Refusal> {
+    let mut run = Run::new(host, seed);
+    for list in 0..calls.div_ceil(LIST) {
+        let before = list.saturating_mul(LIST);
+        let count = calls.saturating_sub(before).min(LIST);
+        if !is_list_alike(rt, host.alloc(), &mut run, count)? {
+            return Ok(false);
+        }
+    }
+    run.counts.tell(host);
+    Ok(calls < LIST || run.counts.are_enough())
+}
+
+/// Whether two new managers answer `count` calls alike.
+fn is_list_alike<R: Threads + Wait + Sync>(
+    rt: &R,
+    alloc: Global,
+    run: &mut Run<'_>,
+    count: u32,
+) -> Result<bool, Refusal> {
+    let mut pair = Pair::new(alloc, draw_config(&mut run.dice))?;
+    let is_alike = pair.are_alike(rt, alloc, run, count);
+    drop(pair);
+    Ok(is_alike?)
+}
+
+/// Any numbers of shards and workers; rounds with few commands, and copies that are soon given up, so that the limits of both
+/// are met.
+fn draw_config(dice: &mut Dice) -> Config {
+    let shards = 1 + dice.below(64);
+    let workers = 1 + dice.below(16);
+    let work = 1 + dice.below(3);
+    let invalidate = 1 + dice.below(5);
+    let pend = 1 + dice.below(5);
+    Config {
+        shards,
+        workers,
+        work,
+        invalidate,
+        pend,
+        ..Config::standard()
+    }
+}
+
+/// Two managers that differ in shards and workers. These, calls and answers are let go by `drop`: its proof is one for all
+/// functions, and that of a value which goes at the end of its scope is one for each.
+#[derive(Drop)]
+pub struct Pair {
+    one: Manager,
+    /// Hashes by a secret, the first one by none.
+    pub other: Manager,
+    /// That of the other.
+    config: Config,
+}
+
+impl Pair {
+    /// The first one has one shard and one worker.
+    pub fn new(alloc: Global, config: Config) -> Result<Pair, Refusal> {
+        let alone = Config {
+            shards: 1,
+            workers: 1,
+            ..config
+        };
+        let one = Manager::new(alloc, alone)?;
+        match Manager::with_secret(alloc, config, HashSecret::of(1)) {
+            Ok(other) => Ok(Pair { one, other, config }),
+            Err(refusal) => {
+                drop(one);
+                Err(refusal)
+            }
+        }
+    }
+
+    /// Whether both answer `count` calls alike, which are drawn.
+    fn are_alike<R: Threads + Wait + Sync>(
+        &mut self,
+        rt: &R,
+        alloc: Global,
+        run: &mut Run<'_>,
+        count: u32,
+    ) -> Result<bool, AllocError> {
+        for number in 0..count {
+            if !self.is_next_alike(rt, alloc, run, number)? {
+                return Ok(false);
+            }
+        }
+        Ok(true)
+    }
+
+    /// Whether both answer a call alike, which is drawn.
+    pub fn is_next_alike<R: Threads + Wait + Sync>(
+        &mut self,
+        rt: &R,
+        alloc: Global,
+        run: &mut Run<'_>,
+        number: u32,
+    ) -> Result<bool, AllocError> {
+        let call = drawing::call(&mut run.dice, alloc)?;
+        let is_alike = self.is_answered_alike(rt, run, number, &call);
+        drop(call);
+        Ok(is_alike)
+    }
+
+    /// Whether both answer the call alike, and neither is out of memory.
+    fn is_answered_alike<R: Threads + Wait + Sync>(
+        &mut self,
+        rt: &R,
+        run: &mut Run<'_>,
+        number: u32,
+        call: &Call,
+    ) -> bool {
+        let answer = self.one.answer(rt, &NoGate, call);
+        let other = self.other.answer(rt, &NoGate, call);
+        let is_fine = are_alike(&answer, &other) && !answer.wants_memory();
+        if is_fine {
+            run.counts.add(call, &answer);
+        } else {
+            tell_apart(run.host, &self.config, number, call, &answer, &other);
+        }
+        drop(answer);
+        drop(other);
+        is_fine
+    }
+}
+
+/// Prints where two answers differ. A line that can't be printed is left out.
+fn tell_apart(
+    rt: &HostRuntime,
+    config: &Config,
+    number: u32,
+    call: &Call,
+    answer: &Answer,
+    other: &Answer,
+) {
+    let _ = eprintln!(rt; "{config:?}");
+    let _ = eprintln!(rt; "call {number}: {call:?}");
+    let _ = eprintln!(rt; "one shard, one worker: {answer:?}");
+    let _ = eprintln!(rt; "so many: {other:?}");
+}
