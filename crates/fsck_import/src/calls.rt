@@ -14,13 +14,8 @@ impl Cluster {
     pub fn into_calls(self, alloc: Global, remaining: u64) -> Result<Vec<Call>, AllocError>
         ensures { IfOk result (λ calls. calls.items ≡ calls_for self remaining) }
     {
-        match self.calls_before_reports(alloc, remaining) {
-            Ok(calls) => with_reports(alloc, calls, self.into_rows()),
-            Err(error) => {
-                drop(self);
-                Err(error)
-            }
-        }
+        let calls = self.calls_before_reports(alloc, remaining)?;
+        with_reports(alloc, calls, self.into_rows())
     }
 
     /// All calls but the reports.
