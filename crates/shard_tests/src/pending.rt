@@ -159,7 +159,7 @@ fn check(rt: &impl Abort, alloc: Global, name: &str, steps: &[(Step, Answer)]) {
     drop(pending);
 }
 
-static SIX_TRANSFERS: [(Step, Answer); 28] = [
+const SIX_TRANSFERS: [(Step, Answer); 28] = [
     (Step::Entries, Answer::Entries([(0, 0, 0); 4], 0)),
     (Step::Insert(9, 31, 1), Answer::Fine),
     (Step::Insert(7, 21, 2), Answer::Fine),
@@ -202,7 +202,7 @@ static SIX_TRANSFERS: [(Step, Answer); 28] = [
 ];
 
 // The greatest numbers, and a limit that no round reaches.
-static GREATEST_NUMBERS: [(Step, Answer); 7] = [
+const GREATEST_NUMBERS: [(Step, Answer); 7] = [
     (Step::Insert(u64::MAX, u32::MAX, u64::MAX), Answer::Fine),
     (Step::Insert(0, 0, 0), Answer::Fine),
     (Step::Get(u64::MAX, u32::MAX), Answer::Round(u64::MAX)),

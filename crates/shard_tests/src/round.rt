@@ -201,7 +201,6 @@ fn check_chosen(
         Some(node) => assert!(rt; is_told(&told, node, transfers, deletes)),
         None => assert!(rt; told.nodes.as_slice().is_empty()),
     }
-    drop(told);
 }
 
 /// Of a wish for copies of block 7, whose source is on node 1.
@@ -224,7 +223,6 @@ fn check_copies(
         transfers,
         NO_DELETES.as_slice(),
     );
-    drop(chosen);
 }
 
 fn check_one_delete(rt: &impl Abort, alloc: Global, topology: &Topology) {
@@ -243,7 +241,6 @@ fn check_one_delete(rt: &impl Abort, alloc: Global, topology: &Topology) {
         NO_TRANSFERS.as_slice(),
         deletes.as_slice(),
     );
-    drop(chosen);
 }
 
 fn check_no_parts(rt: &impl Abort, alloc: Global, topology: &Topology) {
@@ -257,7 +254,6 @@ fn check_no_parts(rt: &impl Abort, alloc: Global, topology: &Topology) {
         NO_TRANSFERS.as_slice(),
         NO_DELETES.as_slice(),
     );
-    drop(chosen);
 }
 
 #[test]

@@ -5,7 +5,7 @@ ghost use Rattle.bm_shard.specs.Standing.{StandsIn, next_part};
 use crate::support::STAMP;
 use bm_base::{
     BlockId, Chosen, Config, Delete, Done, Event, Items, Level, NodeId, Places, Rack, Refusal,
-    Remaining, Replica, ReplicaId, RoundPart, StorageId, Tag, Transfer,
+    Remaining, Replica, ReplicaId, RoundPart, StorageId, Tag, Transfer, Wish,
 };
 use bm_shard::Shard;
 use bm_topo::Topology;
@@ -154,18 +154,24 @@ fn look_further(rt: &impl Abort, shard: &Shard) {
     assert!(rt; shard.level(SEVEN) == Ok(Some(Level::Highest)));
 }
 
-/// What the round finds: nothing but the wish for so many copies of block 7, with these targets on their way.
+/// Whether a wish is for so many copies of block 7, with these targets on their way.
+fn is_wish(wish: &Wish, count: u32, pending: &[StorageId]) -> bool {
+    let source = [StorageId(11)];
+    wish.level == Level::Highest
+        && wish.block == SEVEN
+        && wish.count == count
+        && wish.live.as_slice() == source.as_slice()
+        && wish.pairs.as_slice() == source.as_slice()
+        && wish.pending.as_slice() == pending
+}
+
+/// What the round finds: nothing but that wish.
 fn wishes(rt: &impl Abort, part: &RoundPart, count: u32, pending: &[StorageId]) {
     assert!(rt; part.expired.as_slice().is_empty());
     assert!(rt; part.excess.as_slice().is_empty());
     assert!(rt; part.deletes.as_slice().is_empty());
-    assert!(rt; part.wishes.as_slice().len() == 1);
-    for wish in part.wishes.as_slice() {
-        assert!(rt; wish.level == Level::Highest && wish.block == SEVEN && wish.count == count);
-        assert!(rt; wish.live.as_slice() == [StorageId(11)].as_slice());
-        assert!(rt; wish.pairs.as_slice() == [StorageId(11)].as_slice());
-        assert!(rt; wish.pending.as_slice() == pending);
-    }
+    let wishes = part.wishes.as_slice();
+    assert!(rt; wishes.len() == 1 && is_wish(&wishes[0], count, pending));
 }
 
 /// A copy of block 7 from storage 11 to storage 31 is chosen, and nothing else.
@@ -198,7 +204,6 @@ fn copy(rt: &impl Abort, alloc: Global, topology: &Topology, shard: &mut Shard)
     let part = shard.round_part(2, topology).expect(rt, "memory");
     wishes(rt, &part, 1, [StorageId(31)].as_slice());
     drop(part);
-    drop(chosen);
 }
 
 #[test]
