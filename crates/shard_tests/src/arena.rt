@@ -1,5 +1,6 @@
-// The lists of two storages and the delimiter, and each call once with ample memory: each test is a list of steps with what each
-// must answer, and one function goes over them.
+// The lists of two storages and the delimiter, and each call once with ample memory: a table of scenarios, each a list of steps with
+// what each must answer.
+use crate::support::check_step;
 use bm_arena::Arena;
 use bm_base::{BlockId, BlockInfo, Gen, Marks, Stamp, StorageId, Tag};
 use std::alloc::Global;
@@ -46,7 +47,7 @@ enum Deed {
 #[derive(Clone, Copy)]
 enum Many {
     /// The blocks 0 to a number, without it, each with a replica on storage 11.
-    Add(u64),
+    Add(u32),
     /// A replica of a block on each of the storages 0 to a number, without it.
     Link(u64, u32),
     /// The delimiter at the head of each of the lists 0 to a number, without it.
@@ -93,7 +94,7 @@ enum Step {
 }
 
 /// What a step answers.
-#[derive(Clone, Copy, Debug, PartialEq, Eq)]
+#[derive(Clone, Copy, PartialEq, Eq)]
 enum Answer {
     Fine,
     /// A condition of the call does not hold.
@@ -276,46 +277,33 @@ fn do_deed(rt: &impl Abort, alloc: Global, arena: &mut Arena, slots: &Slots, dee
     }
 }
 
-/// `Fine` where each is added and linked.
-fn add_many(rt: &impl Abort, alloc: Global, arena: &mut Arena, count: u64) -> Answer {
-    if reserve(rt, alloc, arena, 11, 1) != Answer::Fine {
+/// The deed of this number, of many.
+fn one_of_many(
+    rt: &impl Abort,
+    alloc: Global,
+    arena: &mut Arena,
+    slots: &Slots,
+    many: Many,
+    number: u32,
+) -> Answer {
+    let storage = match many {
+        Many::Add(_) => 11,
+        _ => number,
+    };
+    if reserve(rt, alloc, arena, storage, 1) != Answer::Fine {
         return Answer::Other;
     }
-    for id in 0..count {
-        let slot = add(rt, arena, id);
-        if link(arena, slot, StorageId(11)) != Answer::Fine {
-            return Answer::Other;
+    match many {
+        Many::Add(_) => {
+            let slot = add(rt, arena, u64::from(number));
+            link(arena, slot, StorageId(storage))
         }
+        Many::Link(block, _) => link(arena, slot_of(slots, block), StorageId(storage)),
+        Many::PutDelimiter(_) => put_delimiter(arena, StorageId(storage)),
     }
-    Answer::Fine
 }
 
-/// `Fine` where each is linked.
-fn link_many(rt: &impl Abort, alloc: Global, arena: &mut Arena, slot: usize, count: u32) -> Answer {
-    for storage in 0..count {
-        if reserve(rt, alloc, arena, storage, 1) != Answer::Fine {
-            return Answer::Other;
-        }
-        if link(arena, slot, StorageId(storage)) != Answer::Fine {
-            return Answer::Other;
-        }
-    }
-    Answer::Fine
-}
-
-/// `Fine` where each is put.
-fn put_delimiters(rt: &impl Abort, alloc: Global, arena: &mut Arena, count: u32) -> Answer {
-    for storage in 0..count {
-        if reserve(rt, alloc, arena, storage, 1) != Answer::Fine {
-            return Answer::Other;
-        }
-        if put_delimiter(arena, StorageId(storage)) != Answer::Fine {
-            return Answer::Other;
-        }
-    }
-    Answer::Fine
-}
-
+/// `Fine` where each of them is.
 fn done_often(
     rt: &impl Abort,
     alloc: Global,
@@ -323,11 +311,13 @@ fn done_often(
     slots: &Slots,
     many: Many,
 ) -> Answer {
-    match many {
-        Many::Add(count) => add_many(rt, alloc, arena, count),
-        Many::Link(block, count) => link_many(rt, alloc, arena, slot_of(slots, block), count),
-        Many::PutDelimiter(count) => put_delimiters(rt, alloc, arena, count),
+    let (Many::Add(count) | Many::Link(_, count) | Many::PutDelimiter(count)) = many;
+    for number in 0..count {
+        if one_of_many(rt, alloc, arena, slots, many, number) != Answer::Fine {
+            return Answer::Other;
+        }
     }
+    Answer::Fine
 }
 
 fn behind_the_delimiter(arena: &Arena, storage: StorageId) -> Option<usize> {
@@ -470,28 +460,22 @@ fn go(
     alloc: Global,
     arena: &mut Arena,
     slots: &mut Slots,
+    name: &str,
     steps: &[(Step, Answer)],
 ) {
-    for (place, (step, must)) in steps.iter().enumerate() {
-        let is = answer_of(rt, alloc, arena, slots, *step);
-        assert_eq!(rt; is, *must, "step {place}");
+    for (index, (step, must)) in steps.iter().enumerate() {
+        let is_correct = answer_of(rt, alloc, arena, slots, *step) == *must;
+        check_step(rt, name, index, is_correct);
     }
 }
 
-/// The steps on an arena that was led so far.
-fn go_from(rt: &impl Abort, alloc: Global, so_far: &[(Step, Answer)], steps: &[(Step, Answer)]) {
-    let mut arena = Arena::new(alloc).expect(rt, "memory");
-    let mut slots = Slots {
-        seven: usize::MAX,
-        eight: usize::MAX,
-        nine: usize::MAX,
-    };
-    go(rt, alloc, &mut arena, &mut slots, so_far);
-    go(rt, alloc, &mut arena, &mut slots, steps);
-    arena.lawful();
+/// Steps on a new arena, each with what it must answer: those that lead up to the case, and those of the case.
+#[derive(Clone, Copy)]
+struct Scenario<'a> {
+    name: &'a str,
+    setup: &'a [(Step, Answer)],
+    steps: &'a [(Step, Answer)],
 }
-
-const NOTHING: [(Step, Answer); 0] = [];
 
 /// Storage 11 with the blocks 9, 8 and 7, and a storage 12 with none.
 const THREE_BLOCKS: [(Step, Answer); 7] = [
@@ -504,164 +488,138 @@ const THREE_BLOCKS: [(Step, Answer); 7] = [
     (Step::Do(Deed::Link(9, 11)), Answer::Fine),
 ];
 
-const WALKS_AND_THE_DELIMITER: [(Step, Answer); 12] = [
-    (Step::Walk(11), Answer::Blocks([9, 8, 7], 3)),
-    (Step::Do(Deed::PutDelimiter(11)), Answer::Fine),
-    (Step::Do(Deed::MoveFront(8, 11)), Answer::Fine),
-    (Step::Where(Place::BehindDelimiter(11)), Answer::SlotOf(9)),
-    (Step::Where(Place::Behind(11, 9)), Answer::SlotOf(7)),
-    (Step::Where(Place::Behind(11, 7)), Answer::Nothing),
-    (Step::Where(Place::Before(11, 7)), Answer::SlotOf(9)),
-    (Step::Where(Place::Before(11, 8)), Answer::Nothing),
-    (Step::Do(Deed::TakeDelimiter(11)), Answer::Fine),
-    (Step::Walk(11), Answer::Blocks([8, 9, 7], 3)),
-    (Step::HowMany(Count::Steps), Answer::Number(6)),
-    (Step::Walk(12), Answer::Blocks([0, 0, 0], 0)),
+static SCENARIOS: [Scenario<'static>; 8] = [
+    Scenario {
+        name: "walks and the delimiter",
+        setup: &THREE_BLOCKS,
+        steps: &[
+            (Step::Walk(11), Answer::Blocks([9, 8, 7], 3)),
+            (Step::Do(Deed::PutDelimiter(11)), Answer::Fine),
+            (Step::Do(Deed::MoveFront(8, 11)), Answer::Fine),
+            (Step::Where(Place::BehindDelimiter(11)), Answer::SlotOf(9)),
+            (Step::Where(Place::Behind(11, 9)), Answer::SlotOf(7)),
+            (Step::Where(Place::Behind(11, 7)), Answer::Nothing),
+            (Step::Where(Place::Before(11, 7)), Answer::SlotOf(9)),
+            (Step::Where(Place::Before(11, 8)), Answer::Nothing),
+            (Step::Do(Deed::TakeDelimiter(11)), Answer::Fine),
+            (Step::Walk(11), Answer::Blocks([8, 9, 7], 3)),
+            (Step::HowMany(Count::Steps), Answer::Number(6)),
+            (Step::Walk(12), Answer::Blocks([0, 0, 0], 0)),
+        ],
+    },
+    Scenario {
+        name: "counts and places",
+        setup: &THREE_BLOCKS,
+        steps: &[
+            (Step::Where(Place::Added(7)), Answer::SlotOf(7)),
+            (Step::HowMany(Count::Blocks), Answer::Number(3)),
+            (Step::TripletAt(7, 0), Answer::Replica(11)),
+            (Step::TripletAt(7, 1), Answer::Nothing),
+        ],
+    },
+    Scenario {
+        name: "look ups answer what stands",
+        setup: &THREE_BLOCKS,
+        steps: &[
+            (Step::Where(Place::Find(7)), Answer::SlotOf(7)),
+            (Step::Where(Place::Find(6)), Answer::Nothing),
+            (Step::Where(Place::SlotAt(1)), Answer::SlotOf(8)),
+            (Step::Where(Place::SlotAt(3)), Answer::Nothing),
+            (Step::HowMany(Count::SlotBound), Answer::Number(4)),
+            (Step::IsDelimiter(7), Answer::No),
+            (Step::Info(7), Answer::Nothing),
+            (Step::Do(Deed::SetInfo(7)), Answer::Fine),
+            (Step::Info(7), Answer::Known),
+            (Step::Do(Deed::SetBad(7, 11)), Answer::Fine),
+            (Step::Marks(7, 11), Answer::Bad),
+            (Step::Marks(7, 12), Answer::Nothing),
+        ],
+    },
+    Scenario {
+        name: "last replica fills the freed place",
+        setup: &THREE_BLOCKS,
+        steps: &[
+            // Three more replicas of a block, so that its triplets leave their inline places.
+            (Step::Do(Deed::Reserve(12, 3)), Answer::Fine),
+            (Step::Do(Deed::Link(8, 12)), Answer::Fine),
+            (Step::Do(Deed::Link(8, 13)), Answer::Fine),
+            (Step::Do(Deed::Link(8, 14)), Answer::Fine),
+            (Step::Do(Deed::Unlink(8, 11)), Answer::Fine),
+            (Step::TripletAt(8, 0), Answer::Replica(14)),
+            (Step::TripletAt(8, 2), Answer::Replica(13)),
+            (Step::Walk(11), Answer::Blocks([9, 7, 0], 2)),
+            (Step::Walk(14), Answer::Blocks([8, 0, 0], 1)),
+        ],
+    },
+    Scenario {
+        name: "entries and heads are dropped",
+        setup: &THREE_BLOCKS,
+        steps: &[
+            (Step::Do(Deed::Unlink(7, 11)), Answer::Fine),
+            (Step::Do(Deed::DropEntry(7)), Answer::Fine),
+            (Step::Where(Place::Find(7)), Answer::Nothing),
+            (Step::HowMany(Count::Blocks), Answer::Number(2)),
+            (Step::Where(Place::SlotAt(0)), Answer::SlotOf(9)),
+            (Step::Where(Place::Added(5)), Answer::SlotOf(7)),
+            (Step::HowMany(Count::SlotBound), Answer::Number(4)),
+            (Step::Do(Deed::DropHead(12)), Answer::Fine),
+            (Step::HasHead(12), Answer::No),
+        ],
+    },
+    Scenario {
+        name: "a thousand blocks are taken",
+        setup: &[],
+        steps: &[
+            (Step::DoMany(Many::Add(1000)), Answer::Fine),
+            (Step::HowMany(Count::Blocks), Answer::Number(1000)),
+            (Step::HowMany(Count::Walked(11)), Answer::Number(1000)),
+            (Step::HowMany(Count::Steps), Answer::Number(1000)),
+            (Step::HowMany(Count::SlotBound), Answer::Number(1001)),
+        ],
+    },
+    Scenario {
+        name: "seventeen replicas of a block are taken",
+        setup: &[],
+        steps: &[
+            (Step::Add(7), Answer::Fine),
+            (Step::DoMany(Many::Link(7, 17)), Answer::Fine),
+            (Step::TripletAt(7, 16), Answer::Replica(16)),
+            (Step::TripletAt(7, 17), Answer::Nothing),
+        ],
+    },
+    Scenario {
+        name: "delimiter stands in 1024 lists",
+        setup: &[],
+        steps: &[
+            (Step::DoMany(Many::PutDelimiter(1024)), Answer::Fine),
+            (Step::HowMany(Count::Steps), Answer::Number(1024)),
+        ],
+    },
 ];
 
-#[test]
-fn walks_and_the_delimiter(rt: HostRuntime) {
-    go_from(
-        &rt,
-        rt.alloc(),
-        THREE_BLOCKS.as_slice(),
-        WALKS_AND_THE_DELIMITER.as_slice(),
+fn check(rt: &impl Abort, alloc: Global, scenario: &Scenario<'_>) {
+    let mut arena = Arena::new(alloc).expect(rt, "memory");
+    let mut slots = Slots {
+        seven: usize::MAX,
+        eight: usize::MAX,
+        nine: usize::MAX,
+    };
+    go(rt, alloc, &mut arena, &mut slots, "setup", scenario.setup);
+    go(
+        rt,
+        alloc,
+        &mut arena,
+        &mut slots,
+        scenario.name,
+        scenario.steps,
     );
+    arena.lawful();
+    drop(arena);
 }
 
-const COUNTS_AND_PLACES: [(Step, Answer); 4] = [
-    (Step::Where(Place::Added(7)), Answer::SlotOf(7)),
-    (Step::HowMany(Count::Blocks), Answer::Number(3)),
-    (Step::TripletAt(7, 0), Answer::Replica(11)),
-    (Step::TripletAt(7, 1), Answer::Nothing),
-];
-
 #[test]
-fn counts_and_places(rt: HostRuntime) {
-    go_from(
-        &rt,
-        rt.alloc(),
-        THREE_BLOCKS.as_slice(),
-        COUNTS_AND_PLACES.as_slice(),
-    );
-}
-
-const LOOK_UPS_ANSWER_WHAT_STANDS: [(Step, Answer); 12] = [
-    (Step::Where(Place::Find(7)), Answer::SlotOf(7)),
-    (Step::Where(Place::Find(6)), Answer::Nothing),
-    (Step::Where(Place::SlotAt(1)), Answer::SlotOf(8)),
-    (Step::Where(Place::SlotAt(3)), Answer::Nothing),
-    (Step::HowMany(Count::SlotBound), Answer::Number(4)),
-    (Step::IsDelimiter(7), Answer::No),
-    (Step::Info(7), Answer::Nothing),
-    (Step::Do(Deed::SetInfo(7)), Answer::Fine),
-    (Step::Info(7), Answer::Known),
-    (Step::Do(Deed::SetBad(7, 11)), Answer::Fine),
-    (Step::Marks(7, 11), Answer::Bad),
-    (Step::Marks(7, 12), Answer::Nothing),
-];
-
-#[test]
-fn look_ups_answer_what_stands(rt: HostRuntime) {
-    go_from(
-        &rt,
-        rt.alloc(),
-        THREE_BLOCKS.as_slice(),
-        LOOK_UPS_ANSWER_WHAT_STANDS.as_slice(),
-    );
-}
-
-const LAST_REPLICA_FILLS_THE_FREED_PLACE: [(Step, Answer); 9] = [
-    // Three more replicas of a block, so that its triplets leave their inline places.
-    (Step::Do(Deed::Reserve(12, 3)), Answer::Fine),
-    (Step::Do(Deed::Link(8, 12)), Answer::Fine),
-    (Step::Do(Deed::Link(8, 13)), Answer::Fine),
-    (Step::Do(Deed::Link(8, 14)), Answer::Fine),
-    (Step::Do(Deed::Unlink(8, 11)), Answer::Fine),
-    (Step::TripletAt(8, 0), Answer::Replica(14)),
-    (Step::TripletAt(8, 2), Answer::Replica(13)),
-    (Step::Walk(11), Answer::Blocks([9, 7, 0], 2)),
-    (Step::Walk(14), Answer::Blocks([8, 0, 0], 1)),
-];
-
-#[test]
-fn last_replica_fills_the_freed_place(rt: HostRuntime) {
-    go_from(
-        &rt,
-        rt.alloc(),
-        THREE_BLOCKS.as_slice(),
-        LAST_REPLICA_FILLS_THE_FREED_PLACE.as_slice(),
-    );
-}
-
-const ENTRIES_AND_HEADS_ARE_DROPPED: [(Step, Answer); 9] = [
-    (Step::Do(Deed::Unlink(7, 11)), Answer::Fine),
-    (Step::Do(Deed::DropEntry(7)), Answer::Fine),
-    (Step::Where(Place::Find(7)), Answer::Nothing),
-    (Step::HowMany(Count::Blocks), Answer::Number(2)),
-    (Step::Where(Place::SlotAt(0)), Answer::SlotOf(9)),
-    (Step::Where(Place::Added(5)), Answer::SlotOf(7)),
-    (Step::HowMany(Count::SlotBound), Answer::Number(4)),
-    (Step::Do(Deed::DropHead(12)), Answer::Fine),
-    (Step::HasHead(12), Answer::No),
-];
-
-#[test]
-fn entries_and_heads_are_dropped(rt: HostRuntime) {
-    go_from(
-        &rt,
-        rt.alloc(),
-        THREE_BLOCKS.as_slice(),
-        ENTRIES_AND_HEADS_ARE_DROPPED.as_slice(),
-    );
-}
-
-const A_THOUSAND_BLOCKS_ARE_TAKEN: [(Step, Answer); 5] = [
-    (Step::DoMany(Many::Add(1000)), Answer::Fine),
-    (Step::HowMany(Count::Blocks), Answer::Number(1000)),
-    (Step::HowMany(Count::Walked(11)), Answer::Number(1000)),
-    (Step::HowMany(Count::Steps), Answer::Number(1000)),
-    (Step::HowMany(Count::SlotBound), Answer::Number(1001)),
-];
-
-#[test]
-fn a_thousand_blocks_are_taken(rt: HostRuntime) {
-    go_from(
-        &rt,
-        rt.alloc(),
-        NOTHING.as_slice(),
-        A_THOUSAND_BLOCKS_ARE_TAKEN.as_slice(),
-    );
-}
-
-const SEVENTEEN_REPLICAS_OF_A_BLOCK_ARE_TAKEN: [(Step, Answer); 4] = [
-    (Step::Add(7), Answer::Fine),
-    (Step::DoMany(Many::Link(7, 17)), Answer::Fine),
-    (Step::TripletAt(7, 16), Answer::Replica(16)),
-    (Step::TripletAt(7, 17), Answer::Nothing),
-];
-
-#[test]
-fn seventeen_replicas_of_a_block_are_taken(rt: HostRuntime) {
-    go_from(
-        &rt,
-        rt.alloc(),
-        NOTHING.as_slice(),
-        SEVENTEEN_REPLICAS_OF_A_BLOCK_ARE_TAKEN.as_slice(),
-    );
-}
-
-const DELIMITER_STANDS_IN_1024_LISTS: [(Step, Answer); 2] = [
-    (Step::DoMany(Many::PutDelimiter(1024)), Answer::Fine),
-    (Step::HowMany(Count::Steps), Answer::Number(1024)),
-];
-
-#[test]
-fn delimiter_stands_in_1024_lists(rt: HostRuntime) {
-    go_from(
-        &rt,
-        rt.alloc(),
-        NOTHING.as_slice(),
-        DELIMITER_STANDS_IN_1024_LISTS.as_slice(),
-    );
+fn arenas_answer_as_worked_out(rt: HostRuntime) {
+    for scenario in &SCENARIOS {
+        check(&rt, rt.alloc(), scenario);
+    }
 }

@@ -6,9 +6,9 @@ ghost use Rattle.bm_base.specs.Replicas.{node_of};
 ghost use Rattle.bm_arena.specs.Holding.{replicas_of};
 ghost use Rattle.bm_levels.specs.Leveled.{AreLevels};
 
+use crate::support::{STAMP, four_nodes};
 use bm_base::{
-    BlockId, BlockInfo, Entry, Event, Gen, HashSecret, Items, Level, NodeId, Part, Rack, RoundPart,
-    Stamp, StorageId, Wish,
+    BlockId, BlockInfo, Entry, HashSecret, Level, Part, RoundPart, Stamp, StorageId, Wish,
 };
 use bm_finding::{find_round, likely_bound};
 use bm_levels::LeveledBlocks;
@@ -21,34 +21,7 @@ use std::process::Abort;
 fn stamp() -> Stamp
     ensures { result ≡ record { generation = 1; len = 10 } }
 {
-    Stamp {
-        generation: Gen(1),
-        len: 10,
-    }
-}
-
-/// A node comes on a rack, with one storage.
-fn come(
-    rt: &impl Abort,
-    alloc: Global,
-    topology: &mut Topology,
-    node: u32,
-    rack: u32,
-    storage: u32,
-) {
-    let storages = [StorageId(storage)];
-    let event = Event::Register {
-        node: NodeId(node),
-        rack: Rack(rack),
-        storages: Items::from_vec(Vec::from_slice(alloc, storages.as_slice()).expect(rt, "memory")),
-    };
-    if let Err(_) = topology.check(&event) {
-        return;
-    }
-    if let Err(_) = topology.prepare(&event) {
-        return;
-    }
-    topology.commit(&event);
+    STAMP
 }
 
 /// Block 7, of which three replicas are wanted, with a good replica on storage 11.
@@ -77,29 +50,17 @@ fn block_with_one(rt: &impl Abort, alloc: Global, topology: &Topology) -> Levele
         .ready_report(&mut report, StorageId(11), entries.as_slice(), part)
         .expect(rt, "memory");
     blocks.receive(&report, topology, StorageId(11), id, stamp());
+    drop(report);
     blocks
 }
 
 /// Four nodes on two racks, with a storage each.
-fn four_nodes(rt: &impl Abort, alloc: Global) -> Topology
+fn nodes(rt: &impl Abort, alloc: Global) -> Topology
     ensures { IsSome (node_of result.cluster 11) }
 {
-    let mut topology = Topology::new(alloc).expect(rt, "memory");
-    come(rt, alloc, &mut topology, 1, 1, 11);
-    come(rt, alloc, &mut topology, 2, 1, 21);
-    come(rt, alloc, &mut topology, 3, 2, 31);
-    come(rt, alloc, &mut topology, 4, 2, 41);
-    let known = topology.node_of(StorageId(11)).is_some();
-    assert!(rt; known);
+    let topology = four_nodes(rt, alloc);
+    assert!(rt; topology.node_of(StorageId(11)).is_some());
     topology
-}
-
-/// A transfer of block 7 to storage 31, commanded in round 1.
-fn one_on_its_way(rt: &impl Abort, alloc: Global) -> PendingTransfers {
-    let mut pending = PendingTransfers::new(alloc, HashSecret::none());
-    pending.reserve(BlockId(7), 1).expect(rt, "memory");
-    pending.insert_reserved(BlockId(7), StorageId(31), 1);
-    pending
 }
 
 /// How many copies a shard wishes for, and how many transfers are too old, where block 7 alone wishes for some as it should.
@@ -129,55 +90,64 @@ fn is_one(storages: &[StorageId], storage: u32) -> bool {
     storages.len() == 1 && storages[0] == StorageId(storage)
 }
 
-/// Of three wanted replicas one is there: two copies are wished for.
-#[test]
-fn copies_are_wished_for(rt: HostRuntime) {
-    let alloc = rt.alloc();
-    let topology = four_nodes(&rt, alloc);
-    let blocks = block_with_one(&rt, alloc, &topology);
-    let pending = PendingTransfers::new(alloc, HashSecret::none());
-    let part = find_round(alloc, &blocks, &pending, &topology, 5, 1, None).expect(&rt, "memory");
-    assert!(rt; counts_of(&part) == Some((2, 0, 0)));
+/// What a round finds where transfers are given up after five rounds.
+fn check_round(
+    rt: &impl Abort,
+    alloc: Global,
+    topology: &Topology,
+    blocks: &LeveledBlocks,
+    pending: &PendingTransfers,
+    round: u64,
+    must: (u32, usize, usize),
+)
+    requires levels { AreLevels topology.now.cluster blocks.now }
+    requires stored { (q : ReplicaId) → IsSome (get (replicas_of blocks.now.arena) q)
+        → IsTrue (contains_key topology.now.cluster.storages q.storage) }
+{
+    let part = find_round(alloc, blocks, pending, topology, 5, round, None).expect(rt, "memory");
+    assert!(rt; counts_of(&part) == Some(must));
     drop(part);
-    drop(pending);
-    drop(blocks);
-    drop(topology);
 }
 
-/// A transfer on its way is counted as there, until it is too old.
-#[test]
-fn a_transfer_counts_until_it_is_too_old(rt: HostRuntime) {
-    let alloc = rt.alloc();
-    let topology = four_nodes(&rt, alloc);
-    let blocks = block_with_one(&rt, alloc, &topology);
-    let pending = one_on_its_way(&rt, alloc);
-    let young = find_round(alloc, &blocks, &pending, &topology, 5, 5, None).expect(&rt, "memory");
-    assert!(rt; counts_of(&young) == Some((1, 1, 0)));
-    let old = find_round(alloc, &blocks, &pending, &topology, 5, 6, None).expect(&rt, "memory");
-    assert!(rt; counts_of(&old) == Some((2, 0, 1)));
-    drop(old);
-    drop(young);
-    drop(pending);
-    drop(blocks);
-    drop(topology);
+/// The bound before which at most `most` blocks are likely to wish.
+fn check_bound(
+    rt: &impl Abort,
+    alloc: Global,
+    blocks: &LeveledBlocks,
+    pending: &PendingTransfers,
+    most: usize,
+    must: Option<(u64, u64)>,
+) {
+    let bound = likely_bound(alloc, blocks, pending, most, 1_024).expect(rt, "memory");
+    assert!(rt; bound == must);
 }
 
-/// Block 7 alone wishes, at the most urgent level: its key is the bound before which none does, and there is no bound before which one
-/// does. With a transfer on its way it counts as one that wishes for none.
-#[test]
-fn a_bound_is_guessed(rt: HostRuntime) {
-    let alloc = rt.alloc();
-    let topology = four_nodes(&rt, alloc);
-    let blocks = block_with_one(&rt, alloc, &topology);
-    let pending = PendingTransfers::new(alloc, HashSecret::none());
-    let before_all = likely_bound(alloc, &blocks, &pending, 0, 1_024).expect(&rt, "memory");
-    assert!(rt; before_all == Some((0, 7)));
-    let behind_one = likely_bound(alloc, &blocks, &pending, 1, 1_024).expect(&rt, "memory");
-    assert!(rt; behind_one.is_none());
-    let pending = one_on_its_way(&rt, alloc);
-    let none_wishes = likely_bound(alloc, &blocks, &pending, 0, 1_024).expect(&rt, "memory");
-    assert!(rt; none_wishes.is_none());
+/// Of three requested replicas one is there: two copies are wished for. A transfer on its way is counted as there, until it is too
+/// old. Block 7 alone wishes, at the most urgent level: its key is the bound before which none does, and there is no bound before
+/// which one does. With a transfer on its way it counts as one that wishes for none.
+fn check_all(rt: &impl Abort, alloc: Global, topology: &Topology, blocks: &LeveledBlocks)
+    requires levels { AreLevels topology.now.cluster blocks.now }
+    requires stored { (q : ReplicaId) → IsSome (get (replicas_of blocks.now.arena) q)
+        → IsTrue (contains_key topology.now.cluster.storages q.storage) }
+{
+    let mut pending = PendingTransfers::new(alloc, HashSecret::none());
+    check_round(rt, alloc, topology, blocks, &pending, 1, (2, 0, 0));
+    check_bound(rt, alloc, blocks, &pending, 0, Some((0, 7)));
+    check_bound(rt, alloc, blocks, &pending, 1, None);
+    // A transfer of the block to storage 31, commanded in round 1.
+    pending.reserve(BlockId(7), 1).expect(rt, "memory");
+    pending.insert_reserved(BlockId(7), StorageId(31), 1);
+    check_round(rt, alloc, topology, blocks, &pending, 5, (1, 1, 0));
+    check_round(rt, alloc, topology, blocks, &pending, 6, (2, 0, 1));
+    check_bound(rt, alloc, blocks, &pending, 0, None);
     drop(pending);
+}
+
+#[test]
+fn a_block_with_one_replica_is_found(rt: HostRuntime) {
+    let topology = nodes(&rt, rt.alloc());
+    let blocks = block_with_one(&rt, rt.alloc(), &topology);
+    check_all(&rt, rt.alloc(), &topology, &blocks);
     drop(blocks);
     drop(topology);
 }

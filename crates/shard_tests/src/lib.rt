@@ -23,4 +23,6 @@ mod round;
 #[cfg(test)]
 mod shard;
 #[cfg(test)]
+mod support;
+#[cfg(test)]
 mod topology;

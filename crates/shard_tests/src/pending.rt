@@ -1,4 +1,5 @@
-// Each call with ample memory: a test is a list of steps with what each must answer, and one function goes over them.
+// Each call with ample memory: lists of steps with what each must answer.
+use crate::support::check_step;
 use bm_base::{BlockId, HashSecret, Refusal, ReplicaId, StorageId};
 use bm_pending::PendingTransfers;
 use std::alloc::Global;
@@ -23,7 +24,7 @@ enum Step {
 }
 
 /// What a step answers.
-#[derive(Clone, Copy, Debug, PartialEq, Eq)]
+#[derive(Clone, Copy, PartialEq, Eq)]
 enum Answer {
     Fine,
     Refused,
@@ -129,16 +130,33 @@ fn ask(pending: &PendingTransfers, alloc: Global, step: Step) -> Result<Answer, 
     }
 }
 
-/// Goes the steps one after another on no transfers; each answers as it must.
-fn go(rt: &impl Abort, alloc: Global, steps: &[(Step, Answer)]) {
-    let mut pending = PendingTransfers::new(alloc, HashSecret::none());
-    for (place, (step, must)) in steps.iter().enumerate() {
-        let is = match change(&mut pending, *step) {
-            Some(answer) => answer,
-            None => ask(&pending, alloc, *step).expect(rt, "memory"),
-        };
-        assert_eq!(rt; is, *must, "step {place}");
+/// Changes transfers or asks of them.
+fn answer_of(rt: &impl Abort, alloc: Global, pending: &mut PendingTransfers, step: Step) -> Answer {
+    match change(pending, step) {
+        Some(answer) => answer,
+        None => ask(pending, alloc, step).expect(rt, "memory"),
     }
+}
+
+/// Goes the steps one after another; each answers as it must.
+fn go(
+    rt: &impl Abort,
+    alloc: Global,
+    pending: &mut PendingTransfers,
+    name: &str,
+    steps: &[(Step, Answer)],
+) {
+    for (index, (step, must)) in steps.iter().enumerate() {
+        let is_correct = answer_of(rt, alloc, pending, *step) == *must;
+        check_step(rt, name, index, is_correct);
+    }
+}
+
+/// The steps on no transfers.
+fn check(rt: &impl Abort, alloc: Global, name: &str, steps: &[(Step, Answer)]) {
+    let mut pending = PendingTransfers::new(alloc, HashSecret::none());
+    go(rt, alloc, &mut pending, name, steps);
+    drop(pending);
 }
 
 const SIX_TRANSFERS: [(Step, Answer); 28] = [
@@ -183,11 +201,6 @@ const SIX_TRANSFERS: [(Step, Answer); 28] = [
     (Step::Entries, Answer::Entries([(0, 0, 0); 4], 0)),
 ];
 
-#[test]
-fn six_transfers(rt: HostRuntime) {
-    go(&rt, rt.alloc(), SIX_TRANSFERS.as_slice());
-}
-
 // The greatest numbers, and a limit that no round reaches.
 const GREATEST_NUMBERS: [(Step, Answer); 7] = [
     (Step::Insert(u64::MAX, u32::MAX, u64::MAX), Answer::Fine),
@@ -203,6 +216,12 @@ const GREATEST_NUMBERS: [(Step, Answer); 7] = [
 ];
 
 #[test]
-fn greatest_numbers(rt: HostRuntime) {
-    go(&rt, rt.alloc(), GREATEST_NUMBERS.as_slice());
+fn transfers_answer_as_worked_out(rt: HostRuntime) {
+    check(&rt, rt.alloc(), "six transfers", SIX_TRANSFERS.as_slice());
+    check(
+        &rt,
+        rt.alloc(),
+        "greatest numbers",
+        GREATEST_NUMBERS.as_slice(),
+    );
 }

@@ -1,7 +1,10 @@
 // On clusters of a few nodes the choices are those worked out by hand: a list of cases for each question.
-ghost use Rattle.shard_tests.specs.Tables.{AreSenders, AreTargets};
+ghost use Rattle.std.specs.Prelude.{◌≡◌, ℕ};
+ghost use Rattle.bm_place.specs.Sources.{sender_table};
+ghost use Rattle.bm_place.specs.Targets.{target_table};
 
-use bm_base::{Event, Items, Level, NodeId, Rack, Remaining, StorageId};
+use crate::support::{beat, join, storages_numbered, take};
+use bm_base::{Event, Level, NodeId, StorageId};
 use bm_place::{
     ExcessRoom, Scheduled, Streams, excess_of, fill_excess, least_source, least_target,
 };
@@ -60,14 +63,6 @@ const NO_STORAGE: [StorageId; 0] = [];
 /// How many bytes are free on the storages of each of the nodes. A node with none is not in the cluster.
 const FOUR_NODES: [u64; 6] = [1000, 1000, 1000, 1000, 0, 0];
 
-fn storages_numbered(rt: &impl Abort, alloc: Global, numbers: &[u32]) -> Vec<StorageId> {
-    let mut storages = Vec::new(alloc);
-    for number in numbers {
-        storages.push(StorageId(*number)).expect(rt, "memory");
-    }
-    storages
-}
-
 fn number_of(storage: Option<StorageId>) -> Option<u32> {
     match storage {
         Some(storage) => Some(storage.0),
@@ -75,36 +70,10 @@ fn number_of(storage: Option<StorageId>) -> Option<u32> {
     }
 }
 
-/// Tells how many bytes are free on each of a node's storages.
-fn heartbeat(rt: &impl Abort, alloc: Global, node: &Node<'_>, free: u64) -> Event {
-    let mut told = Vec::new(alloc);
-    for number in node.storages {
-        let row = Remaining {
-            storage: StorageId(*number),
-            remaining: free,
-        };
-        told.push(row).expect(rt, "memory");
-    }
-    Event::Heartbeat {
-        node: NodeId(node.number),
-        remaining: Items::from_vec(told),
-    }
-}
-
-fn take(rt: &impl Abort, topology: &mut Topology, event: &Event) {
-    topology.check(event).expect(rt, "an event to be taken");
-    topology.prepare(event).expect(rt, "memory");
-    topology.commit(event);
-}
-
-fn join(rt: &impl Abort, alloc: Global, topology: &mut Topology, node: &Node<'_>, free: u64) {
-    let joins = Event::Register {
-        node: NodeId(node.number),
-        rack: Rack(node.rack),
-        storages: Items::from_vec(storages_numbered(rt, alloc, node.storages)),
-    };
-    take(rt, topology, &joins);
-    take(rt, topology, &heartbeat(rt, alloc, node, free));
+/// A node joins with its storages, on each of which so many bytes are free.
+fn join_node(rt: &impl Abort, alloc: Global, topology: &mut Topology, node: &Node<'_>, free: u64) {
+    join(rt, alloc, topology, node.number, node.rack, node.storages);
+    beat(rt, alloc, topology, node.number, node.storages, free);
 }
 
 fn drain(rt: &impl Abort, topology: &mut Topology, node: u32) {
@@ -117,7 +86,7 @@ fn cluster(rt: &impl Abort, alloc: Global, free: &[u64; 6], draining: &[u32]) ->
     let mut topology = Topology::new(alloc).expect(rt, "memory");
     for place in 0..6 {
         if free[place] > 0 {
-            join(rt, alloc, &mut topology, &NODES[place], free[place]);
+            join_node(rt, alloc, &mut topology, &NODES[place], free[place]);
         }
     }
     for node in draining {
@@ -245,12 +214,22 @@ fn cluster_of_singles(rt: &impl Abort, alloc: Global) -> Topology {
     let mut topology = Topology::new(alloc).expect(rt, "memory");
     for (number, rack, free) in &TWELVE {
         let storages = [*number];
-        let node = Node {
-            number: *number,
-            rack: *rack,
-            storages: &storages,
-        };
-        join(rt, alloc, &mut topology, &node, *free);
+        join(
+            rt,
+            alloc,
+            &mut topology,
+            *number,
+            *rack,
+            storages.as_slice(),
+        );
+        beat(
+            rt,
+            alloc,
+            &mut topology,
+            *number,
+            storages.as_slice(),
+            *free,
+        );
     }
     topology
 }
@@ -270,6 +249,21 @@ fn check_excess(
     assert!(rt; alone.as_slice() == wanted.as_slice());
     fill_excess(chosen, room, live.as_slice(), case.repl, topology).expect(rt, "memory");
     assert!(rt; chosen.as_slice() == wanted.as_slice());
+    drop(alone);
+    drop(wanted);
+    drop(live);
+}
+
+fn check_excess_on(
+    rt: &impl Abort,
+    alloc: Global,
+    case: &Excess<'_>,
+    chosen: &mut Vec<StorageId>,
+    room: &mut ExcessRoom,
+) {
+    let topology = cluster(rt, alloc, &case.free, &[]);
+    check_excess(rt, alloc, &topology, &case.choice, chosen, room);
+    drop(topology);
 }
 
 #[test]
@@ -278,9 +272,10 @@ fn replicas_in_excess(rt: HostRuntime) {
     let mut chosen = Vec::new(alloc);
     let mut room = ExcessRoom::new(alloc);
     for case in &EXCESSES {
-        let topology = cluster(&rt, alloc, &case.free, &[]);
-        check_excess(&rt, alloc, &topology, &case.choice, &mut chosen, &mut room);
+        check_excess_on(&rt, alloc, case, &mut chosen, &mut room);
     }
+    drop(room);
+    drop(chosen);
 }
 
 #[test]
@@ -292,6 +287,9 @@ fn many_replicas_in_excess(rt: HostRuntime) {
     for case in &MANY {
         check_excess(&rt, alloc, &topology, case, &mut chosen, &mut room);
     }
+    drop(room);
+    drop(chosen);
+    drop(topology);
 }
 
 /// The source of a copy, where these nodes drain, after one transfer from each storage of `sent`.
@@ -411,8 +409,8 @@ static SOURCES: [Source<'static>; 12] = [
 
 /// One transfer more from a storage, which may send it at the highest level.
 fn send(rt: &impl Abort, topology: &Topology, streams: &mut Streams, source: StorageId)
-    requires { AreSenders topology.now.cluster streams.old }
-    ensures { AreSenders topology.now.cluster streams.new }
+    requires { (sends : ℕ → ℕ) × (streams.old ≡ sender_table topology.now.cluster sends) }
+    ensures { (sends : ℕ → ℕ) × (streams.new ≡ sender_table topology.now.cluster sends) }
 {
     let usable = [source];
     let found = least_source(usable.as_slice(), Level::Highest, topology, streams);
@@ -433,12 +431,16 @@ fn source_after(
     for source in case.sent {
         send(rt, topology, &mut streams, StorageId(*source));
     }
-    number_of(least_source(usable.as_slice(), case.level, topology, &streams))
+    let found = least_source(usable.as_slice(), case.level, topology, &streams);
+    drop(streams);
+    drop(usable);
+    number_of(found)
 }
 
 fn check_source(rt: &impl Abort, alloc: Global, case: &Source<'_>) {
     let topology = cluster(rt, alloc, &case.free, case.draining);
     assert!(rt; source_after(rt, alloc, &topology, case) == case.chosen);
+    drop(topology);
 }
 
 #[test]
@@ -670,8 +672,8 @@ fn fill(
     target: u32,
     len: u64,
 )
-    requires { AreTargets topology.now.cluster scheduled.old }
-    ensures { AreTargets topology.now.cluster scheduled.new }
+    requires { (sent : ℕ → ℕ) × (scheduled.old ≡ target_table topology.now.cluster sent) }
+    ensures { (sent : ℕ → ℕ) × (scheduled.new ≡ target_table topology.now.cluster sent) }
 {
     let barred = storages_numbered(rt, alloc, on_other_nodes(target));
     let found = least_target(
@@ -686,6 +688,7 @@ fn fill(
     if let Some(found) = found {
         scheduled.add(found, len);
     }
+    drop(barred);
 }
 
 fn target_after(
@@ -700,19 +703,24 @@ fn target_after(
     for (target, len) in case.filled {
         fill(rt, alloc, topology, &mut scheduled, *target, *len);
     }
-    number_of(least_target(
+    let found = least_target(
         held.as_slice(),
         barred.as_slice(),
         case.len,
         case.level,
         topology,
         &scheduled,
-    ))
+    );
+    drop(scheduled);
+    drop(barred);
+    drop(held);
+    number_of(found)
 }
 
 fn check_target(rt: &impl Abort, alloc: Global, case: &Target<'_>) {
     let topology = cluster(rt, alloc, &case.free, case.draining);
     assert!(rt; target_after(rt, alloc, &topology, case) == case.chosen);
+    drop(topology);
 }
 
 #[test]

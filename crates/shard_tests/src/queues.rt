@@ -1,5 +1,6 @@
 // The lists of one levelled set of slots, and each call once with ample memory: each test is a list of steps with what each must
-// answer, and one function goes over them.
+// answer.
+use crate::support::check_step;
 use bm_base::{Level, Refusal};
 use bm_queues::{LevelLists, SlotSet, Walk};
 use std::alloc::Global;
@@ -35,7 +36,7 @@ enum SetStep {
 }
 
 /// What a step answers.
-#[derive(Clone, Copy, Debug, PartialEq, Eq)]
+#[derive(Clone, Copy, PartialEq, Eq)]
 enum Answer {
     Fine,
     Refused,
@@ -123,13 +124,13 @@ fn of_levels(lists: &mut LevelLists, step: LevelStep) -> Answer {
 /// Goes the steps one after another on new lists; each answers as it must.
 fn go_levels(rt: &impl Abort, alloc: Global, steps: &[(LevelStep, Answer)]) {
     let mut lists = LevelLists::new(alloc).expect(rt, "memory");
-    for (place, (step, must)) in steps.iter().enumerate() {
-        let is = of_levels(&mut lists, *step);
-        assert_eq!(rt; is, *must, "step {place}");
+    for (index, (step, must)) in steps.iter().enumerate() {
+        let is_correct = of_levels(&mut lists, *step) == *must;
+        check_step(rt, "levels", index, is_correct);
     }
 }
 
-const LEVELS_OF_THREE_SLOTS: [(LevelStep, Answer); 22] = [
+static LEVELS_OF_THREE_SLOTS: [(LevelStep, Answer); 22] = [
     (LevelStep::GrowTo(3), Answer::Fine),
     (
         LevelStep::Set(0, Some(Level::UnderReplicated)),
@@ -171,19 +172,16 @@ const LEVELS_OF_THREE_SLOTS: [(LevelStep, Answer); 22] = [
     ),
 ];
 
-#[test]
-fn levels_of_three_slots(rt: HostRuntime) {
-    go_levels(&rt, rt.alloc(), LEVELS_OF_THREE_SLOTS.as_slice());
-}
-
-const REFUSED_WHERE_NO_LINK_REACHES: [(LevelStep, Answer); 3] = [
+static REFUSED_WHERE_NO_LINK_REACHES: [(LevelStep, Answer); 3] = [
     (LevelStep::GrowTo(1), Answer::Fine),
     (LevelStep::GrowTo(4_294_967_296), Answer::Refused),
     (LevelStep::Room, Answer::Number(1)),
 ];
 
+/// The second are refused where no link reaches.
 #[test]
-fn refused_where_no_link_reaches(rt: HostRuntime) {
+fn levels_of_slots(rt: HostRuntime) {
+    go_levels(&rt, rt.alloc(), LEVELS_OF_THREE_SLOTS.as_slice());
     go_levels(&rt, rt.alloc(), REFUSED_WHERE_NO_LINK_REACHES.as_slice());
 }
 
@@ -230,7 +228,7 @@ fn of_set(slots: &mut SlotSet, step: SetStep) -> Answer {
     }
 }
 
-const SET_OF_THREE_SLOTS: [(SetStep, Answer); 14] = [
+static SET_OF_THREE_SLOTS: [(SetStep, Answer); 14] = [
     (SetStep::GrowTo(0), Answer::Fine),
     (SetStep::GrowTo(3), Answer::Fine),
     (SetStep::Insert(0), Answer::Yes),
@@ -250,8 +248,8 @@ const SET_OF_THREE_SLOTS: [(SetStep, Answer); 14] = [
 #[test]
 fn set_of_three_slots(rt: HostRuntime) {
     let mut slots = SlotSet::new(rt.alloc()).expect(&rt, "memory");
-    for (place, (step, must)) in SET_OF_THREE_SLOTS.iter().enumerate() {
-        let is = of_set(&mut slots, *step);
-        assert_eq!(rt; is, *must, "step {place}");
+    for (index, (step, must)) in SET_OF_THREE_SLOTS.iter().enumerate() {
+        let is_correct = of_set(&mut slots, *step) == *must;
+        check_step(&rt, "set", index, is_correct);
     }
 }

@@ -1,15 +1,14 @@
-// What reports and notices make of small arenas, worked out by hand: each test is a list of steps with what each must answer, and
-// one function goes over them.
+// What reports and notices make of small arenas, worked out by hand: a table of scenarios, each a list of steps with what each must
+// answer.
 ghost use Rattle.std.specs.Prelude.{◌≡◌, ◌<◌, ◌≤◌, ℕ, true};
 ghost use Rattle.bm_base.specs.declared.limits.TheConstants.{MAX_NUMBERS};
 ghost use Rattle.bm_base.specs.Entries.{numbers_in};
 ghost use Rattle.bm_report.specs.Midway as midway;
 ghost use Rattle.bm_report.specs.Tested.{IsSingle};
 
+use crate::support::{check_step, join};
 use bm_arena::{Arena, Slot};
-use bm_base::{
-    BlockId, BlockInfo, Entry, Event, Gen, Items, Marks, NodeId, Part, Rack, Stamp, StorageId, Tag,
-};
+use bm_base::{BlockId, BlockInfo, Entry, Gen, Marks, Part, Stamp, StorageId, Tag};
 use bm_report::{Applied, Report, abort, apply_deleted, apply_full, apply_received, ready};
 use bm_topo::Topology;
 use std::alloc::Global;
@@ -22,30 +21,38 @@ const WHOLE: Part = Part {
 
 /// A run of numbers in a report, with the generation of its stamp; its length is 10.
 #[derive(Clone, Copy)]
-struct Line(u64, u64, u64);
+struct Run(u64, u64, u64);
 
 /// Names no number.
-const NO_LINE: Line = Line(1, 0, 0);
+const NO_RUN: Run = Run(1, 0, 0);
+
+/// How a report is made.
+#[derive(Clone, Copy)]
+enum Way {
+    Whole,
+    /// To a part of several: its index, and how many there are.
+    ToPart(u32, u32),
+    /// No slots of it are kept.
+    ByNumber,
+    /// It is made ready, and not applied.
+    Ready,
+}
 
 /// What is done with an arena, or asked of it.
 #[derive(Clone, Copy)]
-enum Step {
+enum Step<'a> {
     /// A block is known, with generation 1 and length 10.
     Known(u64),
     /// A block has a good replica on a storage, in excess or not.
     Linked(u64, u32, bool),
-    /// A storage makes a full report.
-    Reports(u32, [Line; 3]),
-    /// The same to a part of several: its index, and how many there are.
-    ReportsToPart(u32, [Line; 3], u32, u32),
-    /// A storage makes a full report, of which no slots are kept.
-    ReportsByNumber(u32, [Line; 3]),
-    /// A full report is made ready.
-    Readies(u32, [Line; 3]),
-    /// It is given up.
+    /// A storage makes a full report, in one of the ways.
+    Reports(u32, &'a [Run; 3], Way),
+    /// What the last report made ready is given up.
     GivesUp,
     /// All that was made ready is given up.
     GivesUpAll,
+    /// So many reports of a thousand new numbers by storage 11 are made ready and given up.
+    GivesUpThousands(u64),
     /// A storage has received a replica, of a generation.
     Receives(u32, u64, u64),
     /// The same, with no slot kept.
@@ -63,7 +70,7 @@ enum Step {
 }
 
 /// What a step answers.
-#[derive(Clone, Copy, Debug, PartialEq, Eq)]
+#[derive(Clone, Copy, PartialEq, Eq)]
 enum Answer {
     Fine,
     /// So many replicas came, so many went, in so many steps.
@@ -92,8 +99,8 @@ fn stamp(generation: u64) -> Stamp
     }
 }
 
-fn entry(line: Line) -> Entry {
-    let Line(from, to, generation) = line;
+fn entry(run: Run) -> Entry {
+    let Run(from, to, generation) = run;
     Entry {
         from: BlockId(from),
         to: BlockId(to),
@@ -304,41 +311,65 @@ fn marks_of(arena: &Arena, id: u64, storage: StorageId) -> Answer {
     }
 }
 
-fn all_given_up(world: &mut World) -> Answer {
-    abort(&mut world.arena);
-    Answer::Fine
-}
-
-fn given_up(world: &mut World) -> Answer {
+/// Makes ready a report of a thousand new numbers from one on, and gives it up.
+fn give_up_thousand(rt: &impl Abort, world: &mut World, from: u64) {
+    let entries = [entry(Run(from, from.saturating_add(999), 1))];
+    let is_ready = world
+        .report
+        .ready(&mut world.arena, StorageId(11), entries.as_slice(), WHOLE);
+    assert!(rt; is_ready.is_ok());
+    assert!(rt; world.arena.count() == 1001);
     world.report.abort(&mut world.arena);
+}
+
+/// Gives up so many reports of a thousand numbers, one after another.
+fn give_up_thousands(rt: &impl Abort, world: &mut World, count: u64) -> Answer {
+    for index in 0..count {
+        give_up_thousand(rt, world, 1000u64.saturating_mul(index.saturating_add(1)));
+    }
     Answer::Fine
 }
 
-fn tell(rt: &impl Abort, world: &mut World, step: Step) -> Answer {
+fn give_up(world: &mut World, whole: bool) -> Answer {
+    if whole {
+        abort(&mut world.arena);
+    } else {
+        world.report.abort(&mut world.arena);
+    }
+    Answer::Fine
+}
+
+/// A storage makes a full report, in one of the ways.
+fn report(
+    rt: &impl Abort,
+    world: &mut World,
+    storage: StorageId,
+    runs: &[Run; 3],
+    way: Way,
+) -> Answer {
+    let entries = [entry(runs[0]), entry(runs[1]), entry(runs[2])];
+    let entries = entries.as_slice();
+    match way {
+        Way::Whole => apply_report(rt, world, storage, entries, WHOLE),
+        Way::ToPart(index, shards) => {
+            let part = Part { index, shards };
+            apply_report(rt, world, storage, entries, part)
+        }
+        Way::ByNumber => reported_by_number(rt, world, storage, entries),
+        Way::Ready => make_ready(world, storage, entries),
+    }
+}
+
+fn tell(rt: &impl Abort, world: &mut World, step: Step<'_>) -> Answer {
     match step {
         Step::Known(id) => add_known(rt, &mut world.arena, id),
         Step::Linked(id, storage, is_excess) => {
             link(rt, &mut world.arena, id, StorageId(storage), is_excess)
         }
-        Step::Reports(storage, lines) => {
-            let entries = [entry(lines[0]), entry(lines[1]), entry(lines[2])];
-            apply_report(rt, world, StorageId(storage), entries.as_slice(), WHOLE)
-        }
-        Step::ReportsToPart(storage, lines, index, shards) => {
-            let entries = [entry(lines[0]), entry(lines[1]), entry(lines[2])];
-            let part = Part { index, shards };
-            apply_report(rt, world, StorageId(storage), entries.as_slice(), part)
-        }
-        Step::ReportsByNumber(storage, lines) => {
-            let entries = [entry(lines[0]), entry(lines[1]), entry(lines[2])];
-            reported_by_number(rt, world, StorageId(storage), entries.as_slice())
-        }
-        Step::Readies(storage, lines) => {
-            let entries = [entry(lines[0]), entry(lines[1]), entry(lines[2])];
-            make_ready(world, StorageId(storage), entries.as_slice())
-        }
-        Step::GivesUp => given_up(world),
-        Step::GivesUpAll => all_given_up(world),
+        Step::Reports(storage, runs, way) => { report(rt, world, StorageId(storage), runs, way) }
+        Step::GivesUp => give_up(world, false),
+        Step::GivesUpAll => give_up(world, true),
+        Step::GivesUpThousands(count) => give_up_thousands(rt, world, count),
         Step::ReceivesByNumber(storage, id, generation) => {
             received_by_number(rt, world, StorageId(storage), id, generation)
         }
@@ -352,7 +383,7 @@ fn tell(rt: &impl Abort, world: &mut World, step: Step) -> Answer {
     }
 }
 
-fn ask(rt: &impl Abort, world: &World, step: Step) -> Answer {
+fn ask(rt: &impl Abort, world: &World, step: Step<'_>) -> Answer {
     match step {
         Step::Walk(storage) => walk(rt, &world.arena, StorageId(storage)),
         Step::MarksOf(id, storage) => marks_of(&world.arena, id, StorageId(storage)),
@@ -365,13 +396,7 @@ fn ask(rt: &impl Abort, world: &World, step: Step) -> Answer {
 /// One node with the storages 11 and 12, no block, and no report.
 fn one_node(rt: &impl Abort, alloc: Global) -> World {
     let mut topology = Topology::new(alloc).expect(rt, "memory");
-    let storages = [StorageId(11), StorageId(12)];
-    let event = Event::Register {
-        node: NodeId(1),
-        rack: Rack(1),
-        storages: Items::from_vec(Vec::from_slice(alloc, storages.as_slice()).expect(rt, "memory")),
-    };
-    take(rt, &mut topology, &event);
+    join(rt, alloc, &mut topology, 1, 1, [11, 12].as_slice());
     World {
         topology,
         arena: Arena::new(alloc).expect(rt, "memory"),
@@ -379,254 +404,225 @@ fn one_node(rt: &impl Abort, alloc: Global) -> World {
     }
 }
 
-fn take(rt: &impl Abort, topology: &mut Topology, event: &Event) {
-    assert!(rt; topology.check(event).is_ok());
-    assert!(rt; topology.prepare(event).is_ok());
-    topology.commit(event);
-}
-
 /// Goes the steps one after another; each answers as it must.
-fn go(rt: &impl Abort, alloc: Global, steps: &[(Step, Answer)]) {
+fn go(rt: &impl Abort, world: &mut World, name: &str, steps: &[(Step<'_>, Answer)]) {
+    for (index, (step, must)) in steps.iter().enumerate() {
+        let is_correct = tell(rt, world, *step) == *must;
+        check_step(rt, name, index, is_correct);
+    }
+}
+
+/// Steps on a node without blocks, each with what it must answer.
+#[derive(Clone, Copy)]
+struct Scenario<'a> {
+    name: &'a str,
+    steps: &'a [(Step<'a>, Answer)],
+}
+
+static SCENARIOS: [Scenario<'static>; 10] = [
+    Scenario {
+        name: "last entry of a block counts and what is not named leaves",
+        steps: &[
+            (Step::Known(7), Answer::Fine),
+            (Step::Known(9), Answer::Fine),
+            (Step::Linked(7, 11, false), Answer::Fine),
+            (Step::Linked(9, 11, false), Answer::Fine),
+            (
+                Step::Reports(11, &[Run(7, 7, 1), Run(8, 8, 1), Run(7, 7, 0)], Way::Whole),
+                Answer::Did(1, 1, 6),
+            ),
+            (Step::Walk(11), Answer::Blocks([7, 8, 0, 0], 2)),
+            (Step::MarksOf(7, 11), Answer::Tagged(Tag::Stale, false)),
+            (Step::MarksOf(8, 11), Answer::Tagged(Tag::Stray, false)),
+        ],
+    },
+    Scenario {
+        name: "replica leaves the other storage of its node",
+        steps: &[
+            (Step::Known(7), Answer::Fine),
+            (Step::Linked(7, 12, false), Answer::Fine),
+            (
+                Step::Reports(11, &[Run(7, 7, 1), NO_RUN, NO_RUN], Way::Whole),
+                Answer::Did(1, 1, 4),
+            ),
+            (Step::Walk(12), Answer::Blocks([0, 0, 0, 0], 0)),
+            (Step::Walk(11), Answer::Blocks([7, 0, 0, 0], 1)),
+            (Step::Changed, Answer::Number(1)),
+        ],
+    },
+    Scenario {
+        name: "empty report of nothing takes two steps",
+        steps: &[
+            (
+                Step::Reports(11, &[NO_RUN, NO_RUN, NO_RUN], Way::Whole),
+                Answer::Did(0, 0, 2),
+            ),
+            (Step::Changed, Answer::Number(0)),
+        ],
+    },
+    Scenario {
+        name: "report that is given up leaves all as it was",
+        steps: &[
+            (Step::Known(7), Answer::Fine),
+            (Step::Linked(7, 11, true), Answer::Fine),
+            (Step::Linked(8, 12, false), Answer::Fine),
+            (
+                Step::Reports(11, &[Run(5, 9, 0), NO_RUN, NO_RUN], Way::Ready),
+                Answer::Fine,
+            ),
+            (Step::Entries, Answer::Number(5)),
+            (Step::GivesUp, Answer::Fine),
+            (Step::Entries, Answer::Number(2)),
+            (Step::Walk(11), Answer::Blocks([7, 0, 0, 0], 1)),
+            (Step::Walk(12), Answer::Blocks([8, 0, 0, 0], 1)),
+            (Step::MarksOf(7, 11), Answer::Tagged(Tag::Good, true)),
+        ],
+    },
+    Scenario {
+        name: "run names each of its numbers",
+        steps: &[
+            (Step::Known(8), Answer::Fine),
+            (
+                Step::Reports(11, &[Run(7, 9, 1), Run(8, 8, 0), NO_RUN], Way::Whole),
+                Answer::Did(3, 0, 6),
+            ),
+            (Step::MarksOf(7, 11), Answer::Tagged(Tag::Stray, false)),
+            (Step::MarksOf(8, 11), Answer::Tagged(Tag::Stale, false)),
+            (Step::MarksOf(9, 11), Answer::Tagged(Tag::Stray, false)),
+            (Step::Walk(11), Answer::Blocks([8, 9, 7, 0], 3)),
+        ],
+    },
+    Scenario {
+        name: "excess is that before the report",
+        steps: &[
+            (Step::Known(7), Answer::Fine),
+            (Step::Linked(7, 11, true), Answer::Fine),
+            (
+                Step::Reports(11, &[Run(7, 7, 0), Run(7, 7, 1), NO_RUN], Way::Whole),
+                Answer::Did(0, 0, 4),
+            ),
+            (Step::MarksOf(7, 11), Answer::Tagged(Tag::Good, true)),
+            (
+                Step::Reports(11, &[Run(7, 7, 1), Run(7, 7, 0), NO_RUN], Way::Whole),
+                Answer::Did(0, 0, 4),
+            ),
+            (Step::MarksOf(7, 11), Answer::Tagged(Tag::Stale, false)),
+        ],
+    },
+    Scenario {
+        name: "unchanged report lists no slot",
+        steps: &[
+            (
+                Step::Reports(11, &[Run(1, 200, 1), NO_RUN, NO_RUN], Way::Whole),
+                Answer::Did(200, 0, 202),
+            ),
+            (Step::Changed, Answer::Number(200)),
+            (
+                Step::Reports(11, &[Run(1, 200, 1), NO_RUN, NO_RUN], Way::Whole),
+                Answer::Did(0, 0, 202),
+            ),
+            (Step::Changed, Answer::Number(0)),
+            (
+                Step::Reports(11, &[Run(5, 8, 1), NO_RUN, NO_RUN], Way::Whole),
+                Answer::Did(0, 196, 202),
+            ),
+            (Step::Changed, Answer::Number(196)),
+            (Step::Walk(11), Answer::Blocks([8, 7, 6, 5], 4)),
+        ],
+    },
+    Scenario {
+        name: "part takes its own numbers of each run",
+        steps: &[
+            (Step::Known(12), Answer::Fine),
+            (
+                Step::Reports(
+                    11,
+                    &[Run(4, 13, 1), Run(3, 6, 1), Run(16, 17, 0)],
+                    Way::ToPart(2, 5),
+                ),
+                Answer::Did(3, 0, 5),
+            ),
+            (Step::Walk(11), Answer::Blocks([17, 12, 7, 0], 3)),
+            (Step::Entries, Answer::Number(3)),
+            (Step::MarksOf(12, 11), Answer::Tagged(Tag::Good, false)),
+            (
+                Step::Reports(11, &[Run(8, 14, 0), NO_RUN, NO_RUN], Way::ToPart(2, 5)),
+                Answer::Did(0, 2, 5),
+            ),
+            (Step::Walk(11), Answer::Blocks([12, 0, 0, 0], 1)),
+            (Step::MarksOf(12, 11), Answer::Tagged(Tag::Stale, false)),
+        ],
+    },
+    Scenario {
+        name: "notices of one replica",
+        steps: &[
+            (Step::Known(7), Answer::Fine),
+            (Step::Linked(7, 12, false), Answer::Fine),
+            (Step::Receives(11, 7, 1), Answer::Did(1, 1, 2)),
+            (Step::Receives(11, 7, 0), Answer::Did(0, 0, 0)),
+            (Step::MarksOf(7, 11), Answer::Tagged(Tag::Stale, false)),
+            (Step::Deletes(11, 7), Answer::Did(0, 1, 1)),
+            (Step::Deletes(11, 7), Answer::Did(0, 0, 0)),
+        ],
+    },
+    Scenario {
+        name: "reports with no slots kept",
+        steps: &[
+            (Step::Known(7), Answer::Fine),
+            (Step::Known(9), Answer::Fine),
+            (Step::Linked(7, 11, true), Answer::Fine),
+            (Step::Linked(9, 12, false), Answer::Fine),
+            (
+                Step::Reports(11, &[Run(7, 7, 0), Run(7, 9, 1), NO_RUN], Way::ByNumber),
+                Answer::Did(2, 1, 7),
+            ),
+            (Step::Walk(11), Answer::Blocks([9, 8, 7, 0], 3)),
+            (Step::Walk(12), Answer::Blocks([0, 0, 0, 0], 0)),
+            (Step::MarksOf(7, 11), Answer::Tagged(Tag::Good, true)),
+            (
+                Step::Reports(11, &[Run(7, 7, 1), Run(7, 7, 0), NO_RUN], Way::ByNumber),
+                Answer::Did(0, 2, 6),
+            ),
+            (Step::MarksOf(7, 11), Answer::Tagged(Tag::Stale, false)),
+            (Step::ReceivesByNumber(12, 7, 1), Answer::Did(1, 1, 2)),
+            (
+                Step::Reports(11, &[Run(1, 5, 1), NO_RUN, NO_RUN], Way::Ready),
+                Answer::Fine,
+            ),
+            (Step::GivesUpAll, Answer::Fine),
+            (Step::Entries, Answer::Number(2)),
+            (Step::Walk(12), Answer::Blocks([7, 0, 0, 0], 1)),
+        ],
+    },
+];
+
+fn check(rt: &impl Abort, alloc: Global, scenario: &Scenario<'_>) {
     let mut world = one_node(rt, alloc);
-    for (place, (step, must)) in steps.iter().enumerate() {
-        let is = tell(rt, &mut world, *step);
-        assert_eq!(rt; is, *must, "step {place}");
-    }
-}
-
-const REPEATED_AND_UNKNOWN: [(Step, Answer); 8] = [
-    (Step::Known(7), Answer::Fine),
-    (Step::Known(9), Answer::Fine),
-    (Step::Linked(7, 11, false), Answer::Fine),
-    (Step::Linked(9, 11, false), Answer::Fine),
-    (
-        Step::Reports(11, [Line(7, 7, 1), Line(8, 8, 1), Line(7, 7, 0)]),
-        Answer::Did(1, 1, 6),
-    ),
-    (Step::Walk(11), Answer::Blocks([7, 8, 0, 0], 2)),
-    (Step::MarksOf(7, 11), Answer::Tagged(Tag::Stale, false)),
-    (Step::MarksOf(8, 11), Answer::Tagged(Tag::Stray, false)),
-];
-
-#[test]
-fn last_entry_of_a_block_counts_and_what_is_not_named_leaves(rt: HostRuntime) {
-    go(&rt, rt.alloc(), REPEATED_AND_UNKNOWN.as_slice());
-}
-
-const MOVED_BETWEEN_SISTERS: [(Step, Answer); 6] = [
-    (Step::Known(7), Answer::Fine),
-    (Step::Linked(7, 12, false), Answer::Fine),
-    (
-        Step::Reports(11, [Line(7, 7, 1), NO_LINE, NO_LINE]),
-        Answer::Did(1, 1, 4),
-    ),
-    (Step::Walk(12), Answer::Blocks([0, 0, 0, 0], 0)),
-    (Step::Walk(11), Answer::Blocks([7, 0, 0, 0], 1)),
-    (Step::Changed, Answer::Number(1)),
-];
-
-#[test]
-fn replica_leaves_the_other_storage_of_its_node(rt: HostRuntime) {
-    go(&rt, rt.alloc(), MOVED_BETWEEN_SISTERS.as_slice());
-}
-
-const NOTHING_REPORTED: [(Step, Answer); 2] = [
-    (
-        Step::Reports(11, [NO_LINE, NO_LINE, NO_LINE]),
-        Answer::Did(0, 0, 2),
-    ),
-    (Step::Changed, Answer::Number(0)),
-];
-
-#[test]
-fn empty_report_of_nothing_takes_two_steps(rt: HostRuntime) {
-    go(&rt, rt.alloc(), NOTHING_REPORTED.as_slice());
-}
-
-const GIVEN_UP: [(Step, Answer); 10] = [
-    (Step::Known(7), Answer::Fine),
-    (Step::Linked(7, 11, true), Answer::Fine),
-    (Step::Linked(8, 12, false), Answer::Fine),
-    (
-        Step::Readies(11, [Line(5, 9, 0), NO_LINE, NO_LINE]),
-        Answer::Fine,
-    ),
-    (Step::Entries, Answer::Number(5)),
-    (Step::GivesUp, Answer::Fine),
-    (Step::Entries, Answer::Number(2)),
-    (Step::Walk(11), Answer::Blocks([7, 0, 0, 0], 1)),
-    (Step::Walk(12), Answer::Blocks([8, 0, 0, 0], 1)),
-    (Step::MarksOf(7, 11), Answer::Tagged(Tag::Good, true)),
-];
-
-#[test]
-fn report_that_is_given_up_leaves_all_as_it_was(rt: HostRuntime) {
-    go(&rt, rt.alloc(), GIVEN_UP.as_slice());
-}
-
-const RUN_AND_REPEAT: [(Step, Answer); 6] = [
-    (Step::Known(8), Answer::Fine),
-    (
-        Step::Reports(11, [Line(7, 9, 1), Line(8, 8, 0), NO_LINE]),
-        Answer::Did(3, 0, 6),
-    ),
-    (Step::MarksOf(7, 11), Answer::Tagged(Tag::Stray, false)),
-    (Step::MarksOf(8, 11), Answer::Tagged(Tag::Stale, false)),
-    (Step::MarksOf(9, 11), Answer::Tagged(Tag::Stray, false)),
-    (Step::Walk(11), Answer::Blocks([8, 9, 7, 0], 3)),
-];
-
-#[test]
-fn run_names_each_of_its_numbers(rt: HostRuntime) {
-    go(&rt, rt.alloc(), RUN_AND_REPEAT.as_slice());
-}
-
-const EXCESS_BEFORE_THE_REPORT: [(Step, Answer); 6] = [
-    (Step::Known(7), Answer::Fine),
-    (Step::Linked(7, 11, true), Answer::Fine),
-    (
-        Step::Reports(11, [Line(7, 7, 0), Line(7, 7, 1), NO_LINE]),
-        Answer::Did(0, 0, 4),
-    ),
-    (Step::MarksOf(7, 11), Answer::Tagged(Tag::Good, true)),
-    (
-        Step::Reports(11, [Line(7, 7, 1), Line(7, 7, 0), NO_LINE]),
-        Answer::Did(0, 0, 4),
-    ),
-    (Step::MarksOf(7, 11), Answer::Tagged(Tag::Stale, false)),
-];
-
-#[test]
-fn excess_is_that_before_the_report(rt: HostRuntime) {
-    go(&rt, rt.alloc(), EXCESS_BEFORE_THE_REPORT.as_slice());
-}
-
-const UNCHANGED_AND_LONG: [(Step, Answer); 7] = [
-    (
-        Step::Reports(11, [Line(1, 200, 1), NO_LINE, NO_LINE]),
-        Answer::Did(200, 0, 202),
-    ),
-    (Step::Changed, Answer::Number(200)),
-    (
-        Step::Reports(11, [Line(1, 200, 1), NO_LINE, NO_LINE]),
-        Answer::Did(0, 0, 202),
-    ),
-    (Step::Changed, Answer::Number(0)),
-    (
-        Step::Reports(11, [Line(5, 8, 1), NO_LINE, NO_LINE]),
-        Answer::Did(0, 196, 202),
-    ),
-    (Step::Changed, Answer::Number(196)),
-    (Step::Walk(11), Answer::Blocks([8, 7, 6, 5], 4)),
-];
-
-#[test]
-fn unchanged_report_lists_no_slot(rt: HostRuntime) {
-    go(&rt, rt.alloc(), UNCHANGED_AND_LONG.as_slice());
-}
-
-const TO_ONE_PART_OF_FIVE: [(Step, Answer); 8] = [
-    (Step::Known(12), Answer::Fine),
-    (
-        Step::ReportsToPart(11, [Line(4, 13, 1), Line(3, 6, 1), Line(16, 17, 0)], 2, 5),
-        Answer::Did(3, 0, 5),
-    ),
-    (Step::Walk(11), Answer::Blocks([17, 12, 7, 0], 3)),
-    (Step::Entries, Answer::Number(3)),
-    (Step::MarksOf(12, 11), Answer::Tagged(Tag::Good, false)),
-    (
-        Step::ReportsToPart(11, [Line(8, 14, 0), NO_LINE, NO_LINE], 2, 5),
-        Answer::Did(0, 2, 5),
-    ),
-    (Step::Walk(11), Answer::Blocks([12, 0, 0, 0], 1)),
-    (Step::MarksOf(12, 11), Answer::Tagged(Tag::Stale, false)),
-];
-
-#[test]
-fn part_takes_its_own_numbers_of_each_run(rt: HostRuntime) {
-    go(&rt, rt.alloc(), TO_ONE_PART_OF_FIVE.as_slice());
-}
-
-/// Makes ready a report of a thousand new numbers from one on, and gives it up.
-fn give_up_thousand(rt: &impl Abort, world: &mut World, from: u64) {
-    let line = Line(from, from.saturating_add(999), 1);
-    let is_ready = world.report.ready(
-        &mut world.arena,
-        StorageId(11),
-        [entry(line)].as_slice(),
-        WHOLE,
-    );
-    assert!(rt; is_ready.is_ok());
-    assert_eq!(rt; world.arena.count(), 1001);
-    world.report.abort(&mut world.arena);
-}
-
-#[test]
-fn thousand_reports_given_up_leave_nothing(rt: HostRuntime) {
-    let mut world = one_node(&rt, rt.alloc());
-    let _ = link(&rt, &mut world.arena, 7, StorageId(12), true);
-    for i in 0..1000u64 {
-        give_up_thousand(&rt, &mut world, 1000 * (i + 1));
-    }
-    assert_eq!(&rt; world.arena.count(), 1);
-    assert_eq!(&rt;
-        walk(&rt, &world.arena, StorageId(12)),
-        Answer::Blocks([7, 0, 0, 0], 1)
-    );
-    assert_eq!(&rt;
-        walk(&rt, &world.arena, StorageId(11)),
-        Answer::Blocks([0, 0, 0, 0], 0)
-    );
-    assert_eq!(&rt;
-        marks_of(&world.arena, 7, StorageId(12)),
-        Answer::Tagged(Tag::Good, true)
-    );
+    go(rt, &mut world, scenario.name, scenario.steps);
     drop(world);
 }
 
-const NOTICES: [(Step, Answer); 7] = [
-    (Step::Known(7), Answer::Fine),
-    (Step::Linked(7, 12, false), Answer::Fine),
-    (Step::Receives(11, 7, 1), Answer::Did(1, 1, 2)),
-    (Step::Receives(11, 7, 0), Answer::Did(0, 0, 0)),
-    (Step::MarksOf(7, 11), Answer::Tagged(Tag::Stale, false)),
-    (Step::Deletes(11, 7), Answer::Did(0, 1, 1)),
-    (Step::Deletes(11, 7), Answer::Did(0, 0, 0)),
-];
-
 #[test]
-fn notices_of_one_replica(rt: HostRuntime) {
-    go(&rt, rt.alloc(), NOTICES.as_slice());
+fn reports_and_notices_change_an_arena_as_worked_out(rt: HostRuntime) {
+    for scenario in &SCENARIOS {
+        check(&rt, rt.alloc(), scenario);
+    }
 }
 
-const BY_NUMBER: [(Step, Answer); 15] = [
-    (Step::Known(7), Answer::Fine),
-    (Step::Known(9), Answer::Fine),
-    (Step::Linked(7, 11, true), Answer::Fine),
-    (Step::Linked(9, 12, false), Answer::Fine),
-    (
-        Step::ReportsByNumber(11, [Line(7, 7, 0), Line(7, 9, 1), NO_LINE]),
-        Answer::Did(2, 1, 7),
-    ),
-    (Step::Walk(11), Answer::Blocks([9, 8, 7, 0], 3)),
-    (Step::Walk(12), Answer::Blocks([0, 0, 0, 0], 0)),
-    (Step::MarksOf(7, 11), Answer::Tagged(Tag::Good, true)),
-    (
-        Step::ReportsByNumber(11, [Line(7, 7, 1), Line(7, 7, 0), NO_LINE]),
-        Answer::Did(0, 2, 6),
-    ),
-    (Step::MarksOf(7, 11), Answer::Tagged(Tag::Stale, false)),
-    (Step::ReceivesByNumber(12, 7, 1), Answer::Did(1, 1, 2)),
-    (
-        Step::Readies(11, [Line(1, 5, 1), NO_LINE, NO_LINE]),
-        Answer::Fine,
-    ),
-    (Step::GivesUpAll, Answer::Fine),
-    (Step::Entries, Answer::Number(2)),
-    (Step::Walk(12), Answer::Blocks([7, 0, 0, 0], 1)),
-];
+/// It takes longer than the others.
+static THOUSANDS: Scenario<'static> = Scenario {
+    name: "thousand reports given up leave nothing",
+    steps: &[
+        (Step::Linked(7, 12, true), Answer::Fine),
+        (Step::GivesUpThousands(1000), Answer::Fine),
+        (Step::Entries, Answer::Number(1)),
+        (Step::Walk(12), Answer::Blocks([7, 0, 0, 0], 1)),
+        (Step::Walk(11), Answer::Blocks([0, 0, 0, 0], 0)),
+        (Step::MarksOf(7, 12), Answer::Tagged(Tag::Good, true)),
+    ],
+};
 
 #[test]
-fn reports_with_no_slots_kept(rt: HostRuntime) {
-    go(&rt, rt.alloc(), BY_NUMBER.as_slice());
+fn thousand_reports_given_up_leave_nothing(rt: HostRuntime) {
+    check(&rt, rt.alloc(), &THOUSANDS);
 }

@@ -1,28 +1,14 @@
 // On a cluster of four nodes with a storage each, two on each of two racks, the choices are those worked out by hand.
 ghost use Rattle.std.specs.Prelude.{◌≡◌, ◌∷◌, []};
 
+use crate::support::{STAMP, four_nodes, storages_numbered, take};
 use bm_base::{
-    BlockId, Commands, Config, Delete, Event, Gen, Items, Level, NodeId, Rack, Remaining, Stamp,
-    StorageId, StorageIds, Transfer,
+    BlockId, Commands, Config, Delete, Event, Items, Level, NodeId, StorageId, StorageIds, Transfer,
 };
 use bm_round::{Chosen, RoundPart, Wish, choose, commands, merge_wishes};
 use bm_topo::Topology;
 use std::alloc::Global;
 use std::process::Abort;
-
-fn take(rt: &impl Abort, topology: &mut Topology, event: &Event) {
-    topology.check(event).expect(rt, "an event to be taken");
-    topology.prepare(event).expect(rt, "memory");
-    topology.commit(event);
-}
-
-fn list(rt: &impl Abort, alloc: Global, storages: &[u32]) -> Items<StorageId> {
-    let mut listed = Vec::new(alloc);
-    for storage in storages {
-        listed.push(StorageId(*storage)).expect(rt, "memory");
-    }
-    Items::from_vec(listed)
-}
 
 fn ids(rt: &impl Abort, alloc: Global, storages: &[u32]) -> StorageIds {
     let mut listed = StorageIds::new(alloc);
@@ -32,42 +18,38 @@ fn ids(rt: &impl Abort, alloc: Global, storages: &[u32]) -> StorageIds {
     listed
 }
 
-/// A node comes, on a rack, with one storage on which 1,000 bytes are free.
-fn node_comes(rt: &impl Abort, alloc: Global, topology: &mut Topology, node: u32, rack: u32) {
-    let storage = node.saturating_mul(10).saturating_add(1);
-    let joins = Event::Register {
-        node: NodeId(node),
-        rack: Rack(rack),
-        storages: list(rt, alloc, [storage].as_slice()),
-    };
-    take(rt, topology, &joins);
-    let free = Remaining {
-        storage: StorageId(storage),
-        remaining: 1000,
-    };
-    let beats = Event::Heartbeat {
-        node: NodeId(node),
-        remaining: Items::from_vec(Vec::from_slice(alloc, [free].as_slice()).expect(rt, "memory")),
-    };
-    take(rt, topology, &beats);
+/// The copies that a block wishes for, and the storages that hold it.
+#[derive(Clone, Copy)]
+struct Held<'a> {
+    count: u32,
+    live: &'a [u32],
+    drained: &'a [u32],
+    pairs: &'a [u32],
 }
 
-/// Nodes 1 to 4 with storages 11, 21, 31 and 41, on racks 1, 1, 2 and 2.
-fn four_nodes(rt: &impl Abort, alloc: Global) -> Topology {
-    let mut topology = Topology::new(alloc).expect(rt, "memory");
-    for (node, rack) in [(1, 1), (2, 1), (3, 2), (4, 2)] {
-        node_comes(rt, alloc, &mut topology, node, rack);
-    }
-    topology
-}
-
-const STAMP: Stamp = Stamp {
-    generation: Gen(1),
-    len: 10,
+/// One copy of a block that nothing holds yet.
+const HELD_NOWHERE: Held<'static> = Held {
+    count: 1,
+    live: &[],
+    drained: &[],
+    pairs: &[],
 };
 
-/// A wish for one copy of a block, which nothing holds yet.
-fn wish(alloc: Global, level: Level, block: u64) -> Wish
+const TWO_COPIES: Held<'static> = Held {
+    count: 2,
+    live: &[11],
+    drained: &[],
+    pairs: &[11],
+};
+
+const DRAINED_SOURCE: Held<'static> = Held {
+    count: 1,
+    live: &[21],
+    drained: &[11],
+    pairs: &[11, 21],
+};
+
+fn wish(rt: &impl Abort, alloc: Global, level: Level, block: u64, held: Held<'_>) -> Wish
     ensures level { result.level ≡ level }
     ensures block { result.block ≡ block }
 {
@@ -75,10 +57,10 @@ fn wish(alloc: Global, level: Level, block: u64) -> Wish
         level,
         block: BlockId(block),
         stamp: STAMP,
-        count: 1,
-        live: StorageIds::new(alloc),
-        drained: StorageIds::new(alloc),
-        pairs: StorageIds::new(alloc),
+        count: held.count,
+        live: ids(rt, alloc, held.live),
+        drained: ids(rt, alloc, held.drained),
+        pairs: ids(rt, alloc, held.pairs),
         pending: StorageIds::new(alloc),
     }
 }
@@ -115,33 +97,40 @@ fn are_keys(wishes: &[&Wish], keys: &[(u32, u64)]) -> bool {
     wishes.len() == keys.len()
 }
 
+fn unheld(rt: &impl Abort, alloc: Global, level: Level, block: u64) -> Wish
+    ensures level { result.level ≡ level }
+    ensures block { result.block ≡ block }
+{
+    wish(rt, alloc, level, block, HELD_NOWHERE)
+}
+
 #[test]
 fn wishes_of_two_parts_in_one_order(rt: HostRuntime) {
     let alloc = rt.alloc();
-    let high = wish(alloc, Level::UnderReplicated, 2);
-    let first = with_wishes(&rt, alloc, wish(alloc, Level::Highest, 4), high);
-    let high = wish(alloc, Level::VeryUnderReplicated, 1);
-    let second = with_wishes(&rt, alloc, wish(alloc, Level::Highest, 3), high);
+    let low = unheld(&rt, alloc, Level::Highest, 4);
+    let high = unheld(&rt, alloc, Level::UnderReplicated, 2);
+    let first = with_wishes(&rt, alloc, low, high);
+    let low = unheld(&rt, alloc, Level::Highest, 3);
+    let high = unheld(&rt, alloc, Level::VeryUnderReplicated, 1);
+    let second = with_wishes(&rt, alloc, low, high);
     let parts = [first, second];
     let merged = merge_wishes(alloc, parts.as_slice()).expect(&rt, "memory");
     let keys = [(0, 3), (0, 4), (1, 1), (2, 2)];
     assert!(rt; are_keys(merged.as_slice(), keys.as_slice()));
+    drop(merged);
+}
+
+fn lists_as_told(rt: &impl Abort, alloc: Global, numbers: &[u32]) -> bool {
+    let listed = ids(rt, alloc, numbers);
+    let wanted = storages_numbered(rt, alloc, numbers);
+    listed.as_slice() == wanted.as_slice()
 }
 
 /// More storages than a wish holds in itself: the lists of a block with six replicas.
 #[test]
 fn lists_of_more_than_four(rt: HostRuntime) {
-    let alloc = rt.alloc();
-    let four = ids(&rt, alloc, [1, 2, 3, 4].as_slice());
-    assert!(rt;
-        four.as_slice() == [StorageId(1), StorageId(2), StorageId(3), StorageId(4)].as_slice()
-    );
-    let six = ids(&rt, alloc, [9, 8, 7, 6, 5, 4].as_slice());
-    let wanted = [9, 8, 7, 6, 5, 4];
-    assert!(rt; six.as_slice().len() == wanted.len());
-    for (storage, number) in six.as_slice().iter().zip(wanted.as_slice()) {
-        assert!(rt; storage.0 == *number);
-    }
+    assert!(rt; lists_as_told(&rt, rt.alloc(), [1, 2, 3, 4].as_slice()));
+    assert!(rt; lists_as_told(&rt, rt.alloc(), [9, 8, 7, 6, 5, 4].as_slice()));
 }
 
 /// What is chosen of one part with this wish alone.
@@ -196,68 +185,92 @@ fn copy_to(target: u32) -> Transfer {
     }
 }
 
-#[test]
-fn two_copies_of_one_block(rt: HostRuntime) {
-    let alloc = rt.alloc();
-    let topology = four_nodes(&rt, alloc);
-    let mut wish = wish(alloc, Level::Highest, 7);
-    wish.count = 2;
-    wish.live = ids(&rt, alloc, [11].as_slice());
-    wish.pairs = ids(&rt, alloc, [11].as_slice());
-    let chosen = choose_wish(&rt, alloc, &topology, wish);
-    let transfers = [copy_to(31), copy_to(21)];
-    assert!(rt; is_chosen(&chosen, transfers.as_slice(), NO_DELETES.as_slice()));
-    let told = commands(alloc, 1, &chosen, &topology).expect(&rt, "memory");
-    assert!(rt;
-        is_told(
-            &told,
-            NodeId(1),
-            transfers.as_slice(),
-            NO_DELETES.as_slice()
-        )
+/// What a round chooses on a cluster, and what round 1 tells one node of it, if any.
+fn check_chosen(
+    rt: &impl Abort,
+    alloc: Global,
+    topology: &Topology,
+    chosen: &Chosen,
+    node: Option<NodeId>,
+    transfers: &[Transfer],
+    deletes: &[Delete],
+) {
+    assert!(rt; is_chosen(chosen, transfers, deletes));
+    let told = commands(alloc, 1, chosen, topology).expect(rt, "memory");
+    match node {
+        Some(node) => assert!(rt; is_told(&told, node, transfers, deletes)),
+        None => assert!(rt; told.nodes.as_slice().is_empty()),
+    }
+}
+
+/// Of a wish for copies of block 7, whose source is on node 1.
+fn check_copies(
+    rt: &impl Abort,
+    alloc: Global,
+    topology: &Topology,
+    held: Held<'_>,
+    transfers: &[Transfer],
+) {
+    let wish = wish(rt, alloc, Level::Highest, 7, held);
+    let chosen = choose_wish(rt, alloc, topology, wish);
+    let node = Some(NodeId(1));
+    check_chosen(
+        rt,
+        alloc,
+        topology,
+        &chosen,
+        node,
+        transfers,
+        NO_DELETES.as_slice(),
     );
 }
 
-#[test]
-fn drained_source_goes_first(rt: HostRuntime) {
-    let alloc = rt.alloc();
-    let mut topology = four_nodes(&rt, alloc);
-    take(&rt, &mut topology, &Event::Drain { node: NodeId(1) });
-    let mut wish = wish(alloc, Level::Highest, 7);
-    wish.live = ids(&rt, alloc, [21].as_slice());
-    wish.drained = ids(&rt, alloc, [11].as_slice());
-    wish.pairs = ids(&rt, alloc, [11, 21].as_slice());
-    let chosen = choose_wish(&rt, alloc, &topology, wish);
-    assert!(rt; is_chosen(&chosen, [copy_to(31)].as_slice(), NO_DELETES.as_slice()));
-}
-
-#[test]
-fn one_delete(rt: HostRuntime) {
-    let alloc = rt.alloc();
-    let topology = four_nodes(&rt, alloc);
+fn check_one_delete(rt: &impl Abort, alloc: Global, topology: &Topology) {
     let deletes = [Delete {
         storage: StorageId(31),
         block: BlockId(7),
     }];
-    let chosen = choose_delete(&rt, alloc, &topology, deletes[0]);
-    assert!(rt; is_chosen(&chosen, NO_TRANSFERS.as_slice(), deletes.as_slice()));
-    let told = commands(alloc, 1, &chosen, &topology).expect(&rt, "memory");
-    assert!(rt;
-        is_told(
-            &told,
-            NodeId(3),
-            NO_TRANSFERS.as_slice(),
-            deletes.as_slice()
-        )
+    let chosen = choose_delete(rt, alloc, topology, deletes[0]);
+    let node = Some(NodeId(3));
+    check_chosen(
+        rt,
+        alloc,
+        topology,
+        &chosen,
+        node,
+        NO_TRANSFERS.as_slice(),
+        deletes.as_slice(),
+    );
+}
+
+fn check_no_parts(rt: &impl Abort, alloc: Global, topology: &Topology) {
+    let chosen = choose_nothing(rt, alloc, topology);
+    check_chosen(
+        rt,
+        alloc,
+        topology,
+        &chosen,
+        None,
+        NO_TRANSFERS.as_slice(),
+        NO_DELETES.as_slice(),
     );
 }
 
 #[test]
-fn no_parts(rt: HostRuntime) {
+fn transfers_and_deletes_are_chosen(rt: HostRuntime) {
     let alloc = rt.alloc();
-    let topology = four_nodes(&rt, alloc);
-    let chosen = choose_nothing(&rt, alloc, &topology);
-    assert!(rt; is_chosen(&chosen, NO_TRANSFERS.as_slice(), NO_DELETES.as_slice()));
-    let told = commands(alloc, 1, &chosen, &topology).expect(&rt, "memory");
-    assert!(rt; told.nodes.as_slice().is_empty());
+    let mut topology = four_nodes(&rt, alloc);
+    let two = [copy_to(31), copy_to(21)];
+    check_copies(&rt, alloc, &topology, TWO_COPIES, two.as_slice());
+    check_one_delete(&rt, alloc, &topology);
+    check_no_parts(&rt, alloc, &topology);
+    take(&rt, &mut topology, &Event::Drain { node: NodeId(1) });
+    check_copies(
+        &rt,
+        alloc,
+        &topology,
+        DRAINED_SOURCE,
+        [copy_to(31)].as_slice(),
+    );
+    drop(topology);
 }

@@ -2,9 +2,10 @@
 ghost use Rattle.std.specs.Prelude.{◌≡◌, ◌+◌, ◌<◌, ◌^◌};
 ghost use Rattle.bm_shard.specs.Standing.{StandsIn, next_part};
 
+use crate::support::STAMP;
 use bm_base::{
-    BlockId, Chosen, Config, Delete, Done, Event, Gen, Items, Level, NodeId, Places, Rack, Refusal,
-    Remaining, Replica, ReplicaId, RoundPart, Stamp, StorageId, Tag, Transfer,
+    BlockId, Chosen, Config, Delete, Done, Event, Items, Level, NodeId, Places, Rack, Refusal,
+    Remaining, Replica, ReplicaId, RoundPart, StorageId, Tag, Transfer, Wish,
 };
 use bm_shard::Shard;
 use bm_topo::Topology;
@@ -15,10 +16,9 @@ const SEVEN: BlockId = BlockId(7);
 
 const NONE: [StorageId; 0] = [];
 
-const FIRST: Stamp = Stamp {
-    generation: Gen(1),
-    len: 10,
-};
+const NO_BLOCK: [BlockId; 0] = [];
+
+const NO_REPLICA: [ReplicaId; 0] = [];
 
 /// Takes an event that nothing refuses.
 fn apply(rt: &impl Abort, topology: &mut Topology, shard: &mut Shard, event: &Event) -> Done
@@ -87,7 +87,7 @@ fn received_event(storage: u32, block: BlockId) -> Event {
     Event::Received {
         storage: StorageId(storage),
         id: block,
-        stamp: FIRST,
+        stamp: STAMP,
     }
 }
 
@@ -112,7 +112,7 @@ fn begin(rt: &impl Abort, alloc: Global, topology: &mut Topology, shard: &mut Sh
     join(rt, alloc, topology, shard, 4, 2, 41);
     let add = Event::AddBlock {
         id: SEVEN,
-        stamp: FIRST,
+        stamp: STAMP,
         repl: 3,
     };
     apply(rt, topology, shard, &add);
@@ -120,62 +120,65 @@ fn begin(rt: &impl Abort, alloc: Global, topology: &mut Topology, shard: &mut Sh
     assert!(rt; done.added == 1 && done.removed == 0);
 }
 
+fn holds<T: PartialEq + Drop>(listed: Result<Items<T>, Refusal>, must: &[T]) -> bool {
+    match listed {
+        Ok(listed) => {
+            let is_so = listed.as_slice() == must;
+            drop(listed);
+            is_so
+        }
+        Err(_) => false,
+    }
+}
+
 /// What is asked of the shard after that.
 fn look(rt: &impl Abort, shard: &Shard) {
-    let replicas = shard.replicas().expect(rt, "memory");
     let replica = Replica {
         block: SEVEN,
         storage: StorageId(11),
         tag: Tag::Good,
     };
-    assert!(rt; replicas.as_slice() == [replica].as_slice());
-    drop(replicas);
-    let corrupt = shard.corrupt().expect(rt, "memory");
-    assert!(rt; corrupt.as_slice().is_empty());
-    drop(corrupt);
-    let missing = shard.missing().expect(rt, "memory");
-    assert!(rt; missing.as_slice().is_empty());
-    drop(missing);
-    let excess = shard.excess().expect(rt, "memory");
-    assert!(rt; excess.as_slice().is_empty());
-    drop(excess);
+    assert!(rt; holds(shard.replicas(), [replica].as_slice()));
+    assert!(rt; holds(shard.corrupt(), NO_REPLICA.as_slice()));
+    assert!(rt; holds(shard.missing(), NO_BLOCK.as_slice()));
+    assert!(rt; holds(shard.excess(), NO_REPLICA.as_slice()));
     look_further(rt, shard);
 }
 
 fn look_further(rt: &impl Abort, shard: &Shard) {
-    let blocks = shard.blocks_on(StorageId(11)).expect(rt, "memory");
-    assert!(rt; blocks.as_slice() == [SEVEN].as_slice());
-    drop(blocks);
-    let places = shard.places(SEVEN).expect(rt, "memory");
-    assert!(rt; places.as_slice() == [StorageId(11)].as_slice());
-    drop(places);
+    assert!(rt; holds(shard.blocks_on(StorageId(11)), [SEVEN].as_slice()));
+    assert!(rt; holds(shard.places(SEVEN), [StorageId(11)].as_slice()));
     assert!(rt; matches!(shard.places(BlockId(8)), Err(Refusal::UnknownBlock)));
-    let rows = shard.table_rows().expect(rt, "memory");
     let row = (SEVEN, Places::first_of([StorageId(11)].as_slice()));
-    assert!(rt; rows.as_slice() == [row].as_slice());
-    drop(rows);
+    assert!(rt; holds(shard.table_rows(), [row].as_slice()));
     assert!(rt; shard.level(SEVEN) == Ok(Some(Level::Highest)));
 }
 
-/// What the round finds: nothing but the wish for so many copies of block 7, with these targets on their way.
+/// Whether a wish is for so many copies of block 7, with these targets on their way.
+fn is_wish(wish: &Wish, count: u32, pending: &[StorageId]) -> bool {
+    let source = [StorageId(11)];
+    wish.level == Level::Highest
+        && wish.block == SEVEN
+        && wish.count == count
+        && wish.live.as_slice() == source.as_slice()
+        && wish.pairs.as_slice() == source.as_slice()
+        && wish.pending.as_slice() == pending
+}
+
+/// What the round finds: nothing but that wish.
 fn wishes(rt: &impl Abort, part: &RoundPart, count: u32, pending: &[StorageId]) {
     assert!(rt; part.expired.as_slice().is_empty());
     assert!(rt; part.excess.as_slice().is_empty());
     assert!(rt; part.deletes.as_slice().is_empty());
-    assert!(rt; part.wishes.as_slice().len() == 1);
-    for wish in part.wishes.as_slice() {
-        assert!(rt; wish.level == Level::Highest && wish.block == SEVEN && wish.count == count);
-        assert!(rt; wish.live.as_slice() == [StorageId(11)].as_slice());
-        assert!(rt; wish.pairs.as_slice() == [StorageId(11)].as_slice());
-        assert!(rt; wish.pending.as_slice() == pending);
-    }
+    let wishes = part.wishes.as_slice();
+    assert!(rt; wishes.len() == 1 && is_wish(&wishes[0], count, pending));
 }
 
 /// A copy of block 7 from storage 11 to storage 31 is chosen, and nothing else.
 fn one_copy(rt: &impl Abort, alloc: Global) -> Chosen {
     let copy = Transfer {
         block: SEVEN,
-        stamp: FIRST,
+        stamp: STAMP,
         source: StorageId(11),
         target: StorageId(31),
     };
@@ -197,8 +200,10 @@ fn copy(rt: &impl Abort, alloc: Global, topology: &Topology, shard: &mut Shard)
         .round_ready(&part, &chosen, topology)
         .expect(rt, "memory");
     shard.round_commit(&part, &chosen, topology);
+    drop(part);
     let part = shard.round_part(2, topology).expect(rt, "memory");
     wishes(rt, &part, 1, [StorageId(31)].as_slice());
+    drop(part);
 }
 
 #[test]

@@ -1,5 +1,6 @@
-// With ample memory each event that no check refuses is taken, and the cluster answers what was worked out by hand: each test is
-// a list of steps with what each must answer, and one function goes over them.
+// With ample memory each event that no check refuses is taken, and the cluster answers what was worked out by hand: a table of
+// scenarios, each a list of steps with what each must answer.
+use crate::support::check_step;
 use bm_base::{
     BlockId, Entry, Event, Gen, Items, NodeId, Rack, Refusal, Remaining, Stamp, StorageId,
 };
@@ -63,7 +64,7 @@ enum Step {
 }
 
 /// What a step answers.
-#[derive(Clone, Copy, Debug, PartialEq, Eq)]
+#[derive(Clone, Copy, PartialEq, Eq)]
 enum Answer {
     Fine,
     Refused(Refusal),
@@ -181,7 +182,7 @@ fn give_up(topology: &mut Topology, event: &Event) -> Answer {
     Answer::Fine
 }
 
-fn check(topology: &Topology, event: &Event) -> Answer {
+fn check_event(topology: &Topology, event: &Event) -> Answer {
     match topology.check(event) {
         Ok(()) => Answer::Fine,
         Err(refusal) => Answer::Refused(refusal),
@@ -202,21 +203,26 @@ fn number(found: Option<u64>) -> Answer {
 fn done_with(topology: &mut Topology, deed: Deed, event: &Event) -> Answer {
     match deed {
         Deed::Take => take(topology, event),
-        Deed::Check => check(topology, event),
+        Deed::Check => check_event(topology, event),
         Deed::GiveUp => give_up(topology, event),
         Deed::Foresee => yes(topology.multi_after(event)),
     }
 }
 
+/// A node without storages comes, on a rack of its own.
+fn take_bare(topology: &mut Topology, alloc: Global, node: u32) -> Answer {
+    let event = Event::Register {
+        node: NodeId(node),
+        rack: Rack(node),
+        storages: Items::from_vec(Vec::new(alloc)),
+    };
+    take(topology, &event)
+}
+
 /// `Fine` where each of the 256 is taken.
 fn crowd(topology: &mut Topology, alloc: Global) -> Answer {
     for node in 0..256 {
-        let event = Event::Register {
-            node: NodeId(node),
-            rack: Rack(node),
-            storages: Items::from_vec(Vec::new(alloc)),
-        };
-        if take(topology, &event) != Answer::Fine {
+        if take_bare(topology, alloc, node) != Answer::Fine {
             return Answer::No;
         }
     }
@@ -251,14 +257,26 @@ fn looked_up(topology: &Topology, step: Step) -> Option<u64> {
 }
 
 /// Goes the steps one after another; each answers as it must.
-fn go(rt: &impl Abort, alloc: Global, topology: &mut Topology, steps: &[(Step, Answer)]) {
-    for (place, (step, must)) in steps.iter().enumerate() {
-        let is = answer_of(rt, alloc, topology, *step);
-        assert_eq!(rt; is, *must, "step {place}");
+fn go(
+    rt: &impl Abort,
+    alloc: Global,
+    topology: &mut Topology,
+    name: &str,
+    steps: &[(Step, Answer)],
+) {
+    for (index, (step, must)) in steps.iter().enumerate() {
+        let is_correct = answer_of(rt, alloc, topology, *step) == *must;
+        check_step(rt, name, index, is_correct);
     }
 }
 
-const NOTHING: [(Step, Answer); 0] = [];
+/// Steps on a new cluster, each with what it must answer: those that lead up to the case, and those of the case.
+#[derive(Clone, Copy)]
+struct Scenario<'a> {
+    name: &'a str,
+    setup: &'a [(Step, Answer)],
+    steps: &'a [(Step, Answer)],
+}
 
 /// Four nodes with a storage each, two on each of two racks.
 const FOUR_NODES: [(Step, Answer); 12] = [
@@ -276,402 +294,321 @@ const FOUR_NODES: [(Step, Answer); 12] = [
     (Step::Do(Deed::Take, Told::Beats(4, 41, 1000)), Answer::Fine),
 ];
 
-/// The steps on a cluster that was led so far.
-fn go_from(rt: &impl Abort, alloc: Global, so_far: &[(Step, Answer)], steps: &[(Step, Answer)]) {
-    let mut topology = Topology::new(alloc).expect(rt, "memory");
-    go(rt, alloc, &mut topology, so_far);
-    go(rt, alloc, &mut topology, steps);
-}
-
-const FOUR_NODES_IN_RISING_ORDER_ON_TWO_RACKS: [(Step, Answer); 13] = [
-    (Step::Nodes, Answer::Number(4)),
-    (Step::HasRacks, Answer::Yes),
-    (Step::NodeOf(31), Answer::Number(3)),
-    (Step::RackOf(31), Answer::Number(2)),
-    (Step::FreeOn(31), Answer::Number(1000)),
-    (Step::NodeOf(99), Answer::Nothing),
-    (Step::RackOf(99), Answer::Nothing),
-    (Step::FreeOn(99), Answer::Nothing),
-    (Step::Storages, Answer::Number(4)),
-    (Step::StorageAt(2), Answer::Number(31)),
-    (Step::StorageAt(4), Answer::Nothing),
-    (Step::NodeAt(0), Answer::Number(1)),
-    (Step::NodeAt(4), Answer::Nothing),
-];
-
-#[test]
-fn four_nodes_in_rising_order_on_two_racks(rt: HostRuntime) {
-    go_from(
-        &rt,
-        rt.alloc(),
-        FOUR_NODES.as_slice(),
-        FOUR_NODES_IN_RISING_ORDER_ON_TWO_RACKS.as_slice(),
-    );
-}
-
-const DEATHS_LEAVE_ONE_RACK: [(Step, Answer); 8] = [
-    (Step::Do(Deed::Foresee, Told::Dies(3)), Answer::Yes),
-    (Step::Do(Deed::Take, Told::Dies(3)), Answer::Fine),
-    (Step::Do(Deed::Foresee, Told::Dies(4)), Answer::No),
-    (Step::HasRacks, Answer::Yes),
-    (Step::Do(Deed::Take, Told::Dies(4)), Answer::Fine),
-    (Step::HasRacks, Answer::No),
-    (Step::NodeOf(31), Answer::Nothing),
-    (Step::Storages, Answer::Number(2)),
-];
-
-#[test]
-fn deaths_leave_one_rack(rt: HostRuntime) {
-    go_from(
-        &rt,
-        rt.alloc(),
-        FOUR_NODES.as_slice(),
-        DEATHS_LEAVE_ONE_RACK.as_slice(),
-    );
-}
-
-const A_NODE_ON_ANOTHER_RACK_MAKES_TWO: [(Step, Answer); 5] = [
-    (Step::Do(Deed::Foresee, Told::Comes(1, 1, 0, 0)), Answer::No),
-    (Step::Do(Deed::Take, Told::Comes(1, 1, 0, 0)), Answer::Fine),
-    (Step::Do(Deed::Foresee, Told::Comes(2, 1, 0, 0)), Answer::No),
-    (
-        Step::Do(Deed::Foresee, Told::Comes(2, 2, 0, 0)),
-        Answer::Yes,
-    ),
-    (Step::Do(Deed::Foresee, Told::Dies(1)), Answer::No),
-];
-
-#[test]
-fn a_node_on_another_rack_makes_two(rt: HostRuntime) {
-    go_from(
-        &rt,
-        rt.alloc(),
-        NOTHING.as_slice(),
-        A_NODE_ON_ANOTHER_RACK_MAKES_TWO.as_slice(),
-    );
-}
-
-const A_DEAD_NODE_COMES_AGAIN_WITH_OTHER_STORAGES: [(Step, Answer); 5] = [
-    (Step::Do(Deed::Take, Told::Dies(1)), Answer::Fine),
-    (Step::Do(Deed::Take, Told::Comes(1, 7, 13, 1)), Answer::Fine),
-    (Step::NodeOf(11), Answer::Nothing),
-    (Step::RackOf(13), Answer::Number(7)),
-    (Step::FreeOn(13), Answer::Number(0)),
-];
-
-/// Nothing is left of the storages of a dead node: it may come again with others.
-#[test]
-fn a_dead_node_comes_again_with_other_storages(rt: HostRuntime) {
-    go_from(
-        &rt,
-        rt.alloc(),
-        FOUR_NODES.as_slice(),
-        A_DEAD_NODE_COMES_AGAIN_WITH_OTHER_STORAGES.as_slice(),
-    );
-}
-
-const A_FAILED_STORAGE_COMES_BACK_WITH_A_LATER_NODE: [(Step, Answer); 6] = [
-    (Step::Do(Deed::Take, Told::Fails(11)), Answer::Fine),
-    (Step::Nodes, Answer::Number(4)),
-    (
-        Step::Do(Deed::Check, Told::Fails(11)),
-        Answer::Refused(Refusal::UnknownStorage),
-    ),
-    (Step::Do(Deed::Take, Told::Comes(5, 1, 11, 1)), Answer::Fine),
-    (Step::NodeOf(11), Answer::Number(5)),
-    (Step::FreeOn(11), Answer::Number(0)),
-];
-
-#[test]
-fn a_failed_storage_comes_back_with_a_later_node(rt: HostRuntime) {
-    go_from(
-        &rt,
-        rt.alloc(),
-        FOUR_NODES.as_slice(),
-        A_FAILED_STORAGE_COMES_BACK_WITH_A_LATER_NODE.as_slice(),
-    );
-}
-
-const THE_LAST_VALUE_OF_A_STORAGE_COUNTS: [(Step, Answer); 2] = [
-    (
-        Step::Do(
-            Deed::Take,
-            Told::BeatsWithTwo(1, 11, 5, 11, 18_446_744_073_709_551_615),
-        ),
-        Answer::Fine,
-    ),
-    (Step::FreeOn(11), Answer::Number(18_446_744_073_709_551_615)),
-];
-
-#[test]
-fn the_last_value_of_a_storage_counts(rt: HostRuntime) {
-    go_from(
-        &rt,
-        rt.alloc(),
-        FOUR_NODES.as_slice(),
-        THE_LAST_VALUE_OF_A_STORAGE_COUNTS.as_slice(),
-    );
-}
-
-const WHAT_IS_GIVEN_UP_LEAVES_THE_CLUSTER: [(Step, Answer); 5] = [
-    (
-        Step::Do(Deed::GiveUp, Told::Comes(5, 1, 51, 1)),
-        Answer::Fine,
-    ),
-    (Step::Nodes, Answer::Number(4)),
-    (Step::NodeOf(51), Answer::Nothing),
-    (Step::Do(Deed::Take, Told::Comes(5, 1, 51, 1)), Answer::Fine),
-    (Step::Nodes, Answer::Number(5)),
-];
-
-#[test]
-fn what_is_given_up_leaves_the_cluster(rt: HostRuntime) {
-    go_from(
-        &rt,
-        rt.alloc(),
-        FOUR_NODES.as_slice(),
-        WHAT_IS_GIVEN_UP_LEAVES_THE_CLUSTER.as_slice(),
-    );
-}
-
-const REFUSALS_IN_THE_ORDER_OF_THE_CHECKS: [(Step, Answer); 14] = [
-    (
-        Step::Do(Deed::Check, Told::ComesWithTwo(1, 99, 99)),
-        Answer::Refused(Refusal::NodeKnown),
-    ),
-    (
-        Step::Do(Deed::Check, Told::ComesWithTwo(5, 51, 51)),
-        Answer::Refused(Refusal::StorageKnown),
-    ),
-    (
-        Step::Do(Deed::Check, Told::ComesWithTwo(5, 11, 11)),
-        Answer::Refused(Refusal::StorageKnown),
-    ),
-    (
-        Step::Do(Deed::Check, Told::ComesWithTwo(5, 51, 11)),
-        Answer::Refused(Refusal::StorageKnown),
-    ),
-    (Step::Do(Deed::Check, Told::Comes(5, 1, 0, 0)), Answer::Fine),
-    (
-        Step::Do(Deed::Check, Told::BeatsWithTwo(9, 99, 5, 99, 5)),
-        Answer::Refused(Refusal::UnknownNode),
-    ),
-    (
-        Step::Do(Deed::Check, Told::BeatsWithTwo(1, 21, 5, 99, 5)),
-        Answer::Refused(Refusal::UnknownStorage),
-    ),
-    (
-        Step::Do(Deed::Check, Told::BeatsWithTwo(1, 11, 5, 21, 5)),
-        Answer::Refused(Refusal::NotItsStorage),
-    ),
-    (
-        Step::Do(Deed::Check, Told::Dies(9)),
-        Answer::Refused(Refusal::UnknownNode),
-    ),
-    (
-        Step::Do(Deed::Check, Told::Reports(11, 65_536)),
-        Answer::Fine,
-    ),
-    (
-        Step::Do(Deed::Check, Told::Reports(11, 65_537)),
-        Answer::Refused(Refusal::TooMany),
-    ),
-    (
-        Step::Do(Deed::Check, Told::Reports(99, 65_537)),
-        Answer::Refused(Refusal::UnknownStorage),
-    ),
-    (
-        Step::Do(Deed::Check, Told::Drains(9)),
-        Answer::Refused(Refusal::UnknownNode),
-    ),
-    (
-        Step::Do(Deed::Check, Told::Stays(9)),
-        Answer::Refused(Refusal::UnknownNode),
-    ),
-];
-
-#[test]
-fn refusals_in_the_order_of_the_checks(rt: HostRuntime) {
-    go_from(
-        &rt,
-        rt.alloc(),
-        FOUR_NODES.as_slice(),
-        REFUSALS_IN_THE_ORDER_OF_THE_CHECKS.as_slice(),
-    );
-}
-
-const NO_257TH_NODE: [(Step, Answer); 5] = [
-    (Step::Crowd, Answer::Fine),
-    (Step::Nodes, Answer::Number(256)),
-    (
-        Step::Do(Deed::Check, Told::Comes(256, 1, 0, 0)),
-        Answer::Refused(Refusal::TooMany),
-    ),
-    (Step::Do(Deed::Take, Told::Dies(9)), Answer::Fine),
-    (
-        Step::Do(Deed::Check, Told::Comes(256, 1, 0, 0)),
-        Answer::Fine,
-    ),
-];
-
-#[test]
-fn no_257th_node(rt: HostRuntime) {
-    go_from(
-        &rt,
-        rt.alloc(),
-        NOTHING.as_slice(),
-        NO_257TH_NODE.as_slice(),
-    );
-}
-
-const NO_4097TH_STORAGE: [(Step, Answer); 6] = [
-    (
-        Step::Do(Deed::Take, Told::Comes(1, 1, 0, 4095)),
-        Answer::Fine,
-    ),
-    (
-        Step::Do(Deed::Check, Told::ComesWithTwo(2, 5000, 5001)),
-        Answer::Refused(Refusal::TooMany),
-    ),
-    (
-        Step::Do(Deed::Take, Told::Comes(2, 1, 5000, 1)),
-        Answer::Fine,
-    ),
-    (Step::Storages, Answer::Number(4096)),
-    (Step::StorageAt(4095), Answer::Number(5000)),
-    (
-        Step::Do(Deed::Check, Told::Comes(3, 1, 5001, 1)),
-        Answer::Refused(Refusal::TooMany),
-    ),
-];
-
-#[test]
-fn no_4097th_storage(rt: HostRuntime) {
-    go_from(
-        &rt,
-        rt.alloc(),
-        NOTHING.as_slice(),
-        NO_4097TH_STORAGE.as_slice(),
-    );
-}
-
-const STORAGES_AT_THE_LIMIT: [(Step, Answer); 3] = [
-    (
-        Step::Do(Deed::Take, Told::Comes(5, 1, 1001, 4092)),
-        Answer::Fine,
-    ),
-    (Step::Storages, Answer::Number(4096)),
-    (
-        Step::Do(Deed::Take, Told::Comes(6, 1, 6000, 1)),
-        Answer::Refused(Refusal::TooMany),
-    ),
-];
-
-#[test]
-fn storages_at_the_limit(rt: HostRuntime) {
-    go_from(
-        &rt,
-        rt.alloc(),
-        FOUR_NODES.as_slice(),
-        STORAGES_AT_THE_LIMIT.as_slice(),
-    );
-}
-
-/// A report may name 1,048,576 numbers in its runs together; one that ends before it begins names none.
-const NUMBERS_OF_A_REPORT_AT_THE_LIMIT: [(Step, Answer); 8] = [
-    (
-        Step::Do(Deed::Check, Told::ReportsRuns(11, 0, 1_048_575, 1)),
-        Answer::Fine,
-    ),
-    (
-        Step::Do(Deed::Check, Told::ReportsRuns(11, 0, 1_048_576, 1)),
-        Answer::Refused(Refusal::TooMany),
-    ),
-    (
-        Step::Do(
-            Deed::Check,
-            Told::ReportsRuns(
-                11,
-                18_446_744_073_709_551_615,
-                18_446_744_073_709_551_615,
-                1,
+static SCENARIOS: [Scenario<'static>; 13] = [
+    Scenario {
+        name: "four nodes in rising order on two racks",
+        setup: &FOUR_NODES,
+        steps: &[
+            (Step::Nodes, Answer::Number(4)),
+            (Step::HasRacks, Answer::Yes),
+            (Step::NodeOf(31), Answer::Number(3)),
+            (Step::RackOf(31), Answer::Number(2)),
+            (Step::FreeOn(31), Answer::Number(1000)),
+            (Step::NodeOf(99), Answer::Nothing),
+            (Step::RackOf(99), Answer::Nothing),
+            (Step::FreeOn(99), Answer::Nothing),
+            (Step::Storages, Answer::Number(4)),
+            (Step::StorageAt(2), Answer::Number(31)),
+            (Step::StorageAt(4), Answer::Nothing),
+            (Step::NodeAt(0), Answer::Number(1)),
+            (Step::NodeAt(4), Answer::Nothing),
+        ],
+    },
+    Scenario {
+        name: "deaths leave one rack",
+        setup: &FOUR_NODES,
+        steps: &[
+            (Step::Do(Deed::Foresee, Told::Dies(3)), Answer::Yes),
+            (Step::Do(Deed::Take, Told::Dies(3)), Answer::Fine),
+            (Step::Do(Deed::Foresee, Told::Dies(4)), Answer::No),
+            (Step::HasRacks, Answer::Yes),
+            (Step::Do(Deed::Take, Told::Dies(4)), Answer::Fine),
+            (Step::HasRacks, Answer::No),
+            (Step::NodeOf(31), Answer::Nothing),
+            (Step::Storages, Answer::Number(2)),
+        ],
+    },
+    Scenario {
+        name: "a node on another rack makes two",
+        setup: &[],
+        steps: &[
+            (Step::Do(Deed::Foresee, Told::Comes(1, 1, 0, 0)), Answer::No),
+            (Step::Do(Deed::Take, Told::Comes(1, 1, 0, 0)), Answer::Fine),
+            (Step::Do(Deed::Foresee, Told::Comes(2, 1, 0, 0)), Answer::No),
+            (
+                Step::Do(Deed::Foresee, Told::Comes(2, 2, 0, 0)),
+                Answer::Yes,
             ),
-        ),
-        Answer::Fine,
-    ),
-    (
-        Step::Do(
-            Deed::Check,
-            Told::ReportsRuns(11, 0, 18_446_744_073_709_551_615, 65_536),
-        ),
-        Answer::Refused(Refusal::TooMany),
-    ),
-    (
-        Step::Do(Deed::Check, Told::ReportsRuns(11, 1, 16, 65_536)),
-        Answer::Fine,
-    ),
-    (
-        Step::Do(Deed::Check, Told::ReportsRuns(11, 1, 17, 65_536)),
-        Answer::Refused(Refusal::TooMany),
-    ),
-    (
-        Step::Do(
-            Deed::Check,
-            Told::ReportsRuns(11, 18_446_744_073_709_551_615, 0, 65_536),
-        ),
-        Answer::Fine,
-    ),
-    (
-        Step::Do(Deed::Check, Told::ReportsRuns(11, 9, 8, 65_537)),
-        Answer::Refused(Refusal::TooMany),
-    ),
+            (Step::Do(Deed::Foresee, Told::Dies(1)), Answer::No),
+        ],
+    },
+    // Nothing is left of the storages of a dead node: it may come again with others.
+    Scenario {
+        name: "a dead node comes again with other storages",
+        setup: &FOUR_NODES,
+        steps: &[
+            (Step::Do(Deed::Take, Told::Dies(1)), Answer::Fine),
+            (Step::Do(Deed::Take, Told::Comes(1, 7, 13, 1)), Answer::Fine),
+            (Step::NodeOf(11), Answer::Nothing),
+            (Step::RackOf(13), Answer::Number(7)),
+            (Step::FreeOn(13), Answer::Number(0)),
+        ],
+    },
+    Scenario {
+        name: "a failed storage comes back with a later node",
+        setup: &FOUR_NODES,
+        steps: &[
+            (Step::Do(Deed::Take, Told::Fails(11)), Answer::Fine),
+            (Step::Nodes, Answer::Number(4)),
+            (
+                Step::Do(Deed::Check, Told::Fails(11)),
+                Answer::Refused(Refusal::UnknownStorage),
+            ),
+            (Step::Do(Deed::Take, Told::Comes(5, 1, 11, 1)), Answer::Fine),
+            (Step::NodeOf(11), Answer::Number(5)),
+            (Step::FreeOn(11), Answer::Number(0)),
+        ],
+    },
+    Scenario {
+        name: "the last value of a storage counts",
+        setup: &FOUR_NODES,
+        steps: &[
+            (
+                Step::Do(
+                    Deed::Take,
+                    Told::BeatsWithTwo(1, 11, 5, 11, 18_446_744_073_709_551_615),
+                ),
+                Answer::Fine,
+            ),
+            (Step::FreeOn(11), Answer::Number(18_446_744_073_709_551_615)),
+        ],
+    },
+    Scenario {
+        name: "what is given up leaves the cluster",
+        setup: &FOUR_NODES,
+        steps: &[
+            (
+                Step::Do(Deed::GiveUp, Told::Comes(5, 1, 51, 1)),
+                Answer::Fine,
+            ),
+            (Step::Nodes, Answer::Number(4)),
+            (Step::NodeOf(51), Answer::Nothing),
+            (Step::Do(Deed::Take, Told::Comes(5, 1, 51, 1)), Answer::Fine),
+            (Step::Nodes, Answer::Number(5)),
+        ],
+    },
+    Scenario {
+        name: "refusals in the order of the checks",
+        setup: &FOUR_NODES,
+        steps: &[
+            (
+                Step::Do(Deed::Check, Told::ComesWithTwo(1, 99, 99)),
+                Answer::Refused(Refusal::NodeKnown),
+            ),
+            (
+                Step::Do(Deed::Check, Told::ComesWithTwo(5, 51, 51)),
+                Answer::Refused(Refusal::StorageKnown),
+            ),
+            (
+                Step::Do(Deed::Check, Told::ComesWithTwo(5, 11, 11)),
+                Answer::Refused(Refusal::StorageKnown),
+            ),
+            (
+                Step::Do(Deed::Check, Told::ComesWithTwo(5, 51, 11)),
+                Answer::Refused(Refusal::StorageKnown),
+            ),
+            (Step::Do(Deed::Check, Told::Comes(5, 1, 0, 0)), Answer::Fine),
+            (
+                Step::Do(Deed::Check, Told::BeatsWithTwo(9, 99, 5, 99, 5)),
+                Answer::Refused(Refusal::UnknownNode),
+            ),
+            (
+                Step::Do(Deed::Check, Told::BeatsWithTwo(1, 21, 5, 99, 5)),
+                Answer::Refused(Refusal::UnknownStorage),
+            ),
+            (
+                Step::Do(Deed::Check, Told::BeatsWithTwo(1, 11, 5, 21, 5)),
+                Answer::Refused(Refusal::NotItsStorage),
+            ),
+            (
+                Step::Do(Deed::Check, Told::Dies(9)),
+                Answer::Refused(Refusal::UnknownNode),
+            ),
+            (
+                Step::Do(Deed::Check, Told::Reports(11, 65_536)),
+                Answer::Fine,
+            ),
+            (
+                Step::Do(Deed::Check, Told::Reports(11, 65_537)),
+                Answer::Refused(Refusal::TooMany),
+            ),
+            (
+                Step::Do(Deed::Check, Told::Reports(99, 65_537)),
+                Answer::Refused(Refusal::UnknownStorage),
+            ),
+            (
+                Step::Do(Deed::Check, Told::Drains(9)),
+                Answer::Refused(Refusal::UnknownNode),
+            ),
+            (
+                Step::Do(Deed::Check, Told::Stays(9)),
+                Answer::Refused(Refusal::UnknownNode),
+            ),
+        ],
+    },
+    Scenario {
+        name: "no 257th node",
+        setup: &[],
+        steps: &[
+            (Step::Crowd, Answer::Fine),
+            (Step::Nodes, Answer::Number(256)),
+            (
+                Step::Do(Deed::Check, Told::Comes(256, 1, 0, 0)),
+                Answer::Refused(Refusal::TooMany),
+            ),
+            (Step::Do(Deed::Take, Told::Dies(9)), Answer::Fine),
+            (
+                Step::Do(Deed::Check, Told::Comes(256, 1, 0, 0)),
+                Answer::Fine,
+            ),
+        ],
+    },
+    Scenario {
+        name: "no 4097th storage",
+        setup: &[],
+        steps: &[
+            (
+                Step::Do(Deed::Take, Told::Comes(1, 1, 0, 4095)),
+                Answer::Fine,
+            ),
+            (
+                Step::Do(Deed::Check, Told::ComesWithTwo(2, 5000, 5001)),
+                Answer::Refused(Refusal::TooMany),
+            ),
+            (
+                Step::Do(Deed::Take, Told::Comes(2, 1, 5000, 1)),
+                Answer::Fine,
+            ),
+            (Step::Storages, Answer::Number(4096)),
+            (Step::StorageAt(4095), Answer::Number(5000)),
+            (
+                Step::Do(Deed::Check, Told::Comes(3, 1, 5001, 1)),
+                Answer::Refused(Refusal::TooMany),
+            ),
+        ],
+    },
+    Scenario {
+        name: "storages at the limit",
+        setup: &FOUR_NODES,
+        steps: &[
+            (
+                Step::Do(Deed::Take, Told::Comes(5, 1, 1001, 4092)),
+                Answer::Fine,
+            ),
+            (Step::Storages, Answer::Number(4096)),
+            (
+                Step::Do(Deed::Take, Told::Comes(6, 1, 6000, 1)),
+                Answer::Refused(Refusal::TooMany),
+            ),
+        ],
+    },
+    // A report may name 1,048,576 numbers in its runs together; one that ends before it begins names none.
+    Scenario {
+        name: "numbers of a report at the limit",
+        setup: &FOUR_NODES,
+        steps: &[
+            (
+                Step::Do(Deed::Check, Told::ReportsRuns(11, 0, 1_048_575, 1)),
+                Answer::Fine,
+            ),
+            (
+                Step::Do(Deed::Check, Told::ReportsRuns(11, 0, 1_048_576, 1)),
+                Answer::Refused(Refusal::TooMany),
+            ),
+            (
+                Step::Do(
+                    Deed::Check,
+                    Told::ReportsRuns(
+                        11,
+                        18_446_744_073_709_551_615,
+                        18_446_744_073_709_551_615,
+                        1,
+                    ),
+                ),
+                Answer::Fine,
+            ),
+            (
+                Step::Do(
+                    Deed::Check,
+                    Told::ReportsRuns(11, 0, 18_446_744_073_709_551_615, 65_536),
+                ),
+                Answer::Refused(Refusal::TooMany),
+            ),
+            (
+                Step::Do(Deed::Check, Told::ReportsRuns(11, 1, 16, 65_536)),
+                Answer::Fine,
+            ),
+            (
+                Step::Do(Deed::Check, Told::ReportsRuns(11, 1, 17, 65_536)),
+                Answer::Refused(Refusal::TooMany),
+            ),
+            (
+                Step::Do(
+                    Deed::Check,
+                    Told::ReportsRuns(11, 18_446_744_073_709_551_615, 0, 65_536),
+                ),
+                Answer::Fine,
+            ),
+            (
+                Step::Do(Deed::Check, Told::ReportsRuns(11, 9, 8, 65_537)),
+                Answer::Refused(Refusal::TooMany),
+            ),
+        ],
+    },
+    Scenario {
+        name: "nodes drain until they stay or die",
+        setup: &FOUR_NODES,
+        steps: &[
+            (Step::NodeDrains(1), Answer::No),
+            (Step::NodeDrains(9), Answer::Nothing),
+            (Step::OnDraining(11), Answer::No),
+            (Step::OnDraining(99), Answer::No),
+            (Step::Do(Deed::GiveUp, Told::Drains(1)), Answer::Fine),
+            (Step::NodeDrains(1), Answer::No),
+            (Step::Do(Deed::Take, Told::Drains(1)), Answer::Fine),
+            (Step::Do(Deed::Take, Told::Drains(3)), Answer::Fine),
+            (Step::Do(Deed::Take, Told::Drains(1)), Answer::Fine),
+            (Step::NodeDrains(1), Answer::Yes),
+            (Step::NodeDrains(2), Answer::No),
+            (Step::OnDraining(11), Answer::Yes),
+            (Step::OnDraining(21), Answer::No),
+            (Step::OnDraining(31), Answer::Yes),
+            (Step::HasRacks, Answer::Yes),
+            (Step::Do(Deed::Foresee, Told::Drains(4)), Answer::Yes),
+            (Step::Nodes, Answer::Number(4)),
+            (Step::FreeOn(11), Answer::Number(1000)),
+            (Step::Do(Deed::Take, Told::Stays(1)), Answer::Fine),
+            (Step::Do(Deed::Take, Told::Stays(1)), Answer::Fine),
+            (Step::NodeDrains(1), Answer::No),
+            (Step::OnDraining(31), Answer::Yes),
+            (Step::Do(Deed::Take, Told::Dies(3)), Answer::Fine),
+            (Step::NodeDrains(3), Answer::Nothing),
+            (Step::Do(Deed::Take, Told::Comes(3, 2, 31, 1)), Answer::Fine),
+            (Step::NodeDrains(3), Answer::No),
+        ],
+    },
 ];
 
-#[test]
-fn numbers_of_a_report_at_the_limit(rt: HostRuntime) {
-    go_from(
-        &rt,
-        rt.alloc(),
-        FOUR_NODES.as_slice(),
-        NUMBERS_OF_A_REPORT_AT_THE_LIMIT.as_slice(),
-    );
+fn check(rt: &impl Abort, alloc: Global, scenario: &Scenario<'_>) {
+    let mut topology = Topology::new(alloc).expect(rt, "memory");
+    go(rt, alloc, &mut topology, "setup", scenario.setup);
+    go(rt, alloc, &mut topology, scenario.name, scenario.steps);
+    drop(topology);
 }
 
-const NODES_DRAIN_UNTIL_THEY_STAY_OR_DIE: [(Step, Answer); 26] = [
-    (Step::NodeDrains(1), Answer::No),
-    (Step::NodeDrains(9), Answer::Nothing),
-    (Step::OnDraining(11), Answer::No),
-    (Step::OnDraining(99), Answer::No),
-    (Step::Do(Deed::GiveUp, Told::Drains(1)), Answer::Fine),
-    (Step::NodeDrains(1), Answer::No),
-    (Step::Do(Deed::Take, Told::Drains(1)), Answer::Fine),
-    (Step::Do(Deed::Take, Told::Drains(3)), Answer::Fine),
-    (Step::Do(Deed::Take, Told::Drains(1)), Answer::Fine),
-    (Step::NodeDrains(1), Answer::Yes),
-    (Step::NodeDrains(2), Answer::No),
-    (Step::OnDraining(11), Answer::Yes),
-    (Step::OnDraining(21), Answer::No),
-    (Step::OnDraining(31), Answer::Yes),
-    (Step::HasRacks, Answer::Yes),
-    (Step::Do(Deed::Foresee, Told::Drains(4)), Answer::Yes),
-    (Step::Nodes, Answer::Number(4)),
-    (Step::FreeOn(11), Answer::Number(1000)),
-    (Step::Do(Deed::Take, Told::Stays(1)), Answer::Fine),
-    (Step::Do(Deed::Take, Told::Stays(1)), Answer::Fine),
-    (Step::NodeDrains(1), Answer::No),
-    (Step::OnDraining(31), Answer::Yes),
-    (Step::Do(Deed::Take, Told::Dies(3)), Answer::Fine),
-    (Step::NodeDrains(3), Answer::Nothing),
-    (Step::Do(Deed::Take, Told::Comes(3, 2, 31, 1)), Answer::Fine),
-    (Step::NodeDrains(3), Answer::No),
-];
-
 #[test]
-fn nodes_drain_until_they_stay_or_die(rt: HostRuntime) {
-    go_from(
-        &rt,
-        rt.alloc(),
-        FOUR_NODES.as_slice(),
-        NODES_DRAIN_UNTIL_THEY_STAY_OR_DIE.as_slice(),
-    );
+fn clusters_answer_as_worked_out(rt: HostRuntime) {
+    for scenario in &SCENARIOS {
+        check(&rt, rt.alloc(), scenario);
+    }
 }

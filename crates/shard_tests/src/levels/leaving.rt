@@ -2,10 +2,8 @@
 ghost use Rattle.std.specs.Prelude.{◌≡◌};
 ghost use Rattle.bm_base.specs.State.{empty_cluster};
 
-use bm_base::{
-    BlockId, BlockInfo, Entry, Event, Gen, HashSecret, Items, Level, NodeId, Part, Rack, Stamp,
-    StorageId,
-};
+use crate::support::{STAMP, join};
+use bm_base::{BlockId, BlockInfo, Entry, Event, HashSecret, Level, NodeId, Part, StorageId};
 use bm_levels::LeveledBlocks;
 use bm_report::Report;
 use bm_topo::Topology;
@@ -14,36 +12,17 @@ use std::process::Abort;
 
 const ID: BlockId = BlockId(7);
 
-const STAMP: Stamp = Stamp {
-    generation: Gen(1),
-    len: 10,
-};
-
 fn nowhere(rt: &impl Abort, alloc: Global) -> Topology
     ensures { result.cluster ≡ empty_cluster }
 {
     Topology::new(alloc).expect(rt, "memory")
 }
 
-/// A node comes, on a rack of its number, with one storage.
-fn register(rt: &impl Abort, alloc: Global, topology: &mut Topology, node: u32, storage: u32) {
-    let mut storages = Vec::new(alloc);
-    storages.push(StorageId(storage)).expect(rt, "memory");
-    let event = Event::Register {
-        node: NodeId(node),
-        rack: Rack(node),
-        storages: Items::from_vec(storages),
-    };
-    topology.check(&event).expect(rt, "a new node");
-    topology.prepare(&event).expect(rt, "memory");
-    topology.commit(&event);
-}
-
 /// Two nodes on two racks, 1 with storage 11 and 2 with storage 21.
 fn two_nodes(rt: &impl Abort, alloc: Global) -> Topology {
     let mut topology = nowhere(rt, alloc);
-    register(rt, alloc, &mut topology, 1, 11);
-    register(rt, alloc, &mut topology, 2, 21);
+    join(rt, alloc, &mut topology, 1, 1, [11].as_slice());
+    join(rt, alloc, &mut topology, 2, 2, [21].as_slice());
     topology
 }
 
@@ -59,6 +38,8 @@ fn receive(rt: &impl Abort, alloc: Global, blocks: &mut LeveledBlocks, storage: 
     let ready = blocks.ready_report(&mut report, storage, entries.as_slice(), part);
     assert!(rt; ready.is_ok());
     blocks.receive(&report, &nowhere, storage, ID, STAMP);
+    drop(report);
+    drop(nowhere);
 }
 
 /// A block of which two replicas are wanted has one on storage 11 and one on 21.
@@ -108,4 +89,6 @@ fn replicas_drain_and_leave(rt: HostRuntime) {
     let topology = two_nodes(&rt, rt.alloc());
     let mut blocks = on_both(&rt, rt.alloc(), &topology);
     assert!(rt; goes_rightly(&topology, &mut blocks));
+    drop(blocks);
+    drop(topology);
 }

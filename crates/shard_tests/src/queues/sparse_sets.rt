@@ -1,4 +1,5 @@
 // A sparse set of four slots: a list of steps with what each must answer.
+use crate::support::check_step;
 use bm_base::Refusal;
 use bm_queues::SparseSet;
 
@@ -16,7 +17,7 @@ enum Step {
 }
 
 /// What a step answers.
-#[derive(Clone, Copy, Debug, PartialEq, Eq)]
+#[derive(Clone, Copy, PartialEq, Eq)]
 enum Answer {
     Fine,
     Refused,
@@ -88,7 +89,7 @@ fn of_set(slots: &mut SparseSet, step: Step) -> Answer {
     }
 }
 
-const FOUR_SLOTS: [(Step, Answer); 22] = [
+static FOUR_SLOTS: [(Step, Answer); 22] = [
     (Step::Insert(0), Answer::NoRoom),
     (Step::GrowTo(4), Answer::Fine),
     (Step::Members, Answer::Slots([0, 0, 0], 0)),
@@ -120,8 +121,8 @@ const FOUR_SLOTS: [(Step, Answer); 22] = [
 #[test]
 fn sparse_set_of_four_slots(rt: HostRuntime) {
     let mut slots = SparseSet::new(rt.alloc());
-    for (place, (step, must)) in FOUR_SLOTS.iter().enumerate() {
-        let is = of_set(&mut slots, *step);
-        assert_eq!(rt; is, *must, "step {place}");
+    for (index, (step, must)) in FOUR_SLOTS.iter().enumerate() {
+        let is_correct = of_set(&mut slots, *step) == *must;
+        check_step(&rt, "sparse set", index, is_correct);
     }
 }
