@@ -44,9 +44,7 @@ pub fn run<R: BufRead, W: Write, N: Write, H: Threads + Wait + Sync>(
     let Ok(mut session) = Session::new(alloc, config) else {
         return Err(Fault::Memory);
     };
-    let result = report(rt, alloc, &mut session, reader, writer, notes);
-    drop(session);
-    result
+    report(rt, alloc, &mut session, reader, writer, notes)
 }
 
 /// The same in a session that was just begun.
