@@ -89,6 +89,11 @@ def program(crate):
     return str(path)
 
 
+def cluster_command(word):
+    """The words that start the program for clusters: `import`, `report` or `simulate`."""
+    return [program("puljemrod_cluster"), word]
+
+
 def stored_output(crate, part=None):
     """What a program must print, or the part of it under the heading `== PART`."""
     text = (TOP / "crates" / crate / "stdout").read_text()

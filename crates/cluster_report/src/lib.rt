@@ -2,7 +2,7 @@
 //! manager, and writes at the end of the input how the cluster stands.
 //!
 //! ```text
-//! cluster_report < cluster.jsonl
+//! puljemrod_cluster report < cluster.jsonl
 //! ```
 //!
 //! The report has a line for each fact (docs/FORMATS.md): the accepted calls and the rounds; each node with its rack, whether it is
@@ -10,7 +10,7 @@
 //! first missing and the most urgent blocks. A line that asks for no call, or whose call is refused, is told on standard error with its
 //! number, and the report still comes.
 //!
-//! The numbers of the file `stdout` follow from the rules. Nodes 1, 2 and 5 stand on rack 1, nodes 3 and 4 on rack 2; nodes 2 and 5 drain,
+//! The numbers of the stored run of `puljemrod_cluster` follow from the rules. Nodes 1, 2 and 5 stand on rack 1, nodes 3 and 4 on rack 2; nodes 2 and 5 drain,
 //! and node 5 has nothing, so it is retired. Replicas that were found bad or are of another version count for nothing. Of the blocks
 //! - 1 wants three replicas and has live ones on storages 11 and 31, not all but a third or more: level 2;
 //! - 2 wants two and has one on storage 21, which drains, and none live: level 0; the one on storage 41 is stale;
@@ -52,12 +52,10 @@ use fault::Fault;
 use options::config_of;
 use run::run;
 use std::alloc::Global;
-use std::env::Env;
+use std::io;
 use std::io::{BufReader, BufWriter};
-use std::process::ExitCode;
 use std::sync::Wait;
 use std::thread::Threads;
-use std::{env, io};
 
 const DONE: u8 = 0;
 
@@ -65,37 +63,9 @@ const FAULTED: u8 = 1;
 
 const MISUSED: u8 = 2;
 
-fn main(rt: HostRuntime) -> ExitCode {
-    ExitCode::from(status_of(&rt, &rt.stderr()))
-}
-
-/// Reads the options, and makes the run that they ask for.
-fn status_of<R: Env + Input + Print + Eprint + AllocGlobal + Threads + Wait + Sync, N: Print>(
-    rt: &R,
-    notes: &N,
-) -> u8 {
-    match words_of(rt) {
-        Ok(words) => asked_status(rt, notes, words.as_slice()),
-        Err(error) if error.kind() == io::ErrorKind::OutOfMemory => say_fault(rt, Fault::Memory),
-        Err(_) => {
-            let _ = rt.eprintln("error: an argument is not UTF-8");
-            MISUSED
-        }
-    }
-}
-
-/// The words of the command line. Each is pushed, so that no refused growth is passed over.
-fn words_of<R: Env + AllocGlobal>(rt: &R) -> io::Result<Vec<String>> {
-    let mut words = Vec::new(rt.alloc());
-    for word in env::args(rt)? {
-        if words.push(word).is_err() {
-            return Err(io::Error::from(io::ErrorKind::OutOfMemory));
-        }
-    }
-    Ok(words)
-}
-
-fn asked_status<R: Input + Print + Eprint + AllocGlobal + Threads + Wait + Sync, N: Print>(
+/// Makes the report that the words of a command line ask for, the program's name first, from standard input to standard output, with
+/// refused lines on `notes`. The result is the exit status.
+pub fn report_by_words<R: Input + Print + Eprint + AllocGlobal + Threads + Wait + Sync, N: Print>(
     rt: &R,
     notes: &N,
     words: &[String],

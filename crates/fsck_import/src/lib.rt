@@ -1,5 +1,5 @@
-//! Reads what `hdfs fsck / -files -blocks -locations -racks` wrote from standard input, and writes the lines to standard output that
-//! tell the line tool of that cluster. Which number stands for which name goes to standard error, or into a file.
+//! The import: reads from standard input what `hdfs fsck / -files -blocks -locations -racks` wrote, and writes to standard output the
+//! lines that make the line tool know that cluster. The table of names and their numbers goes to standard error, or into a file.
 #![tactic(auto)]
 
 mod blocks;
@@ -30,11 +30,9 @@ use fault::Fault;
 use import::import;
 use options::{Asked, asked_by};
 use std::alloc::Global;
-use std::env::Env;
+use std::io;
 use std::io::{BufReader, BufWriter};
-use std::process::ExitCode;
 use std::rt::Files;
-use std::{env, io};
 
 const DONE: u8 = 0;
 
@@ -42,37 +40,10 @@ const FAULTED: u8 = 1;
 
 const MISUSED: u8 = 2;
 
-fn main(rt: HostRuntime) -> ExitCode {
-    ExitCode::from(status_of(&rt, &rt.stderr()))
-}
-
-/// Reads the options, and makes the run that they ask for.
-fn status_of<R: Env + Input + Print + Eprint + Files + AllocGlobal, N: Print>(
-    rt: &R,
-    notes: &N,
-) -> u8 {
-    match words_of(rt) {
-        Ok(words) => asked_status(rt, notes, words.as_slice()),
-        Err(error) if error.kind() == io::ErrorKind::OutOfMemory => say_fault(rt, Fault::Memory),
-        Err(_) => {
-            let _ = rt.eprintln("error: an argument is not UTF-8");
-            MISUSED
-        }
-    }
-}
-
-/// The words of the command line. Each is pushed, so that no refused growth is passed over.
-fn words_of<R: Env + AllocGlobal>(rt: &R) -> io::Result<Vec<String>> {
-    let mut words = Vec::new(rt.alloc());
-    for word in env::args(rt)? {
-        if words.push(word).is_err() {
-            return Err(io::Error::from(io::ErrorKind::OutOfMemory));
-        }
-    }
-    Ok(words)
-}
-
-fn asked_status<R: Input + Print + Eprint + Files + AllocGlobal, N: Print>(
+/// Makes the import that the words of a command line ask for, the program's name first, from standard input to standard output;
+/// what goes to standard error is written to `notes`, or said by `rt`. The result is the exit status: 0, 1 after a fault, or 2
+/// where the words ask for nothing that there is.
+pub fn import_by_words<R: Input + Print + Eprint + Files + AllocGlobal, N: Print>(
     rt: &R,
     notes: &N,
     words: &[String],

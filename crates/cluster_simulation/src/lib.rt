@@ -3,7 +3,7 @@
 //! (SVG). The same words give the same bytes.
 //!
 //! ```text
-//! cluster_simulation --story rack-dies --rounds 100 --svg > rack.svg
+//! puljemrod_cluster simulate --story rack-dies --rounds 100 --svg > rack.svg
 //! ```
 //!
 //! In each round DataNodes first tell what they have done: what a round commands is done `delay` rounds later, if the disks that it
@@ -13,7 +13,7 @@
 //! deletes that the round commands, and the calls that the manager refused since the round before. The dead tell nothing, so it has
 //! nothing to refuse.
 //!
-//! The numbers of the file `stdout` follow from the rules, whatever is drawn. There are four nodes, two on each of two racks, and six
+//! The numbers of `examples/stories/one_of_two_racks_dies.csv` follow from the rules, whatever is drawn. There are four nodes, two on each of two racks, and six
 //! blocks, each with one replica on each rack. In round 5 the nodes of one rack die:
 //! - Round 5: each block has one live replica, and wants two, so all six are of the highest urgency, and one copy of each is wished
 //!   for. A round commands two copies for each of the two nodes that are left: four. A node may send four of the highest urgency, and
@@ -50,12 +50,10 @@ use fault::Fault;
 use options::{Form, Options, options_of};
 use simulation::Simulation;
 use std::alloc::{AllocError, Global};
-use std::env::Env;
+use std::io;
 use std::io::Write;
-use std::process::ExitCode;
 use std::sync::Wait;
 use std::thread::Threads;
-use std::{env, io};
 use svg::svg_text;
 
 const DONE: u8 = 0;
@@ -64,34 +62,9 @@ const FAULTED: u8 = 1;
 
 const MISUSED: u8 = 2;
 
-fn main(rt: HostRuntime) -> ExitCode {
-    ExitCode::from(status_of(&rt))
-}
-
-/// Reads the options, and tells the story that they ask for.
-fn status_of<R: Env + Print + Eprint + AllocGlobal + Threads + Wait + Sync>(rt: &R) -> u8 {
-    match words_of(rt) {
-        Ok(words) => asked_status(rt, words.as_slice()),
-        Err(error) if error.kind() == io::ErrorKind::OutOfMemory => say_fault(rt, Fault::Memory),
-        Err(_) => {
-            let _ = rt.eprintln("error: an argument is not UTF-8");
-            MISUSED
-        }
-    }
-}
-
-/// The words of the command line. Each is pushed, so that no refused growth is passed over.
-fn words_of<R: Env + AllocGlobal>(rt: &R) -> io::Result<Vec<String>> {
-    let mut words = Vec::new(rt.alloc());
-    for word in env::args(rt)? {
-        if words.push(word).is_err() {
-            return Err(io::Error::from(io::ErrorKind::OutOfMemory));
-        }
-    }
-    Ok(words)
-}
-
-fn asked_status<R: Print + Eprint + AllocGlobal + Threads + Wait + Sync>(
+/// Tells the story that the words of a command line ask for, the program's name first, on standard output. The result is the exit
+/// status.
+pub fn simulate_by_words<R: Print + Eprint + AllocGlobal + Threads + Wait + Sync>(
     rt: &R,
     words: &[String],
 ) -> u8 {

@@ -1,0 +1,72 @@
+//! Clusters, by the first word: `import` writes what `hdfs fsck` says of one as lines of the line tool, `report` says how the cluster
+//! of such lines stands, `simulate` shows how a made-up one mends.
+//!
+//! ```text
+//! puljemrod_cluster report < cluster.jsonl
+//! ```
+//!
+//! The exit status is 0, 1 after a fault or where `report` met a refused line, and 2 where the words ask for nothing that there is.
+//! The stored run is a report, which `crates/cluster_report` explains.
+#![tactic(auto)]
+
+use cluster_report::report_by_words;
+use cluster_simulation::simulate_by_words;
+use fsck_import::import_by_words;
+use std::env::Env;
+use std::process::ExitCode;
+use std::rt::Files;
+use std::sync::Wait;
+use std::thread::Threads;
+use std::{env, io};
+
+const FAULTED: u8 = 1;
+
+const MISUSED: u8 = 2;
+
+fn main(rt: HostRuntime) -> ExitCode {
+    ExitCode::from(status_of(&rt, &rt.stderr()))
+}
+
+fn status_of<
+    R: Env + Input + Print + Eprint + Files + AllocGlobal + Threads + Wait + Sync,
+    N: Print,
+>(rt: &R, notes: &N) -> u8 {
+    match words_of(rt) {
+        Ok(words) => status_by_words(rt, notes, words.get(1..).unwrap_or(&[])),
+        Err(error) if error.kind() == io::ErrorKind::OutOfMemory => {
+            let _ = rt.eprintln("puljemrod_cluster: memory fault");
+            FAULTED
+        }
+        Err(_) => {
+            let _ = rt.eprintln("error: an argument is not UTF-8");
+            MISUSED
+        }
+    }
+}
+
+/// The words of the command line. Each is pushed, so that no refused growth is passed over.
+fn words_of<R: Env + AllocGlobal>(rt: &R) -> io::Result<Vec<String>> {
+    let mut words = Vec::new(rt.alloc());
+    for word in env::args(rt)? {
+        if words.push(word).is_err() {
+            return Err(io::Error::from(io::ErrorKind::OutOfMemory));
+        }
+    }
+    Ok(words)
+}
+
+/// Runs what the first word asks for, with the words behind it as its options.
+fn status_by_words<
+    R: Input + Print + Eprint + Files + AllocGlobal + Threads + Wait + Sync,
+    N: Print,
+>(rt: &R, notes: &N, words: &[String]) -> u8 {
+    match words.first().map(String::as_str) {
+        Some("import") => import_by_words(rt, notes, words),
+        Some("report") => report_by_words(rt, notes, words),
+        Some("simulate") => simulate_by_words(rt, words),
+        _ => {
+            let _ = rt.eprintln("error: the first word is none of import, report and simulate");
+            MISUSED
+        }
+    }
+}
