@@ -164,6 +164,7 @@ fn check_run<R: Abort + Threads + Wait + Sync>(
         &NoGate,
     );
     assert!(rt; made.as_slice() == runs.results);
+    drop(made);
 }
 
 #[test]
@@ -253,6 +254,8 @@ fn check_waiting<R: Abort + Threads + Wait + Sync>(rt: &R, alloc: Global, case: 
     let made = ready.run(rt, items, &work, &gate);
     assert!(rt; made.as_slice() == pieces);
     assert!(rt; gate.meeting.was_held(case.shards, case.pieces as u64));
+    drop(made);
+    drop(gate);
 }
 
 /// Sixteen workers are really sixteen: with one less the last piece would not be entered.

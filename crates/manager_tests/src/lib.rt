@@ -5,10 +5,16 @@
 #[cfg(test)]
 mod callers;
 #[cfg(test)]
+mod calls;
+#[cfg(test)]
 mod crew;
 #[cfg(test)]
 mod lines;
 #[cfg(test)]
+mod located;
+#[cfg(test)]
 mod manager;
+#[cfg(test)]
+mod notices;
 #[cfg(test)]
 mod view;

@@ -1,13 +1,13 @@
 // With ample memory each call that takes some is accepted, and answers what the worked examples say, whatever the numbers of
 // shards and workers are; and the shards' work in a call is done at once.
 
+use crate::calls::{STAMP, Told, call_of};
 use bm_base::{
-    Answer, BlockId, Call, Commands, Config, Delete, Entry, Event, Gen, Items, NodeId, Rack,
-    Refusal, Remaining, ReplicaId, Stamp, StorageId, Transfer,
+    Answer, Call, Commands, Config, Delete, NodeCommands, Refusal, ReplicaId, StorageId, Transfer,
 };
 use bm_crew::{Gate, NoGate};
 use bm_manager::{Manager, answers_alike};
-use std::alloc::{AllocError, Global};
+use std::alloc::Global;
 use std::process::Abort;
 use std::sync::Wait;
 use std::sync::atomic::{AtomicU64, Ordering};
@@ -15,250 +15,265 @@ use std::thread::Threads;
 
 mod readers;
 
-/// A call, as the lists below tell it.
+/// What a node is to copy and to delete.
 #[derive(Clone, Copy)]
-enum Told<'a> {
-    /// A node, its rack and its storages.
-    Register(u32, u32, &'a [u32]),
-    /// A node, and a storage of it on which a thousand bytes are free.
-    Free(u32, u32),
-    /// A block, and how many replicas of it are wanted.
-    Add(u64, u32),
-    /// A storage, a block and the generation of its replica.
-    Received(u32, u64, u64),
-    /// A storage, and the first and the last of the blocks that it has.
-    Report(u32, u64, u64),
-    Drain(u32),
-    Undrain(u32),
-    Dead(u32),
-    Failed(u32),
-    Round,
-    Places(u64),
-    Excess,
-    Calls,
+struct Orders<'a> {
+    node: u32,
+    /// Blocks, each with its source and its target.
+    copies: &'a [(u64, u32, u32)],
+    /// Storages, each with a block.
+    deletes: &'a [(u32, u64)],
 }
 
-fn stamp(generation: u64) -> Stamp {
-    Stamp {
-        generation: Gen(generation),
-        len: 10,
-    }
+/// What a call must answer.
+#[derive(Clone, Copy)]
+enum Must<'a> {
+    /// So many replicas came and went.
+    Done(u128, u128),
+    /// The number of a refusal.
+    Refused(u32),
+    Places(&'a [u32]),
+    /// Storages, each with a block.
+    Replicas(&'a [(u32, u64)]),
+    Number(u64),
+    /// The number of a round, and what it commands, node by node.
+    Round(u64, &'a [Orders<'a>]),
 }
 
-fn register(alloc: Global, node: u32, rack: u32, numbers: &[u32]) -> Result<Event, AllocError> {
-    let mut storages = Vec::new(alloc);
-    for number in numbers {
-        storages.push(StorageId(*number))?;
-    }
-    Ok(Event::Register {
-        node: NodeId(node),
-        rack: Rack(rack),
-        storages: Items::from_vec(storages),
-    })
-}
+/// An event that changes no replica is accepted.
+const ACCEPTED: Must<'static> = Must::Done(0, 0);
 
-fn free(alloc: Global, node: u32, storage: u32) -> Result<Event, AllocError> {
-    let mut remaining = Vec::new(alloc);
-    remaining.push(Remaining {
-        storage: StorageId(storage),
-        remaining: 1000,
-    })?;
-    Ok(Event::Heartbeat {
-        node: NodeId(node),
-        remaining: Items::from_vec(remaining),
-    })
-}
-
-fn report(alloc: Global, storage: u32, from: u64, to: u64) -> Result<Event, AllocError> {
-    let mut entries = Vec::new(alloc);
-    entries.push(Entry {
-        from: BlockId(from),
-        to: BlockId(to),
-        stamp: stamp(1),
-    })?;
-    Ok(Event::FullReport {
-        storage: StorageId(storage),
-        entries: Items::from_vec(entries),
-    })
-}
-
-fn call_of(alloc: Global, told: Told<'_>) -> Result<Call, AllocError> {
-    let event = match told {
-        Told::Register(node, rack, storages) => register(alloc, node, rack, storages)?,
-        Told::Free(node, storage) => free(alloc, node, storage)?,
-        Told::Add(block, repl) => Event::AddBlock {
-            id: BlockId(block),
-            stamp: stamp(1),
-            repl,
-        },
-        Told::Received(storage, block, generation) => Event::Received {
-            storage: StorageId(storage),
-            id: BlockId(block),
-            stamp: stamp(generation),
-        },
-        Told::Report(storage, from, to) => report(alloc, storage, from, to)?,
-        Told::Drain(node) => Event::Drain { node: NodeId(node) },
-        Told::Undrain(node) => Event::Undrain { node: NodeId(node) },
-        Told::Dead(node) => Event::Dead { node: NodeId(node) },
-        Told::Failed(storage) => Event::StorageFailed {
-            storage: StorageId(storage),
-        },
-        Told::Round => return Ok(Call::Round),
-        Told::Places(block) => return Ok(Call::Places(BlockId(block))),
-        Told::Excess => return Ok(Call::Excess),
-        Told::Calls => return Ok(Call::Calls),
-    };
-    Ok(Call::Apply(event))
-}
-
-fn write_transfers(line: &mut String, transfers: &[Transfer]) -> Result<(), AllocError> {
-    for transfer in transfers {
-        let block = transfer.block.0;
-        let source = transfer.source.0;
-        let target = transfer.target.0;
-        write!(line, " copy {block} {source} {target}")?;
-    }
-    Ok(())
-}
-
-fn write_deletes(line: &mut String, deletes: &[Delete]) -> Result<(), AllocError> {
-    for delete in deletes {
-        let block = delete.block.0;
-        let storage = delete.storage.0;
-        write!(line, " delete {storage} {block}")?;
-    }
-    Ok(())
-}
-
-/// A round and what it commands, node by node.
-fn shown_round(alloc: Global, commands: &Commands) -> Result<String, AllocError> {
-    let round = commands.round;
-    let mut line = format!(in alloc; "round {round}")?;
-    for node in commands.nodes.as_slice() {
-        let number = node.node.0;
-        write!(line, "; {number}")?;
-        write_transfers(&mut line, node.transfers.as_slice())?;
-        write_deletes(&mut line, node.deletes.as_slice())?;
-    }
-    Ok(line)
-}
-
-/// The storage and the block of each replica.
-fn shown_replicas(alloc: Global, replicas: &[ReplicaId]) -> Result<String, AllocError> {
-    let mut line = String::from_str(alloc, "replicas")?;
-    for replica in replicas {
-        let storage = replica.storage.0;
-        let block = replica.block.0;
-        write!(line, " {storage} {block}")?;
-    }
-    Ok(line)
-}
-
-/// The counts of an accepted event, the number of a refusal, the places, replicas, a number, or a round.
-fn show(alloc: Global, answer: &Answer) -> Result<String, AllocError> {
-    match answer {
-        Answer::Done(done) => {
-            let added = done.added;
-            let removed = done.removed;
-            format!(in alloc; "ok {added} {removed}")
+fn are_places(storages: &[StorageId], must: &[u32]) -> bool {
+    for (storage, number) in storages.iter().zip(must.iter()) {
+        if storage.0 != *number {
+            return false;
         }
-        Answer::Refused(refusal) => {
-            let number = refusal.number();
-            format!(in alloc; "refused {number}")
+    }
+    storages.len() == must.len()
+}
+
+fn are_copies(transfers: &[Transfer], must: &[(u64, u32, u32)]) -> bool {
+    for (transfer, copy) in transfers.iter().zip(must.iter()) {
+        if (transfer.block.0, transfer.source.0, transfer.target.0) != *copy {
+            return false;
         }
-        Answer::Storages(storages) => {
-            let mut line = String::from_str(alloc, "places")?;
-            for storage in storages.as_slice() {
-                let number = storage.0;
-                write!(line, " {number}")?;
-            }
-            Ok(line)
+    }
+    transfers.len() == must.len()
+}
+
+fn are_deletes(deletes: &[Delete], must: &[(u32, u64)]) -> bool {
+    for (delete, expected) in deletes.iter().zip(must.iter()) {
+        if (delete.storage.0, delete.block.0) != *expected {
+            return false;
         }
-        Answer::ReplicaIds(replicas) => shown_replicas(alloc, replicas.as_slice()),
-        Answer::Number(number) => format!(in alloc; "{number}"),
-        Answer::Commanded(commands) => shown_round(alloc, commands),
-        _ => String::from_str(alloc, "another answer"),
+    }
+    deletes.len() == must.len()
+}
+
+fn are_replicas(replicas: &[ReplicaId], must: &[(u32, u64)]) -> bool {
+    for (replica, expected) in replicas.iter().zip(must.iter()) {
+        if (replica.storage.0, replica.block.0) != *expected {
+            return false;
+        }
+    }
+    replicas.len() == must.len()
+}
+
+fn is_ordered(commands: &NodeCommands, must: &Orders<'_>) -> bool {
+    commands.node.0 == must.node
+        && are_copies(commands.transfers.as_slice(), must.copies)
+        && are_deletes(commands.deletes.as_slice(), must.deletes)
+}
+
+fn is_round(commands: &Commands, round: u64, must: &[Orders<'_>]) -> bool {
+    let nodes = commands.nodes.as_slice();
+    for (node, orders) in nodes.iter().zip(must.iter()) {
+        if !is_ordered(node, orders) {
+            return false;
+        }
+    }
+    commands.round == round && nodes.len() == must.len()
+}
+
+fn is_as(answer: &Answer, must: &Must<'_>) -> bool {
+    match (answer, must) {
+        (Answer::Done(done), Must::Done(added, removed)) => {
+            done.added == *added && done.removed == *removed
+        }
+        (Answer::Refused(refusal), Must::Refused(number)) => refusal.number() == *number,
+        (Answer::Storages(storages), Must::Places(must)) => {
+            are_places(storages.as_slice(), must)
+        }
+        (Answer::ReplicaIds(replicas), Must::Replicas(must)) => {
+            are_replicas(replicas.as_slice(), must)
+        }
+        (Answer::Number(number), Must::Number(must)) => *number == *must,
+        (Answer::Commanded(commands), Must::Round(round, nodes)) => {
+            is_round(commands, *round, nodes)
+        }
+        _ => false,
     }
 }
 
-static CALL_BY_CALL: [(Told<'static>, &'static str); 13] = [
-    (Told::Register(1, 1, &[11, 12]), "ok 0 0"),
-    (Told::Register(1, 1, &[13]), "refused 2"),
-    (Told::Register(2, 1, &[21]), "ok 0 0"),
-    (Told::Add(7, 3), "ok 0 0"),
-    (Told::Received(11, 7, 1), "ok 1 0"),
-    (Told::Received(12, 7, 1), "ok 1 1"),
-    (Told::Received(21, 7, 1), "ok 1 0"),
-    (Told::Places(7), "places 12 21"),
-    (Told::Received(12, 7, 0), "ok 0 0"),
-    (Told::Received(99, 7, 1), "refused 3"),
-    (Told::Places(7), "places 21"),
-    (Told::Places(8), "refused 5"),
-    (Told::Calls, "7"),
+const OLD: (u64, u64) = (0, 10);
+
+static CALL_BY_CALL: [(Told<'static>, Must<'static>); 13] = [
+    (Told::Register(1, 1, &[11, 12]), ACCEPTED),
+    (Told::Register(1, 1, &[13]), Must::Refused(2)),
+    (Told::Register(2, 1, &[21]), ACCEPTED),
+    (Told::Add(7, STAMP, 3), ACCEPTED),
+    (Told::Received(11, 7, STAMP), Must::Done(1, 0)),
+    (Told::Received(12, 7, STAMP), Must::Done(1, 1)),
+    (Told::Received(21, 7, STAMP), Must::Done(1, 0)),
+    (Told::Places(7), Must::Places(&[12, 21])),
+    (Told::Received(12, 7, OLD), ACCEPTED),
+    (Told::Received(99, 7, STAMP), Must::Refused(3)),
+    (Told::Places(7), Must::Places(&[21])),
+    (Told::Places(8), Must::Refused(5)),
+    (Told::Calls, Must::Number(7)),
 ];
 
-static ROUNDS: [(Told<'static>, &'static str); 15] = [
-    (Told::Register(1, 1, &[11]), "ok 0 0"),
-    (Told::Register(2, 1, &[21]), "ok 0 0"),
-    (Told::Register(3, 2, &[31]), "ok 0 0"),
-    (Told::Free(1, 11), "ok 0 0"),
-    (Told::Free(2, 21), "ok 0 0"),
-    (Told::Free(3, 31), "ok 0 0"),
-    (Told::Add(7, 2), "ok 0 0"),
-    (Told::Received(11, 7, 1), "ok 1 0"),
-    (Told::Round, "round 1; 1 copy 7 11 31"),
-    (Told::Round, "round 2"),
-    (Told::Received(31, 7, 1), "ok 1 0"),
-    (Told::Received(21, 7, 1), "ok 1 0"),
-    (Told::Round, "round 3; 2 delete 21 7"),
-    (Told::Round, "round 4"),
-    (Told::Places(7), "places 11 21 31"),
+static ROUNDS: [(Told<'static>, Must<'static>); 15] = [
+    (Told::Register(1, 1, &[11]), ACCEPTED),
+    (Told::Register(2, 1, &[21]), ACCEPTED),
+    (Told::Register(3, 2, &[31]), ACCEPTED),
+    (Told::Heartbeat(1, &[(11, 1000)]), ACCEPTED),
+    (Told::Heartbeat(2, &[(21, 1000)]), ACCEPTED),
+    (Told::Heartbeat(3, &[(31, 1000)]), ACCEPTED),
+    (Told::Add(7, STAMP, 2), ACCEPTED),
+    (Told::Received(11, 7, STAMP), Must::Done(1, 0)),
+    (
+        Told::Round,
+        Must::Round(
+            1,
+            &[Orders {
+                node: 1,
+                copies: &[(7, 11, 31)],
+                deletes: &[],
+            }],
+        ),
+    ),
+    (Told::Round, Must::Round(2, &[])),
+    (Told::Received(31, 7, STAMP), Must::Done(1, 0)),
+    (Told::Received(21, 7, STAMP), Must::Done(1, 0)),
+    (
+        Told::Round,
+        Must::Round(
+            3,
+            &[Orders {
+                node: 2,
+                copies: &[],
+                deletes: &[(21, 7)],
+            }],
+        ),
+    ),
+    (Told::Round, Must::Round(4, &[])),
+    (Told::Places(7), Must::Places(&[11, 21, 31])),
 ];
 
 /// A block with twelve replicas, of which three are wanted, each four of them on one of three racks. No storage has told how many bytes
 /// remain on it; so of those whose rack holds another the one on the greatest storage goes first, and the first of each rack stays.
-static NINE_OF_TWELVE: [(Told<'static>, &'static str); 27] = [
-    (Told::Register(0, 0, &[101]), "ok 0 0"),
-    (Told::Register(1, 0, &[102]), "ok 0 0"),
-    (Told::Register(2, 0, &[103]), "ok 0 0"),
-    (Told::Register(3, 0, &[104]), "ok 0 0"),
-    (Told::Register(4, 1, &[105]), "ok 0 0"),
-    (Told::Register(5, 1, &[106]), "ok 0 0"),
-    (Told::Register(6, 1, &[107]), "ok 0 0"),
-    (Told::Register(7, 1, &[108]), "ok 0 0"),
-    (Told::Register(8, 2, &[109]), "ok 0 0"),
-    (Told::Register(9, 2, &[110]), "ok 0 0"),
-    (Told::Register(10, 2, &[111]), "ok 0 0"),
-    (Told::Register(11, 2, &[112]), "ok 0 0"),
-    (Told::Add(7, 3), "ok 0 0"),
-    (Told::Received(112, 7, 1), "ok 1 0"),
-    (Told::Received(111, 7, 1), "ok 1 0"),
-    (Told::Received(110, 7, 1), "ok 1 0"),
-    (Told::Received(109, 7, 1), "ok 1 0"),
-    (Told::Received(108, 7, 1), "ok 1 0"),
-    (Told::Received(107, 7, 1), "ok 1 0"),
-    (Told::Received(106, 7, 1), "ok 1 0"),
-    (Told::Received(105, 7, 1), "ok 1 0"),
-    (Told::Received(104, 7, 1), "ok 1 0"),
-    (Told::Received(103, 7, 1), "ok 1 0"),
-    (Told::Received(102, 7, 1), "ok 1 0"),
-    (Told::Received(101, 7, 1), "ok 1 0"),
+static NINE_OF_TWELVE: [(Told<'static>, Must<'static>); 27] = [
+    (Told::Register(0, 0, &[101]), ACCEPTED),
+    (Told::Register(1, 0, &[102]), ACCEPTED),
+    (Told::Register(2, 0, &[103]), ACCEPTED),
+    (Told::Register(3, 0, &[104]), ACCEPTED),
+    (Told::Register(4, 1, &[105]), ACCEPTED),
+    (Told::Register(5, 1, &[106]), ACCEPTED),
+    (Told::Register(6, 1, &[107]), ACCEPTED),
+    (Told::Register(7, 1, &[108]), ACCEPTED),
+    (Told::Register(8, 2, &[109]), ACCEPTED),
+    (Told::Register(9, 2, &[110]), ACCEPTED),
+    (Told::Register(10, 2, &[111]), ACCEPTED),
+    (Told::Register(11, 2, &[112]), ACCEPTED),
+    (Told::Add(7, STAMP, 3), ACCEPTED),
+    (Told::Received(112, 7, STAMP), Must::Done(1, 0)),
+    (Told::Received(111, 7, STAMP), Must::Done(1, 0)),
+    (Told::Received(110, 7, STAMP), Must::Done(1, 0)),
+    (Told::Received(109, 7, STAMP), Must::Done(1, 0)),
+    (Told::Received(108, 7, STAMP), Must::Done(1, 0)),
+    (Told::Received(107, 7, STAMP), Must::Done(1, 0)),
+    (Told::Received(106, 7, STAMP), Must::Done(1, 0)),
+    (Told::Received(105, 7, STAMP), Must::Done(1, 0)),
+    (Told::Received(104, 7, STAMP), Must::Done(1, 0)),
+    (Told::Received(103, 7, STAMP), Must::Done(1, 0)),
+    (Told::Received(102, 7, STAMP), Must::Done(1, 0)),
+    (Told::Received(101, 7, STAMP), Must::Done(1, 0)),
     (
         Told::Round,
-        "round 1; 1 delete 102 7; 2 delete 103 7; 3 delete 104 7; 5 delete 106 7; 6 delete 107 7; 7 delete 108 7; 9 delete 110 7; 10 delete 111 7; 11 delete 112 7",
+        Must::Round(
+            1,
+            &[
+                Orders {
+                    node: 1,
+                    copies: &[],
+                    deletes: &[(102, 7)],
+                },
+                Orders {
+                    node: 2,
+                    copies: &[],
+                    deletes: &[(103, 7)],
+                },
+                Orders {
+                    node: 3,
+                    copies: &[],
+                    deletes: &[(104, 7)],
+                },
+                Orders {
+                    node: 5,
+                    copies: &[],
+                    deletes: &[(106, 7)],
+                },
+                Orders {
+                    node: 6,
+                    copies: &[],
+                    deletes: &[(107, 7)],
+                },
+                Orders {
+                    node: 7,
+                    copies: &[],
+                    deletes: &[(108, 7)],
+                },
+                Orders {
+                    node: 9,
+                    copies: &[],
+                    deletes: &[(110, 7)],
+                },
+                Orders {
+                    node: 10,
+                    copies: &[],
+                    deletes: &[(111, 7)],
+                },
+                Orders {
+                    node: 11,
+                    copies: &[],
+                    deletes: &[(112, 7)],
+                },
+            ],
+        ),
     ),
     (
         Told::Excess,
-        "replicas 102 7 103 7 104 7 106 7 107 7 108 7 110 7 111 7 112 7",
+        Must::Replicas(&[
+            (102, 7),
+            (103, 7),
+            (104, 7),
+            (106, 7),
+            (107, 7),
+            (108, 7),
+            (110, 7),
+            (111, 7),
+            (112, 7),
+        ]),
     ),
 ];
 
-fn calls_of(alloc: Global, story: &[(Told<'_>, &str)]) -> Result<Vec<Call>, AllocError> {
+fn calls_of(rt: &impl Abort, alloc: Global, story: &[(Told<'_>, Must<'_>)]) -> Vec<Call> {
     let mut calls = Vec::new(alloc);
     for (told, _) in story {
-        calls.push(call_of(alloc, *told)?)?;
+        calls.push(call_of(rt, alloc, *told)).expect(rt, "memory");
     }
-    Ok(calls)
+    calls
 }
 
 /// So many shards and workers, and else the standard configuration.
@@ -270,11 +285,10 @@ fn config(shards: u32, workers: u32) -> Config {
     }
 }
 
-fn check_answers<R: Abort>(rt: &R, alloc: Global, answers: &[Answer], story: &[(Told<'_>, &str)]) {
-    assert_eq!(rt; answers.len(), story.len());
-    for (answer, (_, want)) in answers.iter().zip(story.iter()) {
-        let line = show(alloc, answer).expect(rt, "memory");
-        assert_eq!(rt; line.as_str(), *want);
+fn check_answers(rt: &impl Abort, answers: &[Answer], story: &[(Told<'_>, Must<'_>)]) {
+    assert!(rt; answers.len() == story.len());
+    for (index, (answer, (_, must))) in answers.iter().zip(story.iter()).enumerate() {
+        assert!(rt; is_as(answer, must), "call {index}");
     }
 }
 
@@ -283,49 +297,51 @@ fn check_story<R: Abort + Threads + Wait + Sync>(
     alloc: Global,
     shards: u32,
     workers: u32,
-    story: &[(Told<'_>, &str)],
+    story: &[(Told<'_>, Must<'_>)],
 ) {
-    let calls = calls_of(alloc, story).expect(rt, "memory");
+    let calls = calls_of(rt, alloc, story);
     let mut manager = Manager::new(alloc, config(shards, workers)).expect(rt, "memory");
     let answers = manager
         .answer_all(rt, &NoGate, calls.as_slice())
         .expect(rt, "memory");
-    check_answers(rt, alloc, answers.as_slice(), story);
+    check_answers(rt, answers.as_slice(), story);
+    drop(answers);
+    drop(manager);
+    drop(calls);
+}
+
+/// With four numbers of shards and workers.
+fn check_stories<R: Abort + Threads + Wait + Sync>(
+    rt: &R,
+    alloc: Global,
+    story: &[(Told<'_>, Must<'_>)],
+) {
+    for (shards, workers) in &SETTINGS {
+        check_story(rt, alloc, *shards, *workers, story);
+    }
 }
 
 static SETTINGS: [(u32, u32); 4] = [(1, 1), (3, 2), (5, 4), (2, 16)];
 
 #[test]
 fn a_list_of_calls_is_answered_call_by_call(rt: HostRuntime) {
-    for (shards, workers) in &SETTINGS {
-        check_story(&rt, rt.alloc(), *shards, *workers, CALL_BY_CALL.as_slice());
-    }
+    check_stories(&rt, rt.alloc(), CALL_BY_CALL.as_slice());
 }
 
 #[test]
 fn rounds_copy_mark_and_delete(rt: HostRuntime) {
-    for (shards, workers) in &SETTINGS {
-        check_story(&rt, rt.alloc(), *shards, *workers, ROUNDS.as_slice());
-    }
+    check_stories(&rt, rt.alloc(), ROUNDS.as_slice());
 }
 
 #[test]
 fn nine_of_twelve_replicas_are_too_many(rt: HostRuntime) {
-    for (shards, workers) in &SETTINGS {
-        check_story(
-            &rt,
-            rt.alloc(),
-            *shards,
-            *workers,
-            NINE_OF_TWELVE.as_slice(),
-        );
-    }
+    check_stories(&rt, rt.alloc(), NINE_OF_TWELVE.as_slice());
 }
 
 #[test]
 fn two_managers_answer_alike(rt: HostRuntime) {
     let alloc = rt.alloc();
-    let calls = calls_of(alloc, ROUNDS.as_slice()).expect(&rt, "memory");
+    let calls = calls_of(&rt, alloc, ROUNDS.as_slice());
     let (answers, others) = answers_alike(
         alloc,
         &rt,
@@ -336,8 +352,11 @@ fn two_managers_answer_alike(rt: HostRuntime) {
         calls.as_slice(),
     )
     .expect(&rt, "memory");
-    check_answers(&rt, alloc, answers.as_slice(), ROUNDS.as_slice());
-    check_answers(&rt, alloc, others.as_slice(), ROUNDS.as_slice());
+    check_answers(&rt, answers.as_slice(), ROUNDS.as_slice());
+    check_answers(&rt, others.as_slice(), ROUNDS.as_slice());
+    drop(others);
+    drop(answers);
+    drop(calls);
 }
 
 /// A gate at which the piece of a shard waits until those of all other shards were entered as often.
@@ -402,24 +421,35 @@ impl Gate for Meeting {
 }
 
 /// Calls with their answers, and whether the crew works them: it does where all shards are concerned.
-static MET: [(Told<'static>, &'static str, bool); 17] = [
-    (Told::Register(1, 1, &[11]), "ok 0 0", true),
-    (Told::Register(2, 2, &[21]), "ok 0 0", true),
-    (Told::Add(4, 2), "ok 0 0", false),
-    (Told::Add(5, 2), "ok 0 0", false),
-    (Told::Add(6, 2), "ok 0 0", false),
-    (Told::Add(7, 2), "ok 0 0", false),
-    (Told::Report(11, 4, 7), "ok 4 0", true),
-    (Told::Received(21, 5, 1), "ok 1 0", false),
-    (Told::Received(21, 6, 1), "ok 1 0", false),
-    (Told::Received(21, 7, 1), "ok 1 0", false),
-    (Told::Drain(1), "ok 0 0", true),
-    (Told::Undrain(1), "ok 0 0", true),
-    (Told::Free(2, 21), "ok 0 0", false),
-    (Told::Round, "round 1; 1 copy 4 11 21", true),
-    (Told::Failed(21), "ok 0 3", true),
-    (Told::Dead(1), "ok 0 4", true),
-    (Told::Places(4), "places", false),
+static MET: [(Told<'static>, Must<'static>, bool); 17] = [
+    (Told::Register(1, 1, &[11]), ACCEPTED, true),
+    (Told::Register(2, 2, &[21]), ACCEPTED, true),
+    (Told::Add(4, STAMP, 2), ACCEPTED, false),
+    (Told::Add(5, STAMP, 2), ACCEPTED, false),
+    (Told::Add(6, STAMP, 2), ACCEPTED, false),
+    (Told::Add(7, STAMP, 2), ACCEPTED, false),
+    (Told::Report(11, &[(4, 7, STAMP)]), Must::Done(4, 0), true),
+    (Told::Received(21, 5, STAMP), Must::Done(1, 0), false),
+    (Told::Received(21, 6, STAMP), Must::Done(1, 0), false),
+    (Told::Received(21, 7, STAMP), Must::Done(1, 0), false),
+    (Told::Drain(1), ACCEPTED, true),
+    (Told::Undrain(1), ACCEPTED, true),
+    (Told::Heartbeat(2, &[(21, 1000)]), ACCEPTED, false),
+    (
+        Told::Round,
+        Must::Round(
+            1,
+            &[Orders {
+                node: 1,
+                copies: &[(4, 11, 21)],
+                deletes: &[],
+            }],
+        ),
+        true,
+    ),
+    (Told::Failed(21), Must::Done(0, 3), true),
+    (Told::Dead(1), Must::Done(0, 4), true),
+    (Told::Places(4), Must::Places(&[]), false),
 ];
 
 /// The answer to a call. Where the crew works it, the shards' pieces meet at a gate.
@@ -436,20 +466,31 @@ fn met_answer<R: Abort + Threads + Wait + Sync>(
     let gate = Meeting::new(shards);
     let answer = manager.answer(rt, &gate, call);
     assert!(rt; gate.has_met());
+    drop(gate);
     answer
+}
+
+fn check_met<R: Abort + Threads + Wait + Sync>(
+    rt: &R,
+    alloc: Global,
+    manager: &mut Manager,
+    shards: u32,
+    told: Told<'_>,
+    must: Must<'_>,
+    crewed: bool,
+) {
+    let call = call_of(rt, alloc, told);
+    let answer = met_answer(rt, manager, shards, &call, crewed);
+    assert!(rt; is_as(&answer, &must));
+    drop(answer);
+    drop(call);
 }
 
 /// As many workers as shards.
 fn check_meetings<R: Abort + Threads + Wait + Sync>(rt: &R, alloc: Global, shards: u32) {
     let mut manager = Manager::new(alloc, config(shards, shards)).expect(rt, "memory");
     for (told, want, crewed) in &MET {
-        let call = call_of(alloc, *told).expect(rt, "memory");
-        let answer = met_answer(rt, &mut manager, shards, &call, *crewed);
-        drop(call);
-        let line = show(alloc, &answer).expect(rt, "memory");
-        drop(answer);
-        assert_eq!(rt; line.as_str(), *want);
-        drop(line);
+        check_met(rt, alloc, &mut manager, shards, *told, *want, *crewed);
     }
     drop(manager);
 }

@@ -3,6 +3,7 @@
 ghost use Rattle.std.specs.Prelude.{◌≡◌};
 ghost use Rattle.std.specs.Arc.{arc_value};
 
+use crate::located::{found_on, is_found_on, storages_numbered};
 use bm_base::{BlockId, Places, Refusal, StorageId};
 use bm_view::{Located, Locator, Publisher, Receipt, Table, open_view};
 use std::alloc::Global;
@@ -19,21 +20,6 @@ fn version(rt: &impl Abort, alloc: Global, calls: u64, storages: &[StorageId]) -
     rows.push((BlockId(7), Places::first_of(storages)))
         .expect(rt, "memory");
     Arc::new(alloc, Table::new(calls, rows)).expect(rt, "memory")
-}
-
-fn found_on(calls: u64, storages: &[StorageId]) -> Option<Located> {
-    Some(Located {
-        calls,
-        places: Places::first_of(storages),
-    })
-}
-
-fn storages_numbered(rt: &impl Abort, alloc: Global, numbers: &[u32]) -> Vec<StorageId> {
-    let mut storages = Vec::new(alloc);
-    for number in numbers {
-        storages.push(StorageId(*number)).expect(rt, "memory");
-    }
-    storages
 }
 
 /// What is done with a publisher and two locators, or asked of them, and what the answer must be.
@@ -107,8 +93,7 @@ fn has_found(
 ) -> bool
     ensures { locator.new.home ≡ locator.old.home }
 {
-    let storages = storages_numbered(rt, alloc, numbers);
-    locator.locate(BlockId(block)) == found_on(calls, storages.as_slice())
+    is_found_on(rt, alloc, locator.locate(BlockId(block)), calls, numbers)
 }
 
 /// Whether a step answers as it must.

@@ -1,84 +1,68 @@
-// Lines as they are read, and answers as they are printed.
+// Lines as people write them and as they are gathered, and answers as they are printed.
 use bm_base::{Answer, Call, Done, Refusal};
 use bm_lines::{LINE_END, Line, MAX_LINE, answer_line, call_of, line_end, line_of};
 use std::alloc::Global;
 use std::process::Abort;
-use std::test::Fail;
+
+fn is_tidied(rt: &impl Abort, alloc: Global, line: &str, tidy: &str) {
+    match call_of(alloc, line.as_bytes()).expect(rt, "memory") {
+        Some(call) => {
+            let written = line_of(alloc, &call).expect(rt, "memory");
+            assert!(rt; written.as_str() == tidy);
+        }
+        None => assert!(rt; false),
+    }
+}
 
 // Any order, spaces, further fields: the line that is written has the order of the table.
 #[test]
-fn a_line_as_people_write_it(rt: HostRuntime) -> Result<(), Fail> {
-    let alloc = rt.alloc();
-    let line = " { \"repl\" : 3, \"len\":10, \"x\":[null], \"gen\":1, \"id\":7, \"op\":\"add\" }\r";
-    match call_of(alloc, line.as_bytes())? {
-        Some(call) => {
-            let written = line_of(alloc, &call)?;
-            assert_eq!(&rt;
-                written.as_str(),
-                "{\"op\":\"add\",\"id\":7,\"gen\":1,\"len\":10,\"repl\":3}"
-            );
-        }
-        None => assert!(&rt; false),
-    }
-    Ok(())
-}
-
-#[test]
-fn lines_that_ask_for_no_call(rt: HostRuntime) -> Result<(), Fail> {
-    let alloc = rt.alloc();
-    for line in [
-        "",
-        "7",
-        "{\"op\":\"fly\"}",
-        "{\"op\":\"retired\",\"node\":4294967296}",
-        "{\"op\":\"delete\",\"id\":18446744073709551616}",
-        "{\"op\":\"report\",\"storage\":1,\"blocks\":[[7,1]]}",
-        "{\"op\":\"round\"",
-    ] {
-        assert!(&rt; call_of(alloc, line.as_bytes())?.is_none(), "at {line}");
-    }
-    Ok(())
+fn a_line_as_people_write_it(rt: HostRuntime) {
+    is_tidied(
+        &rt,
+        rt.alloc(),
+        " { \"repl\" : 3, \"len\":10, \"x\":[null], \"gen\":1, \"id\":7, \"op\":\"add\" }\r",
+        "{\"op\":\"add\",\"id\":7,\"gen\":1,\"len\":10,\"repl\":3}",
+    );
 }
 
 /// A round's answer is printed as this line.
-fn is_printed(rt: &impl Abort, alloc: Global, answer: Answer, line: &str) -> Result<(), Fail> {
-    let printed = answer_line(alloc, &Call::Round, &answer);
-    drop(answer);
-    let printed = printed?;
-    assert_eq!(rt; printed.as_str(), line);
-    drop(printed);
-    Ok(())
+fn is_printed(rt: &impl Abort, alloc: Global, answer: &Answer, line: &str) {
+    let printed = answer_line(alloc, &Call::Round, answer).expect(rt, "memory");
+    assert!(rt; printed.as_str() == line, "{line}");
 }
 
 #[test]
-fn answers_as_they_are_printed(rt: HostRuntime) -> Result<(), Fail> {
-    let alloc = rt.alloc();
+fn answers_as_they_are_printed(rt: HostRuntime) {
     let done = Answer::Done(Done {
         added: 2,
         removed: 1,
     });
-    is_printed(&rt, alloc, done, "ok 2 1")?;
+    is_printed(&rt, rt.alloc(), &done, "ok 2 1");
     let refused = Answer::Refused(Refusal::StillStored);
-    is_printed(&rt, alloc, refused, "refused 7 StillStored")
+    is_printed(&rt, rt.alloc(), &refused, "refused 7 StillStored");
+}
+
+fn add(rt: &impl Abort, line: &mut Line, bytes: &[u8]) {
+    line.add(bytes).expect(rt, "memory");
+}
+
+fn add_spaces(rt: &impl Abort, alloc: Global, line: &mut Line) {
+    let spaces = vec![in alloc; b' '; MAX_LINE - 1].expect(rt, "memory");
+    add(rt, line, spaces.as_slice());
 }
 
 // A line that grows past the limit holds nothing, and is no empty line.
 #[test]
-fn a_line_that_grows_too_long(rt: HostRuntime) -> Result<(), Fail> {
-    let alloc = rt.alloc();
-    let mut line = Line::new(alloc);
+fn a_line_that_grows_too_long(rt: HostRuntime) {
+    let mut line = Line::new(rt.alloc());
     assert!(&rt; line.is_empty());
-    line.add(b"{}")?;
-    assert_eq!(&rt; line.bytes.as_slice(), b"{}".as_slice());
-    let long = vec![in alloc; b' '; MAX_LINE - 1]?;
-    let added = line.add(long.as_slice());
-    drop(long);
-    added?;
+    add(&rt, &mut line, b"{}");
+    assert!(&rt; line.bytes.as_slice() == b"{}".as_slice());
+    add_spaces(&rt, rt.alloc(), &mut line);
     assert!(&rt; line.is_long && line.bytes.is_empty() && !line.is_empty());
     line.clear();
     assert!(&rt; line.is_empty());
-    assert_eq!(&rt; line_end(b"{}\n{}\n"), Some(2));
-    assert_eq!(&rt; LINE_END, 10);
     drop(line);
-    Ok(())
+    assert!(&rt; line_end(b"{}\n{}\n") == Some(2));
+    assert!(&rt; LINE_END == 10);
 }

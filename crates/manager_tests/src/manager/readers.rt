@@ -1,14 +1,17 @@
 //! Readers beside a manager: what locators answer of the versions that it publishes, in one thread and in two.
 ghost use Rattle.std.specs.Prelude.{◌≡◌};
 
-use super::{Told, call_of, config};
-use bm_base::{Answer, BlockId, Places, StorageId};
+use super::config;
+use crate::calls::{STAMP, Told, call_of};
+use crate::located::is_found_on;
+use crate::notices::{Home, Notice, make_notice};
+use bm_base::{Answer, BlockId};
 use bm_crew::NoGate;
 use bm_manager::Manager;
 use bm_view::{Located, Locator, Publisher, Receipt, open_view};
 use crossbeam_channel::{Receiver, Sender, unbounded};
 use std::alloc::Global;
-use std::marker::{Brand, PhantomData};
+use std::marker::Brand;
 use std::process::Abort;
 use std::sync::Wait;
 use std::thread::{Threads, join};
@@ -21,11 +24,11 @@ static CLUSTER: [Told<'static>; 9] = [
     Told::Register(2, 1, &[21]),
     Told::Register(3, 2, &[31]),
     Told::Register(4, 2, &[41]),
-    Told::Free(1, 11),
-    Told::Free(2, 21),
-    Told::Free(3, 31),
-    Told::Free(4, 41),
-    Told::Add(7, 3),
+    Told::Heartbeat(1, &[(11, 1000)]),
+    Told::Heartbeat(2, &[(21, 1000)]),
+    Told::Heartbeat(3, &[(31, 1000)]),
+    Told::Heartbeat(4, &[(41, 1000)]),
+    Told::Add(7, STAMP, 3),
 ];
 
 fn make<R: Abort + Threads + Wait + Sync>(
@@ -34,9 +37,11 @@ fn make<R: Abort + Threads + Wait + Sync>(
     manager: &mut Manager,
     told: Told<'_>,
 ) {
-    let call = call_of(alloc, told).expect(rt, "memory");
+    let call = call_of(rt, alloc, told);
     let answer = manager.answer(rt, &NoGate, &call);
     assert!(rt; !matches!(answer, Answer::Refused(_)));
+    drop(answer);
+    drop(call);
 }
 
 fn make_cluster<R: Abort + Threads + Wait + Sync>(rt: &R, alloc: Global, manager: &mut Manager) {
@@ -81,17 +86,6 @@ fn publish_and_learn<R: Abort + Threads + Wait + Sync>(
     calls
 }
 
-fn found_on(rt: &impl Abort, alloc: Global, calls: u64, numbers: &[u32]) -> Option<Located> {
-    let mut storages = Vec::new(alloc);
-    for number in numbers {
-        storages.push(StorageId(*number)).expect(rt, "memory");
-    }
-    Some(Located {
-        calls,
-        places: Places::first_of(storages.as_slice()),
-    })
-}
-
 /// What is done with a manager, a publisher and two locators, or asked of them, and what the answer must be.
 #[derive(Clone, Copy)]
 enum Step<'a> {
@@ -110,11 +104,11 @@ static READERS_SEE_PUBLISHED_VERSIONS: [Step<'static>; 14] = [
     Step::First(7, 0, &[]),
     Step::Second(7, 0, &[]),
     Step::Cluster,
-    Step::Make(Told::Received(11, 7, 1)),
+    Step::Make(Told::Received(11, 7, STAMP)),
     Step::Publish(10),
     Step::First(7, 10, &[11]),
     Step::First(8, 10, &[]),
-    Step::Make(Told::Received(31, 7, 1)),
+    Step::Make(Told::Received(31, 7, STAMP)),
     Step::First(7, 10, &[11]),
     Step::Publish(11),
     Step::First(7, 11, &[11, 31]),
@@ -148,10 +142,10 @@ fn go<R: Abort + Threads + Wait + Sync>(
         }
         Step::Publish(calls) => publish_and_learn(rt, manager, publisher, first) == calls,
         Step::First(block, calls, numbers) => {
-            first.locate(BlockId(block)) == found_on(rt, alloc, calls, numbers)
+            is_found_on(rt, alloc, first.locate(BlockId(block)), calls, numbers)
         }
         Step::Second(block, calls, numbers) => {
-            second.locate(BlockId(block)) == found_on(rt, alloc, calls, numbers)
+            is_found_on(rt, alloc, second.locate(BlockId(block)), calls, numbers)
         }
     }
 }
@@ -197,6 +191,7 @@ fn check_readers<R: Abort + Threads + Wait + Sync>(
         _ => assert!(rt; false),
     }
     publisher.end(rt);
+    drop(manager);
 }
 
 #[test]
@@ -207,9 +202,9 @@ fn readers_see_published_versions(rt: HostRuntime) {
 
 /// Calls after those of the cluster, and where block 7 is after each.
 static BESIDE: [(Told<'static>, &'static [u32]); 6] = [
-    (Told::Received(11, 7, 1), &[11]),
-    (Told::Received(31, 7, 1), &[11, 31]),
-    (Told::Report(21, 1, 200), &[11, 21, 31]),
+    (Told::Received(11, 7, STAMP), &[11]),
+    (Told::Received(31, 7, STAMP), &[11, 31]),
+    (Told::Report(21, &[(1, 200, STAMP)]), &[11, 21, 31]),
     (Told::Round, &[11, 21, 31]),
     (Told::Failed(31), &[11, 21]),
     (Told::Dead(1), &[21]),
@@ -219,13 +214,13 @@ static BESIDE: [(Told<'static>, &'static [u32]); 6] = [
 fn is_published(rt: &impl Abort, alloc: Global, seen: Located) -> bool {
     let calls = seen.calls;
     if calls <= CLUSTER.len() as u64 {
-        return calls == 0 && Some(seen) == found_on(rt, alloc, 0, &[]);
+        return calls == 0 && is_found_on(rt, alloc, Some(seen), 0, &[]);
     }
     let made = (calls - CLUSTER.len() as u64) as usize;
     match BESIDE.get(made - 1) {
         Some(one) => {
             let numbers = one.1;
-            Some(seen) == found_on(rt, alloc, calls, numbers)
+            is_found_on(rt, alloc, Some(seen), calls, numbers)
         }
         None => false,
     }
@@ -249,36 +244,6 @@ fn read_many(rt: &impl Abort, alloc: Global, locator: &mut Locator, oldest: u64)
         }
     }
     wrong
-}
-
-/// Names what one `open_view` made, for receipts that cross a channel. A call picks it.
-trait Home {
-    ghost use Rattle.bm_view.specs.Holders.{Home};
-
-    ghost home: { Home };
-}
-
-impl Home for Brand {
-    ghost use Rattle.bm_view.specs.Holders.{no_home};
-
-    ghost home = { no_home };
-}
-
-/// A receipt on its way to another thread.
-#[derive(Drop)]
-struct Notice<J: Home> {
-    receipt: Receipt,
-    of: PhantomData<J>,
-    ghost home_is: { receipt.home ≡ J.home },
-}
-
-fn make_notice<J: Home>(receipt: Receipt) -> Notice<J>
-    requires { receipt.home ≡ J.home }
-{
-    Notice {
-        receipt,
-        of: PhantomData,
-    }
 }
 
 /// Makes the calls, and publishes after each.
@@ -371,6 +336,7 @@ fn check_beside<R: Abort + Threads + Wait + Sync>(
         None => assert!(rt; false),
     }
     publisher.end(rt);
+    drop(manager);
 }
 
 #[test]

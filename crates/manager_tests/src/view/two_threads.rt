@@ -2,12 +2,14 @@
 ghost use Rattle.std.specs.Prelude.{◌≡◌, ◌≤◌, IfSome};
 ghost use Rattle.bm_view.specs.History.{last_of};
 
-use super::{found_on, version};
+use super::version;
+use crate::located::found_on;
+use crate::notices::{Home, Notice, make_notice};
 use bm_base::{BlockId, StorageId};
 use bm_view::{Located, Locator, Publisher, Receipt, open_view};
 use crossbeam_channel::{Receiver, Sender, unbounded};
 use std::alloc::Global;
-use std::marker::{Brand, PhantomData};
+use std::marker::Brand;
 use std::process::Abort;
 use std::sync::Wait;
 use std::thread::{Threads, join};
@@ -35,36 +37,6 @@ fn is_wrong(seen: Option<Located>) -> u32 {
             (Some(located) != at(calls)) as u32
         }
         None => 1,
-    }
-}
-
-// Names what one `open_view` made, for receipts that cross a channel. A call picks it.
-trait Home {
-    ghost use Rattle.bm_view.specs.Holders.{Home};
-
-    ghost home: { Home };
-}
-
-impl Home for Brand {
-    ghost use Rattle.bm_view.specs.Holders.{no_home};
-
-    ghost home = { no_home };
-}
-
-// A receipt on its way to another thread.
-#[derive(Drop)]
-struct Notice<J: Home> {
-    receipt: Receipt,
-    of: PhantomData<J>,
-    ghost home_is: { receipt.home ≡ J.home },
-}
-
-fn make_notice<J: Home>(receipt: Receipt) -> Notice<J>
-    requires { receipt.home ≡ J.home }
-{
-    Notice {
-        receipt,
-        of: PhantomData,
     }
 }
 

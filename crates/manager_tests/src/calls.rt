@@ -1,0 +1,172 @@
+// Calls as the tables of the tests name them: by values that can be copied.
+use bm_base::{BlockId, Call, Entry, Event, Gen, Items, NodeId, Rack, Remaining, Stamp, StorageId};
+use std::alloc::Global;
+use std::process::Abort;
+
+/// The generation and the length of a stamp.
+pub(crate) const STAMP: (u64, u64) = (1, 10);
+
+/// A call: the numbers of its fields, in the order of its line.
+#[derive(Clone, Copy)]
+pub(crate) enum Told<'a> {
+    /// A node, its rack and its storages.
+    Register(u32, u32, &'a [u32]),
+    /// A node, and storages with their free bytes.
+    Heartbeat(u32, &'a [(u32, u64)]),
+    /// A storage, and runs of blocks, each from its first to its last.
+    Report(u32, &'a [(u64, u64, (u64, u64))]),
+    Drain(u32),
+    Undrain(u32),
+    Dead(u32),
+    Failed(u32),
+    /// A block, its stamp, and how many replicas of it are requested.
+    Add(u64, (u64, u64), u32),
+    Delete(u64),
+    SetReplication(u64, u32),
+    Restamp(u64, (u64, u64)),
+    /// A storage, a block and the stamp of its replica.
+    Received(u32, u64, (u64, u64)),
+    Deleted(u32, u64),
+    Corrupt(u32, u64),
+    Round,
+    Replicas,
+    AllCorrupt,
+    Excess,
+    Missing,
+    BlocksOn(u32),
+    Places(u64),
+    LevelOf(u64),
+    Retired(u32),
+    Calls,
+}
+
+fn stamp_of((generation, len): (u64, u64)) -> Stamp {
+    Stamp {
+        generation: Gen(generation),
+        len,
+    }
+}
+
+/// An event on nodes or storages, without a list.
+fn event_on_nodes(told: Told<'_>) -> Option<Event> {
+    Some(match told {
+        Told::Drain(node) => Event::Drain { node: NodeId(node) },
+        Told::Undrain(node) => Event::Undrain { node: NodeId(node) },
+        Told::Dead(node) => Event::Dead { node: NodeId(node) },
+        Told::Failed(storage) => Event::StorageFailed {
+            storage: StorageId(storage),
+        },
+        Told::Received(storage, block, stamp) => Event::Received {
+            storage: StorageId(storage),
+            id: BlockId(block),
+            stamp: stamp_of(stamp),
+        },
+        Told::Deleted(storage, block) => Event::Deleted {
+            storage: StorageId(storage),
+            id: BlockId(block),
+        },
+        Told::Corrupt(storage, block) => Event::Corrupt {
+            storage: StorageId(storage),
+            id: BlockId(block),
+        },
+        _ => return None,
+    })
+}
+
+fn event_on_block(told: Told<'_>) -> Option<Event> {
+    Some(match told {
+        Told::Add(block, stamp, repl) => Event::AddBlock {
+            id: BlockId(block),
+            stamp: stamp_of(stamp),
+            repl,
+        },
+        Told::Delete(block) => Event::DeleteBlock { id: BlockId(block) },
+        Told::SetReplication(block, repl) => Event::SetReplication {
+            id: BlockId(block),
+            repl,
+        },
+        Told::Restamp(block, stamp) => Event::Restamp {
+            id: BlockId(block),
+            stamp: stamp_of(stamp),
+        },
+        _ => return None,
+    })
+}
+
+/// A call that is no event. Any other is taken for the question how many calls there were.
+fn question(told: Told<'_>) -> Call {
+    match told {
+        Told::Round => Call::Round,
+        Told::Replicas => Call::Replicas,
+        Told::AllCorrupt => Call::Corrupt,
+        Told::Excess => Call::Excess,
+        Told::Missing => Call::Missing,
+        Told::BlocksOn(storage) => Call::BlocksOn(StorageId(storage)),
+        Told::Places(block) => Call::Places(BlockId(block)),
+        Told::LevelOf(block) => Call::LevelOf(BlockId(block)),
+        Told::Retired(node) => Call::Retired(NodeId(node)),
+        _ => Call::Calls,
+    }
+}
+
+fn register(rt: &impl Abort, alloc: Global, node: u32, rack: u32, numbers: &[u32]) -> Event {
+    let mut storages = Vec::new(alloc);
+    for number in numbers {
+        storages.push(StorageId(*number)).expect(rt, "memory");
+    }
+    Event::Register {
+        node: NodeId(node),
+        rack: Rack(rack),
+        storages: Items::from_vec(storages),
+    }
+}
+
+fn heartbeat(rt: &impl Abort, alloc: Global, node: u32, told: &[(u32, u64)]) -> Event {
+    let mut rows = Vec::new(alloc);
+    for (storage, remaining) in told {
+        let row = Remaining {
+            storage: StorageId(*storage),
+            remaining: *remaining,
+        };
+        rows.push(row).expect(rt, "memory");
+    }
+    Event::Heartbeat {
+        node: NodeId(node),
+        remaining: Items::from_vec(rows),
+    }
+}
+
+fn report(rt: &impl Abort, alloc: Global, storage: u32, told: &[(u64, u64, (u64, u64))]) -> Event {
+    let mut entries = Vec::new(alloc);
+    for (from, to, stamp) in told {
+        let entry = Entry {
+            from: BlockId(*from),
+            to: BlockId(*to),
+            stamp: stamp_of(*stamp),
+        };
+        entries.push(entry).expect(rt, "memory");
+    }
+    Event::FullReport {
+        storage: StorageId(storage),
+        entries: Items::from_vec(entries),
+    }
+}
+
+fn event_of(rt: &impl Abort, alloc: Global, told: Told<'_>) -> Option<Event> {
+    match told {
+        Told::Register(node, rack, storages) => Some(register(rt, alloc, node, rack, storages)),
+        Told::Heartbeat(node, remaining) => Some(heartbeat(rt, alloc, node, remaining)),
+        Told::Report(storage, runs) => Some(report(rt, alloc, storage, runs)),
+        Told::Add(..) | Told::Delete(_) | Told::SetReplication(..) | Told::Restamp(..) => {
+            event_on_block(told)
+        }
+        _ => event_on_nodes(told),
+    }
+}
+
+pub(crate) fn call_of(rt: &impl Abort, alloc: Global, told: Told<'_>) -> Call {
+    match event_of(rt, alloc, told) {
+        Some(event) => Call::Apply(event),
+        None => question(told),
+    }
+}
