@@ -1,4 +1,4 @@
-// What all checks are made on: made once, and made anew for each size and each turn.
+// The managers, tables and texts that all checks use, and how each size and each turn gets new ones.
 
 use crate::managers::config;
 use crate::tally::Tally;

@@ -49,7 +49,7 @@ pub struct Disks {
 }
 
 impl Disks {
-    /// All of them alive and empty, each with room for twice the replicas that it gets where so many are placed evenly.
+    /// All of them alive and empty, each with capacity for twice its even share of `replicas`.
     pub fn new(alloc: Global, shape: Shape, replicas: u64) -> Result<Disks, AllocError>
         ensures { IfOk result (λ d. replicas < 2 ^ 32 → d.capacity
             ≡ max (div_ceil replicas (max (shape.nodes * shape.storages) 1) * 2) 32768 * 2 ^ 27) }
@@ -175,7 +175,7 @@ fn remove_holder(holders: &mut Vec<StorageId>, storage: StorageId)
     holders.retain(|holder| *holder != storage);
 }
 
-/// The bytes of each disk: room for twice the replicas that it gets where so many are placed evenly.
+/// The bytes of each disk: capacity for twice its even share of `replicas`.
 fn capacity_for(storages: u64, replicas: u64) -> u64
     requires { 0 < storages }
     ensures { replicas < 2 ^ 32

@@ -70,7 +70,7 @@ fn time_turn<R: Threads + Wait + Sync>(
     Ok(nanos)
 }
 
-// The numbers on which the rounds depend, told once for each storage.
+// Reports the free bytes on which rounds depend, once for each storage.
 fn tell_free<R: Threads + Wait + Sync>(
     rt: &R,
     alloc: Global,

@@ -13,8 +13,8 @@ use std::thread::Threads;
 
 const VERSIONS: u64 = 3;
 
-/// Measures what a manager holds in memory, where its replicas came one by one, and what its versions do. The process held so many
-/// bytes before there was one. Only the first run of a process tells it well: one after it finds memory that is held already.
+/// Measures what a manager holds in memory, where its replicas came one by one, and what its versions do. `held` has the bytes
+/// that the process held without a manager. Only the first run of a process is exact: a later one finds memory that is held already.
 pub fn measure<R: Threads + Wait + Sync>(
     rt: &R,
     alloc: Global,

@@ -19,7 +19,7 @@ pub(crate) fn found_on(calls: u64, storages: &[StorageId]) -> Option<Located> {
     })
 }
 
-/// Whether a locator has found a block in a version with so many calls, on these storages.
+/// Whether a locator has found a block on these storages, in the version with this number of calls.
 pub(crate) fn is_found_on(
     rt: &impl Abort,
     alloc: Global,

@@ -1,4 +1,4 @@
-// Scripts and what is answered to them: one function goes over a table of such rows.
+// Scripts with their answers: one function runs all rows of a table.
 use bm_base::Config;
 use bm_session::{Counted, Fault, Summary, run};
 use std::alloc::{AllocError, Global};

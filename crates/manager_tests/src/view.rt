@@ -30,7 +30,7 @@ enum Step<'a> {
     Publish(u64, &'a [u32]),
     /// The publisher has published a version with so many calls.
     Calls(u64),
-    /// The first locator has a block, in a version with so many calls, on these storages.
+    /// The first locator has a block on these storages, in the version with this number of calls.
     First(u64, u64, &'a [u32]),
     /// The same of the second, which learns nothing.
     Second(u64, u64, &'a [u32]),

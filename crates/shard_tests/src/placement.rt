@@ -70,7 +70,7 @@ fn number_of(storage: Option<StorageId>) -> Option<u32> {
     }
 }
 
-/// A node joins with its storages, on each of which so many bytes are free.
+/// A node joins with its storages, each with `free` bytes.
 fn join_node(rt: &impl Abort, alloc: Global, topology: &mut Topology, node: &Node<'_>, free: u64) {
     join(rt, alloc, topology, node.number, node.rack, node.storages);
     beat(rt, alloc, topology, node.number, node.storages, free);

@@ -322,7 +322,7 @@ fn give_up_thousand(rt: &impl Abort, world: &mut World, from: u64) {
     world.report.abort(&mut world.arena);
 }
 
-/// Gives up so many reports of a thousand numbers, one after another.
+/// Gives up `count` reports of a thousand numbers, one after another.
 fn give_up_thousands(rt: &impl Abort, world: &mut World, count: u64) -> Answer {
     for index in 0..count {
         give_up_thousand(rt, world, 1000u64.saturating_mul(index.saturating_add(1)));

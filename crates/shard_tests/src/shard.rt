@@ -154,7 +154,7 @@ fn look_further(rt: &impl Abort, shard: &Shard) {
     assert!(rt; shard.level(SEVEN) == Ok(Some(Level::Highest)));
 }
 
-/// Whether a wish is for so many copies of block 7, with these targets on their way.
+/// Whether a wish is for `count` copies of block 7, with these copies pending.
 fn is_wish(wish: &Wish, count: u32, pending: &[StorageId]) -> bool {
     let source = [StorageId(11)];
     wish.level == Level::Highest

@@ -1,4 +1,4 @@
-// Each call with a line, beside the line: each field has a number of its own.
+// Each call that a line can ask for, with that line. Each field has a number of its own.
 ghost use Rattle.std.specs.Prelude.{◌≡◌, true};
 ghost use Rattle.bm_lines.specs.Asking.{has_op};
 
