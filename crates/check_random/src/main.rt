@@ -7,8 +7,8 @@
 //! shard and one worker had.
 //!
 //! Ends with status 1 where two answers differ, where a read is of no version that was published or goes back, where memory is
-//! refused, where an argument is no number, and where the run was too poor to show much: fewer than the least number of events of
-//! each kind accepted, rounds that command something, lists that are not empty, and refusals; or, with readers, none of these that went from
+//! refused, where an argument is no number, and where the run was too poor to show much: fewer than the least number of accepted
+//! events of each kind, rounds with a command, lists that are not empty, and refusals; or, with readers, none of these that went from
 //! one version to a later one, as it is where no thread can be started. (Fewer calls than a list has show little, and are not
 //! judged so.)
 #![tactic(auto)]
