@@ -1,0 +1,3 @@
+-- Lemmas.
+pub mod NameLemmas
+pub mod BlockLemmas

@@ -1,0 +1,14 @@
+-- The blocks, in order.
+use Rattle.std.specs.Prelude.{ℕ, Bool, List, [], ◌∷◌, ◌++◌, nat_eq}
+use Rattle.std.specs.List.{list_any}
+use Rattle.bm_base.specs.declared.replica.BlockInfo.{BlockInfo}
+
+-- blocks by their numbers
+abbrev pub Named : Type 0
+Named = List (ℕ × BlockInfo)
+
+abbrev pub has_block : Named → ℕ → Bool
+has_block blocks id = list_any (λ b. nat_eq id b.0) blocks
+
+abbrev pub with_block : Named → ℕ → BlockInfo → Named
+with_block blocks id info = blocks ++ (id, info) ∷ []

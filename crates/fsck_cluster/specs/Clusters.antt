@@ -1,0 +1,131 @@
+-- A cluster, block by block.
+use Rattle.std.specs.Prelude.{◌≡◌, ⊤, ℕ, ◌-◌, ◌==◌, ◌&&◌, ◌||◌, Bool, true, false, nat_lt, length, List, [], ◌∷◌, ◌++◌, Option, Some, None, unwrap_or, position, slice_get, Result, Ok, Err, if◌then◌else◌, codes}
+use Rattle.std.specs.Option.{option_map_or}
+use Rattle.std.specs.Str.{bytes_eq}
+use Rattle.bm_base.specs.declared.replica.Stamp.{Stamp}
+use Rattle.bm_base.specs.declared.event.Entry.{Entry}
+use Rattle.fsck_text.specs.Cuts.{Text}
+use Rattle.fsck_text.specs.Wrongs.{after_ok}
+use Rattle.fsck_text.specs.declared.place.Place.{Place}
+use Rattle.fsck_text.specs.declared.list.Listed.{Listed}
+use Rattle.fsck_files.specs.Numbers.{with_number}
+use Rattle.fsck_files.specs.Replicas.{state_of}
+use Rattle.fsck_files.specs.declared.replicas.Block.{Block}
+use Rattle.fsck_files.specs.declared.replicas.State.{State}
+use Rattle.fsck_files.specs.declared.replicas.State.TheVariants as state
+use Rattle.fsck_cluster.specs.Names.{is_new, name_number, name_of, with_name}
+use Rattle.fsck_cluster.specs.Blocks.{has_block, with_block}
+use Rattle.fsck_cluster.specs.Rows.{new_row, ends_with, with_entry_at}
+use Rattle.fsck_cluster.specs.declared.cluster.Bad.{Bad}
+use Rattle.fsck_cluster.specs.declared.cluster.Cluster.{Cluster}
+use Rattle.fsck_cluster.specs.declared.cluster.ClusterFault.{ClusterFault}
+use Rattle.fsck_cluster.specs.declared.cluster.ClusterFault.TheVariants as fault
+use Rattle.fsck_cluster.specs.declared.cluster.NodeRow.{NodeRow}
+use Rattle.fsck_cluster.specs.declared.cluster.Why.{Why}
+use Rattle.fsck_cluster.specs.declared.cluster.Why.TheVariants as why
+use Rattle.fsck_cluster.specs.declared.rows.Row.{Row}
+
+-- nothing was read
+abbrev pub no_cluster : Cluster
+no_cluster = record {
+  racks = []; nodes = []; node_rows = []; knows_nodes = false; storages = []; rows = []; blocks = []; bad = []; draining = [];
+}
+
+-- what a line makes of a cluster, or why it is refused
+abbrev pub After : Type 0
+After = Result Cluster Why
+
+-- the rack of a place; by Hadoop's name where the place has none
+abbrev pub rack_name : Option Text → Text
+rack_name rack = unwrap_or rack (codes "/default-rack")
+
+-- a rack that a place has is that of its node; without one it is the default rack, or is known from the report on DataNodes
+abbrev pub fits_rack : Cluster → Option Text → NodeRow → Bool
+fits_rack c (Some rack) row = bytes_eq (name_of c.racks row.rack) rack
+fits_rack c None row = c.knows_nodes || bytes_eq (name_of c.racks row.rack) (codes "/default-rack")
+
+-- the same of the node at an index
+abbrev pub is_on_rack : Cluster → ℕ → Option Text → Bool
+is_on_rack c index rack = option_map_or (fits_rack c rack) (slice_get c.node_rows index) false
+
+-- with the node of a place
+abbrev pub after_new_node : Cluster → Place → Cluster
+after_new_node c p = record c {
+  racks = with_name c.racks (rack_name p.rack);
+  nodes = with_name c.nodes p.address;
+  node_rows = c.node_rows ++ record { number = name_number c.nodes p.address; rack = name_number c.racks (rack_name p.rack); remaining = None } ∷ [];
+}
+
+abbrev pub with_new_node : Cluster → Place → After
+with_new_node c p =
+    if c.knows_nodes then Err why.UnknownNode
+    else (if nat_lt (length c.nodes) 256 then Ok (after_new_node c p) else Err why.TooManyNodes)
+
+abbrev pub at_node : Cluster → Place → Option ℕ → After
+at_node c p (Some index) = if is_on_rack c index p.rack then Ok c else Err why.Elsewhere
+at_node c p None = with_new_node c p
+
+-- with the node of a place: a known one is on the rack on which it was
+abbrev pub after_node : Cluster → Place → After
+after_node c p = at_node c p (position (bytes_eq p.address) c.nodes)
+
+-- whether the storage at an index is on a node
+abbrev pub is_on_node : Cluster → ℕ → Text → Bool
+is_on_node c index address = option_map_or (λ row. bytes_eq (name_of c.nodes row.node) address) (slice_get c.rows index) false
+
+-- with the storage of a place
+abbrev pub after_new_storage : Cluster → Place → Cluster
+after_new_storage c p = record c {
+  nodes = with_name c.nodes p.address;
+  storages = with_name c.storages p.storage;
+  rows = c.rows ++ new_row (name_number c.storages p.storage) (name_number c.nodes p.address) ∷ [];
+}
+
+abbrev pub at_storage : Cluster → Place → Option ℕ → After
+at_storage c p (Some index) = if is_on_node c index p.address then Ok c else Err why.Elsewhere
+at_storage c p None = if nat_lt (length c.storages) 4096 then Ok (after_new_storage c p) else Err why.TooManyStorages
+
+-- with the storage of a place: a known one is on the node on which it was
+abbrev pub after_storage : Cluster → Place → After
+after_storage c p = at_storage c p (position (bytes_eq p.storage) c.storages)
+
+-- with what a replica is besides being there: a corrupt one is listed, and the node of a drained one drains
+abbrev pub with_state : Cluster → Row → ℕ → State → Cluster
+with_state c row id state.Good = c
+with_state c row id state.Corrupt = record c { bad = c.bad ++ record { storage = row.number; id = id } ∷ [] }
+with_state c row id state.Drained = record c { draining = with_number c.draining row.node }
+
+-- with a replica of a block on the storage at an index
+abbrev pub with_replica : Cluster → ℕ → ℕ → Stamp → Cluster
+with_replica c at id stamp = record c { rows = with_entry_at c.rows at (record { from = id; to = id; stamp = stamp }) }
+
+-- a storage has one replica of a block, and no more
+abbrev pub on_row : Cluster → Block → Listed → ℕ → Row → After
+on_row c b l at row =
+    if ends_with row b.id then Err why.StorageTwice
+    else Ok (with_state (with_replica c at b.id b.stamp) row b.id (state_of l.mark b.is_corrupt))
+
+-- with a replica on the storage of its place, which is known
+abbrev pub after_replica : Cluster → Block → Listed → After
+after_replica c b l =
+    option_map_or (λ at. option_map_or (on_row c b l at) (slice_get c.rows at) (Ok c)) (position (bytes_eq l.place.storage) c.storages) (Ok c)
+
+-- with one replica, which may be the first on its rack, its node or its storage
+abbrev pub after_place : Cluster → Block → Listed → After
+after_place c b l = after_ok (λ e. after_replica e b l) (after_ok (λ d. after_storage d l.place) (after_node c l.place))
+
+-- with the replicas of a block, one after another
+abbrev pub after_places : Cluster → Block → List Listed → After
+after_places c b [] = Ok c
+after_places c b (l ∷ ls) = after_ok (λ d. after_places d b ls) (after_place c b l)
+
+-- with a block and its replicas
+abbrev pub after_block : Cluster → Block → After
+after_block c b =
+    if has_block c.blocks b.id then Err why.BlockTwice
+    else after_places (record c { blocks = with_block c.blocks b.id (record { stamp = b.stamp; repl = b.wanted }) }) b b.replicas
+
+-- the fault is this refusal, or memory that was refused
+abbrev pub IsCause : ClusterFault → After → Type 0
+IsCause fault.Memory after = ⊤
+IsCause (fault.Refused w) after = after ≡ Err w

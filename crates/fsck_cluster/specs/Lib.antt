@@ -1,0 +1,6 @@
+-- A cluster as fsck and the report on DataNodes describe it.
+pub mod Names
+pub mod Blocks
+pub mod Rows
+pub mod Clusters
+pub mod NodeLists

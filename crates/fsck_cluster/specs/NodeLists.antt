@@ -1,0 +1,114 @@
+-- The DataNodes, by the report on them.
+use Rattle.std.specs.Prelude.{◌≡◌, ⊤, ℕ, ◌==◌, ◌||◌, Bool, true, false, not, nat_lt, is_some, is_none, length, ◌∷◌, ◌++◌, [], Option, Some, None, Result, Ok, Err, if◌then◌else◌, codes}
+use Rattle.std.specs.Option.{option_map_or}
+use Rattle.fsck_text.specs.Cuts.{Text}
+use Rattle.fsck_text.specs.Nodes.{node_line_of}
+use Rattle.fsck_text.specs.Wrongs.{after_ok}
+use Rattle.fsck_text.specs.declared.node.NodeLine.{NodeLine}
+use Rattle.fsck_text.specs.declared.node.NodeLine.TheVariants as node
+use Rattle.fsck_text.specs.declared.wrong.Wrong.{Wrong}
+use Rattle.fsck_files.specs.Numbers.{with_number}
+use Rattle.fsck_cluster.specs.Names.{is_new, name_number, with_name}
+use Rattle.fsck_cluster.specs.Clusters.{no_cluster}
+use Rattle.fsck_cluster.specs.declared.cluster.Cluster.{Cluster}
+use Rattle.fsck_cluster.specs.declared.cluster.NodeRow.{NodeRow}
+use Rattle.fsck_cluster.specs.declared.node_list.NodeList.{NodeList}
+use Rattle.fsck_cluster.specs.declared.node_list.NodeFault.{NodeFault}
+use Rattle.fsck_cluster.specs.declared.node_list.NodeFault.TheVariants as fault
+use Rattle.fsck_cluster.specs.declared.node_list.NodeRefusal.{NodeRefusal}
+use Rattle.fsck_cluster.specs.declared.node_list.NodeRefusal.TheVariants as refusal
+
+-- nothing was read
+abbrev pub no_list : NodeList
+no_list = record { cluster = record no_cluster { knows_nodes = true }; is_live = false; was_live = false; row = None }
+
+-- what a line makes of the list, or why it is refused
+abbrev pub After : Type 0
+After = Result NodeList NodeRefusal
+
+-- with a node on the rack of this name
+abbrev pub with_row_on : NodeList → NodeRow → Text → NodeList
+with_row_on s row rack = record s {
+  cluster = record s.cluster { racks = with_name s.cluster.racks rack; node_rows = s.cluster.node_rows ++ record row { rack = name_number s.cluster.racks rack } ∷ [] };
+  row = None;
+}
+
+abbrev pub with_row : NodeList → NodeRow → NodeList
+with_row s row = record s { cluster = record s.cluster { node_rows = s.cluster.node_rows ++ row ∷ [] }; row = None }
+
+-- the node that was being read ends: it has a line on its free bytes, and is on the default rack if no line says another
+abbrev pub after_row : NodeList → Option NodeRow → After
+after_row s None = Ok s
+after_row s (Some row) =
+    if is_none row.remaining then Err refusal.NoRemaining
+    else Ok (if row.rack == 0 then with_row_on s row (codes "/default-rack") else with_row s row)
+
+abbrev pub ended_row : NodeList → After
+ended_row s = after_row s s.row
+
+-- a section begins
+abbrev pub after_section : NodeList → Bool → After
+after_section s live = after_ok (λ t. Ok (record t { is_live = live; was_live = t.was_live || live })) (ended_row s)
+
+abbrev pub named : NodeList → Text → NodeList
+named s address = record s {
+  cluster = record s.cluster { nodes = with_name s.cluster.nodes address };
+  row = Some (record { number = name_number s.cluster.nodes address; rack = 0; remaining = None });
+}
+
+abbrev pub with_node : Text → NodeList → After
+with_node address s =
+    if not (is_new s.cluster.nodes address) then Err refusal.NodeTwice
+    else (if nat_lt (length s.cluster.nodes) 256 then Ok (named s address) else Err refusal.TooManyNodes)
+
+-- a node begins
+abbrev pub after_name : NodeList → Text → After
+after_name s address = after_ok (with_node address) (ended_row s)
+
+abbrev pub on_rack : NodeList → Text → NodeRow → NodeList
+on_rack s rack row = record s {
+  cluster = record s.cluster { racks = with_name s.cluster.racks rack };
+  row = Some (record row { rack = name_number s.cluster.racks rack });
+}
+
+-- the rack of the node
+abbrev pub after_rack : NodeList → Text → NodeList
+after_rack s rack = option_map_or (on_rack s rack) s.row s
+
+-- whether the node drains
+abbrev pub after_drains : NodeList → Bool → NodeList
+after_drains s drains =
+    option_map_or (λ row. if drains then record s { cluster = record s.cluster { draining = with_number s.cluster.draining row.number } } else s) s.row s
+
+-- the free bytes of the node
+abbrev pub after_remaining : NodeList → ℕ → NodeList
+after_remaining s bytes = option_map_or (λ row. record s { row = Some (record row { remaining = Some bytes }) }) s.row s
+
+-- of the live nodes alone
+abbrev pub when_live : NodeList → After → After
+when_live s after = if s.is_live then after else Ok s
+
+abbrev pub after_kind : NodeList → NodeLine → After
+after_kind s (node.Section live) = after_section s live
+after_kind s node.Other = Ok s
+after_kind s (node.Node address) = when_live s (after_name s address)
+after_kind s (node.Rack rack) = when_live s (Ok (after_rack s rack))
+after_kind s (node.Drains drains) = when_live s (Ok (after_drains s drains))
+after_kind s (node.Remaining bytes) = when_live s (Ok (after_remaining s bytes))
+
+abbrev pub read_as : {A B : Type 0} → (A → Result B NodeRefusal) → Result A Wrong → Result B NodeRefusal
+read_as f (Ok x) = f x
+read_as f (Err w) = Err (refusal.Wrong w)
+
+-- after one more line
+abbrev pub after_line : NodeList → Text → After
+after_line s line = read_as (after_kind s) (node_line_of line)
+
+-- at the end of the report, which has a section of live nodes
+abbrev pub at_end : NodeList → Result Cluster NodeRefusal
+at_end s = after_ok (λ t. if t.was_live then Ok t.cluster else Err refusal.NoLiveNodes) (ended_row s)
+
+-- the fault is this refusal, or memory that was refused
+abbrev pub IsCause : {A : Type 0} → NodeFault → Result A NodeRefusal → Type 0
+IsCause fault.Memory after = ⊤
+IsCause (fault.Refused why) after = after ≡ Err why

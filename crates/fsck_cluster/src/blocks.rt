@@ -1,0 +1,46 @@
+// The blocks, in order.
+ghost use Rattle.std.specs.Prelude.{◌≡◌, length, not, IfOk, if◌then◌else◌, []};
+ghost use Rattle.fsck_cluster.specs.Blocks.{has_block, with_block};
+
+use bm_base::{BlockId, BlockInfo};
+use indexmap::IndexMap;
+use std::alloc::{AllocError, Global};
+use std::marker::Model;
+
+/// The blocks by their numbers, found by hash.
+#[derive(Drop)]
+pub struct Blocks {
+    pub map: IndexMap<u64, BlockInfo>,
+}
+
+impl Model for Blocks {
+    ghost use Rattle.std.specs.Prelude.{ℕ, List};
+    ghost use Rattle.bm_base.specs.declared.replica.BlockInfo.{BlockInfo};
+
+    ghost Value = { List (ℕ × BlockInfo) };
+
+    ghost view = { λ blocks. blocks.map.entries };
+}
+
+impl Blocks {
+    pub fn new(alloc: Global) -> Blocks
+        ensures { result ≡ [] }
+    {
+        Blocks {
+            map: IndexMap::new(alloc),
+        }
+    }
+
+    /// Adds a block, and says whether it is new. A known one stays as it was.
+    pub fn add(&mut self, id: BlockId, info: BlockInfo) -> Result<bool, AllocError>
+        ensures new { IfOk result (λ added. added ≡ not (has_block self.old id)) }
+        ensures blocks { IfOk result
+            (λ added. self.new ≡ (if added then with_block self.old id info else self.old)) }
+    {
+        if self.map.contains_key(&id.0) {
+            return Ok(false);
+        }
+        self.map.insert(id.0, info)?;
+        Ok(true)
+    }
+}

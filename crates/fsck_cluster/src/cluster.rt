@@ -1,0 +1,251 @@
+// A cluster, block by block.
+ghost use Rattle.std.specs.Prelude.{◌≡◌, Ok, Err, OnOk, IfErr, option_copied, option_map, slice_get};
+ghost use Rattle.fsck_cluster.specs.Clusters.{no_cluster, is_on_rack, is_on_node, after_block, after_places, after_place, after_node, after_new_node, after_storage, after_new_storage, after_replica, IsCause};
+
+use crate::blocks::Blocks;
+use crate::names::Names;
+use crate::rows::Rows;
+use bm_base::{BlockId, BlockInfo, Entry, Items, MAX_NODES, MAX_STORAGES, StorageId};
+use fsck_files::{Block, Numbers, State, state_of};
+use fsck_text::{Listed, Piece, Place};
+use std::alloc::{AllocError, Global};
+
+/// Hadoop's name for the rack of a node whose rack is not known.
+pub const DEFAULT_RACK: &str = "/default-rack";
+
+/// A DataNode.
+#[derive(Clone, Copy, Drop)]
+pub struct NodeRow {
+    pub number: u32,
+    pub rack: u32,
+    /// Its free bytes, where the report on DataNodes says them.
+    pub remaining: Option<u64>,
+}
+
+/// A replica that is corrupt.
+#[derive(Clone, Copy, Drop)]
+pub struct Bad {
+    pub storage: StorageId,
+    pub id: BlockId,
+}
+
+/// A cluster as far as it was read. Racks, nodes and storages are numbered from 1 in the order in which
+/// they come first.
+#[derive(Drop)]
+pub struct Cluster {
+    pub racks: Names,
+    /// The nodes by host and port.
+    pub nodes: Names,
+    pub node_rows: Items<NodeRow>,
+    /// All nodes are known from the report on DataNodes.
+    pub knows_nodes: bool,
+    pub storages: Names,
+    pub rows: Rows,
+    pub blocks: Blocks,
+    /// The corrupt replicas in the order of the text.
+    pub bad: Items<Bad>,
+    /// The numbers of the nodes that are being decommissioned, or have been.
+    pub draining: Numbers,
+}
+
+/// Why a block is not taken.
+#[derive(Clone, Copy, Debug, PartialEq, Drop)]
+pub enum Why {
+    /// The block was read before.
+    BlockTwice,
+    /// Two places of the block have one storage.
+    StorageTwice,
+    /// A storage on another node than before, or a node on another rack.
+    Elsewhere,
+    /// A node that is not among the live ones of the report on DataNodes.
+    UnknownNode,
+    /// More than 256 nodes.
+    TooManyNodes,
+    /// More than 4,096 storages.
+    TooManyStorages,
+}
+
+/// Why a block is not taken, or memory that was refused.
+#[derive(Clone, Copy, Debug, PartialEq, Drop)]
+pub enum ClusterFault {
+    Memory,
+    Refused(Why),
+}
+
+impl From<AllocError> for ClusterFault {
+    ghost use Rattle.std.specs.Prelude.{◌≡◌};
+    ghost use Rattle.fsck_cluster.specs.declared.cluster.ClusterFault.TheVariants.{Memory};
+
+    ghost from_gives = { λ _ e. e ≡ Memory };
+
+    fn from(_error: AllocError) -> Self {
+        ClusterFault::Memory
+    }
+}
+
+impl Cluster {
+    /// Nothing was read.
+    pub fn new(alloc: Global) -> Cluster
+        ensures { result ≡ no_cluster }
+    {
+        Cluster {
+            racks: Names::new(alloc),
+            nodes: Names::new(alloc),
+            node_rows: Items::from_vec(Vec::new(alloc)),
+            knows_nodes: false,
+            storages: Names::new(alloc),
+            rows: Rows::new(alloc),
+            blocks: Blocks::new(alloc),
+            bad: Items::from_vec(Vec::new(alloc)),
+            draining: Numbers::new(alloc),
+        }
+    }
+
+    /// Takes a block with its replicas.
+    pub fn take_block(&mut self, alloc: Global, block: &Block) -> Result<(), ClusterFault>
+        ensures ok { OnOk result (after_block self.old block.now ≡ Ok self.new) }
+        ensures refused { IfErr result (λ f. IsCause f (after_block self.old block.now)) }
+    {
+        let info = BlockInfo {
+            stamp: block.stamp,
+            repl: block.wanted,
+        };
+        if !self.blocks.add(block.id, info)? {
+            return Err(ClusterFault::Refused(Why::BlockTwice));
+        }
+        self.take_places(alloc, block)
+    }
+
+    /// Takes the replicas of a block, one after another.
+    fn take_places(&mut self, alloc: Global, block: &Block) -> Result<(), ClusterFault>
+        ensures ok { OnOk result (after_places self.old block.now block.now.replicas ≡ Ok self.new) }
+        ensures refused { IfErr result (λ f. IsCause f (after_places self.old block.now block.now.replicas)) }
+    {
+        for listed in block.replicas.as_slice() {
+            self.take_place(alloc, block, listed)?;
+        }
+        Ok(())
+    }
+
+    /// Takes one replica, which may be the first on its rack, its node or its storage.
+    fn take_place(
+        &mut self,
+        alloc: Global,
+        block: &Block,
+        listed: &Listed,
+    ) -> Result<(), ClusterFault>
+        ensures ok { OnOk result (after_place self.old block.now listed.now ≡ Ok self.new) }
+        ensures refused { IfErr result (λ f. IsCause f (after_place self.old block.now listed.now)) }
+    {
+        self.take_node(alloc, &listed.place)?;
+        self.take_storage(alloc, &listed.place)?;
+        self.take_replica(block, listed)
+    }
+
+    /// Takes the node of a place.
+    fn take_node(&mut self, alloc: Global, place: &Place) -> Result<(), ClusterFault>
+        ensures ok { OnOk result (after_node self.old place.now ≡ Ok self.new) }
+        ensures refused { IfErr result (λ f. IsCause f (after_node self.old place.now)) }
+    {
+        match self.nodes.index(place.address.text()) {
+            Some(index) if self.is_on_rack(index, &place.rack) => Ok(()),
+            Some(_) => Err(ClusterFault::Refused(Why::Elsewhere)),
+            None if self.knows_nodes => Err(ClusterFault::Refused(Why::UnknownNode)),
+            None if self.nodes.len() >= MAX_NODES => {
+                Err(ClusterFault::Refused(Why::TooManyNodes))
+            }
+            None => Ok(self.add_node(alloc, place)?),
+        }
+    }
+
+    /// Whether the node at an index is on a rack, as far as the place has one.
+    fn is_on_rack(&self, index: usize, rack: &Option<Piece>) -> bool
+        ensures { result ≡ is_on_rack self.now index rack.now }
+    {
+        let Some(row) = self.node_rows.as_slice().get(index) else {
+            return false;
+        };
+        match rack {
+            Some(rack) => self.racks.name(row.rack) == rack.text(),
+            None => self.knows_nodes || self.racks.name(row.rack) == DEFAULT_RACK,
+        }
+    }
+
+    /// Adds the node of a place.
+    fn add_node(&mut self, alloc: Global, place: &Place) -> Result<(), AllocError>
+        ensures { OnOk result (self.new ≡ after_new_node self.old place.now) }
+    {
+        let rack = match &place.rack {
+            Some(rack) => rack.text(),
+            None => DEFAULT_RACK,
+        };
+        let rack = self.racks.number_of(alloc, rack)?;
+        let node = self.nodes.number_of(alloc, place.address.text())?;
+        self.node_rows.push(NodeRow {
+            number: node.number,
+            rack: rack.number,
+            remaining: None,
+        })
+    }
+
+    /// Takes the storage of a place, whose node is known.
+    fn take_storage(&mut self, alloc: Global, place: &Place) -> Result<(), ClusterFault>
+        ensures ok { OnOk result (after_storage self.old place.now ≡ Ok self.new) }
+        ensures refused { IfErr result (λ f. IsCause f (after_storage self.old place.now)) }
+    {
+        match self.storages.index(place.storage.text()) {
+            Some(index) if self.is_on_node(index, place.address.text()) => Ok(()),
+            Some(_) => Err(ClusterFault::Refused(Why::Elsewhere)),
+            None if self.storages.len() >= MAX_STORAGES => {
+                Err(ClusterFault::Refused(Why::TooManyStorages))
+            }
+            None => Ok(self.add_storage(alloc, place)?),
+        }
+    }
+
+    /// Whether the storage at an index is on a node.
+    fn is_on_node(&self, index: usize, address: &str) -> bool
+        ensures { result ≡ is_on_node self.now index address.now }
+    {
+        match self.rows.as_slice().get(index) {
+            Some(row) => self.nodes.name(row.node) == address,
+            None => false,
+        }
+    }
+
+    /// Adds the storage of a place.
+    fn add_storage(&mut self, alloc: Global, place: &Place) -> Result<(), AllocError>
+        ensures { OnOk result (self.new ≡ after_new_storage self.old place.now) }
+    {
+        let node = self.nodes.number_of(alloc, place.address.text())?;
+        let storage = self.storages.number_of(alloc, place.storage.text())?;
+        self.rows.push(alloc, storage.number, node.number)
+    }
+
+    /// Takes a replica on the storage of its place, which is known.
+    fn take_replica(&mut self, block: &Block, listed: &Listed) -> Result<(), ClusterFault>
+        ensures ok { OnOk result (after_replica self.old block.now listed.now ≡ Ok self.new) }
+        ensures refused { IfErr result (λ f. IsCause f (after_replica self.old block.now listed.now)) }
+    {
+        let Some(at) = self.storages.index(listed.place.storage.text()) else {
+            return Ok(());
+        };
+        let Some(row) = self.rows.as_slice().get(at) else {
+            return Ok(());
+        };
+        if row.ends_with(block.id) {
+            return Err(ClusterFault::Refused(Why::StorageTwice));
+        }
+        let (storage, node) = (StorageId(row.number), row.node);
+        self.rows.add(at, Entry::one(block.id, block.stamp))?;
+        match state_of(listed.mark, block.is_corrupt) {
+            State::Good => {}
+            State::Corrupt => self.bad.push(Bad {
+                storage,
+                id: block.id,
+            })?,
+            State::Drained => self.draining.add(u64::from(node))?,
+        }
+        Ok(())
+    }
+}

@@ -1,0 +1,15 @@
+//! A cluster as `hdfs fsck` and `hdfs dfsadmin -report` describe it, and the calls that make a block
+//! manager know it.
+#![tactic(auto)]
+
+mod blocks;
+mod cluster;
+mod names;
+mod node_list;
+mod rows;
+
+pub use blocks::Blocks;
+pub use cluster::{Bad, Cluster, ClusterFault, NodeRow, Why};
+pub use names::Names;
+pub use node_list::{NodeFault, NodeList, NodeRefusal};
+pub use rows::{Row, Rows};

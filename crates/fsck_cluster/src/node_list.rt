@@ -1,0 +1,193 @@
+// The DataNodes, by the report on them.
+ghost use Rattle.std.specs.Prelude.{◌≡◌, Ok, Err, Some, OnOk, IfOk, IfErr};
+ghost use Rattle.fsck_cluster.specs.NodeLists.{no_list, ended_row, after_row, after_name, after_rack, after_drains, after_remaining, after_section, after_line, at_end, IsCause};
+
+use crate::cluster::{Cluster, DEFAULT_RACK, NodeRow};
+use bm_base::MAX_NODES;
+use fsck_text::{NodeLine, Wrong, node_line_of};
+use std::alloc::{AllocError, Global};
+
+/// The live nodes so far.
+#[derive(Drop)]
+pub struct NodeList {
+    pub cluster: Cluster,
+    /// The section of the live nodes is being read.
+    pub is_live: bool,
+    /// That section was begun.
+    pub was_live: bool,
+    /// The node that is being read; its rack is 0 as long as no line says it.
+    pub row: Option<NodeRow>,
+}
+
+/// Why a line of the report is not taken.
+#[derive(Drop)]
+pub enum NodeRefusal<'a> {
+    /// A word is not understood.
+    Wrong(Wrong<'a>),
+    /// The node was read before.
+    NodeTwice,
+    /// More than 256 live nodes.
+    TooManyNodes,
+    /// The node before has no line on its free bytes.
+    NoRemaining,
+    /// The report has no section of live nodes.
+    NoLiveNodes,
+}
+
+/// Why a line is not taken, or memory that was refused.
+#[derive(Drop)]
+pub enum NodeFault<'a> {
+    Memory,
+    Refused(NodeRefusal<'a>),
+}
+
+impl<'a> From<AllocError> for NodeFault<'a> {
+    ghost use Rattle.std.specs.Prelude.{◌≡◌};
+    ghost use Rattle.fsck_cluster.specs.declared.node_list.NodeFault.TheVariants.{Memory};
+
+    ghost from_gives = { λ _ e. e ≡ Memory };
+
+    fn from(_error: AllocError) -> Self {
+        NodeFault::Memory
+    }
+}
+
+impl<'a> From<Wrong<'a>> for NodeFault<'a> {
+    ghost use Rattle.std.specs.Prelude.{◌≡◌};
+    ghost use Rattle.fsck_cluster.specs.declared.node_list.NodeFault.TheVariants as fault;
+    ghost use Rattle.fsck_cluster.specs.declared.node_list.NodeRefusal.TheVariants as refusal;
+
+    ghost from_gives = { λ w e. e ≡ fault.Refused (refusal.Wrong w) };
+
+    fn from(wrong: Wrong<'a>) -> Self {
+        NodeFault::Refused(NodeRefusal::Wrong(wrong))
+    }
+}
+
+impl NodeList {
+    pub fn new(alloc: Global) -> NodeList
+        ensures { result ≡ no_list }
+    {
+        let mut cluster = Cluster::new(alloc);
+        cluster.knows_nodes = true;
+        NodeList {
+            cluster,
+            is_live: false,
+            was_live: false,
+            row: None,
+        }
+    }
+
+    /// Takes one more line.
+    pub fn take_line<'a>(&mut self, alloc: Global, line: &'a str) -> Result<(), NodeFault<'a>>
+        ensures ok { OnOk result (after_line self.old line.entry.now ≡ Ok self.new) }
+        ensures refused { IfErr result (λ f. IsCause f (after_line self.old line.entry.now)) }
+    {
+        match node_line_of(line)? {
+            NodeLine::Section(is_live) => self.take_section(alloc, is_live),
+            NodeLine::Other => Ok(()),
+            _ if !self.is_live => Ok(()),
+            NodeLine::Node(address) => self.take_name(alloc, address.text()),
+            NodeLine::Rack(rack) => Ok(self.take_rack(alloc, rack.text())?),
+            NodeLine::Drains(drains) => Ok(self.take_drains(drains)?),
+            NodeLine::Remaining(bytes) => {
+                self.take_remaining(bytes);
+                Ok(())
+            }
+        }
+    }
+
+    /// The nodes, at the end of the report.
+    pub fn end<'a>(mut self, alloc: Global) -> Result<Cluster, NodeFault<'a>>
+        ensures ok { IfOk result (λ c. at_end self ≡ Ok c) }
+        ensures refused { IfErr result (λ f. IsCause f (at_end self)) }
+    {
+        self.end_row(alloc)?;
+        if !self.was_live {
+            return Err(NodeFault::Refused(NodeRefusal::NoLiveNodes));
+        }
+        let NodeList { cluster, .. } = self;
+        Ok(cluster)
+    }
+
+    /// Adds the node that was being read.
+    fn end_row<'a>(&mut self, alloc: Global) -> Result<(), NodeFault<'a>>
+        ensures ok { OnOk result (ended_row self.old ≡ Ok self.new) }
+        ensures refused { IfErr result (λ f. IsCause f (ended_row self.old)) }
+    {
+        let Some(row) = self.row else {
+            return Ok(());
+        };
+        if row.remaining.is_none() {
+            return Err(NodeFault::Refused(NodeRefusal::NoRemaining));
+        }
+        let rack = if row.rack == 0 {
+            self.cluster.racks.number_of(alloc, DEFAULT_RACK)?.number
+        } else {
+            row.rack
+        };
+        self.cluster.node_rows.push(NodeRow { rack, ..row })?;
+        self.row = None;
+        Ok(())
+    }
+
+    fn take_section<'a>(&mut self, alloc: Global, is_live: bool) -> Result<(), NodeFault<'a>>
+        ensures ok { OnOk result (after_section self.old is_live ≡ Ok self.new) }
+        ensures refused { IfErr result (λ f. IsCause f (after_section self.old is_live)) }
+    {
+        self.end_row(alloc)?;
+        self.is_live = is_live;
+        self.was_live = self.was_live || is_live;
+        Ok(())
+    }
+
+    fn take_name<'a>(&mut self, alloc: Global, address: &str) -> Result<(), NodeFault<'a>>
+        ensures ok { OnOk result (after_name self.old address.now ≡ Ok self.new) }
+        ensures refused { IfErr result (λ f. IsCause f (after_name self.old address.now)) }
+    {
+        self.end_row(alloc)?;
+        if self.cluster.nodes.index(address).is_some() {
+            return Err(NodeFault::Refused(NodeRefusal::NodeTwice));
+        }
+        if self.cluster.nodes.len() >= MAX_NODES {
+            return Err(NodeFault::Refused(NodeRefusal::TooManyNodes));
+        }
+        let node = self.cluster.nodes.number_of(alloc, address)?;
+        self.row = Some(NodeRow {
+            number: node.number,
+            rack: 0,
+            remaining: None,
+        });
+        Ok(())
+    }
+
+    fn take_rack(&mut self, alloc: Global, name: &str) -> Result<(), AllocError>
+        ensures { OnOk result (self.new ≡ after_rack self.old name.now) }
+    {
+        if let Some(row) = self.row {
+            let rack = self.cluster.racks.number_of(alloc, name)?.number;
+            self.row = Some(NodeRow { rack, ..row });
+        }
+        Ok(())
+    }
+
+    fn take_drains(&mut self, drains: bool) -> Result<(), AllocError>
+        ensures { OnOk result (self.new ≡ after_drains self.old drains) }
+    {
+        match self.row {
+            Some(row) if drains => self.cluster.draining.add(u64::from(row.number)),
+            _ => Ok(()),
+        }
+    }
+
+    fn take_remaining(&mut self, bytes: u64)
+        ensures { self.new ≡ after_remaining self.old bytes }
+    {
+        if let Some(row) = self.row {
+            self.row = Some(NodeRow {
+                remaining: Some(bytes),
+                ..row
+            });
+        }
+    }
+}

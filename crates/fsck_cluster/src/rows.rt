@@ -1,0 +1,87 @@
+// The storages, each with its node and its replicas.
+ghost use Rattle.std.specs.Prelude.{◌≡◌, ◌++◌, ◌∷◌, [], OnOk, option_map, option_copied, slice_get};
+ghost use Rattle.fsck_cluster.specs.Rows.{new_row, ends_with, with_entry_at};
+
+use bm_base::{BlockId, Entry, Items};
+use std::alloc::{AllocError, Global};
+use std::marker::Model;
+
+/// A storage: its number and its node's, and the replicas on it in the order of the text.
+#[derive(Drop)]
+pub struct Row {
+    pub number: u32,
+    pub node: u32,
+    pub entries: Items<Entry>,
+}
+
+/// The storages in the order of their numbers.
+#[derive(Drop)]
+pub struct Rows {
+    rows: Vec<Row>,
+}
+
+impl Model for Rows {
+    ghost use Rattle.std.specs.Prelude.{List};
+    ghost use Rattle.fsck_cluster.specs.declared.rows.Row.{Row};
+
+    ghost Value = { List Row };
+
+    ghost view = { λ rows. rows.rows.items };
+}
+
+impl Row {
+    /// Whether the last replica is one of this block.
+    pub fn ends_with(&self, id: BlockId) -> bool
+        ensures { result ≡ ends_with self.now id }
+    {
+        match self.entries.as_slice().last() {
+            Some(entry) => entry.from.0 == id.0,
+            None => false,
+        }
+    }
+}
+
+impl Rows {
+    pub fn new(alloc: Global) -> Rows
+        ensures { result ≡ [] }
+    {
+        Rows {
+            rows: Vec::new(alloc),
+        }
+    }
+
+    /// One more storage, of this number and this node, with no replicas.
+    pub fn push(&mut self, alloc: Global, number: u32, node: u32) -> Result<(), AllocError>
+        ensures { OnOk result (self.new ≡ self.old ++ new_row number node ∷ []) }
+    {
+        let row = Row {
+            number,
+            node,
+            entries: Items::from_vec(Vec::new(alloc)),
+        };
+        Ok(self.rows.push(row)?)
+    }
+
+    /// One more replica on the storage at an index.
+    pub fn add(&mut self, at: usize, entry: Entry) -> Result<(), AllocError>
+        ensures { OnOk result (self.new ≡ with_entry_at self.old at entry) }
+    {
+        match self.rows.get_mut(at) {
+            Some(row) => row.entries.push(entry),
+            None => Ok(()),
+        }
+    }
+
+    pub fn as_slice(&self) -> &[Row]
+        ensures { result.now ≡ self.now }
+    {
+        self.rows.as_slice()
+    }
+
+    pub fn into_vec(self) -> Vec<Row>
+        ensures { result.items ≡ self }
+    {
+        let Rows { rows } = self;
+        rows
+    }
+}

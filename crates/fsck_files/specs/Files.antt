@@ -1,0 +1,264 @@
+-- The files of a text, line by line.
+use Rattle.std.specs.Prelude.{◌≡◌, ⊤, ℕ, ◌+◌, ◌==◌, ◌&&◌, ◌||◌, Bool, true, false, not, max, nat_lt, nat_le, length, List, [], Option, Some, None, unwrap_or, Result, Ok, Err, if◌then◌else◌}
+use Rattle.std.specs.Option.{option_map_or}
+use Rattle.fsck_text.specs.Cuts.{Text}
+use Rattle.fsck_text.specs.Wrongs.{after_ok}
+use Rattle.fsck_text.specs.Blocks.{block_of, corrupt_block, is_missing}
+use Rattle.fsck_text.specs.Headings.{differ}
+use Rattle.fsck_text.specs.Lines.{line_of}
+use Rattle.fsck_text.specs.Lists.{list_of}
+use Rattle.fsck_text.specs.declared.block.BlockLine.{BlockLine}
+use Rattle.fsck_text.specs.declared.heading.Heading.{Heading}
+use Rattle.fsck_text.specs.declared.heading.Layout.{Layout}
+use Rattle.fsck_text.specs.declared.heading.Layout.TheVariants as layout
+use Rattle.fsck_text.specs.declared.line.Line.{Line}
+use Rattle.fsck_text.specs.declared.line.Line.TheVariants as line
+use Rattle.fsck_text.specs.declared.list.Listed.{Listed}
+use Rattle.fsck_text.specs.declared.summary.Count.{Count}
+use Rattle.fsck_text.specs.declared.wrong.Wrong.{Wrong}
+use Rattle.fsck_files.specs.Counts.{no_counts, no_sums, with_blocks, with_missing, with_corrupt, is_healthy, with_sum, mismatch}
+use Rattle.fsck_files.specs.Numbers.{has_number, with_number}
+use Rattle.fsck_files.specs.Replicas.{claims, maintained}
+use Rattle.fsck_files.specs.Skips.{kind_of, skips, left_out_with, over_replicated, plus}
+use Rattle.fsck_files.specs.declared.files.File.{File}
+use Rattle.fsck_files.specs.declared.files.Files.{Files}
+use Rattle.fsck_files.specs.declared.files.LineFault.{LineFault}
+use Rattle.fsck_files.specs.declared.files.LineFault.TheVariants as fault
+use Rattle.fsck_files.specs.declared.files.Part.{Part}
+use Rattle.fsck_files.specs.declared.files.Part.TheVariants as part
+use Rattle.fsck_files.specs.declared.refusal.Refusal.{Refusal}
+use Rattle.fsck_files.specs.declared.refusal.Refusal.TheVariants as refusal
+use Rattle.fsck_files.specs.declared.refusal.Mismatch.{Mismatch}
+use Rattle.fsck_files.specs.declared.replicas.Block.{Block}
+use Rattle.fsck_files.specs.declared.skips.Kind.{Kind}
+use Rattle.fsck_files.specs.declared.skips.Kind.TheVariants as kind
+use Rattle.fsck_files.specs.declared.skips.LeftOut.{LeftOut}
+use Rattle.fsck_files.specs.declared.skips.Skips.{Skips}
+use Rattle.fsck_files.specs.declared.skips.Unclear.{Unclear}
+use Rattle.fsck_files.specs.declared.skips.Unclear.TheVariants as unclear
+
+-- no file is being read
+abbrev pub no_file : File
+no_file = record { target = None; announced = 0; read = 0; is_coded = false; is_left_out = false }
+
+-- nothing was read
+abbrev pub no_files : Skips → Unclear → Files
+no_files skips unclear = record {
+  skips = skips; unclear = unclear; part = part.Before; file = no_file; corrupt = []; counts = no_counts; sums = no_sums;
+  is_healthy = false; left_out = record { erasure_coded = 0; open = 0; snapshots = 0; over_replicated = 0 };
+  unclear_blocks = 0; maintained = 0;
+}
+
+-- what a line makes of what was read, or why it is refused
+abbrev pub After : Type 0
+After = Result Files Refusal
+
+-- the first line of fsck comes before all files, and once
+abbrev pub after_first : Files → Part → After
+after_first s part.Before = Ok (record s { part = part.Begun })
+after_first s _ = Err refusal.OutOfPlace
+
+-- the file is left out, if files of this kind are
+abbrev pub left_out : Files → Kind → After
+left_out s kind =
+    if skips s.skips kind
+    then Ok (record s { file = record s.file { read = s.file.announced; is_left_out = true }; left_out = left_out_with s.left_out kind })
+    else Err (refusal.Unsupported kind)
+
+abbrev pub is_coded : Layout → Bool
+is_coded layout.ErasureCoded = true
+is_coded layout.Replicated = false
+
+-- the heading of a file may come before the summary
+abbrev pub may_head : Part → Bool
+may_head part.Summary = false
+may_head part.Behind = false
+may_head _ = true
+
+abbrev pub headed : Files → Heading → Files
+headed s h = record s {
+  part = part.Files;
+  file = record { target = h.target; announced = h.blocks; read = 0; is_coded = is_coded h.layout; is_left_out = false };
+  counts = with_blocks s.counts (is_coded h.layout) h.blocks;
+}
+
+-- fewer blocks of the file were read than it has
+abbrev pub lacks_blocks : File → Bool
+lacks_blocks f = nat_lt f.read f.announced
+
+-- the heading of the next file, after all blocks of the file before
+abbrev pub after_heading : Files → Heading → After
+after_heading s h =
+    if not (may_head s.part) then Err refusal.OutOfPlace
+    else (if lacks_blocks s.file then Err refusal.BlockLeftOut
+    else option_map_or (left_out (headed s h)) (kind_of h) (Ok (headed s h)))
+
+abbrev pub is_files : Part → Bool
+is_files part.Files = true
+is_files _ = false
+
+-- a line about a file comes after its heading, and before its blocks
+abbrev pub is_open : Files → Bool
+is_open s = is_files s.part && (s.file.is_left_out || s.file.read == 0)
+
+-- a number of a block, or why it cannot be read
+abbrev pub read_as : {A B : Type 0} → (A → Result B Refusal) → Result A Wrong → Result B Refusal
+read_as f (Ok x) = f x
+read_as f (Err w) = Err (refusal.Wrong w)
+
+abbrev pub counted_corrupt : Files → Files
+counted_corrupt s = record s { counts = with_corrupt s.counts s.file.is_coded }
+
+-- fsck calls a block of the file corrupt
+abbrev pub after_corrupt : Files → Text → After
+after_corrupt s text =
+    if not (is_open s) then Err refusal.OutOfPlace
+    else (if s.file.is_left_out then Ok (counted_corrupt s)
+    else read_as (λ id. Ok (record (counted_corrupt s) { corrupt = with_number s.corrupt id })) (corrupt_block text))
+
+abbrev pub with_target : Files → ℕ → Files
+with_target s target = record s { file = record s.file { target = Some target } }
+
+-- a line says how many replicas are wanted of a block of the file, and so of all
+abbrev pub after_target : Files → ℕ → After
+after_target s target =
+    if not (is_open s) then Err refusal.OutOfPlace
+    else (if s.file.is_left_out then Ok s
+    else (if differ s.file.target (Some target) then Err refusal.TwoTargets
+    else (if over_replicated target then left_out (with_target s target) kind.OverReplicated
+    else Ok (with_target s target))))
+
+-- the summary begins, after all blocks of the last file
+abbrev pub after_status : Files → Bool → After
+after_status s healthy =
+    if not (may_head s.part) then Err refusal.OutOfPlace
+    else (if lacks_blocks s.file then Err refusal.BlockLeftOut
+    else Ok (record s { part = part.Summary; is_healthy = healthy }))
+
+abbrev pub is_summary : Part → Bool
+is_summary part.Summary = true
+is_summary _ = false
+
+-- a number of the summary
+abbrev pub after_sum : Files → Count → ℕ → Files
+after_sum s count sum = if is_summary s.part then record s { sums = with_sum s.sums count sum } else s
+
+-- the summary and the last line call all files healthy, or neither does
+abbrev pub agrees : Bool → Bool → Bool
+agrees first second = if first then second else not second
+
+-- both say of the health what was read
+abbrev pub ended : Files → Bool → After
+ended s healthy =
+    if agrees (is_healthy s.counts) healthy && agrees s.is_healthy healthy
+    then Ok (record s { part = part.Behind }) else Err refusal.OtherHealth
+
+-- the last line of fsck: the summary has the number of blocks, and its numbers are those of what was read
+abbrev pub after_last : Files → Bool → After
+after_last s healthy =
+    if not (is_summary s.part) then Err refusal.OutOfPlace
+    else option_map_or (λ _. option_map_or (λ m. Err (refusal.Mismatch m)) (mismatch s.sums s.counts) (ended s healthy))
+      s.sums.blocks (Err refusal.NoSum)
+
+-- how many replicas are wanted of a block: what was said of its file, else as many as are live, and at least one
+abbrev pub wanted : Option ℕ → Option ℕ → ℕ
+wanted (Some count) live = count
+wanted None live = max 1 (unwrap_or live 1)
+
+-- what a line makes of what was read, and the block that is taken, if one is
+abbrev pub Taken : Type 0
+Taken = Result (Files × Option Block) Refusal
+
+-- no block is taken
+abbrev pub without : After → Taken
+without (Ok s) = Ok (s, None)
+without (Err why) = Err why
+
+-- with a block, whose replicas are clear or are taken as good
+abbrev pub emitted : Files → BlockLine → ℕ → List Listed → Taken
+emitted s b repl listed =
+    Ok (record s { maintained = plus s.maintained (maintained listed) },
+      Some (record { id = b.id; stamp = b.stamp; wanted = repl; is_corrupt = has_number s.corrupt b.id; replicas = listed }))
+
+abbrev pub one_unclear : Files → Files
+one_unclear s = record s { unclear_blocks = plus s.unclear_blocks 1 }
+
+-- a block with more places that may be live than live replicas is refused, left out, or taken with each place as a good replica
+abbrev pub unclear_by : Unclear → Files → BlockLine → ℕ → List Listed → ℕ → Taken
+unclear_by unclear.Refuse s b repl listed live = Err (refusal.MoreThanLive (claims listed) live)
+unclear_by unclear.Omit s b repl listed live = Ok (one_unclear s, None)
+unclear_by unclear.Good s b repl listed live = emitted (one_unclear s) b repl listed
+
+-- by how many replicas are live, as fsck counts them
+abbrev pub by_live : Files → BlockLine → ℕ → List Listed → Option ℕ → Taken
+by_live s b repl listed None = emitted (record s { counts = with_missing s.counts false }) b repl listed
+by_live s b repl listed (Some live) =
+    if nat_lt (claims listed) live then Err (refusal.FewerThanLive (claims listed) live)
+    else (if nat_lt live (claims listed) then unclear_by s.unclear s b repl listed live else emitted s b repl listed)
+
+-- with one more block of the file
+abbrev pub one_read : Files → Files
+one_read s = record s { file = record s.file { read = s.file.read + 1 } }
+
+abbrev pub after_listed : Files → BlockLine → ℕ → Result (List Listed) Wrong → Taken
+after_listed s b repl (Ok listed) = by_live (one_read s) b repl listed b.live
+after_listed s b repl (Err w) = Err (refusal.Wrong w)
+
+-- more than 16 replicas are wanted of a block: its file is left out, if that shows at its first block
+abbrev pub after_over : Files → Taken
+after_over s =
+    if s.file.read == 0 then without (left_out s kind.OverReplicated) else Err (refusal.Unsupported kind.OverReplicated)
+
+-- a block whose line is understood. Hadoop 2 says nothing of the replication of a file whose blocks all have enough replicas, so that one with more than 16 shows at its first block
+abbrev pub after_block : Files → BlockLine → Taken
+after_block s b =
+    let repl = wanted s.file.target b.live in
+    if repl == 0 then Err refusal.NoneWanted
+    else (if over_replicated repl then after_over s
+    else after_listed s b repl (list_of b.list))
+
+-- a block of a file that is left out
+abbrev pub passed : Files → Text → Files
+passed s text = if is_missing text then record s { counts = with_missing s.counts s.file.is_coded } else s
+
+-- a block of this index is the next of the file
+abbrev pub is_next : File → ℕ → Bool
+is_next f index = (index == f.read) && nat_lt f.read f.announced
+
+-- the line of a block of this index
+abbrev pub after_indexed : Files → ℕ → Text → Taken
+after_indexed s index text =
+    if s.file.is_left_out then Ok (passed s text, None)
+    else (if is_next s.file index then read_as (after_block s) (block_of text) else Err refusal.NotNext)
+
+-- a block comes after the heading of its file, and before the summary
+abbrev pub after_placed : Part → Files → ℕ → Text → Taken
+after_placed part.Before s index text = Err refusal.NoHeading
+after_placed part.Begun s index text = Err refusal.NoHeading
+after_placed part.Files s index text = after_indexed s index text
+after_placed part.Summary s index text = Err refusal.OutOfPlace
+after_placed part.Behind s index text = Err refusal.OutOfPlace
+
+abbrev pub after_kind : Files → Line → Taken
+after_kind s line.First = without (after_first s s.part)
+after_kind s (line.Heading h) = without (after_heading s h)
+after_kind s (line.Corrupt text) = without (after_corrupt s text)
+after_kind s (line.Target target) = without (after_target s target)
+after_kind s (line.Block index text) = after_placed s.part s index text
+after_kind s (line.Status healthy) = without (after_status s healthy)
+after_kind s (line.Sum count sum) = Ok (after_sum s count sum, None)
+after_kind s (line.Last healthy) = without (after_last s healthy)
+after_kind s line.Other = Ok (s, None)
+
+-- after one more line
+abbrev pub after_line : Files → Text → Taken
+after_line s text = read_as (after_kind s) (line_of text)
+
+-- the fault is this refusal, or memory that was refused
+abbrev pub IsCause : {A : Type 0} → LineFault → Result A Refusal → Type 0
+IsCause fault.Memory after = ⊤
+IsCause (fault.Refused why) after = after ≡ Err why
+
+abbrev pub is_whole : Part → Bool
+is_whole part.Behind = true
+is_whole _ = false

@@ -1,0 +1,448 @@
+// The files of a text, line by line.
+ghost use Rattle.std.specs.Prelude.{◌≡◌, ◌<◌, true, false, not, Ok, Err, Some, IfOk, OnOk, IfErr, if◌then◌else◌};
+ghost use Rattle.fsck_files.specs.Files.{no_files, is_open, may_head, lacks_blocks, is_next, is_whole, wanted, after_first, left_out, after_heading, after_corrupt, after_target, after_status, after_sum, after_last, after_placed, after_indexed, after_block, after_over, by_live, emitted, after_line, IsCause};
+ghost use Rattle.fsck_files.specs.declared.refusal.Refusal.TheVariants.{OutOfPlace, BlockLeftOut};
+
+use crate::counts::{Counts, Sums};
+use crate::numbers::Numbers;
+use crate::refusal::Refusal;
+use crate::replicas::{Block, claims, maintained};
+use crate::skips::{Kind, LeftOut, Skips, Unclear, kind_of, over_replicated, plus};
+use bm_base::Items;
+use fsck_text::{
+    BlockLine, Count, Fault, Heading, Layout, Line, Listed, Wrong, block_of, corrupt_block,
+    is_missing, line_of, list_of,
+};
+use std::alloc::{AllocError, Global};
+
+/// The part of the text in which the next line is.
+#[derive(Clone, Copy, Debug, PartialEq, Drop)]
+pub enum Part {
+    /// Before the first line of fsck, and before the first file.
+    Before,
+    /// After the first line of fsck, and before the first file.
+    Begun,
+    Files,
+    Summary,
+    /// After the last line of fsck.
+    Behind,
+}
+
+/// The file that is being read.
+#[derive(Clone, Copy, Drop)]
+pub struct File {
+    /// How many replicas are wanted of its blocks, if a line said so.
+    pub target: Option<u32>,
+    /// How many blocks it has.
+    pub announced: u32,
+    /// How many of them were read; all of a file that is left out.
+    pub read: u32,
+    pub is_coded: bool,
+    pub is_left_out: bool,
+}
+
+/// What was read of a text.
+#[derive(Drop)]
+pub struct Files {
+    pub skips: Skips,
+    pub unclear: Unclear,
+    pub part: Part,
+    pub file: File,
+    /// The blocks that fsck calls corrupt.
+    pub corrupt: Numbers,
+    pub counts: Counts,
+    pub sums: Sums,
+    /// The summary begins by calling all files healthy.
+    pub is_healthy: bool,
+    pub left_out: LeftOut,
+    /// How many blocks had more places without a mark than live replicas.
+    pub unclear_blocks: u64,
+    /// How many replicas are on nodes in maintenance.
+    pub maintained: u64,
+}
+
+/// Why a line is not taken.
+#[derive(Drop)]
+pub enum LineFault<'a> {
+    Memory,
+    Refused(Refusal<'a>),
+}
+
+impl<'a> From<AllocError> for LineFault<'a> {
+    ghost use Rattle.std.specs.Prelude.{◌≡◌};
+    ghost use Rattle.fsck_files.specs.declared.files.LineFault.TheVariants.{Memory};
+
+    ghost from_gives = { λ _ e. e ≡ Memory };
+
+    fn from(_error: AllocError) -> Self {
+        LineFault::Memory
+    }
+}
+
+impl<'a> From<Refusal<'a>> for LineFault<'a> {
+    ghost use Rattle.std.specs.Prelude.{◌≡◌};
+    ghost use Rattle.fsck_files.specs.declared.files.LineFault.TheVariants as fault;
+
+    ghost from_gives = { λ why e. e ≡ fault.Refused why };
+
+    fn from(why: Refusal<'a>) -> Self {
+        LineFault::Refused(why)
+    }
+}
+
+impl<'a> From<Wrong<'a>> for LineFault<'a> {
+    ghost use Rattle.std.specs.Prelude.{◌≡◌};
+    ghost use Rattle.fsck_files.specs.declared.files.LineFault.TheVariants as fault;
+    ghost use Rattle.fsck_files.specs.declared.refusal.Refusal.TheVariants as refusal;
+
+    ghost from_gives = { λ w e. e ≡ fault.Refused (refusal.Wrong w) };
+
+    fn from(wrong: Wrong<'a>) -> Self {
+        LineFault::Refused(Refusal::Wrong(wrong))
+    }
+}
+
+impl Files {
+    /// Nothing was read.
+    pub fn new(alloc: Global, skips: Skips, unclear: Unclear) -> Files
+        ensures { result ≡ no_files skips unclear }
+    {
+        Files {
+            skips,
+            unclear,
+            part: Part::Before,
+            file: File {
+                target: None,
+                announced: 0,
+                read: 0,
+                is_coded: false,
+                is_left_out: false,
+            },
+            corrupt: Numbers::new(alloc),
+            counts: Counts::new(),
+            sums: Sums::new(),
+            is_healthy: false,
+            left_out: LeftOut {
+                erasure_coded: 0,
+                open: 0,
+                snapshots: 0,
+                over_replicated: 0,
+            },
+            unclear_blocks: 0,
+            maintained: 0,
+        }
+    }
+
+    /// Takes one more line, and the block that it adds if it adds one.
+    pub fn take_line<'a>(
+        &mut self,
+        alloc: Global,
+        line: &'a str,
+    ) -> Result<Option<Block<'a>>, LineFault<'a>>
+        ensures ok { IfOk result (λ block. after_line self.old line.entry.now ≡ Ok (self.new, block)) }
+        ensures refused { IfErr result (λ f. IsCause f (after_line self.old line.entry.now)) }
+    {
+        match line_of(line)? {
+            Line::Block(index, text) => return self.take_placed(alloc, index, text.text()),
+            Line::First => self.take_first()?,
+            Line::Heading(heading) => self.take_heading(heading)?,
+            Line::Corrupt(text) => self.take_corrupt(text.text())?,
+            Line::Target(target) => self.take_target(target)?,
+            Line::Status(is_healthy) => self.take_status(is_healthy)?,
+            Line::Sum(count, sum) => self.take_sum(count, sum),
+            Line::Last(is_healthy) => self.take_last(is_healthy)?,
+            Line::Other => {}
+        }
+        Ok(None)
+    }
+
+    fn take_first<'a>(&mut self) -> Result<(), Refusal<'a>>
+        ensures ok { OnOk result (after_first self.old self.old.part ≡ Ok self.new) }
+        ensures refused { IfErr result (λ why. after_first self.old self.old.part ≡ Err why) }
+    {
+        if !matches!(self.part, Part::Before) {
+            return Err(Refusal::OutOfPlace);
+        }
+        self.part = Part::Begun;
+        Ok(())
+    }
+
+    /// Leaves the file out, if files of this kind are.
+    fn leave_out<'a>(&mut self, kind: Kind) -> Result<(), Refusal<'a>>
+        ensures ok { OnOk result (left_out self.old kind ≡ Ok self.new) }
+        ensures refused { IfErr result (λ why. left_out self.old kind ≡ Err why) }
+    {
+        if !self.skips.has(kind) {
+            return Err(Refusal::Unsupported(kind));
+        }
+        self.file.read = self.file.announced;
+        self.file.is_left_out = true;
+        self.left_out = self.left_out.with(kind);
+        Ok(())
+    }
+
+    /// The heading of the next file, or the beginning of the summary, may come here.
+    fn check_file_ends<'a>(&self) -> Result<(), Refusal<'a>>
+        ensures ok { OnOk result ((may_head self.now.part ≡ true) × (lacks_blocks self.now.file ≡ false)) }
+        ensures refused { IfErr result (λ why. if not (may_head self.now.part) then why ≡ OutOfPlace else ((lacks_blocks self.now.file ≡ true) × (why ≡ BlockLeftOut))) }
+    {
+        if matches!(self.part, Part::Summary | Part::Behind) {
+            return Err(Refusal::OutOfPlace);
+        }
+        if self.file.read < self.file.announced {
+            return Err(Refusal::BlockLeftOut);
+        }
+        Ok(())
+    }
+
+    fn take_heading<'a>(&mut self, heading: Heading) -> Result<(), Refusal<'a>>
+        ensures ok { OnOk result (after_heading self.old heading ≡ Ok self.new) }
+        ensures refused { IfErr result (λ why. after_heading self.old heading ≡ Err why) }
+    {
+        self.check_file_ends()?;
+        let is_coded = matches!(heading.layout, Layout::ErasureCoded);
+        self.part = Part::Files;
+        self.file = File {
+            target: heading.target,
+            announced: heading.blocks,
+            read: 0,
+            is_coded,
+            is_left_out: false,
+        };
+        self.counts = self.counts.with_blocks(is_coded, heading.blocks);
+        match kind_of(heading) {
+            Some(kind) => self.leave_out(kind),
+            None => Ok(()),
+        }
+    }
+
+    /// Whether a line about the file may come here: after its heading, and before its blocks.
+    fn is_open(&self) -> bool
+        ensures { result ≡ is_open self.now }
+    {
+        matches!(self.part, Part::Files) && (self.file.is_left_out || self.file.read == 0)
+    }
+
+    fn take_corrupt<'a>(&mut self, text: &'a str) -> Result<(), LineFault<'a>>
+        ensures ok { OnOk result (after_corrupt self.old text.entry.now ≡ Ok self.new) }
+        ensures refused { IfErr result (λ f. IsCause f (after_corrupt self.old text.entry.now)) }
+    {
+        if !self.is_open() {
+            return Err(LineFault::Refused(Refusal::OutOfPlace));
+        }
+        if !self.file.is_left_out {
+            let id = corrupt_block(text)?;
+            self.corrupt.add(id.0)?;
+        }
+        self.counts = self.counts.with_corrupt(self.file.is_coded);
+        Ok(())
+    }
+
+    fn take_target<'a>(&mut self, target: u32) -> Result<(), Refusal<'a>>
+        ensures ok { OnOk result (after_target self.old target ≡ Ok self.new) }
+        ensures refused { IfErr result (λ why. after_target self.old target ≡ Err why) }
+    {
+        if !self.is_open() {
+            return Err(Refusal::OutOfPlace);
+        }
+        if self.file.is_left_out {
+            return Ok(());
+        }
+        if self.file.target.is_some_and(|before| before != target) {
+            return Err(Refusal::TwoTargets);
+        }
+        self.file.target = Some(target);
+        if over_replicated(target) {
+            self.leave_out(Kind::OverReplicated)
+        } else {
+            Ok(())
+        }
+    }
+
+    fn take_status<'a>(&mut self, is_healthy: bool) -> Result<(), Refusal<'a>>
+        ensures ok { OnOk result (after_status self.old is_healthy ≡ Ok self.new) }
+        ensures refused { IfErr result (λ why. after_status self.old is_healthy ≡ Err why) }
+    {
+        self.check_file_ends()?;
+        self.part = Part::Summary;
+        self.is_healthy = is_healthy;
+        Ok(())
+    }
+
+    fn take_sum(&mut self, count: Count, sum: u64)
+        ensures { self.new ≡ after_sum self.old count sum }
+    {
+        if matches!(self.part, Part::Summary) {
+            self.sums = self.sums.with(count, sum);
+        }
+    }
+
+    fn take_last<'a>(&mut self, is_healthy: bool) -> Result<(), Refusal<'a>>
+        ensures ok { OnOk result (after_last self.old is_healthy ≡ Ok self.new) }
+        ensures refused { IfErr result (λ why. after_last self.old is_healthy ≡ Err why) }
+    {
+        if !matches!(self.part, Part::Summary) {
+            return Err(Refusal::OutOfPlace);
+        }
+        if self.sums.blocks.is_none() {
+            return Err(Refusal::NoSum);
+        }
+        if let Some(mismatch) = self.sums.mismatch(self.counts) {
+            return Err(Refusal::Mismatch(mismatch));
+        }
+        if self.counts.is_healthy() != is_healthy || self.is_healthy != is_healthy {
+            return Err(Refusal::OtherHealth);
+        }
+        self.part = Part::Behind;
+        Ok(())
+    }
+
+    /// Takes the line of a block of this index.
+    fn take_placed<'a>(
+        &mut self,
+        alloc: Global,
+        index: u64,
+        text: &'a str,
+    ) -> Result<Option<Block<'a>>, LineFault<'a>>
+        ensures ok { IfOk result (λ block. after_placed self.old.part self.old index text.entry.now ≡ Ok (self.new, block)) }
+        ensures refused { IfErr result (λ f. IsCause f (after_placed self.old.part self.old index text.entry.now)) }
+    {
+        match self.part {
+            Part::Before | Part::Begun => Err(LineFault::Refused(Refusal::NoHeading)),
+            Part::Files => self.take_indexed(alloc, index, text),
+            Part::Summary | Part::Behind => Err(LineFault::Refused(Refusal::OutOfPlace)),
+        }
+    }
+
+    fn take_indexed<'a>(
+        &mut self,
+        alloc: Global,
+        index: u64,
+        text: &'a str,
+    ) -> Result<Option<Block<'a>>, LineFault<'a>>
+        ensures ok { IfOk result (λ block. after_indexed self.old index text.entry.now ≡ Ok (self.new, block)) }
+        ensures refused { IfErr result (λ f. IsCause f (after_indexed self.old index text.entry.now)) }
+    {
+        if self.file.is_left_out {
+            if is_missing(text) {
+                self.counts = self.counts.with_missing(self.file.is_coded);
+            }
+            return Ok(None);
+        }
+        if !self.is_next(index) {
+            return Err(LineFault::Refused(Refusal::NotNext));
+        }
+        let block = block_of(text)?;
+        self.take_block(alloc, block)
+    }
+
+    /// Whether a block of this index is the next of the file.
+    fn is_next(&self, index: u64) -> bool
+        ensures { result ≡ is_next self.now.file index }
+    {
+        index == u64::from(self.file.read) && self.file.read < self.file.announced
+    }
+
+    /// Takes the next block of the file.
+    fn take_block<'a>(
+        &mut self,
+        alloc: Global,
+        block: BlockLine<'a>,
+    ) -> Result<Option<Block<'a>>, LineFault<'a>>
+        requires { self.old.file.read < self.old.file.announced }
+        ensures ok { IfOk result (λ taken. after_block self.old block ≡ Ok (self.new, taken)) }
+        ensures refused { IfErr result (λ f. IsCause f (after_block self.old block)) }
+    {
+        let repl = wanted(self.file.target, block.live);
+        if repl == 0 {
+            return Err(LineFault::Refused(Refusal::NoneWanted));
+        }
+        if over_replicated(repl) {
+            return self.take_over_replicated();
+        }
+        let listed = list_of(alloc, block.list.text())?;
+        self.file.read += 1;
+        self.take_listed(block, repl, listed)
+    }
+
+    /// The file of a block of which too many replicas are wanted is left out, if that shows at its first.
+    fn take_over_replicated<'a>(&mut self) -> Result<Option<Block<'a>>, LineFault<'a>>
+        ensures ok { IfOk result (λ taken. after_over self.old ≡ Ok (self.new, taken)) }
+        ensures refused { IfErr result (λ f. IsCause f (after_over self.old)) }
+    {
+        if self.file.read != 0 {
+            return Err(LineFault::Refused(Refusal::Unsupported(
+                Kind::OverReplicated,
+            )));
+        }
+        self.leave_out(Kind::OverReplicated)?;
+        Ok(None)
+    }
+
+    /// Takes a block with its list of replicas.
+    fn take_listed<'a>(
+        &mut self,
+        block: BlockLine<'a>,
+        repl: u32,
+        listed: Items<Listed<'a>>,
+    ) -> Result<Option<Block<'a>>, LineFault<'a>>
+        ensures ok { IfOk result (λ taken. by_live self.old block repl listed block.live ≡ Ok (self.new, taken)) }
+        ensures refused { IfErr result (λ f. IsCause f (by_live self.old block repl listed block.live)) }
+    {
+        let Some(live) = block.live else {
+            self.counts = self.counts.with_missing(false);
+            return Ok(Some(self.emit(block, repl, listed)));
+        };
+        let places = claims(listed.as_slice());
+        if places < live as usize {
+            drop(listed);
+            return Err(LineFault::Refused(Refusal::FewerThanLive { places, live }));
+        }
+        if places > live as usize {
+            match self.unclear {
+                Unclear::Refuse => {
+                    drop(listed);
+                    return Err(LineFault::Refused(Refusal::MoreThanLive { places, live }));
+                }
+                Unclear::Omit => {
+                    drop(listed);
+                    self.unclear_blocks = plus(self.unclear_blocks, 1);
+                    return Ok(None);
+                }
+                Unclear::Good => self.unclear_blocks = plus(self.unclear_blocks, 1),
+            }
+        }
+        Ok(Some(self.emit(block, repl, listed)))
+    }
+
+    /// The block that is taken.
+    fn emit<'a>(&mut self, block: BlockLine<'a>, repl: u32, listed: Items<Listed<'a>>) -> Block<'a>
+        ensures { emitted self.old block repl listed ≡ Ok (self.new, Some result) }
+    {
+        self.maintained = plus(self.maintained, maintained(listed.as_slice()) as u64);
+        Block {
+            id: block.id,
+            stamp: block.stamp,
+            wanted: repl,
+            is_corrupt: self.corrupt.has(block.id.0),
+            replicas: listed,
+        }
+    }
+
+    /// Whether the last line of fsck was read.
+    pub fn is_whole(&self) -> bool
+        ensures { result ≡ is_whole self.now.part }
+    {
+        matches!(self.part, Part::Behind)
+    }
+}
+
+/// How many replicas are wanted of a block.
+fn wanted(target: Option<u32>, live: Option<u32>) -> u32
+    ensures { result ≡ wanted target live }
+{
+    match target {
+        Some(count) => count,
+        None => live.unwrap_or(1).max(1),
+    }
+}

@@ -1,0 +1,20 @@
+//! The files of a text of `hdfs fsck`: which of its blocks are taken, with which replicas, and which
+//! lines are refused.
+//!
+//! A line is refused where its file or its replicas cannot be told for certain, and at the end of the
+//! text if the numbers of the summary are not those of what was read.
+#![tactic(auto)]
+
+mod counts;
+mod files;
+mod numbers;
+mod refusal;
+mod replicas;
+mod skips;
+
+pub use counts::{Counts, Sums};
+pub use files::{File, Files, LineFault, Part};
+pub use numbers::Numbers;
+pub use refusal::{Mismatch, Refusal};
+pub use replicas::{Block, State, state_of};
+pub use skips::{Kind, LeftOut, Skips, Unclear};

@@ -1,0 +1,46 @@
+// A set of numbers.
+ghost use Rattle.std.specs.Prelude.{◌≡◌, [], OnOk, if◌then◌else◌};
+ghost use Rattle.fsck_files.specs.Numbers.{has_number, with_number};
+
+use indexmap::IndexSet;
+use std::alloc::{AllocError, Global};
+use std::marker::Model;
+
+/// Numbers, found by hash.
+#[derive(Drop)]
+pub struct Numbers {
+    set: IndexSet<u64>,
+}
+
+impl Model for Numbers {
+    ghost use Rattle.std.specs.Prelude.{ℕ, List};
+
+    ghost Value = { List ℕ };
+
+    ghost view = { λ numbers. numbers.set.keys };
+}
+
+impl Numbers {
+    pub fn new(alloc: Global) -> Numbers
+        ensures { result ≡ [] }
+    {
+        Numbers {
+            set: IndexSet::new(alloc),
+        }
+    }
+
+    pub fn has(&self, number: u64) -> bool
+        ensures { result ≡ has_number self.now number }
+    {
+        self.set.contains(&number)
+    }
+
+    pub fn add(&mut self, number: u64) -> Result<(), AllocError>
+        ensures { OnOk result (self.new ≡ with_number self.old number) }
+    {
+        if !self.has(number) {
+            self.set.insert(number)?;
+        }
+        Ok(())
+    }
+}

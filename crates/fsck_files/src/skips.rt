@@ -1,0 +1,117 @@
+// Files and blocks that are left out.
+ghost use Rattle.std.specs.Prelude.{◌≡◌};
+ghost use Rattle.fsck_files.specs.Skips.{kind_of, skips, left_out_with, plus, over_replicated};
+
+use bm_base::MAX_REPLICATION;
+use fsck_text::{Heading, Layout};
+
+/// A kind of file that the line tool has no call for.
+#[derive(Clone, Copy, Debug, PartialEq, Drop)]
+pub enum Kind {
+    ErasureCoded,
+    /// A file that is being written.
+    Open,
+    Snapshot,
+    /// More than 16 replicas are wanted of its blocks.
+    OverReplicated,
+}
+
+/// The kinds that are left out.
+#[derive(Clone, Copy, Drop)]
+pub struct Skips {
+    pub erasure_coded: bool,
+    pub open: bool,
+    pub snapshots: bool,
+    pub over_replicated: bool,
+}
+
+/// What is done with a block that has more places without a mark than live replicas.
+#[derive(Clone, Copy, Debug, PartialEq, Drop)]
+pub enum Unclear {
+    Refuse,
+    /// The block is left out.
+    Omit,
+    /// Each place is taken as a good replica.
+    Good,
+}
+
+/// How many files of each kind were left out.
+#[derive(Clone, Copy, Drop)]
+pub struct LeftOut {
+    pub erasure_coded: u64,
+    pub open: u64,
+    pub snapshots: u64,
+    pub over_replicated: u64,
+}
+
+/// Whether more replicas are wanted than a manager takes.
+pub fn over_replicated(wanted: u32) -> bool
+    ensures { result ≡ over_replicated wanted }
+{
+    wanted > MAX_REPLICATION
+}
+
+/// The kind of a file, if it is one of these; the first that applies.
+pub fn kind_of(heading: Heading) -> Option<Kind>
+    ensures { result ≡ kind_of heading }
+{
+    if matches!(heading.layout, Layout::ErasureCoded) {
+        return Some(Kind::ErasureCoded);
+    }
+    if heading.is_open {
+        return Some(Kind::Open);
+    }
+    if heading.is_snapshot {
+        return Some(Kind::Snapshot);
+    }
+    match heading.target {
+        Some(target) if over_replicated(target) => Some(Kind::OverReplicated),
+        _ => None,
+    }
+}
+
+/// A counter that stays at its maximum.
+pub fn plus(count: u64, more: u64) -> u64
+    ensures { result ≡ plus count more }
+{
+    count.saturating_add(more)
+}
+
+impl Skips {
+    pub fn has(self, kind: Kind) -> bool
+        ensures { result ≡ skips self kind }
+    {
+        match kind {
+            Kind::ErasureCoded => self.erasure_coded,
+            Kind::Open => self.open,
+            Kind::Snapshot => self.snapshots,
+            Kind::OverReplicated => self.over_replicated,
+        }
+    }
+}
+
+impl LeftOut {
+    /// With one more file.
+    pub fn with(self, kind: Kind) -> LeftOut
+        ensures { result ≡ left_out_with self kind }
+    {
+        match kind {
+            Kind::ErasureCoded => LeftOut {
+                erasure_coded: plus(self.erasure_coded, 1),
+                ..self
+            },
+            Kind::Open => LeftOut {
+                open: plus(self.open, 1),
+                ..self
+            },
+            Kind::Snapshot => LeftOut {
+                snapshots: plus(self.snapshots, 1),
+                ..self
+            },
+            Kind::OverReplicated => LeftOut {
+                over_replicated: plus(self.over_replicated, 1),
+                ..self
+            },
+        }
+    }
+}

@@ -1,0 +1,3 @@
+-- Lemmas.
+pub mod CutLemmas
+pub mod ListLemmas

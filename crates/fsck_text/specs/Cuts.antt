@@ -1,0 +1,67 @@
+-- Cutting a text in two, and reading a number.
+use Rattle.std.specs.Prelude.{ℕ, ◌+◌, ◌-◌, ◌*◌, ◌^◌, ◌==◌, ◌&&◌, Bool, List, [], ◌∷◌, Option, Some, None, option_map, option_and_then, if◌then◌else◌, length, nat_lt, nat_le}
+use Rattle.std.specs.Option.{option_map_or}
+
+-- bytes
+abbrev pub Text : Type 0
+Text = List ℕ
+
+abbrev pub is_empty : Text → Bool
+is_empty text = length text == 0
+
+-- the two parts with one more byte in front of the first
+abbrev pub onto_cut : ℕ → Text × Text → Text × Text
+onto_cut b parts = (b ∷ parts.0, parts.1)
+
+-- the text before the first byte that is the mark, and the text after it
+abbrev pub cut_at : ℕ → Text → Option (Text × Text)
+cut_at mark [] = None
+cut_at mark (b ∷ bs) = if b == mark then Some ([], bs) else option_map (onto_cut b) (cut_at mark bs)
+
+-- the last cut of a text that begins with b, from that of the bytes after it
+abbrev pub onto_last : ℕ → ℕ → Text → Option (Text × Text) → Option (Text × Text)
+onto_last mark b bs (Some parts) = Some (onto_cut b parts)
+onto_last mark b bs None = if b == mark then Some ([], bs) else None
+
+-- the text before the last byte that is the mark, and the text after it
+abbrev pub last_cut_at : ℕ → Text → Option (Text × Text)
+last_cut_at mark [] = None
+last_cut_at mark (b ∷ bs) = onto_last mark b bs (last_cut_at mark bs)
+
+-- the text after a prefix, if it begins so
+abbrev pub after_prefix : Text → Text → Option Text
+after_prefix [] text = Some text
+after_prefix (a ∷ prefix) [] = None
+after_prefix (a ∷ prefix) (b ∷ bs) = if a == b then after_prefix prefix bs else None
+
+-- the text after a mark, if it begins with it
+abbrev pub after_first : ℕ → Text → Option Text
+after_first mark text = option_and_then (λ p. if is_empty p.0 then Some p.1 else None) (cut_at mark text)
+
+-- the text before a mark, if it ends with it
+abbrev pub before_last : ℕ → Text → Option Text
+before_last mark text = option_and_then (λ p. if is_empty p.1 then Some p.0 else None) (last_cut_at mark text)
+
+-- the text before the first space, 32, and the text after it; all and nothing if there is no space
+abbrev pub word_and_rest : Text → Text × Text
+word_and_rest text = option_map_or (λ p. p) (cut_at 32 text) (text, [])
+
+-- with one more digit; none past 64 bits
+abbrev pub with_digit : ℕ → ℕ → Option ℕ
+with_digit value digit =
+    if nat_le 48 digit && nat_le digit 57 && nat_lt (value * 10 + (digit - 48)) (2 ^ 64)
+    then Some (value * 10 + (digit - 48)) else None
+
+-- the number, if these digits follow those of the value
+abbrev pub number_after : ℕ → Text → Option ℕ
+number_after value [] = Some value
+number_after value (b ∷ bs) = option_and_then (λ v. number_after v bs) (with_digit value b)
+
+-- the number that a text of one or more digits, and of digits alone, writes, if it is below 2^64
+abbrev pub number_of : Text → Option ℕ
+number_of [] = None
+number_of (b ∷ bs) = number_after 0 (b ∷ bs)
+
+-- the same below 2^32
+abbrev pub small_number_of : Text → Option ℕ
+small_number_of text = option_and_then (λ n. if nat_lt n (2 ^ 32) then Some n else None) (number_of text)

@@ -1,0 +1,11 @@
+-- What a line of fsck, or of the report on DataNodes, says.
+pub mod Cuts
+pub mod Wrongs
+pub mod Marks
+pub mod Places
+pub mod Lists
+pub mod Blocks
+pub mod Headings
+pub mod Summaries
+pub mod Lines
+pub mod Nodes

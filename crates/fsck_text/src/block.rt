@@ -1,0 +1,179 @@
+// The line of a block, after its index.
+ghost use Rattle.std.specs.Prelude.{◌≡◌};
+ghost use Rattle.fsck_text.specs.Blocks.{id_of, without_pool, block_named, length_of, live_of, list_text, replicas_of, block_of, is_missing, corrupt_block};
+
+use crate::cuts::{
+    after_first, after_prefix, before_last, cut_at, number_of, small_number_of, word_and_rest,
+};
+use crate::wrong::{Piece, Reason, Wrong};
+use bm_base::{BlockId, Gen, Stamp};
+
+/// What the line of a block says.
+#[derive(Drop)]
+pub struct BlockLine<'a> {
+    pub id: BlockId,
+    pub stamp: Stamp,
+    /// How many live replicas fsck counts; `None` for `MISSING!`.
+    pub live: Option<u32>,
+    /// The text between the brackets of the list; empty without a list.
+    pub list: Piece<'a>,
+}
+
+/// A block by its name: its number and its generation stamp.
+#[derive(Clone, Copy, Drop)]
+struct Named {
+    id: BlockId,
+    generation: Gen,
+}
+
+/// The replicas of a block: how many are live, and the text of the list.
+#[derive(Drop)]
+struct Replicas<'a> {
+    live: Option<u32>,
+    list: Piece<'a>,
+}
+
+/// What a block's line says after its index.
+pub fn block_of(text: &str) -> Result<BlockLine<'_>, Wrong<'_>>
+    ensures { result ≡ block_of text.now }
+{
+    let (name, rest) = word_and_rest(text);
+    let (len, replicas) = word_and_rest(rest);
+    let named = block_named(name)?;
+    let len = length_of(len)?;
+    let told = replicas_of(replicas)?;
+    Ok(BlockLine {
+        id: named.id,
+        stamp: Stamp {
+            generation: named.generation,
+            len,
+        },
+        live: told.live,
+        list: told.list,
+    })
+}
+
+/// Whether a block's line, after its index, says that no replica is known: also where the line is
+/// otherwise not understood, as of an erasure coded file.
+pub fn is_missing(text: &str) -> bool
+    ensures { result ≡ is_missing text.now }
+{
+    let (_, rest) = word_and_rest(text);
+    let (_, rest) = word_and_rest(rest);
+    let (word, _) = word_and_rest(rest);
+    word == "MISSING!"
+}
+
+/// The number of the block that fsck calls corrupt, by the text after `CORRUPT blockpool`.
+pub fn corrupt_block(text: &str) -> Result<BlockId, Wrong<'_>>
+    ensures { result ≡ corrupt_block text.now }
+{
+    let (_, rest) = word_and_rest(text);
+    let (block, name) = word_and_rest(rest);
+    if block != "block" {
+        return Err(Wrong::new(Reason::NotABlock, block));
+    }
+    match after_prefix(name, "blk_") {
+        Some(id) => id_of(name, id),
+        None => Err(Wrong::new(Reason::NotABlock, name)),
+    }
+}
+
+/// The number of a block of this name; a number below 0 begins with a minus.
+fn id_of<'a>(name: &'a str, id: &'a str) -> Result<BlockId, Wrong<'a>>
+    ensures { result ≡ id_of name.entry.now id.entry.now }
+{
+    if after_first(id, '-').is_some() {
+        return Err(Wrong::new(Reason::NegativeBlock, name));
+    }
+    match number_of(id) {
+        Some(number) => Ok(BlockId(number)),
+        None => Err(Wrong::new(Reason::NotABlock, name)),
+    }
+}
+
+/// The name without the pool of the block.
+fn without_pool(name: &str) -> &str
+    ensures { result.now ≡ without_pool name.now }
+{
+    match cut_at(name, ':') {
+        Some((_, name)) => name,
+        None => name,
+    }
+}
+
+/// The block of a name: a pool and a colon, or nothing, then `blk_`, its number, `_` and its stamp.
+fn block_named(name: &str) -> Result<Named, Wrong<'_>>
+    ensures { result ≡ block_named name.now }
+{
+    let parts = after_prefix(without_pool(name), "blk_").and_then(|text| cut_at(text, '_'));
+    let Some((id, generation)) = parts else {
+        return Err(Wrong::new(Reason::NotABlock, name));
+    };
+    let id = id_of(name, id)?;
+    match number_of(generation) {
+        Some(generation) => Ok(Named {
+            id,
+            generation: Gen(generation),
+        }),
+        None => Err(Wrong::new(Reason::NotABlock, name)),
+    }
+}
+
+/// The length of the block in bytes.
+fn length_of(word: &str) -> Result<u64, Wrong<'_>>
+    ensures { result ≡ length_of word.now }
+{
+    match after_prefix(word, "len=").and_then(number_of) {
+        Some(len) => Ok(len),
+        None => Err(Wrong::new(Reason::NotALength, word)),
+    }
+}
+
+/// How many replicas are live.
+fn live_of(word: &str) -> Result<u32, Wrong<'_>>
+    ensures { result ≡ live_of word.now }
+{
+    let count = match after_prefix(word, "Live_repl=") {
+        Some(count) => Some(count),
+        None => after_prefix(word, "repl="),
+    };
+    match count.and_then(small_number_of) {
+        Some(count) => Ok(count),
+        None => Err(Wrong::new(Reason::NotACount, word)),
+    }
+}
+
+/// The text between the brackets of a list; empty for no text. Hadoop 2.8 and later write one more
+/// space in front of it.
+fn list_text(text: &str) -> Result<Piece<'_>, Wrong<'_>>
+    ensures { result ≡ list_text text.now }
+{
+    let list = after_first(text, ' ').unwrap_or(text);
+    if list.is_empty() {
+        return Ok(Piece::new(list));
+    }
+    match after_first(list, '[').and_then(|inner| before_last(inner, ']')) {
+        Some(inner) => Ok(Piece::new(inner)),
+        None => Err(Wrong::new(Reason::NotAList, text)),
+    }
+}
+
+/// What a block's line says after its length.
+fn replicas_of(text: &str) -> Result<Replicas<'_>, Wrong<'_>>
+    ensures { result ≡ replicas_of text.now }
+{
+    let (count, rest) = word_and_rest(text);
+    if count != "MISSING!" {
+        let live = Some(live_of(count)?);
+        let list = list_text(rest)?;
+        return Ok(Replicas { live, list });
+    }
+    if !rest.is_empty() {
+        return Err(Wrong::new(Reason::NotAList, rest));
+    }
+    Ok(Replicas {
+        live: None,
+        list: Piece::new(rest),
+    })
+}

@@ -1,0 +1,200 @@
+// The heading of a file.
+ghost use Rattle.std.specs.Prelude.{◌≡◌, option_map};
+ghost use Rattle.fsck_text.specs.Headings.{after_key, counted, replicated, coded, old, old_open, begun_of, target_of, problem_target, is_in_snapshot, heading_of, differ};
+
+use crate::cuts::{after_first, after_prefix, cut_at, last_cut_at, small_number_of, word_and_rest};
+use crate::wrong::{Piece, Reason, Wrong};
+
+/// How a file is laid out.
+#[derive(Clone, Copy, Debug, PartialEq, Drop)]
+pub enum Layout {
+    Replicated,
+    ErasureCoded,
+}
+
+/// What the heading of a file says.
+#[derive(Clone, Copy, Drop)]
+pub struct Heading {
+    pub layout: Layout,
+    /// The file is being written.
+    pub is_open: bool,
+    /// The file is in a snapshot.
+    pub is_snapshot: bool,
+    /// How many blocks it has.
+    pub blocks: u32,
+    /// How many replicas are wanted of each block. Hadoop 2 says so only of a file that has a block
+    /// with too few.
+    pub target: Option<u32>,
+}
+
+/// A heading up to the problem that may stand at its end.
+#[derive(Drop)]
+struct Begun<'a> {
+    layout: Layout,
+    replication: Option<u32>,
+    blocks: u32,
+    is_open: bool,
+    problem: Piece<'a>,
+}
+
+/// What the heading of a file says, by its text before the first colon and after it. A path of HDFS has
+/// no colon.
+pub fn heading_of<'a>(before: &'a str, after: &'a str) -> Result<Heading, Wrong<'a>>
+    ensures { result ≡ heading_of before.entry.now after.entry.now }
+{
+    let Some((front, last)) = last_cut_at(before, ' ') else {
+        return Err(Wrong::new(Reason::NotAHeading, before));
+    };
+    let begun = begun_of(front, last, after)?;
+    let problem = begun.problem.text();
+    let target = problem_target(problem)?;
+    if differ(begun.replication, target) {
+        return Err(Wrong::new(Reason::TwoTargets, problem));
+    }
+    Ok(Heading {
+        layout: begun.layout,
+        is_open: begun.is_open,
+        is_snapshot: is_in_snapshot(front),
+        blocks: begun.blocks,
+        target: begun.replication.or(target),
+    })
+}
+
+/// Whether a path has the component by which HDFS names snapshots.
+fn is_in_snapshot(path: &str) -> bool
+    ensures { result ≡ is_in_snapshot path.now }
+{
+    path.split('/').any(|name| ".snapshot" == name)
+}
+
+/// By the last word before the colon.
+fn begun_of<'a>(front: &'a str, last: &'a str, after: &'a str) -> Result<Begun<'a>, Wrong<'a>>
+    ensures { result ≡ begun_of front.entry.now last.entry.now after.entry.now }
+{
+    match last {
+        "replicated" => replicated(after),
+        "erasure-coded" => coded(after),
+        "block(s)" => old(front, after, false),
+        "OPENFORWRITE" => old_open(front, after),
+        _ => Err(Wrong::new(Reason::NotAHeading, last)),
+    }
+}
+
+/// The value of a key up to a comma, and the text after that.
+fn after_key<'a>(text: &'a str, key: &str) -> Option<(&'a str, &'a str)>
+    ensures { option_map (λ p. (p.0.now, p.1.now)) result ≡ after_key key.now text.entry.now }
+{
+    cut_at(after_prefix(text, key)?, ',')
+}
+
+/// Hadoop 3, a replicated file: its replication and the number of its blocks.
+fn replicated(text: &str) -> Result<Begun<'_>, Wrong<'_>>
+    ensures { result ≡ replicated text.now }
+{
+    let Some((number, rest)) = after_key(text, " replication=") else {
+        return Err(Wrong::new(Reason::NotAHeading, text));
+    };
+    let Some(replication) = small_number_of(number) else {
+        return Err(Wrong::new(Reason::NotATarget, number));
+    };
+    counted(Layout::Replicated, Some(replication), rest)
+}
+
+/// Hadoop 3, an erasure coded file: its policy and the number of its blocks.
+fn coded(text: &str) -> Result<Begun<'_>, Wrong<'_>>
+    ensures { result ≡ coded text.now }
+{
+    match after_key(text, " policy=") {
+        Some((_, rest)) => counted(Layout::ErasureCoded, None, rest),
+        None => Err(Wrong::new(Reason::NotAHeading, text)),
+    }
+}
+
+/// The number of blocks, whether the file is open, and the problem behind that.
+fn counted(layout: Layout, replication: Option<u32>, text: &str) -> Result<Begun<'_>, Wrong<'_>>
+    ensures { result ≡ counted layout replication text.now }
+{
+    let (number, rest) = word_and_rest(after_first(text, ' ').unwrap_or(text));
+    let Some(blocks) = small_number_of(number) else {
+        return Err(Wrong::new(Reason::NotAHeading, number));
+    };
+    let (is_open, problem) = match after_prefix(rest, "block(s):") {
+        Some(problem) => (false, problem),
+        None => match after_prefix(rest, "block(s), OPENFORWRITE:") {
+            Some(problem) => (true, problem),
+            None => return Err(Wrong::new(Reason::NotAHeading, rest)),
+        },
+    };
+    Ok(Begun {
+        layout,
+        replication,
+        blocks,
+        is_open,
+        problem: Piece::new(problem),
+    })
+}
+
+/// Hadoop 2: the number of blocks is the last word before `block(s)`.
+fn old<'a>(front: &'a str, problem: &'a str, is_open: bool) -> Result<Begun<'a>, Wrong<'a>>
+    ensures { result ≡ old front.entry.now problem.entry.now is_open }
+{
+    let number = match last_cut_at(front, ' ') {
+        Some((_, number)) => number,
+        None => front,
+    };
+    let Some(blocks) = small_number_of(number) else {
+        return Err(Wrong::new(Reason::NotAHeading, number));
+    };
+    Ok(Begun {
+        layout: Layout::Replicated,
+        replication: None,
+        blocks,
+        is_open,
+        problem: Piece::new(problem),
+    })
+}
+
+/// Hadoop 2, an open file: `block(s),` comes before the last word.
+fn old_open<'a>(front: &'a str, problem: &'a str) -> Result<Begun<'a>, Wrong<'a>>
+    ensures { result ≡ old_open front.entry.now problem.entry.now }
+{
+    match last_cut_at(front, ' ') {
+        Some((front, word)) if word == "block(s)," => old(front, problem, true),
+        _ => Err(Wrong::new(Reason::NotAHeading, front)),
+    }
+}
+
+/// How many replicas are wanted, by the problem at the end of a heading, if it is one of too few.
+fn problem_target(problem: &str) -> Result<Option<u32>, Wrong<'_>>
+    ensures { result ≡ problem_target problem.now }
+{
+    match after_prefix(problem, "  Under replicated ") {
+        Some(text) => Ok(Some(target_of(text)?)),
+        None => Ok(None),
+    }
+}
+
+/// How many replicas are wanted of a block, by the text after `Under replicated`.
+pub fn target_of(text: &str) -> Result<u32, Wrong<'_>>
+    ensures { result ≡ target_of text.now }
+{
+    let (_, rest) = word_and_rest(text);
+    let Some(number) = after_prefix(rest, "Target Replicas is ") else {
+        return Err(Wrong::new(Reason::NotATarget, rest));
+    };
+    let (number, _) = word_and_rest(number);
+    match small_number_of(number) {
+        Some(target) => Ok(target),
+        None => Err(Wrong::new(Reason::NotATarget, number)),
+    }
+}
+
+/// Whether both are there and differ.
+fn differ(first: Option<u32>, second: Option<u32>) -> bool
+    ensures { result ≡ differ first second }
+{
+    match (first, second) {
+        (Some(a), Some(b)) => a != b,
+        _ => false,
+    }
+}

@@ -1,0 +1,26 @@
+//! A line of what `hdfs fsck` or `hdfs dfsadmin -report` prints, as a value, for Hadoop 2.6 to 3.4.
+//!
+//! The forms are those of Hadoop's `NamenodeFsck` and `DatanodeInfo`; where versions differ, all are
+//! read. Nothing here is about more than one line.
+#![tactic(auto)]
+
+mod block;
+mod cuts;
+mod heading;
+mod line;
+mod list;
+mod mark;
+mod node;
+mod place;
+mod summary;
+mod wrong;
+
+pub use block::{BlockLine, block_of, corrupt_block, is_missing};
+pub use heading::{Heading, Layout};
+pub use line::{Line, line_of};
+pub use list::{Listed, list_of};
+pub use mark::Mark;
+pub use node::{NodeLine, node_line_of};
+pub use place::Place;
+pub use summary::Count;
+pub use wrong::{Fault, Piece, Reason, Wrong};

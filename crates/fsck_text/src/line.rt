@@ -1,0 +1,125 @@
+// A line of fsck.
+ghost use Rattle.std.specs.Prelude.{◌≡◌, option_map};
+ghost use Rattle.fsck_text.specs.Lines.{begins, ends, health_of, last_of, path_line, summary_line, block_line, line_of};
+
+use crate::cuts::{after_prefix, cut_at, number_of};
+use crate::heading::{Heading, heading_of, target_of};
+use crate::summary::{Count, sum_of};
+use crate::wrong::{Piece, Wrong};
+
+/// What a line of fsck is.
+#[derive(Drop)]
+pub enum Line<'a> {
+    /// The first line.
+    First,
+    /// The heading of a file, with the problem at its end.
+    Heading(Heading),
+    /// Each known replica of a block is corrupt: the text after `CORRUPT blockpool`.
+    Corrupt(Piece<'a>),
+    /// How many replicas are wanted of a block of the file.
+    Target(u32),
+    /// A block, by its index in the file and the text after that.
+    Block(u64, Piece<'a>),
+    /// The summary begins; whether fsck calls all files healthy.
+    Status(bool),
+    /// A number of the summary.
+    Sum(Count, u64),
+    /// The last line; whether fsck calls all files healthy.
+    Last(bool),
+    /// Any other line.
+    Other,
+}
+
+/// What a line is. A line that begins with a slash and has a colon is one of a file.
+pub fn line_of(line: &str) -> Result<Line<'_>, Wrong<'_>>
+    ensures { result ≡ line_of line.now }
+{
+    if begins(line, "/") {
+        return path_line(line);
+    }
+    if let Some(text) = after_prefix(line, " Under replicated ") {
+        return Ok(Line::Target(target_of(text)?));
+    }
+    if let Some((index, text)) = block_line(line) {
+        return Ok(Line::Block(index, Piece::new(text)));
+    }
+    summary_line(line)
+}
+
+fn begins(line: &str, text: &str) -> bool
+    ensures { result ≡ begins line.now text.now }
+{
+    line.starts_with(text)
+}
+
+pub fn ends(line: &str, text: &str) -> bool
+    ensures { result ≡ ends line.now text.now }
+{
+    line.ends_with(text)
+}
+
+/// A line that begins with a path.
+fn path_line(line: &str) -> Result<Line<'_>, Wrong<'_>>
+    ensures { result ≡ path_line line.now }
+{
+    match cut_at(line, ':') {
+        Some((before, after)) => match after_prefix(after, " CORRUPT blockpool ") {
+            Some(text) => Ok(Line::Corrupt(Piece::new(text))),
+            None => Ok(Line::Heading(heading_of(before, after)?)),
+        },
+        None => Ok(Line::Other),
+    }
+}
+
+/// The index of a block, and the text after it.
+fn block_line(line: &str) -> Option<(u64, &str)>
+    ensures { option_map (λ p. (p.0, p.1.now)) result ≡ block_line line.now }
+{
+    let (index, text) = cut_at(line, '.')?;
+    Some((number_of(index)?, after_prefix(text, " ")?))
+}
+
+/// Whether the summary begins with this line, and calls all files healthy.
+fn health_of(line: &str) -> Option<bool>
+    ensures { result ≡ health_of line.now }
+{
+    match line {
+        "Status: HEALTHY" => Some(true),
+        "Status: CORRUPT" => Some(false),
+        _ => None,
+    }
+}
+
+/// Whether this is the last line, and calls all files healthy.
+fn last_of(line: &str) -> Option<bool>
+    ensures { result ≡ last_of line.now }
+{
+    if !begins(line, "The filesystem under path '") {
+        None
+    } else if ends(line, "' is HEALTHY") {
+        Some(true)
+    } else if ends(line, "' is CORRUPT") {
+        Some(false)
+    } else {
+        None
+    }
+}
+
+/// A line that is none of a file.
+fn summary_line(line: &str) -> Result<Line<'_>, Wrong<'_>>
+    ensures { result ≡ summary_line line.now }
+{
+    if begins(line, "FSCK started by ") {
+        return Ok(Line::First);
+    }
+    if let Some(is_healthy) = health_of(line) {
+        return Ok(Line::Status(is_healthy));
+    }
+    if let Some(is_healthy) = last_of(line) {
+        return Ok(Line::Last(is_healthy));
+    }
+    match sum_of(line)? {
+        Some((count, sum)) => Ok(Line::Sum(count, sum)),
+        None => Ok(Line::Other),
+    }
+}

@@ -1,0 +1,78 @@
+// The list of a block's replicas.
+ghost use Rattle.std.specs.Prelude.{◌≡◌, Ok, IfOk, OnOk, IfErr, option_map};
+ghost use Rattle.fsck_text.specs.Lists.{cut_item, pushed, listed_with, listed_of, list_of};
+ghost use Rattle.fsck_text.specs.Wrongs.{IsCause};
+
+use crate::cuts::cut_at;
+use crate::mark::{Mark, mark_of};
+use crate::place::{Place, place_of};
+use crate::wrong::{Fault, Reason, Wrong};
+use bm_base::Items;
+use std::alloc::Global;
+
+/// A replica as fsck lists it.
+#[derive(Drop)]
+pub struct Listed<'a> {
+    pub place: Place<'a>,
+    pub mark: Mark,
+}
+
+/// The replicas of a list, in order, from the text between its brackets.
+#[tactic(auto, using(crate::proofs::ListLemmas::next_listed, crate::proofs::ListLemmas::last_wrong))]
+pub fn list_of<'a>(alloc: Global, text: &'a str) -> Result<Items<Listed<'a>>, Fault<'a>>
+    ensures ok { IfOk result (λ v. list_of text.entry.now ≡ Ok v) }
+    ensures wrong { IfErr result (λ f. IsCause f (list_of text.entry.now)) }
+{
+    let mut list = Items::from_vec(Vec::new(alloc));
+    let mut rest = text;
+    while let Some((item, after)) = cut_item(rest) {
+        if let Err(fault) = push_item(&mut list, item) {
+            return Err(fault);
+        }
+        rest = after;
+    }
+    match push_item(&mut list, rest) {
+        Ok(()) => Ok(list),
+        Err(fault) => Err(fault),
+    }
+}
+
+/// Adds the replica of an item.
+fn push_item<'a>(list: &mut Items<Listed<'a>>, item: &'a str) -> Result<(), Fault<'a>>
+    ensures ok { OnOk result (pushed list.old (listed_of item.entry.now) ≡ Ok list.new) }
+    ensures wrong { IfErr result (λ f. IsCause f (listed_of item.entry.now)) }
+{
+    let one = listed_of(item)?;
+    Ok(list.push(one)?)
+}
+
+/// The first item, and the items after it, if there are more.
+fn cut_item(items: &str) -> Option<(&str, &str)>
+    ensures { option_map (λ p. (p.0.now, p.1.now)) result ≡ cut_item items.now }
+{
+    items.split_once(", ")
+}
+
+/// A replica by its item: its place, and its mark in parentheses if there is one.
+fn listed_of(item: &str) -> Result<Listed<'_>, Wrong<'_>>
+    ensures { result ≡ listed_of item.now }
+{
+    match cut_at(item, '(') {
+        Some((place, mark)) => listed_with(item, place, mark_of(mark)),
+        None => listed_with(item, item, Some(Mark::Absent)),
+    }
+}
+
+fn listed_with<'a>(
+    item: &'a str,
+    place: &'a str,
+    mark: Option<Mark>,
+) -> Result<Listed<'a>, Wrong<'a>>
+    ensures { result ≡ listed_with item.entry.now place.entry.now mark }
+{
+    match (place_of(place), mark) {
+        (Some(place), Some(mark)) => Ok(Listed { place, mark }),
+        (None, _) => Err(Wrong::new(Reason::NotAPlace, item)),
+        (Some(_), None) => Err(Wrong::new(Reason::NotAMark, item)),
+    }
+}

@@ -1,0 +1,94 @@
+// A line of `hdfs dfsadmin -report`.
+ghost use Rattle.std.specs.Prelude.{◌≡◌};
+ghost use Rattle.fsck_text.specs.Nodes.{section_of, address_line, rack_line, drains, remaining_line, node_line_of, keyed_line};
+
+use crate::cuts::{after_prefix, cut_at, number_of, word_and_rest};
+use crate::line::ends;
+use crate::place::{is_address, is_rack};
+use crate::wrong::{Piece, Reason, Wrong};
+
+/// What a line of the report says of a DataNode.
+#[derive(Drop)]
+pub enum NodeLine<'a> {
+    /// A section begins: of the live nodes, or of others.
+    Section(bool),
+    /// A node begins, by its host and port.
+    Node(Piece<'a>),
+    Rack(Piece<'a>),
+    /// Whether it is being decommissioned, or has been.
+    Drains(bool),
+    /// Free bytes.
+    Remaining(u64),
+    Other,
+}
+
+/// What a line of the report says.
+pub fn node_line_of(line: &str) -> Result<NodeLine<'_>, Wrong<'_>>
+    ensures { result ≡ node_line_of line.now }
+{
+    match cut_at(line, ':') {
+        Some((key, value)) => keyed_line(key, value),
+        None => Ok(NodeLine::Other),
+    }
+}
+
+/// By the text before the first colon and after it.
+fn keyed_line<'a>(key: &'a str, value: &'a str) -> Result<NodeLine<'a>, Wrong<'a>>
+    ensures { result ≡ keyed_line key.entry.now value.entry.now }
+{
+    match key {
+        "Name" => address_line(value),
+        "Rack" => rack_line(value),
+        "Decommission Status " => Ok(NodeLine::Drains(drains(value))),
+        "DFS Remaining" => remaining_line(value),
+        _ => Ok(section_of(key)),
+    }
+}
+
+/// A section, if its heading is one: `Live datanodes (N)`, or of nodes in another state.
+fn section_of(key: &str) -> NodeLine<'_>
+    ensures { result ≡ section_of key.now }
+{
+    match cut_at(key, '(') {
+        Some((name, _)) if name == "Live datanodes " => NodeLine::Section(true),
+        Some((name, _)) if ends(name, " datanodes ") => NodeLine::Section(false),
+        _ => NodeLine::Other,
+    }
+}
+
+/// The host and port of a node, before its host name in parentheses.
+fn address_line(value: &str) -> Result<NodeLine<'_>, Wrong<'_>>
+    ensures { result ≡ address_line value.now }
+{
+    let (address, _) = word_and_rest(after_prefix(value, " ").unwrap_or(value));
+    if is_address(address) {
+        Ok(NodeLine::Node(Piece::new(address)))
+    } else {
+        Err(Wrong::new(Reason::NotANode, value))
+    }
+}
+
+fn rack_line(value: &str) -> Result<NodeLine<'_>, Wrong<'_>>
+    ensures { result ≡ rack_line value.now }
+{
+    match after_prefix(value, " ") {
+        Some(rack) if is_rack(rack) => Ok(NodeLine::Rack(Piece::new(rack))),
+        _ => Err(Wrong::new(Reason::NotANode, value)),
+    }
+}
+
+fn drains(value: &str) -> bool
+    ensures { result ≡ drains value.now }
+{
+    matches!(value, " Decommission in progress" | " Decommissioned")
+}
+
+fn remaining_line(value: &str) -> Result<NodeLine<'_>, Wrong<'_>>
+    ensures { result ≡ remaining_line value.now }
+{
+    let (number, _) = word_and_rest(after_prefix(value, " ").unwrap_or(value));
+    match number_of(number) {
+        Some(bytes) => Ok(NodeLine::Remaining(bytes)),
+        None => Err(Wrong::new(Reason::NotANode, value)),
+    }
+}

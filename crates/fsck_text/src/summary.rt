@@ -1,0 +1,73 @@
+// The numbers of the summary.
+ghost use Rattle.std.specs.Prelude.{◌≡◌};
+ghost use Rattle.fsck_text.specs.Summaries.{blocks_named, groups_named, sum_of, sum_at};
+
+use crate::cuts::{cut_at, last_cut_at, number_of, word_and_rest};
+use crate::wrong::{Reason, Wrong};
+
+/// What a number of the summary counts.
+#[derive(Clone, Copy, Debug, PartialEq, Drop)]
+pub enum Count {
+    /// Blocks of replicated files.
+    Blocks,
+    /// Those of which no replica is known.
+    Missing,
+    /// Those of which each known replica is corrupt.
+    Corrupt,
+    /// Block groups of erasure coded files.
+    Groups,
+    MissingGroups,
+    CorruptGroups,
+}
+
+/// What a line about replicated files counts, by its text before the colon.
+fn blocks_named(name: &str) -> Option<Count>
+    ensures { result ≡ blocks_named name.now }
+{
+    match name {
+        " Total blocks (validated)" => Some(Count::Blocks),
+        " Missing blocks" | "  MISSING BLOCKS" => Some(Count::Missing),
+        " Corrupt blocks" | "  CORRUPT BLOCKS" => Some(Count::Corrupt),
+        _ => None,
+    }
+}
+
+/// The same of a line about erasure coded files.
+fn groups_named(name: &str) -> Option<Count>
+    ensures { result ≡ groups_named name.now }
+{
+    match name {
+        " Total block groups (validated)" => Some(Count::Groups),
+        " Missing block groups" => Some(Count::MissingGroups),
+        " Corrupt block groups" => Some(Count::CorruptGroups),
+        _ => None,
+    }
+}
+
+/// What a line of the summary counts, and how many; `None` for any other line.
+pub fn sum_of(line: &str) -> Result<Option<(Count, u64)>, Wrong<'_>>
+    ensures { result ≡ sum_of line.now }
+{
+    let Some((name, text)) = cut_at(line, ':') else {
+        return Ok(None);
+    };
+    match blocks_named(name).or(groups_named(name)) {
+        Some(count) => Ok(Some((count, sum_at(text)?))),
+        None => Ok(None),
+    }
+}
+
+/// The number after the last tab, up to a space.
+fn sum_at(text: &str) -> Result<u64, Wrong<'_>>
+    ensures { result ≡ sum_at text.now }
+{
+    let number = match last_cut_at(text, '\t') {
+        Some((_, number)) => number,
+        None => text,
+    };
+    let (number, _) = word_and_rest(number);
+    match number_of(number) {
+        Some(sum) => Ok(sum),
+        None => Err(Wrong::new(Reason::NotASum, text)),
+    }
+}
