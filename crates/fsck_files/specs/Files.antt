@@ -1,8 +1,7 @@
 -- The files of a text, line by line.
-use Rattle.std.specs.Prelude.{◌≡◌, ⊤, ℕ, ◌+◌, ◌==◌, ◌&&◌, ◌||◌, Bool, true, false, not, max, nat_lt, nat_le, length, List, [], Option, Some, None, unwrap_or, Result, Ok, Err, if◌then◌else◌}
+use Rattle.std.specs.Prelude.{◌≡◌, ⊤, ℕ, ◌+◌, ◌==◌, ◌&&◌, ◌||◌, Bool, true, false, not, max, nat_lt, List, [], Option, Some, None, unwrap_or, Result, Ok, Err, if◌then◌else◌}
 use Rattle.std.specs.Option.{option_map_or}
 use Rattle.fsck_text.specs.Cuts.{Text}
-use Rattle.fsck_text.specs.Wrongs.{after_ok}
 use Rattle.fsck_text.specs.Blocks.{block_of, corrupt_block, is_missing}
 use Rattle.fsck_text.specs.Headings.{differ}
 use Rattle.fsck_text.specs.Lines.{line_of}
@@ -15,6 +14,8 @@ use Rattle.fsck_text.specs.declared.line.Line.{Line}
 use Rattle.fsck_text.specs.declared.line.Line.TheVariants as line
 use Rattle.fsck_text.specs.declared.list.Listed.{Listed}
 use Rattle.fsck_text.specs.declared.summary.Count.{Count}
+use Rattle.fsck_text.specs.declared.wrong.Fault.{Fault}
+use Rattle.fsck_text.specs.declared.wrong.Fault.TheVariants as text_fault
 use Rattle.fsck_text.specs.declared.wrong.Wrong.{Wrong}
 use Rattle.fsck_files.specs.Counts.{no_counts, no_sums, with_blocks, with_missing, with_corrupt, is_healthy, with_sum, mismatch}
 use Rattle.fsck_files.specs.Numbers.{has_number, with_number}
@@ -28,11 +29,9 @@ use Rattle.fsck_files.specs.declared.files.Part.{Part}
 use Rattle.fsck_files.specs.declared.files.Part.TheVariants as part
 use Rattle.fsck_files.specs.declared.refusal.Refusal.{Refusal}
 use Rattle.fsck_files.specs.declared.refusal.Refusal.TheVariants as refusal
-use Rattle.fsck_files.specs.declared.refusal.Mismatch.{Mismatch}
 use Rattle.fsck_files.specs.declared.replicas.Block.{Block}
 use Rattle.fsck_files.specs.declared.skips.Kind.{Kind}
 use Rattle.fsck_files.specs.declared.skips.Kind.TheVariants as kind
-use Rattle.fsck_files.specs.declared.skips.LeftOut.{LeftOut}
 use Rattle.fsck_files.specs.declared.skips.Skips.{Skips}
 use Rattle.fsck_files.specs.declared.skips.Unclear.{Unclear}
 use Rattle.fsck_files.specs.declared.skips.Unclear.TheVariants as unclear
@@ -44,9 +43,17 @@ no_file = record { target = None; announced = 0; read = 0; is_coded = false; is_
 -- nothing was read
 abbrev pub no_files : Skips → Unclear → Files
 no_files skips unclear = record {
-  skips = skips; unclear = unclear; part = part.Before; file = no_file; corrupt = []; counts = no_counts; sums = no_sums;
-  is_healthy = false; left_out = record { erasure_coded = 0; open = 0; snapshots = 0; over_replicated = 0 };
-  unclear_blocks = 0; maintained = 0;
+  skips = skips;
+  unclear = unclear;
+  part = part.Before;
+  file = no_file;
+  corrupt = [];
+  counts = no_counts;
+  sums = no_sums;
+  is_healthy = false;
+  left_out = record { erasure_coded = 0; open_files = 0; snapshots = 0; over_replicated = 0 };
+  unclear_blocks = 0;
+  maintained = 0;
 }
 
 -- what a line makes of what was read, or why it is refused
@@ -86,12 +93,16 @@ headed s h = record s {
 abbrev pub lacks_blocks : File → Bool
 lacks_blocks f = nat_lt f.read f.announced
 
+-- why neither the heading of the next file nor the summary may come here
+abbrev pub unended : Files → Option Refusal
+unended s =
+    if not (may_head s.part) then Some refusal.OutOfPlace
+    else (if lacks_blocks s.file then Some refusal.BlockLeftOut else None)
+
 -- the heading of the next file, after all blocks of the file before
 abbrev pub after_heading : Files → Heading → After
 after_heading s h =
-    if not (may_head s.part) then Err refusal.OutOfPlace
-    else (if lacks_blocks s.file then Err refusal.BlockLeftOut
-    else option_map_or (left_out (headed s h)) (kind_of h) (Ok (headed s h)))
+    option_map_or (λ why. Err why) (unended s) (option_map_or (left_out (headed s h)) (kind_of h) (Ok (headed s h)))
 
 abbrev pub is_files : Part → Bool
 is_files part.Files = true
@@ -131,9 +142,7 @@ after_target s target =
 -- the summary begins, after all blocks of the last file
 abbrev pub after_status : Files → Bool → After
 after_status s healthy =
-    if not (may_head s.part) then Err refusal.OutOfPlace
-    else (if lacks_blocks s.file then Err refusal.BlockLeftOut
-    else Ok (record s { part = part.Summary; is_healthy = healthy }))
+    option_map_or (λ why. Err why) (unended s) (Ok (record s { part = part.Summary; is_healthy = healthy }))
 
 abbrev pub is_summary : Part → Bool
 is_summary part.Summary = true
@@ -158,7 +167,7 @@ abbrev pub after_last : Files → Bool → After
 after_last s healthy =
     if not (is_summary s.part) then Err refusal.OutOfPlace
     else option_map_or (λ _. option_map_or (λ m. Err (refusal.Mismatch m)) (mismatch s.sums s.counts) (ended s healthy))
-      s.sums.blocks (Err refusal.NoSum)
+    s.sums.blocks (Err refusal.NoSum)
 
 -- how many replicas are wanted of a block: what was said of its file, else as many as are live, and at least one
 abbrev pub wanted : Option ℕ → Option ℕ → ℕ
@@ -177,8 +186,10 @@ without (Err why) = Err why
 -- with a block, whose replicas are clear or are taken as good
 abbrev pub emitted : Files → BlockLine → ℕ → List Listed → Taken
 emitted s b repl listed =
-    Ok (record s { maintained = plus s.maintained (maintained listed) },
-      Some (record { id = b.id; stamp = b.stamp; wanted = repl; is_corrupt = has_number s.corrupt b.id; replicas = listed }))
+    Ok (
+      record s { maintained = plus s.maintained (maintained listed) },
+      Some (record { id = b.id; stamp = b.stamp; wanted = repl; is_corrupt = has_number s.corrupt b.id; replicas = listed }),
+    )
 
 abbrev pub one_unclear : Files → Files
 one_unclear s = record s { unclear_blocks = plus s.unclear_blocks 1 }
@@ -196,9 +207,12 @@ by_live s b repl listed (Some live) =
     if nat_lt (claims listed) live then Err (refusal.FewerThanLive (claims listed) live)
     else (if nat_lt live (claims listed) then unclear_by s.unclear s b repl listed live else emitted s b repl listed)
 
--- with one more block of the file
+-- with one more block
+abbrev pub with_one_read : File → File
+with_one_read f = record f { read = f.read + 1 }
+
 abbrev pub one_read : Files → Files
-one_read s = record s { file = record s.file { read = s.file.read + 1 } }
+one_read s = record s { file = with_one_read s.file }
 
 abbrev pub after_listed : Files → BlockLine → ℕ → Result (List Listed) Wrong → Taken
 after_listed s b repl (Ok listed) = by_live (one_read s) b repl listed b.live
@@ -253,6 +267,11 @@ after_kind s line.Other = Ok (s, None)
 -- after one more line
 abbrev pub after_line : Files → Text → Taken
 after_line s text = read_as (after_kind s) (line_of text)
+
+-- the fault of a list, as one of its line
+abbrev pub line_fault : Fault → LineFault
+line_fault text_fault.Memory = fault.Memory
+line_fault (text_fault.Wrong w) = fault.Refused (refusal.Wrong w)
 
 -- the fault is this refusal, or memory that was refused
 abbrev pub IsCause : {A : Type 0} → LineFault → Result A Refusal → Type 0

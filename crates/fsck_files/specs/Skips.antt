@@ -1,6 +1,5 @@
 -- Files and blocks that are left out.
 use Rattle.std.specs.Prelude.{ℕ, ◌+◌, ◌-◌, ◌^◌, Bool, Option, Some, None, if◌then◌else◌, min, nat_lt}
-use Rattle.bm_base.specs.declared.limits.TheConstants.{MAX_REPLICATION}
 use Rattle.fsck_text.specs.declared.heading.Heading.{Heading}
 use Rattle.fsck_text.specs.declared.heading.Layout.{Layout}
 use Rattle.fsck_text.specs.declared.heading.Layout.TheVariants as layout
@@ -31,7 +30,7 @@ kind_of heading = kind_by heading.layout heading
 -- whether files of a kind are left out
 abbrev pub skips : Skips → Kind → Bool
 skips s kind.ErasureCoded = s.erasure_coded
-skips s kind.Open = s.open
+skips s kind.Open = s.open_files
 skips s kind.Snapshot = s.snapshots
 skips s kind.OverReplicated = s.over_replicated
 
@@ -42,6 +41,6 @@ plus count more = min (count + more) (2 ^ 64 - 1)
 -- with one more file that was left out
 abbrev pub left_out_with : LeftOut → Kind → LeftOut
 left_out_with l kind.ErasureCoded = record l { erasure_coded = plus l.erasure_coded 1 }
-left_out_with l kind.Open = record l { open = plus l.open 1 }
+left_out_with l kind.Open = record l { open_files = plus l.open_files 1 }
 left_out_with l kind.Snapshot = record l { snapshots = plus l.snapshots 1 }
 left_out_with l kind.OverReplicated = record l { over_replicated = plus l.over_replicated 1 }

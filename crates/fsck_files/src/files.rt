@@ -1,7 +1,6 @@
 // The files of a text, line by line.
-ghost use Rattle.std.specs.Prelude.{◌≡◌, ◌<◌, true, false, not, Ok, Err, Some, IfOk, OnOk, IfErr, if◌then◌else◌};
-ghost use Rattle.fsck_files.specs.Files.{no_files, is_open, may_head, lacks_blocks, is_next, is_whole, wanted, after_first, left_out, after_heading, after_corrupt, after_target, after_status, after_sum, after_last, after_placed, after_indexed, after_block, after_over, by_live, emitted, after_line, IsCause};
-ghost use Rattle.fsck_files.specs.declared.refusal.Refusal.TheVariants.{OutOfPlace, BlockLeftOut};
+ghost use Rattle.std.specs.Prelude.{◌≡◌, ◌<◌, Ok, Err, Some, IfOk, OnOk, IfErr};
+ghost use Rattle.fsck_files.specs.Files.{no_files, is_open, unended, is_next, is_whole, wanted, after_first, left_out, after_heading, after_corrupt, after_target, after_status, after_sum, after_last, after_placed, after_indexed, after_block, after_over, by_live, emitted, after_line, IsCause};
 
 use crate::counts::{Counts, Sums};
 use crate::numbers::Numbers;
@@ -39,6 +38,22 @@ pub struct File {
     pub read: u32,
     pub is_coded: bool,
     pub is_left_out: bool,
+}
+
+impl File {
+    ghost use Rattle.std.specs.Prelude.{◌≡◌, ◌<◌};
+    ghost use Rattle.fsck_files.specs.Files.{with_one_read};
+
+    /// With one more block.
+    fn with_one_read(self) -> File
+        requires { self.read < self.announced }
+        ensures { result ≡ with_one_read self }
+    {
+        File {
+            read: self.read + 1,
+            ..self
+        }
+    }
 }
 
 /// What was read of a text.
@@ -102,6 +117,20 @@ impl<'a> From<Wrong<'a>> for LineFault<'a> {
     }
 }
 
+impl<'a> From<Fault<'a>> for LineFault<'a> {
+    ghost use Rattle.std.specs.Prelude.{◌≡◌};
+    ghost use Rattle.fsck_files.specs.Files.{line_fault};
+
+    ghost from_gives = { λ f e. e ≡ line_fault f };
+
+    fn from(fault: Fault<'a>) -> Self {
+        match fault {
+            Fault::Memory => LineFault::Memory,
+            Fault::Wrong(wrong) => LineFault::Refused(Refusal::Wrong(wrong)),
+        }
+    }
+}
+
 impl Files {
     /// Nothing was read.
     pub fn new(alloc: Global, skips: Skips, unclear: Unclear) -> Files
@@ -124,7 +153,7 @@ impl Files {
             is_healthy: false,
             left_out: LeftOut {
                 erasure_coded: 0,
-                open: 0,
+                open_files: 0,
                 snapshots: 0,
                 over_replicated: 0,
             },
@@ -181,25 +210,26 @@ impl Files {
         Ok(())
     }
 
-    /// The heading of the next file, or the beginning of the summary, may come here.
-    fn check_file_ends<'a>(&self) -> Result<(), Refusal<'a>>
-        ensures ok { OnOk result ((may_head self.now.part ≡ true) × (lacks_blocks self.now.file ≡ false)) }
-        ensures refused { IfErr result (λ why. if not (may_head self.now.part) then why ≡ OutOfPlace else ((lacks_blocks self.now.file ≡ true) × (why ≡ BlockLeftOut))) }
+    /// Why neither the heading of the next file nor the summary may come here.
+    fn unended<'a>(&self) -> Option<Refusal<'a>>
+        ensures { result ≡ unended self.now }
     {
         if matches!(self.part, Part::Summary | Part::Behind) {
-            return Err(Refusal::OutOfPlace);
+            Some(Refusal::OutOfPlace)
+        } else if self.file.read < self.file.announced {
+            Some(Refusal::BlockLeftOut)
+        } else {
+            None
         }
-        if self.file.read < self.file.announced {
-            return Err(Refusal::BlockLeftOut);
-        }
-        Ok(())
     }
 
     fn take_heading<'a>(&mut self, heading: Heading) -> Result<(), Refusal<'a>>
         ensures ok { OnOk result (after_heading self.old heading ≡ Ok self.new) }
         ensures refused { IfErr result (λ why. after_heading self.old heading ≡ Err why) }
     {
-        self.check_file_ends()?;
+        if let Some(why) = self.unended() {
+            return Err(why);
+        }
         let is_coded = matches!(heading.layout, Layout::ErasureCoded);
         self.part = Part::Files;
         self.file = File {
@@ -263,7 +293,9 @@ impl Files {
         ensures ok { OnOk result (after_status self.old is_healthy ≡ Ok self.new) }
         ensures refused { IfErr result (λ why. after_status self.old is_healthy ≡ Err why) }
     {
-        self.check_file_ends()?;
+        if let Some(why) = self.unended() {
+            return Err(why);
+        }
         self.part = Part::Summary;
         self.is_healthy = is_healthy;
         Ok(())
@@ -350,8 +382,8 @@ impl Files {
         block: BlockLine<'a>,
     ) -> Result<Option<Block<'a>>, LineFault<'a>>
         requires { self.old.file.read < self.old.file.announced }
-        ensures ok { IfOk result (λ taken. after_block self.old block ≡ Ok (self.new, taken)) }
-        ensures refused { IfErr result (λ f. IsCause f (after_block self.old block)) }
+        ensures ok { IfOk result (λ taken. after_block self.old block.entry ≡ Ok (self.new, taken)) }
+        ensures refused { IfErr result (λ f. IsCause f (after_block self.old block.entry)) }
     {
         let repl = wanted(self.file.target, block.live);
         if repl == 0 {
@@ -361,7 +393,7 @@ impl Files {
             return self.take_over_replicated();
         }
         let listed = list_of(alloc, block.list.text())?;
-        self.file.read += 1;
+        self.file = self.file.with_one_read();
         self.take_listed(block, repl, listed)
     }
 
@@ -371,9 +403,7 @@ impl Files {
         ensures refused { IfErr result (λ f. IsCause f (after_over self.old)) }
     {
         if self.file.read != 0 {
-            return Err(LineFault::Refused(Refusal::Unsupported(
-                Kind::OverReplicated,
-            )));
+            return Err(LineFault::Refused(Refusal::Unsupported(Kind::OverReplicated)));
         }
         self.leave_out(Kind::OverReplicated)?;
         Ok(None)
@@ -386,8 +416,8 @@ impl Files {
         repl: u32,
         listed: Items<Listed<'a>>,
     ) -> Result<Option<Block<'a>>, LineFault<'a>>
-        ensures ok { IfOk result (λ taken. by_live self.old block repl listed block.live ≡ Ok (self.new, taken)) }
-        ensures refused { IfErr result (λ f. IsCause f (by_live self.old block repl listed block.live)) }
+        ensures ok { IfOk result (λ taken. by_live self.old block.entry repl listed.entry block.entry.live ≡ Ok (self.new, taken)) }
+        ensures refused { IfErr result (λ f. IsCause f (by_live self.old block.entry repl listed.entry block.entry.live)) }
     {
         let Some(live) = block.live else {
             self.counts = self.counts.with_missing(false);
@@ -417,7 +447,7 @@ impl Files {
 
     /// The block that is taken.
     fn emit<'a>(&mut self, block: BlockLine<'a>, repl: u32, listed: Items<Listed<'a>>) -> Block<'a>
-        ensures { emitted self.old block repl listed ≡ Ok (self.new, Some result) }
+        ensures { emitted self.old block.entry repl listed.entry ≡ Ok (self.new, Some result) }
     {
         self.maintained = plus(self.maintained, maintained(listed.as_slice()) as u64);
         Block {

@@ -20,7 +20,7 @@ pub enum Kind {
 #[derive(Clone, Copy, Drop)]
 pub struct Skips {
     pub erasure_coded: bool,
-    pub open: bool,
+    pub open_files: bool,
     pub snapshots: bool,
     pub over_replicated: bool,
 }
@@ -39,7 +39,7 @@ pub enum Unclear {
 #[derive(Clone, Copy, Drop)]
 pub struct LeftOut {
     pub erasure_coded: u64,
-    pub open: u64,
+    pub open_files: u64,
     pub snapshots: u64,
     pub over_replicated: u64,
 }
@@ -83,7 +83,7 @@ impl Skips {
     {
         match kind {
             Kind::ErasureCoded => self.erasure_coded,
-            Kind::Open => self.open,
+            Kind::Open => self.open_files,
             Kind::Snapshot => self.snapshots,
             Kind::OverReplicated => self.over_replicated,
         }
@@ -101,7 +101,7 @@ impl LeftOut {
                 ..self
             },
             Kind::Open => LeftOut {
-                open: plus(self.open, 1),
+                open_files: plus(self.open_files, 1),
                 ..self
             },
             Kind::Snapshot => LeftOut {
