@@ -1,9 +1,8 @@
 -- A cluster, block by block.
-use Rattle.std.specs.Prelude.{◌≡◌, ⊤, ℕ, ◌-◌, ◌==◌, ◌&&◌, ◌||◌, Bool, true, false, nat_lt, length, List, [], ◌∷◌, ◌++◌, Option, Some, None, unwrap_or, position, slice_get, Result, Ok, Err, if◌then◌else◌, codes}
+use Rattle.std.specs.Prelude.{◌≡◌, ⊤, ℕ, ◌||◌, Bool, false, nat_lt, length, List, [], ◌∷◌, ◌++◌, Option, Some, None, unwrap_or, position, slice_get, Result, Ok, Err, if◌then◌else◌, codes}
 use Rattle.std.specs.Option.{option_map_or}
 use Rattle.std.specs.Str.{bytes_eq}
 use Rattle.bm_base.specs.declared.replica.Stamp.{Stamp}
-use Rattle.bm_base.specs.declared.event.Entry.{Entry}
 use Rattle.fsck_text.specs.Cuts.{Text}
 use Rattle.fsck_text.specs.Wrongs.{after_ok}
 use Rattle.fsck_text.specs.declared.place.Place.{Place}
@@ -13,10 +12,9 @@ use Rattle.fsck_files.specs.Replicas.{state_of}
 use Rattle.fsck_files.specs.declared.replicas.Block.{Block}
 use Rattle.fsck_files.specs.declared.replicas.State.{State}
 use Rattle.fsck_files.specs.declared.replicas.State.TheVariants as state
-use Rattle.fsck_cluster.specs.Names.{is_new, name_number, name_of, with_name}
+use Rattle.fsck_cluster.specs.Names.{name_number, name_of, with_name}
 use Rattle.fsck_cluster.specs.Blocks.{has_block, with_block}
 use Rattle.fsck_cluster.specs.Rows.{new_row, ends_with, with_entry_at}
-use Rattle.fsck_cluster.specs.declared.cluster.Bad.{Bad}
 use Rattle.fsck_cluster.specs.declared.cluster.Cluster.{Cluster}
 use Rattle.fsck_cluster.specs.declared.cluster.ClusterFault.{ClusterFault}
 use Rattle.fsck_cluster.specs.declared.cluster.ClusterFault.TheVariants as fault
@@ -28,7 +26,15 @@ use Rattle.fsck_cluster.specs.declared.rows.Row.{Row}
 -- nothing was read
 abbrev pub no_cluster : Cluster
 no_cluster = record {
-  racks = []; nodes = []; node_rows = []; knows_nodes = false; storages = []; rows = []; blocks = []; bad = []; draining = [];
+  racks = [];
+  nodes = [];
+  node_rows = [];
+  knows_nodes = false;
+  storages = [];
+  rows = [];
+  blocks = [];
+  bad = [];
+  draining = [];
 }
 
 -- what a line makes of a cluster, or why it is refused

@@ -1,5 +1,5 @@
 -- The DataNodes, by the report on them.
-use Rattle.std.specs.Prelude.{◌≡◌, ⊤, ℕ, ◌==◌, ◌||◌, Bool, true, false, not, nat_lt, is_some, is_none, length, ◌∷◌, ◌++◌, [], Option, Some, None, Result, Ok, Err, if◌then◌else◌, codes}
+use Rattle.std.specs.Prelude.{◌≡◌, ⊤, ℕ, ◌==◌, ◌||◌, Bool, true, false, not, nat_lt, is_none, length, ◌∷◌, ◌++◌, [], Option, Some, None, Result, Ok, Err, if◌then◌else◌, codes}
 use Rattle.std.specs.Option.{option_map_or}
 use Rattle.fsck_text.specs.Cuts.{Text}
 use Rattle.fsck_text.specs.Nodes.{node_line_of}
@@ -46,9 +46,12 @@ after_row s (Some row) =
 abbrev pub ended_row : NodeList → After
 ended_row s = after_row s s.row
 
+abbrev pub sectioned : Bool → NodeList → After
+sectioned live s = Ok (record s { is_live = live; was_live = s.was_live || live })
+
 -- a section begins
 abbrev pub after_section : NodeList → Bool → After
-after_section s live = after_ok (λ t. Ok (record t { is_live = live; was_live = t.was_live || live })) (ended_row s)
+after_section s live = after_ok (sectioned live) (ended_row s)
 
 abbrev pub named : NodeList → Text → NodeList
 named s address = record s {
