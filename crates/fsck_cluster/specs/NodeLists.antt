@@ -17,6 +17,7 @@ use Rattle.fsck_cluster.specs.declared.node_list.NodeFault.{NodeFault}
 use Rattle.fsck_cluster.specs.declared.node_list.NodeFault.TheVariants as fault
 use Rattle.fsck_cluster.specs.declared.node_list.NodeRefusal.{NodeRefusal}
 use Rattle.fsck_cluster.specs.declared.node_list.NodeRefusal.TheVariants as refusal
+use Rattle.fsck_cluster.specs.declared.node_list.NodeWhy.TheVariants as why
 
 -- nothing was read
 abbrev pub no_list : NodeList
@@ -40,7 +41,7 @@ with_row s row = record s { cluster = record s.cluster { node_rows = s.cluster.n
 abbrev pub after_row : NodeList → Option NodeRow → After
 after_row s None = Ok s
 after_row s (Some row) =
-    if is_none row.remaining then Err refusal.NoRemaining
+    if is_none row.remaining then Err (refusal.Why why.NoRemaining)
     else Ok (if row.rack == 0 then with_row_on s row (codes "/default-rack") else with_row s row)
 
 abbrev pub ended_row : NodeList → After
@@ -61,8 +62,8 @@ named s address = record s {
 
 abbrev pub with_node : Text → NodeList → After
 with_node address s =
-    if not (is_new s.cluster.nodes address) then Err refusal.NodeTwice
-    else (if nat_lt (length s.cluster.nodes) 256 then Ok (named s address) else Err refusal.TooManyNodes)
+    if not (is_new s.cluster.nodes address) then Err (refusal.Why why.NodeTwice)
+    else (if nat_lt (length s.cluster.nodes) 256 then Ok (named s address) else Err (refusal.Why why.TooManyNodes))
 
 -- a node begins
 abbrev pub after_name : NodeList → Text → After
@@ -109,9 +110,9 @@ after_line s line = read_as (after_kind s) (node_line_of line)
 
 -- at the end of the report, which has a section of live nodes
 abbrev pub at_end : NodeList → Result Cluster NodeRefusal
-at_end s = after_ok (λ t. if t.was_live then Ok t.cluster else Err refusal.NoLiveNodes) (ended_row s)
+at_end s = after_ok (λ t. if t.was_live then Ok t.cluster else Err (refusal.Why why.NoLiveNodes)) (ended_row s)
 
 -- the fault is this refusal, or memory that was refused
 abbrev pub IsCause : {A : Type 0} → NodeFault → Result A NodeRefusal → Type 0
 IsCause fault.Memory after = ⊤
-IsCause (fault.Refused why) after = after ≡ Err why
+IsCause (fault.Refused r) after = after ≡ Err r

@@ -9,6 +9,7 @@ use bm_base::{BlockId, BlockInfo, Entry, Items, MAX_NODES, MAX_STORAGES, Storage
 use fsck_files::{Block, Numbers, State, state_of};
 use fsck_text::{Listed, Piece, Place};
 use std::alloc::{AllocError, Global};
+use thiserror::Error;
 
 /// Hadoop's name for the rack of a node whose rack is not known.
 pub const DEFAULT_RACK: &str = "/default-rack";
@@ -49,24 +50,24 @@ pub struct Cluster {
 }
 
 /// Why a block is not taken.
-#[derive(Clone, Copy, Debug, PartialEq, Drop)]
+#[derive(Clone, Copy, Debug, Drop, Error)]
 pub enum Why {
-    /// The block was read before.
+    #[error("the block was read before")]
     BlockTwice,
-    /// Two places of the block have one storage.
+    #[error("two places of the block have one storage")]
     StorageTwice,
-    /// A storage on another node than before, or a node on another rack.
+    #[error("a storage on another node than before, or a node on another rack")]
     Elsewhere,
-    /// A node that is not among the live ones of the report on DataNodes.
+    #[error("a node that is not among the live ones of --nodes")]
     UnknownNode,
-    /// More than 256 nodes.
+    #[error("more than 256 nodes")]
     TooManyNodes,
-    /// More than 4,096 storages.
+    #[error("more than 4,096 storages")]
     TooManyStorages,
 }
 
 /// Why a block is not taken, or memory that was refused.
-#[derive(Clone, Copy, Debug, PartialEq, Drop)]
+#[derive(Clone, Copy, Debug, Drop)]
 pub enum ClusterFault {
     Memory,
     Refused(Why),

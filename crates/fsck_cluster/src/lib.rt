@@ -11,5 +11,5 @@ mod rows;
 pub use blocks::Blocks;
 pub use cluster::{Bad, Cluster, ClusterFault, NodeRow, Why};
 pub use names::Names;
-pub use node_list::{NodeFault, NodeList, NodeRefusal};
+pub use node_list::{NodeFault, NodeList, NodeRefusal, NodeWhy};
 pub use rows::{Row, Rows};

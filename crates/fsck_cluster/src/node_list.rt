@@ -6,6 +6,7 @@ use crate::cluster::{Cluster, DEFAULT_RACK, NodeRow};
 use bm_base::MAX_NODES;
 use fsck_text::{NodeLine, Wrong, node_line_of};
 use std::alloc::{AllocError, Global};
+use thiserror::Error;
 
 /// The live nodes so far.
 #[derive(Drop)]
@@ -19,19 +20,25 @@ pub struct NodeList {
     pub row: Option<NodeRow>,
 }
 
+/// Why a line of the report is not taken whose words are understood.
+#[derive(Clone, Copy, Debug, Drop, Error)]
+pub enum NodeWhy {
+    #[error("the node was read before")]
+    NodeTwice,
+    #[error("more than 256 live nodes")]
+    TooManyNodes,
+    #[error("the node before has no line 'DFS Remaining'")]
+    NoRemaining,
+    #[error("the report has no live DataNodes")]
+    NoLiveNodes,
+}
+
 /// Why a line of the report is not taken.
 #[derive(Drop)]
 pub enum NodeRefusal<'a> {
     /// A word is not understood.
     Wrong(Wrong<'a>),
-    /// The node was read before.
-    NodeTwice,
-    /// More than 256 live nodes.
-    TooManyNodes,
-    /// The node before has no line on its free bytes.
-    NoRemaining,
-    /// The report has no section of live nodes.
-    NoLiveNodes,
+    Why(NodeWhy),
 }
 
 /// Why a line is not taken, or memory that was refused.
@@ -104,7 +111,7 @@ impl NodeList {
     {
         self.end_row(alloc)?;
         if !self.was_live {
-            return Err(NodeFault::Refused(NodeRefusal::NoLiveNodes));
+            return Err(NodeFault::Refused(NodeRefusal::Why(NodeWhy::NoLiveNodes)));
         }
         let NodeList { cluster, .. } = self;
         Ok(cluster)
@@ -119,7 +126,7 @@ impl NodeList {
             return Ok(());
         };
         if row.remaining.is_none() {
-            return Err(NodeFault::Refused(NodeRefusal::NoRemaining));
+            return Err(NodeFault::Refused(NodeRefusal::Why(NodeWhy::NoRemaining)));
         }
         let rack = if row.rack == 0 {
             self.cluster.racks.number_of(alloc, DEFAULT_RACK)?.number
@@ -147,10 +154,10 @@ impl NodeList {
     {
         self.end_row(alloc)?;
         if self.cluster.nodes.index(address).is_some() {
-            return Err(NodeFault::Refused(NodeRefusal::NodeTwice));
+            return Err(NodeFault::Refused(NodeRefusal::Why(NodeWhy::NodeTwice)));
         }
         if self.cluster.nodes.len() >= MAX_NODES {
-            return Err(NodeFault::Refused(NodeRefusal::TooManyNodes));
+            return Err(NodeFault::Refused(NodeRefusal::Why(NodeWhy::TooManyNodes)));
         }
         let node = self.cluster.nodes.number_of(alloc, address)?;
         self.row = Some(NodeRow {

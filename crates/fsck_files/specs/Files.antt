@@ -29,6 +29,8 @@ use Rattle.fsck_files.specs.declared.files.Part.{Part}
 use Rattle.fsck_files.specs.declared.files.Part.TheVariants as part
 use Rattle.fsck_files.specs.declared.refusal.Refusal.{Refusal}
 use Rattle.fsck_files.specs.declared.refusal.Refusal.TheVariants as refusal
+use Rattle.fsck_files.specs.declared.refusal.Why.{Why}
+use Rattle.fsck_files.specs.declared.refusal.Why.TheVariants as why
 use Rattle.fsck_files.specs.declared.replicas.Block.{Block}
 use Rattle.fsck_files.specs.declared.skips.Kind.{Kind}
 use Rattle.fsck_files.specs.declared.skips.Kind.TheVariants as kind
@@ -58,19 +60,19 @@ no_files skips unclear = record {
 
 -- what a line makes of what was read, or why it is refused
 abbrev pub After : Type 0
-After = Result Files Refusal
+After = Result Files Why
 
 -- the first line of fsck comes before all files, and once
 abbrev pub after_first : Files → Part → After
 after_first s part.Before = Ok (record s { part = part.Begun })
-after_first s _ = Err refusal.OutOfPlace
+after_first s _ = Err why.OutOfPlace
 
 -- the file is left out, if files of this kind are
 abbrev pub left_out : Files → Kind → After
 left_out s kind =
     if skips s.skips kind
     then Ok (record s { file = record s.file { read = s.file.announced; is_left_out = true }; left_out = left_out_with s.left_out kind })
-    else Err (refusal.Unsupported kind)
+    else Err (why.Unsupported kind)
 
 abbrev pub is_coded : Layout → Bool
 is_coded layout.ErasureCoded = true
@@ -94,15 +96,15 @@ abbrev pub lacks_blocks : File → Bool
 lacks_blocks f = nat_lt f.read f.announced
 
 -- why neither the heading of the next file nor the summary may come here
-abbrev pub unended : Files → Option Refusal
+abbrev pub unended : Files → Option Why
 unended s =
-    if not (may_head s.part) then Some refusal.OutOfPlace
-    else (if lacks_blocks s.file then Some refusal.BlockLeftOut else None)
+    if not (may_head s.part) then Some why.OutOfPlace
+    else (if lacks_blocks s.file then Some why.BlockLeftOut else None)
 
 -- the heading of the next file, after all blocks of the file before
 abbrev pub after_heading : Files → Heading → After
 after_heading s h =
-    option_map_or (λ why. Err why) (unended s) (option_map_or (left_out (headed s h)) (kind_of h) (Ok (headed s h)))
+    option_map_or (λ reason. Err reason) (unended s) (option_map_or (left_out (headed s h)) (kind_of h) (Ok (headed s h)))
 
 abbrev pub is_files : Part → Bool
 is_files part.Files = true
@@ -121,9 +123,9 @@ abbrev pub counted_corrupt : Files → Files
 counted_corrupt s = record s { counts = with_corrupt s.counts s.file.is_coded }
 
 -- fsck calls a block of the file corrupt
-abbrev pub after_corrupt : Files → Text → After
+abbrev pub after_corrupt : Files → Text → Result Files Refusal
 after_corrupt s text =
-    if not (is_open s) then Err refusal.OutOfPlace
+    if not (is_open s) then Err (refusal.Why why.OutOfPlace)
     else (if s.file.is_left_out then Ok (counted_corrupt s)
     else read_as (λ id. Ok (record (counted_corrupt s) { corrupt = with_number s.corrupt id })) (corrupt_block text))
 
@@ -133,16 +135,16 @@ with_target s target = record s { file = record s.file { target = Some target } 
 -- a line says how many replicas are wanted of a block of the file, and so of all
 abbrev pub after_target : Files → ℕ → After
 after_target s target =
-    if not (is_open s) then Err refusal.OutOfPlace
+    if not (is_open s) then Err why.OutOfPlace
     else (if s.file.is_left_out then Ok s
-    else (if differ s.file.target (Some target) then Err refusal.TwoTargets
+    else (if differ s.file.target (Some target) then Err why.TwoTargets
     else (if over_replicated target then left_out (with_target s target) kind.OverReplicated
     else Ok (with_target s target))))
 
 -- the summary begins, after all blocks of the last file
 abbrev pub after_status : Files → Bool → After
 after_status s healthy =
-    option_map_or (λ why. Err why) (unended s) (Ok (record s { part = part.Summary; is_healthy = healthy }))
+    option_map_or (λ reason. Err reason) (unended s) (Ok (record s { part = part.Summary; is_healthy = healthy }))
 
 abbrev pub is_summary : Part → Bool
 is_summary part.Summary = true
@@ -160,14 +162,14 @@ agrees first second = if first then second else not second
 abbrev pub ended : Files → Bool → After
 ended s healthy =
     if agrees (is_healthy s.counts) healthy && agrees s.is_healthy healthy
-    then Ok (record s { part = part.Behind }) else Err refusal.OtherHealth
+    then Ok (record s { part = part.Behind }) else Err why.OtherHealth
 
 -- the last line of fsck: the summary has the number of blocks, and its numbers are those of what was read
 abbrev pub after_last : Files → Bool → After
 after_last s healthy =
-    if not (is_summary s.part) then Err refusal.OutOfPlace
-    else option_map_or (λ _. option_map_or (λ m. Err (refusal.Mismatch m)) (mismatch s.sums s.counts) (ended s healthy))
-    s.sums.blocks (Err refusal.NoSum)
+    if not (is_summary s.part) then Err why.OutOfPlace
+    else option_map_or (λ _. option_map_or (λ m. Err (why.Mismatch m)) (mismatch s.sums s.counts) (ended s healthy))
+    s.sums.blocks (Err why.NoSum)
 
 -- how many replicas are wanted of a block: what was said of its file, else as many as are live, and at least one
 abbrev pub wanted : Option ℕ → Option ℕ → ℕ
@@ -178,10 +180,17 @@ wanted None live = max 1 (unwrap_or live 1)
 abbrev pub Taken : Type 0
 Taken = Result (Files × Option Block) Refusal
 
+abbrev pub refused : {A : Type 0} → Why → Result A Refusal
+refused reason = Err (refusal.Why reason)
+
 -- no block is taken
 abbrev pub without : After → Taken
 without (Ok s) = Ok (s, None)
-without (Err why) = Err why
+without (Err reason) = Err (refusal.Why reason)
+
+abbrev pub without_block : Result Files Refusal → Taken
+without_block (Ok s) = Ok (s, None)
+without_block (Err r) = Err r
 
 -- with a block, whose replicas are clear or are taken as good
 abbrev pub emitted : Files → BlockLine → ℕ → List Listed → Taken
@@ -196,7 +205,7 @@ one_unclear s = record s { unclear_blocks = plus s.unclear_blocks 1 }
 
 -- a block with more places that may be live than live replicas is refused, left out, or taken with each place as a good replica
 abbrev pub unclear_by : Unclear → Files → BlockLine → ℕ → List Listed → ℕ → Taken
-unclear_by unclear.Refuse s b repl listed live = Err (refusal.MoreThanLive (claims listed) live)
+unclear_by unclear.Refuse s b repl listed live = refused (why.MoreThanLive (claims listed) live)
 unclear_by unclear.Omit s b repl listed live = Ok (one_unclear s, None)
 unclear_by unclear.Good s b repl listed live = emitted (one_unclear s) b repl listed
 
@@ -204,7 +213,7 @@ unclear_by unclear.Good s b repl listed live = emitted (one_unclear s) b repl li
 abbrev pub by_live : Files → BlockLine → ℕ → List Listed → Option ℕ → Taken
 by_live s b repl listed None = emitted (record s { counts = with_missing s.counts false }) b repl listed
 by_live s b repl listed (Some live) =
-    if nat_lt (claims listed) live then Err (refusal.FewerThanLive (claims listed) live)
+    if nat_lt (claims listed) live then refused (why.FewerThanLive (claims listed) live)
     else (if nat_lt live (claims listed) then unclear_by s.unclear s b repl listed live else emitted s b repl listed)
 
 -- with one more block
@@ -221,13 +230,13 @@ after_listed s b repl (Err w) = Err (refusal.Wrong w)
 -- more than 16 replicas are wanted of a block: its file is left out, if that shows at its first block
 abbrev pub after_over : Files → Taken
 after_over s =
-    if s.file.read == 0 then without (left_out s kind.OverReplicated) else Err (refusal.Unsupported kind.OverReplicated)
+    if s.file.read == 0 then without (left_out s kind.OverReplicated) else refused (why.Unsupported kind.OverReplicated)
 
 -- a block whose line is understood. Hadoop 2 says nothing of the replication of a file whose blocks all have enough replicas, so that one with more than 16 shows at its first block
 abbrev pub after_block : Files → BlockLine → Taken
 after_block s b =
     let repl = wanted s.file.target b.live in
-    if repl == 0 then Err refusal.NoneWanted
+    if repl == 0 then refused why.NoneWanted
     else (if over_replicated repl then after_over s
     else after_listed s b repl (list_of b.list))
 
@@ -243,20 +252,20 @@ is_next f index = (index == f.read) && nat_lt f.read f.announced
 abbrev pub after_indexed : Files → ℕ → Text → Taken
 after_indexed s index text =
     if s.file.is_left_out then Ok (passed s text, None)
-    else (if is_next s.file index then read_as (after_block s) (block_of text) else Err refusal.NotNext)
+    else (if is_next s.file index then read_as (after_block s) (block_of text) else refused why.NotNext)
 
 -- a block comes after the heading of its file, and before the summary
 abbrev pub after_placed : Part → Files → ℕ → Text → Taken
-after_placed part.Before s index text = Err refusal.NoHeading
-after_placed part.Begun s index text = Err refusal.NoHeading
+after_placed part.Before s index text = refused why.NoHeading
+after_placed part.Begun s index text = refused why.NoHeading
 after_placed part.Files s index text = after_indexed s index text
-after_placed part.Summary s index text = Err refusal.OutOfPlace
-after_placed part.Behind s index text = Err refusal.OutOfPlace
+after_placed part.Summary s index text = refused why.OutOfPlace
+after_placed part.Behind s index text = refused why.OutOfPlace
 
 abbrev pub after_kind : Files → Line → Taken
 after_kind s line.First = without (after_first s s.part)
 after_kind s (line.Heading h) = without (after_heading s h)
-after_kind s (line.Corrupt text) = without (after_corrupt s text)
+after_kind s (line.Corrupt text) = without_block (after_corrupt s text)
 after_kind s (line.Target target) = without (after_target s target)
 after_kind s (line.Block index text) = after_placed s.part s index text
 after_kind s (line.Status healthy) = without (after_status s healthy)
@@ -276,7 +285,7 @@ line_fault (text_fault.Wrong w) = fault.Refused (refusal.Wrong w)
 -- the fault is this refusal, or memory that was refused
 abbrev pub IsCause : {A : Type 0} → LineFault → Result A Refusal → Type 0
 IsCause fault.Memory after = ⊤
-IsCause (fault.Refused why) after = after ≡ Err why
+IsCause (fault.Refused r) after = after ≡ Err r
 
 abbrev pub is_whole : Part → Bool
 is_whole part.Behind = true

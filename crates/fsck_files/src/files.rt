@@ -4,7 +4,7 @@ ghost use Rattle.fsck_files.specs.Files.{no_files, is_open, unended, is_next, is
 
 use crate::counts::{Counts, Sums};
 use crate::numbers::Numbers;
-use crate::refusal::Refusal;
+use crate::refusal::{Refusal, Why};
 use crate::replicas::{Block, claims, maintained};
 use crate::skips::{Kind, LeftOut, Skips, Unclear, kind_of, over_replicated, plus};
 use bm_base::Items;
@@ -94,14 +94,15 @@ impl<'a> From<AllocError> for LineFault<'a> {
     }
 }
 
-impl<'a> From<Refusal<'a>> for LineFault<'a> {
+impl<'a> From<Why> for LineFault<'a> {
     ghost use Rattle.std.specs.Prelude.{◌≡◌};
     ghost use Rattle.fsck_files.specs.declared.files.LineFault.TheVariants as fault;
+    ghost use Rattle.fsck_files.specs.declared.refusal.Refusal.TheVariants as refusal;
 
-    ghost from_gives = { λ why e. e ≡ fault.Refused why };
+    ghost from_gives = { λ why e. e ≡ fault.Refused (refusal.Why why) };
 
-    fn from(why: Refusal<'a>) -> Self {
-        LineFault::Refused(why)
+    fn from(why: Why) -> Self {
+        LineFault::Refused(Refusal::Why(why))
     }
 }
 
@@ -185,24 +186,24 @@ impl Files {
         Ok(None)
     }
 
-    fn take_first<'a>(&mut self) -> Result<(), Refusal<'a>>
+    fn take_first(&mut self) -> Result<(), Why>
         ensures ok { OnOk result (after_first self.old self.old.part ≡ Ok self.new) }
         ensures refused { IfErr result (λ why. after_first self.old self.old.part ≡ Err why) }
     {
         if !matches!(self.part, Part::Before) {
-            return Err(Refusal::OutOfPlace);
+            return Err(Why::OutOfPlace);
         }
         self.part = Part::Begun;
         Ok(())
     }
 
     /// Leaves the file out, if files of this kind are.
-    fn leave_out<'a>(&mut self, kind: Kind) -> Result<(), Refusal<'a>>
+    fn leave_out(&mut self, kind: Kind) -> Result<(), Why>
         ensures ok { OnOk result (left_out self.old kind ≡ Ok self.new) }
         ensures refused { IfErr result (λ why. left_out self.old kind ≡ Err why) }
     {
         if !self.skips.has(kind) {
-            return Err(Refusal::Unsupported(kind));
+            return Err(Why::Unsupported(kind));
         }
         self.file.read = self.file.announced;
         self.file.is_left_out = true;
@@ -211,19 +212,19 @@ impl Files {
     }
 
     /// Why neither the heading of the next file nor the summary may come here.
-    fn unended<'a>(&self) -> Option<Refusal<'a>>
+    fn unended(&self) -> Option<Why>
         ensures { result ≡ unended self.now }
     {
         if matches!(self.part, Part::Summary | Part::Behind) {
-            Some(Refusal::OutOfPlace)
+            Some(Why::OutOfPlace)
         } else if self.file.read < self.file.announced {
-            Some(Refusal::BlockLeftOut)
+            Some(Why::BlockLeftOut)
         } else {
             None
         }
     }
 
-    fn take_heading<'a>(&mut self, heading: Heading) -> Result<(), Refusal<'a>>
+    fn take_heading(&mut self, heading: Heading) -> Result<(), Why>
         ensures ok { OnOk result (after_heading self.old heading ≡ Ok self.new) }
         ensures refused { IfErr result (λ why. after_heading self.old heading ≡ Err why) }
     {
@@ -258,7 +259,7 @@ impl Files {
         ensures refused { IfErr result (λ f. IsCause f (after_corrupt self.old text.entry.now)) }
     {
         if !self.is_open() {
-            return Err(LineFault::Refused(Refusal::OutOfPlace));
+            return Err(LineFault::from(Why::OutOfPlace));
         }
         if !self.file.is_left_out {
             let id = corrupt_block(text)?;
@@ -268,18 +269,18 @@ impl Files {
         Ok(())
     }
 
-    fn take_target<'a>(&mut self, target: u32) -> Result<(), Refusal<'a>>
+    fn take_target(&mut self, target: u32) -> Result<(), Why>
         ensures ok { OnOk result (after_target self.old target ≡ Ok self.new) }
         ensures refused { IfErr result (λ why. after_target self.old target ≡ Err why) }
     {
         if !self.is_open() {
-            return Err(Refusal::OutOfPlace);
+            return Err(Why::OutOfPlace);
         }
         if self.file.is_left_out {
             return Ok(());
         }
         if self.file.target.is_some_and(|before| before != target) {
-            return Err(Refusal::TwoTargets);
+            return Err(Why::TwoTargets);
         }
         self.file.target = Some(target);
         if over_replicated(target) {
@@ -289,7 +290,7 @@ impl Files {
         }
     }
 
-    fn take_status<'a>(&mut self, is_healthy: bool) -> Result<(), Refusal<'a>>
+    fn take_status(&mut self, is_healthy: bool) -> Result<(), Why>
         ensures ok { OnOk result (after_status self.old is_healthy ≡ Ok self.new) }
         ensures refused { IfErr result (λ why. after_status self.old is_healthy ≡ Err why) }
     {
@@ -309,21 +310,21 @@ impl Files {
         }
     }
 
-    fn take_last<'a>(&mut self, is_healthy: bool) -> Result<(), Refusal<'a>>
+    fn take_last(&mut self, is_healthy: bool) -> Result<(), Why>
         ensures ok { OnOk result (after_last self.old is_healthy ≡ Ok self.new) }
         ensures refused { IfErr result (λ why. after_last self.old is_healthy ≡ Err why) }
     {
         if !matches!(self.part, Part::Summary) {
-            return Err(Refusal::OutOfPlace);
+            return Err(Why::OutOfPlace);
         }
         if self.sums.blocks.is_none() {
-            return Err(Refusal::NoSum);
+            return Err(Why::NoSum);
         }
         if let Some(mismatch) = self.sums.mismatch(self.counts) {
-            return Err(Refusal::Mismatch(mismatch));
+            return Err(Why::Mismatch(mismatch));
         }
         if self.counts.is_healthy() != is_healthy || self.is_healthy != is_healthy {
-            return Err(Refusal::OtherHealth);
+            return Err(Why::OtherHealth);
         }
         self.part = Part::Behind;
         Ok(())
@@ -340,9 +341,9 @@ impl Files {
         ensures refused { IfErr result (λ f. IsCause f (after_placed self.old.part self.old index text.entry.now)) }
     {
         match self.part {
-            Part::Before | Part::Begun => Err(LineFault::Refused(Refusal::NoHeading)),
+            Part::Before | Part::Begun => Err(LineFault::from(Why::NoHeading)),
             Part::Files => self.take_indexed(alloc, index, text),
-            Part::Summary | Part::Behind => Err(LineFault::Refused(Refusal::OutOfPlace)),
+            Part::Summary | Part::Behind => Err(LineFault::from(Why::OutOfPlace)),
         }
     }
 
@@ -362,7 +363,7 @@ impl Files {
             return Ok(None);
         }
         if !self.is_next(index) {
-            return Err(LineFault::Refused(Refusal::NotNext));
+            return Err(LineFault::from(Why::NotNext));
         }
         let block = block_of(text)?;
         self.take_block(alloc, block)
@@ -387,7 +388,7 @@ impl Files {
     {
         let repl = wanted(self.file.target, block.live);
         if repl == 0 {
-            return Err(LineFault::Refused(Refusal::NoneWanted));
+            return Err(LineFault::from(Why::NoneWanted));
         }
         if over_replicated(repl) {
             return self.take_over_replicated();
@@ -403,7 +404,7 @@ impl Files {
         ensures refused { IfErr result (λ f. IsCause f (after_over self.old)) }
     {
         if self.file.read != 0 {
-            return Err(LineFault::Refused(Refusal::Unsupported(Kind::OverReplicated)));
+            return Err(LineFault::from(Why::Unsupported(Kind::OverReplicated)));
         }
         self.leave_out(Kind::OverReplicated)?;
         Ok(None)
@@ -426,13 +427,13 @@ impl Files {
         let places = claims(listed.as_slice());
         if places < live as usize {
             drop(listed);
-            return Err(LineFault::Refused(Refusal::FewerThanLive { places, live }));
+            return Err(LineFault::from(Why::FewerThanLive { places, live }));
         }
         if places > live as usize {
             match self.unclear {
                 Unclear::Refuse => {
                     drop(listed);
-                    return Err(LineFault::Refused(Refusal::MoreThanLive { places, live }));
+                    return Err(LineFault::from(Why::MoreThanLive { places, live }));
                 }
                 Unclear::Omit => {
                     drop(listed);

@@ -15,6 +15,6 @@ mod skips;
 pub use counts::{Counts, Sums};
 pub use files::{File, Files, LineFault, Part};
 pub use numbers::Numbers;
-pub use refusal::{Mismatch, Refusal};
+pub use refusal::{Mismatch, Refusal, Why};
 pub use replicas::{Block, State, state_of};
 pub use skips::{Kind, LeftOut, Skips, Unclear};

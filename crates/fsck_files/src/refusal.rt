@@ -1,9 +1,11 @@
 // Why a line of a text is refused.
 use crate::skips::Kind;
 use fsck_text::{Count, Wrong};
+use thiserror::Error;
 
 /// A number of the summary that is not the one that was read.
-#[derive(Clone, Copy, Debug, PartialEq, Drop)]
+#[derive(Clone, Copy, Debug, Drop, Error)]
+#[error("the summary says {sum} {count}, and {read} were read")]
 pub struct Mismatch {
     pub count: Count,
     /// What the summary says.
@@ -12,35 +14,43 @@ pub struct Mismatch {
     pub read: u64,
 }
 
+/// Why a line is refused whose words are understood.
+#[derive(Clone, Copy, Debug, Drop, Error)]
+pub enum Why {
+    #[error("the line may not come in this part of the text")]
+    OutOfPlace,
+    #[error("no heading of a file comes before the block")]
+    NoHeading,
+    #[error("the index is not that of the next block of the file")]
+    NotNext,
+    #[error("the file before has fewer blocks than its heading says")]
+    BlockLeftOut,
+    /// A file of a kind that the line tool has no call for.
+    #[error("{0}")]
+    Unsupported(Kind),
+    #[error("two numbers of wanted replicas for one file")]
+    TwoTargets,
+    #[error("no replica is wanted of the block")]
+    NoneWanted,
+    /// It is not known which of the places are live.
+    #[error("{places} places, of which {live} are live: -replicaDetails says which, --unclear=omit leaves such blocks out, --unclear=good takes each place as good")]
+    MoreThanLive { places: usize, live: u32 },
+    #[error("{places} places, and {live} live replicas")]
+    FewerThanLive { places: usize, live: u32 },
+    #[error("{0}")]
+    Mismatch(Mismatch),
+    #[error("the summary has no line 'Total blocks (validated)'")]
+    NoSum,
+    #[error("the summary or the last line says of the health what was not read")]
+    OtherHealth,
+    #[error("the text ends before the last line of fsck")]
+    CutOff,
+}
+
 /// Why a line is refused.
 #[derive(Drop)]
 pub enum Refusal<'a> {
     /// A word is not understood.
     Wrong(Wrong<'a>),
-    /// The line may not come in this part of the text.
-    OutOfPlace,
-    /// A block before the heading of its file.
-    NoHeading,
-    /// The index is not that of the next block of the file.
-    NotNext,
-    /// The file before has fewer blocks than its heading says.
-    BlockLeftOut,
-    /// A file of a kind that the line tool has no call for.
-    Unsupported(Kind),
-    /// Two numbers of wanted replicas for one file.
-    TwoTargets,
-    /// No replica is wanted of the block.
-    NoneWanted,
-    /// More places than live replicas: it is not known which are live.
-    MoreThanLive { places: usize, live: u32 },
-    /// Fewer places than live replicas.
-    FewerThanLive { places: usize, live: u32 },
-    /// A number of the summary is not the one that was read.
-    Mismatch(Mismatch),
-    /// The summary has no number of blocks.
-    NoSum,
-    /// fsck calls the files healthy or corrupt, and what was read says otherwise.
-    OtherHealth,
-    /// The text ends before the last line of fsck.
-    CutOff,
+    Why(Why),
 }

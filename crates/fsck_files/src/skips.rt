@@ -4,15 +4,18 @@ ghost use Rattle.fsck_files.specs.Skips.{kind_of, skips, left_out_with, plus, ov
 
 use bm_base::MAX_REPLICATION;
 use fsck_text::{Heading, Layout};
+use thiserror::Error;
 
 /// A kind of file that the line tool has no call for.
-#[derive(Clone, Copy, Debug, PartialEq, Drop)]
+#[derive(Clone, Copy, Debug, Drop, Error)]
 pub enum Kind {
+    #[error("the file is erasure coded: --skip erasure-coded leaves such files out")]
     ErasureCoded,
-    /// A file that is being written.
+    #[error("the file is being written: --skip open leaves such files out")]
     Open,
+    #[error("the file is in a snapshot: --skip snapshots leaves such files out")]
     Snapshot,
-    /// More than 16 replicas are wanted of its blocks.
+    #[error("more than 16 replicas are wanted: --skip replication-over-16 leaves such files out")]
     OverReplicated,
 }
 

@@ -4,19 +4,26 @@ ghost use Rattle.fsck_text.specs.Summaries.{blocks_named, groups_named, sum_of, 
 
 use crate::cuts::{cut_at, last_cut_at, number_of, word_and_rest};
 use crate::wrong::{Reason, Wrong};
+use thiserror::Error;
 
 /// What a number of the summary counts.
-#[derive(Clone, Copy, Debug, PartialEq, Drop)]
+#[derive(Clone, Copy, Debug, Drop, Error)]
 pub enum Count {
     /// Blocks of replicated files.
+    #[error("blocks")]
     Blocks,
     /// Those of which no replica is known.
+    #[error("missing blocks")]
     Missing,
     /// Those of which each known replica is corrupt.
+    #[error("corrupt blocks")]
     Corrupt,
     /// Block groups of erasure coded files.
+    #[error("block groups")]
     Groups,
+    #[error("missing block groups")]
     MissingGroups,
+    #[error("corrupt block groups")]
     CorruptGroups,
 }
 

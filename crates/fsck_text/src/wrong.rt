@@ -1,60 +1,41 @@
 // Why a line is not understood.
 use std::alloc::AllocError;
-use std::fmt;
 use std::marker::Model;
+use thiserror::Error;
 
 /// What is wrong with a word of a line.
-#[derive(Clone, Copy, Debug, PartialEq)]
+#[derive(Clone, Copy, Debug, Drop, Error)]
 pub enum Reason {
-    /// Neither of the forms of a file's heading in Hadoop 2 and 3.
+    #[error("not a heading that Hadoop 2.6 to 3.4 write")]
     NotAHeading,
-    /// No number of replicas below 2^32 where one has to be.
+    #[error("not a number of wanted replicas")]
     NotATarget,
-    /// The heading and a problem on its line have two numbers of wanted replicas.
+    #[error("two numbers of wanted replicas for one file")]
     TwoTargets,
     /// Not `[POOL:]blk_NUMBER_STAMP`.
+    #[error("not the name of a block")]
     NotABlock,
-    /// The number of the block is below 0, as in old clusters and in erasure coded files.
+    /// As in old clusters and in erasure coded files.
+    #[error("the number of the block is below 0")]
     NegativeBlock,
     /// Not `len=` and a number below 2^64.
+    #[error("not the length of a block")]
     NotALength,
     /// None of `MISSING!`, `repl=N` and `Live_repl=N`.
+    #[error("neither MISSING! nor a number of live replicas")]
     NotACount,
     /// Not `[`, places with `, ` between them, and `]`.
+    #[error("not a list of places in brackets")]
     NotAList,
     /// Neither `[/RACK/]HOST:PORT` nor `DatanodeInfoWithStorage[HOST:PORT,STORAGE,TYPE]`.
+    #[error("not a place")]
     NotAPlace,
-    /// None of the marks of `-replicaDetails`.
+    #[error("not a mark of -replicaDetails")]
     NotAMark,
-    /// A number of the summary cannot be read.
+    #[error("not a number of the summary")]
     NotASum,
-    /// A line about a DataNode cannot be read.
+    #[error("not a line about a DataNode")]
     NotANode,
-}
-
-impl Reason {
-    fn text(self) -> &'static str {
-        match self {
-            Reason::NotAHeading => "not a heading that Hadoop 2.6 to 3.4 write",
-            Reason::NotATarget => "not a number of wanted replicas",
-            Reason::TwoTargets => "two numbers of wanted replicas for one file",
-            Reason::NotABlock => "not the name of a block",
-            Reason::NegativeBlock => "the number of the block is below 0",
-            Reason::NotALength => "not the length of a block",
-            Reason::NotACount => "not a number of live replicas, and not MISSING!",
-            Reason::NotAList => "not a list of places in brackets",
-            Reason::NotAPlace => "not a place",
-            Reason::NotAMark => "not a mark that -replicaDetails writes",
-            Reason::NotASum => "not a number of the summary",
-            Reason::NotANode => "not a line about a DataNode",
-        }
-    }
-}
-
-impl fmt::Display for Reason {
-    fn fmt<W: fmt::Write>(&self, f: &mut fmt::Formatter<W>) -> fmt::Result {
-        f.write_str(self.text())
-    }
 }
 
 /// A part of a line.
