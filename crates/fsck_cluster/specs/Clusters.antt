@@ -14,7 +14,7 @@ use Rattle.fsck_files.specs.declared.replicas.State.{State}
 use Rattle.fsck_files.specs.declared.replicas.State.TheVariants as state
 use Rattle.fsck_cluster.specs.Names.{name_number, name_of, with_name}
 use Rattle.fsck_cluster.specs.Blocks.{has_block, with_block}
-use Rattle.fsck_cluster.specs.Rows.{new_row, ends_with, with_entry_at}
+use Rattle.fsck_cluster.specs.Rows.{new_row, ends_with, with_held_at, has_storage}
 use Rattle.fsck_cluster.specs.declared.cluster.Cluster.{Cluster}
 use Rattle.fsck_cluster.specs.declared.cluster.ClusterFault.{ClusterFault}
 use Rattle.fsck_cluster.specs.declared.cluster.ClusterFault.TheVariants as fault
@@ -103,7 +103,7 @@ with_state c row id state.Drained = record c { draining = with_number c.draining
 
 -- with a replica of a block on the storage at an index
 abbrev pub with_replica : Cluster → ℕ → ℕ → Stamp → Cluster
-with_replica c at id stamp = record c { rows = with_entry_at c.rows at (record { from = id; to = id; stamp = stamp }) }
+with_replica c at id stamp = record c { rows = with_held_at c.rows at (record { id = id; stamp = stamp }) }
 
 -- a storage has one replica of a block, and no more
 abbrev pub on_row : Cluster → Block → Listed → ℕ → Row → After
@@ -130,6 +130,28 @@ abbrev pub after_block : Cluster → Block → After
 after_block c b =
     if has_block c.blocks b.id then Err why.BlockTwice
     else after_places (record c { blocks = with_block c.blocks b.id (record { stamp = b.stamp; repl = b.wanted }) }) b b.replicas
+
+-- with a storage of the node's own name
+abbrev pub with_spare : Cluster → ℕ → Cluster
+with_spare c node = record c {
+  storages = with_name c.storages (name_of c.nodes node);
+  rows = c.rows ++ new_row (name_number c.storages (name_of c.nodes node)) node ∷ [];
+}
+
+-- with a storage for a node, if it has none
+abbrev pub after_spare : Cluster → ℕ → After
+after_spare c node =
+    if has_storage c.rows node then Ok c
+    else (if nat_lt (length c.storages) 4096 then Ok (with_spare c node) else Err why.TooManyStorages)
+
+-- the same for these nodes
+abbrev pub after_spares : Cluster → List NodeRow → After
+after_spares c [] = Ok c
+after_spares c (row ∷ rows) = after_ok (λ d. after_spares d rows) (after_spare c row.number)
+
+-- with a storage for each node that has none, if the nodes are known from the report on DataNodes: nothing says which storages they have that hold nothing
+abbrev pub with_spares : Cluster → After
+with_spares c = if c.knows_nodes then after_spares c c.node_rows else Ok c
 
 -- the fault is this refusal, or memory that was refused
 abbrev pub IsCause : ClusterFault → After → Type 0

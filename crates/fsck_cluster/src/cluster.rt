@@ -1,11 +1,11 @@
 // A cluster, block by block.
 ghost use Rattle.std.specs.Prelude.{◌≡◌, Ok, Err, OnOk, IfErr, option_copied, option_map, slice_get};
-ghost use Rattle.fsck_cluster.specs.Clusters.{no_cluster, is_on_rack, is_on_node, after_block, after_places, after_place, after_node, after_new_node, after_storage, after_new_storage, after_replica, IsCause};
+ghost use Rattle.fsck_cluster.specs.Clusters.{no_cluster, is_on_rack, is_on_node, after_block, after_places, after_place, after_node, after_new_node, after_storage, after_new_storage, after_replica, after_spare, after_spares, with_spares, IsCause};
 
 use crate::blocks::Blocks;
 use crate::names::Names;
-use crate::rows::Rows;
-use bm_base::{BlockId, BlockInfo, Entry, Items, MAX_NODES, MAX_STORAGES, StorageId};
+use crate::rows::{Held, Rows};
+use bm_base::{BlockId, BlockInfo, Items, MAX_NODES, MAX_STORAGES, StorageId};
 use fsck_files::{Block, Numbers, State, state_of};
 use fsck_text::{Listed, Piece, Place};
 use std::alloc::{AllocError, Global};
@@ -238,7 +238,11 @@ impl Cluster {
             return Err(ClusterFault::Refused(Why::StorageTwice));
         }
         let (storage, node) = (StorageId(row.number), row.node);
-        self.rows.add(at, Entry::one(block.id, block.stamp))?;
+        let held = Held {
+            id: block.id,
+            stamp: block.stamp,
+        };
+        self.rows.add(at, held)?;
         match state_of(listed.mark, block.is_corrupt) {
             State::Good => {}
             State::Corrupt => self.bad.push(Bad {
@@ -248,5 +252,44 @@ impl Cluster {
             State::Drained => self.draining.add(u64::from(node))?,
         }
         Ok(())
+    }
+
+    /// Gives each known node without a storage one of its own name: nothing says which storages a node
+    /// has that hold nothing.
+    pub fn add_spares(&mut self, alloc: Global) -> Result<(), ClusterFault>
+        ensures ok { OnOk result (with_spares self.old ≡ Ok self.new) }
+        ensures refused { IfErr result (λ f. IsCause f (with_spares self.old)) }
+    {
+        if !self.knows_nodes {
+            return Ok(());
+        }
+        let nodes = Items::from_slice(alloc, self.node_rows.as_slice())?;
+        self.add_spares_of(alloc, nodes.as_slice())
+    }
+
+    /// The same for these nodes.
+    fn add_spares_of(&mut self, alloc: Global, nodes: &[NodeRow]) -> Result<(), ClusterFault>
+        ensures ok { OnOk result (after_spares self.old nodes.now ≡ Ok self.new) }
+        ensures refused { IfErr result (λ f. IsCause f (after_spares self.old nodes.now)) }
+    {
+        for row in nodes {
+            self.add_spare(alloc, row.number)?;
+        }
+        Ok(())
+    }
+
+    /// The same for a node.
+    fn add_spare(&mut self, alloc: Global, node: u32) -> Result<(), ClusterFault>
+        ensures ok { OnOk result (after_spare self.old node ≡ Ok self.new) }
+        ensures refused { IfErr result (λ f. IsCause f (after_spare self.old node)) }
+    {
+        if self.rows.has_storage(node) {
+            return Ok(());
+        }
+        if self.storages.len() >= MAX_STORAGES {
+            return Err(ClusterFault::Refused(Why::TooManyStorages));
+        }
+        let storage = self.storages.number_of(alloc, self.nodes.name(node))?;
+        Ok(self.rows.push(alloc, storage.number, node)?)
     }
 }

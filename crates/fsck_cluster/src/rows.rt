@@ -1,17 +1,24 @@
 // The storages, each with its node and its replicas.
-ghost use Rattle.std.specs.Prelude.{◌≡◌, ◌++◌, ◌∷◌, [], OnOk, option_map, option_copied, slice_get};
-ghost use Rattle.fsck_cluster.specs.Rows.{new_row, ends_with, with_entry_at};
+ghost use Rattle.std.specs.Prelude.{◌≡◌, ◌++◌, ◌∷◌, [], OnOk};
+ghost use Rattle.fsck_cluster.specs.Rows.{new_row, ends_with, with_held_at, has_storage};
 
-use bm_base::{BlockId, Entry, Items};
+use bm_base::{BlockId, Items, Stamp};
 use std::alloc::{AllocError, Global};
 use std::marker::Model;
+
+/// A replica on a storage: its block, with the stamp of the text.
+#[derive(Clone, Copy, Drop)]
+pub struct Held {
+    pub id: BlockId,
+    pub stamp: Stamp,
+}
 
 /// A storage: its number and its node's, and the replicas on it in the order of the text.
 #[derive(Drop)]
 pub struct Row {
     pub number: u32,
     pub node: u32,
-    pub entries: Items<Entry>,
+    pub held: Items<Held>,
 }
 
 /// The storages in the order of their numbers.
@@ -34,8 +41,8 @@ impl Row {
     pub fn ends_with(&self, id: BlockId) -> bool
         ensures { result ≡ ends_with self.now id }
     {
-        match self.entries.as_slice().last() {
-            Some(entry) => entry.from.0 == id.0,
+        match self.held.as_slice().last() {
+            Some(held) => held.id.0 == id.0,
             None => false,
         }
     }
@@ -57,19 +64,26 @@ impl Rows {
         let row = Row {
             number,
             node,
-            entries: Items::from_vec(Vec::new(alloc)),
+            held: Items::from_vec(Vec::new(alloc)),
         };
         Ok(self.rows.push(row)?)
     }
 
     /// One more replica on the storage at an index.
-    pub fn add(&mut self, at: usize, entry: Entry) -> Result<(), AllocError>
-        ensures { OnOk result (self.new ≡ with_entry_at self.old at entry) }
+    pub fn add(&mut self, at: usize, held: Held) -> Result<(), AllocError>
+        ensures { OnOk result (self.new ≡ with_held_at self.old at held) }
     {
         match self.rows.get_mut(at) {
-            Some(row) => row.entries.push(entry),
+            Some(row) => row.held.push(held),
             None => Ok(()),
         }
+    }
+
+    /// Whether a node has a storage.
+    pub fn has_storage(&self, node: u32) -> bool
+        ensures { result ≡ has_storage self.now node }
+    {
+        self.rows.as_slice().iter().any(|row| row.node == node)
     }
 
     pub fn as_slice(&self) -> &[Row]
