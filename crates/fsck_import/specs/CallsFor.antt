@@ -1,13 +1,19 @@
--- The calls that tell a manager of a cluster.
-use Rattle.std.specs.Prelude.{ℕ, ◌==◌, List, ◌++◌, map, filter}
+-- The calls that make a manager know a cluster.
+use Rattle.std.specs.Prelude.{ℕ, ◌/◌, ◌==◌, max, List, ◌∷◌, ◌++◌, map, filter, length, take, drop, Option, Some, None}
+use Rattle.std.specs.List.{flat_map}
 use Rattle.bm_base.specs.declared.call.Call.{Call}
 use Rattle.bm_base.specs.declared.call.Call.TheVariants as call
-use Rattle.bm_base.specs.declared.event.Event.TheVariants.{Register, Heartbeat, FullReport}
+use Rattle.bm_base.specs.declared.event.Entry.{Entry}
+use Rattle.bm_base.specs.declared.event.Event.TheVariants.{Register, Heartbeat, AddBlock, FullReport, Received, Corrupt, Drain}
 use Rattle.bm_base.specs.declared.event.Remaining.{Remaining}
-use Rattle.fsck_import.specs.Blocks.{add}
-use Rattle.fsck_import.specs.declared.rows.Row.{Row}
-use Rattle.fsck_import.specs.declared.cluster.NodeRow.{NodeRow}
-use Rattle.fsck_import.specs.declared.cluster.Cluster.{Cluster}
+use Rattle.bm_base.specs.declared.limits.TheConstants.{MAX_ENTRIES}
+use Rattle.bm_base.specs.declared.replica.BlockInfo.{BlockInfo}
+use Rattle.fsck_files.specs.Numbers.{has_number}
+use Rattle.fsck_cluster.specs.declared.cluster.Bad.{Bad}
+use Rattle.fsck_cluster.specs.declared.cluster.Cluster.{Cluster}
+use Rattle.fsck_cluster.specs.declared.cluster.NodeRow.{NodeRow}
+use Rattle.fsck_cluster.specs.declared.rows.Held.{Held}
+use Rattle.fsck_cluster.specs.declared.rows.Row.{Row}
 
 -- the numbers of the storages of a node
 abbrev pub storages_of : List Row → ℕ → List ℕ
@@ -17,19 +23,59 @@ storages_of rows node = map (λ row. row.number) (filter (λ row. row.node == no
 abbrev pub register : List Row → NodeRow → Call
 register rows node = call.Apply (Register node.number node.rack (storages_of rows node.number))
 
--- each of these storages has so many bytes remaining
+-- the free bytes of a storage, of which its node has so many: those of the node parted evenly, or those of the option
+abbrev pub free_on : ℕ → Option ℕ → ℕ → ℕ
+free_on remaining (Some bytes) storages = bytes / max 1 storages
+free_on remaining None storages = remaining
+
+-- each of these storages has so many free bytes
 abbrev pub remaining_on : ℕ → List ℕ → List Remaining
-remaining_on remaining storages = map (λ storage. record { storage = storage; remaining = remaining }) storages
+remaining_on bytes storages = map (λ storage. record { storage = storage; remaining = bytes }) storages
 
 -- what is free on the storages of a node
 abbrev pub heartbeat : List Row → ℕ → NodeRow → Call
-heartbeat rows remaining node = call.Apply (Heartbeat node.number (remaining_on remaining (storages_of rows node.number)))
+heartbeat rows remaining node =
+    let storages = storages_of rows node.number in
+    call.Apply (Heartbeat node.number (remaining_on (free_on remaining node.remaining (length storages)) storages))
 
--- all replicas on a storage
-abbrev pub report : Row → Call
-report row = call.Apply (FullReport row.number row.runs)
+-- a block is added
+abbrev pub add : ℕ × BlockInfo → Call
+add b = call.Apply (AddBlock b.0 b.1.stamp b.1.repl)
 
--- nodes with their storages, what is free there, blocks, and then reports: no replica is told before its block
+-- a replica, as an entry of a report
+abbrev pub entry : Held → Entry
+entry h = record { from = h.id; to = h.id; stamp = h.stamp }
+
+-- a replica is received
+abbrev pub received : ℕ → Held → Call
+received storage h = call.Apply (Received storage h.id h.stamp)
+
+-- all replicas on a storage: as many as fit into a report, and then each of the others
+abbrev pub reports : Row → List Call
+reports row =
+    call.Apply (FullReport row.number (map entry (take MAX_ENTRIES row.held))) ∷ map (received row.number) (drop MAX_ENTRIES row.held)
+
+-- a replica is found corrupt
+abbrev pub corrupt : Bad → Call
+corrupt b = call.Apply (Corrupt b.storage b.id)
+
+-- a node is decommissioned
+abbrev pub drain : NodeRow → Call
+drain node = call.Apply (Drain node.number)
+
+-- nodes with their storages, what is free there, and blocks
+abbrev pub calls_before : Cluster → ℕ → List Call
+calls_before c remaining =
+    map (register c.rows) c.node_rows ++ map (heartbeat c.rows remaining) c.node_rows ++ map add c.blocks
+
+-- the nodes that are being decommissioned, or have been
+abbrev pub draining : Cluster → List NodeRow
+draining c = filter (λ node. has_number c.draining node.number) c.node_rows
+
+-- replicas, those of them that are corrupt, and nodes that are decommissioned
+abbrev pub calls_after : Cluster → List Call
+calls_after c = flat_map reports c.rows ++ map corrupt c.bad ++ map drain (draining c)
+
+-- no replica comes before its block, and none is called corrupt before it is reported
 abbrev pub calls_for : Cluster → ℕ → List Call
-calls_for c remaining =
-    map (register c.rows) c.node_rows ++ map (heartbeat c.rows remaining) c.node_rows ++ map add c.blocks ++ map report c.rows
+calls_for c remaining = calls_before c remaining ++ calls_after c

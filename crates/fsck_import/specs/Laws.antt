@@ -1,37 +1,78 @@
--- What holds of the calls for a cluster: each block that a text names is added once, all adds stand before the first report, and each place that
--- a text tells is reported once.
-use Rattle.std.specs.Prelude.{◌≡◌, ◌≤◌, ◌&&◌, ℕ, Bool, true, false, nat_eq, List, [], ◌∷◌, ◌++◌, map, count_by, Result, Ok}
+-- What holds of the calls for the blocks of a text: each block is added once, before any replica; each replica of it is reported once, and nothing else is; the corrupt ones are called corrupt, and no other; and the nodes of the drained ones drain.
+use Rattle.std.specs.Prelude.{◌≡◌, ◌≤◌, ◌&&◌, ◌||◌, ℕ, Bool, true, false, nat_eq, List, [], ◌∷◌, ◌++◌, map, filter, count_by, Result, Ok}
 use Rattle.std.specs.List.{flat_map, list_any}
+use Rattle.std.specs.List.Sorted.{IsPermutation}
 use Rattle.std.specs.Str.{bytes_eq}
 use Rattle.bm_base.specs.Entries.{Told, expanded}
-use Rattle.bm_base.specs.declared.replica.Stamp.{Stamp}
+use Rattle.bm_base.specs.Lists.{has_repeats}
 use Rattle.bm_base.specs.declared.call.Call.{Call}
 use Rattle.bm_base.specs.declared.call.Call.TheVariants as call
-use Rattle.bm_base.specs.declared.event.Event.TheVariants.{AddBlock, FullReport}
-use Rattle.bm_lines.specs.Lines.{lines_of}
-use Rattle.fsck_import.specs.Cuts.{Text}
-use Rattle.fsck_import.specs.Names.{name_of}
-use Rattle.fsck_import.specs.Words.{words_of}
-use Rattle.fsck_import.specs.Lines.{line_said}
-use Rattle.fsck_import.specs.declared.word.Word.{Word}
-use Rattle.fsck_import.specs.declared.word.Word.TheVariants as word
-use Rattle.fsck_import.specs.declared.line.Said.{Said}
-use Rattle.fsck_import.specs.declared.line.Said.TheVariants as said
-use Rattle.fsck_import.specs.declared.line.Refusal.{Refusal}
+use Rattle.bm_base.specs.declared.event.Event.TheVariants.{AddBlock, FullReport, Received, Corrupt, Drain}
+use Rattle.fsck_text.specs.Cuts.{Text}
+use Rattle.fsck_text.specs.Wrongs.{after_ok}
+use Rattle.fsck_text.specs.declared.list.Listed.{Listed}
+use Rattle.fsck_files.specs.Replicas.{state_of}
+use Rattle.fsck_files.specs.declared.replicas.Block.{Block}
+use Rattle.fsck_files.specs.declared.replicas.State.{State}
+use Rattle.fsck_files.specs.declared.replicas.State.TheVariants as state
+use Rattle.fsck_cluster.specs.Clusters.{After, after_block}
+use Rattle.fsck_cluster.specs.Names.{name_of}
+use Rattle.fsck_cluster.specs.declared.cluster.Cluster.{Cluster}
+use Rattle.fsck_import.specs.CallsFor.{calls_for}
 
--- the number of the block that is told, where one is
-abbrev pub number_said : Result Said Refusal → List ℕ
-number_said (Ok (said.Block told)) = told.id ∷ []
-number_said _ = []
+-- with these blocks, one after another
+abbrev pub after_blocks : Cluster → List Block → After
+after_blocks c [] = Ok c
+after_blocks c (b ∷ blocks) = after_ok (λ d. after_blocks d blocks) (after_block c b)
 
-abbrev pub number_in : Text → List ℕ
-number_in line = number_said (line_said line (words_of line))
+-- a cluster in which no block and no storage is
+pub record IsFresh (c : Cluster) : Type 0 where
+  pub storages : c.storages ≡ []
+  pub rows : c.rows ≡ []
+  pub blocks : c.blocks ≡ []
+  pub bad : c.bad ≡ []
 
--- the numbers of the blocks that the lines of a text name, in order
-abbrev pub numbers_named : Text → List ℕ
-numbers_named text = flat_map number_in (lines_of text)
+abbrev pub ids : List Block → List ℕ
+ids blocks = map (λ b. b.id) blocks
 
--- the number of the block that a call adds, where it adds one
+-- a replica: its storage by name, and its block with the stamp
+pub record Replica : Type 0 where
+  pub storage : Text
+  pub told : Told
+
+abbrev pub replica : Text → Told → Replica
+replica storage told = record { storage = storage; told = told }
+
+abbrev pub replica_at : Block → Listed → Replica
+replica_at b l = replica l.place.storage (record { id = b.id; stamp = b.stamp })
+
+-- the replicas of a block, in order
+abbrev pub replicas_of : Block → List Replica
+replicas_of b = map (replica_at b) b.replicas
+
+abbrev pub is_corrupt : Block → Listed → Bool
+is_corrupt b l = is_bad (state_of l.mark b.is_corrupt)
+  where
+    is_bad : State → Bool
+    is_bad state.Corrupt = true
+    is_bad _ = false
+
+-- the corrupt replicas of a block: storage and block
+abbrev pub corrupt_of : Block → List (Text × ℕ)
+corrupt_of b = map (λ l. (l.place.storage, b.id)) (filter (is_corrupt b) b.replicas)
+
+abbrev pub is_drained : Block → Listed → Bool
+is_drained b l = drains (state_of l.mark b.is_corrupt)
+  where
+    drains : State → Bool
+    drains state.Drained = true
+    drains _ = false
+
+-- the nodes of the drained replicas of a block
+abbrev pub drained_of : Block → List Text
+drained_of b = map (λ l. l.place.address) (filter (is_drained b) b.replicas)
+
+-- the number of the block that a call adds, if it adds one
 abbrev pub number_added : Call → List ℕ
 number_added (call.Apply (AddBlock id stamp repl)) = id ∷ []
 number_added _ = []
@@ -39,50 +80,45 @@ number_added _ = []
 abbrev pub numbers_added : List Call → List ℕ
 numbers_added calls = flat_map number_added calls
 
-abbrev pub is_report : Call → Bool
-is_report (call.Apply (FullReport storage entries)) = true
-is_report _ = false
-
--- all adds stand before the first report: no report is among the calls of a first part, and no add behind it
-pub record AddsFirst (calls : List Call) : Type 0 where
-  pub before : List Call
-  pub behind : List Call
-  pub parts : calls ≡ before ++ behind
-  pub no_report : list_any is_report before ≡ false
-  pub no_add : numbers_added behind ≡ []
-
--- a replica: its storage by name, and its block with the stamp
-pub record Replica : Type 0 where
-  pub storage : Text
-  pub told : Told
-
--- the replica of a block at the place that a word tells
-abbrev pub replica_at : ℕ → Stamp → Word → List Replica
-replica_at id stamp (word.Place p) = record { storage = p.place.storage; told = record { id = id; stamp = stamp } } ∷ []
-replica_at id stamp _ = []
-
--- the replicas at the places that are among the words of a block's line
-abbrev pub replicas_said : List Word → Result Said Refusal → List Replica
-replicas_said words (Ok (said.Block told)) = flat_map (replica_at told.id told.stamp) words
-replicas_said words _ = []
-
-abbrev pub replicas_in : Text → List Replica
-replicas_in line = replicas_said (words_of line) (line_said line (words_of line))
-
--- the replicas that the places of a text tell, in order
-abbrev pub replicas_told : Text → List Replica
-replicas_told text = flat_map replicas_in (lines_of text)
-
-abbrev pub on_storage : Text → Told → Replica
-on_storage storage told = record { storage = storage; told = told }
-
--- the replicas that a call reports, where it is a report, by these names of storages
+-- the replicas that a call reports, by these names of storages
 abbrev pub replicas_by : List Text → Call → List Replica
-replicas_by names (call.Apply (FullReport storage entries)) = map (on_storage (name_of names storage)) (expanded entries)
+replicas_by names (call.Apply (FullReport storage entries)) = map (replica (name_of names storage)) (expanded entries)
+replicas_by names (call.Apply (Received storage id stamp)) = replica (name_of names storage) (record { id = id; stamp = stamp }) ∷ []
 replicas_by names _ = []
 
 abbrev pub replicas_reported : List Text → List Call → List Replica
 replicas_reported names calls = flat_map (replicas_by names) calls
+
+-- the replica that a call calls corrupt
+abbrev pub corrupt_by : List Text → Call → List (Text × ℕ)
+corrupt_by names (call.Apply (Corrupt storage id)) = (name_of names storage, id) ∷ []
+corrupt_by names _ = []
+
+abbrev pub called_corrupt : List Text → List Call → List (Text × ℕ)
+called_corrupt names calls = flat_map (corrupt_by names) calls
+
+-- the node that a call decommissions
+abbrev pub drained_by : List Text → Call → List Text
+drained_by names (call.Apply (Drain node)) = name_of names node ∷ []
+drained_by names _ = []
+
+abbrev pub drained : List Text → List Call → List Text
+drained names calls = flat_map (drained_by names) calls
+
+-- whether a call is about a replica
+abbrev pub is_about_replicas : Call → Bool
+is_about_replicas (call.Apply (FullReport storage entries)) = true
+is_about_replicas (call.Apply (Received storage id stamp)) = true
+is_about_replicas (call.Apply (Corrupt storage id)) = true
+is_about_replicas _ = false
+
+-- all adds come before the first call about a replica
+pub record AddsFirst (calls : List Call) : Type 0 where
+  pub before : List Call
+  pub behind : List Call
+  pub parts : calls ≡ before ++ behind
+  pub no_replica : list_any is_about_replicas before ≡ false
+  pub no_add : numbers_added behind ≡ []
 
 -- whether it is a replica of this block on this storage
 abbrev pub is_replica : Text → ℕ → Replica → Bool
@@ -91,3 +127,18 @@ is_replica storage id r = bytes_eq storage r.storage && nat_eq id r.told.id
 -- no storage has two replicas of one block
 abbrev pub EachOnce : List Replica → Type 0
 EachOnce replicas = (storage : Text) (id : ℕ) → count_by (is_replica storage id) replicas ≤ 1
+
+-- the calls for a cluster tell of these blocks, and of nothing else
+pub record TellsBlocks (blocks : List Block) (c : Cluster) (remaining : ℕ) : Type 0 where
+  -- each is added, and once
+  pub added : numbers_added (calls_for c remaining) ≡ ids blocks
+  pub once : has_repeats (ids blocks) ≡ false
+  pub adds_first : AddsFirst (calls_for c remaining)
+  -- the replicas that are reported are theirs, and none is reported twice
+  pub reported : IsPermutation (flat_map replicas_of blocks) (replicas_reported c.storages (calls_for c remaining))
+  pub reported_once : EachOnce (replicas_reported c.storages (calls_for c remaining))
+  -- those that are called corrupt are the corrupt ones
+  pub corrupt : called_corrupt c.storages (calls_for c remaining) ≡ flat_map corrupt_of blocks
+  -- the node of each drained replica drains
+  pub drained : (address : Text) → list_any (bytes_eq address) (flat_map drained_of blocks) ≡ true
+      → list_any (bytes_eq address) (drained c.nodes (calls_for c remaining)) ≡ true

@@ -1,5 +1,0 @@
-use Rattle.fsck_import.proofs.CutLemmas.{last_cut_at-from}
-use Rattle.fsck_import.proofs.cuts.last_cut_at.Goals as goal
-
-pub returns : goal.returns
-returns c = last_cut_at-from c.args.mark c.args.text.now c.rsplit_once.result c.rsplit_once.ensures.cases c.requires

@@ -1,7 +1,0 @@
-use Rattle.std.proofs.Common.{◌≡◌, drop}
-use Rattle.fsck_import.specs.Cuts.{number_of, number_after}
-use Rattle.fsck_import.proofs.cuts.number_of.Given as goal
-
--- the digits that are left follow those of the value
-abbrev pub invariant-loop-digit : goal.invariant-loop-digit
-invariant-loop-digit l = number_of l.text ≡ number_after l.value (drop l.digit-index l.text)

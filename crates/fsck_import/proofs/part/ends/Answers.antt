@@ -1,5 +1,0 @@
-use Rattle.std.proofs.lemmas.Str.Pattern.{ends_text}
-use Rattle.fsck_import.proofs.part.ends.Goals as goal
-
-pub returns : goal.returns
-returns c = ends_text _ c.args.text.now c.args.line.now c.ends_with.ensures.cases
