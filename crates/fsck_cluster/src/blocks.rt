@@ -1,5 +1,5 @@
 // The blocks, in order.
-ghost use Rattle.std.specs.Prelude.{◌≡◌, length, not, IfOk, if◌then◌else◌, []};
+ghost use Rattle.std.specs.Prelude.{◌≡◌, length, slice_get, not, IfOk, if◌then◌else◌, []};
 ghost use Rattle.fsck_cluster.specs.Blocks.{has_block, with_block};
 
 use bm_base::{BlockId, BlockInfo};
@@ -10,7 +10,7 @@ use std::marker::Model;
 /// The blocks by their numbers, found by hash.
 #[derive(Drop)]
 pub struct Blocks {
-    pub map: IndexMap<u64, BlockInfo>,
+    map: IndexMap<u64, BlockInfo>,
 }
 
 impl Model for Blocks {
@@ -42,5 +42,19 @@ impl Blocks {
         }
         self.map.insert(id.0, info)?;
         Ok(true)
+    }
+
+    pub fn len(&self) -> usize
+        ensures { result ≡ length self.now }
+    {
+        self.map.len()
+    }
+
+    /// The block at an index.
+    pub fn get(&self, index: usize) -> Option<(BlockId, BlockInfo)>
+        ensures { result ≡ slice_get self.now index }
+    {
+        let (id, info) = self.map.get_index(index)?;
+        Some((BlockId(*id), *info))
     }
 }

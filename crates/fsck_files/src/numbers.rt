@@ -1,5 +1,5 @@
 // A set of numbers.
-ghost use Rattle.std.specs.Prelude.{◌≡◌, [], OnOk, if◌then◌else◌};
+ghost use Rattle.std.specs.Prelude.{◌≡◌, [], length, OnOk};
 ghost use Rattle.fsck_files.specs.Numbers.{has_number, with_number};
 
 use indexmap::IndexSet;
@@ -27,6 +27,12 @@ impl Numbers {
         Numbers {
             set: IndexSet::new(alloc),
         }
+    }
+
+    pub fn len(&self) -> usize
+        ensures { result ≡ length self.now }
+    {
+        self.set.len()
     }
 
     pub fn has(&self, number: u64) -> bool

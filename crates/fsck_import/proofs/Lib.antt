@@ -1,14 +1,17 @@
 -- Lemmas.
-pub mod CutLemmas
-pub mod NameLemmas
-pub mod BlockLemmas
-pub mod RunLemmas
 pub mod TextLemmas
 pub mod ReadLemmas
 pub mod WriteLemmas
-pub mod CallLemmas
-pub mod ReplicaLemmas
-pub mod ToldLemmas
-pub mod NamedLemmas
-pub mod TableLemmas
 pub mod OptionLemmas
+pub mod CallLemmas
+pub mod NameLemmas
+pub mod StorageLemmas
+pub mod OnceLemmas
+pub mod BadLemmas
+pub mod SoundLemmas
+pub mod ReplicaLemmas
+pub mod BlockLemmas
+pub mod ReportLemmas
+pub mod SpareLemmas
+pub mod TellsLemmas
+pub mod StartLemmas

@@ -1,5 +1,5 @@
 -- What is found for an option is the text that the words give, and why words are refused.
-use Rattle.std.proofs.Common.{◌≡◌, ◌∙◌, ap, sym, subst, true, ℕ, List, [], ◌∷◌, Option, Some, None, inl, inr}
+use Rattle.std.proofs.Common.{◌≡◌, ◌∙◌, ap, sym, subst, true, List, [], ◌∷◌, Option, Some, None, refl, inl, inr}
 use Rattle.clap.specs.Walk.{first_of}
 use Rattle.clap.specs.Words.{first_value, found_of, kind_of}
 use Rattle.clap.specs.Simple.{App, HasMatchesOf, app_of, is_simple, matches_of}
@@ -10,8 +10,9 @@ use Rattle.clap.specs.declared.error.Error.{Error}
 use Rattle.clap.specs.declared.error.kind.ErrorKind.TheVariants.{ValueValidation}
 use Rattle.clap.specs.declared.parser.matches.ArgMatches.{ArgMatches}
 use Rattle.clap.proofs.WalkLemmas.{first_value-rows}
-use Rattle.fsck_import.specs.Cuts.{Text}
-use Rattle.fsck_import.specs.Options.{given, number_kinds, program}
+use Rattle.fsck_text.specs.Cuts.{Text}
+use Rattle.fsck_import.specs.Options.{given, value_kinds, values_of, program}
+use Rattle.fsck_import.specs.declared.options.Values.{Values}
 
 -- the text that is found for an option is the one that the words give
 pub found : (words : List Text) (cmd : Command) (m : ArgMatches) → app_of cmd ≡ program → HasMatchesOf (app_of cmd) words m → (name : Text)
@@ -19,7 +20,7 @@ pub found : (words : List Text) (cmd : Command) (m : ArgMatches) → app_of cmd 
 found words cmd m is h name =
     first_value-rows (found_of m) name ∙ ap (first_of name) ((h (ap is_simple is)).0 ∙ ap (λ (a : App). matches_of a words) is)
 
--- where the parse takes the words, nothing of them is refused but a text that is no number
+-- where the parse takes the words, nothing of them is refused but a value that is none of its option
 pub taken : (words : List Text) (cmd : Command) → app_of cmd ≡ program → (is_simple_and_free (app_of cmd) ≡ true → fault_of (app_of cmd) words ≡ [])
     → (next : Kinds) → or_else (fault_of program words) next ≡ next
 taken words cmd is none next =
@@ -36,7 +37,11 @@ pub refused : (words : List Text) (cmd : Command) (e : Error) → app_of cmd ≡
 refused words cmd e is h next =
     first_kinds (fault_of program words) next e (subst (λ (a : App). HasKind (fault_of a words) e) is (h (ap is_simple_and_free is)))
 
--- a text that is no number is refused as such
-pub no_number : (n : Option ℕ) (e : Error) → None ≡ n → kind_of e ≡ ValueValidation → HasKind (number_kinds n) e
-no_number None e none kind = inr (inl kind)
-no_number (Some n) e none kind = cc
+-- a value that is none of its option is refused as such
+pub wrong_value : (n : Option Values) (e : Error) → None ≡ n → kind_of e ≡ ValueValidation → HasKind (value_kinds n) e
+wrong_value None e none kind = inr (inl kind)
+wrong_value (Some n) e none kind = cc
+
+-- values by texts that are the same
+pub values_found : (a b c d e f : Option Text) → a ≡ b → c ≡ d → e ≡ f → values_of a c e ≡ values_of b d f
+values_found a b c d e f x y z = rw (x, y, z) refl

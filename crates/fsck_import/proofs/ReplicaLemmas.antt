@@ -1,210 +1,171 @@
--- The replicas in the reports of storages.
-use Rattle.std.proofs.Common.{◌≡◌, ℕ, zero, suc, ◌+◌, ◌≤◌, ◌==◌, ◌&&◌, ◌||◌, Bool, true, false, not, cond, List, [], ◌∷◌, ◌++◌, Option, Some, None, map, length, refl, sym, ap, subst, ◌∙◌, append_assoc, arith, true≢false, inl, inr, if◌then◌else◌}
-use Rattle.std.specs.Prelude.{⊤, slice_get, slice_set}
-use Rattle.std.specs.List.{flat_map, list_any, position_or_len}
-use Rattle.std.specs.List.Sorted.{IsPermutation}
+-- A replica that a cluster takes.
+use Rattle.std.proofs.Common.{◌≡◌, ℕ, ◌-◌, ◌<◌, Bool, true, false, cond, nat_eq, List, [], ◌∷◌, ◌++◌, Ok, map, filter, length, refl, sym, ap, subst, ◌∙◌, append_assoc, arith}
+use Rattle.std.specs.Prelude.{slice_get, slice_set, slice_index_or}
+use Rattle.std.specs.List.{list_any, position_or_len, AllByRecursion}
 use Rattle.std.specs.Option.{option_map_or}
 use Rattle.std.specs.Str.{bytes_eq}
-use Rattle.std.proofs.lemmas.Bool.Decides.{eqb_tells}
-use Rattle.std.proofs.lemmas.Slice.Eq.{bytes_eq-Decides}
 use Rattle.std.proofs.lemmas.List.{append-nil}
-use Rattle.std.proofs.lemmas.List.Sorted.{IsPermutation-append_right, IsPermutation-append_comm}
-use Rattle.bm_base.specs.Entries.{Told, count_up, run_length, told_by, expanded}
-use Rattle.bm_base.specs.declared.event.Entry.{Entry}
-use Rattle.bm_base.specs.declared.replica.Stamp.{Stamp}
-use Rattle.fsck_import.specs.Cuts.{Text}
-use Rattle.fsck_import.specs.Runs.{follows, through, joined, one, with_replica}
-use Rattle.fsck_import.specs.Rows.{new_row, with_replica_at}
-use Rattle.fsck_import.specs.Laws.{Replica, on_storage}
-use Rattle.fsck_import.specs.declared.rows.Row.{Row}
+use Rattle.fsck_text.specs.Cuts.{Text}
+use Rattle.fsck_text.specs.declared.list.Listed.{Listed}
+use Rattle.fsck_files.specs.Replicas.{state_of}
+use Rattle.fsck_files.specs.declared.replicas.Block.{Block}
+use Rattle.fsck_files.specs.declared.replicas.State.{State}
+use Rattle.fsck_files.specs.declared.replicas.State.TheVariants as state
+use Rattle.fsck_cluster.specs.Clusters.{after_node, after_storage, with_replica, with_state, on_row, after_replica, after_place, after_places}
+use Rattle.fsck_cluster.specs.Names.{name_of}
+use Rattle.fsck_cluster.specs.Rows.{ends_with, with_held_at}
+use Rattle.fsck_cluster.specs.declared.cluster.Cluster.{Cluster}
+use Rattle.fsck_cluster.specs.declared.cluster.Why.TheVariants as why
+use Rattle.fsck_cluster.specs.declared.rows.Held.{Held}
+use Rattle.fsck_cluster.specs.declared.rows.Row.{Row}
+use Rattle.fsck_import.specs.Laws.{replica_at, is_bad, is_corrupt, drains, is_drained}
+use Rattle.fsck_import.proofs.NameLemmas.{same_ok, if_not, came_of, position-known, name-at, known_below}
+use Rattle.fsck_import.proofs.StorageLemmas.{Stored, held_at, holding, stored_replica, all-set, all-get}
+use Rattle.fsck_import.proofs.OnceLemmas.{Once, once_more}
+use Rattle.fsck_import.proofs.BadLemmas.{Corrupted, corrupted_more, Drains, drains_more}
+use Rattle.fsck_import.proofs.SoundLemmas.{OnNode, Taken, Sound, Ready, node_sound, storage_sound}
 
-abbrev pub told_of : Stamp → ℕ → Told
-told_of stamp id = record { id = id; stamp = stamp }
+-- One replica.
 
--- Runs.
+abbrev pub bad_name : Block → Listed → Text × ℕ
+bad_name b l = (l.place.storage, b.id)
 
-one_told : (id : ℕ) (stamp : Stamp) → told_by (one id stamp) ≡ told_of stamp id ∷ []
-unfolding told_by
-one_told id stamp = let n : run_length (one id stamp) ≡ 1 = omega arith in ap (λ k. map (told_of stamp) (count_up id k)) n
+abbrev pub address_of : Listed → Text
+address_of l = l.place.address
 
-count_push : (n k : ℕ) → count_up n (suc k) ≡ count_up n k ++ (n + k) ∷ []
-count_push n zero = let e : n ≡ n + 0 = omega arith in ap (λ m. m ∷ []) e
-count_push n (suc k) = let e : suc n + k ≡ n + suc k = omega arith in ap (λ xs. n ∷ xs) (count_push (suc n) k ∙ ap (λ m. count_up (suc n) k ++ m ∷ []) e)
+-- with a replica
+abbrev pub with_listed : Taken → Block → Listed → Taken
+with_listed t b l = record t { replicas = t.replicas ++ replica_at b l ∷ [] }
 
-map-push : {A B : Type 0} (f : A → B) (xs : List A) (x : A) → map f (xs ++ x ∷ []) ≡ map f xs ++ f x ∷ []
-map-push f [] x = refl
-map-push f (y ∷ xs) x = ap (λ ys. f y ∷ ys) (map-push f xs x)
-
-and_parts : (a b : Bool) → (a && b) ≡ true → (a ≡ true) × (b ≡ true)
-and_parts true b h = (refl, h)
-and_parts false b h = absurd (true≢false (sym h))
-
-same_number : (a b : ℕ) → (a == b) ≡ true → a ≡ b
-same_number a b h = elim (eqb_tells a b) [ inl e ↦ e.1 | inr e ↦ absurd (true≢false (sym h ∙ e.0)) ]
-
-same_stamp : (a b : Stamp) → a.generation ≡ b.generation → a.len ≡ b.len → a ≡ b
-same_stamp a b e f = ap (λ g. record { generation = g; len = a.len }) e ∙ ap (λ l. record { generation = b.generation; len = l }) f
-
--- a run that goes on with one more block
-through_told : (last : Entry) (id : ℕ) (stamp : Stamp) → last.from ≤ last.to → follows last (one id stamp) ≡ true → told_by (through last (one id stamp)) ≡ told_by last ++ told_of stamp id ∷ []
-unfolding told_by
-through_told last id stamp forward h =
-    let parts = and_parts (last.to + 1 == id) ((last.stamp.generation == stamp.generation) && (last.stamp.len == stamp.len)) h in
-    let stamps = and_parts (last.stamp.generation == stamp.generation) (last.stamp.len == stamp.len) parts.1 in
-    let next : last.to + 1 ≡ id = same_number (last.to + 1) id parts.0 in
-    let stamp_is : last.stamp ≡ stamp = same_stamp last.stamp stamp (same_number last.stamp.generation stamp.generation stamps.0) (same_number last.stamp.len stamp.len stamps.1) in
-    let longer : run_length (through last (one id stamp)) ≡ suc (run_length last) = omega (arith, next, forward) in
-    let end : last.from + run_length last ≡ id = omega (arith, next, forward) in
-    ap (λ k. map (told_of stamp) (count_up last.from k)) longer
-    ∙ ap (map (told_of stamp)) (count_push last.from (run_length last))
-    ∙ map-push (told_of stamp) (count_up last.from (run_length last)) (last.from + run_length last)
-    ∙ ap (λ m. map (told_of stamp) (count_up last.from (run_length last)) ++ told_of stamp m ∷ []) end
-    ∙ ap (λ s. map (told_of s) (count_up last.from (run_length last)) ++ told_of stamp id ∷ []) (sym stamp_is)
-
-joined_told : (last : Entry) (id : ℕ) (stamp : Stamp) → last.from ≤ last.to → expanded (joined last (one id stamp)) ≡ told_by last ++ told_of stamp id ∷ []
-unfolding expanded
-joined_told last id stamp forward = by (follows last (one id stamp)) refl
-  where
-    by : (b : Bool) → follows last (one id stamp) ≡ b → flat_map told_by (if b then through last (one id stamp) ∷ [] else last ∷ one id stamp ∷ []) ≡ told_by last ++ told_of stamp id ∷ []
-    by true e = append-nil (told_by (through last (one id stamp))) ∙ through_told last id stamp forward e
-    by false e = ap (λ t. told_by last ++ t) (append-nil (told_by (one id stamp)) ∙ one_told id stamp)
-
--- runs that do not end before they begin
-abbrev pub Forward : List Entry → Type 0
-Forward [] = ⊤
-Forward (e ∷ es) = (e.from ≤ e.to) × Forward es
-
-joined_forward : (last : Entry) (id : ℕ) (stamp : Stamp) → last.from ≤ last.to → Forward (joined last (one id stamp))
-joined_forward last id stamp forward = by (follows last (one id stamp)) refl
-  where
-    by : (b : Bool) → follows last (one id stamp) ≡ b → Forward (if b then through last (one id stamp) ∷ [] else last ∷ one id stamp ∷ [])
-    by true e = (let next : last.to + 1 ≡ id = same_number (last.to + 1) id (and_parts (last.to + 1 == id) _ e).0 in omega (arith, next, forward), tt)
-    by false e = (forward, (omega arith, tt))
-
--- a report with one more replica tells it last
-replica_told : (es : List Entry) (id : ℕ) (stamp : Stamp) → Forward es → expanded (with_replica es id stamp) ≡ expanded es ++ told_of stamp id ∷ []
-unfolding expanded
-replica_told [] id stamp h = append-nil (told_by (one id stamp)) ∙ one_told id stamp
-replica_told (last ∷ []) id stamp h = joined_told last id stamp h.0 ∙ ap (λ t. t ++ told_of stamp id ∷ []) (sym (append-nil (told_by last)))
-replica_told (e ∷ f ∷ es) id stamp h = ap (λ t. told_by e ++ t) (replica_told (f ∷ es) id stamp h.1) ∙ sym (append_assoc (told_by e) (expanded (f ∷ es)) (told_of stamp id ∷ []))
-
-replica_forward : (es : List Entry) (id : ℕ) (stamp : Stamp) → Forward es → Forward (with_replica es id stamp)
-replica_forward [] id stamp h = (omega arith, tt)
-replica_forward (last ∷ []) id stamp h = joined_forward last id stamp h.0
-replica_forward (e ∷ f ∷ es) id stamp h = (h.0, replica_forward (f ∷ es) id stamp h.1)
-
--- Storages.
-
--- the replicas on a storage of this name
-abbrev pub on_row : Text → Row → List Replica
-on_row name row = map (on_storage name) (expanded row.runs)
-
--- the replicas on the storages of these names
-abbrev pub on_rows : List Row → List Text → List Replica
-on_rows [] names = []
-on_rows (row ∷ rows) [] = []
-on_rows (row ∷ rows) (name ∷ names) = on_row name row ++ on_rows rows names
-
--- storages numbered from n on, one for each name
-abbrev pub Fit : ℕ → List Row → List Text → Type 0
-Fit n [] [] = ⊤
-Fit n [] (name ∷ names) = ⊥
-Fit n (row ∷ rows) [] = ⊥
-Fit n (row ∷ rows) (name ∷ names) = (row.number ≡ n) × Forward row.runs × Fit (n + 1) rows names
-
-pub fit_push : (n : ℕ) (rows : List Row) (names : List Text) (k node : ℕ) (name : Text) → k ≡ n + length names → Fit n rows names → Fit n (rows ++ new_row k node ∷ []) (names ++ name ∷ [])
-fit_push n [] [] k node name e h = (omega (arith, e), tt, tt)
-fit_push n [] (x ∷ names) k node name e h = absurd h
-fit_push n (row ∷ rows) [] k node name e h = absurd h
-fit_push n (row ∷ rows) (x ∷ names) k node name e h = (h.0, h.1, fit_push (n + 1) rows names k node name (omega (arith, e)) h.2)
-
--- a new storage has no replicas
-pub rows_push : (n : ℕ) (rows : List Row) (names : List Text) (k node : ℕ) (name : Text) → Fit n rows names → on_rows (rows ++ new_row k node ∷ []) (names ++ name ∷ []) ≡ on_rows rows names
-unfolding expanded
-rows_push n [] [] k node name h = refl
-rows_push n [] (x ∷ names) k node name h = absurd h
-rows_push n (row ∷ rows) [] k node name h = absurd h
-rows_push n (row ∷ rows) (x ∷ names) k node name h = ap (λ t. on_row x row ++ t) (rows_push (n + 1) rows names k node name h.2)
-
-behind_row : (row : Row) (rows : List Row) (k id : ℕ) (stamp : Stamp) → with_replica_at (row ∷ rows) (suc k) id stamp ≡ row ∷ with_replica_at rows k id stamp
-behind_row row rows k id stamp = by (slice_get rows k)
-  where
-    by : (o : Option Row) → option_map_or (λ r. slice_set (row ∷ rows) (suc k) (record r { runs = with_replica r.runs id stamp })) o (row ∷ rows)
-        ≡ row ∷ option_map_or (λ r. slice_set rows k (record r { runs = with_replica r.runs id stamp })) o rows
-    by None = refl
-    by (Some r) = refl
-
--- one more replica on the storage of a name, which is among the names
-pub record Added (n : ℕ) (rows more : List Row) (names : List Text) (r : Replica) : Type 0 where
-  pub told : IsPermutation (on_rows rows names ++ r ∷ []) (on_rows more names)
-  pub fits : Fit n more names
-
-added_first : (n : ℕ) (row : Row) (rows : List Row) (x name : Text) (names : List Text) (id : ℕ) (stamp : Stamp) → name ≡ x → Fit n (row ∷ rows) (x ∷ names)
-    → Added n (row ∷ rows) (record row { runs = with_replica row.runs id stamp } ∷ rows) (x ∷ names) (on_storage name (told_of stamp id))
-added_first n row rows x name names id stamp e h =
-    let here = on_row x row in
-    let others = on_rows rows names in
-    let r : Replica = on_storage x (told_of stamp id) in
-    let more : on_row x (record row { runs = with_replica row.runs id stamp }) ≡ here ++ r ∷ [] = ap (map (on_storage x)) (replica_told row.runs id stamp h.1) ∙ map-push (on_storage x) (expanded row.runs) (told_of stamp id) in
-    let moved : IsPermutation (here ++ (others ++ r ∷ [])) (here ++ (r ∷ [] ++ others)) = IsPermutation-append_right here (others ++ r ∷ []) (r ∷ [] ++ others) (IsPermutation-append_comm others (r ∷ [])) in
-    record {
-      told = subst (λ t. IsPermutation ((here ++ others) ++ on_storage t (told_of stamp id) ∷ []) (on_row x (record row { runs = with_replica row.runs id stamp }) ++ others)) (sym e)
-          (subst (λ t. IsPermutation ((here ++ others) ++ r ∷ []) (t ++ others)) (sym more)
-          (subst (λ t. IsPermutation t ((here ++ r ∷ []) ++ others)) (sym (append_assoc here others (r ∷ [])))
-          (subst (IsPermutation (here ++ (others ++ r ∷ []))) (sym (append_assoc here (r ∷ []) others)) moved)));
-      fits = (h.0, replica_forward row.runs id stamp h.1, h.2);
-    }
-
-added_behind : (n : ℕ) (row : Row) (rows more : List Row) (x : Text) (names : List Text) (r : Replica) → Fit n (row ∷ rows) (x ∷ names) → Added (n + 1) rows more names r → Added n (row ∷ rows) (row ∷ more) (x ∷ names) r
-added_behind n row rows more x names r h added = record {
-  told = subst (λ t. IsPermutation t (on_row x row ++ on_rows more names)) (sym (append_assoc (on_row x row) (on_rows rows names) (r ∷ [])))
-      (IsPermutation-append_right (on_row x row) (on_rows rows names ++ r ∷ []) (on_rows more names) added.told);
-  fits = (h.0, h.1, added.fits);
+-- with a replica in this state
+abbrev pub with_listed_state : Taken → Block → Listed → State → Taken
+with_listed_state t b l s = record t {
+  replicas = t.replicas ++ replica_at b l ∷ [];
+  bad = t.bad ++ map (bad_name b) (cond (is_bad s) (l ∷ []) []);
+  addresses = t.addresses ++ map address_of (cond (drains s) (l ∷ []) []);
 }
 
-pub added_at : (n : ℕ) (rows : List Row) (names : List Text) (name : Text) (id : ℕ) (stamp : Stamp) → Fit n rows names → list_any (bytes_eq name) names ≡ true
-    → Added n rows (with_replica_at rows (position_or_len (bytes_eq name) names) id stamp) names (on_storage name (told_of stamp id))
-added_at n [] [] name id stamp h known = absurd (true≢false (sym known))
-added_at n [] (x ∷ names) name id stamp h known = absurd h
-added_at n (row ∷ rows) [] name id stamp h known = absurd h
-added_at n (row ∷ rows) (x ∷ names) name id stamp h known =
-    by (bytes_eq name x) refl known (λ k. added_at (n + 1) rows names name id stamp h.2 k)
+-- with these replicas of a block
+abbrev pub with_all : Taken → Block → List Listed → Taken
+with_all t b ls = record t {
+  replicas = t.replicas ++ map (replica_at b) ls;
+  bad = t.bad ++ map (bad_name b) (filter (is_corrupt b) ls);
+  addresses = t.addresses ++ map address_of (filter (is_drained b) ls);
+}
+
+held_sound : (c : Cluster) (t : Taken) (b : Block) (l : Listed) (ready : Ready c l.place) → list_any (nat_eq b.id) t.numbers ≡ true → t.last ≡ b.id → ends_with ready.row b.id ≡ false → Sound c t
+    → Sound (with_replica c (position_or_len (bytes_eq l.place.storage) c.storages) b.id b.stamp) (with_listed t b l)
+held_sound c t b l ready known last new before =
+    let at = position_or_len (bytes_eq l.place.storage) c.storages in
+    let h : Held = record { id = b.id; stamp = b.stamp } in
+    let rows = slice_set c.rows at (holding ready.row h) in
+    let same : rows ≡ with_held_at c.rows at h = sym (held_at c.rows at ready.row h ready.here) in
+    let once : AllByRecursion (Once t.numbers b.id) c.rows = subst (λ n. AllByRecursion (Once t.numbers n) c.rows) last before.once in
+    let more : Once t.numbers b.id (holding ready.row h) = once_more t.numbers ready.row h known new (all-get (Once t.numbers b.id) c.rows at ready.row once ready.here) in
+    record {
+      numbers = before.numbers;
+      apart = before.apart;
+      stored = subst (λ rs. Stored rs c.storages (t.replicas ++ replica_at b l ∷ [])) same (stored_replica c.rows c.storages t.replicas l.place.storage ready.row h ready.known ready.here before.stored);
+      names = before.names;
+      once = subst (λ n. AllByRecursion (Once t.numbers n) (with_held_at c.rows at h)) (sym last) (subst (AllByRecursion (Once t.numbers b.id)) same (all-set (Once t.numbers b.id) c.rows at (holding ready.row h) once more));
+      corrupted = before.corrupted;
+      nodes = before.nodes;
+      on_nodes = subst (AllByRecursion (OnNode (length c.nodes))) same (all-set (OnNode (length c.nodes)) c.rows at (holding ready.row h) before.on_nodes (all-get (OnNode (length c.nodes)) c.rows at ready.row before.on_nodes ready.here));
+      drained = before.drained;
+    }
+
+-- with one more replica in its rows, and then with what the state of the replica says
+state_sound : (c : Cluster) (rows : List Row) (t : Taken) (b : Block) (l : Listed) (ready : Ready c l.place) → OnNode (length c.nodes) ready.row → Sound (record c { rows = rows }) (with_listed t b l)
+    → (s : State) → Sound (with_state (record c { rows = rows }) ready.row b.id s) (with_listed_state t b l s)
+state_sound c rows t b l ready node before state.Good = record {
+  numbers = before.numbers;
+  apart = before.apart;
+  stored = before.stored;
+  names = before.names;
+  once = before.once;
+  corrupted = subst (Corrupted c.storages c.bad) (sym (append-nil t.bad)) before.corrupted;
+  nodes = before.nodes;
+  on_nodes = before.on_nodes;
+  drained = subst (Drains c.nodes c.draining) (sym (append-nil t.addresses)) before.drained;
+}
+state_sound c rows t b l ready node before state.Corrupt =
+    let name : name_of c.storages ready.row.number ≡ l.place.storage =
+    (let at : ready.row.number - 1 ≡ position_or_len (bytes_eq l.place.storage) c.storages = omega (arith, ready.number) in
+    ap (λ n. slice_index_or c.storages n []) at ∙ name-at c.storages l.place.storage ready.known) in
+    let within : ready.row.number - 1 < length c.storages = omega (arith, ready.number, known_below (bytes_eq l.place.storage) c.storages ready.known) in
+    record {
+      numbers = before.numbers;
+      apart = before.apart;
+      stored = before.stored;
+      names = before.names;
+      once = before.once;
+      corrupted = corrupted_more c.storages c.bad t.bad ready.row.number b.id l.place.storage within name before.corrupted;
+      nodes = before.nodes;
+      on_nodes = before.on_nodes;
+      drained = subst (Drains c.nodes c.draining) (sym (append-nil t.addresses)) before.drained;
+    }
+state_sound c rows t b l ready node before state.Drained = record {
+  numbers = before.numbers;
+  apart = before.apart;
+  stored = before.stored;
+  names = before.names;
+  once = before.once;
+  corrupted = subst (Corrupted c.storages c.bad) (sym (append-nil t.bad)) before.corrupted;
+  nodes = before.nodes;
+  on_nodes = before.on_nodes;
+  drained = drains_more c.nodes c.draining t.addresses ready.row.node l.place.address node.0 node.1 ready.on before.drained;
+}
+
+-- a replica whose storage is known
+replica_sound : (c d : Cluster) (t : Taken) (b : Block) (l : Listed) → Ready c l.place → list_any (nat_eq b.id) t.numbers ≡ true → t.last ≡ b.id → after_replica c b l ≡ Ok d → Sound c t
+    → Sound d (with_all t b (l ∷ []))
+replica_sound c d t b l ready known last e before =
+    let at = position_or_len (bytes_eq l.place.storage) c.storages in
+    let e_at : option_map_or (on_row c b l at) (slice_get c.rows at) (Ok c) ≡ Ok d =
+    ap (λ o. option_map_or (λ k. option_map_or (on_row c b l k) (slice_get c.rows k) (Ok c)) o (Ok c)) (sym (position-known (bytes_eq l.place.storage) c.storages ready.known)) ∙ e in
+    let e_row : on_row c b l at ready.row ≡ Ok d = ap (λ o. option_map_or (on_row c b l at) o (Ok c)) (sym ready.here) ∙ e_at in
+    let after = with_state (with_replica c at b.id b.stamp) ready.row b.id (state_of l.mark b.is_corrupt) in
+    let parts = if_not (ends_with ready.row b.id) (Ok after) why.StorageTwice d e_row in
+    let more = held_sound c t b l ready known last parts.0 before in
+    let node : OnNode (length c.nodes) ready.row = all-get (OnNode (length c.nodes)) c.rows at ready.row before.on_nodes ready.here in
+    subst (λ x. Sound x (with_all t b (l ∷ []))) (same_ok after d parts.1)
+    (state_sound c (with_replica c at b.id b.stamp).rows t b l ready node more (state_of l.mark b.is_corrupt))
+
+place_sound : (c d : Cluster) (t : Taken) (b : Block) (l : Listed) → list_any (nat_eq b.id) t.numbers ≡ true → t.last ≡ b.id → after_place c b l ≡ Ok d → Sound c t → Sound d (with_all t b (l ∷ []))
+place_sound c d t b l known last e before =
+    let second = came_of (λ x. after_replica x b l) _ d e in
+    let first = came_of (λ x. after_storage x l.place) (after_node c l.place) second.0 second.1 in
+    let node = node_sound c first.0 t l.place first.1 before in
+    let storage = storage_sound first.0 second.0 t l.place node.1 first.2 node.0 in
+    replica_sound second.0 d t b l storage.1 known last second.2 storage.0
+
+-- Several replicas.
+
+filter-head : {A B : Type 0} (f : A → B) (p : A → Bool) (x : A) (xs : List A) → map f (filter p (x ∷ [])) ++ map f (filter p xs) ≡ map f (filter p (x ∷ xs))
+filter-head f p x xs = by (p x)
   where
-    by : (b : Bool) → bytes_eq name x ≡ b → (b || list_any (bytes_eq name) names) ≡ true
-        → (list_any (bytes_eq name) names ≡ true → Added (n + 1) rows (with_replica_at rows (position_or_len (bytes_eq name) names) id stamp) names (on_storage name (told_of stamp id)))
-        → Added n (row ∷ rows) (with_replica_at (row ∷ rows) (cond (not b) (1 + position_or_len (bytes_eq name) names) 0) id stamp) (x ∷ names) (on_storage name (told_of stamp id))
-    by true e k rest = added_first n row rows x name names id stamp ((bytes_eq-Decides name x).0 e) h
-    by false e k rest =
-        let next : suc (position_or_len (bytes_eq name) names) ≡ 1 + position_or_len (bytes_eq name) names = omega arith in
-        subst (λ at. Added n (row ∷ rows) (with_replica_at (row ∷ rows) at id stamp) (x ∷ names) (on_storage name (told_of stamp id))) next
-        (subst (λ more. Added n (row ∷ rows) more (x ∷ names) (on_storage name (told_of stamp id))) (sym (behind_row row rows (position_or_len (bytes_eq name) names) id stamp))
-        (added_behind n row rows (with_replica_at rows (position_or_len (bytes_eq name) names) id stamp) x names (on_storage name (told_of stamp id)) h (rest k)))
+    by : (b : Bool) → map f (cond b (x ∷ []) []) ++ map f (filter p xs) ≡ map f (cond b (x ∷ filter p xs) (filter p xs))
+    by true = refl
+    by false = refl
 
--- Names.
+with_all-cons : (t : Taken) (b : Block) (l : Listed) (ls : List Listed) → with_all (with_all t b (l ∷ [])) b ls ≡ with_all t b (l ∷ ls)
+with_all-cons t b l ls =
+    ap (λ x. record t { replicas = x; bad = (t.bad ++ map (bad_name b) (filter (is_corrupt b) (l ∷ []))) ++ map (bad_name b) (filter (is_corrupt b) ls); addresses = (t.addresses ++ map address_of (filter (is_drained b) (l ∷ []))) ++ map address_of (filter (is_drained b) ls) })
+    (append_assoc t.replicas (replica_at b l ∷ []) (map (replica_at b) ls))
+    ∙ ap (λ x. record t { replicas = t.replicas ++ map (replica_at b) (l ∷ ls); bad = x; addresses = (t.addresses ++ map address_of (filter (is_drained b) (l ∷ []))) ++ map address_of (filter (is_drained b) ls) })
+    (append_assoc t.bad (map (bad_name b) (filter (is_corrupt b) (l ∷ []))) (map (bad_name b) (filter (is_corrupt b) ls)) ∙ ap (λ x. t.bad ++ x) (filter-head (bad_name b) (is_corrupt b) l ls))
+    ∙ ap (λ x. record t { replicas = t.replicas ++ map (replica_at b) (l ∷ ls); bad = t.bad ++ map (bad_name b) (filter (is_corrupt b) (l ∷ ls)); addresses = x })
+    (append_assoc t.addresses (map address_of (filter (is_drained b) (l ∷ []))) (map address_of (filter (is_drained b) ls)) ∙ ap (λ x. t.addresses ++ x) (filter-head address_of (is_drained b) l ls))
 
-pub known_last : (name : Text) (names : List Text) → list_any (bytes_eq name) (names ++ name ∷ []) ≡ true
-known_last name [] = ap (λ b. b || false) ((bytes_eq-Decides name name).1 refl)
-known_last name (x ∷ names) = by (bytes_eq name x) (known_last name names)
-  where
-    by : (b : Bool) → list_any (bytes_eq name) (names ++ name ∷ []) ≡ true → (b || list_any (bytes_eq name) (names ++ name ∷ [])) ≡ true
-    by true rest = refl
-    by false rest = rest
+with_all-nil : (t : Taken) (b : Block) → with_all t b [] ≡ t
+with_all-nil t b =
+    ap (λ x. record t { replicas = x; bad = t.bad ++ []; addresses = t.addresses ++ [] }) (append-nil t.replicas)
+    ∙ ap (λ x. record t { bad = x; addresses = t.addresses ++ [] }) (append-nil t.bad)
+    ∙ ap (λ x. record t { addresses = x }) (append-nil t.addresses)
 
-or_false : (a b : Bool) → (a || b) ≡ false → (a ≡ false) × (b ≡ false)
-or_false true b h = absurd (true≢false h)
-or_false false b h = (refl, h)
-
--- a new name stands behind all others
-pub new_position : (name : Text) (names : List Text) → list_any (bytes_eq name) names ≡ false → position_or_len (bytes_eq name) names ≡ length names
-new_position name [] h = refl
-new_position name (x ∷ names) h =
-    let both = or_false (bytes_eq name x) (list_any (bytes_eq name) names) h in
-    by (bytes_eq name x) both.0 (new_position name names both.1)
-  where
-    by : (b : Bool) → b ≡ false → position_or_len (bytes_eq name) names ≡ length names → cond (not b) (1 + position_or_len (bytes_eq name) names) 0 ≡ suc (length names)
-    by true e rest = absurd (true≢false e)
-    by false e rest = omega (arith, rest)
-
-pub last_position : (name : Text) (names : List Text) → list_any (bytes_eq name) names ≡ false → position_or_len (bytes_eq name) (names ++ name ∷ []) ≡ position_or_len (bytes_eq name) names
-last_position name [] h = ap (λ b. cond (not b) 1 0) ((bytes_eq-Decides name name).1 refl)
-last_position name (x ∷ names) h = ap (λ n. cond (not (bytes_eq name x)) (1 + n) 0) (last_position name names (or_false (bytes_eq name x) _ h).1)
+pub places_sound : (c d : Cluster) (t : Taken) (b : Block) (ls : List Listed) → list_any (nat_eq b.id) t.numbers ≡ true → t.last ≡ b.id → after_places c b ls ≡ Ok d → Sound c t → Sound d (with_all t b ls)
+places_sound c d t b [] known last e before = subst (Sound d) (sym (with_all-nil t b)) (subst (λ x. Sound x t) (same_ok c d e) before)
+places_sound c d t b (l ∷ ls) known last e before =
+    let first = came_of (λ x. after_places x b ls) (after_place c b l) d e in
+    subst (Sound d) (with_all-cons t b l ls)
+    (places_sound first.0 d (with_all t b (l ∷ [])) b ls known last first.2 (place_sound c first.0 t b l known last first.1 before))

@@ -8,18 +8,13 @@ use Rattle.bm_base.specs.declared.call.Call.{Call}
 use Rattle.bm_lines.specs.Asking.{line_text}
 use Rattle.bm_lines.specs.Reading.CallOf.{call_of}
 use Rattle.bm_lines.specs.Lines.{IsPart, ended, lines_of}
-use Rattle.fsck_import.specs.Cuts.{Text}
-use Rattle.fsck_import.specs.Writing.{lines_for, IsLineOf, Tells}
+use Rattle.fsck_text.specs.Cuts.{Text}
+use Rattle.fsck_import.specs.Writing.{lines_for, IsLineOf, Written, Tells}
 
 lines_of-first : (l more : Text) → IsPart l → lines_of (ended l ++ more) ≡ l ∷ lines_of more
 unfolding lines_of
 lines_of-first [] more p = refl
 lines_of-first (b ∷ l) more p = rw (p.0, lines_of-first l more p.1) refl
-
--- the lines so far, of calls so far
-pub record ToldSoFar (calls : List Call) (old new : Option Text) : Type 0 where
-  pub written : Appends old new (lines_for calls)
-  pub each : AllByRecursion (λ call. IsLineOf call (line_text call)) calls
 
 pub lines-told : (calls : List Call) → AllByRecursion (λ call. IsLineOf call (line_text call)) calls → lines_of (lines_for calls) ≡ map line_text calls
 unfolding lines_of
@@ -44,22 +39,28 @@ nothing_appended : (a : Option Text) → Appends a a []
 nothing_appended None = tt
 nothing_appended (Some a) = sym (append-nil a)
 
-each_and : {A : Type 0} (P : A → Type 0) (xs : List A) (x : A) → AllByRecursion P xs → P x → AllByRecursion P (xs ++ x ∷ [])
-each_and P [] x h p = (p, tt)
-each_and P (y ∷ xs) x h p = (h.0, each_and P xs x h.1 p)
+each_append : {A : Type 0} (P : A → Type 0) (xs ys : List A) → AllByRecursion P xs → AllByRecursion P ys → AllByRecursion P (xs ++ ys)
+each_append P [] ys h p = p
+each_append P (x ∷ xs) ys h p = (h.0, each_append P xs ys h.1 p)
 
-pub nothing_told : (a : Option Text) → ToldSoFar [] a a
-nothing_told a = record { written = nothing_appended a; each = tt }
+pub nothing_written : (a : Option Text) → Written [] a a
+nothing_written a = record { written = nothing_appended a; each = tt }
 
-pub one_more : (calls : List Call) (call : Call) (a b c : Option Text) → ToldSoFar calls a b → Appends b c (ended (line_text call)) → IsLineOf call (line_text call) → ToldSoFar (calls ++ call ∷ []) a c
-one_more calls call a b c told more line = record {
-  written = subst (Appends a c)
-      (ap (λ t. lines_for calls ++ t) (sym (append-nil (ended (line_text call)))) ∙ sym (flat_map-append (λ k. ended (line_text k)) calls (call ∷ [])))
-      (appended a b c (lines_for calls) (ended (line_text call)) told.written more);
-  each = each_and (λ k. IsLineOf k (line_text k)) calls call told.each line;
+-- these calls, and then those
+pub written_more : (calls more : List Call) (a b c : Option Text) → Written calls a b → Written more b c → Written (calls ++ more) a c
+written_more calls more a b c first second = record {
+  written = subst (Appends a c) (sym (flat_map-append (λ k. ended (line_text k)) calls more))
+      (appended a b c (lines_for calls) (lines_for more) first.written second.written);
+  each = each_append (λ k. IsLineOf k (line_text k)) calls more first.each second.each;
 }
 
-pub all_told : (calls : List Call) (a b : Option Text) → ToldSoFar calls a b → Tells calls a b
+pub one_written : (call : Call) (a b : Option Text) → Appends a b (ended (line_text call)) → IsLineOf call (line_text call) → Written (call ∷ []) a b
+one_written call a b told line = record {
+  written = subst (Appends a b) (sym (append-nil (ended (line_text call)))) told;
+  each = (line, tt);
+}
+
+pub all_told : (calls : List Call) (a b : Option Text) → Written calls a b → Tells calls a b
 all_told calls a b told = record {
   written = told.written;
   read = ap (map call_of) (lines-told calls told.each) ∙ calls-told calls told.each;
@@ -75,3 +76,7 @@ flushed (Some a) (Some b) (Some d) xs h k = k ∙ h
 
 pub still_tells : (calls : List Call) (a b d : Option Text) → Tells calls a b → Keeps b d → Tells calls a d
 still_tells calls a b d tells kept = record { written = flushed a b d _ tells.written kept; read = tells.read; short = tells.short }
+
+-- these calls, then those, and a flush
+pub all_flushed : (calls more : List Call) (a b c d : Option Text) → Written calls a b → Written more b c → Keeps c d → Tells (calls ++ more) a d
+all_flushed calls more a b c d first second kept = still_tells (calls ++ more) a c d (all_told (calls ++ more) a c (written_more calls more a b c first second)) kept

@@ -1,40 +1,52 @@
 -- What a whole run writes, and why it ends without.
-use Rattle.std.specs.Prelude.{◌≡◌, ⊤, ℕ, false, Option, IfSome, Result, Ok, Err}
-use Rattle.std.specs.List.Sorted.{IsPermutation}
-use Rattle.bm_base.specs.Lists.{has_repeats}
-use Rattle.fsck_import.specs.Cuts.{Text}
-use Rattle.fsck_import.specs.Reading.{cluster_of}
+use Rattle.std.specs.Prelude.{◌≡◌, ⊤, ℕ, List, [], ◌∷◌, ◌++◌, option_to_list, Option, IfSome, Result, Ok, Err}
+use Rattle.std.specs.Io.KnownBytes.{Appends}
+use Rattle.bm_lines.specs.Lines.{lines_of}
+use Rattle.fsck_text.specs.Cuts.{Text}
+use Rattle.fsck_files.specs.Files as files
+use Rattle.fsck_files.specs.declared.files.Files.{Files}
+use Rattle.fsck_files.specs.declared.refusal.Refusal.{Refusal}
+use Rattle.fsck_files.specs.declared.replicas.Block.{Block}
 use Rattle.fsck_import.specs.CallsFor.{calls_for}
-use Rattle.fsck_import.specs.Laws.{AddsFirst, EachOnce, numbers_added, numbers_named, replicas_told, replicas_reported}
+use Rattle.fsck_import.specs.Lines.{without_end}
+use Rattle.fsck_import.specs.NameTable.{table_of}
+use Rattle.fsck_import.specs.Reading.{reading_of}
 use Rattle.fsck_import.specs.Writing.{Tells}
 use Rattle.fsck_import.specs.declared.fault.Unread.{Unread}
 use Rattle.fsck_import.specs.declared.fault.Fault.{Fault}
 use Rattle.fsck_import.specs.declared.fault.Fault.TheVariants as fault
-use Rattle.fsck_import.specs.declared.cluster.Cluster.{Cluster}
+use Rattle.fsck_import.specs.declared.reading.Reading.{Reading}
 
--- what was written tells of the cluster of a text
-pub record TellsCluster (text : Text) (remaining : ℕ) (old new : Option Text) : Type 0 where
-  pub cluster : Cluster
-  pub told : cluster_of text ≡ Ok cluster
-  -- the line tool reads the calls for it
-  pub tells : Tells (calls_for cluster remaining) old new
-  -- the blocks that they add are those that the text names, each once
-  pub added : numbers_added (calls_for cluster remaining) ≡ numbers_named text
-  pub once : has_repeats (numbers_named text) ≡ false
-  -- no report stands before an add
-  pub adds_first : AddsFirst (calls_for cluster remaining)
-  -- the replicas that they report are those that the text's places tell, and none is reported twice
-  pub reported : IsPermutation (replicas_told text) (replicas_reported cluster.storages (calls_for cluster remaining))
-  pub reported_once : EachOnce (replicas_reported cluster.storages (calls_for cluster remaining))
+abbrev pub taken : (Files → List Block) → Result (Files × Option Block) Refusal → List Block
+taken next (Ok p) = option_to_list p.1 ++ next p.0
+taken next (Err r) = []
+
+-- the blocks that these lines add
+abbrev pub blocks_of : Files → List Text → List Block
+blocks_of f [] = []
+blocks_of f (line ∷ lines) = taken (λ g. blocks_of g lines) (files.after_line f (without_end 13 line))
+
+-- what was written tells of the blocks of a text, and of nothing else
+pub record TellsText (text : Text) (start : Reading) (remaining : ℕ) (old new : Option Text) : Type 0 where
+  pub read : Reading
+  pub told : reading_of start text ≡ Ok read
+  -- the line tool reads the calls for the cluster
+  pub tells : Tells (calls_for read.cluster remaining) old new
+
+-- what was written is the table of the names of a text
+pub record TellsNames (text : Text) (start : Reading) (old new : Option Text) : Type 0 where
+  pub read : Reading
+  pub told : reading_of start text ≡ Ok read
+  pub written : Appends old new (table_of read.cluster)
 
 -- a refusal is that of the first line that is refused
-abbrev pub IsRunFault : Fault → Result Cluster Unread → Type 0
+abbrev pub IsRunFault : Fault → Result Reading Unread → Type 0
 IsRunFault (fault.Refused unread) told = told ≡ Err unread
 IsRunFault _ told = ⊤
 
--- a fault of a run on a text, where it is known
-abbrev pub IsFaultOfRun : Fault → Option Text → Type 0
-IsFaultOfRun f known = IfSome known (λ text. IsRunFault f (cluster_of text))
+-- a fault of a run on a text, if it is known
+abbrev pub IsFaultOfRun : Reading → Fault → Option Text → Type 0
+IsFaultOfRun start f known = IfSome known (λ text. IsRunFault f (reading_of start text))
 
 -- a run that ends before it writes leaves the writer as it was
 abbrev pub WritesNothing : {W : Type 0} → Fault → W → W → Type 0

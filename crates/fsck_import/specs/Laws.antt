@@ -1,9 +1,9 @@
 -- What holds of the calls for the blocks of a text: each block is added once, before any replica; each replica of it is reported once, and nothing else is; the corrupt ones are called corrupt, and no other; and the nodes of the drained ones drain.
-use Rattle.std.specs.Prelude.{◌≡◌, ◌≤◌, ◌&&◌, ◌||◌, ℕ, Bool, true, false, nat_eq, List, [], ◌∷◌, ◌++◌, map, filter, count_by, Result, Ok}
+use Rattle.std.specs.Prelude.{◌≡◌, ◌≤◌, ◌&&◌, ℕ, Bool, true, false, nat_eq, List, [], ◌∷◌, ◌++◌, map, filter, length, count_by, Ok}
 use Rattle.std.specs.List.{flat_map, list_any}
 use Rattle.std.specs.List.Sorted.{IsPermutation}
 use Rattle.std.specs.Str.{bytes_eq}
-use Rattle.bm_base.specs.Entries.{Told, expanded}
+use Rattle.bm_base.specs.Entries.{Told, count_up, expanded}
 use Rattle.bm_base.specs.Lists.{has_repeats}
 use Rattle.bm_base.specs.declared.call.Call.{Call}
 use Rattle.bm_base.specs.declared.call.Call.TheVariants as call
@@ -25,8 +25,9 @@ abbrev pub after_blocks : Cluster → List Block → After
 after_blocks c [] = Ok c
 after_blocks c (b ∷ blocks) = after_ok (λ d. after_blocks d blocks) (after_block c b)
 
--- a cluster in which no block and no storage is
+-- a cluster with no block and no storage, and with its nodes numbered from 1 on
 pub record IsFresh (c : Cluster) : Type 0 where
+  pub nodes : map (λ row. row.number) c.node_rows ≡ count_up 1 (length c.nodes)
   pub storages : c.storages ≡ []
   pub rows : c.rows ≡ []
   pub blocks : c.blocks ≡ []
@@ -50,23 +51,23 @@ replica_at b l = replica l.place.storage (record { id = b.id; stamp = b.stamp })
 abbrev pub replicas_of : Block → List Replica
 replicas_of b = map (replica_at b) b.replicas
 
+abbrev pub is_bad : State → Bool
+is_bad state.Corrupt = true
+is_bad _ = false
+
 abbrev pub is_corrupt : Block → Listed → Bool
 is_corrupt b l = is_bad (state_of l.mark b.is_corrupt)
-  where
-    is_bad : State → Bool
-    is_bad state.Corrupt = true
-    is_bad _ = false
 
 -- the corrupt replicas of a block: storage and block
 abbrev pub corrupt_of : Block → List (Text × ℕ)
 corrupt_of b = map (λ l. (l.place.storage, b.id)) (filter (is_corrupt b) b.replicas)
 
+abbrev pub drains : State → Bool
+drains state.Drained = true
+drains _ = false
+
 abbrev pub is_drained : Block → Listed → Bool
 is_drained b l = drains (state_of l.mark b.is_corrupt)
-  where
-    drains : State → Bool
-    drains state.Drained = true
-    drains _ = false
 
 -- the nodes of the drained replicas of a block
 abbrev pub drained_of : Block → List Text

@@ -1,20 +1,12 @@
--- What the text of fsck says, and the calls that tell it.
-pub mod Cuts
-pub mod Places
-pub mod Names
-pub mod PlaceLists
-pub mod Words
-pub mod SoFar
+-- What a text of fsck says, and the calls that tell it.
+pub mod Quotes
+pub mod Causes
 pub mod Lines
-pub mod Parts
-pub mod Runs
-pub mod Blocks
-pub mod Rows
-pub mod Clusters
-pub mod CallsFor
 pub mod Reading
+pub mod CallsFor
 pub mod Writing
 pub mod NameTable
 pub mod Laws
+pub mod Starts
 pub mod Importing
 pub mod Options

@@ -1,47 +1,107 @@
 -- What a whole text says of a cluster.
-use Rattle.std.specs.Prelude.{◌≡◌, ⊤, ℕ, ◌+◌, ◌==◌, List, [], ◌∷◌, Option, IfSome, Result, Ok, Err, if◌then◌else◌}
-use Rattle.bm_lines.specs.Lines.{lines_of}
-use Rattle.fsck_import.specs.Cuts.{Text}
-use Rattle.fsck_import.specs.Clusters.{no_cluster, after_bytes, after_ok, at_end}
-use Rattle.fsck_import.specs.declared.line.Refusal.{Refusal}
+use Rattle.std.specs.Prelude.{◌≡◌, ⊤, ℕ, List, [], Option, Some, None, IfSome, Result, Ok, Err, if◌then◌else◌}
+use Rattle.fsck_text.specs.Cuts.{Text}
+use Rattle.fsck_text.specs.Wrongs.{after_ok}
+use Rattle.fsck_files.specs.Files as files
+use Rattle.fsck_files.specs.declared.files.Files.{Files}
+use Rattle.fsck_files.specs.declared.files.LineFault.{LineFault as FileFault}
+use Rattle.fsck_files.specs.declared.files.LineFault.TheVariants as file_fault
+use Rattle.fsck_files.specs.declared.refusal.Refusal.{Refusal}
+use Rattle.fsck_files.specs.declared.refusal.Refusal.TheVariants as refusal
+use Rattle.fsck_files.specs.declared.refusal.Why.TheVariants as why
+use Rattle.fsck_files.specs.declared.replicas.Block.{Block}
+use Rattle.fsck_files.specs.declared.skips.Skips.{Skips}
+use Rattle.fsck_files.specs.declared.skips.Unclear.{Unclear}
+use Rattle.fsck_cluster.specs.Clusters.{After, after_block, with_spares}
+use Rattle.fsck_cluster.specs.NodeLists as nodes
+use Rattle.fsck_cluster.specs.declared.cluster.Cluster.{Cluster}
+use Rattle.fsck_cluster.specs.declared.node_list.NodeList.{NodeList}
+use Rattle.fsck_cluster.specs.declared.node_list.NodeFault.{NodeFault}
+use Rattle.fsck_cluster.specs.declared.node_list.NodeFault.TheVariants as node_fault
+use Rattle.fsck_cluster.specs.declared.node_list.NodeRefusal.{NodeRefusal}
+use Rattle.fsck_cluster.specs.declared.node_list.NodeRefusal.TheVariants as node_refusal
+use Rattle.fsck_import.specs.Quotes.{quoted}
+use Rattle.fsck_import.specs.Lines.{at_line, after_text, IsReadFault}
+use Rattle.fsck_import.specs.declared.fault.Cause.{Cause}
+use Rattle.fsck_import.specs.declared.fault.Cause.TheVariants as cause
+use Rattle.fsck_import.specs.declared.fault.LineFault.{LineFault}
+use Rattle.fsck_import.specs.declared.fault.LineFault.TheVariants as fault
 use Rattle.fsck_import.specs.declared.fault.Unread.{Unread}
-use Rattle.fsck_import.specs.declared.cluster.Cluster.{Cluster}
 use Rattle.fsck_import.specs.declared.fault.Fault.{Fault}
-use Rattle.fsck_import.specs.declared.fault.Fault.TheVariants as fault
+use Rattle.fsck_import.specs.declared.reading.Reading.{Reading}
 
--- a refusal, with the number of its line
-abbrev pub at_line : ℕ → Result Cluster Refusal → Result Cluster Unread
-at_line n (Ok c) = Ok c
-at_line n (Err why) = Err (record { line = n; why = why })
+-- nothing was read; these nodes are known
+abbrev pub beginning : Cluster → Skips → Unclear → Reading
+beginning known skips unclear = record { files = files.no_files skips unclear; cluster = known }
 
--- after these lines, of which the first is numbered n; the first that is refused ends it, or that none comes where more is awaited
-abbrev pub after_lines : ℕ → Cluster → List Text → Result Cluster Unread
-after_lines n c [] = at_line n (at_end c)
-after_lines n c (line ∷ lines) = after_ok (λ d. after_lines (n + 1) d lines) (at_line n (after_bytes c line))
+-- why a line is refused
+abbrev pub cause_of : Text → Refusal → Cause
+cause_of line (refusal.Wrong w) = cause.Word (quoted line w)
+cause_of line (refusal.Why y) = cause.File y
 
--- the cluster of which a text tells
-abbrev pub cluster_of : Text → Result Cluster Unread
-cluster_of text = after_lines 1 no_cluster (lines_of text)
+-- the fault is that of a line of fsck, or memory that was refused
+abbrev pub IsFileFault : LineFault → Text → FileFault → Type 0
+IsFileFault fault.Memory line f = ⊤
+IsFileFault (fault.Refused c) line file_fault.Memory = ⊥
+IsFileFault (fault.Refused c) line (file_fault.Refused r) = c ≡ cause_of line r
 
--- this comes of a text, where it is known
-abbrev pub TextGives : Option Text → Result Cluster Unread → Type 0
-TextGives known outcome = IfSome known (λ text. cluster_of text ≡ outcome)
+abbrev pub with_cluster : Files → After → Result Reading Cause
+with_cluster f (Ok c) = Ok (record { files = f; cluster = c })
+with_cluster f (Err w) = Err (cause.Cluster w)
 
--- a line without the line end, 10, where it has one
-abbrev pub without_end : Text → Text
-without_end [] = []
-without_end (b ∷ []) = if b == 10 then [] else b ∷ []
-without_end (b ∷ c ∷ bs) = b ∷ without_end (c ∷ bs)
+-- with a block that is taken
+abbrev pub after_taken : Files → Cluster → Block → Result Reading Cause
+after_taken f c b = with_cluster f (after_block c b)
 
--- where a line is refused, it is the first such; a read may fail, and memory may lack
-abbrev pub IsReadFault : Fault → Result Cluster Unread → Type 0
-IsReadFault (fault.Refused unread) told = told ≡ Err unread
-IsReadFault fault.Memory told = ⊤
-IsReadFault fault.Read told = ⊤
-IsReadFault fault.Write told = ⊥
-IsReadFault fault.Table told = ⊥
-IsReadFault fault.LongReport told = ⊥
+abbrev pub with_taken : Text → Cluster → Result (Files × Option Block) Refusal → Result Reading Cause
+with_taken line c (Ok (f, None)) = Ok (record { files = f; cluster = c })
+with_taken line c (Ok (f, Some b)) = after_taken f c b
+with_taken line c (Err r) = Err (cause_of line r)
 
--- a fault of reading a text, where it is known
-abbrev pub IsFaultOfText : Fault → Option Text → Type 0
-IsFaultOfText f known = IfSome known (λ text. IsReadFault f (cluster_of text))
+-- after one more line of fsck
+abbrev pub after_line : Reading → Text → Result Reading Cause
+after_line s line = with_taken line s.cluster (files.after_line s.files line)
+
+-- at the end of the text, whose last line was read: each known node has a storage
+abbrev pub at_end : Reading → Result Reading Cause
+at_end s = if files.is_whole s.files.part then with_cluster s.files (with_spares s.cluster) else Err (cause.File why.CutOff)
+
+abbrev pub ended : Reading × ℕ → Result Reading Unread
+ended p = at_line p.1 (at_end p.0)
+
+-- what a whole text says, or the first line that is refused
+abbrev pub reading_of : Reading → Text → Result Reading Unread
+reading_of start text = after_ok ended (after_text after_line start text)
+
+-- a fault of reading a text, if it is known
+abbrev pub IsFaultOfReading : Reading → Fault → Option Text → Type 0
+IsFaultOfReading start f known = IfSome known (λ text. IsReadFault f (reading_of start text))
+
+-- why a line of the report on DataNodes is refused
+abbrev pub node_cause : Text → NodeRefusal → Cause
+node_cause line (node_refusal.Wrong w) = cause.Word (quoted line w)
+node_cause line (node_refusal.Why y) = cause.Node y
+
+-- the fault is that of a line of the report, or memory that was refused
+abbrev pub IsNodeFault : LineFault → Text → NodeFault → Type 0
+IsNodeFault fault.Memory line f = ⊤
+IsNodeFault (fault.Refused c) line node_fault.Memory = ⊥
+IsNodeFault (fault.Refused c) line (node_fault.Refused r) = c ≡ node_cause line r
+
+abbrev pub with_nodes : {A : Type 0} → Text → Result A NodeRefusal → Result A Cause
+with_nodes line (Ok s) = Ok s
+with_nodes line (Err r) = Err (node_cause line r)
+
+-- after one more line of the report
+abbrev pub after_node_line : NodeList → Text → Result NodeList Cause
+after_node_line s line = with_nodes line (nodes.after_line s line)
+
+abbrev pub ended_nodes : NodeList × ℕ → Result Cluster Unread
+ended_nodes p = at_line p.1 (with_nodes [] (nodes.at_end p.0))
+
+-- the nodes of a whole report, or the first line that is refused
+abbrev pub nodes_of : Text → Result Cluster Unread
+nodes_of text = after_ok ended_nodes (after_text after_node_line nodes.no_list text)
+
+abbrev pub IsFaultOfNodes : Fault → Option Text → Type 0
+IsFaultOfNodes f known = IfSome known (λ text. IsReadFault f (nodes_of text))

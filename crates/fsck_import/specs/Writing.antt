@@ -1,13 +1,13 @@
 -- The lines that are written for calls, and how they are read.
-use Rattle.std.specs.Prelude.{◌≡◌, ⊤, ◌≤◌, true, List, Some, All, map, length, Option}
+use Rattle.std.specs.Prelude.{◌≡◌, ⊤, ◌≤◌, List, Some, map, length, Option}
 use Rattle.bm_lines.specs.declared.limits.TheConstants.{MAX_LINE}
 use Rattle.std.specs.List.{flat_map, AllByRecursion}
 use Rattle.std.specs.Io.KnownBytes.{Appends}
 use Rattle.bm_base.specs.declared.call.Call.{Call}
-use Rattle.bm_lines.specs.Asking.{has_op, line_text}
+use Rattle.bm_lines.specs.Asking.{line_text}
 use Rattle.bm_lines.specs.Reading.CallOf.{call_of}
 use Rattle.bm_lines.specs.Lines.{IsPart, ended, lines_of}
-use Rattle.fsck_import.specs.Cuts.{Text}
+use Rattle.fsck_text.specs.Cuts.{Text}
 use Rattle.fsck_import.specs.declared.fault.Fault.{Fault}
 use Rattle.fsck_import.specs.declared.fault.Fault.TheVariants as fault
 
@@ -15,15 +15,16 @@ use Rattle.fsck_import.specs.declared.fault.Fault.TheVariants as fault
 abbrev pub lines_for : List Call → Text
 lines_for calls = flat_map (λ call. ended (line_text call)) calls
 
--- each of these calls has a line
-abbrev pub HaveLines : List Call → Type 0
-HaveLines calls = All (λ call. has_op call ≡ true) calls
-
 -- a line that the line tool reads as this call: it asks for the call, has no line end in it, and is not too long
 pub record IsLineOf (call : Call) (line : Text) : Type 0 where
   pub asks : call_of line ≡ Some call
   pub whole : IsPart line
   pub short : length line ≤ MAX_LINE
+
+-- the lines of these calls were written, and each is read as its call
+pub record Written (calls : List Call) (old new : Option Text) : Type 0 where
+  pub written : Appends old new (lines_for calls)
+  pub each : AllByRecursion (λ call. IsLineOf call (line_text call)) calls
 
 -- what was written tells these calls: the line tool cuts it into lines of which each asks for its call, and none is too long to be read
 pub record Tells (calls : List Call) (old new : Option Text) : Type 0 where

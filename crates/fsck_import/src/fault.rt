@@ -1,13 +1,76 @@
-// Why a line or a text is not taken.
-use crate::line::Refusal;
-use std::alloc::AllocError;
+// Why a run ends without all lines.
+use fsck_cluster::NodeWhy;
+use fsck_text::{Reason, Wrong, column_of};
+use std::alloc::{AllocError, Global};
+use std::fmt;
+use std::marker::Model;
 use thiserror::Error;
 
-/// Why a line is not taken.
-#[derive(Clone, Copy)]
+/// A word that is not understood, and the column in which it begins, in bytes from 1.
+#[derive(Debug, Drop)]
+pub struct Quoted {
+    column: usize,
+    word: String,
+    why: Reason,
+}
+
+impl Model for Quoted {
+    ghost use Rattle.std.specs.Prelude.{string_bytes};
+    ghost use Rattle.fsck_import.specs.Quotes as spec;
+
+    ghost Value = { spec.Quoted };
+
+    ghost view = { λ q. record {
+      column = q.column;
+      word = string_bytes q.word;
+      why = q.why;
+    } };
+}
+
+impl Quoted {
+    ghost use Rattle.std.specs.Prelude.{◌≡◌, IfOk};
+    ghost use Rattle.fsck_import.specs.Quotes.{quoted};
+
+    /// The word that is wrong in a line.
+    pub fn new(alloc: Global, line: &str, wrong: &Wrong) -> Result<Quoted, AllocError>
+        ensures { IfOk result (λ q. q ≡ quoted line.now wrong.now) }
+    {
+        let word = wrong.word.text();
+        Ok(Quoted {
+            column: column_of(line, word),
+            word: String::from_str(alloc, word)?,
+            why: wrong.why,
+        })
+    }
+}
+
+impl fmt::Display for Quoted {
+    fn fmt<W: fmt::Write>(&self, f: &mut fmt::Formatter<W>) -> fmt::Result {
+        let Quoted { column, word, why } = self;
+        write!(f, "column {column}: '{word}' {why}")
+    }
+}
+
+/// Why a line is refused.
+#[derive(Debug, Drop, Error)]
+pub enum Cause {
+    #[error("the line is not UTF-8")]
+    NotText,
+    #[error("{0}")]
+    Word(Quoted),
+    #[error("{0}")]
+    File(fsck_files::Why),
+    #[error("{0}")]
+    Cluster(fsck_cluster::Why),
+    #[error("{0}")]
+    Node(NodeWhy),
+}
+
+/// Why a line is not taken, or memory that was refused.
+#[derive(Drop)]
 pub enum LineFault {
     Memory,
-    Refused(Refusal),
+    Refused(Cause),
 }
 
 impl From<AllocError> for LineFault {
@@ -21,19 +84,16 @@ impl From<AllocError> for LineFault {
     }
 }
 
-impl From<Refusal> for LineFault {
-    ghost use Rattle.std.specs.Prelude.{◌≡◌};
-    ghost use Rattle.fsck_import.specs.declared.fault.LineFault.TheVariants.{Refused};
-
-    ghost from_gives = { λ why e. e ≡ Refused why };
-
-    fn from(why: Refusal) -> Self {
-        LineFault::Refused(why)
-    }
+/// A line that is refused, counted from 1.
+#[derive(Debug, Drop, Error)]
+#[error("line {line}: {why}")]
+pub struct Unread {
+    pub line: u64,
+    pub why: Cause,
 }
 
 /// Why a run ends with nothing written, or with an unknown part of it where a write failed.
-#[derive(Clone, Copy, Debug, Error)]
+#[derive(Debug, Drop, Error)]
 pub enum Fault {
     #[error("memory fault")]
     Memory,
@@ -50,14 +110,6 @@ pub enum Fault {
     /// A report is longer than a line of the tool may be.
     #[error("a storage has too many replicas for one report")]
     LongReport,
-}
-
-/// A line that is not taken, counted from 1.
-#[derive(Clone, Copy, Debug, Error)]
-#[error("line {line}: {why}")]
-pub struct Unread {
-    pub line: u64,
-    pub why: Refusal,
 }
 
 impl From<AllocError> for Fault {

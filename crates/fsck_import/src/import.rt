@@ -1,44 +1,80 @@
 // A whole run, from a reader to a writer.
 ghost use Rattle.std.specs.Prelude.{◌≡◌, ◌⊎◌, Ok, IfSome, IfErr, OnOk};
 ghost use Rattle.std.specs.Io.KnownBytes.{Appends};
+ghost use Rattle.fsck_import.specs.NameTable.{table_of};
 ghost use Rattle.fsck_import.specs.CallsFor.{calls_for};
-ghost use Rattle.fsck_import.specs.NameTable.{TellsNames, table_of};
 ghost use Rattle.fsck_import.specs.Writing.{Tells, IsTableFault, IsWriteFault};
-ghost use Rattle.fsck_import.specs.Importing.{TellsCluster, IsFaultOfRun, WritesNothing};
+ghost use Rattle.fsck_import.specs.Importing.{TellsText, TellsNames, IsFaultOfRun, WritesNothing};
 
-use crate::cluster::Cluster;
 use crate::destination::Destination;
 use crate::fault::Fault;
 use crate::name_table::table_of;
-use crate::reading::read_cluster;
+use crate::reading::{Reading, read_cluster};
 use crate::writing::write_flushed;
+use bm_base::MAX_ENTRIES;
+use fsck_cluster::Cluster;
+use fsck_files::LeftOut;
 use std::alloc::Global;
 use std::io::{BufRead, Write};
 
-/// Reads a whole text, and then writes a table of names, and the lines that tell of its cluster, with so many bytes remaining on each
-/// storage. Nothing is written before all of the text was read, and no line before the whole table.
+/// What the user has to know of an import.
+#[derive(Clone, Copy, Drop)]
+pub struct Notes {
+    pub left_out: LeftOut,
+    /// How many blocks had more places without a mark than live replicas.
+    pub unclear_blocks: u64,
+    /// How many replicas on nodes in maintenance were taken as live.
+    pub maintained: u64,
+    /// How many lines were written.
+    pub lines: u64,
+}
+
+/// Reads a whole text of fsck, and then writes a table of names, and the lines that tell of its cluster,
+/// with so many free bytes on each storage whose node's are not known. Nothing is written before all of
+/// the text was read, and no line before the whole table.
 pub fn import<R: BufRead, W: Write, N: Destination>(
     alloc: Global,
+    start: Reading,
+    remaining: u64,
     reader: &mut R,
     writer: &mut W,
     names: &mut N,
-    remaining: u64,
-) -> Result<(), Fault>
+) -> Result<Notes, Fault>
     ensures tells { OnOk result (IfSome (R.remaining reader.old) (λ text.
-        TellsCluster text remaining (W.contents writer.old) (W.contents writer.new))) }
+        TellsText text start remaining (W.contents writer.old) (W.contents writer.new))) }
     ensures named { OnOk result (IfSome (R.remaining reader.old) (λ text.
-        TellsNames text (N.contents names.old) (N.contents names.new))) }
-    ensures refused { IfErr result (λ f. IsFaultOfRun f (R.remaining reader.old)) }
-    // Where a line is refused or a read fails, the writer is as it was, and so is what takes the names.
+        TellsNames text start (N.contents names.old) (N.contents names.new))) }
+    ensures refused { IfErr result (λ f. IsFaultOfRun start f (R.remaining reader.old)) }
+    // If a line is refused or a read fails, the writer is as it was, and so is what takes the names.
     ensures nothing_written { IfErr result (λ f. WritesNothing f writer.old writer.new) }
     ensures nothing_named { IfErr result (λ f. WritesNothing f names.old names.new) }
 {
-    let cluster = read_cluster(alloc, reader)?;
-    if let Err(fault) = put_names(alloc, &cluster, names) {
-        drop(cluster);
-        return Err(fault);
+    let read = read_cluster(alloc, reader, start)?;
+    let written = write_all(alloc, &read, remaining, writer, names);
+    let notes = notes_of(&read);
+    drop(read);
+    match written {
+        Ok(()) => Ok(notes),
+        Err(fault) => Err(fault),
     }
-    write_cluster(alloc, writer, cluster, remaining)
+}
+
+/// Writes the table of names, and then the lines.
+fn write_all<W: Write, N: Destination>(
+    alloc: Global,
+    read: &Reading,
+    remaining: u64,
+    writer: &mut W,
+    names: &mut N,
+) -> Result<(), Fault>
+    ensures tells { OnOk result (Tells (calls_for read.now.cluster remaining)
+        (W.contents writer.old) (W.contents writer.new)) }
+    ensures named { OnOk result
+        (Appends (N.contents names.old) (N.contents names.new) (table_of read.now.cluster)) }
+    ensures faults { IfErr result (λ f. IsWriteFault f ⊎ IsTableFault f) }
+{
+    put_names(alloc, &read.cluster, names)?;
+    write_flushed(alloc, writer, &read.cluster, remaining)
 }
 
 /// Hands over the table of a cluster's names.
@@ -51,17 +87,26 @@ fn put_names<N: Destination>(alloc: Global, cluster: &Cluster, names: &mut N) ->
     names.put(table.as_str())
 }
 
-/// Writes the lines that tell of a cluster.
-fn write_cluster<W: Write>(
-    alloc: Global,
-    writer: &mut W,
-    cluster: Cluster,
-    remaining: u64,
-) -> Result<(), Fault>
-    ensures tells { OnOk result (Tells (calls_for cluster remaining)
-        (W.contents writer.old) (W.contents writer.new)) }
-    ensures faults { IfErr result IsWriteFault }
-{
-    let calls = cluster.into_calls(alloc, remaining)?;
-    write_flushed(alloc, writer, calls.as_slice())
+fn notes_of(read: &Reading) -> Notes {
+    Notes {
+        left_out: read.files.left_out,
+        unclear_blocks: read.files.unclear_blocks,
+        maintained: read.files.maintained,
+        lines: count_lines(&read.cluster),
+    }
+}
+
+/// How many lines a cluster has.
+fn count_lines(cluster: &Cluster) -> u64 {
+    let nodes = cluster.node_rows.len() as u64;
+    let mut lines = nodes
+        .saturating_add(nodes)
+        .saturating_add(cluster.blocks.len() as u64)
+        .saturating_add(cluster.bad.len() as u64)
+        .saturating_add(cluster.draining.len() as u64);
+    for row in cluster.rows.as_slice() {
+        let received = row.held.len().saturating_sub(MAX_ENTRIES);
+        lines = lines.saturating_add(1).saturating_add(received as u64);
+    }
+    lines
 }

@@ -1,35 +1,28 @@
-//! The import: reads from standard input what `hdfs fsck / -files -blocks -locations -racks` wrote, and writes to standard output the
-//! lines that make the line tool know that cluster. The table of names and their numbers goes to standard error, or into a file.
+//! The import: reads what `hdfs fsck / -files -blocks -locations -replicaDetails` printed, and writes the
+//! lines that make the line tool know that cluster. The table of names and their numbers goes to standard
+//! error, or into a file.
 #![tactic(auto)]
 
-mod blocks;
-mod calls;
-mod cluster;
-mod cuts;
 mod destination;
 mod fault;
 mod import;
-mod line;
+mod lines;
 mod name_table;
-mod names;
 mod options;
-mod part;
-mod place;
-mod place_list;
 mod reading;
-mod rows;
-mod runs;
-mod so_far;
-mod word;
 mod writing;
 
 use clap::Error;
 use clap::error::ErrorKind;
 use destination::{Destination, Stream, TableFile};
 use fault::Fault;
-use import::import;
+use fsck_cluster::Cluster;
+use fsck_files::{LeftOut, Unclear};
+use import::{Notes, import};
 use options::{Asked, asked_by};
+use reading::{Reading, read_nodes};
 use std::alloc::Global;
+use std::fs::File;
 use std::io;
 use std::io::{BufReader, BufWriter};
 use std::rt::Files;
@@ -40,9 +33,12 @@ const FAULTED: u8 = 1;
 
 const MISUSED: u8 = 2;
 
-/// Makes the import that the words of a command line ask for, the program's name first, from standard input to standard output;
-/// what goes to standard error is written to `notes`, or said by `rt`. The result is the exit status: 0, 1 after a fault, or 2
-/// where the words ask for nothing that there is.
+/// How many lines the line tool reads in a run.
+const MOST_LINES: u64 = 1_048_576;
+
+/// Makes the import that the words of a command line ask for, the program's name first, from standard
+/// input to standard output; what goes to standard error is written to `notes`, or said by `rt`. The
+/// result is the exit status: 0, 1 after a fault, or 2 if the words ask for nothing that there is.
 pub fn import_by_words<R: Input + Print + Eprint + Files + AllocGlobal, N: Print>(
     rt: &R,
     notes: &N,
@@ -68,55 +64,123 @@ fn say_fault<R: Eprint>(rt: &R, fault: Fault) -> u8 {
     FAULTED
 }
 
-/// The run, with the table of names where the words ask for it.
+/// The run, with the nodes of the report if the words name one.
 fn run_status<R: Input + Print + Eprint + Files + AllocGlobal, N: Print>(
     rt: &R,
     notes: &N,
     asked: &Asked<'_>,
 ) -> u8 {
-    match asked.names {
-        Some(path) => run_with_file(rt, path, asked.remaining),
-        None => {
-            let mut names = Stream {
-                writer: io::writer(notes),
-            };
-            match run(rt, &mut names, asked.remaining) {
-                Ok(()) => DONE,
-                Err(fault) => say_fault(rt, fault),
-            }
+    let alloc: Global = rt.alloc();
+    let Some(path) = asked.nodes else {
+        return run_from(rt, notes, asked, Cluster::new(alloc));
+    };
+    match nodes_in(rt, path) {
+        Ok(nodes) => run_from(rt, notes, asked, nodes),
+        Err(fault) => {
+            let _ = rt.eprintln(format_args!("fsck_import: {path}: {fault}"));
+            FAULTED
         }
     }
 }
 
-/// The run with the table of names in a file.
-fn run_with_file<R: Input + Print + Eprint + Files + AllocGlobal>(
+/// The nodes of a report in a file.
+fn nodes_in<R: Files + AllocGlobal>(rt: &R, path: &str) -> Result<Cluster, Fault> {
+    let alloc: Global = rt.alloc();
+    let Ok(file) = File::open(rt, path) else {
+        return Err(Fault::Read);
+    };
+    let Ok(mut reader) = BufReader::new(alloc, file) else {
+        return Err(Fault::Memory);
+    };
+    read_nodes(alloc, &mut reader)
+}
+
+/// The run on these nodes, with the table of names where the words ask for it.
+fn run_from<R: Input + Print + Eprint + Files + AllocGlobal, N: Print>(
     rt: &R,
-    path: &str,
-    remaining: u64,
+    notes: &N,
+    asked: &Asked<'_>,
+    nodes: Cluster,
 ) -> u8 {
+    let Some(path) = asked.names else {
+        let mut names = Stream {
+            writer: io::writer(notes),
+        };
+        return said(rt, asked, run(rt, asked, nodes, &mut names));
+    };
     let mut names = TableFile::new(rt, path);
-    match (run(rt, &mut names, remaining), names.error()) {
-        (Ok(()), _) => DONE,
+    let ended = run(rt, asked, nodes, &mut names);
+    match (ended, names.error()) {
         (Err(fault), Some(error)) => {
             let _ = rt.eprintln(format_args!("fsck_import: {fault} to {path}: {error}"));
             FAULTED
         }
-        (Err(fault), None) => say_fault(rt, fault),
+        (ended, _) => said(rt, asked, ended),
+    }
+}
+
+/// Says what the user has to know, or the fault.
+fn said<R: Eprint>(rt: &R, asked: &Asked<'_>, ended: Result<Notes, Fault>) -> u8 {
+    match ended {
+        Ok(notes) => {
+            say_notes(rt, asked, &notes);
+            DONE
+        }
+        Err(fault) => say_fault(rt, fault),
+    }
+}
+
+fn say_notes<R: Eprint>(rt: &R, asked: &Asked<'_>, notes: &Notes) {
+    say_left_out(rt, &notes.left_out);
+    let unclear = match asked.values.unclear {
+        Unclear::Good => "blocks with more places than live replicas taken with each place as good",
+        Unclear::Omit | Unclear::Refuse => "blocks with more places than live replicas left out",
+    };
+    say_count(rt, notes.unclear_blocks, unclear);
+    say_count(
+        rt,
+        notes.maintained,
+        "replicas on nodes in maintenance taken as live",
+    );
+    if notes.lines > MOST_LINES {
+        let lines = notes.lines;
+        let _ = rt.eprintln(format_args!(
+            "fsck_import: warning: {lines} lines are more than the line tool reads in a run \
+             ({MOST_LINES}); ./puljemrod report has no such limit"
+        ));
+    }
+}
+
+fn say_left_out<R: Eprint>(rt: &R, left_out: &LeftOut) {
+    say_count(rt, left_out.erasure_coded, "erasure coded files left out");
+    say_count(rt, left_out.over_replicated, "files with more than 16 replicas left out");
+    say_count(rt, left_out.open_files, "files that are being written left out");
+    say_count(rt, left_out.snapshots, "files in snapshots left out");
+}
+
+fn say_count<R: Eprint>(rt: &R, count: u64, what: &str) {
+    if count > 0 {
+        let _ = rt.eprintln(format_args!("fsck_import: {count} {what}"));
     }
 }
 
 /// From standard input to standard output.
 fn run<R: Input + Print + AllocGlobal, N: Destination>(
     rt: &R,
+    asked: &Asked<'_>,
+    nodes: Cluster,
     names: &mut N,
-    remaining: u64,
-) -> Result<(), Fault> {
+) -> Result<Notes, Fault> {
     let alloc: Global = rt.alloc();
+    let values = asked.values;
+    let start = Reading::new(alloc, nodes, values.skips, values.unclear);
     let Ok(mut reader) = BufReader::new(alloc, rt.reader()) else {
+        drop(start);
         return Err(Fault::Memory);
     };
     let Ok(mut writer) = BufWriter::new(alloc, io::writer(rt)) else {
+        drop(start);
         return Err(Fault::Memory);
     };
-    import(alloc, &mut reader, &mut writer, names, remaining)
+    import(alloc, start, values.remaining, &mut reader, &mut writer, names)
 }

@@ -3,8 +3,7 @@ ghost use Rattle.std.specs.Prelude.{◌≡◌, ◌++◌, IfOk, OnOk, string_byte
 ghost use Rattle.std.specs.List.{flat_map};
 ghost use Rattle.fsck_import.specs.NameTable.{node_line, storage_line, table_of};
 
-use crate::cluster::{Cluster, NodeRow};
-use crate::rows::Row;
+use fsck_cluster::{Cluster, NodeRow, Row};
 use std::alloc::{AllocError, Global};
 
 /// A comment for each node and each storage, in the order of their numbers.

@@ -1,41 +1,63 @@
-// The options of the program.
+// The options of the import.
 ghost use Rattle.std.specs.Prelude.{◌≡◌, false, Some, IfOk, codes, map, option_copied, string_bytes};
 ghost use Rattle.clap.specs.Words.{FailsBy, app_of, kind_of, rule_of};
 ghost use Rattle.clap.specs.Simple.{new_rule};
 ghost use Rattle.clap.specs.declared.error.kind.ErrorKind.TheVariants.{ValueValidation};
-ghost use Rattle.fsck_import.specs.Options.{given, option_rule, program, refusals_of, remaining_for};
+ghost use Rattle.fsck_import.specs.Options.{given, option_rule, program, refusals_of, remaining_for, skips_for, unclear_for, values_of, are_kinds, is_kind, has_word};
 
-use crate::cuts::number_of;
 use clap::error::ErrorKind;
 use clap::{Arg, ArgAction, Command, Error};
+use fsck_files::{Skips, Unclear};
+use fsck_text::number_of;
 use std::alloc::{AllocError, Global};
+
+/// What the values of three options say.
+#[derive(Clone, Copy, Drop)]
+pub struct Values {
+    /// The free bytes of each storage whose node's are not known.
+    pub remaining: u64,
+    /// The kinds of files that are left out.
+    pub skips: Skips,
+    pub unclear: Unclear,
+}
 
 /// What the words of a command line ask for.
 #[derive(Clone, Copy)]
 pub struct Asked<'a> {
-    /// The bytes that remain on each storage.
-    pub remaining: u64,
-    /// The path of the file into which the table of names goes, where one is named.
+    pub values: Values,
+    /// The path of the file into which the table of names goes, if one is named.
     pub names: Option<&'a str>,
+    /// The path of the report on DataNodes, if one is named.
+    pub nodes: Option<&'a str>,
 }
 
-/// What the words of a command line ask for, the program's name first: each option at most once. An `Err` is a request for help, a command
-/// line that is refused, or want of memory.
+/// What the words of a command line ask for, the program's name first: each option at most once. An
+/// `Err` is a request for help, a command line that is refused, or out of memory.
 pub fn asked_by<'a>(alloc: Global, words: &'a [String]) -> Result<Asked<'a>, Error>
-    ensures remaining { IfOk result (λ a. Some a.remaining
-        ≡ remaining_for (given (codes "remaining") (map string_bytes words.entry.now))) }
+    ensures values { IfOk result (λ a. Some a.values
+        ≡ values_of (given (codes "remaining") (map string_bytes words.entry.now))
+        (given (codes "skip") (map string_bytes words.entry.now))
+        (given (codes "unclear") (map string_bytes words.entry.now))) }
     ensures names { IfOk result (λ a. option_copied a.names
         ≡ given (codes "names") (map string_bytes words.entry.now)) }
+    ensures nodes { IfOk result (λ a. option_copied a.nodes
+        ≡ given (codes "nodes") (map string_bytes words.entry.now)) }
     ensures refused { FailsBy (refusals_of (map string_bytes words.entry.now)) result }
 {
     let command = command(alloc)?;
     let matches = command.try_get_matches_from(words)?;
-    match remaining_for(matches.get_str("remaining")) {
-        Some(remaining) => Ok(Asked {
-            remaining,
+    let values = values_of(
+        matches.get_str("remaining"),
+        matches.get_str("skip"),
+        matches.get_str("unclear"),
+    );
+    match values {
+        Some(values) => Ok(Asked {
+            values,
             names: matches.get_str("names"),
+            nodes: matches.get_str("nodes"),
         }),
-        None => Err(no_number(alloc)?),
+        None => Err(wrong_value(alloc)?),
     }
 }
 
@@ -43,18 +65,36 @@ fn command<'a>(alloc: Global) -> Result<Command<'a>, AllocError>
     ensures { IfOk result (λ c. app_of c ≡ program) }
 {
     Command::new(alloc, "fsck_import")
-        .about("Writes what hdfs fsck tells of a cluster as lines of the line tool")
+        .about("Writes what hdfs fsck says of a cluster as lines of the line tool")
         .arg(option(
             alloc,
             "remaining",
             "BYTES",
-            "bytes that remain on each storage, below 2^64; without it 1099511627776",
+            "free bytes of each storage without --nodes, below 2^64; without it 1099511627776",
         ))?
         .arg(option(
             alloc,
             "names",
             "FILE",
             "file for the table of names; without it standard error",
+        ))?
+        .arg(option(
+            alloc,
+            "nodes",
+            "FILE",
+            "text of hdfs dfsadmin -report: racks, free bytes, decommissioned and empty nodes",
+        ))?
+        .arg(option(
+            alloc,
+            "skip",
+            "KINDS",
+            "files left out: erasure-coded, replication-over-16, open, snapshots, commas between them",
+        ))?
+        .arg(option(
+            alloc,
+            "unclear",
+            "HOW",
+            "blocks with more places than live replicas: omit, good; without it they are refused",
         ))
 }
 
@@ -70,7 +110,7 @@ fn option<'a>(alloc: Global, name: &'a str, value: &'a str, help: &'a str) -> Ar
         .help(help)
 }
 
-/// An argument of which nothing but its name is said.
+/// An argument with a name and nothing else.
 fn new_arg<'a>(alloc: Global, name: &'a str) -> Arg<'a>
     ensures rule { rule_of result ≡ new_rule name.entry.now }
     ensures local { result.global ≡ false }
@@ -78,7 +118,19 @@ fn new_arg<'a>(alloc: Global, name: &'a str) -> Arg<'a>
     Arg::new(alloc, name)
 }
 
-/// The bytes that remain on each storage, by the option's text. `None` where it is no number below 2^64.
+/// What the texts of these options say; `None` if one of them is none of its values.
+fn values_of(remaining: Option<&str>, skip: Option<&str>, unclear: Option<&str>) -> Option<Values>
+    ensures { result ≡ values_of (option_copied remaining.entry) (option_copied skip.entry)
+        (option_copied unclear.entry) }
+{
+    Some(Values {
+        remaining: remaining_for(remaining)?,
+        skips: skips_for(skip)?,
+        unclear: unclear_for(unclear)?,
+    })
+}
+
+/// The free bytes of a storage, by the option's text. `None` if it is no number below 2^64.
 fn remaining_for(text: Option<&str>) -> Option<u64>
     ensures { result ≡ remaining_for (option_copied text.entry) }
 {
@@ -88,13 +140,67 @@ fn remaining_for(text: Option<&str>) -> Option<u64>
     }
 }
 
-/// What is told where the number is none.
-fn no_number(alloc: Global) -> Result<Error, AllocError>
-    ensures { IfOk result (λ e. kind_of e ≡ ErrorKind.ValueValidation) }
+/// What is left out, by the option's text. `None` if it is no list of kinds.
+fn skips_for(text: Option<&str>) -> Option<Skips>
+    ensures { result ≡ skips_for (option_copied text.entry) }
+{
+    let text = text.unwrap_or("");
+    if !text.is_empty() && !are_kinds(text) {
+        return None;
+    }
+    Some(Skips {
+        erasure_coded: has_word(text, "erasure-coded"),
+        open_files: has_word(text, "open"),
+        snapshots: has_word(text, "snapshots"),
+        over_replicated: has_word(text, "replication-over-16"),
+    })
+}
+
+/// Whether each word of a list with commas names a kind of file.
+fn are_kinds(list: &str) -> bool
+    ensures { result ≡ are_kinds list.now }
+{
+    list.split(',').all(|word| is_kind(word))
+}
+
+/// Whether a word names a kind of file.
+fn is_kind(word: &str) -> bool
+    ensures { result ≡ is_kind word.now }
+{
+    matches!(
+        word,
+        "erasure-coded" | "open" | "snapshots" | "replication-over-16"
+    )
+}
+
+/// Whether a word is in a list with commas.
+fn has_word(list: &str, word: &str) -> bool
+    ensures { result ≡ has_word list.now word.now }
+{
+    list.split(',').any(|one| word == one)
+}
+
+/// What is done with unclear blocks, by the option's text. `None` if it is none of the words.
+fn unclear_for(text: Option<&str>) -> Option<Unclear>
+    ensures { result ≡ unclear_for (option_copied text.entry) }
+{
+    match text {
+        None => Some(Unclear::Refuse),
+        Some("omit") => Some(Unclear::Omit),
+        Some("good") => Some(Unclear::Good),
+        Some(_) => None,
+    }
+}
+
+/// What is said of a value that is none of its option's.
+fn wrong_value(alloc: Global) -> Result<Error, AllocError>
+    ensures { IfOk result (λ e. kind_of e ≡ ValueValidation) }
 {
     let mut command = command(alloc)?;
     command.error(
         ErrorKind::ValueValidation,
-        "the value of '--remaining <BYTES>' is not a whole number below 2^64",
+        "--remaining takes a whole number below 2^64; --skip takes erasure-coded, \
+         replication-over-16, open and snapshots with commas between them; --unclear takes omit \
+         or good",
     )
 }

@@ -1,112 +1,182 @@
 // A whole text, from a reader.
-ghost use Rattle.std.specs.Prelude.{◌≡◌, Ok, Err, IfOk, IfErr, OnOk, ◌⊎◌};
-ghost use Rattle.fsck_import.specs.Reading.{TextGives, without_end, at_line, IsReadFault, IsFaultOfText};
-ghost use Rattle.fsck_import.specs.Clusters.{no_cluster, after_bytes, at_end};
+ghost use Rattle.std.specs.Prelude.{◌≡◌, Ok, Some, IfOk, OnOk, IfErr, IfSome};
+ghost use Rattle.fsck_import.specs.Causes.{IsCause};
+ghost use Rattle.fsck_import.specs.Reading.{beginning, after_taken, at_end, ended_nodes, nodes_of, reading_of, IsFileFault, IsNodeFault, IsFaultOfReading, IsFaultOfNodes};
+ghost use Rattle.fsck_import.specs.Lines.{IsReadFault};
 
-use crate::cluster::Cluster;
-use crate::fault::{Fault, LineFault, Unread};
-use crate::line::Refusal;
+use crate::fault::{Cause, Fault, LineFault, Quoted, Unread};
+use crate::lines::{TakesLines, take_lines};
+use fsck_cluster::{Cluster, ClusterFault, NodeFault, NodeList, NodeRefusal};
+use fsck_files::{Block, Files, Refusal, Skips, Unclear, Why};
 use std::alloc::Global;
-use std::io;
-use std::io::{BufRead, ErrorKind};
+use std::io::BufRead;
 
-/// The cluster of which a text tells. No more of the text is held than one line.
-pub fn read_cluster<R: BufRead>(alloc: Global, reader: &mut R) -> Result<Cluster, Fault>
-    ensures text { IfOk result (λ c. TextGives (R.remaining reader.old) (Ok c)) }
-    ensures refused { IfErr result (λ f. IsFaultOfText f (R.remaining reader.old)) }
-{
-    let mut cluster = Cluster::new(alloc);
-    if let Err(fault) = take_text(alloc, reader, &mut cluster) {
-        drop(cluster);
-        return Err(fault);
+/// What was read of a text of fsck, and the cluster that it describes so far.
+#[derive(Drop)]
+pub struct Reading {
+    pub files: Files,
+    pub cluster: Cluster,
+}
+
+impl TakesLines for Reading {
+    ghost use Rattle.fsck_import.specs.Reading.{after_line};
+
+    ghost after = { after_line };
+
+    fn take_line(&mut self, alloc: Global, line: &str) -> Result<(), LineFault> {
+        match self.files.take_line(alloc, line) {
+            Ok(Some(block)) => self.take_block(alloc, &block),
+            Ok(None) => Ok(()),
+            Err(fault) => Err(line_fault(alloc, line, fault)),
+        }
     }
-    Ok(cluster)
 }
 
-/// Takes a whole text.
-fn take_text<R: BufRead>(alloc: Global, reader: &mut R, cluster: &mut Cluster) -> Result<(), Fault>
-    requires { cluster.old ≡ no_cluster }
-    ensures text { OnOk result (TextGives (R.remaining reader.old) (Ok cluster.new)) }
-    ensures refused { IfErr result (λ f. IsFaultOfText f (R.remaining reader.old)) }
+/// The refusal of a line, with the word that is not understood.
+fn line_fault(alloc: Global, line: &str, fault: fsck_files::LineFault) -> LineFault
+    ensures { IsFileFault result line.now fault.entry }
 {
-    let number = take_lines(alloc, reader, cluster)?;
-    check_end(cluster, number)
+    match fault {
+        fsck_files::LineFault::Memory => LineFault::Memory,
+        fsck_files::LineFault::Refused(Refusal::Why(why)) => LineFault::Refused(Cause::File(why)),
+        fsck_files::LineFault::Refused(Refusal::Wrong(wrong)) => {
+            match Quoted::new(alloc, line, &wrong) {
+                Ok(quoted) => LineFault::Refused(Cause::Word(quoted)),
+                Err(_) => LineFault::Memory,
+            }
+        }
+    }
 }
 
-/// Takes every line, and says which number the line behind the last would have.
-fn take_lines<R: BufRead>(
+impl Reading {
+    /// Nothing was read; the cluster has the nodes that are known.
+    pub fn new(alloc: Global, nodes: Cluster, skips: Skips, unclear: Unclear) -> Reading
+        ensures { result ≡ beginning nodes skips unclear }
+    {
+        Reading {
+            files: Files::new(alloc, skips, unclear),
+            cluster: nodes,
+        }
+    }
+
+    /// Takes a block.
+    fn take_block(&mut self, alloc: Global, block: &Block) -> Result<(), LineFault>
+        ensures ok { OnOk result (after_taken self.old.files self.old.cluster block.now ≡ Ok self.new) }
+        ensures refused { IfErr result (λ f. IsCause f (after_taken self.old.files self.old.cluster block.now)) }
+    {
+        match self.cluster.take_block(alloc, block) {
+            Ok(()) => Ok(()),
+            Err(ClusterFault::Memory) => Err(LineFault::Memory),
+            Err(ClusterFault::Refused(why)) => Err(LineFault::Refused(Cause::Cluster(why))),
+        }
+    }
+
+    /// Ends the text: its last line was read, and each known node has a storage.
+    fn end(&mut self, alloc: Global) -> Result<(), LineFault>
+        ensures ok { OnOk result (at_end self.old ≡ Ok self.new) }
+        ensures refused { IfErr result (λ f. IsCause f (at_end self.old)) }
+    {
+        if !self.files.is_whole() {
+            return Err(LineFault::Refused(Cause::File(Why::CutOff)));
+        }
+        match self.cluster.add_spares(alloc) {
+            Ok(()) => Ok(()),
+            Err(ClusterFault::Memory) => Err(LineFault::Memory),
+            Err(ClusterFault::Refused(why)) => Err(LineFault::Refused(Cause::Cluster(why))),
+        }
+    }
+}
+
+/// Reads a whole text of fsck. No more of it is held than one line.
+pub fn read_cluster<R: BufRead>(
     alloc: Global,
     reader: &mut R,
-    cluster: &mut Cluster,
-) -> Result<u64, Fault>
-    requires { cluster.old ≡ no_cluster }
-    ensures text { IfOk result (λ n. TextGives (R.remaining reader.old)
-        (at_line n (at_end cluster.new))) }
-    ensures refused { IfErr result (λ f. IsFaultOfText f (R.remaining reader.old)) }
+    reading: Reading,
+) -> Result<Reading, Fault>
+    ensures text { IfOk result (λ read. IfSome (R.remaining reader.old)
+        (λ text. reading_of reading text ≡ Ok read)) }
+    ensures refused { IfErr result (λ f. IsFaultOfReading reading f (R.remaining reader.old)) }
 {
-    let mut line = Vec::new(alloc);
-    for number in 1..u64::MAX {
-        line.clear();
-        match reader.read_until(b'\n', &mut line) {
-            Ok(0) => return Ok(number),
-            Ok(_) => {}
-            Err(error) => return Err(read_fault(&error)),
-        }
-        let told = without_end(line.as_slice());
-        if let Err(fault) = take_numbered(cluster, alloc, number, told) {
-            return Err(fault);
+    let mut read = reading;
+    match take_whole(alloc, reader, &mut read) {
+        Ok(()) => Ok(read),
+        Err(fault) => {
+            drop(read);
+            Err(fault)
         }
     }
-    Err(Fault::Read)
 }
 
-/// Takes a line, and says its number where it is refused.
-fn take_numbered(
-    cluster: &mut Cluster,
+/// Takes a whole text of fsck.
+fn take_whole<R: BufRead>(
     alloc: Global,
-    number: u64,
-    line: &[u8],
+    reader: &mut R,
+    reading: &mut Reading,
 ) -> Result<(), Fault>
-    ensures ok { OnOk result (at_line number (after_bytes cluster.old line.now) ≡ Ok cluster.new) }
-    ensures refused { IfErr result
-        (λ f. IsReadFault f (at_line number (after_bytes cluster.old line.now))) }
+    ensures text { OnOk result (IfSome (R.remaining reader.old)
+        (λ text. reading_of reading.old text ≡ Ok reading.new)) }
+    ensures refused { IfErr result (λ f. IsFaultOfReading reading.old f (R.remaining reader.old)) }
 {
-    match cluster.take_bytes(alloc, line) {
+    let number = take_lines(alloc, reader, reading)?;
+    match reading.end(alloc) {
         Ok(()) => Ok(()),
         Err(LineFault::Memory) => Err(Fault::Memory),
         Err(LineFault::Refused(why)) => Err(Fault::Refused(Unread { line: number, why })),
     }
 }
 
-/// Whether a cluster is whole at the end of the text, where a line of this number would come next.
-fn check_end(cluster: &Cluster, number: u64) -> Result<(), Fault>
-    ensures text { OnOk result (at_line number (at_end cluster.now) ≡ Ok cluster.now) }
-    ensures refused { IfErr result (λ f. IsReadFault f (at_line number (at_end cluster.now))) }
-{
-    if cluster.is_whole() {
-        Ok(())
-    } else {
-        Err(Fault::Refused(Unread {
-            line: number,
-            why: Refusal::CutOff,
-        }))
+impl TakesLines for NodeList {
+    ghost use Rattle.fsck_import.specs.Reading.{after_node_line};
+
+    ghost after = { after_node_line };
+
+    fn take_line(&mut self, alloc: Global, line: &str) -> Result<(), LineFault> {
+        match NodeList::take_line(self, alloc, line) {
+            Ok(()) => Ok(()),
+            Err(fault) => Err(node_fault(alloc, line, fault)),
+        }
     }
 }
 
-/// A line without its line end.
-fn without_end(line: &[u8]) -> &[u8]
-    ensures { result.now ≡ without_end line.now }
+/// The refusal of a line of the report, with the word that is not understood.
+fn node_fault(alloc: Global, line: &str, fault: NodeFault) -> LineFault
+    ensures { IsNodeFault result line.now fault.entry }
 {
-    line.strip_suffix(b"\n".as_slice()).unwrap_or(line)
+    match fault {
+        NodeFault::Memory => LineFault::Memory,
+        NodeFault::Refused(NodeRefusal::Why(why)) => LineFault::Refused(Cause::Node(why)),
+        NodeFault::Refused(NodeRefusal::Wrong(wrong)) => match Quoted::new(alloc, line, &wrong) {
+            Ok(quoted) => LineFault::Refused(Cause::Word(quoted)),
+            Err(_) => LineFault::Memory,
+        },
+    }
 }
 
-/// Memory that was refused to a read, or a read that failed.
-fn read_fault(error: &io::Error) -> Fault
-    ensures { (result ≡ Fault.Memory) ⊎ (result ≡ Fault.Read) }
+/// Reads a whole report on DataNodes.
+pub fn read_nodes<R: BufRead>(alloc: Global, reader: &mut R) -> Result<Cluster, Fault>
+    ensures text { IfOk result (λ c. IfSome (R.remaining reader.old) (λ text. nodes_of text ≡ Ok c)) }
+    ensures refused { IfErr result (λ f. IsFaultOfNodes f (R.remaining reader.old)) }
 {
-    if error.kind() == ErrorKind::OutOfMemory {
-        Fault::Memory
-    } else {
-        Fault::Read
+    let mut list = NodeList::new(alloc);
+    match take_lines(alloc, reader, &mut list) {
+        Ok(number) => end_nodes(alloc, list, number),
+        Err(fault) => {
+            drop(list);
+            Err(fault)
+        }
+    }
+}
+
+/// The nodes at the end of the report, of which the next line would have this number.
+fn end_nodes(alloc: Global, list: NodeList, number: u64) -> Result<Cluster, Fault>
+    ensures ok { IfOk result (λ c. ended_nodes (list, number) ≡ Ok c) }
+    ensures refused { IfErr result (λ f. IsReadFault f (ended_nodes (list, number))) }
+{
+    match list.end(alloc) {
+        Ok(cluster) => Ok(cluster),
+        Err(fault) => Err(match node_fault(alloc, "", fault) {
+            LineFault::Memory => Fault::Memory,
+            LineFault::Refused(why) => Fault::Refused(Unread { line: number, why }),
+        }),
     }
 }

@@ -1,47 +1,303 @@
-// The lines of calls, to a writer.
-ghost use Rattle.std.specs.Prelude.{◌≡◌, ◌≤◌, true, length, IfOk, OnOk, OnErr, IfErr, string_bytes};
-ghost use Rattle.std.specs.Io.KnownBytes.{Appends};
+// The lines of a cluster, to a writer.
+ghost use Rattle.std.specs.Prelude.{◌≡◌, ◌≤◌, ◌++◌, ◌∷◌, [], true, length, map, take, drop, filter, IfOk, OnOk, IfErr, string_bytes};
+ghost use Rattle.std.specs.List.{flat_map};
 ghost use Rattle.bm_lines.specs.Asking.{has_op, line_text};
 ghost use Rattle.bm_lines.specs.Lines.{ended};
-ghost use Rattle.fsck_import.specs.Writing.{HaveLines, Tells, IsLineOf, IsWriteFault};
+ghost use Rattle.bm_base.specs.declared.call.Call.{Call as TheCall};
+ghost use Rattle.fsck_import.specs.CallsFor.{storages_of, register, free_on, remaining_on, heartbeat, add, entry, received, reports, corrupt, drain, draining, calls_before, calls_after, calls_for};
+ghost use Rattle.fsck_import.specs.Writing.{Written, Tells, IsLineOf, IsWriteFault};
 
 use crate::fault::Fault;
-use bm_base::Call;
+use bm_base::{
+    BlockId, Call, Entry, Event, Items, MAX_ENTRIES, NodeId, Rack, Remaining, StorageId,
+};
 use bm_lines::{MAX_LINE, line_of};
-use std::alloc::Global;
+use fsck_cluster::{Cluster, Held, NodeRow, Row};
+use std::alloc::{AllocError, Global};
 use std::io::Write;
 
-/// Writes the line of each call, and flushes.
-pub fn write_flushed<W: Write>(alloc: Global, writer: &mut W, calls: &[Call]) -> Result<(), Fault>
-    requires { HaveLines calls.now }
-    ensures tells { OnOk result (Tells calls.now (W.contents writer.old) (W.contents writer.new)) }
+/// Writes the line of each call for a cluster, with so many free bytes on each storage whose node's are
+/// not known, and flushes.
+#[tactic(auto, using(crate::proofs::WriteLemmas::all_flushed))]
+pub fn write_flushed<W: Write>(
+    alloc: Global,
+    writer: &mut W,
+    cluster: &Cluster,
+    remaining: u64,
+) -> Result<(), Fault>
+    ensures tells { OnOk result (Tells (calls_for cluster.now remaining) (W.contents writer.old)
+        (W.contents writer.new)) }
     ensures faults { IfErr result IsWriteFault }
 {
-    if let Err(fault) = write_calls(alloc, writer, calls) {
-        return Err(fault);
-    }
+    write_before(alloc, writer, cluster, remaining)?;
+    write_after(alloc, writer, cluster)?;
     match writer.flush() {
         Ok(()) => Ok(()),
         Err(_) => Err(Fault::Write),
     }
 }
 
-/// Writes the line of each call.
-fn write_calls<W: Write>(alloc: Global, writer: &mut W, calls: &[Call]) -> Result<(), Fault>
-    requires { HaveLines calls.now }
-    ensures tells { OnOk result (Tells calls.now (W.contents writer.old) (W.contents writer.new)) }
+/// Nodes with their storages, what is free there, and blocks.
+#[tactic(auto, using(crate::proofs::WriteLemmas::written_more))]
+fn write_before<W: Write>(
+    alloc: Global,
+    writer: &mut W,
+    cluster: &Cluster,
+    remaining: u64,
+) -> Result<(), Fault>
+    ensures written { OnOk result (Written (calls_before cluster.now remaining) (W.contents writer.old)
+        (W.contents writer.new)) }
     ensures faults { IfErr result IsWriteFault }
 {
-    for call in calls {
-        let line = told_line(alloc, call)?;
-        if writer.write_all(line.as_bytes()).is_err() {
-            return Err(Fault::Write);
+    write_registers(alloc, writer, cluster)?;
+    write_heartbeats(alloc, writer, cluster, remaining)?;
+    write_adds(alloc, writer, cluster)
+}
+
+/// Replicas, those of them that are corrupt, and nodes that are decommissioned.
+#[tactic(auto, using(crate::proofs::WriteLemmas::written_more))]
+fn write_after<W: Write>(alloc: Global, writer: &mut W, cluster: &Cluster) -> Result<(), Fault>
+    ensures written { OnOk result (Written (calls_after cluster.now) (W.contents writer.old)
+        (W.contents writer.new)) }
+    ensures faults { IfErr result IsWriteFault }
+{
+    write_reports(alloc, writer, cluster)?;
+    write_corrupt(alloc, writer, cluster)?;
+    write_drains(alloc, writer, cluster)
+}
+
+/// Each node comes with its storages.
+#[tactic(auto, using(crate::proofs::WriteLemmas::written_more))]
+fn write_registers<W: Write>(alloc: Global, writer: &mut W, cluster: &Cluster) -> Result<(), Fault>
+    ensures written { OnOk result (Written (map (register cluster.now.rows) cluster.now.node_rows)
+        (W.contents writer.old) (W.contents writer.new)) }
+    ensures faults { IfErr result IsWriteFault }
+{
+    for node in cluster.node_rows.as_slice() {
+        let call = register(alloc, cluster.rows.as_slice(), node)?;
+        write_call(alloc, writer, &call)?;
+    }
+    Ok(())
+}
+
+fn register(alloc: Global, rows: &[Row], node: &NodeRow) -> Result<Call, AllocError>
+    ensures { IfOk result (λ call. call ≡ register rows.now node.now) }
+{
+    let storages = storages_of(alloc, rows, node.number)?;
+    Ok(Call::Apply(Event::Register {
+        node: NodeId(node.number),
+        rack: Rack(node.rack),
+        storages: Items::from_vec(storages),
+    }))
+}
+
+/// The storages of a node.
+fn storages_of(alloc: Global, rows: &[Row], node: u32) -> Result<Vec<StorageId>, AllocError>
+    ensures { IfOk result (λ v. v.items ≡ storages_of rows.now node) }
+{
+    rows.iter()
+        .filter(|row| row.node == node)
+        .map(|row| StorageId(row.number))
+        .collect(alloc)
+}
+
+/// What is free on the storages of each node.
+#[tactic(auto, using(crate::proofs::WriteLemmas::written_more))]
+fn write_heartbeats<W: Write>(
+    alloc: Global,
+    writer: &mut W,
+    cluster: &Cluster,
+    remaining: u64,
+) -> Result<(), Fault>
+    ensures written { OnOk result (Written (map (heartbeat cluster.now.rows remaining) cluster.now.node_rows)
+        (W.contents writer.old) (W.contents writer.new)) }
+    ensures faults { IfErr result IsWriteFault }
+{
+    for node in cluster.node_rows.as_slice() {
+        let call = heartbeat(alloc, cluster.rows.as_slice(), node, remaining)?;
+        write_call(alloc, writer, &call)?;
+    }
+    Ok(())
+}
+
+fn heartbeat(
+    alloc: Global,
+    rows: &[Row],
+    node: &NodeRow,
+    remaining: u64,
+) -> Result<Call, AllocError>
+    ensures { IfOk result (λ call. call ≡ heartbeat rows.now remaining node.now) }
+{
+    let storages = storages_of(alloc, rows, node.number)?;
+    let bytes = free_on(remaining, node.remaining, storages.len());
+    let told = remaining_on(alloc, storages.as_slice(), bytes)?;
+    Ok(Call::Apply(Event::Heartbeat {
+        node: NodeId(node.number),
+        remaining: Items::from_vec(told),
+    }))
+}
+
+/// The free bytes of a storage, of which its node has so many.
+fn free_on(remaining: u64, of_node: Option<u64>, storages: usize) -> u64
+    ensures { result ≡ free_on remaining of_node storages }
+{
+    match of_node {
+        Some(bytes) => bytes / (storages as u64).max(1),
+        None => remaining,
+    }
+}
+
+/// Each of these storages has so many free bytes.
+fn remaining_on(
+    alloc: Global,
+    storages: &[StorageId],
+    remaining: u64,
+) -> Result<Vec<Remaining>, AllocError>
+    ensures { IfOk result (λ v. v.items ≡ remaining_on remaining storages.now) }
+{
+    storages
+        .iter()
+        .map(|storage| Remaining {
+            storage: *storage,
+            remaining,
+        })
+        .collect(alloc)
+}
+
+/// Each block is added.
+#[tactic(auto, using(crate::proofs::WriteLemmas::written_more))]
+fn write_adds<W: Write>(alloc: Global, writer: &mut W, cluster: &Cluster) -> Result<(), Fault>
+    ensures written { OnOk result (Written (map add cluster.now.blocks) (W.contents writer.old)
+        (W.contents writer.new)) }
+    ensures faults { IfErr result IsWriteFault }
+{
+    for index in 0..cluster.blocks.len() {
+        if let Some((id, info)) = cluster.blocks.get(index) {
+            let call = Call::Apply(Event::AddBlock {
+                id,
+                stamp: info.stamp,
+                repl: info.repl,
+            });
+            write_call(alloc, writer, &call)?;
         }
     }
     Ok(())
 }
 
-/// The line of a call, with its line end; a fault where the tool would not read it for its length.
+/// The replicas on each storage.
+#[tactic(auto, using(crate::proofs::WriteLemmas::written_more))]
+fn write_reports<W: Write>(alloc: Global, writer: &mut W, cluster: &Cluster) -> Result<(), Fault>
+    ensures written { OnOk result (Written (flat_map reports cluster.now.rows) (W.contents writer.old)
+        (W.contents writer.new)) }
+    ensures faults { IfErr result IsWriteFault }
+{
+    for row in cluster.rows.as_slice() {
+        write_row(alloc, writer, row)?;
+    }
+    Ok(())
+}
+
+/// The replicas on a storage: as many as fit into a report, and then each of the others.
+#[tactic(auto, using(crate::proofs::WriteLemmas::written_more))]
+fn write_row<W: Write>(alloc: Global, writer: &mut W, row: &Row) -> Result<(), Fault>
+    ensures written { OnOk result (Written (reports row.now) (W.contents writer.old)
+        (W.contents writer.new)) }
+    ensures faults { IfErr result IsWriteFault }
+{
+    let held = row.held.as_slice();
+    let (first, rest) = held.split_at(held.len().min(MAX_ENTRIES));
+    let call = Call::Apply(Event::FullReport {
+        storage: StorageId(row.number),
+        entries: Items::from_vec(entries_of(alloc, first)?),
+    });
+    write_call(alloc, writer, &call)?;
+    drop(call);
+    write_received(alloc, writer, StorageId(row.number), rest)
+}
+
+/// Replicas, as the entries of a report.
+fn entries_of(alloc: Global, held: &[Held]) -> Result<Vec<Entry>, AllocError>
+    ensures { IfOk result (λ v. v.items ≡ map entry held.now) }
+{
+    held.iter()
+        .map(|one| Entry::one(one.id, one.stamp))
+        .collect(alloc)
+}
+
+/// Each of these replicas is received.
+#[tactic(auto, using(crate::proofs::WriteLemmas::written_more))]
+fn write_received<W: Write>(
+    alloc: Global,
+    writer: &mut W,
+    storage: StorageId,
+    held: &[Held],
+) -> Result<(), Fault>
+    ensures written { OnOk result (Written (map (received storage) held.now) (W.contents writer.old)
+        (W.contents writer.new)) }
+    ensures faults { IfErr result IsWriteFault }
+{
+    for one in held {
+        let call = Call::Apply(Event::Received {
+            storage,
+            id: one.id,
+            stamp: one.stamp,
+        });
+        write_call(alloc, writer, &call)?;
+    }
+    Ok(())
+}
+
+/// Each corrupt replica is called so.
+#[tactic(auto, using(crate::proofs::WriteLemmas::written_more))]
+fn write_corrupt<W: Write>(alloc: Global, writer: &mut W, cluster: &Cluster) -> Result<(), Fault>
+    ensures written { OnOk result (Written (map corrupt cluster.now.bad) (W.contents writer.old)
+        (W.contents writer.new)) }
+    ensures faults { IfErr result IsWriteFault }
+{
+    for bad in cluster.bad.as_slice() {
+        let call = Call::Apply(Event::Corrupt {
+            storage: bad.storage,
+            id: bad.id,
+        });
+        write_call(alloc, writer, &call)?;
+    }
+    Ok(())
+}
+
+/// Each node that is being decommissioned, or has been.
+#[tactic(auto, using(crate::proofs::WriteLemmas::written_more))]
+fn write_drains<W: Write>(alloc: Global, writer: &mut W, cluster: &Cluster) -> Result<(), Fault>
+    ensures written { OnOk result (Written (map drain (draining cluster.now)) (W.contents writer.old)
+        (W.contents writer.new)) }
+    ensures faults { IfErr result IsWriteFault }
+{
+    for node in cluster.node_rows.as_slice() {
+        if cluster.draining.has(u64::from(node.number)) {
+            let call = Call::Apply(Event::Drain {
+                node: NodeId(node.number),
+            });
+            write_call(alloc, writer, &call)?;
+        }
+    }
+    Ok(())
+}
+
+/// Writes the line of a call.
+#[tactic(auto, using(crate::proofs::WriteLemmas::one_written))]
+fn write_call<W: Write>(alloc: Global, writer: &mut W, call: &Call) -> Result<(), Fault>
+    requires { has_op call.now ≡ true }
+    ensures written { OnOk result (Written (call.now ∷ []) (W.contents writer.old)
+        (W.contents writer.new)) }
+    ensures faults { IfErr result IsWriteFault }
+{
+    let line = told_line(alloc, call)?;
+    match writer.write_all(line.as_bytes()) {
+        Ok(()) => Ok(()),
+        Err(_) => Err(Fault::Write),
+    }
+}
+
+/// The line of a call, with its line end; a fault if the tool would not read it for its length.
 fn told_line(alloc: Global, call: &Call) -> Result<String, Fault>
     requires { has_op call.now ≡ true }
     ensures text { IfOk result (λ s. string_bytes s ≡ ended (line_text call.now)) }

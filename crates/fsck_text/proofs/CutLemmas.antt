@@ -1,12 +1,12 @@
 -- Where a text is cut.
-use Rattle.std.proofs.Common.{◌≡◌, ◌≢◌, ℕ, ◌<◌, ◌≤◌, ◌+◌, [], ◌∷◌, ◌++◌, Option, Some, None, option_map, MatchOption, suc, length, get_or, take, drop, arith, refl, sym, ap, ◌∙◌, inl, inr}
+use Rattle.std.proofs.Common.{◌≡◌, ◌≢◌, ℕ, ◌<◌, ◌≤◌, ◌+◌, [], ◌∷◌, ◌++◌, Option, Some, None, option_map, MatchOption, suc, length, get_or, take, drop, arith, refl, sym, ap, ◌∙◌, inl, inr, zero, unwrap_or}
 use Rattle.std.proofs.lemmas.Bool.{ne_eqb, eq-eqb}
 use Rattle.std.proofs.lemmas.Bool.Decides.{eqb_tells}
 use Rattle.std.proofs.lemmas.Str.Pattern.{NoCharPasses-char, drop_at_char}
 use Rattle.std.proofs.lemmas.List.{take-append-drop}
-use Rattle.std.specs.Str.Pattern.{RFindsChar, FindsTextPrefix}
+use Rattle.std.specs.Str.Pattern.{RFindsChar, FindsText, FindsTextPrefix, MatchBeginsAt}
 use denote.Ref.{Bor}
-use Rattle.fsck_text.specs.Cuts.{Text, cut_at, last_cut_at, after_prefix}
+use Rattle.fsck_text.specs.Cuts.{Text, cut_at, last_cut_at, after_prefix, bytes_before}
 
 -- no byte of the text is the mark
 abbrev pub IsWithout : ℕ → Text → Type 0
@@ -64,3 +64,24 @@ pub after_prefix-from : (p bs : Text) (r : Option (Bor Text))
     → option_map (λ t. t.now) r ≡ after_prefix p bs
 after_prefix-from p bs None h = sym (after_prefix-none p bs h)
 after_prefix-from p bs (Some x) h = ap Some h.2 ∙ sym (ap (after_prefix p) h.1.1 ∙ after_prefix-parts p (drop h.0 bs))
+
+bytes_before-at : (word line : Text) (i : ℕ) (rest : Text) → drop i line ≡ word ++ rest → ((k : ℕ) → k < i → (r : Text) → drop k line ≢ word ++ r)
+    → bytes_before word line ≡ i
+bytes_before-at word [] zero rest at before = refl
+bytes_before-at word [] (suc i) rest at before = absurd (before 0 (omega arith) rest at)
+bytes_before-at word (b ∷ bs) zero rest at before = rw (ap (after_prefix word) at ∙ after_prefix-parts word rest) refl
+bytes_before-at word (b ∷ bs) (suc i) rest at before =
+    rw (after_prefix-none word (b ∷ bs) (λ r. before 0 (omega arith) r))
+    (omega (arith, bytes_before-at word bs i rest at (λ k lt r. before (suc k) (omega arith) r)))
+
+bytes_before-none : (word line : Text) → ((i : ℕ) → i ≤ length line → (r : Text) → drop i line ≢ word ++ r) → bytes_before word line ≡ length line
+bytes_before-none word [] none = refl
+bytes_before-none word (b ∷ bs) none =
+    rw (after_prefix-none word (b ∷ bs) (λ r. none 0 (omega arith) r))
+    (omega (arith, bytes_before-none word bs (λ i le r. none (suc i) (omega arith) r)))
+
+-- what a call of find gives
+pub bytes_before-from : (word line : Text) (r : Option ℕ)
+    → MatchOption r (FindsText word line None) (MatchBeginsAt (FindsText word) line) → unwrap_or r (length line) ≡ bytes_before word line
+bytes_before-from word line None h = sym (bytes_before-none word line h)
+bytes_before-from word line (Some i) h = sym (bytes_before-at word line i (drop h.0 line) h.1.1.split h.1.0)

@@ -1,5 +1,5 @@
 -- Cutting a text in two, and reading a number.
-use Rattle.std.specs.Prelude.{ℕ, ◌+◌, ◌-◌, ◌*◌, ◌^◌, ◌==◌, ◌&&◌, Bool, List, [], ◌∷◌, Option, Some, None, option_map, option_and_then, if◌then◌else◌, length, nat_lt, nat_le}
+use Rattle.std.specs.Prelude.{ℕ, ◌+◌, ◌-◌, ◌*◌, ◌^◌, ◌==◌, ◌&&◌, Bool, List, [], ◌∷◌, Option, Some, None, is_some, option_map, option_and_then, if◌then◌else◌, length, nat_lt, nat_le}
 use Rattle.std.specs.Option.{option_map_or}
 
 -- bytes
@@ -45,6 +45,14 @@ before_last mark text = option_and_then (λ p. if is_empty p.1 then Some p.0 els
 -- the text before the first space, 32, and the text after it; all and nothing if there is no space
 abbrev pub word_and_rest : Text → Text × Text
 word_and_rest text = option_map_or (λ p. p) (cut_at 32 text) (text, [])
+
+-- how many bytes come before the first occurrence of a word; all of them if it does not occur
+abbrev pub bytes_before : Text → Text → ℕ
+bytes_before word [] = 0
+bytes_before word (b ∷ bs) = if is_some (after_prefix word (b ∷ bs)) then 0 else bytes_before word bs + 1
+
+abbrev pub column_of : Text → Text → ℕ
+column_of word line = bytes_before word line + 1
 
 -- with one more digit; none past 64 bits
 abbrev pub with_digit : ℕ → ℕ → Option ℕ

@@ -1,6 +1,6 @@
 // Cutting a text in two, and reading a number.
 ghost use Rattle.std.specs.Prelude.{◌≡◌, ◌<◌, option_map};
-ghost use Rattle.fsck_text.specs.Cuts.{cut_at, last_cut_at, after_prefix, after_first, before_last, word_and_rest, number_of, with_digit, small_number_of};
+ghost use Rattle.fsck_text.specs.Cuts.{cut_at, last_cut_at, after_prefix, after_first, before_last, word_and_rest, column_of, number_of, with_digit, small_number_of};
 
 /// The text before the first `mark`, and the text after it.
 pub fn cut_at(text: &str, mark: char) -> Option<(&str, &str)>
@@ -55,6 +55,13 @@ pub fn word_and_rest(text: &str) -> (&str, &str)
         Some(parts) => parts,
         None => (text, ""),
     }
+}
+
+/// The column at which a word first occurs in a line, in bytes from 1; past the end if it does not occur.
+pub fn column_of(line: &str, word: &str) -> usize
+    ensures { result ≡ column_of word.now line.now }
+{
+    line.find(word).unwrap_or(line.len()) + 1
 }
 
 /// The number that a text of decimal digits writes, if it is below 2^64.

@@ -16,6 +16,7 @@ mod summary;
 mod wrong;
 
 pub use block::{BlockLine, block_of, corrupt_block, is_missing};
+pub use cuts::{column_of, number_of};
 pub use heading::{Heading, Layout};
 pub use line::{Line, line_of};
 pub use list::{Listed, list_of};

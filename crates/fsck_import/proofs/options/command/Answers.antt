@@ -16,4 +16,7 @@ pub returns : goal.returns
 returns c =
     let s0 : app_of c.about.result ≡ new_app (codes "fsck_import") = ap app_of_fields c.about.ensures ∙ c.new.ensures.app in
     let s1 = added _ _ _ _ _ c.in_ok-arg.ensures c.option.ensures.local s0 c.option.ensures.rule in
-    IfOk-weaker c.arg-2.result _ _ (λ r h. added _ _ _ _ _ h c.option-2.ensures.local s1 c.option-2.ensures.rule) c.arg-2.ensures
+    let s2 = added _ _ _ _ _ c.in_ok-arg-2.ensures c.option-2.ensures.local s1 c.option-2.ensures.rule in
+    let s3 = added _ _ _ _ _ c.in_ok-arg-3.ensures c.option-3.ensures.local s2 c.option-3.ensures.rule in
+    let s4 = added _ _ _ _ _ c.in_ok-arg-4.ensures c.option-4.ensures.local s3 c.option-4.ensures.rule in
+    IfOk-weaker c.arg-5.result _ _ (λ r h. added _ _ _ _ _ h c.option-5.ensures.local s4 c.option-5.ensures.rule) c.arg-5.ensures

@@ -1,0 +1,166 @@
+-- The corrupt replicas, and the nodes that drain.
+use Rattle.std.proofs.Common.{◌≡◌, ℕ, zero, suc, ◌+◌, ◌-◌, ◌<◌, ◌≤◌, ◌==◌, ◌||◌, Bool, true, false, List, [], ◌∷◌, ◌++◌, map, length, length-append, refl, sym, ap, ◌∙◌, arith, true≢false, if◌then◌else◌}
+use Rattle.std.specs.List.{list_any, AllByRecursion}
+use Rattle.std.proofs.lemmas.Bool.Decides.{nat_tests}
+use Rattle.std.specs.Str.{bytes_eq}
+use Rattle.std.proofs.lemmas.List.Folds.{list_any-append}
+use Rattle.bm_base.specs.Entries.{count_up}
+use Rattle.fsck_text.specs.Cuts.{Text}
+use Rattle.fsck_files.specs.Numbers.{has_number, with_number}
+use Rattle.fsck_cluster.specs.Names.{name_of}
+use Rattle.fsck_cluster.specs.declared.cluster.Bad.{Bad}
+use Rattle.fsck_cluster.specs.declared.cluster.NodeRow.{NodeRow}
+use Rattle.fsck_import.proofs.NameLemmas.{map-push, name_of-more, same_name, number_is_itself}
+
+-- Corrupt replicas.
+
+-- by the name of its storage
+abbrev pub by_name : List Text → Bad → Text × ℕ
+by_name names b = (name_of names b.storage, b.id)
+
+-- the storage of a replica has one of so many names
+abbrev pub HasName : ℕ → Bad → Type 0
+HasName n b = b.storage - 1 < n
+
+pub bad-push : (n : ℕ) (bad : List Bad) (b : Bad) → AllByRecursion (HasName n) bad → HasName n b → AllByRecursion (HasName n) (bad ++ b ∷ [])
+bad-push n [] b h p = (p, tt)
+bad-push n (x ∷ bad) b h p = (h.0, bad-push n bad b h.1 p)
+
+pub bad-more : (names more : List Text) (bad : List Bad) → AllByRecursion (HasName (length names)) bad → map (by_name (names ++ more)) bad ≡ map (by_name names) bad
+bad-more names more [] h = refl
+bad-more names more (b ∷ bad) h =
+    let first : by_name (names ++ more) b ≡ by_name names b = ap (λ t. (t, b.id)) (name_of-more names more b.storage h.0) in
+    ap (λ t. t ∷ map (by_name (names ++ more)) bad) first ∙ ap (λ t. by_name names b ∷ t) (bad-more names more bad h.1)
+
+pub bad-wider : (n m : ℕ) (bad : List Bad) → n ≤ m → AllByRecursion (HasName n) bad → AllByRecursion (HasName m) bad
+bad-wider n m [] e h = tt
+bad-wider n m (b ∷ bad) e h = (omega (arith, e, h.0), bad-wider n m bad e h.1)
+
+-- the corrupt replicas, by these names of storages, are these
+pub record Corrupted (names : List Text) (bad : List Bad) (pairs : List (Text × ℕ)) : Type 0 where
+  pub named : map (by_name names) bad ≡ pairs
+  pub within : AllByRecursion (HasName (length names)) bad
+
+pub corrupted_name : (names : List Text) (name : Text) (bad : List Bad) (pairs : List (Text × ℕ)) → Corrupted names bad pairs → Corrupted (names ++ name ∷ []) bad pairs
+corrupted_name names name bad pairs before = record {
+  named = bad-more names (name ∷ []) bad before.within ∙ before.named;
+  within = bad-wider (length names) (length (names ++ name ∷ [])) bad (omega (arith, length-append names (name ∷ []))) before.within;
+}
+
+pub corrupted_more : (names : List Text) (bad : List Bad) (pairs : List (Text × ℕ)) (storage id : ℕ) (name : Text) → storage - 1 < length names → name_of names storage ≡ name → Corrupted names bad pairs
+    → Corrupted names (bad ++ record { storage = storage; id = id } ∷ []) (pairs ++ (name, id) ∷ [])
+corrupted_more names bad pairs storage id name within e before =
+    let b : Bad = record { storage = storage; id = id } in
+    record {
+      named = map-push (by_name names) bad b ∙ ap (λ t. t ++ by_name names b ∷ []) before.named ∙ ap (λ t. pairs ++ (t, id) ∷ []) e;
+      within = bad-push (length names) bad b before.within within;
+    }
+
+-- Nodes that drain.
+
+-- a node of this name that drains
+pub record Drained (names : List Text) (draining : List ℕ) (address : Text) : Type 0 where
+  pub number : ℕ
+  pub above : 1 ≤ number
+  pub within : number ≤ length names
+  pub name : name_of names number ≡ address
+  pub drains : has_number draining number ≡ true
+
+-- each of these nodes drains
+abbrev pub Drains : List Text → List ℕ → List Text → Type 0
+Drains names draining addresses = (address : Text) → list_any (bytes_eq address) addresses ≡ true → Drained names draining address
+
+pub drains_name : (names : List Text) (name : Text) (draining : List ℕ) (addresses : List Text) → Drains names draining addresses → Drains (names ++ name ∷ []) draining addresses
+drains_name names name draining addresses before address e =
+    let d = before address e in
+    record {
+      number = d.number;
+      above = d.above;
+      within = omega (arith, d.within, length-append names (name ∷ []));
+      name = name_of-more names (name ∷ []) d.number (omega (arith, d.above, d.within)) ∙ d.name;
+      drains = d.drains;
+    }
+
+or_true : (a : Bool) → (a || true) ≡ true
+or_true true = refl
+or_true false = refl
+
+true_or : (a b : Bool) → (a || b) ≡ true → a ≡ false → b ≡ true
+true_or true b h e = absurd (true≢false e)
+true_or false b h e = h
+
+or_nothing : (a : Bool) → (a || false) ≡ true → a ≡ true
+or_nothing true h = refl
+or_nothing false h = h
+
+has-with_same : (numbers : List ℕ) (n : ℕ) → has_number (with_number numbers n) n ≡ true
+has-with_same numbers n = by (has_number numbers n) refl
+  where
+    by : (b : Bool) → has_number numbers n ≡ b → has_number (if b then numbers else numbers ++ n ∷ []) n ≡ true
+    by true e = e
+    by false e = list_any-append (λ m. m == n) numbers (n ∷ []) ∙ ap (λ b. has_number numbers n || (b || false)) (number_is_itself n) ∙ or_true (has_number numbers n)
+
+has-with_more : (numbers : List ℕ) (n m : ℕ) → has_number numbers m ≡ true → has_number (with_number numbers n) m ≡ true
+has-with_more numbers n m h = by (has_number numbers n)
+  where
+    by : (b : Bool) → has_number (if b then numbers else numbers ++ n ∷ []) m ≡ true
+    by true = h
+    by false = list_any-append (λ k. k == m) numbers (n ∷ []) ∙ ap (λ b. b || has_number (n ∷ []) m) h
+
+-- one more node drains
+pub drains_more : (names : List Text) (draining : List ℕ) (addresses : List Text) (number : ℕ) (name : Text) → 1 ≤ number → number ≤ length names → name_of names number ≡ name
+    → Drains names draining addresses → Drains names (with_number draining number) (addresses ++ name ∷ [])
+drains_more names draining addresses number name above within e before address h =
+    by (list_any (bytes_eq address) addresses) refl
+  where
+    by : (b : Bool) → list_any (bytes_eq address) addresses ≡ b → Drained names (with_number draining number) address
+    by true known =
+        let d = before address known in
+        record {
+          number = d.number;
+          above = d.above;
+          within = d.within;
+          name = d.name;
+          drains = has-with_more draining number d.number d.drains;
+        }
+    by false new =
+        let last : (bytes_eq address name || false) ≡ true = true_or (list_any (bytes_eq address) addresses) (bytes_eq address name || false) (sym (list_any-append (bytes_eq address) addresses (name ∷ [])) ∙ h) new in
+        record {
+          number = number;
+          above = above;
+          within = within;
+          name = e ∙ sym (same_name address name (or_nothing (bytes_eq address name) last));
+          drains = has-with_same draining number;
+        }
+
+-- Nodes by their numbers.
+
+abbrev pub node_number : NodeRow → ℕ
+node_number row = row.number
+
+count_push : (n k : ℕ) → count_up n (suc k) ≡ count_up n k ++ (n + k) ∷ []
+count_push n zero = let e : n ≡ n + 0 = omega arith in ap (λ m. m ∷ []) e
+count_push n (suc k) = let e : suc n + k ≡ n + suc k = omega arith in ap (λ xs. n ∷ xs) (count_push (suc n) k ∙ ap (λ m. count_up (suc n) k ++ m ∷ []) e)
+
+-- the number of one more name
+pub count_push-names : (names : List Text) (name : Text) → count_up 1 (length names) ++ (length names + 1) ∷ [] ≡ count_up 1 (length (names ++ name ∷ []))
+count_push-names names name =
+    let next : length names + 1 ≡ 1 + length names = omega arith in
+    let more : suc (length names) ≡ length (names ++ name ∷ []) = omega (arith, length-append names (name ∷ [])) in
+    ap (λ n. count_up 1 (length names) ++ n ∷ []) next ∙ sym (count_push 1 (length names)) ∙ ap (count_up 1) more
+
+-- nodes numbered from 1 on, one for each name, and one more
+pub numbered-push : (rows : List NodeRow) (names : List Text) (row : NodeRow) (name : Text) → map node_number rows ≡ count_up 1 (length names) → row.number ≡ length names + 1
+    → map node_number (rows ++ row ∷ []) ≡ count_up 1 (length (names ++ name ∷ []))
+numbered-push rows names row name h e = map-push node_number rows row ∙ ap (λ t. t ++ row.number ∷ []) h ∙ ap (λ n. count_up 1 (length names) ++ n ∷ []) e ∙ count_push-names names name
+
+above_it : (n m : ℕ) → n ≤ m → (n == m) ≡ false → suc n ≤ m
+above_it n m h e = grind (arith, nat_tests)
+
+pub has-count_up : (n k m : ℕ) → n ≤ m → m < n + k → has_number (count_up n k) m ≡ true
+has-count_up n zero m above below = absurd (omega (arith, above, below))
+has-count_up n (suc k) m above below = by (n == m) refl (λ h. has-count_up (suc n) k m h (omega (arith, below)))
+  where
+    by : (b : Bool) → (n == m) ≡ b → (suc n ≤ m → has_number (count_up (suc n) k) m ≡ true) → (b || has_number (count_up (suc n) k) m) ≡ true
+    by true e rest = refl
+    by false e rest = rest (above_it n m above e)

@@ -1,0 +1,108 @@
+-- Storages for nodes that hold nothing.
+use Rattle.std.proofs.Common.{◌≡◌, ℕ, Bool, true, false, nat_lt, List, [], ◌∷◌, ◌++◌, Ok, Err, length, refl, sym, ap, subst, ◌∙◌, append_assoc, if◌then◌else◌}
+use Rattle.std.specs.List.{list_any, AllByRecursion}
+use Rattle.std.specs.Str.{bytes_eq}
+use Rattle.std.proofs.lemmas.List.{append-nil}
+use Rattle.fsck_text.specs.Cuts.{Text}
+use Rattle.fsck_cluster.specs.Clusters.{with_spare, after_spare, after_spares, with_spares}
+use Rattle.fsck_cluster.specs.Names.{name_number, name_of}
+use Rattle.fsck_cluster.specs.Rows.{new_row, has_storage}
+use Rattle.fsck_cluster.specs.declared.cluster.Cluster.{Cluster}
+use Rattle.fsck_cluster.specs.declared.cluster.NodeRow.{NodeRow}
+use Rattle.fsck_cluster.specs.declared.cluster.Why.TheVariants as why
+use Rattle.fsck_cluster.specs.declared.rows.Row.{Row}
+use Rattle.fsck_import.proofs.NameLemmas.{same_ok, if_ok, came_of, with_known, with_new}
+
+-- the same cluster with more storages, which have no replicas
+pub record Spared (c d : Cluster) : Type 0 where
+  pub more_rows : List Row
+  pub more_names : List Text
+  pub rows : d.rows ≡ c.rows ++ more_rows
+  pub empty : AllByRecursion (λ row. row.held ≡ []) more_rows
+  pub storages : d.storages ≡ c.storages ++ more_names
+  pub blocks : d.blocks ≡ c.blocks
+  pub bad : d.bad ≡ c.bad
+  pub nodes : d.nodes ≡ c.nodes
+  pub node_rows : d.node_rows ≡ c.node_rows
+  pub draining : d.draining ≡ c.draining
+
+none_spared : (c : Cluster) → Spared c c
+none_spared c = record {
+  more_rows = [];
+  more_names = [];
+  rows = sym (append-nil c.rows);
+  empty = tt;
+  storages = sym (append-nil c.storages);
+  blocks = refl;
+  bad = refl;
+  nodes = refl;
+  node_rows = refl;
+  draining = refl;
+}
+
+all-append : (rows more : List Row) → AllByRecursion (λ row. row.held ≡ []) rows → AllByRecursion (λ row. row.held ≡ []) more → AllByRecursion (λ row. row.held ≡ []) (rows ++ more)
+all-append [] more h k = k
+all-append (row ∷ rows) more h k = (h.0, all-append rows more h.1 k)
+
+both_spared : (c d e : Cluster) → Spared c d → Spared d e → Spared c e
+both_spared c d e first next = record {
+  more_rows = first.more_rows ++ next.more_rows;
+  more_names = first.more_names ++ next.more_names;
+  rows = next.rows ∙ ap (λ t. t ++ next.more_rows) first.rows ∙ append_assoc c.rows first.more_rows next.more_rows;
+  empty = all-append first.more_rows next.more_rows first.empty next.empty;
+  storages = next.storages ∙ ap (λ t. t ++ next.more_names) first.storages ∙ append_assoc c.storages first.more_names next.more_names;
+  blocks = next.blocks ∙ first.blocks;
+  bad = next.bad ∙ first.bad;
+  nodes = next.nodes ∙ first.nodes;
+  node_rows = next.node_rows ∙ first.node_rows;
+  draining = next.draining ∙ first.draining;
+}
+
+one_spared : (c : Cluster) (node : ℕ) → Spared c (with_spare c node)
+one_spared c node = by (list_any (bytes_eq (name_of c.nodes node)) c.storages) refl
+  where
+    by : (b : Bool) → list_any (bytes_eq (name_of c.nodes node)) c.storages ≡ b → Spared c (with_spare c node)
+    by true known = record {
+      more_rows = new_row (name_number c.storages (name_of c.nodes node)) node ∷ [];
+      more_names = [];
+      rows = refl;
+      empty = (refl, tt);
+      storages = with_known c.storages (name_of c.nodes node) known ∙ sym (append-nil c.storages);
+      blocks = refl;
+      bad = refl;
+      nodes = refl;
+      node_rows = refl;
+      draining = refl;
+    }
+    by false new = record {
+      more_rows = new_row (name_number c.storages (name_of c.nodes node)) node ∷ [];
+      more_names = name_of c.nodes node ∷ [];
+      rows = refl;
+      empty = (refl, tt);
+      storages = with_new c.storages (name_of c.nodes node) new;
+      blocks = refl;
+      bad = refl;
+      nodes = refl;
+      node_rows = refl;
+      draining = refl;
+    }
+
+spare_spared : (c d : Cluster) (node : ℕ) → after_spare c node ≡ Ok d → Spared c d
+spare_spared c d node = by (has_storage c.rows node)
+  where
+    by : (b : Bool) → (if b then Ok c else (if nat_lt (length c.storages) 4096 then Ok (with_spare c node) else Err why.TooManyStorages)) ≡ Ok d → Spared c d
+    by true e = subst (Spared c) (same_ok c d e) (none_spared c)
+    by false e = subst (Spared c) (same_ok (with_spare c node) d (if_ok (nat_lt (length c.storages) 4096) (Ok (with_spare c node)) why.TooManyStorages d e).1) (one_spared c node)
+
+spares_spared : (c d : Cluster) (rows : List NodeRow) → after_spares c rows ≡ Ok d → Spared c d
+spares_spared c d [] e = subst (Spared c) (same_ok c d e) (none_spared c)
+spares_spared c d (row ∷ rows) e =
+    let first = came_of (λ x. after_spares x rows) (after_spare c row.number) d e in
+    both_spared c first.0 d (spare_spared c first.0 row.number first.1) (spares_spared first.0 d rows first.2)
+
+pub all_spared : (c d : Cluster) → with_spares c ≡ Ok d → Spared c d
+all_spared c d = by c.knows_nodes
+  where
+    by : (b : Bool) → (if b then after_spares c c.node_rows else Ok c) ≡ Ok d → Spared c d
+    by true e = spares_spared c d c.node_rows e
+    by false e = subst (Spared c) (same_ok c d e) (none_spared c)

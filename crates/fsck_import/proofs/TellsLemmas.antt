@@ -1,0 +1,90 @@
+-- The calls for a cluster tell of the blocks that it took.
+use Rattle.std.proofs.Common.{◌≡◌, ℕ, true, List, [], ◌++◌, Ok, map, length, refl, sym, ap, subst, ◌∙◌, arith, true≢false}
+use Rattle.std.specs.List.{flat_map, list_any, AllByRecursion}
+use Rattle.std.specs.List.Sorted.{IsPermutation}
+use Rattle.std.specs.Str.{bytes_eq}
+use Rattle.std.proofs.lemmas.Grind.{flat_map-append}
+use Rattle.std.proofs.lemmas.List.{append-nil}
+use Rattle.std.proofs.lemmas.List.Sorted.{IsPermutation-refl}
+use Rattle.bm_base.specs.Entries.{count_up}
+use Rattle.bm_base.specs.Lists.{has_repeats}
+use Rattle.fsck_text.specs.Cuts.{Text}
+use Rattle.fsck_files.specs.Numbers.{has_number}
+use Rattle.fsck_files.specs.declared.replicas.Block.{Block}
+use Rattle.fsck_cluster.specs.Clusters.{with_spares}
+use Rattle.fsck_cluster.specs.Names.{name_of}
+use Rattle.fsck_cluster.specs.declared.cluster.Cluster.{Cluster}
+use Rattle.fsck_cluster.specs.declared.rows.Row.{Row}
+use Rattle.fsck_import.specs.CallsFor.{reports, calls_for}
+use Rattle.fsck_import.specs.Laws.{after_blocks, IsFresh, ids, replicas_of, replicas_by, replicas_reported, drained, EachOnce, TellsBlocks}
+use Rattle.fsck_import.proofs.CallLemmas.{numbers_added-calls, adds_first}
+use Rattle.fsck_import.proofs.StorageLemmas.{Fit, Stored, on_rows}
+use Rattle.fsck_import.proofs.OnceLemmas.{Once, has_twice, rows_once}
+use Rattle.fsck_import.proofs.BadLemmas.{by_name, HasName, Corrupted, bad-more, Drained, node_number, has-count_up}
+use Rattle.fsck_import.proofs.SoundLemmas.{OnNode, Taken, Sound}
+use Rattle.fsck_import.proofs.BlockLemmas.{with_blocks, blocks_sound, all_numbers, all_replicas, all_bad, all_addresses}
+use Rattle.fsck_import.proofs.ReportLemmas.{rows_reported, empty_reported, calls_report, calls_corrupt, calls_drain, node_drains}
+use Rattle.fsck_import.proofs.SpareLemmas.{Spared, all_spared}
+
+-- nothing was taken
+abbrev pub nothing_taken : Taken
+nothing_taken = record { numbers = []; last = 0; replicas = []; bad = []; addresses = [] }
+
+fresh_stored : (rows : List Row) (names : List Text) → rows ≡ [] → names ≡ [] → Stored rows names []
+fresh_stored rows names e f = subst (λ rs. Stored rs names []) (sym e) (subst (λ ns. Stored [] ns []) (sym f) (record { fits = tt; all = IsPermutation-refl [] }))
+
+fresh_sound : (c : Cluster) → IsFresh c → Sound c nothing_taken
+fresh_sound c fresh = record {
+  numbers = ap (map (λ b. b.0)) fresh.blocks;
+  apart = refl;
+  stored = fresh_stored c.rows c.storages fresh.rows fresh.storages;
+  names = ap has_twice fresh.storages;
+  once = subst (AllByRecursion (Once [] 0)) (sym fresh.rows) tt;
+  corrupted = subst (λ bad. Corrupted c.storages bad []) (sym fresh.bad) (record { named = refl; within = tt });
+  nodes = fresh.nodes;
+  on_nodes = subst (AllByRecursion (OnNode (length c.nodes))) (sym fresh.rows) tt;
+  drained = λ address e. absurd (true≢false (sym e));
+}
+
+-- the calls report the replicas on the storages of c
+reported_are : (c d : Cluster) (remaining : ℕ) → Spared c d → Fit 1 c.rows c.storages → replicas_reported d.storages (calls_for d remaining) ≡ on_rows c.rows c.storages
+reported_are c d remaining spared fits =
+    calls_report d remaining d.storages
+    ∙ ap (λ rows. replicas_reported d.storages (flat_map reports rows)) spared.rows
+    ∙ ap (flat_map (replicas_by d.storages)) (flat_map-append reports c.rows spared.more_rows)
+    ∙ flat_map-append (replicas_by d.storages) (flat_map reports c.rows) (flat_map reports spared.more_rows)
+    ∙ ap (λ t. replicas_reported d.storages (flat_map reports c.rows) ++ t) (empty_reported d.storages spared.more_rows spared.empty)
+    ∙ append-nil (replicas_reported d.storages (flat_map reports c.rows))
+    ∙ rows_reported d.storages [] c.storages spared.more_names c.rows 1 spared.storages (omega arith) fits
+
+-- and call corrupt what is corrupt in c
+corrupt_are : (c d : Cluster) → Spared c d → AllByRecursion (HasName (length c.storages)) c.bad → map (by_name d.storages) d.bad ≡ map (by_name c.storages) c.bad
+corrupt_are c d spared within =
+    ap (map (by_name d.storages)) spared.bad ∙ ap (λ names. map (by_name names) c.bad) spared.storages ∙ bad-more c.storages spared.more_names c.bad within
+
+-- a node that drains in c
+drained_is : (c d : Cluster) (remaining : ℕ) (address : Text) → Spared c d → map node_number c.node_rows ≡ count_up 1 (length c.nodes) → Drained c.nodes c.draining address
+    → list_any (bytes_eq address) (drained d.nodes (calls_for d remaining)) ≡ true
+drained_is c d remaining address spared nodes node =
+    let known : has_number (map node_number c.node_rows) node.number ≡ true = ap (λ ns. has_number ns node.number) nodes ∙ has-count_up 1 (length c.nodes) node.number node.above (omega (arith, node.within)) in
+    let drains : has_number d.draining node.number ≡ true = ap (λ ns. has_number ns node.number) spared.draining ∙ node.drains in
+    let same : has_number (map node_number d.node_rows) node.number ≡ true = ap (λ rows. has_number (map node_number rows) node.number) spared.node_rows ∙ known in
+    ap (list_any (bytes_eq address)) (calls_drain d remaining d.nodes)
+    ∙ node_drains d.nodes d.draining d.node_rows node.number address same drains (ap (λ ns. name_of ns node.number) spared.nodes ∙ node.name)
+
+pub tells_blocks : (start c d : Cluster) (blocks : List Block) (remaining : ℕ) → IsFresh start → after_blocks start blocks ≡ Ok c → with_spares c ≡ Ok d → TellsBlocks blocks d remaining
+tells_blocks start c d blocks remaining fresh taken spares =
+    let all = with_blocks nothing_taken blocks in
+    let sound = blocks_sound start c nothing_taken blocks taken (fresh_sound start fresh) in
+    let spared = all_spared c d spares in
+    let numbers : all.numbers ≡ ids blocks = all_numbers nothing_taken blocks in
+    let reported : replicas_reported d.storages (calls_for d remaining) ≡ on_rows c.rows c.storages = reported_are c d remaining spared sound.stored.fits in
+    record {
+      added = numbers_added-calls d remaining ∙ ap (map (λ b. b.0)) spared.blocks ∙ sound.numbers ∙ numbers;
+      once = ap has_repeats (sym numbers) ∙ sound.apart;
+      adds_first = adds_first d remaining;
+      reported = subst (IsPermutation (flat_map replicas_of blocks)) (sym reported) (subst (λ t. IsPermutation t (on_rows c.rows c.storages)) (all_replicas nothing_taken blocks) sound.stored.all);
+      reported_once = subst EachOnce (sym reported) (rows_once 1 c.rows c.storages all.numbers all.last sound.stored.fits sound.names sound.once);
+      corrupt = calls_corrupt d remaining d.storages ∙ corrupt_are c d spared sound.corrupted.within ∙ sound.corrupted.named ∙ all_bad nothing_taken blocks;
+      drained = λ address e. drained_is c d remaining address spared sound.nodes (sound.drained address (ap (list_any (bytes_eq address)) (all_addresses nothing_taken blocks) ∙ e));
+    }

@@ -1,7 +1,0 @@
-use Rattle.std.proofs.Common.{◌≡◌, map, take}
-use Rattle.fsck_import.specs.CallsFor.{register}
-use Rattle.fsck_import.proofs.calls.registers.Given as goal
-
--- the calls for the nodes so far
-abbrev pub invariant-loop-node : goal.invariant-loop-node
-invariant-loop-node l = l.calls.items ≡ map (register l.rows) (take l.node-index l.nodes)

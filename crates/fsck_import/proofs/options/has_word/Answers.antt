@@ -1,0 +1,11 @@
+use Rattle.std.proofs.Common.{lit<, rules, tests}
+use Rattle.std.proofs.lemmas.Iterator.Search.{any_from_yields_List}
+use Rattle.std.proofs.lemmas.Iterator.Splits.{YieldsList-from_str_split}
+use Rattle.std.specs.Str.{bytes_eq}
+use Rattle.fsck_import.proofs.options.has_word.Goals as goal
+
+pub returns : goal.returns
+returns c =
+    any_from_yields_List (bytes_eq c.args.word.now) _ _ c.any.result c.any.ensures.ran
+    (YieldsList-from_str_split 44 c.args.list.now (lit< tt) c.split.ensures.text c.split.ensures.has_more c.split.ensures.pattern)
+    (λ x b q k. search (rules, tests))

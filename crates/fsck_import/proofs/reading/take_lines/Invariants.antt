@@ -1,9 +1,0 @@
-use Rattle.std.proofs.Common.{◌≡◌, ℕ, List, Some}
-use Rattle.bm_lines.specs.Lines.{lines_of}
-use Rattle.fsck_import.specs.Reading.{cluster_of, after_lines}
-use Rattle.fsck_import.proofs.reading.take_lines.Given as goal
-
--- of a text that is known the lines that are left come after those that were taken
-abbrev pub invariant-loop-number : goal.invariant-loop-number
-invariant-loop-number g l = (text : List ℕ) → g.R.Read.remaining l.fn.reader ≡ Some text
-    → (rest : List ℕ) × (g.R.Read.remaining l.reader ≡ Some rest) × (cluster_of text ≡ after_lines l.number l.cluster (lines_of rest))

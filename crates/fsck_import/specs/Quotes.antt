@@ -1,0 +1,14 @@
+-- A word that is not understood.
+use Rattle.std.specs.Prelude.{ℕ}
+use Rattle.fsck_text.specs.Cuts.{Text, column_of}
+use Rattle.fsck_text.specs.declared.wrong.Reason.{Reason}
+use Rattle.fsck_text.specs.declared.wrong.Wrong.{Wrong}
+
+-- a word that is not understood, the column in which it begins, and what is wrong with it
+pub record Quoted : Type 0 where
+  pub column : ℕ
+  pub word : Text
+  pub why : Reason
+
+abbrev pub quoted : Text → Wrong → Quoted
+quoted line wrong = record { column = column_of wrong.word line; word = wrong.word; why = wrong.why }
