@@ -15,3 +15,4 @@ pub mod ReportLemmas
 pub mod SpareLemmas
 pub mod TellsLemmas
 pub mod StartLemmas
+pub mod ImportLemmas

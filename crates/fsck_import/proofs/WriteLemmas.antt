@@ -1,7 +1,7 @@
 -- Lines that were written, and how they are read.
-use Rattle.std.proofs.Common.{◌≡◌, ◌≤◌, List, [], ◌∷◌, ◌++◌, Option, Some, None, map, length, refl, sym, ap, ◌∙◌, subst, append_assoc, append-nil}
+use Rattle.std.proofs.Common.{◌≡◌, ◌≤◌, List, [], ◌∷◌, ◌++◌, Option, Some, None, map, length, refl, sym, ap, ◌∙◌, subst, append_assoc, append-nil, ℕ, zero, suc, ◌+◌, Bool, true, false, cond, take, filter, option_to_list, slice_get}
 use Rattle.bm_lines.specs.declared.limits.TheConstants.{MAX_LINE}
-use Rattle.std.specs.List.{AllByRecursion}
+use Rattle.std.specs.List.{AllByRecursion, flat_map}
 use Rattle.std.proofs.lemmas.Grind.{flat_map-append}
 use Rattle.std.specs.Io.KnownBytes.{Appends, Keeps}
 use Rattle.bm_base.specs.declared.call.Call.{Call}
@@ -80,3 +80,37 @@ still_tells calls a b d tells kept = record { written = flushed a b d _ tells.wr
 -- these calls, then those, and a flush
 pub all_flushed : (calls more : List Call) (a b c d : Option Text) → Written calls a b → Written more b c → Keeps c d → Tells (calls ++ more) a d
 all_flushed calls more a b c d first second kept = still_tells (calls ++ more) a c d (all_told (calls ++ more) a c (written_more calls more a b c first second)) kept
+
+-- one more element of a list, if there is one
+take_more : {A : Type 0} (xs : List A) (i : ℕ) → take (i + 1) xs ≡ take i xs ++ option_to_list (slice_get xs i)
+take_more [] zero = refl
+take_more [] (suc i) = refl
+take_more (x ∷ xs) zero = refl
+take_more (x ∷ xs) (suc i) = ap (λ ys. x ∷ ys) (take_more xs i)
+
+map-append : {A : Type 0} (f : A → Call) (xs ys : List A) → map f (xs ++ ys) ≡ map f xs ++ map f ys
+map-append f [] ys = refl
+map-append f (x ∷ xs) ys = ap (λ zs. f x ∷ zs) (map-append f xs ys)
+
+pub adds_more : {A : Type 0} (f : A → Call) (xs : List A) (i : ℕ) (a b c : Option Text) → Written (map f (take i xs)) a b
+    → Written (map f (option_to_list (slice_get xs i))) b c → Written (map f (take (i + 1) xs)) a c
+adds_more f xs i a b c first second =
+    subst (λ calls. Written calls a c) (sym (ap (map f) (take_more xs i) ∙ map-append f (take i xs) (option_to_list (slice_get xs i)))) (written_more _ _ a b c first second)
+
+filter-push : {A : Type 0} (t : A → Bool) (xs : List A) (x : A) → filter t (xs ++ x ∷ []) ≡ filter t xs ++ filter t (x ∷ [])
+filter-push t [] x = refl
+filter-push t (y ∷ xs) x = by (t y) (filter-push t xs x)
+  where
+    by : (b : Bool) → filter t (xs ++ x ∷ []) ≡ filter t xs ++ filter t (x ∷ []) → cond b (y ∷ filter t (xs ++ x ∷ [])) (filter t (xs ++ x ∷ [])) ≡ cond b (y ∷ filter t xs) (filter t xs) ++ filter t (x ∷ [])
+    by true h = ap (λ ys. y ∷ ys) h
+    by false h = h
+
+pub kept_more : {A : Type 0} (f : A → Call) (t : A → Bool) (xs : List A) (x : A) (a b c : Option Text) → Written (map f (filter t xs)) a b
+    → Written (map f (filter t (x ∷ []))) b c → Written (map f (filter t (xs ++ x ∷ []))) a c
+kept_more f t xs x a b c first second =
+    subst (λ calls. Written calls a c) (sym (ap (map f) (filter-push t xs x) ∙ map-append f (filter t xs) (filter t (x ∷ [])))) (written_more _ _ a b c first second)
+
+pub rows_more : {A : Type 0} (f : A → List Call) (xs : List A) (x : A) (a b c : Option Text) → Written (flat_map f xs) a b → Written (f x) b c
+    → Written (flat_map f (xs ++ x ∷ [])) a c
+rows_more f xs x a b c first second =
+    subst (λ calls. Written calls a c) (sym (flat_map-append f xs (x ∷ []) ∙ ap (λ ys. flat_map f xs ++ ys) (append-nil (f x)))) (written_more _ _ a b c first second)

@@ -1,5 +1,5 @@
 -- The calls that make a manager know a cluster.
-use Rattle.std.specs.Prelude.{ℕ, ◌/◌, ◌==◌, max, List, ◌∷◌, ◌++◌, map, filter, length, take, drop, Option, Some, None}
+use Rattle.std.specs.Prelude.{ℕ, ◌/◌, ◌==◌, max, Bool, List, ◌∷◌, ◌++◌, map, filter, length, take, drop, Option, Some, None}
 use Rattle.std.specs.List.{flat_map}
 use Rattle.bm_base.specs.declared.call.Call.{Call}
 use Rattle.bm_base.specs.declared.call.Call.TheVariants as call
@@ -68,9 +68,12 @@ abbrev pub calls_before : Cluster → ℕ → List Call
 calls_before c remaining =
     map (register c.rows) c.node_rows ++ map (heartbeat c.rows remaining) c.node_rows ++ map add c.blocks
 
--- the nodes that are being decommissioned, or have been
+-- whether a node is being decommissioned, or has been
+abbrev pub drains : Cluster → NodeRow → Bool
+drains c node = has_number c.draining node.number
+
 abbrev pub draining : Cluster → List NodeRow
-draining c = filter (λ node. has_number c.draining node.number) c.node_rows
+draining c = filter (drains c) c.node_rows
 
 -- replicas, those of them that are corrupt, and nodes that are decommissioned
 abbrev pub calls_after : Cluster → List Call

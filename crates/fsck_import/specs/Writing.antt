@@ -44,3 +44,9 @@ abbrev pub IsTableFault : Fault → Type 0
 IsTableFault fault.Write = ⊤
 IsTableFault fault.Table = ⊤
 IsTableFault _ = ⊥
+
+-- a fault of the table or of the lines
+abbrev pub IsOutputFault : Fault → Type 0
+IsOutputFault (fault.Refused unread) = ⊥
+IsOutputFault fault.Read = ⊥
+IsOutputFault _ = ⊤

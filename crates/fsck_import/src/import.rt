@@ -1,9 +1,9 @@
 // A whole run, from a reader to a writer.
-ghost use Rattle.std.specs.Prelude.{◌≡◌, ◌⊎◌, Ok, IfSome, IfErr, OnOk};
+ghost use Rattle.std.specs.Prelude.{◌≡◌, IfSome, IfErr, OnOk};
 ghost use Rattle.std.specs.Io.KnownBytes.{Appends};
 ghost use Rattle.fsck_import.specs.NameTable.{table_of};
 ghost use Rattle.fsck_import.specs.CallsFor.{calls_for};
-ghost use Rattle.fsck_import.specs.Writing.{Tells, IsTableFault, IsWriteFault};
+ghost use Rattle.fsck_import.specs.Writing.{Tells, IsOutputFault};
 ghost use Rattle.fsck_import.specs.Importing.{TellsText, TellsNames, IsFaultOfRun, WritesNothing};
 
 use crate::destination::Destination;
@@ -32,6 +32,7 @@ pub struct Notes {
 /// Reads a whole text of fsck, and then writes a table of names, and the lines that tell of its cluster,
 /// with so many free bytes on each storage whose node's are not known. Nothing is written before all of
 /// the text was read, and no line before the whole table.
+#[tactic(auto, using(crate::proofs::ImportLemmas::output_refuses, crate::proofs::ImportLemmas::output_writes))]
 pub fn import<R: BufRead, W: Write, N: Destination>(
     alloc: Global,
     start: Reading,
@@ -60,6 +61,7 @@ pub fn import<R: BufRead, W: Write, N: Destination>(
 }
 
 /// Writes the table of names, and then the lines.
+#[tactic(auto, using(crate::proofs::ImportLemmas::write_output))]
 fn write_all<W: Write, N: Destination>(
     alloc: Global,
     read: &Reading,
@@ -71,17 +73,18 @@ fn write_all<W: Write, N: Destination>(
         (W.contents writer.old) (W.contents writer.new)) }
     ensures named { OnOk result
         (Appends (N.contents names.old) (N.contents names.new) (table_of read.now.cluster)) }
-    ensures faults { IfErr result (λ f. IsWriteFault f ⊎ IsTableFault f) }
+    ensures faults { IfErr result IsOutputFault }
 {
     put_names(alloc, &read.cluster, names)?;
     write_flushed(alloc, writer, &read.cluster, remaining)
 }
 
 /// Hands over the table of a cluster's names.
+#[tactic(auto, using(crate::proofs::ImportLemmas::table_output))]
 fn put_names<N: Destination>(alloc: Global, cluster: &Cluster, names: &mut N) -> Result<(), Fault>
     ensures held { OnOk result
         (Appends (N.contents names.old) (N.contents names.new) (table_of cluster.now)) }
-    ensures faults { IfErr result (λ f. (f ≡ Fault.Memory) ⊎ IsTableFault f) }
+    ensures faults { IfErr result IsOutputFault }
 {
     let table = table_of(alloc, cluster)?;
     names.put(table.as_str())

@@ -1,10 +1,10 @@
 // The lines of a cluster, to a writer.
-ghost use Rattle.std.specs.Prelude.{◌≡◌, ◌≤◌, ◌++◌, ◌∷◌, [], true, length, map, take, drop, filter, IfOk, OnOk, IfErr, string_bytes};
+ghost use Rattle.std.specs.Prelude.{◌≡◌, ◌≤◌, ◌++◌, ◌∷◌, [], true, length, map, take, drop, filter, option_to_list, slice_get, IfOk, OnOk, IfErr, string_bytes};
 ghost use Rattle.std.specs.List.{flat_map};
 ghost use Rattle.bm_lines.specs.Asking.{has_op, line_text};
 ghost use Rattle.bm_lines.specs.Lines.{ended};
-ghost use Rattle.bm_base.specs.declared.call.Call.{Call as TheCall};
-ghost use Rattle.fsck_import.specs.CallsFor.{storages_of, register, free_on, remaining_on, heartbeat, add, entry, received, reports, corrupt, drain, draining, calls_before, calls_after, calls_for};
+ghost use Rattle.bm_base.specs.declared.limits.TheConstants.{MAX_ENTRIES};
+ghost use Rattle.fsck_import.specs.CallsFor.{storages_of, register, free_on, remaining_on, heartbeat, add, entry, received, reports, corrupt, drain, drains, draining, calls_before, calls_after, calls_for};
 ghost use Rattle.fsck_import.specs.Writing.{Written, Tells, IsLineOf, IsWriteFault};
 
 use crate::fault::Fault;
@@ -18,7 +18,6 @@ use std::io::Write;
 
 /// Writes the line of each call for a cluster, with so many free bytes on each storage whose node's are
 /// not known, and flushes.
-#[tactic(auto, using(crate::proofs::WriteLemmas::all_flushed))]
 pub fn write_flushed<W: Write>(
     alloc: Global,
     writer: &mut W,
@@ -165,27 +164,43 @@ fn remaining_on(
 }
 
 /// Each block is added.
-#[tactic(auto, using(crate::proofs::WriteLemmas::written_more))]
+#[tactic(auto, using(crate::proofs::WriteLemmas::adds_more))]
 fn write_adds<W: Write>(alloc: Global, writer: &mut W, cluster: &Cluster) -> Result<(), Fault>
     ensures written { OnOk result (Written (map add cluster.now.blocks) (W.contents writer.old)
         (W.contents writer.new)) }
     ensures faults { IfErr result IsWriteFault }
 {
     for index in 0..cluster.blocks.len() {
-        if let Some((id, info)) = cluster.blocks.get(index) {
-            let call = Call::Apply(Event::AddBlock {
-                id,
-                stamp: info.stamp,
-                repl: info.repl,
-            });
-            write_call(alloc, writer, &call)?;
-        }
+        write_add(alloc, writer, cluster, index)?;
     }
     Ok(())
 }
 
+/// The block at an index is added.
+#[tactic(auto, using(crate::proofs::WriteLemmas::nothing_written))]
+fn write_add<W: Write>(
+    alloc: Global,
+    writer: &mut W,
+    cluster: &Cluster,
+    index: usize,
+) -> Result<(), Fault>
+    ensures written { OnOk result (Written (map add (option_to_list (slice_get cluster.now.blocks index)))
+        (W.contents writer.old) (W.contents writer.new)) }
+    ensures faults { IfErr result IsWriteFault }
+{
+    let Some((id, info)) = cluster.blocks.get(index) else {
+        return Ok(());
+    };
+    let call = Call::Apply(Event::AddBlock {
+        id,
+        stamp: info.stamp,
+        repl: info.repl,
+    });
+    write_call(alloc, writer, &call)
+}
+
 /// The replicas on each storage.
-#[tactic(auto, using(crate::proofs::WriteLemmas::written_more))]
+#[tactic(auto, using(crate::proofs::WriteLemmas::rows_more))]
 fn write_reports<W: Write>(alloc: Global, writer: &mut W, cluster: &Cluster) -> Result<(), Fault>
     ensures written { OnOk result (Written (flat_map reports cluster.now.rows) (W.contents writer.old)
         (W.contents writer.new)) }
@@ -204,8 +219,7 @@ fn write_row<W: Write>(alloc: Global, writer: &mut W, row: &Row) -> Result<(), F
         (W.contents writer.new)) }
     ensures faults { IfErr result IsWriteFault }
 {
-    let held = row.held.as_slice();
-    let (first, rest) = held.split_at(held.len().min(MAX_ENTRIES));
+    let (first, rest) = parts_of(row.held.as_slice());
     let call = Call::Apply(Event::FullReport {
         storage: StorageId(row.number),
         entries: Items::from_vec(entries_of(alloc, first)?),
@@ -213,6 +227,17 @@ fn write_row<W: Write>(alloc: Global, writer: &mut W, row: &Row) -> Result<(), F
     write_call(alloc, writer, &call)?;
     drop(call);
     write_received(alloc, writer, StorageId(row.number), rest)
+}
+
+/// As many replicas as fit into a report, and the others.
+fn parts_of(held: &[Held]) -> (&[Held], &[Held])
+    ensures first { result.0.now ≡ take MAX_ENTRIES held.now }
+    ensures others { result.1.now ≡ drop MAX_ENTRIES held.now }
+{
+    match held.split_at_checked(MAX_ENTRIES) {
+        Some(parts) => parts,
+        None => (held, &[]),
+    }
 }
 
 /// Replicas, as the entries of a report.
@@ -265,21 +290,37 @@ fn write_corrupt<W: Write>(alloc: Global, writer: &mut W, cluster: &Cluster) -> 
 }
 
 /// Each node that is being decommissioned, or has been.
-#[tactic(auto, using(crate::proofs::WriteLemmas::written_more))]
+#[tactic(auto, using(crate::proofs::WriteLemmas::kept_more))]
 fn write_drains<W: Write>(alloc: Global, writer: &mut W, cluster: &Cluster) -> Result<(), Fault>
     ensures written { OnOk result (Written (map drain (draining cluster.now)) (W.contents writer.old)
         (W.contents writer.new)) }
     ensures faults { IfErr result IsWriteFault }
 {
     for node in cluster.node_rows.as_slice() {
-        if cluster.draining.has(u64::from(node.number)) {
-            let call = Call::Apply(Event::Drain {
-                node: NodeId(node.number),
-            });
-            write_call(alloc, writer, &call)?;
-        }
+        write_drain(alloc, writer, cluster, node)?;
     }
     Ok(())
+}
+
+/// A node, if it is being decommissioned, or has been.
+#[tactic(auto, using(crate::proofs::WriteLemmas::nothing_written))]
+fn write_drain<W: Write>(
+    alloc: Global,
+    writer: &mut W,
+    cluster: &Cluster,
+    node: &NodeRow,
+) -> Result<(), Fault>
+    ensures written { OnOk result (Written (map drain (filter (drains cluster.now) (node.now ∷ [])))
+        (W.contents writer.old) (W.contents writer.new)) }
+    ensures faults { IfErr result IsWriteFault }
+{
+    if !cluster.draining.has(u64::from(node.number)) {
+        return Ok(());
+    }
+    let call = Call::Apply(Event::Drain {
+        node: NodeId(node.number),
+    });
+    write_call(alloc, writer, &call)
 }
 
 /// Writes the line of a call.
