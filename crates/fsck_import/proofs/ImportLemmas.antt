@@ -1,11 +1,16 @@
 -- A whole run.
 use Rattle.std.proofs.Common.{◌≡◌, ℕ, List, [], ◌∷◌, ◌++◌, Option, Some, None, IfSome, Result, Ok, Err, refl, sym, ap, subst, ◌∙◌}
 use Rattle.fsck_text.specs.Cuts.{Text}
-use Rattle.fsck_import.specs.Importing.{IsFaultOfRun, WritesNothing}
-use Rattle.fsck_import.specs.Writing.{IsOutputFault, IsTableFault, IsWriteFault}
+use Rattle.std.specs.Io.KnownBytes.{Appends}
+use Rattle.fsck_import.specs.CallsFor.{calls_for}
+use Rattle.fsck_import.specs.Importing.{IsFaultOfRun, TellsNames, TellsText, WritesNothing}
+use Rattle.fsck_import.specs.NameTable.{table_of}
+use Rattle.fsck_import.specs.Reading.{reading_of}
+use Rattle.fsck_import.specs.Writing.{IsOutputFault, IsTableFault, IsWriteFault, Tells}
 use Rattle.fsck_import.specs.declared.fault.Fault.{Fault}
 use Rattle.fsck_import.specs.declared.fault.Fault.TheVariants as fault
 use Rattle.fsck_import.specs.declared.reading.Reading.{Reading}
+use Rattle.fsck_import.proofs.TextBlocks.{tells_text}
 
 pub table_output : (f : Fault) → IsTableFault f → IsOutputFault f
 table_output (fault.Refused unread) h = h
@@ -42,3 +47,18 @@ output_writes fault.Write old new h = tt
 output_writes fault.Table old new h = tt
 output_writes fault.Memory old new h = tt
 output_writes fault.LongReport old new h = tt
+
+each_known : {P Q : Text → Type 0} (known : Option Text) → ((text : Text) → P text → Q text) → IfSome known P → IfSome known Q
+each_known None h p = tt
+each_known (Some text) h p = h text p
+
+-- what a run that ends well wrote
+pub whole_text : (known : Option Text) (start read : Reading) (remaining : ℕ) (old new : Option Text) → IfSome known (λ text. reading_of start text ≡ Ok read)
+    → Tells (calls_for read.cluster remaining) old new → IfSome known (λ text. TellsText text start remaining old new)
+whole_text known start read remaining old new told tells =
+    each_known known (λ text e. tells_text text start read remaining old new e tells) told
+
+pub whole_names : (known : Option Text) (start read : Reading) (old new : Option Text) → IfSome known (λ text. reading_of start text ≡ Ok read)
+    → Appends old new (table_of read.cluster) → IfSome known (λ text. TellsNames text start old new)
+whole_names known start read old new told written =
+    each_known known (λ text e. record { read = read; told = e; written = written }) told

@@ -2,6 +2,7 @@
 pub mod TextLemmas
 pub mod ReadLemmas
 pub mod WriteLemmas
+pub mod RowLemmas
 pub mod OptionLemmas
 pub mod CallLemmas
 pub mod NameLemmas
@@ -15,4 +16,5 @@ pub mod ReportLemmas
 pub mod SpareLemmas
 pub mod TellsLemmas
 pub mod StartLemmas
+pub mod TextBlocks
 pub mod ImportLemmas

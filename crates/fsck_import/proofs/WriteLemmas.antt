@@ -1,6 +1,9 @@
 -- Lines that were written, and how they are read.
-use Rattle.std.proofs.Common.{◌≡◌, ◌≤◌, List, [], ◌∷◌, ◌++◌, Option, Some, None, map, length, refl, sym, ap, ◌∙◌, subst, append_assoc, append-nil, ℕ, zero, suc, ◌+◌, Bool, true, false, cond, take, filter, option_to_list, slice_get}
+use Rattle.std.proofs.Common.{drop, length-drop, ◌<◌, get_or, arith, ◌≡◌, ◌≤◌, List, [], ◌∷◌, ◌++◌, Option, Some, None, map, length, refl, sym, ap, ◌∙◌, subst, append_assoc, append-nil, ℕ, zero, suc, ◌+◌, Bool, true, false, cond, take, filter, option_to_list, slice_get}
 use Rattle.bm_lines.specs.declared.limits.TheConstants.{MAX_LINE}
+use Rattle.std.proofs.lemmas.Option.{slice_get_past}
+use Rattle.std.proofs.Math.Seq.{take-suc}
+use Rattle.std.proofs.lemmas.List.{take_all, nil_from_length}
 use Rattle.std.specs.List.{AllByRecursion, flat_map}
 use Rattle.std.proofs.lemmas.Grind.{flat_map-append}
 use Rattle.std.specs.Io.KnownBytes.{Appends, Keeps}
@@ -81,10 +84,14 @@ still_tells calls a b d tells kept = record { written = flushed a b d _ tells.wr
 pub all_flushed : (calls more : List Call) (a b c d : Option Text) → Written calls a b → Written more b c → Keeps c d → Tells (calls ++ more) a d
 all_flushed calls more a b c d first second kept = still_tells (calls ++ more) a c d (all_told (calls ++ more) a c (written_more calls more a b c first second)) kept
 
+take_none : {A : Type 0} (n : ℕ) → take {A = A} n [] ≡ []
+take_none zero = refl
+take_none (suc n) = refl
+
 -- one more element of a list, if there is one
 take_more : {A : Type 0} (xs : List A) (i : ℕ) → take (i + 1) xs ≡ take i xs ++ option_to_list (slice_get xs i)
 take_more [] zero = refl
-take_more [] (suc i) = refl
+take_more {A} [] (suc i) = take_none (suc i + 1) ∙ sym (ap (λ (o : Option A). take (suc i) [] ++ option_to_list o) (slice_get_past {X = A} [] (suc i) (omega arith)))
 take_more (x ∷ xs) zero = refl
 take_more (x ∷ xs) (suc i) = ap (λ ys. x ∷ ys) (take_more xs i)
 
@@ -114,3 +121,17 @@ pub rows_more : {A : Type 0} (f : A → List Call) (xs : List A) (x : A) (a b c 
     → Written (flat_map f (xs ++ x ∷ [])) a c
 rows_more f xs x a b c first second =
     subst (λ calls. Written calls a c) (sym (flat_map-append f xs (x ∷ []) ∙ ap (λ ys. flat_map f xs ++ ys) (append-nil (f x)))) (written_more _ _ a b c first second)
+
+-- the element at an index of a loop
+pub rows_at : {A : Type 0} (f : A → List Call) (xs : List A) (i : ℕ) (x : A) (a b c : Option Text) → i < length xs → x ≡ get_or xs i x
+    → Written (flat_map f (take i xs)) a b → Written (f x) b c → Written (flat_map f (take (i + 1) xs)) a c
+rows_at f xs i x a b c lt is first second =
+    let next : suc i ≡ i + 1 = omega arith in
+    let taken : take i xs ++ x ∷ [] ≡ take (i + 1) xs = ap (λ y. take i xs ++ y ∷ []) is ∙ sym (take-suc xs i x lt) ∙ ap (λ n. take n xs) next in
+    subst (λ ys. Written (flat_map f ys) a c) taken (rows_more f (take i xs) x a b c first second)
+
+pub all_first : {A : Type 0} (n : ℕ) (xs : List A) → length xs < n → xs ≡ take n xs
+all_first n xs lt = sym (take_all n xs (omega (arith, lt)))
+
+pub no_others : {A : Type 0} (n : ℕ) (xs : List A) → length xs < n → [] ≡ drop n xs
+no_others n xs lt = sym (nil_from_length (drop n xs) (omega (arith, length-drop n xs, lt)))

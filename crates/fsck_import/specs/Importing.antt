@@ -8,6 +8,7 @@ use Rattle.fsck_files.specs.declared.files.Files.{Files}
 use Rattle.fsck_files.specs.declared.refusal.Refusal.{Refusal}
 use Rattle.fsck_files.specs.declared.replicas.Block.{Block}
 use Rattle.fsck_import.specs.CallsFor.{calls_for}
+use Rattle.fsck_import.specs.Laws.{IsFresh, TellsBlocks}
 use Rattle.fsck_import.specs.Lines.{without_end}
 use Rattle.fsck_import.specs.NameTable.{table_of}
 use Rattle.fsck_import.specs.Reading.{reading_of}
@@ -32,6 +33,8 @@ pub record TellsText (text : Text) (start : Reading) (remaining : ℕ) (old new 
   pub told : reading_of start text ≡ Ok read
   -- the line tool reads the calls for the cluster
   pub tells : Tells (calls_for read.cluster remaining) old new
+  -- they are the calls of the blocks that are taken, if no block came before
+  pub blocks : IsFresh start.cluster → TellsBlocks (blocks_of start.files (lines_of text)) read.cluster remaining
 
 -- what was written is the table of the names of a text
 pub record TellsNames (text : Text) (start : Reading) (old new : Option Text) : Type 0 where

@@ -32,7 +32,7 @@ pub struct Notes {
 /// Reads a whole text of fsck, and then writes a table of names, and the lines that tell of its cluster,
 /// with so many free bytes on each storage whose node's are not known. Nothing is written before all of
 /// the text was read, and no line before the whole table.
-#[tactic(auto, using(crate::proofs::ImportLemmas::output_refuses, crate::proofs::ImportLemmas::output_writes))]
+#[tactic(auto, using(crate::proofs::ImportLemmas::output_refuses, crate::proofs::ImportLemmas::output_writes, crate::proofs::ImportLemmas::whole_text, crate::proofs::ImportLemmas::whole_names))]
 pub fn import<R: BufRead, W: Write, N: Destination>(
     alloc: Global,
     start: Reading,

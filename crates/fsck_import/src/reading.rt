@@ -2,6 +2,7 @@
 ghost use Rattle.std.specs.Prelude.{◌≡◌, Ok, Some, IfOk, OnOk, IfErr, IfSome};
 ghost use Rattle.fsck_import.specs.Causes.{IsCause};
 ghost use Rattle.fsck_import.specs.Reading.{beginning, after_taken, at_end, ended_nodes, nodes_of, reading_of, IsFileFault, IsNodeFault, IsFaultOfReading, IsFaultOfNodes};
+ghost use Rattle.fsck_import.specs.Laws.{IsFresh};
 ghost use Rattle.fsck_import.specs.Lines.{IsReadFault};
 
 use crate::fault::{Cause, Fault, LineFault, Quoted, Unread};
@@ -155,6 +156,7 @@ fn node_fault(alloc: Global, line: &str, fault: NodeFault) -> LineFault
 /// Reads a whole report on DataNodes.
 pub fn read_nodes<R: BufRead>(alloc: Global, reader: &mut R) -> Result<Cluster, Fault>
     ensures text { IfOk result (λ c. IfSome (R.remaining reader.old) (λ text. nodes_of text ≡ Ok c)) }
+    ensures fresh { IfOk result (λ c. IfSome (R.remaining reader.old) (λ text. IsFresh c)) }
     ensures refused { IfErr result (λ f. IsFaultOfNodes f (R.remaining reader.old)) }
 {
     let mut list = NodeList::new(alloc);

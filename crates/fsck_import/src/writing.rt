@@ -200,7 +200,6 @@ fn write_add<W: Write>(
 }
 
 /// The replicas on each storage.
-#[tactic(auto, using(crate::proofs::WriteLemmas::rows_more))]
 fn write_reports<W: Write>(alloc: Global, writer: &mut W, cluster: &Cluster) -> Result<(), Fault>
     ensures written { OnOk result (Written (flat_map reports cluster.now.rows) (W.contents writer.old)
         (W.contents writer.new)) }
@@ -213,7 +212,6 @@ fn write_reports<W: Write>(alloc: Global, writer: &mut W, cluster: &Cluster) -> 
 }
 
 /// The replicas on a storage: as many as fit into a report, and then each of the others.
-#[tactic(auto, using(crate::proofs::WriteLemmas::written_more))]
 fn write_row<W: Write>(alloc: Global, writer: &mut W, row: &Row) -> Result<(), Fault>
     ensures written { OnOk result (Written (reports row.now) (W.contents writer.old)
         (W.contents writer.new)) }

@@ -1,0 +1,104 @@
+-- The blocks of a text, and what the calls for its cluster tell of them.
+use Rattle.std.proofs.Common.{◌≡◌, ℕ, ◌+◌, List, [], ◌∷◌, ◌++◌, Option, Some, None, map, Result, Ok, Err, if◌then◌else◌, refl, sym, ap, subst, ◌∙◌}
+use Rattle.std.specs.Str.{is_utf8}
+use Rattle.bm_lines.specs.Lines.{lines_of}
+use Rattle.fsck_text.specs.Cuts.{Text}
+use Rattle.fsck_text.specs.Wrongs.{after_ok}
+use Rattle.fsck_files.specs.Files as files
+use Rattle.fsck_files.specs.declared.files.Files.{Files}
+use Rattle.fsck_files.specs.declared.refusal.Refusal.{Refusal}
+use Rattle.fsck_files.specs.declared.refusal.Why.TheVariants as why
+use Rattle.fsck_files.specs.declared.replicas.Block.{Block}
+use Rattle.fsck_cluster.specs.Clusters.{After, after_block, with_spares}
+use Rattle.fsck_cluster.specs.NodeLists as nodes
+use Rattle.fsck_cluster.specs.declared.cluster.Cluster.{Cluster}
+use Rattle.fsck_cluster.specs.declared.node_list.NodeList.{NodeList}
+use Rattle.fsck_cluster.specs.declared.node_list.NodeRefusal.{NodeRefusal}
+use Rattle.fsck_import.specs.CallsFor.{calls_for}
+use Rattle.fsck_import.specs.Importing.{TellsText, blocks_of, taken}
+use Rattle.fsck_import.specs.Laws.{IsFresh, after_blocks}
+use Rattle.fsck_import.specs.Lines.{after_bytes, after_lines, after_text, at_line, without_end}
+use Rattle.fsck_import.specs.Reading.{after_line, after_node_line, at_end, cause_of, ended, ended_nodes, node_cause, nodes_of, reading_of, with_cluster, with_nodes, with_taken}
+use Rattle.fsck_import.specs.Starts.{after_node_lines}
+use Rattle.fsck_import.specs.Writing.{Tells}
+use Rattle.fsck_import.specs.declared.fault.Cause.{Cause}
+use Rattle.fsck_import.specs.declared.fault.Cause.TheVariants as cause
+use Rattle.fsck_import.specs.declared.fault.Unread.{Unread}
+use Rattle.fsck_import.specs.declared.reading.Reading.{Reading}
+use Rattle.fsck_import.proofs.NameLemmas.{came_of, err_is_not_ok, if_ok, same_ok}
+use Rattle.fsck_import.proofs.StartLemmas.{nodes_fresh}
+use Rattle.fsck_import.proofs.TellsLemmas.{tells_blocks}
+
+-- a line that is not refused
+line_ok : {A : Type 0} (n : ℕ) (r : Result A Cause) (x : A) → at_line n r ≡ Ok x → r ≡ Ok x
+line_ok n (Ok y) x e = ap Ok (same_ok y x e)
+line_ok n (Err c) x e = absurd (err_is_not_ok (record { line = n; why = c }) x e)
+
+bytes_ok : {T : Type 0} (after : T → Text → Result T Cause) (s t : T) (line : Text) → after_bytes after s line ≡ Ok t → after s (without_end 13 line) ≡ Ok t
+bytes_ok after s t line e = (if_ok (is_utf8 line) (after s (without_end 13 line)) cause.NotText t e).1
+
+-- with a block that is taken
+with_one : (f : Files) (q : After) (u : Reading) (t : Cluster) (next : Files → List Block) → with_cluster f q ≡ Ok u → after_blocks u.cluster (next u.files) ≡ Ok t
+    → after_ok (λ d. after_blocks d (next f)) q ≡ Ok t
+with_one f (Ok d) u t next e rest = subst (λ (x : Reading). after_blocks x.cluster (next x.files) ≡ Ok t) (sym (same_ok (record { files = f; cluster = d }) u e)) rest
+with_one f (Err w) u t next e rest = absurd (err_is_not_ok (cause.Cluster w) u e)
+
+-- with a line that is taken
+one_line : (line : Text) (c : Cluster) (r : Result (Files × Option Block) Refusal) (u : Reading) (t : Cluster) (next : Files → List Block)
+    → with_taken line c r ≡ Ok u → after_blocks u.cluster (next u.files) ≡ Ok t → after_blocks c (taken next r) ≡ Ok t
+one_line line c (Ok (f, None)) u t next e rest = subst (λ (x : Reading). after_blocks x.cluster (next x.files) ≡ Ok t) (sym (same_ok (record { files = f; cluster = c }) u e)) rest
+one_line line c (Ok (f, Some b)) u t next e rest = with_one f (after_block c b) u t next e rest
+one_line line c (Err r) u t next e rest = absurd (err_is_not_ok (cause_of line r) u e)
+
+lines_taken : (n : ℕ) (s : Reading) (lines : List Text) (p : Reading × ℕ) → after_lines after_line n s lines ≡ Ok p
+    → after_blocks s.cluster (blocks_of s.files lines) ≡ Ok p.0.cluster
+lines_taken n s [] p e = ap (λ (x : Reading × ℕ). Ok x.0.cluster) (same_ok (s, n) p e)
+lines_taken n s (line ∷ lines) p e =
+    let first = came_of (λ u. after_lines after_line (n + 1) u lines) (at_line n (after_bytes after_line s line)) p e in
+    let u = first.0 in
+    let after = bytes_ok after_line s u line (line_ok n (after_bytes after_line s line) u first.1) in
+    one_line (without_end 13 line) s.cluster (files.after_line s.files (without_end 13 line)) u p.0.cluster (λ g. blocks_of g lines) after (lines_taken (n + 1) u lines p first.2)
+
+-- the end of a text
+at_spares : (f : Files) (q : After) (read : Reading) → with_cluster f q ≡ Ok read → q ≡ Ok read.cluster
+at_spares f (Ok d) read e = ap (λ (x : Reading). Ok x.cluster) (same_ok (record { files = f; cluster = d }) read e)
+at_spares f (Err w) read e = absurd (err_is_not_ok (cause.Cluster w) read e)
+
+end_taken : (s read : Reading) → at_end s ≡ Ok read → with_spares s.cluster ≡ Ok read.cluster
+end_taken s read e =
+    at_spares s.files (with_spares s.cluster) read (if_ok (files.is_whole s.files.part) (with_cluster s.files (with_spares s.cluster)) (cause.File why.CutOff) read e).1
+
+pub tells_text : (text : Text) (start read : Reading) (remaining : ℕ) (old new : Option Text) → reading_of start text ≡ Ok read
+    → Tells (calls_for read.cluster remaining) old new → TellsText text start remaining old new
+tells_text text start read remaining old new told tells =
+    let all = came_of ended (after_text after_line start text) read told in
+    let last = line_ok all.0.1 (at_end all.0.0) read all.2 in
+    record {
+      read = read;
+      told = told;
+      tells = tells;
+      blocks = λ fresh. tells_blocks start.cluster all.0.0.cluster read.cluster (blocks_of start.files (lines_of text)) remaining fresh
+          (lines_taken 1 start (lines_of text) all.0 all.1) (end_taken all.0.0 read last);
+    }
+
+-- The nodes of a report.
+
+nodes_ok : {A : Type 0} (line : Text) (r : Result A NodeRefusal) (x : A) → with_nodes line r ≡ Ok x → r ≡ Ok x
+nodes_ok line (Ok y) x e = ap Ok (same_ok y x e)
+nodes_ok line (Err r) x e = absurd (err_is_not_ok (node_cause line r) x e)
+
+nodes_taken : (n : ℕ) (s : NodeList) (lines : List Text) (p : NodeList × ℕ) → after_lines after_node_line n s lines ≡ Ok p
+    → after_node_lines s (map (without_end 13) lines) ≡ Ok p.0
+nodes_taken n s [] p e = ap (λ (x : NodeList × ℕ). Ok x.0) (same_ok (s, n) p e)
+nodes_taken n s (line ∷ lines) p e =
+    let first = came_of (λ u. after_lines after_node_line (n + 1) u lines) (at_line n (after_bytes after_node_line s line)) p e in
+    let u = first.0 in
+    let after = bytes_ok after_node_line s u line (line_ok n (after_bytes after_node_line s line) u first.1) in
+    let one = nodes_ok (without_end 13 line) (nodes.after_line s (without_end 13 line)) u after in
+    ap (after_ok (λ t. after_node_lines t (map (without_end 13) lines))) one ∙ nodes_taken (n + 1) u lines p first.2
+
+pub nodes_are_fresh : (text : Text) (c : Cluster) → nodes_of text ≡ Ok c → IsFresh c
+nodes_are_fresh text c told =
+    let all = came_of ended_nodes (after_text after_node_line nodes.no_list text) c told in
+    let last = nodes_ok [] (nodes.at_end all.0.0) c (line_ok all.0.1 (with_nodes [] (nodes.at_end all.0.0)) c all.2) in
+    nodes_fresh (map (without_end 13) (lines_of text)) all.0.0 c (nodes_taken 1 nodes.no_list (lines_of text) all.0 all.1) last
