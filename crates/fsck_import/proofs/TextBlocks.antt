@@ -1,5 +1,5 @@
 -- The blocks of a text, and what the calls for its cluster tell of them.
-use Rattle.std.proofs.Common.{◌≡◌, ℕ, ◌+◌, List, [], ◌∷◌, ◌++◌, Option, Some, None, map, Result, Ok, Err, if◌then◌else◌, refl, sym, ap, subst, ◌∙◌}
+use Rattle.std.proofs.Common.{◌≡◌, ℕ, ◌+◌, List, [], ◌∷◌, ◌++◌, Option, Some, None, IfSome, map, Result, Ok, Err, if◌then◌else◌, refl, sym, ap, subst, ◌∙◌}
 use Rattle.std.specs.Str.{is_utf8}
 use Rattle.bm_lines.specs.Lines.{lines_of}
 use Rattle.fsck_text.specs.Cuts.{Text}
@@ -102,3 +102,8 @@ nodes_are_fresh text c told =
     let all = came_of ended_nodes (after_text after_node_line nodes.no_list text) c told in
     let last = nodes_ok [] (nodes.at_end all.0.0) c (line_ok all.0.1 (with_nodes [] (nodes.at_end all.0.0)) c all.2) in
     nodes_fresh (map (without_end 13) (lines_of text)) all.0.0 c (nodes_taken 1 nodes.no_list (lines_of text) all.0 all.1) last
+
+pub fresh_nodes : (known : Option Text) (list : NodeList) (n : ℕ) (c : Cluster) → IfSome known (λ text. after_text after_node_line nodes.no_list text ≡ Ok (list, n))
+    → ended_nodes (list, n) ≡ Ok c → IfSome known (λ text. IsFresh c)
+fresh_nodes None list n c told e = tt
+fresh_nodes (Some text) list n c told e = nodes_are_fresh text c (ap (after_ok ended_nodes) told ∙ e)

@@ -88,12 +88,15 @@ take_none : {A : Type 0} (n : ℕ) → take {A = A} n [] ≡ []
 take_none zero = refl
 take_none (suc n) = refl
 
+take_next : {A : Type 0} (xs : List A) (i : ℕ) → take (suc i) xs ≡ take i xs ++ option_to_list (slice_get xs i)
+take_next {A} [] zero = refl
+take_next {A} [] (suc i) = sym (ap (λ (o : Option A). take (suc i) [] ++ option_to_list o) (slice_get_past {X = A} [] (suc i) (omega arith)))
+take_next (x ∷ xs) zero = refl
+take_next (x ∷ xs) (suc i) = ap (λ ys. x ∷ ys) (take_next xs i)
+
 -- one more element of a list, if there is one
 take_more : {A : Type 0} (xs : List A) (i : ℕ) → take (i + 1) xs ≡ take i xs ++ option_to_list (slice_get xs i)
-take_more [] zero = refl
-take_more {A} [] (suc i) = take_none (suc i + 1) ∙ sym (ap (λ (o : Option A). take (suc i) [] ++ option_to_list o) (slice_get_past {X = A} [] (suc i) (omega arith)))
-take_more (x ∷ xs) zero = refl
-take_more (x ∷ xs) (suc i) = ap (λ ys. x ∷ ys) (take_more xs i)
+take_more xs i = let next : i + 1 ≡ suc i = omega arith in ap (λ n. take n xs) next ∙ take_next xs i
 
 map-append : {A : Type 0} (f : A → Call) (xs ys : List A) → map f (xs ++ ys) ≡ map f xs ++ map f ys
 map-append f [] ys = refl

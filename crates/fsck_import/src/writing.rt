@@ -164,7 +164,6 @@ fn remaining_on(
 }
 
 /// Each block is added.
-#[tactic(auto, using(crate::proofs::WriteLemmas::adds_more))]
 fn write_adds<W: Write>(alloc: Global, writer: &mut W, cluster: &Cluster) -> Result<(), Fault>
     ensures written { OnOk result (Written (map add cluster.now.blocks) (W.contents writer.old)
         (W.contents writer.new)) }
