@@ -1,7 +1,7 @@
 -- The list of a block's replicas.
 use Rattle.std.specs.Prelude.{ℕ, ◌==◌, ◌&&◌, List, [], ◌∷◌, ◌++◌, Option, Some, None, option_map, Result, Ok, Err, if◌then◌else◌}
 use Rattle.std.specs.Option.{option_map_or}
-use Rattle.fsck_text.specs.Cuts.{Text, onto_cut, cut_at}
+use Rattle.fsck_text.specs.Cuts.{Text, onto_cut, cut_at, is_empty}
 use Rattle.fsck_text.specs.Marks.{mark_of}
 use Rattle.fsck_text.specs.Places.{place_of}
 use Rattle.fsck_text.specs.Wrongs.{wrong}
@@ -56,6 +56,10 @@ abbrev pub all_listed : List Text → Result (List Listed) Wrong
 all_listed [] = Ok []
 all_listed (item ∷ items) = onto_listed (listed_of item) (all_listed items)
 
--- the replicas of a list, in order
+-- the replicas of one item or more
+abbrev pub replicas_in : Text → Result (List Listed) Wrong
+replicas_in text = all_listed (items_of text)
+
+-- the replicas of a list, in order; none from no text
 abbrev pub list_of : Text → Result (List Listed) Wrong
-list_of text = all_listed (items_of text)
+list_of text = if is_empty text then Ok [] else replicas_in text

@@ -1,6 +1,6 @@
 // The list of a block's replicas.
 ghost use Rattle.std.specs.Prelude.{◌≡◌, Ok, IfOk, OnOk, IfErr, option_map};
-ghost use Rattle.fsck_text.specs.Lists.{cut_item, pushed, listed_with, listed_of, list_of};
+ghost use Rattle.fsck_text.specs.Lists.{cut_item, pushed, listed_with, listed_of, replicas_in, list_of};
 ghost use Rattle.fsck_text.specs.Wrongs.{IsCause};
 
 use crate::cuts::cut_at;
@@ -17,11 +17,23 @@ pub struct Listed<'a> {
     pub mark: Mark,
 }
 
-/// The replicas of a list, in order, from the text between its brackets.
-#[tactic(auto, using(crate::proofs::ListLemmas::next_listed, crate::proofs::ListLemmas::last_wrong))]
+/// The replicas of a list, in order, from the text between its brackets; none from no text.
 pub fn list_of<'a>(alloc: Global, text: &'a str) -> Result<Items<Listed<'a>>, Fault<'a>>
     ensures ok { IfOk result (λ v. list_of text.entry.now ≡ Ok v) }
     ensures wrong { IfErr result (λ f. IsCause f (list_of text.entry.now)) }
+{
+    if text.is_empty() {
+        Ok(Items::from_vec(Vec::new(alloc)))
+    } else {
+        replicas_in(alloc, text)
+    }
+}
+
+/// The replicas of one item or more.
+#[tactic(auto, using(crate::proofs::ListLemmas::next_listed, crate::proofs::ListLemmas::last_wrong))]
+fn replicas_in<'a>(alloc: Global, text: &'a str) -> Result<Items<Listed<'a>>, Fault<'a>>
+    ensures ok { IfOk result (λ v. replicas_in text.entry.now ≡ Ok v) }
+    ensures wrong { IfErr result (λ f. IsCause f (replicas_in text.entry.now)) }
 {
     let mut list = Items::from_vec(Vec::new(alloc));
     let mut rest = text;

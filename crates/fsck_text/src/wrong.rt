@@ -6,35 +6,35 @@ use thiserror::Error;
 /// What is wrong with a word of a line.
 #[derive(Clone, Copy, Debug, Drop, Error)]
 pub enum Reason {
-    #[error("not a heading that Hadoop 2.6 to 3.4 write")]
+    #[error("is not a heading that Hadoop 2.6 to 3.4 write")]
     NotAHeading,
-    #[error("not a number of wanted replicas")]
+    #[error("is not a number of wanted replicas")]
     NotATarget,
-    #[error("two numbers of wanted replicas for one file")]
+    #[error("says another number of wanted replicas than the heading")]
     TwoTargets,
     /// Not `[POOL:]blk_NUMBER_STAMP`.
-    #[error("not the name of a block")]
+    #[error("is not the name of a block")]
     NotABlock,
     /// As in old clusters and in erasure coded files.
-    #[error("the number of the block is below 0")]
+    #[error("names a block with a number below 0")]
     NegativeBlock,
     /// Not `len=` and a number below 2^64.
-    #[error("not the length of a block")]
+    #[error("is not the length of a block")]
     NotALength,
     /// None of `MISSING!`, `repl=N` and `Live_repl=N`.
-    #[error("neither MISSING! nor a number of live replicas")]
+    #[error("is neither MISSING! nor a number of live replicas")]
     NotACount,
     /// Not `[`, places with `, ` between them, and `]`.
-    #[error("not a list of places in brackets")]
+    #[error("is not a list of places in brackets")]
     NotAList,
     /// Neither `[/RACK/]HOST:PORT` nor `DatanodeInfoWithStorage[HOST:PORT,STORAGE,TYPE]`.
-    #[error("not a place")]
+    #[error("is not a place")]
     NotAPlace,
-    #[error("not a mark of -replicaDetails")]
+    #[error("has a mark that -replicaDetails does not write")]
     NotAMark,
-    #[error("not a number of the summary")]
+    #[error("is not a number of the summary")]
     NotASum,
-    #[error("not a line about a DataNode")]
+    #[error("does not fit a line about a DataNode")]
     NotANode,
 }
 

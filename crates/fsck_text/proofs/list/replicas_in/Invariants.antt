@@ -1,13 +1,13 @@
 use Rattle.std.proofs.Common.{◌≡◌, length}
 use Rattle.std.specs.Str.{IsUtf8}
-use Rattle.fsck_text.specs.Lists.{list_of}
+use Rattle.fsck_text.specs.Lists.{replicas_in}
 use Rattle.fsck_text.proofs.ListLemmas.{prefixed}
-use Rattle.fsck_text.proofs.list.list_of.Given as goal
+use Rattle.fsck_text.proofs.list.replicas_in.Given as goal
 
 -- the replicas so far, and those of the rest
 abbrev pub invariant-loop-item : goal.invariant-loop-item
 invariant-loop-item l = record {
-  all : list_of l.text ≡ prefixed l.list (list_of l.rest);
+  all : replicas_in l.text ≡ prefixed l.list (replicas_in l.rest);
   utf8 : IsUtf8 l.rest;
 }
 

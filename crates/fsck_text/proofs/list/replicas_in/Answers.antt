@@ -1,6 +1,6 @@
 use Rattle.std.proofs.Common.{sym}
 use Rattle.fsck_text.proofs.ListLemmas.{last_listed, item_wrong, shorter_after}
-use Rattle.fsck_text.proofs.list.list_of.Goals as goal
+use Rattle.fsck_text.proofs.list.replicas_in.Goals as goal
 
 pub loop-item-smaller : goal.loop-item-smaller
 loop-item-smaller c = shorter_after c.loop-item.rest.now c.in-Some.item.now c.in-Some.after.now (sym c.in-Some.ensures)
