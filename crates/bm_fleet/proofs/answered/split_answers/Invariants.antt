@@ -3,7 +3,7 @@ use Rattle.std.specs.Result.{result_ok}
 use Rattle.std.specs.List.{filter_map}
 use Rattle.std.specs.Vec.Iter.{into_iter_items}
 use Rattle.bm_fleet.specs.FromShards.{shard_answered, first_fault}
-use Rattle.bm_fleet.proofs.answered.gather_answers.Given as goal
+use Rattle.bm_fleet.proofs.answered.split_answers.Given as goal
 
 abbrev pub invariant-loop-index : goal.invariant-loop-index
 invariant-loop-index g l = record {
