@@ -55,13 +55,19 @@ pub(crate) fn change_all<R: Threads + Wait + Sync, G: Gate + Sync>(
     ensures still { OnErr result (EachStandsIn topology.now.cluster shards.new.items) }
     ensures refused { IfErr result (λ e. e ≡ Memory) }
 {
-    let (committing, back) = pass_room::<Committed>(alloc, shards.len(), workers)?;
-    prepare_or_abort(alloc, rt, gate, workers, shards, event, topology)?;
-    Ok(commit_and_gather(rt, gate, committing, shards, back, event, topology, multi))
+    match prepare_for_event(alloc, rt, gate, workers, shards, event, topology) {
+        Ok((committing, back)) => Ok(commit_and_gather(
+            rt, gate, committing, shards, back, event, topology, multi,
+        )),
+        Err(refusal) => {
+            abort_all(shards);
+            Err(refusal)
+        }
+    }
 }
 
-/// Prepares all shards; where one was refused, all give up what was prepared.
-fn prepare_or_abort<R: Threads + Wait + Sync, G: Gate + Sync>(
+/// Prepares all shards, and takes the memory of the pass that changes them. A refusal leaves them prepared.
+fn prepare_for_event<R: Threads + Wait + Sync, G: Gate + Sync>(
     alloc: Global,
     rt: &R,
     gate: &G,
@@ -69,24 +75,24 @@ fn prepare_or_abort<R: Threads + Wait + Sync, G: Gate + Sync>(
     shards: &mut Vec<(u32, Shard)>,
     event: &Event,
     topology: &Topology,
-) -> Result<(), Refusal>
+) -> Result<(Ready<Shard, Committed>, Vec<(u32, Shard)>), Refusal>
     requires workers { 0 < workers }
     requires cluster { first_of (cluster_checks topology.now.cluster event.now) ≡ None }
     requires blocks { All (Accepts event.now) shards.old.items }
     requires standing { EachStandsIn topology.now.cluster shards.old.items }
     ensures same { AllZip IsSame shards.old.items shards.new.items }
     ensures ready { OnOk result (All (CanCommit topology.now.cluster event.now) shards.new.items) }
+    ensures room { IfOk result (λ r. r.0.room ≡ vec_len shards.new) }
+    ensures back { IfOk result
+        (λ r. (r.1.items ≡ []) × (vec_len shards.new ≤ vec_capacity r.1)) }
     ensures refused { IfErr result (λ e. e ≡ Memory) }
 {
     let (preparing, back) = pass_room::<Prepared>(alloc, shards.len(), workers)?;
     let items = mem::replace(shards, back);
     let made = prepare_all(rt, gate, preparing, items, event, topology);
     match gather_prepared(made, shards) {
-        Ok(()) => Ok(()),
-        Err(refusal) => {
-            abort_all(shards);
-            Err(refusal)
-        }
+        Ok(()) => pass_room::<Committed>(alloc, shards.len(), workers),
+        Err(refusal) => Err(refusal),
     }
 }
 

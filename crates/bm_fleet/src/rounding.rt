@@ -1,5 +1,5 @@
 // A round of all shards: taken in all of them, or in none.
-ghost use Rattle.std.specs.Prelude.{◌≡◌, ◌<◌, ◌≤◌, ◌+◌, ◌^◌, None, length, IfOk, IfErr, OnOk, OnErr};
+ghost use Rattle.std.specs.Prelude.{◌≡◌, ◌<◌, ◌≤◌, ◌+◌, ◌^◌, None, length, IfOk, IfErr, OnOk, OnErr, vec_len};
 ghost use Rattle.std.specs.List.{All, AllZip};
 ghost use Rattle.bm_base.specs.declared.refusal.Refusal.TheVariants.{Memory};
 ghost use Rattle.bm_base.specs.State.{limits_of};
@@ -16,7 +16,7 @@ use crate::pass_room::pass_room;
 use crate::round_found::find_round;
 use crate::round_running::{commit_round_all, prepare_round_all};
 use bm_base::{Chosen, Commands, Config, Refusal, RoundPart};
-use bm_crew::{Crew, Gate};
+use bm_crew::{Crew, Gate, Ready};
 use bm_shard::Shard;
 use bm_topo::Topology;
 use std::alloc::Global;
@@ -128,15 +128,22 @@ fn take_round<R: Threads + Wait + Sync, G: Gate + Sync>(
     ensures same { OnErr result (AllZip IsSame shards.old.items shards.new.items) }
     ensures refused { IfErr result (λ e. e ≡ Memory) }
 {
-    let committing = Crew::ready::<Shard, Shard>(alloc, shards.len(), workers)?;
-    prepare_round_or_abort(alloc, rt, gate, workers, shards, parts, chosen, topology)?;
-    let items = mem::replace(shards, Vec::new(alloc));
-    *shards = commit_round_all(rt, gate, committing, items, parts, chosen, topology);
-    Ok(())
+    match prepare_for_round(alloc, rt, gate, workers, shards, parts, chosen, topology) {
+        Ok(committing) => {
+            let items = mem::replace(shards, Vec::new(alloc));
+            *shards = commit_round_all(rt, gate, committing, items, parts, chosen, topology);
+            Ok(())
+        }
+        Err(refusal) => {
+            abort_all(shards);
+            Err(refusal)
+        }
+    }
 }
 
-/// Prepares all shards for their next round; where one was refused, all give up what was prepared.
-fn prepare_round_or_abort<R: Threads + Wait + Sync, G: Gate + Sync>(
+/// Prepares all shards for their next round, and takes the memory of the pass in which they take it. A refusal leaves
+/// them prepared.
+fn prepare_for_round<R: Threads + Wait + Sync, G: Gate + Sync>(
     alloc: Global,
     rt: &R,
     gate: &G,
@@ -145,7 +152,7 @@ fn prepare_round_or_abort<R: Threads + Wait + Sync, G: Gate + Sync>(
     parts: &[RoundPart],
     chosen: &Chosen,
     topology: &Topology,
-) -> Result<(), Refusal>
+) -> Result<Ready<Shard, Shard>, Refusal>
     requires workers { 0 < workers }
     requires parts { All (HasPart topology.now.cluster parts.now) shards.old.items }
     requires standing { EachStandsIn topology.now.cluster shards.old.items }
@@ -153,16 +160,14 @@ fn prepare_round_or_abort<R: Threads + Wait + Sync, G: Gate + Sync>(
     ensures same { AllZip IsSame shards.old.items shards.new.items }
     ensures ready { OnOk result
         (All (CanCommitRound topology.now.cluster parts.now chosen.now) shards.new.items) }
+    ensures room { IfOk result (λ r. r.room ≡ vec_len shards.new) }
     ensures refused { IfErr result (λ e. e ≡ Memory) }
 {
     let (preparing, back) = pass_room::<Prepared>(alloc, shards.len(), workers)?;
     let items = mem::replace(shards, back);
     let made = prepare_round_all(rt, gate, preparing, items, parts, chosen, topology);
     match gather_prepared(made, shards) {
-        Ok(()) => Ok(()),
-        Err(refusal) => {
-            abort_all(shards);
-            Err(refusal)
-        }
+        Ok(()) => Crew::ready::<Shard, Shard>(alloc, shards.len(), workers),
+        Err(refusal) => Err(refusal),
     }
 }
