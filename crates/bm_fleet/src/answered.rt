@@ -16,8 +16,8 @@ pub(crate) struct Answered<A> {
     pub answer: Result<A, Refusal>,
 }
 
-/// Moves the shards into `back`, as they were, and returns what each answered, moved into `answers`, or the first refusal.
-/// Both lists have capacity for it.
+/// Moves the shards into `back`, as they were, and returns what each answered, moved into `answers`,
+/// or the first refusal. Both lists have capacity for it.
 pub(crate) fn gather_answers<A: Drop>(
     answered: Vec<(u32, Answered<A>)>,
     back: &mut Vec<(u32, Shard)>,

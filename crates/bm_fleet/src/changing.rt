@@ -66,7 +66,8 @@ pub(crate) fn change_all<R: Threads + Wait + Sync, G: Gate + Sync>(
     }
 }
 
-/// Prepares all shards, and takes the memory of the pass that changes them. A refusal leaves them prepared.
+/// Prepares all shards, and takes the memory of the pass that changes them. After a refusal, those
+/// that were prepared stay prepared.
 fn prepare_for_event<R: Threads + Wait + Sync, G: Gate + Sync>(
     alloc: Global,
     rt: &R,
@@ -96,7 +97,8 @@ fn prepare_for_event<R: Threads + Wait + Sync, G: Gate + Sync>(
     }
 }
 
-/// Changes all shards, each of which is ready, and adds up what they answer. They come back in `back`'s place.
+/// Changes all shards, each of which is ready, and adds up what they answer. `back` takes the shards
+/// back.
 fn commit_and_gather<R: Threads + Wait + Sync, G: Gate + Sync>(
     rt: &R,
     gate: &G,

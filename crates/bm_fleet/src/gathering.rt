@@ -10,7 +10,8 @@ use crate::crewed::{Committed, Prepared};
 use bm_base::{Done, Refusal};
 use bm_shard::Shard;
 
-/// Moves the prepared shards into `back`, which has capacity for them, and returns the first refusal.
+/// Moves the prepared shards into `back`, which has capacity for them, and returns the first
+/// refusal.
 pub(crate) fn gather_prepared(
     prepared: Vec<(u32, Prepared)>,
     back: &mut Vec<(u32, Shard)>,
@@ -57,7 +58,8 @@ fn abort_one(shard: &mut Shard)
     shard.round_abort();
 }
 
-/// Moves the changed shards into `back`, which has capacity for them, and adds up what they answered.
+/// Moves the changed shards into `back`, which has capacity for them, and adds up what they
+/// answered.
 pub(crate) fn gather_committed(
     committed: Vec<(u32, Committed)>,
     back: &mut Vec<(u32, Shard)>,

@@ -7,8 +7,8 @@ use bm_crew::{Crew, Ready};
 use bm_shard::Shard;
 use std::alloc::Global;
 
-/// One pass over `count` shards by `workers` threads, the calling one among them, and an empty list that takes the shards
-/// back.
+/// One pass over `count` shards by `workers` threads, the calling one among them, and an empty list
+/// with capacity to take the shards back.
 pub(crate) fn pass_room<U: Drop>(
     alloc: Global,
     count: usize,

@@ -32,8 +32,9 @@ pub(crate) struct FoundRound {
     pub choice: ChosenCommands,
 }
 
-/// What the shards have for their next round, with what is chosen of all of it. First those wishes are asked for that the round is likely
-/// to need, and only where it can have further transfers all of them. No shard changes.
+/// Returns what the shards have for their next round, with what is chosen of all of it. Asks first for
+/// the wishes that the round is likely to need, and for all of them only where it can have further
+/// transfers. No shard changes.
 pub(crate) fn find_round<R: Threads + Wait + Sync, G: Gate + Sync>(
     alloc: Global,
     rt: &R,
@@ -68,8 +69,8 @@ pub(crate) fn find_round<R: Threads + Wait + Sync, G: Gate + Sync>(
     }
 }
 
-/// What the shards have for their next round, with the wishes before a bound and what is chosen of them: where that is what is chosen of
-/// all wishes. No shard changes.
+/// Returns what the shards have for their next round, with the wishes before a bound and what is
+/// chosen of them; `None` where more may be chosen of all wishes. No shard changes.
 fn find_round_before<R: Threads + Wait + Sync, G: Gate + Sync>(
     alloc: Global,
     rt: &R,
@@ -103,7 +104,7 @@ fn find_round_before<R: Threads + Wait + Sync, G: Gate + Sync>(
     Ok(Some(FoundRound { parts, choice }))
 }
 
-/// What each shard has for its next round, with the wishes before a bound. No shard changes.
+/// Returns what each shard has for its next round, with the wishes before a bound. No shard changes.
 fn find_parts<R: Threads + Wait + Sync, G: Gate + Sync>(
     alloc: Global,
     rt: &R,

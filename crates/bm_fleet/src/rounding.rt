@@ -141,8 +141,8 @@ fn take_round<R: Threads + Wait + Sync, G: Gate + Sync>(
     }
 }
 
-/// Prepares all shards for their next round, and takes the memory of the pass in which they take it. A refusal leaves
-/// them prepared.
+/// Prepares all shards for their next round, and takes the memory of the pass in which they take it.
+/// After a refusal, those that were prepared stay prepared.
 fn prepare_for_round<R: Threads + Wait + Sync, G: Gate + Sync>(
     alloc: Global,
     rt: &R,
