@@ -87,22 +87,23 @@ def is_skipped(file: File, call: Fsck, options: Import) -> bool:
     return any(is_kind[word] for word in options.skip)
 
 
-def taken_block(block: Block, file: File, call: Fsck) -> Taken:
-    version = call.version
+def refuse_kind(file: File) -> None:
+    """Files of which the lines of the tool cannot tell, and which have to be skipped by name."""
     if file.policy:
         raise Refused(f"{file.path} is erasure coded")
-    if not block.is_complete:
+    if file.is_open:
         raise Refused(f"{file.path} is open")
-    if wanted(block, file, version) > MOST_REPLICAS:
-        raise Refused(f"{file.path} has more than {MOST_REPLICAS} replicas")
-    listed = places(block, file, version)
-    all_are = is_corrupt(block, file, version)
+
+
+def taken_block(block: Block, file: File, call: Fsck) -> Taken:
+    listed = places(block, file, call.version)
+    all_are = is_corrupt(block, file, call.version)
     bad = [
         replica
         for replica in listed
         if all_are or (call.details and mark_of(replica, call) == CORRUPT)
     ]
-    return Taken(block, wanted(block, file, version), listed, bad)
+    return Taken(block, wanted(block, file, call.version), listed, bad)
 
 
 def taken_blocks(cluster: Cluster, call: Fsck, options: Import) -> list[Taken]:
@@ -112,9 +113,12 @@ def taken_blocks(cluster: Cluster, call: Fsck, options: Import) -> list[Taken]:
     for file in shown_files(cluster, call):
         if is_skipped(file, call, options):
             continue
+        refuse_kind(file)
         for block in file.blocks:
             if block.number in numbers:
                 raise Refused(f"block {block.number} was named before")
+            if wanted(block, file, call.version) > MOST_REPLICAS:
+                raise Refused(f"{file.path} wants more than {MOST_REPLICAS} replicas")
             numbers.add(block.number)
             if options.unclear == "good" or not is_unclear(block, file, call):
                 found.append(taken_block(block, file, call))
