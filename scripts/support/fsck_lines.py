@@ -70,7 +70,7 @@ def wanted(block: Block, file: File, version: Version) -> int:
 
 
 def is_unclear(block: Block, file: File, call: Fsck) -> bool:
-    """Whether more replicas are listed than are live, and no mark says which are the others."""
+    """Whether more replicas are listed than are live, and no mark says which ones are not."""
     if call.details or is_corrupt(block, file, call.version):
         return False
     return len(places(block, file, call.version)) > live(block)
@@ -88,7 +88,7 @@ def is_skipped(file: File, call: Fsck, options: Import) -> bool:
 
 
 def refuse_kind(file: File) -> None:
-    """Files of which the lines of the tool cannot tell, and which have to be skipped by name."""
+    """Refuses a kind of file that the tool has no lines for: it has to be skipped by name."""
     if file.policy:
         raise Refused(f"{file.path} is erasure coded")
     if file.is_open:
@@ -188,7 +188,7 @@ def node_lines(numbering: Numbering, options: Import) -> list[str]:
 
 
 def report_lines(numbering: Numbering) -> list[str]:
-    """A report of each storage, and behind it the replicas for which a report has no space."""
+    """A report of each storage, followed by the replicas past the limit of a report."""
     held: dict[int, list[Block]] = {number: [] for number, _ in numbering.storages.values()}
     for taken in numbering.blocks:
         for replica in taken.replicas:
@@ -203,7 +203,7 @@ def report_lines(numbering: Numbering) -> list[str]:
 
 
 def drain_lines(numbering: Numbering, call: Fsck, options: Import) -> list[str]:
-    """Nodes with no listed place are known to drain only where a text of the nodes is given."""
+    """The nodes that drain: by the marks of their places, or by the text of the nodes."""
     knows_state = call.details or options.nodes
     return [
         line(op="drain", node=number)

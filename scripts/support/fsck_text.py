@@ -1,7 +1,8 @@
 """Prints a cluster as `hdfs fsck PATH -files -blocks -locations` does.
 
-The forms are written from memory of Hadoop's NamenodeFsck in 2.7, 2.10, 3.3 and 3.4. They were
-never compared with a running cluster. A function whose form is uncertain says so.
+The forms are written from memory of Hadoop's NamenodeFsck in 2.7, 2.10, 3.3 and 3.4, where no
+difference between 3.3 and 3.4 is known. They were never compared with a running cluster. A function
+whose form is uncertain says so.
 """
 
 import struct
@@ -47,8 +48,8 @@ def single(number: float) -> float:
 
 
 def java_float(number: float) -> str:
-    """A number from 0 as Java's `Float.toString` prints it: by the fewest digits that tell it from
-    other floats. Before Java 19 a few numbers have a digit more."""
+    """A number from 0 as Java's `Float.toString` prints it: by the fewest digits that no other
+    float shares. Before Java 19 a few numbers have one digit more."""
     if number == 0:
         return "0.0"
     short = next(it for it in (f"{number:.{n}e}" for n in range(9)) if single(float(it)) == number)
@@ -83,7 +84,7 @@ def place_words(replica: Replica, call: Fsck) -> str:
 
 
 def list_words(block: Block, file: File, call: Fsck) -> str:
-    """A list of places. In a group the number of each internal block stands before its place."""
+    """A list of places. In a group, the number of each internal block precedes its place."""
     listed = places(block, file, call.version) if block.is_complete else block.replicas
     words = []
     for replica in listed:
@@ -94,7 +95,7 @@ def list_words(block: Block, file: File, call: Fsck) -> str:
 
 
 def block_words(block: Block, file: File, call: Fsck) -> str:
-    """What stands behind a block's length; `repl=` of 2.7 counts live replicas."""
+    """The rest of a block's line after its length; `repl=` of 2.7 counts live replicas."""
     is_lost = is_missing(block, file, call.version)
     missing = " MISSING!" if is_lost else ""
     if is_lost and not file.policy:
@@ -107,7 +108,7 @@ def block_words(block: Block, file: File, call: Fsck) -> str:
 
 def under_words(block: Block, file: File, call: Fsck) -> str:
     """The end of the line ` Under replicated ..`. With -maintenance the source has a comma
-    behind the number of replicas that enter maintenance; that form is uncertain."""
+    after the number of replicas that enter maintenance; that form is uncertain."""
     found = counts(block)
     if call.version < (2, 8):
         return f"{found[LIVE]} replica(s)."
@@ -318,7 +319,7 @@ class FsckWriter:
 
     def blocks(self, file: File, checked: list[Block]) -> None:
         """The lines of the blocks. The line of a block that is being written has no line end of
-        its own, so no empty line follows it."""
+        its own, so no empty line follows it. Whether 2.10 has that line is uncertain."""
         for index, block in enumerate(checked):
             words = block_words(block, file, self.call)
             self.say(f"{index}. {self.name(block)} len={block.length}{words}\n")
@@ -332,6 +333,7 @@ class FsckWriter:
         self.say("\n")
 
     def summary_2(self) -> None:
+        """Whether 2.7 counts blocks below the minimal replication is uncertain."""
         sums = self.replicated
         self.say(f"Status: {'HEALTHY' if sums.is_healthy() else 'CORRUPT'}\n")
         self.say(f" Total size:\t{sums.size} B{self.open_size(sums)}\n")
@@ -351,6 +353,7 @@ class FsckWriter:
         self.say(f" Number of racks:\t\t{len(racks_of(self.cluster))}\n")
 
     def summary_3(self) -> None:
+        """Since which version of 3.x the numbers of queued blocks are there is uncertain."""
         self.say(f"\nStatus: {'HEALTHY' if self.is_healthy() else 'CORRUPT'}\n")
         live_nodes = sum(node.is_alive for node in self.cluster.nodes)
         self.say(f" Number of data-nodes:\t{live_nodes}\n")
@@ -482,7 +485,7 @@ GROUP_SHARES = (
 
 
 def write_fsck(cluster: Cluster, call: Fsck) -> str:
-    """What `hdfs fsck` prints on standard output. The NameNode sends no line end behind the last
+    """What `hdfs fsck` prints on standard output. The NameNode sends no line end after the last
     line, and the client prints one. The line `Connecting to namenode via ..` goes to standard
     error, so it is absent."""
     return FsckWriter(cluster, call).text()

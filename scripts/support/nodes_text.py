@@ -89,7 +89,8 @@ def section(name: str, nodes: list[Node], cluster: Cluster, call: Fsck) -> str:
 
 
 def replicated_words(cluster: Cluster, call: Fsck) -> str:
-    """The numbers of replicated blocks, which 2.x prints without a heading and a tab."""
+    """The numbers of replicated blocks, which 2.x prints without a heading and a tab. In which
+    versions the last two numbers are there is uncertain."""
     version = call.version
     blocks = {
         block.number: (block, file)
