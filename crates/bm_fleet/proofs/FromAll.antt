@@ -2,7 +2,7 @@
 use Rattle.std.specs.Prelude.{◌≡◌, ℕ, List, [], ◌∷◌, ◌++◌, map, Some, Result, Ok, Err, IfOk, IfErr}
 use Rattle.std.specs.Result.{result_and, result_ok}
 use Rattle.std.specs.List.{AllZip, filter_map, cons_option}
-use Rattle.std.proofs.Common.{refl, sym, ap, ◌∙◌, append-nil}
+use Rattle.std.proofs.Common.{refl, sym, ap, ◌∙◌}
 use Rattle.std.proofs.lemmas.List.Elements.{filter_map-append}
 use Rattle.bm_base.specs.declared.refusal.Refusal.{Refusal}
 use Rattle.bm_base.specs.declared.refusal.Refusal.TheVariants.{Memory}
@@ -18,25 +18,15 @@ or_ok (Err r) b e = cc
 module _ {A : Type 0} where
   -- One more is gathered.
 
-  fault_push : (fs : List (ℕ × Answered A)) (f : ℕ × Answered A) → first_fault (fs ++ f ∷ []) ≡ result_and (first_fault fs) (fault_in f.1.answer)
+  pub fault_push : (fs : List (ℕ × Answered A)) (f : ℕ × Answered A) → first_fault (fs ++ f ∷ []) ≡ result_and (first_fault fs) (fault_in f.1.answer)
   fault_push [] f = or_else_ok (fault_in f.1.answer)
   fault_push (g ∷ fs) f = ap (result_and (fault_in g.1.answer)) (fault_push fs f) ∙ or_else_again (fault_in g.1.answer) (first_fault fs) (fault_in f.1.answer)
-
-  pub fault_push_ok : (fs : List (ℕ × Answered A)) (f : ℕ × Answered A) (a : A) → f.1.answer ≡ Ok a → first_fault (fs ++ f ∷ []) ≡ first_fault fs
-  fault_push_ok fs f a e = fault_push fs f ∙ ap (λ r. result_and (first_fault fs) (fault_in r)) e ∙ or_else_ok (first_fault fs)
-
-  pub fault_push_err : (fs : List (ℕ × Answered A)) (f : ℕ × Answered A) (r : Refusal) → f.1.answer ≡ Err r → first_fault (fs ++ f ∷ []) ≡ result_and (first_fault fs) (Err r)
-  fault_push_err fs f r e = fault_push fs f ∙ ap (λ x. result_and (first_fault fs) (fault_in x)) e
 
   abbrev pub answers_in : List (ℕ × Answered A) → List A
   answers_in fs = filter_map (λ (f : ℕ × Answered A). result_ok f.1.answer) fs
 
-  pub answers_push_ok : (fs : List (ℕ × Answered A)) (f : ℕ × Answered A) (a : A) → f.1.answer ≡ Ok a → answers_in (fs ++ f ∷ []) ≡ answers_in fs ++ a ∷ []
-  answers_push_ok fs f a e = filter_map-append (λ (f : ℕ × Answered A). result_ok f.1.answer) fs (f ∷ []) ∙ ap (λ r. answers_in fs ++ cons_option (result_ok r) []) e
-
-  pub answers_push_err : (fs : List (ℕ × Answered A)) (f : ℕ × Answered A) (r : Refusal) → f.1.answer ≡ Err r → answers_in (fs ++ f ∷ []) ≡ answers_in fs
-  answers_push_err fs f r e =
-      filter_map-append (λ (f : ℕ × Answered A). result_ok f.1.answer) fs (f ∷ []) ∙ ap (λ x. answers_in fs ++ cons_option (result_ok x) []) e ∙ append-nil (answers_in fs)
+  pub answers_push : (fs : List (ℕ × Answered A)) (f : ℕ × Answered A) → answers_in (fs ++ f ∷ []) ≡ answers_in fs ++ cons_option (result_ok f.1.answer) []
+  answers_push fs f = filter_map-append (λ (f : ℕ × Answered A). result_ok f.1.answer) fs (f ∷ [])
 
   -- All of them.
 

@@ -1,7 +1,8 @@
 -- Shards that stay the same in all but room.
-use Rattle.std.specs.Prelude.{◌≡◌, ℕ, suc, List, [], ◌∷◌, length}
+use Rattle.std.specs.Prelude.{◌≡◌, ℕ, zero, suc, List, [], ◌∷◌, length}
 use Rattle.std.specs.List.{AllZip}
-use Rattle.std.proofs.Common.{refl, sym, ap, subst, ◌∙◌}
+use Rattle.std.proofs.Common.{refl, sym, ap, subst, ◌∙◌, get_or}
+use Rattle.std.proofs.Math.ListN.{set}
 use Rattle.bm_base.specs.Map.{get}
 use Rattle.bm_base.specs.State.{Cluster}
 use Rattle.bm_base.specs.Levels.{level}
@@ -42,13 +43,25 @@ all_same_again (r ∷ rs) [] ts first next = absurd first
 all_same_again (r ∷ rs) (s ∷ ss) [] first next = absurd next
 all_same_again (r ∷ rs) (s ∷ ss) (t ∷ ts) first next = ((next.0.0 ∙ first.0.0, same_again r.1 s.1 t.1 first.0.1 next.0.1), all_same_again rs ss ts first.1 next.1)
 
+pub all_same : (ss : List (ℕ × Seen)) → AllZip IsSame ss ss
+all_same [] = tt
+all_same (s ∷ ss) = ((refl, record { rest = refl; levels = λ C h. refl }), all_same ss)
+
+-- so it is where one of them changes nothing but room
+pub same_set : (ss ts : List (ℕ × Seen)) (k : ℕ) (d u : ℕ × Seen) → AllZip IsSame ss ts → IsSame (get_or ts k d) u → AllZip IsSame ss (set ts k u)
+same_set [] [] k d u each one = tt
+same_set [] (r ∷ ts) k d u each one = absurd each
+same_set (s ∷ ss) [] k d u each one = absurd each
+same_set (s ∷ ss) (r ∷ ts) zero d u each one = ((one.0 ∙ each.0.0, same_again s.1 r.1 u.1 each.0.1 one.1), each.1)
+same_set (s ∷ ss) (r ∷ ts) (suc k) d u each one = (each.0, same_set ss ts k d u each.1 one)
+
 pub same_parts : (ss ts : List (ℕ × Seen)) → AllZip IsSame ss ts → parts_of ts ≡ parts_of ss
 same_parts [] [] each = refl
 same_parts [] (t ∷ ts) each = absurd each
 same_parts (s ∷ ss) [] each = absurd each
 same_parts (s ∷ ss) (t ∷ ts) each = λ j. (ap (λ S. S.holdings) each.0.1.rest) j ∷ same_parts ss ts each.1 j
 
-same_length : (ss ts : List (ℕ × Seen)) → AllZip IsSame ss ts → length ts ≡ length ss
+pub same_length : (ss ts : List (ℕ × Seen)) → AllZip IsSame ss ts → length ts ≡ length ss
 same_length [] [] each = refl
 same_length [] (t ∷ ts) each = absurd each
 same_length (s ∷ ss) [] each = absurd each
@@ -90,6 +103,6 @@ are_shards shards ss h = subst (λ n. AreShards n ss) h.long h
 pub still_shards : (ss ts : List (ℕ × Seen)) → AllZip IsSame ss ts → AreShards (length ss) ss → AreShards (length ts) ts
 still_shards ss ts each h = are_shards (length ss) ts (same_shards (length ss) ss ts each h)
 
--- so it is where the shards were taken out first
-pub still_taken : (ss taken back : List (ℕ × Seen)) → taken ≡ ss → AllZip IsSame taken back → AllZip IsSame ss back
-still_taken ss taken back from each = subst (λ xs. AllZip IsSame xs back) from each
+-- what is so of shards that were taken out is so of those that they were
+pub still_taken : {U : Type 0} (R : ℕ × Seen → U → Type 0) (ss taken : List (ℕ × Seen)) (made : List U) → taken ≡ ss → AllZip R taken made → AllZip R ss made
+still_taken R ss taken made from each = subst (λ xs. AllZip R xs made) from each

@@ -1,5 +1,5 @@
 -- What was gathered of shards that a crew worked.
-use Rattle.std.specs.Prelude.{ℕ, ◌+◌, ◌<◌, ◌^◌, List, [], ◌∷◌, Result, Ok, Err}
+use Rattle.std.specs.Prelude.{ℕ, ◌+◌, ◌<◌, ◌^◌, List, [], ◌∷◌, Result, Ok}
 use Rattle.std.specs.Result.{result_and}
 use Rattle.bm_base.specs.declared.event.Done.{Done}
 use Rattle.bm_base.specs.declared.refusal.Refusal.{Refusal}

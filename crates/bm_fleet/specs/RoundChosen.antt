@@ -1,6 +1,5 @@
 -- What is found and chosen for a round of all shards.
-use Rattle.std.specs.Prelude.{◌≡◌, ℕ, List, map, Option, Result, IfOk}
-use Rattle.std.specs.Option.{IfSome}
+use Rattle.std.specs.Prelude.{◌≡◌, ℕ, List, map, Option}
 use Rattle.bm_base.specs.declared.replica.ReplicaId.{ReplicaId}
 use Rattle.bm_base.specs.declared.round.RoundPart.{RoundPart}
 use Rattle.bm_base.specs.State.{RoundLimits, Cluster}

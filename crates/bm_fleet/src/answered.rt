@@ -1,16 +1,13 @@
 // Shards that a crew asked one by one, and their answers, gathered. No shard changes.
-ghost use Rattle.std.specs.Prelude.{◌≡◌, ◌≤◌, ◌<◌, ℕ, [], List, map, length, IfOk, IfErr, vec_len, vec_capacity};
+ghost use Rattle.std.specs.Prelude.{◌≡◌, ◌≤◌, ◌<◌, ◌+◌, ◌++◌, ℕ, [], List, map, vec_len, vec_capacity};
 ghost use Rattle.std.specs.Result.{result_ok};
-ghost use Rattle.std.specs.List.{AllZip, filter_map};
-ghost use Rattle.bm_base.specs.declared.refusal.Refusal.TheVariants.{Memory};
+ghost use Rattle.std.specs.List.{AllZip, filter_map, cons_option};
 ghost use Rattle.bm_shard.specs.Seen.{Seen};
-ghost use Rattle.bm_fleet.specs.FromShards.{HasAnswered, HasGathered, shard_answered, first_fault};
+ghost use Rattle.bm_fleet.specs.FromShards.{HasAnswered, HasGathered, shard_answered, fault_in, first_fault};
 
 use crate::gathering::first_refusal;
 use bm_base::Refusal;
-use bm_crew::{Crew, Ready};
 use bm_shard::Shard;
-use std::alloc::Global;
 
 /// A shard, and what it was asked, or that this was refused.
 #[derive(Drop)]
@@ -19,73 +16,58 @@ pub(crate) struct Answered<A> {
     pub answer: Result<A, Refusal>,
 }
 
-/// All memory that it takes to ask shards, beside that of the answers.
-#[derive(Drop)]
-pub(crate) struct AskRoom<A> {
-    pub asking: Ready<Shard, Answered<A>>,
-    pub back: Vec<(u32, Shard)>,
-    pub answers: Vec<A>,
-}
-
-/// Room to ask so many shards by a crew of so many.
-pub(crate) fn ask_room<A: Drop>(
-    alloc: Global,
-    count: usize,
-    workers: usize,
-) -> Result<AskRoom<A>, Refusal>
-    requires { 0 < workers }
-    ensures asking { IfOk result (λ r. r.asking.room ≡ count) }
-    ensures back { IfOk result (λ r. (r.back.items ≡ []) × (count ≤ vec_capacity r.back)) }
-    ensures answers { IfOk result (λ r. (r.answers.items ≡ []) × (count ≤ vec_capacity r.answers)) }
-    ensures refused { IfErr result (λ e. e ≡ Memory) }
-{
-    let asking = Crew::ready::<Shard, Answered<A>>(alloc, count, workers)?;
-    let back = Vec::with_capacity(alloc, count)?;
-    let answers = Vec::with_capacity(alloc, count)?;
-    Ok(AskRoom {
-        asking,
-        back,
-        answers,
-    })
-}
-
-/// The shards as they were, moved into the room of `back`, and what each answered, moved into that of `answers`, or the first refusal.
-pub(crate) fn answers_of<A: Drop>(
+/// Moves the shards into `back`, as they were, and returns what each answered, moved into `answers`,
+/// or the first refusal. Both lists have capacity for it.
+pub(crate) fn gather_answers<A: Drop>(
     answered: Vec<(u32, Answered<A>)>,
-    back: Vec<(u32, Shard)>,
-    answers: Vec<A>,
-) -> (Vec<(u32, Shard)>, Result<Vec<A>, Refusal>)
-    requires back { (back.items ≡ []) × (vec_len answered ≤ vec_capacity back) }
+    back: &mut Vec<(u32, Shard)>,
+    mut answers: Vec<A>,
+) -> Result<Vec<A>, Refusal>
+    requires back { (back.old.items ≡ []) × (vec_len answered ≤ vec_capacity back.old) }
     requires answers { (answers.items ≡ []) × (vec_len answered ≤ vec_capacity answers) }
     ensures { (f : Seen → A) → (ss : List (ℕ × Seen)) → AllZip (HasAnswered f) ss answered.items
-        → HasGathered f ss result.0.items result.1 }
+        → HasGathered f ss back.new.items result }
 {
-    let (items, answers, outcome) = gather_answers(answered, back, answers);
-    match outcome {
-        Ok(()) => (items, Ok(answers)),
-        Err(refusal) => (items, Err(refusal)),
+    match split_answers(answered, back, &mut answers) {
+        Ok(()) => Ok(answers),
+        Err(refusal) => Err(refusal),
     }
 }
 
-/// The shards, moved into the room of `back`, their answers, moved into that of `answers`, and the first refusal.
-fn gather_answers<A: Drop>(
+/// Moves the shards into `back` and their answers into `answers`, and returns the first refusal.
+fn split_answers<A: Drop>(
     answered: Vec<(u32, Answered<A>)>,
-    mut back: Vec<(u32, Shard)>,
-    mut answers: Vec<A>,
-) -> (Vec<(u32, Shard)>, Vec<A>, Result<(), Refusal>)
-    requires back { (back.items ≡ []) × (vec_len answered ≤ vec_capacity back) }
-    requires answers { (answers.items ≡ []) × (vec_len answered ≤ vec_capacity answers) }
-    ensures shards { result.0.items ≡ map shard_answered answered.items }
-    ensures answers { result.1.items ≡ filter_map (λ f. result_ok f.1.answer) answered.items }
-    ensures outcome { result.2 ≡ first_fault answered.items }
+    back: &mut Vec<(u32, Shard)>,
+    answers: &mut Vec<A>,
+) -> Result<(), Refusal>
+    requires back { (back.old.items ≡ []) × (vec_len answered ≤ vec_capacity back.old) }
+    requires answers { (answers.old.items ≡ []) × (vec_len answered ≤ vec_capacity answers.old) }
+    ensures shards { back.new.items ≡ map shard_answered answered.items }
+    ensures answers { answers.new.items ≡ filter_map (λ f. result_ok f.1.answer) answered.items }
+    ensures outcome { result ≡ first_fault answered.items }
 {
     let mut outcome = Ok(());
     for (index, one) in answered {
         back.push_reserved((index, one.shard));
-        match one.answer {
-            Ok(answer) => answers.push_reserved(answer),
-            Err(refusal) => outcome = first_refusal(outcome, Err(refusal)),
-        }
+        outcome = first_refusal(outcome, put_answer(answers, one.answer));
     }
-    (back, answers, outcome)
+    outcome
+}
+
+/// Moves an answer into `answers`, or returns the refusal.
+fn put_answer<A: Drop>(answers: &mut Vec<A>, answer: Result<A, Refusal>) -> Result<(), Refusal>
+    requires room { vec_len answers.old < vec_capacity answers.old }
+    ensures answers { answers.new.items
+        ≡ answers.old.items ++ cons_option (result_ok answer) [] }
+    ensures len { vec_len answers.new ≤ vec_len answers.old + 1 }
+    ensures capacity { vec_capacity answers.new ≡ vec_capacity answers.old }
+    ensures outcome { result ≡ fault_in answer }
+{
+    match answer {
+        Ok(answer) => {
+            answers.push_reserved(answer);
+            Ok(())
+        }
+        Err(refusal) => Err(refusal),
+    }
 }

@@ -13,7 +13,7 @@ ghost use Rattle.bm_shard.specs.Standing as shard;
 ghost use Rattle.bm_fleet.specs.Whole.{StandsIn, AreShards, EachStandsIn, held_by};
 
 use crate::fleet::Fleet;
-use crate::joining::join;
+use crate::joining::join_all;
 use crate::listed::{
     lists_of_blocks_on, lists_of_corrupt, lists_of_excess, lists_of_missing, lists_of_replicas,
 };
@@ -40,8 +40,7 @@ impl Fleet {
         ensures refused { IfErr result (λ e. e ≡ Memory) }
     {
         let lists = lists_of_replicas(self.alloc, self.shards.as_slice())?;
-        let all = join(self.alloc, lists.as_slice())?;
-        Ok(Items::from_vec(all))
+        join_all(self.alloc, lists)
     }
 
     /// The stale and bad replicas, by block and storage. `Memory`.
@@ -50,8 +49,7 @@ impl Fleet {
         ensures refused { IfErr result (λ e. e ≡ Memory) }
     {
         let lists = lists_of_corrupt(self.alloc, self.shards.as_slice())?;
-        let all = join(self.alloc, lists.as_slice())?;
-        Ok(Items::from_vec(all))
+        join_all(self.alloc, lists)
     }
 
     /// The replicas in excess, by block and storage. `Memory`.
@@ -60,8 +58,7 @@ impl Fleet {
         ensures refused { IfErr result (λ e. e ≡ Memory) }
     {
         let lists = lists_of_excess(self.alloc, self.shards.as_slice())?;
-        let all = join(self.alloc, lists.as_slice())?;
-        Ok(Items::from_vec(all))
+        join_all(self.alloc, lists)
     }
 
     /// The known blocks of which no replica is usable, rising. `Memory`.
@@ -73,8 +70,7 @@ impl Fleet {
         ensures refused { IfErr result (λ e. e ≡ Memory) }
     {
         let lists = lists_of_missing(self.alloc, self.shards.as_slice(), topology)?;
-        let all = join(self.alloc, lists.as_slice())?;
-        Ok(Items::from_vec(all))
+        join_all(self.alloc, lists)
     }
 
     /// The blocks of all replicas on a storage, whatever their tags, rising. `Memory`.
@@ -83,8 +79,7 @@ impl Fleet {
         ensures refused { IfErr result (λ e. e ≡ Memory) }
     {
         let lists = lists_of_blocks_on(self.alloc, self.shards.as_slice(), storage)?;
-        let all = join(self.alloc, lists.as_slice())?;
-        Ok(Items::from_vec(all))
+        join_all(self.alloc, lists)
     }
 
     /// The storages of the block's good replicas, rising. Asks the block's shard alone. `UnknownBlock`; `Memory`.

@@ -10,21 +10,22 @@ use crate::crewed::{Committed, Prepared};
 use bm_base::{Done, Refusal};
 use bm_shard::Shard;
 
-/// The prepared shards, moved into the room of `back`, and the first refusal.
+/// Moves the prepared shards into `back`, which has capacity for them, and returns the first
+/// refusal.
 pub(crate) fn gather_prepared(
     prepared: Vec<(u32, Prepared)>,
-    mut back: Vec<(u32, Shard)>,
-) -> (Vec<(u32, Shard)>, Result<(), Refusal>)
-    requires room { (back.items ≡ []) × (vec_len prepared ≤ vec_capacity back) }
-    ensures shards { result.0.items ≡ map shard_of_prepared prepared.items }
-    ensures outcome { result.1 ≡ outcome_of prepared.items }
+    back: &mut Vec<(u32, Shard)>,
+) -> Result<(), Refusal>
+    requires room { (back.old.items ≡ []) × (vec_len prepared ≤ vec_capacity back.old) }
+    ensures shards { back.new.items ≡ map shard_of_prepared prepared.items }
+    ensures outcome { result ≡ outcome_of prepared.items }
 {
     let mut outcome = Ok(());
     for (index, one) in prepared {
         back.push_reserved((index, one.shard));
         outcome = first_refusal(outcome, one.outcome);
     }
-    (back, outcome)
+    outcome
 }
 
 /// The first of two outcomes that is a refusal.
@@ -40,36 +41,34 @@ pub(crate) fn first_refusal(
     }
 }
 
-/// The shards, each of which gave up what was made ready for an event or a round, moved into the room of `back`.
-pub(crate) fn abort_all(shards: Vec<(u32, Shard)>, mut back: Vec<(u32, Shard)>) -> Vec<(u32, Shard)>
-    requires room { (back.items ≡ []) × (vec_len shards ≤ vec_capacity back) }
-    ensures each { AllZip IsSame shards.items result.items }
+/// Has each shard give up what was made ready for an event or a round.
+pub(crate) fn abort_all(shards: &mut Vec<(u32, Shard)>)
+    ensures each { AllZip IsSame shards.old.items shards.new.items }
 {
-    for (index, shard) in shards {
-        back.push_reserved((index, abort_one(shard)));
+    for one in shards.iter_mut() {
+        abort_one(&mut one.1);
     }
-    back
 }
 
-/// A shard that gave up what was made ready for an event or a round.
-fn abort_one(mut shard: Shard) -> Shard
-    ensures { IsSameButRoom shard result }
+/// Has a shard give up what was made ready for an event or a round.
+fn abort_one(shard: &mut Shard)
+    ensures { IsSameButRoom shard.old shard.new }
 {
     shard.abort();
     shard.round_abort();
-    shard
 }
 
-/// The changed shards, moved into the room of `back`, and what they answered, added up.
+/// Moves the changed shards into `back`, which has capacity for them, and adds up what they
+/// answered.
 pub(crate) fn gather_committed(
     committed: Vec<(u32, Committed)>,
-    mut back: Vec<(u32, Shard)>,
-) -> (Vec<(u32, Shard)>, Done)
-    requires room { (back.items ≡ []) × (vec_len committed ≤ vec_capacity back) }
+    back: &mut Vec<(u32, Shard)>,
+) -> Done
+    requires room { (back.old.items ≡ []) × (vec_len committed ≤ vec_capacity back.old) }
     requires shards { length committed.items ≤ 64 }
     requires few { All IsFew committed.items }
-    ensures shards { result.0.items ≡ map shard_of_committed committed.items }
-    ensures done { result.1 ≡ done_of committed.items }
+    ensures shards { back.new.items ≡ map shard_of_committed committed.items }
+    ensures done { result ≡ done_of committed.items }
 {
     let mut added = 0;
     let mut removed = 0;
@@ -78,5 +77,5 @@ pub(crate) fn gather_committed(
         added += one.done.added;
         removed += one.done.removed;
     }
-    (back, Done { added, removed })
+    Done { added, removed }
 }

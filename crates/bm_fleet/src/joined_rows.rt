@@ -54,7 +54,7 @@ fn rows_at(alloc: Global, tables: &[Rows], places: &[RowPlace]) -> Result<Vec<Ro
 {
     let mut rows = Vec::with_capacity(alloc, places.len())?;
     for place in places {
-        rows.push(row_at(tables, *place))?;
+        rows.push_reserved(row_at(tables, *place));
     }
     Ok(rows)
 }

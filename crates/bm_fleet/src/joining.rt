@@ -4,7 +4,7 @@ ghost use Rattle.bm_base.specs.declared.refusal.Refusal.TheVariants.{Memory};
 ghost use Rattle.bm_base.specs.Map.{values};
 ghost use Rattle.bm_parts.specs.Merging.{put_all, as_lists, items_of_all, AreSorted};
 
-use bm_base::Refusal;
+use bm_base::{Items, Refusal};
 use bm_parts::merge::{Key, merge_all};
 use std::alloc::{AllocError, Global};
 
@@ -20,12 +20,26 @@ pub(crate) fn join<T: Copy>(alloc: Global, lists: &[Vec<(Key, T)>]) -> Result<Ve
     Ok(without_keys(alloc, merged.as_slice())?)
 }
 
+/// The elements of all lists, each of which rises by its keys, in the order of the keys.
+pub(crate) fn join_all<T: Copy>(
+    alloc: Global,
+    lists: Vec<Vec<(Key, T)>>,
+) -> Result<Items<T>, Refusal>
+    requires { AreSorted (as_lists lists.items) }
+    ensures joined { IfOk result
+        (λ v. v ≡ values (put_all [] (items_of_all lists.items))) }
+    ensures refused { IfErr result (λ e. e ≡ Memory) }
+{
+    let all = join(alloc, lists.as_slice())?;
+    Ok(Items::from_vec(all))
+}
+
 fn without_keys<T: Copy>(alloc: Global, keyed: &[(Key, T)]) -> Result<Vec<T>, AllocError>
     ensures { IfOk result (λ v. v.items ≡ values keyed.now) }
 {
     let mut values = Vec::with_capacity(alloc, keyed.len())?;
     for entry in keyed {
-        values.push(entry.1)?;
+        values.push_reserved(entry.1);
     }
     Ok(values)
 }

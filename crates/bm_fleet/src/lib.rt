@@ -19,7 +19,6 @@ mod pass_room;
 mod round_choice;
 mod round_crewed;
 mod round_found;
-mod round_room;
 mod round_running;
 mod rounding;
 mod running;

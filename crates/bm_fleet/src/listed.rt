@@ -129,7 +129,7 @@ fn keyed_replicas(alloc: Global, replicas: &[Replica]) -> Result<Vec<(Key, Repli
     let mut keyed = Vec::with_capacity(alloc, replicas.len())?;
     for replica in replicas {
         let key = (replica.block.0, replica.storage.0 as u64);
-        keyed.push((key, *replica))?;
+        keyed.push_reserved((key, *replica));
     }
     Ok(keyed)
 }
@@ -140,7 +140,7 @@ fn keyed_ids(alloc: Global, ids: &[ReplicaId]) -> Result<Vec<(Key, ReplicaId)>, 
     let mut keyed = Vec::with_capacity(alloc, ids.len())?;
     for id in ids {
         let key = (id.block.0, id.storage.0 as u64);
-        keyed.push((key, *id))?;
+        keyed.push_reserved((key, *id));
     }
     Ok(keyed)
 }
@@ -150,7 +150,7 @@ fn keyed_blocks(alloc: Global, blocks: &[BlockId]) -> Result<Vec<(Key, BlockId)>
 {
     let mut keyed = Vec::with_capacity(alloc, blocks.len())?;
     for block in blocks {
-        keyed.push(((block.0, 0), *block))?;
+        keyed.push_reserved(((block.0, 0), *block));
     }
     Ok(keyed)
 }

@@ -1,5 +1,5 @@
 // What all shards have for a round: of their first wishes, or of all.
-ghost use Rattle.std.specs.Prelude.{◌≡◌, ◌≤◌, [], None, IsSome, map, false, IfOk, IfErr, vec_len, vec_capacity};
+ghost use Rattle.std.specs.Prelude.{◌≡◌, ◌<◌, None, IsSome, map, false, IfOk, IfErr};
 ghost use Rattle.std.specs.List.{All};
 ghost use Rattle.bm_base.specs.declared.refusal.Refusal.TheVariants.{Memory};
 ghost use Rattle.bm_base.specs.State.{limits_of};
@@ -10,7 +10,8 @@ ghost use Rattle.bm_base.specs.Choices as choices;
 ghost use Rattle.bm_fleet.specs.RoundWorked.{CanFind};
 ghost use Rattle.bm_fleet.specs.RoundChosen.{next_parts, next_parts_before, HasExcess, IsChosen};
 
-use crate::answered::{AskRoom, answers_of, ask_room};
+use crate::answered::{Answered, gather_answers};
+use crate::pass_room::pass_room;
 use crate::round_choice::{ChosenCommands, choice_of};
 use crate::round_running::find_all;
 use bm_base::{Config, Refusal, RoundPart};
@@ -20,6 +21,7 @@ use bm_round::is_full;
 use bm_shard::Shard;
 use bm_topo::Topology;
 use std::alloc::Global;
+use std::mem;
 use std::sync::Wait;
 use std::thread::Threads;
 
@@ -30,129 +32,101 @@ pub(crate) struct FoundRound {
     pub choice: ChosenCommands,
 }
 
-/// The shards as they were, and what they have for their next round, with what is chosen of all of it. First those wishes are asked for
-/// that the round is likely to need, and only where it can have further transfers all of them.
-pub(crate) fn found_of<R: Threads + Wait + Sync, G: Gate + Sync>(
+/// Returns what the shards have for their next round, with what is chosen of all of it. Asks first for
+/// the wishes that the round is likely to need, and for all of them only where it can have further
+/// transfers. No shard changes.
+pub(crate) fn find_round<R: Threads + Wait + Sync, G: Gate + Sync>(
     alloc: Global,
     rt: &R,
     gate: &G,
-    room: AskRoom<RoundPart>,
-    shards: Vec<(u32, Shard)>,
+    shards: &mut Vec<(u32, Shard)>,
     config: &Config,
     round: u64,
     topology: &Topology,
-) -> (Vec<(u32, Shard)>, Result<FoundRound, Refusal>)
+) -> Result<FoundRound, Refusal>
     requires config { config_refusal config.now ≡ None }
-    requires room { vec_len shards ≤ room.asking.room }
-    requires back { (room.back.items ≡ []) × (vec_len shards ≤ vec_capacity room.back) }
-    requires answers { (room.answers.items ≡ []) × (vec_len shards ≤ vec_capacity room.answers) }
-    requires shards { All (CanFind topology.now.cluster round) shards.items }
+    requires shards { All (CanFind topology.now.cluster round) shards.old.items }
     requires one_wish { has_repeats (map
-        (λ w. w.block) (choices.merged_wishes (next_parts topology.now.cluster shards.items)))
+        (λ w. w.block) (choices.merged_wishes (next_parts topology.now.cluster shards.old.items)))
         ≡ false }
-    ensures shards { result.0.items ≡ shards.items }
-    ensures excess { IfOk result.1
-        (λ f. HasExcess topology.now.cluster shards.items f.parts.items) }
-    ensures chosen { IfOk result.1
-        (λ f. IsChosen (limits_of config.now) topology.now.cluster round shards.items f.choice) }
-    ensures refused { IfErr result.1 (λ e. e ≡ Memory) }
+    ensures shards { shards.new.items ≡ shards.old.items }
+    ensures excess { IfOk result
+        (λ f. HasExcess topology.now.cluster shards.old.items f.parts.items) }
+    ensures chosen { IfOk result
+        (λ f. IsChosen (limits_of config.now) topology.now.cluster round shards.old.items
+        f.choice) }
+    ensures refused { IfErr result (λ e. e ≡ Memory) }
 {
-    let bound = match bound_of_shards(shards.as_slice(), config, topology) {
-        Ok(bound) => bound,
-        Err(refusal) => return (shards, Err(refusal)),
-    };
-    let (shards, first) = found_before(
-        alloc, rt, gate, room, shards, config, round, topology, bound,
-    );
-    match first {
-        Ok(Some(found)) => return (shards, Ok(found)),
-        Ok(None) => {}
-        Err(refusal) => return (shards, Err(refusal)),
+    let bound = bound_of_shards(shards.as_slice(), config, topology)?;
+    if let Some(found) = find_round_before(
+        alloc, rt, gate, shards, config, round, topology, bound,
+    )? {
+        return Ok(found);
     }
-    let room = match ask_room(alloc, shards.len(), config.workers as usize) {
-        Ok(room) => room,
-        Err(refusal) => return (shards, Err(refusal)),
-    };
-    let (shards, whole) = found_before(
-        alloc, rt, gate, room, shards, config, round, topology, None,
-    );
-    match whole {
-        Ok(Some(found)) => (shards, Ok(found)),
-        Ok(None) => unreachable!(),
-        Err(refusal) => (shards, Err(refusal)),
+    match find_round_before(alloc, rt, gate, shards, config, round, topology, None)? {
+        Some(found) => Ok(found),
+        None => unreachable!(),
     }
 }
 
-/// The shards as they were, and what they have for their next round, with the wishes before a bound and what is chosen of them: where
-/// that is what is chosen of all wishes.
-fn found_before<R: Threads + Wait + Sync, G: Gate + Sync>(
+/// Returns what the shards have for their next round, with the wishes before a bound and what is
+/// chosen of them; `None` where more may be chosen of all wishes. No shard changes.
+fn find_round_before<R: Threads + Wait + Sync, G: Gate + Sync>(
     alloc: Global,
     rt: &R,
     gate: &G,
-    room: AskRoom<RoundPart>,
-    shards: Vec<(u32, Shard)>,
+    shards: &mut Vec<(u32, Shard)>,
     config: &Config,
     round: u64,
     topology: &Topology,
     bound: Option<Key>,
-) -> (Vec<(u32, Shard)>, Result<Option<FoundRound>, Refusal>)
-    requires room { vec_len shards ≤ room.asking.room }
-    requires back { (room.back.items ≡ []) × (vec_len shards ≤ vec_capacity room.back) }
-    requires answers { (room.answers.items ≡ []) × (vec_len shards ≤ vec_capacity room.answers) }
-    requires shards { All (CanFind topology.now.cluster round) shards.items }
+) -> Result<Option<FoundRound>, Refusal>
+    requires config { config_refusal config.now ≡ None }
+    requires shards { All (CanFind topology.now.cluster round) shards.old.items }
     requires one_wish { has_repeats (map
-        (λ w. w.block) (choices.merged_wishes (next_parts topology.now.cluster shards.items)))
+        (λ w. w.block) (choices.merged_wishes (next_parts topology.now.cluster shards.old.items)))
         ≡ false }
-    ensures shards { result.0.items ≡ shards.items }
-    ensures excess { IfFound result.1
-        (λ f. HasExcess topology.now.cluster shards.items f.parts.items) }
-    ensures chosen { IfFound result.1
-        (λ f. IsChosen (limits_of config.now) topology.now.cluster round shards.items f.choice) }
-    ensures whole { bound ≡ None → IfOk result.1 (λ o. IsSome o) }
-    ensures refused { IfErr result.1 (λ e. e ≡ Memory) }
+    ensures shards { shards.new.items ≡ shards.old.items }
+    ensures excess { IfFound result
+        (λ f. HasExcess topology.now.cluster shards.old.items f.parts.items) }
+    ensures chosen { IfFound result
+        (λ f. IsChosen (limits_of config.now) topology.now.cluster round shards.old.items
+        f.choice) }
+    ensures whole { bound ≡ None → IfOk result (λ o. IsSome o) }
+    ensures refused { IfErr result (λ e. e ≡ Memory) }
 {
-    let (shards, told) = parts_of(rt, gate, room, shards, round, topology, bound);
-    let parts = match told {
-        Ok(parts) => parts,
-        Err(refusal) => return (shards, Err(refusal)),
-    };
-    match choice_of(alloc, parts.as_slice(), config, round, topology) {
-        Ok(choice) => {
-            if bound.is_some() && !is_full(&choice.chosen, topology, config) {
-                return (shards, Ok(None));
-            }
-            (shards, Ok(Some(FoundRound { parts, choice })))
-        }
-        Err(refusal) => (shards, Err(refusal)),
+    let workers = config.workers as usize;
+    let parts = find_parts(alloc, rt, gate, workers, shards, round, topology, bound)?;
+    let choice = choice_of(alloc, parts.as_slice(), config, round, topology)?;
+    if bound.is_some() && !is_full(&choice.chosen, topology, config) {
+        return Ok(None);
     }
+    Ok(Some(FoundRound { parts, choice }))
 }
 
-/// The shards as they were, and what each has for its next round, with the wishes before a bound.
-fn parts_of<R: Threads + Wait + Sync, G: Gate + Sync>(
+/// Returns what each shard has for its next round, with the wishes before a bound. No shard changes.
+fn find_parts<R: Threads + Wait + Sync, G: Gate + Sync>(
+    alloc: Global,
     rt: &R,
     gate: &G,
-    room: AskRoom<RoundPart>,
-    shards: Vec<(u32, Shard)>,
+    workers: usize,
+    shards: &mut Vec<(u32, Shard)>,
     round: u64,
     topology: &Topology,
     bound: Option<Key>,
-) -> (Vec<(u32, Shard)>, Result<Vec<RoundPart>, Refusal>)
-    requires room { vec_len shards ≤ room.asking.room }
-    requires back { (room.back.items ≡ []) × (vec_len shards ≤ vec_capacity room.back) }
-    requires answers { (room.answers.items ≡ []) × (vec_len shards ≤ vec_capacity room.answers) }
-    requires shards { All (CanFind topology.now.cluster round) shards.items }
-    ensures shards { result.0.items ≡ shards.items }
-    ensures parts { IfOk result.1
-        (λ v. v.items ≡ next_parts_before bound topology.now.cluster shards.items) }
-    ensures refused { IfErr result.1 (λ e. e ≡ Memory) }
+) -> Result<Vec<RoundPart>, Refusal>
+    requires workers { 0 < workers }
+    requires shards { All (CanFind topology.now.cluster round) shards.old.items }
+    ensures shards { shards.new.items ≡ shards.old.items }
+    ensures parts { IfOk result
+        (λ v. v.items ≡ next_parts_before bound topology.now.cluster shards.old.items) }
+    ensures refused { IfErr result (λ e. e ≡ Memory) }
 {
-    let AskRoom {
-        asking,
-        back,
-        answers,
-    } = room;
-    let found = find_all(rt, gate, asking, shards, round, topology, bound);
-    answers_of(found, back, answers)
+    let answers = Vec::with_capacity(alloc, shards.len())?;
+    let (asking, back) = pass_room::<Answered<RoundPart>>(alloc, shards.len(), workers)?;
+    let items = mem::replace(shards, back);
+    let found = find_all(rt, gate, asking, items, round, topology, bound);
+    gather_answers(found, shards, answers)
 }
 
 /// For each transfer that a round may have, so many wishes are asked for first: some find no source, since towards the end few nodes may

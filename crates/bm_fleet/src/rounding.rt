@@ -1,5 +1,5 @@
 // A round of all shards: taken in all of them, or in none.
-ghost use Rattle.std.specs.Prelude.{◌≡◌, ◌<◌, ◌≤◌, ◌+◌, ◌^◌, [], None, length, IfOk, IfErr, OnOk, OnErr, vec_len, vec_capacity};
+ghost use Rattle.std.specs.Prelude.{◌≡◌, ◌<◌, ◌≤◌, ◌+◌, ◌^◌, None, length, IfOk, IfErr, OnOk, OnErr, vec_len};
 ghost use Rattle.std.specs.List.{All, AllZip};
 ghost use Rattle.bm_base.specs.declared.refusal.Refusal.TheVariants.{Memory};
 ghost use Rattle.bm_base.specs.State.{limits_of};
@@ -7,17 +7,16 @@ ghost use Rattle.bm_base.specs.Configuration.{config_refusal};
 ghost use Rattle.bm_fleet.specs.Whole.{StandsIn, HasTaken, AreShards, EachStandsIn, EachTook, held_by};
 ghost use Rattle.bm_fleet.specs.Worked.{IsSame};
 ghost use Rattle.bm_fleet.specs.Rounds.{commands_in, left_by_round};
-ghost use Rattle.bm_fleet.specs.RoundWorked.{HasPart, HasTakenRound};
+ghost use Rattle.bm_fleet.specs.RoundWorked.{HasPart, CanCommitRound, HasTakenRound};
 
 use crate::crewed::Prepared;
 use crate::fleet::Fleet;
 use crate::gathering::{abort_all, gather_prepared};
-use crate::round_choice::ChosenCommands;
-use crate::round_found::{FoundRound, found_of};
-use crate::round_room::{RoundRoom, round_room};
+use crate::pass_room::pass_room;
+use crate::round_found::find_round;
 use crate::round_running::{commit_round_all, prepare_round_all};
 use bm_base::{Chosen, Commands, Config, Refusal, RoundPart};
-use bm_crew::{Gate, Ready};
+use bm_crew::{Crew, Gate, Ready};
 use bm_shard::Shard;
 use bm_topo::Topology;
 use std::alloc::Global;
@@ -94,115 +93,81 @@ fn round_all<R: Threads + Wait + Sync, G: Gate + Sync>(
     ensures kept { OnErr result (EachTook last config.now.pend shards.new.items) }
     ensures refused { IfErr result (λ e. e ≡ Memory) }
 {
-    let room = round_room(alloc, shards.len(), config.workers as usize)?;
-    let items = mem::replace(shards, Vec::new(alloc));
-    let (items, outcome) = round_of(alloc, rt, gate, room, items, config, last, topology);
-    *shards = items;
-    outcome
-}
-
-/// Takes the round after `last` in all these shards, or in none, and tells what it commands.
-fn round_of<R: Threads + Wait + Sync, G: Gate + Sync>(
-    alloc: Global,
-    rt: &R,
-    gate: &G,
-    room: RoundRoom,
-    shards: Vec<(u32, Shard)>,
-    config: &Config,
-    last: u64,
-    topology: &Topology,
-) -> (Vec<(u32, Shard)>, Result<Commands, Refusal>)
-    requires config { config_refusal config.now ≡ None }
-    requires counted { last + 1 < 2 ^ 64 }
-    requires finding { vec_len shards ≤ room.finding.asking.room }
-    requires preparing { vec_len shards ≤ room.preparing.room }
-    requires committing { vec_len shards ≤ room.committing.room }
-    requires back { (room.finding.back.items ≡ [])
-        × (vec_len shards ≤ vec_capacity room.finding.back) }
-    requires parts { (room.finding.answers.items ≡ [])
-        × (vec_len shards ≤ vec_capacity room.finding.answers) }
-    requires prepared { (room.prepared.items ≡ []) × (vec_len shards ≤ vec_capacity room.prepared) }
-    requires aborted { (room.aborted.items ≡ []) × (vec_len shards ≤ vec_capacity room.aborted) }
-    requires shards { AreShards (length shards.items) shards.items }
-    requires standing { EachStandsIn topology.now.cluster shards.items }
-    requires rounds { EachTook last config.now.pend shards.items }
-    ensures commands { IfOk result.1
-        (λ k. k ≡ commands_in (limits_of config.now) topology.now.cluster (last + 1)
-        (held_by shards.items)) }
-    ensures changed { OnOk result.1 (held_by result.0.items
-        ≡ left_by_round (limits_of config.now) topology.now.cluster (last + 1)
-        (held_by shards.items)) }
-    ensures shards { AreShards (length result.0.items) result.0.items }
-    ensures standing { EachStandsIn topology.now.cluster result.0.items }
-    ensures rounds { OnOk result.1 (EachTook (last + 1) config.now.pend result.0.items) }
-    ensures unchanged { OnErr result.1 (held_by result.0.items ≡ held_by shards.items) }
-    ensures kept { OnErr result.1 (EachTook last config.now.pend result.0.items) }
-    ensures refused { IfErr result.1 (λ e. e ≡ Memory) }
-{
-    let RoundRoom {
-        finding,
-        preparing,
-        committing,
-        prepared,
-        aborted,
-    } = room;
-    let round = last + 1;
-    let (items, found) = found_of(alloc, rt, gate, finding, shards, config, round, topology);
-    let FoundRound { parts, choice } = match found {
-        Ok(found) => found,
-        Err(refusal) => return (items, Err(refusal)),
-    };
-    let ChosenCommands { chosen, commands } = choice;
-    let (items, outcome) = take_round(
+    let found = find_round(alloc, rt, gate, shards, config, last + 1, topology)?;
+    take_round(
+        alloc,
         rt,
         gate,
-        preparing,
-        committing,
-        items,
-        prepared,
-        aborted,
-        parts.as_slice(),
-        &chosen,
+        config.workers as usize,
+        shards,
+        found.parts.as_slice(),
+        &found.choice.chosen,
         topology,
-    );
-    match outcome {
-        Ok(()) => (items, Ok(commands)),
-        Err(refusal) => (items, Err(refusal)),
-    }
+    )?;
+    let choice = found.choice;
+    Ok(choice.commands)
 }
 
 /// Takes the next round in all these shards, or in none of them.
 fn take_round<R: Threads + Wait + Sync, G: Gate + Sync>(
+    alloc: Global,
     rt: &R,
     gate: &G,
-    preparing: Ready<Shard, Prepared>,
-    committing: Ready<Shard, Shard>,
-    shards: Vec<(u32, Shard)>,
-    prepared: Vec<(u32, Shard)>,
-    aborted: Vec<(u32, Shard)>,
+    workers: usize,
+    shards: &mut Vec<(u32, Shard)>,
     parts: &[RoundPart],
     chosen: &Chosen,
     topology: &Topology,
-) -> (Vec<(u32, Shard)>, Result<(), Refusal>)
-    requires preparing { vec_len shards ≤ preparing.room }
-    requires committing { vec_len shards ≤ committing.room }
-    requires prepared { (prepared.items ≡ []) × (vec_len shards ≤ vec_capacity prepared) }
-    requires aborted { (aborted.items ≡ []) × (vec_len shards ≤ vec_capacity aborted) }
-    requires parts { All (HasPart topology.now.cluster parts.now) shards.items }
-    requires standing { EachStandsIn topology.now.cluster shards.items }
-    requires counted { All (λ s. s.1.round + 1 < 2 ^ 64) shards.items }
-    ensures taken { OnOk result.1
-        (AllZip (HasTakenRound topology.now.cluster chosen.now) shards.items result.0.items) }
-    ensures same { OnErr result.1 (AllZip IsSame shards.items result.0.items) }
-    ensures refused { IfErr result.1 (λ e. e ≡ Memory) }
+) -> Result<(), Refusal>
+    requires workers { 0 < workers }
+    requires parts { All (HasPart topology.now.cluster parts.now) shards.old.items }
+    requires standing { EachStandsIn topology.now.cluster shards.old.items }
+    requires counted { All (λ s. s.1.round + 1 < 2 ^ 64) shards.old.items }
+    ensures taken { OnOk result
+        (AllZip (HasTakenRound topology.now.cluster chosen.now) shards.old.items shards.new.items) }
+    ensures same { OnErr result (AllZip IsSame shards.old.items shards.new.items) }
+    ensures refused { IfErr result (λ e. e ≡ Memory) }
 {
-    let made = prepare_round_all(rt, gate, preparing, shards, parts, chosen, topology);
-    let (items, outcome) = gather_prepared(made, prepared);
-    match outcome {
-        Ok(()) => {
-            let items = commit_round_all(rt, gate, committing, items, parts, chosen, topology);
-            (items, Ok(()))
+    match prepare_for_round(alloc, rt, gate, workers, shards, parts, chosen, topology) {
+        Ok(committing) => {
+            let items = mem::replace(shards, Vec::new(alloc));
+            *shards = commit_round_all(rt, gate, committing, items, parts, chosen, topology);
+            Ok(())
         }
-        Err(refusal) => (abort_all(items, aborted), Err(refusal)),
+        Err(refusal) => {
+            abort_all(shards);
+            Err(refusal)
+        }
+    }
+}
+
+/// Prepares all shards for their next round, and takes the memory of the pass in which they take it.
+/// After a refusal, those that were prepared stay prepared.
+fn prepare_for_round<R: Threads + Wait + Sync, G: Gate + Sync>(
+    alloc: Global,
+    rt: &R,
+    gate: &G,
+    workers: usize,
+    shards: &mut Vec<(u32, Shard)>,
+    parts: &[RoundPart],
+    chosen: &Chosen,
+    topology: &Topology,
+) -> Result<Ready<Shard, Shard>, Refusal>
+    requires workers { 0 < workers }
+    requires parts { All (HasPart topology.now.cluster parts.now) shards.old.items }
+    requires standing { EachStandsIn topology.now.cluster shards.old.items }
+    requires counted { All (λ s. s.1.round + 1 < 2 ^ 64) shards.old.items }
+    ensures same { AllZip IsSame shards.old.items shards.new.items }
+    ensures ready { OnOk result
+        (All (CanCommitRound topology.now.cluster parts.now chosen.now) shards.new.items) }
+    ensures room { IfOk result (λ r. r.room ≡ vec_len shards.new) }
+    ensures refused { IfErr result (λ e. e ≡ Memory) }
+{
+    let (preparing, back) = pass_room::<Prepared>(alloc, shards.len(), workers)?;
+    let items = mem::replace(shards, back);
+    let made = prepare_round_all(rt, gate, preparing, items, parts, chosen, topology);
+    match gather_prepared(made, shards) {
+        Ok(()) => Crew::ready::<Shard, Shard>(alloc, shards.len(), workers),
+        Err(refusal) => Err(refusal),
     }
 }

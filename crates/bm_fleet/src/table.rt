@@ -1,5 +1,5 @@
 // The table that readers see, of all shards.
-ghost use Rattle.std.specs.Prelude.{◌≡◌, ◌≤◌, ◌<◌, [], length, IfOk, IfErr, vec_len, vec_capacity};
+ghost use Rattle.std.specs.Prelude.{◌≡◌, ◌≤◌, ◌<◌, length, IfOk, IfErr, vec_len};
 ghost use Rattle.std.specs.List.{AllZip};
 ghost use Rattle.bm_base.specs.declared.refusal.Refusal.TheVariants.{Memory};
 ghost use Rattle.bm_base.specs.Versions as versions;
@@ -7,9 +7,10 @@ ghost use Rattle.bm_fleet.specs.FromShards.{HasAnswered, each_answer};
 ghost use Rattle.bm_fleet.specs.Listed.{rows_of};
 ghost use Rattle.bm_fleet.specs.Whole.{AreShards, held_by};
 
-use crate::answered::{Answered, AskRoom, answers_of, ask_room};
+use crate::answered::{Answered, gather_answers};
 use crate::fleet::Fleet;
 use crate::joined_rows::{Row, Rows, joined_rows};
+use crate::pass_room::pass_room;
 use bm_base::Refusal;
 use bm_crew::{NoGate, Ready};
 use bm_shard::Shard;
@@ -32,12 +33,12 @@ impl Fleet {
         ensures refused { IfErr result (λ e. e ≡ Memory) }
         ensures same { self.new ≡ self.old }
     {
-        table_of(self.alloc, rt, workers, &mut self.shards)
+        make_table(self.alloc, rt, workers, &mut self.shards)
     }
 }
 
 /// The table of all these shards, which stay as they are.
-fn table_of<R: Threads + Wait + Sync>(
+fn make_table<R: Threads + Wait + Sync>(
     alloc: Global,
     rt: &R,
     workers: usize,
@@ -49,33 +50,27 @@ fn table_of<R: Threads + Wait + Sync>(
     ensures refused { IfErr result (λ e. e ≡ Memory) }
     ensures same { shards.new.items ≡ shards.old.items }
 {
-    let room = ask_room(alloc, shards.len(), workers)?;
-    let items = mem::replace(shards, Vec::new(alloc));
-    let (items, tables) = tables_of(rt, room, items);
-    *shards = items;
-    joined_rows(alloc, tables?)
+    let tables = gather_tables(alloc, rt, workers, shards)?;
+    joined_rows(alloc, tables)
 }
 
-/// The shards as they were, and the rows of each.
-fn tables_of<R: Threads + Wait + Sync>(
+/// The rows of each of these shards, which stay as they are.
+fn gather_tables<R: Threads + Wait + Sync>(
+    alloc: Global,
     rt: &R,
-    room: AskRoom<Rows>,
-    shards: Vec<(u32, Shard)>,
-) -> (Vec<(u32, Shard)>, Result<Vec<Rows>, Refusal>)
-    requires room { vec_len shards ≤ room.asking.room }
-    requires back { (room.back.items ≡ []) × (vec_len shards ≤ vec_capacity room.back) }
-    requires answers { (room.answers.items ≡ []) × (vec_len shards ≤ vec_capacity room.answers) }
-    ensures shards { result.0.items ≡ shards.items }
-    ensures tables { IfOk result.1 (λ v. v.items ≡ each_answer rows_of shards.items) }
-    ensures refused { IfErr result.1 (λ e. e ≡ Memory) }
+    workers: usize,
+    shards: &mut Vec<(u32, Shard)>,
+) -> Result<Vec<Rows>, Refusal>
+    requires { 0 < workers }
+    ensures shards { shards.new.items ≡ shards.old.items }
+    ensures tables { IfOk result (λ v. v.items ≡ each_answer rows_of shards.old.items) }
+    ensures refused { IfErr result (λ e. e ≡ Memory) }
 {
-    let AskRoom {
-        asking,
-        back,
-        answers,
-    } = room;
-    let made = rows_of_all(rt, asking, shards);
-    answers_of(made, back, answers)
+    let answers = Vec::with_capacity(alloc, shards.len())?;
+    let (asking, back) = pass_room::<Answered<Rows>>(alloc, shards.len(), workers)?;
+    let items = mem::replace(shards, back);
+    let made = rows_of_all(rt, asking, items);
+    gather_answers(made, shards, answers)
 }
 
 /// Asks each shard for its rows. No shard changes.

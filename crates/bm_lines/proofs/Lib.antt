@@ -1,4 +1,6 @@
 pub mod CallOfLemmas
+pub mod ListLemmas
+pub mod OpLemmas
 pub mod TextLemmas
 pub mod Plain
 pub mod Sound
@@ -8,8 +10,4 @@ pub mod AskingSound
 pub mod AskingRead
 pub mod AskingBack
 pub mod ReadOps
-pub mod Turns
-pub mod Values
-pub mod Kept
-pub mod Whole
 pub mod UsualLemmas

@@ -66,9 +66,10 @@ unfolding entry_text
 run_of_blocks bytes first second third fourth rest n m g l e a b c d f other from to generation len =
     rw (a, b, c, d, f, from, to, generation, len, ne_eqb n m other) (four (codes "[") (decimal n) (codes ",") (decimal m) (codes ",") (decimal g) (codes ",") (decimal l) (codes "]") rest)
 
--- a text between what stands before and behind it, with a rest
-pub in_list : (fields list body after rest : List ℕ) (before behind : List ℕ) → fields ≡ before ++ list → list ≡ body ++ after → after ≡ behind ++ rest → fields ≡ (before ++ (body ++ behind)) ++ rest
-in_list fields list body after rest before behind a b c = rw (a, b, c) (simp append_assoc)
+-- a list between its name and bracket and the closing one, with a rest
+pub in_list : (fields name list body after rest : List ℕ) (before mark behind : List ℕ) → fields ≡ before ++ (name ++ (mark ++ list)) → list ≡ body ++ after → after ≡ behind ++ rest
+    → fields ≡ (before ++ (name ++ (mark ++ (body ++ behind)))) ++ rest
+in_list fields name list body after rest before mark behind a b c = rw (a, b, c) (simp append_assoc)
 
 -- a whole line, by its op and what stands behind that
 pub asked_line : (line behind fields op : List ℕ) (o : Option Call) → line ≡ codes "{\"op\":\"" ++ behind → behind ≡ (op ++ codes "\"") ++ fields

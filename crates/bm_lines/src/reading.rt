@@ -1,16 +1,14 @@
-// A line as a call: read by its bytes where it stands as `line_of` writes it, else by the tokens of its object.
+// A line as a call: read by its bytes where it is in canonical form, else by the value that `serde_json` reads of it.
 
 mod call;
 mod fields;
-mod json_numbers;
+mod items;
 mod lists;
-mod numbers;
 mod op;
-mod passing;
-mod rows;
 mod usual;
 mod usual_calls;
 mod usual_entries;
+mod usual_lists;
 mod usual_numbers;
 mod usual_remaining;
 

@@ -1,28 +1,27 @@
 // What a manager of the workload's cluster does.
 
-use crate::asked::Run;
-use crate::figures::Sheet;
-use crate::timing::time;
-use crate::workload::{NODES, STAMP, block_number, register};
-use bm_base::{BlockId, Commands, Config, Event, NodeId, Refusal, ReplicaId, StorageId};
+use crate::workload::{Load, NODES, STAMP, block_number, register};
+use bm_base::{BlockId, Commands, Event, NodeId, Refusal, ReplicaId};
 use bm_crew::NoGate;
 use bm_manager::Manager;
-use std::alloc::Global;
+use std::alloc::{AllocError, Global};
 use std::sync::Wait;
 use std::thread::Threads;
 
 /// What is timed.
 #[derive(Clone, Copy)]
-pub enum Act<'a> {
-    /// This number of blocks is added.
-    Add(u64),
-    /// Each of these storages sends its report.
-    Report(&'a [StorageId], &'a [Event]),
-    Delete(&'a [ReplicaId]),
-    Receive(&'a [ReplicaId]),
-    /// Where are these blocks?
-    Ask(&'a [BlockId]),
-    Take(&'a [Event]),
+pub enum Act {
+    /// All blocks are added.
+    Add,
+    /// The events of the load are taken, or the other ones.
+    Take,
+    TakeOthers,
+    /// The replicas of the load are deleted.
+    Delete,
+    /// They are received again, in the other order.
+    Receive,
+    /// Where are the blocks of the load?
+    Ask,
     /// The node with this number is dead.
     Die(u32),
     Round,
@@ -35,7 +34,7 @@ pub struct Sum {
     pub removed: u128,
     pub transfers: u128,
     pub deletes: u128,
-    /// How many places were named.
+    /// How many places the last questions named.
     pub places: u128,
     /// The sum of their numbers.
     pub numbers: u128,
@@ -50,6 +49,17 @@ pub const NOTHING: Sum = Sum {
     numbers: 0,
 };
 
+impl Sum {
+    fn add_commands(&mut self, commands: &Commands) {
+        for node in commands.nodes.as_slice() {
+            let transfers = node.transfers.as_slice().len() as u128;
+            let deletes = node.deletes.as_slice().len() as u128;
+            self.transfers = self.transfers.saturating_add(transfers);
+            self.deletes = self.deletes.saturating_add(deletes);
+        }
+    }
+}
+
 /// The manager takes an event. What it promises of it, no caller wants to know.
 fn take<R: Threads + Wait + Sync>(
     rt: &R,
@@ -63,24 +73,29 @@ fn take<R: Threads + Wait + Sync>(
     Ok(())
 }
 
-/// The same of an event that is made for this one call.
+/// The same of an event that is made for this one call, which is let go by `drop`: its proof is one for all functions, and that of a
+/// value which goes at the end of its scope is one for each.
 pub fn take_once<R: Threads + Wait + Sync>(
     rt: &R,
     manager: &mut Manager,
     event: Event,
     sum: &mut Sum,
 ) -> Result<(), Refusal> {
-    take(rt, manager, &event, sum)
+    let taken = take(rt, manager, &event, sum);
+    drop(event);
+    taken
 }
 
-/// With no node and no block.
-pub fn new_manager(alloc: Global, run: Run) -> Result<Manager, Refusal> {
-    let config = Config {
-        shards: run.shards,
-        workers: run.workers,
-        ..Config::standard()
-    };
-    Manager::new(alloc, config)
+pub fn take_made<R: Threads + Wait + Sync>(
+    rt: &R,
+    manager: &mut Manager,
+    made: Result<Event, AllocError>,
+    sum: &mut Sum,
+) -> Result<(), Refusal> {
+    match made {
+        Ok(event) => take_once(rt, manager, event, sum),
+        Err(error) => Err(Refusal::from(error)),
+    }
 }
 
 /// All nodes come.
@@ -91,24 +106,32 @@ pub fn register_all<R: Threads + Wait + Sync>(
 ) -> Result<(), Refusal> {
     let mut sum = NOTHING;
     for node in 0..NODES {
-        take_once(rt, manager, register(alloc, node)?, &mut sum)?;
+        take_made(rt, manager, register(alloc, node), &mut sum)?;
     }
     Ok(())
 }
 
 /// The block `i` is known, and has no replica.
-pub fn add_block<R: Threads + Wait + Sync>(
-    rt: &R,
-    manager: &mut Manager,
-    i: u64,
-    sum: &mut Sum,
-) -> Result<(), Refusal> {
-    let event = Event::AddBlock {
+pub fn addition(i: u64) -> Event {
+    Event::AddBlock {
         id: block_number(i),
         stamp: STAMP,
         repl: 3,
-    };
-    take_once(rt, manager, event, sum)
+    }
+}
+
+/// The replica is received, or is deleted.
+pub fn notice(replica: ReplicaId, is_received: bool) -> Event {
+    let ReplicaId { storage, block: id } = replica;
+    if is_received {
+        Event::Received {
+            storage,
+            id,
+            stamp: STAMP,
+        }
+    } else {
+        Event::Deleted { storage, id }
+    }
 }
 
 fn add_all<R: Threads + Wait + Sync>(
@@ -118,81 +141,7 @@ fn add_all<R: Threads + Wait + Sync>(
     sum: &mut Sum,
 ) -> Result<(), Refusal> {
     for i in 0..blocks {
-        add_block(rt, manager, i, sum)?;
-    }
-    Ok(())
-}
-
-fn report_all<R: Threads + Wait + Sync>(
-    rt: &R,
-    manager: &mut Manager,
-    order: &[StorageId],
-    reports: &[Event],
-    sum: &mut Sum,
-) -> Result<(), Refusal> {
-    for storage in order {
-        if let Some(report) = reports.get(storage.0 as usize) {
-            take(rt, manager, report, sum)?;
-        }
-    }
-    Ok(())
-}
-
-fn delete_all<R: Threads + Wait + Sync>(
-    rt: &R,
-    manager: &mut Manager,
-    replicas: &[ReplicaId],
-    sum: &mut Sum,
-) -> Result<(), Refusal> {
-    for replica in replicas {
-        let event = Event::Deleted {
-            storage: replica.storage,
-            id: replica.block,
-        };
-        take_once(rt, manager, event, sum)?;
-    }
-    Ok(())
-}
-
-/// The replica is received.
-pub fn receive<R: Threads + Wait + Sync>(
-    rt: &R,
-    manager: &mut Manager,
-    replica: ReplicaId,
-    sum: &mut Sum,
-) -> Result<(), Refusal> {
-    let event = Event::Received {
-        storage: replica.storage,
-        id: replica.block,
-        stamp: STAMP,
-    };
-    take_once(rt, manager, event, sum)
-}
-
-fn receive_all<R: Threads + Wait + Sync>(
-    rt: &R,
-    manager: &mut Manager,
-    replicas: &[ReplicaId],
-    sum: &mut Sum,
-) -> Result<(), Refusal> {
-    for replica in replicas {
-        receive(rt, manager, *replica, sum)?;
-    }
-    Ok(())
-}
-
-fn ask(manager: &Manager, block: BlockId, sum: &mut Sum) -> Result<(), Refusal> {
-    let storages = manager.places(block)?;
-    for storage in storages.as_slice() {
-        sum.places = sum.places.wrapping_add(1);
-        sum.numbers = sum.numbers.wrapping_add(u128::from(storage.0));
-    }
-    Ok(())
-}
-
-fn ask_all(manager: &Manager, blocks: &[BlockId], sum: &mut Sum) -> Result<(), Refusal> {
-    for block in blocks {
-        ask(manager, *block, sum)?;
+        take_once(rt, manager, addition(i), sum)?;
     }
     Ok(())
 }
@@ -209,14 +158,35 @@ fn take_all<R: Threads + Wait + Sync>(
     Ok(())
 }
 
-fn die<R: Threads + Wait + Sync>(
+fn notify_all<R: Threads + Wait + Sync>(
     rt: &R,
     manager: &mut Manager,
-    node: u32,
+    replicas: &[ReplicaId],
+    is_received: bool,
     sum: &mut Sum,
 ) -> Result<(), Refusal> {
-    let event = Event::Dead { node: NodeId(node) };
-    take_once(rt, manager, event, sum)
+    for replica in replicas {
+        take_once(rt, manager, notice(*replica, is_received), sum)?;
+    }
+    Ok(())
+}
+
+fn ask(manager: &Manager, block: BlockId, sum: &mut Sum) -> Result<(), Refusal> {
+    let storages = manager.places(block)?;
+    for storage in storages.as_slice() {
+        sum.places = sum.places.wrapping_add(1);
+        sum.numbers = sum.numbers.wrapping_add(u128::from(storage.0));
+    }
+    drop(storages);
+    Ok(())
+}
+
+fn ask_all(manager: &Manager, blocks: &[BlockId], sum: &mut Sum) -> Result<(), Refusal> {
+    *sum = NOTHING;
+    for block in blocks {
+        ask(manager, *block, sum)?;
+    }
+    Ok(())
 }
 
 fn round<R: Threads + Wait + Sync>(
@@ -230,44 +200,22 @@ fn round<R: Threads + Wait + Sync>(
     Ok(())
 }
 
-impl Sum {
-    fn add_commands(&mut self, commands: &Commands) {
-        for node in commands.nodes.as_slice() {
-            let transfers = node.transfers.as_slice().len() as u128;
-            let deletes = node.deletes.as_slice().len() as u128;
-            self.transfers = self.transfers.saturating_add(transfers);
-            self.deletes = self.deletes.saturating_add(deletes);
-        }
-    }
-}
-
 /// Does it, and adds to the sum what came of it.
 pub fn perform<R: Threads + Wait + Sync>(
     rt: &R,
     manager: &mut Manager,
-    act: Act<'_>,
+    load: &Load,
+    act: Act,
     sum: &mut Sum,
 ) -> Result<(), Refusal> {
     match act {
-        Act::Add(blocks) => add_all(rt, manager, blocks, sum),
-        Act::Report(order, reports) => report_all(rt, manager, order, reports, sum),
-        Act::Delete(replicas) => delete_all(rt, manager, replicas, sum),
-        Act::Receive(replicas) => receive_all(rt, manager, replicas, sum),
-        Act::Ask(blocks) => ask_all(manager, blocks, sum),
-        Act::Take(events) => take_all(rt, manager, events, sum),
-        Act::Die(node) => die(rt, manager, node, sum),
+        Act::Add => add_all(rt, manager, load.count, sum),
+        Act::Take => take_all(rt, manager, load.events.as_slice(), sum),
+        Act::TakeOthers => take_all(rt, manager, load.others.as_slice(), sum),
+        Act::Delete => notify_all(rt, manager, load.deleted.as_slice(), false, sum),
+        Act::Receive => notify_all(rt, manager, load.received.as_slice(), true, sum),
+        Act::Ask => ask_all(manager, load.blocks.as_slice(), sum),
+        Act::Die(node) => take_once(rt, manager, Event::Dead { node: NodeId(node) }, sum),
         Act::Round => round(rt, manager, sum),
     }
-}
-
-/// Adds all blocks.
-pub fn measure_additions<R: Threads + Wait + Sync>(
-    rt: &R,
-    manager: &mut Manager,
-    sheet: Sheet<'_>,
-) -> Result<(), Refusal> {
-    let mut sum = NOTHING;
-    let nanos = time(rt, manager, sheet, Act::Add(sheet.blocks), &mut sum)?;
-    sheet.put_rate("add_per_s", sheet.blocks, nanos);
-    Ok(())
 }

@@ -1,7 +1,6 @@
 // The runs that the words of a command line ask for.
 
-use bm_base::Refusal;
-use std::alloc::Global;
+use std::alloc::AllocError;
 
 /// What is measured.
 #[derive(Clone, Copy)]
@@ -61,22 +60,27 @@ fn say_last(runs: &mut Vec<Run>, word: &str) -> Option<()> {
     runs.last_mut()?.say(number)
 }
 
-/// The runs, in their order: each a subject, the number of blocks, and then, where they are not one, the number of shards and that
-/// of workers. None where the words are anything else. `Memory`.
-pub fn runs_of(alloc: Global, words: &[String]) -> Result<Option<Vec<Run>>, Refusal> {
-    let mut runs = Vec::new(alloc);
+// Adds the runs that the words ask for. Whether the words are runs.
+fn read_words(words: &[String], runs: &mut Vec<Run>) -> Result<bool, AllocError> {
     for word in words {
         match subject_of(word.as_str()) {
             Some(subject) => runs.push(Run::new(subject))?,
             None => {
-                if say_last(&mut runs, word.as_str()).is_none() {
-                    return Ok(None);
+                if say_last(runs, word.as_str()).is_none() {
+                    return Ok(false);
                 }
             }
         }
     }
-    if runs.is_empty() || runs.iter().any(|run| run.said == 0) {
-        return Ok(None);
+    Ok(true)
+}
+
+/// Adds the runs, in their order: each a subject, the number of blocks, and then, where they are not one, the number of shards and
+/// that of workers. Whether there is one, and the words are nothing else. `Memory`.
+pub fn read_runs(words: &[String], runs: &mut Vec<Run>) -> Result<bool, AllocError> {
+    let mut are_runs = read_words(words, runs)? && !runs.is_empty();
+    for run in runs.as_slice() {
+        are_runs = are_runs && run.said > 0;
     }
-    Ok(Some(runs))
+    Ok(are_runs)
 }

@@ -28,29 +28,24 @@ impl Timer {
     }
 
     /// In nanoseconds from some moment on, or 0 where the system does not tell.
-    pub fn now(self, rt: &HostRuntime) -> u128 {
+    pub fn now(self, host: HostRuntime) -> u128 {
         let time = match self {
-            Timer::Processor => rt.thread_cpu_time(),
-            Timer::Wall => rt.monotonic(),
+            Timer::Processor => host.thread_cpu_time(),
+            Timer::Wall => host.monotonic(),
         };
         match time {
             Ok(time) => time.as_nanos(),
             Err(_) => 0,
         }
     }
-
-    /// The nanoseconds since then.
-    pub fn since(self, rt: &HostRuntime, start: u128) -> u128 {
-        self.now(rt).saturating_sub(start)
-    }
 }
 
 /// How many bytes of memory the process holds, or None where the system does not tell.
-pub fn resident_bytes(rt: &HostRuntime) -> Option<u64> {
-    match fs::read_to_string(rt, "/proc/self/statm") {
-        Ok(text) => bytes_in(text.as_str()),
-        Err(_) => None,
-    }
+pub fn resident_bytes(host: HostRuntime) -> Option<u64> {
+    let text = fs::read_to_string(&host, "/proc/self/statm").ok()?;
+    let bytes = bytes_in(text.as_str());
+    drop(text);
+    bytes
 }
 
 // The second number of the text, which counts pages, in bytes.
@@ -61,16 +56,16 @@ fn bytes_in(text: &str) -> Option<u64> {
 
 /// Where the figures of one manager go: a line for each, of the number of blocks, the figure's name, and its value.
 #[derive(Clone, Copy)]
-pub struct Sheet<'a> {
-    pub host: &'a HostRuntime,
+pub struct Sheet {
+    pub host: HostRuntime,
     pub blocks: u64,
     pub timer: Timer,
     pub often: Often,
 }
 
-impl<'a> Sheet<'a> {
+impl Sheet {
     /// What one worker does is done by the thread that calls; what several do takes CPU time of other threads too.
-    pub fn new(host: &'a HostRuntime, run: Run) -> Sheet<'a> {
+    pub fn new(host: HostRuntime, run: Run) -> Sheet {
         Sheet {
             host,
             blocks: run.blocks,
@@ -83,50 +78,50 @@ impl<'a> Sheet<'a> {
         }
     }
 
-    /// In nanoseconds from some moment on.
-    pub fn now(self) -> u128 {
-        self.timer.now(self.host)
+    /// How many replicas are deleted and received again: a tenth of them.
+    pub fn sample(self) -> u64 {
+        self.blocks.saturating_mul(3) / 10
     }
 
-    pub fn since(self, start: u128) -> u128 {
-        self.timer.since(self.host, start)
-    }
-
-    /// Prints a line on standard output: a name, each text with the number behind it, and the end.
-    pub fn tell(self, name: &str, numbers: &[(&str, u128)], end: &str) {
-        let rt = self.host;
-        let _ = print!(rt; "{name}");
-        for (text, number) in numbers {
-            let _ = print!(rt; "{text}{number}");
+    /// How many blocks are asked for each time.
+    pub fn questions(self) -> u64 {
+        if self.blocks == 0 {
+            0
+        } else {
+            self.often.questions
         }
-        let _ = println!(rt; "{end}");
+    }
+
+    /// Prints the next part of a line on standard output.
+    pub fn tell(self, text: &str, number: u128) {
+        let host = self.host;
+        let _ = print!(host; "{text}{number}");
+    }
+
+    /// Prints the end of the line.
+    pub fn tell_end(self, text: &str) {
+        let host = self.host;
+        let _ = println!(host; "{text}");
     }
 
     pub fn put(self, figure: &str, value: u128) {
-        let rt = self.host;
-        let blocks = self.blocks;
-        let _ = eprintln!(rt; "manager {blocks} {figure} {value}");
+        let Sheet { host, blocks, .. } = self;
+        let _ = eprintln!(host; "manager {blocks} {figure} {value}");
     }
 
     /// With three digits behind the point.
     pub fn put_thousandths(self, figure: &str, thousandths: u128) {
-        let rt = self.host;
-        let blocks = self.blocks;
+        let Sheet { host, blocks, .. } = self;
         let whole = thousandths / 1000;
         let rest = thousandths % 1000;
-        let _ = eprintln!(rt; "manager {blocks} {figure} {whole}.{rest:03}");
+        let _ = eprintln!(host; "manager {blocks} {figure} {whole}.{rest:03}");
     }
 
     /// How many operations a second there are, where `count` of them took so many nanoseconds.
-    pub fn put_rate(self, figure: &str, count: u64, nanos: u128) {
-        if let Some(rate) = u128::from(count).saturating_mul(SECOND).checked_div(nanos) {
+    pub fn put_rate(self, figure: &str, count: u128, nanos: u128) {
+        if let Some(rate) = count.saturating_mul(SECOND).checked_div(nanos) {
             self.put(figure, rate);
         }
-    }
-
-    /// A time, in milliseconds.
-    pub fn put_millis(self, figure: &str, nanos: u128) {
-        self.put_thousandths(figure, nanos / 1000);
     }
 
     /// By how many bytes the memory of the process has grown, for each of `count` things, where the system reports it.

@@ -30,24 +30,21 @@
 mod acts;
 mod asked;
 mod beats;
+mod bench;
+mod calls;
 mod figures;
 mod memory;
-mod notices;
 mod often;
 mod publishing;
-mod questions;
 mod reading;
-mod reports;
-mod rounds;
-mod timing;
 mod workload;
 
-use acts::{new_manager, register_all};
-use asked::{Run, Subject, runs_of};
+use acts::register_all;
+use asked::{Run, Subject, read_runs};
+use bench::Bench;
 use bm_base::Refusal;
-use bm_manager::Manager;
-use figures::{Sheet, resident_bytes};
-use std::alloc::Global;
+use figures::resident_bytes;
+use std::alloc::AllocError;
 use std::env;
 use std::process::ExitCode;
 use std::sync::Wait;
@@ -55,37 +52,55 @@ use std::thread::Threads;
 
 /// Ends with status 1 where the words ask for no run, and where a run is refused.
 fn main(rt: HostRuntime) -> ExitCode {
-    let Some(words) = words_of(&rt) else {
-        return ExitCode::FAILURE;
+    let mut runs = Vec::new(rt.alloc());
+    let are_asked = read_arguments(rt, &mut runs);
+    let is_done = match are_asked {
+        Some(are_runs) => measure_asked(&rt, rt, are_runs, runs.as_slice()),
+        None => false,
     };
-    match runs_of(rt.alloc(), words.as_slice()) {
-        Ok(Some(runs)) => exit_code_of(&rt, measure_all(&rt, &rt, runs.as_slice())),
-        Ok(None) => {
-            let _ = eprintln!(rt; "manager or memory COUNT [SHARDS WORKERS]");
-            ExitCode::FAILURE
-        }
-        Err(refusal) => exit_code_of(&rt, Err(refusal)),
+    drop(runs);
+    if is_done {
+        ExitCode::SUCCESS
+    } else {
+        ExitCode::FAILURE
     }
 }
 
-/// The words behind the name of the program, or None where they can't be read, or there is no memory for them.
-fn words_of(rt: &HostRuntime) -> Option<Vec<String>> {
-    env::args(rt).ok()?.skip(1).collect(rt.alloc()).ok()
+/// The words behind the name of the program as runs, or None where they can't be read.
+fn read_arguments(host: HostRuntime, runs: &mut Vec<Run>) -> Option<Result<bool, AllocError>> {
+    let words: Vec<String> = env::args(&host).ok()?.skip(1).collect(host.alloc()).ok()?;
+    let are_runs = read_runs(words.as_slice(), runs);
+    drop(words);
+    Some(are_runs)
 }
 
-fn exit_code_of(rt: &HostRuntime, end: Result<(), Refusal>) -> ExitCode {
+/// Measures all runs. Whether none was refused, and there is one.
+fn measure_asked<R: Threads + Wait + Sync>(
+    rt: &R,
+    host: HostRuntime,
+    are_runs: Result<bool, AllocError>,
+    runs: &[Run],
+) -> bool {
+    let end = match are_runs {
+        Ok(true) => measure_all(rt, host, runs),
+        Ok(false) => {
+            let _ = eprintln!(host; "manager or memory COUNT [SHARDS WORKERS]");
+            return false;
+        }
+        Err(error) => Err(Refusal::from(error)),
+    };
     match end {
-        Ok(()) => ExitCode::SUCCESS,
+        Ok(()) => true,
         Err(refusal) => {
-            let _ = eprintln!(rt; "refused: {refusal}");
-            ExitCode::FAILURE
+            let _ = eprintln!(host; "refused: {refusal}");
+            false
         }
     }
 }
 
 fn measure_all<R: Threads + Wait + Sync>(
     rt: &R,
-    host: &HostRuntime,
+    host: HostRuntime,
     runs: &[Run],
 ) -> Result<(), Refusal> {
     for run in runs {
@@ -94,56 +109,40 @@ fn measure_all<R: Threads + Wait + Sync>(
     Ok(())
 }
 
-fn measure<R: Threads + Wait + Sync>(rt: &R, host: &HostRuntime, run: Run) -> Result<(), Refusal> {
+fn measure<R: Threads + Wait + Sync>(rt: &R, host: HostRuntime, run: Run) -> Result<(), Refusal> {
     let held = resident_bytes(host);
-    let mut manager = new_manager(host.alloc(), run)?;
+    let mut bench = Bench::new(host, run)?;
     let end = match run.subject {
-        Subject::Manager => measure_manager(rt, host, &mut manager, run),
-        Subject::Memory => {
-            let sheet = Sheet::new(host, run);
-            memory::measure(rt, host.alloc(), &mut manager, sheet, held)
-        }
+        Subject::Manager => measure_manager(rt, &mut bench, run),
+        Subject::Memory => memory::measure(rt, &mut bench, held),
     };
-    drop(manager);
+    drop(bench);
     end
 }
 
 /// Measures the calls of a manager without nodes, and then those who read in parallel with it.
 fn measure_manager<R: Threads + Wait + Sync>(
     rt: &R,
-    host: &HostRuntime,
-    manager: &mut Manager,
+    bench: &mut Bench,
     run: Run,
 ) -> Result<(), Refusal> {
-    let sheet = Sheet::new(host, run);
-    tell_run(host, run, sheet.timer.name());
-    register_all(rt, host.alloc(), manager)?;
-    measure_calls(rt, host.alloc(), manager, sheet)?;
-    sheet.tell("calls", &[(": ", u128::from(manager.calls()))], "");
-    reading::measure(rt, host.alloc(), manager, sheet)
+    let host = bench.sheet.host;
+    tell_run(host, run, bench.sheet.timer.name());
+    register_all(rt, host.alloc(), &mut bench.manager)?;
+    calls::measure(rt, bench)?;
+    let calls = bench.manager.calls();
+    bench.sheet.tell("calls: ", u128::from(calls));
+    bench.sheet.tell_end("");
+    reading::measure(rt, bench)
 }
 
-fn measure_calls<R: Threads + Wait + Sync>(
-    rt: &R,
-    alloc: Global,
-    manager: &mut Manager,
-    sheet: Sheet<'_>,
-) -> Result<(), Refusal> {
-    acts::measure_additions(rt, manager, sheet)?;
-    reports::measure(rt, alloc, manager, sheet)?;
-    notices::measure(rt, alloc, manager, sheet)?;
-    questions::measure(rt, alloc, manager, sheet)?;
-    beats::measure(rt, alloc, manager, sheet)?;
-    rounds::measure(rt, alloc, manager, sheet)
-}
-
-fn tell_run(rt: &HostRuntime, run: Run, time: &str) {
+fn tell_run(host: HostRuntime, run: Run, time: &str) {
     let Run {
         blocks,
         shards,
         workers,
         ..
     } = run;
-    let _ = println!(rt; "manager: {blocks} blocks, shards {shards}, workers {workers}");
-    let _ = eprintln!(rt; "manager: {blocks} blocks, shards {shards}, workers {workers}; {time}");
+    let _ = println!(host; "manager: {blocks} blocks, shards {shards}, workers {workers}");
+    let _ = eprintln!(host; "manager: {blocks} blocks, shards {shards}, workers {workers}; {time}");
 }

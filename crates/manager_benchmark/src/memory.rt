@@ -1,13 +1,13 @@
 // What a manager holds in memory.
 
-use crate::acts::{NOTHING, Sum, add_block, receive, register_all};
+use crate::acts::{Sum, addition, notice, register_all, take_once};
+use crate::bench::Bench;
 use crate::figures::{Sheet, resident_bytes};
 use crate::publishing::publish_often;
 use crate::workload::{block_number, storages_of};
 use bm_base::{Refusal, ReplicaId};
 use bm_manager::Manager;
 use bm_view::{Publisher, open_view};
-use std::alloc::Global;
 use std::sync::Wait;
 use std::thread::Threads;
 
@@ -17,36 +17,33 @@ const VERSIONS: u64 = 3;
 /// that the process held without a manager. Only the first run of a process is exact: a later one finds memory that is held already.
 pub fn measure<R: Threads + Wait + Sync>(
     rt: &R,
-    alloc: Global,
-    manager: &mut Manager,
-    sheet: Sheet<'_>,
+    bench: &mut Bench,
     held: Option<u64>,
 ) -> Result<(), Refusal> {
-    register_all(rt, alloc, manager)?;
-    let mut sum = NOTHING;
-    fill(rt, manager, sheet.blocks, &mut sum)?;
-    let filled = resident_bytes(sheet.host);
-    let replicas = sheet.blocks.saturating_mul(3);
-    sheet.put_growth("mem_rss_bytes_per_replica", replicas, held, filled);
-    let calls = measure_versions(rt, alloc, manager, sheet, filled)?;
-    let numbers = [
-        (": added ", sum.added),
-        (", published after ", u128::from(calls)),
-    ];
-    sheet.tell("memory", &numbers, " calls");
+    let Sheet { host, blocks, .. } = bench.sheet;
+    register_all(rt, host.alloc(), &mut bench.manager)?;
+    fill(rt, &mut bench.manager, blocks, &mut bench.sum)?;
+    let filled = resident_bytes(host);
+    let replicas = blocks.saturating_mul(3);
+    bench
+        .sheet
+        .put_growth("mem_rss_bytes_per_replica", replicas, held, filled);
+    let calls = measure_versions(rt, bench, filled)?;
+    bench.sheet.tell("memory: added ", bench.sum.added);
+    bench.sheet.tell(", published after ", u128::from(calls));
+    bench.sheet.tell_end(" calls");
     Ok(())
 }
 
 // With a publisher, which is ended before an error is reported: how many calls it has shown.
 fn measure_versions<R: Threads + Wait + Sync>(
     rt: &R,
-    alloc: Global,
-    manager: &mut Manager,
-    sheet: Sheet<'_>,
+    bench: &mut Bench,
     filled: Option<u64>,
 ) -> Result<u64, Refusal> {
-    let (mut publisher, _) = open_view(rt, alloc, 0)?;
-    let published = measure_publisher(rt, alloc, manager, &mut publisher, sheet, filled);
+    let (mut publisher, locators) = open_view(rt, bench.sheet.host.alloc(), 0)?;
+    drop(locators);
+    let published = measure_publisher(rt, bench, &mut publisher, filled);
     let calls = publisher.calls();
     publisher.end(rt);
     published?;
@@ -55,16 +52,16 @@ fn measure_versions<R: Threads + Wait + Sync>(
 
 fn measure_publisher<R: Threads + Wait + Sync>(
     rt: &R,
-    alloc: Global,
-    manager: &mut Manager,
+    bench: &mut Bench,
     publisher: &mut Publisher,
-    sheet: Sheet<'_>,
     filled: Option<u64>,
 ) -> Result<(), Refusal> {
-    let mut times = Vec::new(alloc);
-    publish_often(rt, manager, publisher, sheet, VERSIONS, &mut times)?;
+    publish_often(rt, bench, publisher, VERSIONS)?;
+    let Sheet { host, blocks, .. } = bench.sheet;
     let figure = "mem_versions_rss_bytes_per_block";
-    sheet.put_growth(figure, sheet.blocks, filled, resident_bytes(sheet.host));
+    bench
+        .sheet
+        .put_growth(figure, blocks, filled, resident_bytes(host));
     Ok(())
 }
 
@@ -76,7 +73,7 @@ fn fill<R: Threads + Wait + Sync>(
     sum: &mut Sum,
 ) -> Result<(), Refusal> {
     for i in 0..blocks {
-        add_block(rt, manager, i, sum)?;
+        take_once(rt, manager, addition(i), sum)?;
         receive_three(rt, manager, i, sum)?;
     }
     Ok(())
@@ -89,12 +86,13 @@ fn receive_three<R: Threads + Wait + Sync>(
     i: u64,
     sum: &mut Sum,
 ) -> Result<(), Refusal> {
-    for storage in storages_of(i) {
+    let storages = storages_of(i);
+    for storage in &storages {
         let replica = ReplicaId {
             block: block_number(i),
-            storage,
+            storage: *storage,
         };
-        receive(rt, manager, replica, sum)?;
+        take_once(rt, manager, notice(replica, true), sum)?;
     }
     Ok(())
 }

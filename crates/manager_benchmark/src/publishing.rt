@@ -1,11 +1,10 @@
 // Versions that a manager publishes.
 
+use crate::bench::Bench;
 use crate::figures::Sheet;
-use crate::timing::median;
 use bm_base::Refusal;
 use bm_manager::Manager;
 use bm_view::Publisher;
-use std::alloc::Global;
 use std::sync::Wait;
 use std::sync::atomic::{AtomicBool, Ordering};
 use std::thread::Threads;
@@ -38,27 +37,27 @@ pub fn publish_until<R: Threads + Wait + Sync>(
     Ok(())
 }
 
-/// Publishes `count` times, and the times of all versions but the first come to the others.
+/// Publishes `count` times, and notes the times of all versions but the first.
 pub fn publish_often<R: Threads + Wait + Sync>(
     rt: &R,
-    manager: &mut Manager,
+    bench: &mut Bench,
     publisher: &mut Publisher,
-    sheet: Sheet<'_>,
     count: u64,
-    times: &mut Vec<u128>,
 ) -> Result<(), Refusal> {
+    let Sheet { host, timer, .. } = bench.sheet;
     for number in 0..count {
-        let start = sheet.now();
-        publish(rt, manager, publisher)?;
+        let start = timer.now(host);
+        publish(rt, &mut bench.manager, publisher)?;
         if number > 0 {
-            times.push(sheet.since(start))?;
+            let nanos = timer.now(host).saturating_sub(start);
+            bench.note(nanos)?;
         }
     }
     Ok(())
 }
 
 // What it takes to publish one version.
-fn put_version(sheet: Sheet<'_>, nanos: u128) {
+fn put_version(sheet: Sheet, nanos: u128) {
     if let Some(rate) = 1_000_000_000_000u128.checked_div(nanos) {
         sheet.put_thousandths("publish_versions_per_s", rate);
     }
@@ -70,20 +69,13 @@ fn put_version(sheet: Sheet<'_>, nanos: u128) {
 /// Measures versions published while nobody reads.
 pub fn measure<R: Threads + Wait + Sync>(
     rt: &R,
-    alloc: Global,
-    manager: &mut Manager,
+    bench: &mut Bench,
     publisher: &mut Publisher,
-    sheet: Sheet<'_>,
 ) -> Result<(), Refusal> {
-    let mut times = Vec::new(alloc);
-    publish_often(
-        rt,
-        manager,
-        publisher,
-        sheet,
-        sheet.often.versions,
-        &mut times,
-    )?;
-    put_version(sheet, median(times)?);
+    let sheet = bench.sheet;
+    publish_often(rt, bench, publisher, sheet.often.versions)?;
+    if let Some(nanos) = bench.median() {
+        put_version(sheet, nanos);
+    }
     Ok(())
 }

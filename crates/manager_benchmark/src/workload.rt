@@ -6,7 +6,8 @@ use bm_base::{
     BlockId, Entry, Event, Gen, Items, NodeId, Rack, Refusal, Remaining, ReplicaId, Stamp,
     StorageId,
 };
-use std::alloc::Global;
+use std::alloc::{AllocError, Global};
+use std::mem;
 
 pub const NODES: u32 = 256;
 
@@ -76,26 +77,75 @@ fn shuffle<T>(items: &mut [T], seed: u64) {
     }
 }
 
-/// The order in which the storages report.
-pub fn order_of_storages(alloc: Global) -> Result<Vec<StorageId>, Refusal> {
-    let mut order = Vec::new(alloc);
-    for storage in 0..STORAGES {
-        order.push(StorageId(storage))?;
-    }
-    shuffle(order.as_mut_slice(), 99);
-    Ok(order)
+/// What is made before the time counts.
+#[derive(Drop)]
+pub struct Load {
+    /// How many blocks there are.
+    pub count: u64,
+    pub events: Vec<Event>,
+    /// Other events, which take turns with them.
+    pub others: Vec<Event>,
+    /// Replicas in the order in which they are deleted.
+    pub deleted: Vec<ReplicaId>,
+    /// The same replicas in the order in which they are received.
+    pub received: Vec<ReplicaId>,
+    pub blocks: Vec<BlockId>,
 }
 
-/// The full report of each storage, by ascending number.
-pub fn rising_reports(alloc: Global, blocks: u64) -> Result<Vec<Vec<Entry>>, Refusal> {
-    let mut reports: Vec<Vec<Entry>> = Vec::new(alloc);
-    match fill_reports(alloc, blocks, &mut reports) {
-        Ok(()) => Ok(reports),
-        Err(refusal) => {
-            drop(reports);
-            Err(refusal)
+impl Load {
+    pub fn new(alloc: Global, count: u64) -> Load {
+        Load {
+            count,
+            events: Vec::new(alloc),
+            others: Vec::new(alloc),
+            deleted: Vec::new(alloc),
+            received: Vec::new(alloc),
+            blocks: Vec::new(alloc),
         }
     }
+
+    /// The full reports of all storages: each in an order of its own, and the other ones by ascending number.
+    pub fn make_reports(&mut self, alloc: Global) -> Result<(), Refusal> {
+        add_reports(alloc, self.count, true, &mut self.events)?;
+        add_reports(alloc, self.count, false, &mut self.others)
+    }
+
+    /// Draws this number of replicas. The events are let go.
+    pub fn draw_replicas(&mut self, count: u64) -> Result<(), Refusal> {
+        self.events.clear();
+        self.others.clear();
+        draw_replicas(self.count, count, &mut self.deleted)?;
+        draw_replicas(self.count, count, &mut self.received)?;
+        shuffle(self.received.as_mut_slice(), 777);
+        Ok(())
+    }
+
+    /// The blocks that are drawn first, this number of them.
+    pub fn draw_blocks(&mut self, count: u64) -> Result<(), Refusal> {
+        for k in 0..count {
+            self.blocks.push(drawn_block(k, self.count))?;
+        }
+        Ok(())
+    }
+}
+
+/// The full report of each storage, in the order in which the storages report: by ascending number, or each in an order of its own.
+fn add_reports(
+    alloc: Global,
+    blocks: u64,
+    is_shuffled: bool,
+    events: &mut Vec<Event>,
+) -> Result<(), Refusal> {
+    let mut reports: Vec<Vec<Entry>> = Vec::new(alloc);
+    let filled = fill_reports(alloc, blocks, &mut reports);
+    if is_shuffled {
+        shuffle_each(reports.as_mut_slice());
+    }
+    let added = add_events(alloc, reports.as_mut_slice(), events);
+    drop(reports);
+    shuffle(events.as_mut_slice(), 99);
+    filled?;
+    added
 }
 
 fn fill_reports(alloc: Global, blocks: u64, reports: &mut Vec<Vec<Entry>>) -> Result<(), Refusal> {
@@ -103,7 +153,8 @@ fn fill_reports(alloc: Global, blocks: u64, reports: &mut Vec<Vec<Entry>>) -> Re
         reports.push(Vec::new(alloc))?;
     }
     for i in 0..blocks {
-        for storage in storages_of(i) {
+        let storages = storages_of(i);
+        for storage in &storages {
             if let Some(report) = reports.get_mut(storage.0 as usize) {
                 report.push(Entry::one(block_number(i), STAMP))?;
             }
@@ -113,12 +164,30 @@ fn fill_reports(alloc: Global, blocks: u64, reports: &mut Vec<Vec<Entry>>) -> Re
 }
 
 /// Brings each report into an order of its own.
-pub fn shuffle_each(reports: &mut [Vec<Entry>]) {
+fn shuffle_each(reports: &mut [Vec<Entry>]) {
     let mut seed = 0u64;
     for report in reports.iter_mut() {
         seed = seed.wrapping_add(1);
         shuffle(report.as_mut_slice(), seed);
     }
+}
+
+/// Moves the reports into events.
+fn add_events(
+    alloc: Global,
+    reports: &mut [Vec<Entry>],
+    events: &mut Vec<Event>,
+) -> Result<(), Refusal> {
+    let mut storage = 0u32;
+    for report in reports.iter_mut() {
+        let entries = mem::replace(report, Vec::new(alloc));
+        events.push(Event::FullReport {
+            storage: StorageId(storage),
+            entries: Items::from_vec(entries),
+        })?;
+        storage = storage.wrapping_add(1);
+    }
+    Ok(())
 }
 
 /// The storage of a node with this place, 0 to 3.
@@ -127,33 +196,40 @@ pub fn storage_at(node: u32, place: u32) -> StorageId {
 }
 
 /// A node comes with its four storages.
-pub fn register(alloc: Global, node: u32) -> Result<Event, Refusal> {
-    let mut storages = Vec::new(alloc);
-    for place in 0..PLACES_OF_NODE {
-        storages.push(storage_at(node, place))?;
-    }
+pub fn register(alloc: Global, node: u32) -> Result<Event, AllocError> {
+    let storages = [
+        storage_at(node, 0),
+        storage_at(node, 1),
+        storage_at(node, 2),
+        storage_at(node, 3),
+    ];
     Ok(Event::Register {
         node: NodeId(node),
         rack: Rack(node / NODES_IN_RACK),
-        storages: Items::from_vec(storages),
+        storages: Items::from_slice(alloc, storages.as_slice())?,
     })
 }
 
 /// A node tells what is free on its four storages.
-pub fn heartbeat(alloc: Global, node: u32, free: [u64; 4]) -> Result<Event, Refusal> {
-    let mut told = Vec::with_capacity(alloc, free.len())?;
-    let mut place = 0u32;
-    for remaining in free {
-        told.push(Remaining {
-            storage: storage_at(node, place),
-            remaining,
-        })?;
-        place = place.wrapping_add(1);
-    }
+pub fn heartbeat(alloc: Global, node: u32, free: [u64; 4]) -> Result<Event, AllocError> {
+    let [first, second, third, fourth] = free;
+    let told = [
+        free_on(node, 0, first),
+        free_on(node, 1, second),
+        free_on(node, 2, third),
+        free_on(node, 3, fourth),
+    ];
     Ok(Event::Heartbeat {
         node: NodeId(node),
-        remaining: Items::from_vec(told),
+        remaining: Items::from_slice(alloc, told.as_slice())?,
     })
+}
+
+fn free_on(node: u32, place: u32, remaining: u64) -> Remaining {
+    Remaining {
+        storage: storage_at(node, place),
+        remaining,
+    }
 }
 
 /// Bytes that are free on a storage: 4 TiB and some more, which its number draws.
@@ -163,43 +239,32 @@ pub fn drawn_free(storage: StorageId) -> u64 {
 }
 
 /// So many different replicas: of blocks at equal distances one replica each, in an order that is drawn.
-pub fn drawn_replicas(alloc: Global, blocks: u64, count: u64) -> Result<Vec<ReplicaId>, Refusal> {
+fn draw_replicas(blocks: u64, count: u64, drawn: &mut Vec<ReplicaId>) -> Result<(), Refusal> {
     let distance = blocks.checked_div(count).unwrap_or(0);
-    let mut drawn = Vec::new(alloc);
     for k in 0..count {
-        let i = k.wrapping_mul(distance);
-        let [first, second, third] = storages_of(i);
-        let storage = match mix_bits(k.wrapping_add(77)) % 3 {
-            0 => first,
-            1 => second,
-            _ => third,
-        };
-        drawn.push(ReplicaId {
-            block: block_number(i),
-            storage,
-        })?;
+        drawn.push(drawn_replica(k, k.wrapping_mul(distance)))?;
     }
     shuffle(drawn.as_mut_slice(), 4242);
-    Ok(drawn)
+    Ok(())
 }
 
-/// Brings them into another order.
-pub fn shuffle_again(replicas: &mut [ReplicaId]) {
-    shuffle(replicas, 777);
+/// A replica of the block `i`, which is drawn as the `k`th.
+fn drawn_replica(k: u64, i: u64) -> ReplicaId {
+    let [first, second, third] = storages_of(i);
+    let storage = match mix_bits(k.wrapping_add(77)) % 3 {
+        0 => first,
+        1 => second,
+        _ => third,
+    };
+    ReplicaId {
+        block: block_number(i),
+        storage,
+    }
 }
 
 /// A block that is drawn as the `k`th; of no blocks the first.
 pub fn drawn_block(k: u64, blocks: u64) -> BlockId {
     block_number(mix_bits(k).checked_rem(blocks).unwrap_or(0))
-}
-
-/// The blocks that are drawn first, this number of them.
-pub fn drawn_blocks(alloc: Global, count: u64, blocks: u64) -> Result<Vec<BlockId>, Refusal> {
-    let mut drawn = Vec::new(alloc);
-    for k in 0..count {
-        drawn.push(drawn_block(k, blocks))?;
-    }
-    Ok(drawn)
 }
 
 /// A node that is drawn as the `k`th.

@@ -33,9 +33,13 @@ abbrev pub listed : Items → List Data
 listed no_items = []
 listed (item d ds) = d ∷ listed ds
 
+-- a list of what f reads of each item
+abbrev pub list_field : {A : Type 0} → (Data → Option A) → List ℕ → Data → Option (List A)
+list_field f name d = option_and_then (λ items. each f (listed items)) (option_and_then as_array (get name d))
+
 -- a list of whole numbers below 2^32
 abbrev pub small_list_field : List ℕ → Data → Option (List ℕ)
-small_list_field name d = option_and_then (λ items. each small_in (listed items)) (option_and_then as_array (get name d))
+small_list_field name d = list_field small_in name d
 
 abbrev pub stamp_from : Option ℕ → Option ℕ → Option Stamp
 stamp_from (Some generation) (Some len) = Some (record { generation = generation; len = len })
@@ -56,7 +60,7 @@ entry_in d = option_and_then (λ items. entry_among (listed items)) (as_array d)
 
 -- a list of such
 abbrev pub entries_field : List ℕ → Data → Option (List Entry)
-entries_field name d = option_and_then (λ items. each entry_in (listed items)) (option_and_then as_array (get name d))
+entries_field name d = list_field entry_in name d
 
 abbrev pub remaining_from : Option ℕ → Option ℕ → Option Remaining
 remaining_from (Some storage) (Some remaining) = Some (record { storage = storage; remaining = remaining })
@@ -72,4 +76,4 @@ remaining_in d = option_and_then (λ items. remaining_among (listed items)) (as_
 
 -- a list of such
 abbrev pub remaining_field : List ℕ → Data → Option (List Remaining)
-remaining_field name d = option_and_then (λ items. each remaining_in (listed items)) (option_and_then as_array (get name d))
+remaining_field name d = list_field remaining_in name d

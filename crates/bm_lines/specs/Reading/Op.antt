@@ -1,5 +1,5 @@
 -- The names of the calls in an input line.
-use Rattle.std.specs.Prelude.{ℕ, List, if◌then◌else◌, Option, Some, None, codes}
+use Rattle.std.specs.Prelude.{ℕ, Bool, true, false, List, if◌then◌else◌, Option, Some, None, codes}
 use Rattle.std.specs.Option.{option_or}
 use Rattle.std.specs.Str.{bytes_eq}
 use Rattle.bm_lines.specs.declared.reading.op.Op.{Op}
@@ -41,3 +41,10 @@ question_of name =
 -- the op of this name
 abbrev pub op_of : List ℕ → Option Op
 op_of name = option_or (event_of name) (question_of name)
+
+-- whether one of its fields is a list
+abbrev pub has_list : Op → Bool
+has_list Register = true
+has_list Heartbeat = true
+has_list Report = true
+has_list _ = false

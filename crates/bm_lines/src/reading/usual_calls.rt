@@ -5,10 +5,9 @@ ghost use Rattle.bm_lines.specs.Asking.{stamp_text};
 ghost use Rattle.bm_base.specs.Answering.{IfFound};
 ghost use Rattle.bm_lines.specs.Reading.Usual.{Asks};
 
-use super::usual_entries::entries_then;
+use super::usual_lists::list_then;
 use super::usual_numbers::{number_then, small_then};
-use super::usual_remaining::remaining_then;
-use bm_base::{BlockId, Call, Event, Gen, Items, NodeId, Stamp, StorageId};
+use bm_base::{BlockId, Call, Entry, Event, Gen, Items, NodeId, Remaining, Stamp, StorageId};
 use std::alloc::{AllocError, Global};
 
 pub fn add(fields: &[u8]) -> Option<Call>
@@ -114,7 +113,7 @@ pub fn report(alloc: Global, fields: &[u8]) -> Result<Option<Call>, AllocError>
     let Some((storage, fields)) = small_then(fields, b",\"storage\":") else {
         return Ok(None);
     };
-    let Some((entries, end)) = entries_then(alloc, fields)? else {
+    let Some((entries, end)) = list_then::<Entry>(alloc, fields, b"blocks")? else {
         return Ok(None);
     };
     if !is_end(end) {
@@ -132,7 +131,7 @@ pub fn heartbeat(alloc: Global, fields: &[u8]) -> Result<Option<Call>, AllocErro
     let Some((node, fields)) = small_then(fields, b",\"node\":") else {
         return Ok(None);
     };
-    let Some((remaining, end)) = remaining_then(alloc, fields)? else {
+    let Some((remaining, end)) = list_then::<Remaining>(alloc, fields, b"remaining")? else {
         return Ok(None);
     };
     if !is_end(end) {

@@ -1,59 +1,23 @@
-// The entries of a report as they are written.
-ghost use Rattle.std.specs.Prelude.{◌≡◌, ◌++◌, ◌<◌, All, IfSome, codes, length};
-ghost use Rattle.bm_lines.specs.Asking.{list_text, entry_text, with_commas};
+// The entries of a report in canonical form.
+ghost use Rattle.std.specs.Prelude.{◌≡◌, ◌++◌, ◌<◌, IfSome, length};
+ghost use Rattle.bm_lines.specs.Asking.{entry_text};
 ghost use Rattle.bm_lines.specs.Fitting.{FitsEntry};
-ghost use Rattle.bm_base.specs.Answering.{IfFound};
 
+use super::usual_lists::UsualItem;
 use super::usual_numbers::{after, number_then};
 use bm_base::{BlockId, Entry, Gen, Stamp};
-use std::alloc::{AllocError, Global};
 
-/// The field of the entries of a report, and what stands behind it.
-pub fn entries_then<'l>(
-    alloc: Global,
-    fields: &'l [u8],
-) -> Result<Option<(Vec<Entry>, &'l [u8])>, AllocError>
-    ensures text { IfFound result (λ p. fields.now
-        ≡ list_text (codes "blocks") entry_text p.0.items ++ p.1.now) }
-    ensures fits { IfFound result (λ p. All FitsEntry p.0.items) }
-{
-    let Some(list) = after(fields, b",\"blocks\":[") else {
-        return Ok(None);
-    };
-    let Some((entries, rest)) = entry_list(alloc, list)? else {
-        return Ok(None);
-    };
-    let Some(end) = after(rest, b"]") else {
-        return Ok(None);
-    };
-    Ok(Some((entries, end)))
-}
+impl UsualItem for Entry {
+    ghost written = { entry_text };
 
-/// Entries with commas between them, and what stands behind them.
-fn entry_list<'l>(
-    alloc: Global,
-    list: &'l [u8],
-) -> Result<Option<(Vec<Entry>, &'l [u8])>, AllocError>
-    ensures text { IfFound result
-        (λ p. list.now ≡ with_commas entry_text p.0.items ++ p.1.now) }
-    ensures fits { IfFound result (λ p. All FitsEntry p.0.items) }
-{
-    let mut entries = Vec::new(alloc);
-    let Some((first, mut rest)) = entry_then(list) else {
-        return Ok(Some((entries, list)));
-    };
-    entries.push(first)?;
-    while let Some(next) = after(rest, b",") {
-        let Some((entry, behind)) = entry_then(next) else {
-            return Ok(None);
-        };
-        entries.push(entry)?;
-        rest = behind;
+    ghost is_fit = { FitsEntry };
+
+    fn item_then(bytes: &[u8]) -> Option<(Entry, &[u8])> {
+        entry_then(bytes)
     }
-    Ok(Some((entries, rest)))
 }
 
-/// The entry that these bytes begin with, and what stands behind it.
+/// The entry that these bytes begin with, and what is behind it.
 fn entry_then(bytes: &[u8]) -> Option<(Entry, &[u8])>
     ensures text { IfSome result (λ p. bytes.now ≡ entry_text p.0 ++ p.1.now) }
     ensures fits { IfSome result (λ p. FitsEntry p.0) }

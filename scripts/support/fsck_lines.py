@@ -1,0 +1,242 @@
+"""Says which lines `./puljemrod import` has to write of a text of fsck, and which table of names.
+
+All is computed from the cluster and from what its text shows, and never from the text itself.
+"""
+
+import json
+from dataclasses import dataclass
+
+from fsck_cluster import (
+    CORRUPT,
+    DEFAULT_RACK,
+    DRAINING,
+    Block,
+    Cluster,
+    File,
+    Fsck,
+    Node,
+    Replica,
+    Version,
+    is_corrupt,
+    is_under_replicated,
+    live,
+    mark_of,
+    places,
+    shown_files,
+)
+
+# The largest number of replicas in a `report` line, and the largest replication of the tool.
+REPORT_LIMIT = 65_536
+MOST_REPLICAS = 16
+
+SKIP_ERASURE_CODED = "erasure-coded"
+SKIP_REPLICATION = "replication-over-16"
+SKIP_OPEN = "open"
+SKIP_SNAPSHOTS = "snapshots"
+
+
+@dataclass(frozen=True)
+class Import:
+    """The options of `./puljemrod import`; `nodes` says that a text of nodes is given."""
+
+    nodes: bool = False
+    remaining: int = 1 << 40
+    unclear: str = "omit"
+    skip: frozenset[str] = frozenset()
+
+
+class Refused(Exception):
+    """The text has something that the import does not take with these options."""
+
+
+@dataclass(frozen=True)
+class Taken:
+    """A block that the import takes, with its wanted replicas and the listed ones."""
+
+    block: Block
+    wanted: int
+    replicas: list[Replica]
+    corrupt: list[Replica]
+
+
+def wanted(block: Block, file: File, version: Version) -> int:
+    """The file's replication where the text prints it, else the live replicas and at least 1."""
+    prints_target = any(
+        is_under_replicated(it, file, version) for it in file.blocks if it.is_complete
+    )
+    if version >= (3, 0) or prints_target:
+        return file.replication
+    return max(1, live(block))
+
+
+def is_unclear(block: Block, file: File, call: Fsck) -> bool:
+    """Whether more replicas are listed than are live, and no mark says which ones are not."""
+    if call.details or is_corrupt(block, file, call.version):
+        return False
+    return len(places(block, file, call.version)) > live(block)
+
+
+def is_skipped(file: File, call: Fsck, options: Import) -> bool:
+    is_kind = {
+        SKIP_ERASURE_CODED: bool(file.policy),
+        SKIP_REPLICATION: not file.policy
+        and any(wanted(it, file, call.version) > MOST_REPLICAS for it in file.blocks),
+        SKIP_OPEN: file.is_open,
+        SKIP_SNAPSHOTS: "/.snapshot/" in file.path,
+    }
+    return any(is_kind[word] for word in options.skip)
+
+
+def refuse_kind(file: File) -> None:
+    """Refuses a kind of file that the tool has no lines for: it has to be skipped by name."""
+    if file.policy:
+        raise Refused(f"{file.path} is erasure coded")
+    if file.is_open:
+        raise Refused(f"{file.path} is open")
+
+
+def taken_block(block: Block, file: File, call: Fsck) -> Taken:
+    listed = places(block, file, call.version)
+    all_are = is_corrupt(block, file, call.version)
+    bad = [
+        replica
+        for replica in listed
+        if all_are or (call.details and mark_of(replica, call) == CORRUPT)
+    ]
+    return Taken(block, wanted(block, file, call.version), listed, bad)
+
+
+def taken_blocks(cluster: Cluster, call: Fsck, options: Import) -> list[Taken]:
+    """The blocks in the order of the text. Skipped files and omitted blocks leave no trace."""
+    found: list[Taken] = []
+    numbers: set[int] = set()
+    for file in shown_files(cluster, call):
+        if is_skipped(file, call, options):
+            continue
+        refuse_kind(file)
+        for block in file.blocks:
+            if block.number in numbers:
+                raise Refused(f"block {block.number} was named before")
+            if wanted(block, file, call.version) > MOST_REPLICAS:
+                raise Refused(f"{file.path} wants more than {MOST_REPLICAS} replicas")
+            numbers.add(block.number)
+            if options.unclear == "good" or not is_unclear(block, file, call):
+                found.append(taken_block(block, file, call))
+    return found
+
+
+class Numbering:
+    """Racks, nodes and storages with their numbers from 1, in dictionaries by their names."""
+
+    def __init__(self, cluster: Cluster, call: Fsck, options: Import):
+        self.with_racks = call.racks
+        self.knows_racks = call.racks or options.nodes
+        self.racks: dict[str, int] = {}
+        self.nodes: dict[str, tuple[int, Node]] = {}
+        self.storages: dict[str, tuple[int, Node]] = {}
+        self.blocks = taken_blocks(cluster, call, options)
+        alive = [node for node in cluster.nodes if node.is_alive] if options.nodes else []
+        for node in alive:
+            self.add_node(node)
+        for replica in (replica for it in self.blocks for replica in it.replicas):
+            self.add_place(replica, options)
+        for node in alive:
+            if not self.storages_of(node):
+                self.storages[node.address] = (len(self.storages) + 1, node)
+
+    def rack(self, node: Node) -> str:
+        return node.rack if self.knows_racks else DEFAULT_RACK
+
+    def storage_name(self, replica: Replica) -> str:
+        storage = replica.storage
+        return storage.node.address if self.with_racks else storage.name
+
+    def storage(self, replica: Replica) -> int:
+        return self.storages[self.storage_name(replica)][0]
+
+    def storages_of(self, node: Node) -> list[int]:
+        return [number for number, on in self.storages.values() if on.address == node.address]
+
+    def add_node(self, node: Node) -> None:
+        self.racks.setdefault(self.rack(node), len(self.racks) + 1)
+        self.nodes.setdefault(node.address, (len(self.nodes) + 1, node))
+
+    def add_place(self, replica: Replica, options: Import) -> None:
+        node = replica.storage.node
+        if options.nodes and node.address not in self.nodes:
+            raise Refused(f"the text of the nodes has no live node {node.address}")
+        self.add_node(node)
+        name = self.storage_name(replica)
+        self.storages.setdefault(name, (len(self.storages) + 1, node))
+
+
+def line(**fields: object) -> str:
+    return json.dumps(fields, separators=(",", ":"))
+
+
+def node_lines(numbering: Numbering, options: Import) -> list[str]:
+    lines = []
+    for number, node in numbering.nodes.values():
+        rack = numbering.racks[numbering.rack(node)]
+        storages = numbering.storages_of(node)
+        lines.append(line(op="register", node=number, rack=rack, storages=storages))
+    for number, node in numbering.nodes.values():
+        storages = numbering.storages_of(node)
+        free = node.free // len(storages) if options.nodes else options.remaining
+        lines.append(line(op="heartbeat", node=number, remaining=[[it, free] for it in storages]))
+    return lines
+
+
+def report_lines(numbering: Numbering) -> list[str]:
+    """A report of each storage, followed by the replicas past the limit of a report."""
+    held: dict[int, list[Block]] = {number: [] for number, _ in numbering.storages.values()}
+    for taken in numbering.blocks:
+        for replica in taken.replicas:
+            held[numbering.storage(replica)].append(taken.block)
+    lines = []
+    for number, blocks in held.items():
+        items = [[block.number, block.stamp, block.length] for block in blocks]
+        lines.append(line(op="report", storage=number, blocks=items[:REPORT_LIMIT]))
+        for block, stamp, length in items[REPORT_LIMIT:]:
+            lines.append(line(op="received", storage=number, id=block, gen=stamp, len=length))
+    return lines
+
+
+def drain_lines(numbering: Numbering, call: Fsck, options: Import) -> list[str]:
+    """The nodes that drain: by the marks of their places, or by the text of the nodes."""
+    knows_state = call.details or options.nodes
+    return [
+        line(op="drain", node=number)
+        for number, node in numbering.nodes.values()
+        if knows_state and node.admin in DRAINING
+    ]
+
+
+def expected(cluster: Cluster, call: Fsck, options: Import = Import()) -> list[str]:
+    """The lines that the import has to write, or `Refused` is raised."""
+    numbering = Numbering(cluster, call, options)
+    lines = node_lines(numbering, options)
+    for it in numbering.blocks:
+        block = it.block
+        lines.append(
+            line(op="add", id=block.number, gen=block.stamp, len=block.length, repl=it.wanted)
+        )
+    lines += report_lines(numbering)
+    for it in numbering.blocks:
+        for replica in it.corrupt:
+            storage = numbering.storage(replica)
+            lines.append(line(op="corrupt", storage=storage, id=it.block.number))
+    return lines + drain_lines(numbering, call, options)
+
+
+def names(cluster: Cluster, call: Fsck, options: Import = Import()) -> list[str]:
+    """The table of names that the import has to write."""
+    numbering = Numbering(cluster, call, options)
+    lines = []
+    for number, node in numbering.nodes.values():
+        rack = numbering.rack(node)
+        lines.append(f"# node {number} {node.address} rack {numbering.racks[rack]} {rack}")
+    for name, (number, node) in numbering.storages.items():
+        on = numbering.nodes[node.address][0]
+        lines.append(f"# storage {number} {name} node {on} {node.address}")
+    return lines
