@@ -71,7 +71,7 @@ def wanted(block: Block, file: File, version: Version) -> int:
 
 def is_unclear(block: Block, file: File, call: Fsck) -> bool:
     """Whether more replicas are listed than are live, and no mark says which ones are not."""
-    if call.details or is_corrupt(block, file, call.version):
+    if call.details:
         return False
     return len(places(block, file, call.version)) > live(block)
 
@@ -101,7 +101,7 @@ def taken_block(block: Block, file: File, call: Fsck) -> Taken:
     bad = [
         replica
         for replica in listed
-        if all_are or (call.details and mark_of(replica, call) == CORRUPT)
+        if call.details and (all_are or mark_of(replica, call) == CORRUPT)
     ]
     return Taken(block, wanted(block, file, call.version), listed, bad)
 

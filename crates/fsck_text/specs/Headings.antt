@@ -1,5 +1,5 @@
 -- The heading of a file.
-use Rattle.std.specs.Prelude.{ℕ, ◌==◌, Bool, true, false, not, Option, Some, None, option_map, option_and_then, unwrap_or, Result, Ok, Err, if◌then◌else◌, codes}
+use Rattle.std.specs.Prelude.{ℕ, ◌==◌, ◌||◌, Bool, [], is_some, true, false, not, Option, Some, None, option_map, option_and_then, unwrap_or, Result, Ok, Err, if◌then◌else◌, codes}
 use Rattle.std.specs.List.{list_any, slice_split}
 use Rattle.std.specs.Option.{option_map_or, option_or}
 use Rattle.std.specs.Str.{bytes_eq}
@@ -109,9 +109,21 @@ heading_by front begun target =
       target = option_or begun.replication target;
     })
 
+-- a heading may end with nothing, with OK, or with the first problem of the file
+abbrev pub is_ending : Text → Bool
+is_ending text =
+    bytes_eq text [] || bytes_eq text (codes " ") || bytes_eq text (codes "  OK")
+    || is_some (after_prefix (codes "  Under replicated ") text)
+    || is_some (after_prefix (codes "  Replica placement policy is violated for ") text)
+
+abbrev pub ended_by : Text → Begun → Result Heading Wrong
+ended_by front b =
+    if is_ending b.problem then after_ok (heading_by front b) (problem_target b.problem)
+    else Err (wrong reason.NotAHeading b.problem)
+
 abbrev pub heading_with : Text → Text → Text → Result Heading Wrong
 heading_with front last after =
-    after_ok (λ b. after_ok (heading_by front b) (problem_target b.problem)) (begun_of front last after)
+    after_ok (ended_by front) (begun_of front last after)
 
 -- the heading of a file, by its text before the first colon and after it
 abbrev pub heading_of : Text → Text → Result Heading Wrong

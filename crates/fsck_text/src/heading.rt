@@ -1,6 +1,6 @@
 // The heading of a file.
 ghost use Rattle.std.specs.Prelude.{◌≡◌, option_map};
-ghost use Rattle.fsck_text.specs.Headings.{after_key, counted, replicated, coded, old, old_open, begun_of, target_of, problem_target, is_in_snapshot, heading_of, differ};
+ghost use Rattle.fsck_text.specs.Headings.{after_key, counted, replicated, coded, old, old_open, begun_of, target_of, problem_target, is_ending, is_in_snapshot, heading_of, differ};
 
 use crate::cuts::{after_first, after_prefix, cut_at, last_cut_at, small_number_of, word_and_rest};
 use crate::wrong::{Piece, Reason, Wrong};
@@ -47,6 +47,9 @@ pub fn heading_of<'a>(before: &'a str, after: &'a str) -> Result<Heading, Wrong<
     };
     let begun = begun_of(front, last, after)?;
     let problem = begun.problem.text();
+    if !is_ending(problem) {
+        return Err(Wrong::new(Reason::NotAHeading, problem));
+    }
     let target = problem_target(problem)?;
     if differ(begun.replication, target) {
         return Err(Wrong::new(Reason::TwoTargets, problem));
@@ -58,6 +61,15 @@ pub fn heading_of<'a>(before: &'a str, after: &'a str) -> Result<Heading, Wrong<
         blocks: begun.blocks,
         target: begun.replication.or(target),
     })
+}
+
+/// Whether a heading may end so: with nothing, with `OK`, or with the first problem of the file.
+fn is_ending(text: &str) -> bool
+    ensures { result ≡ is_ending text.now }
+{
+    matches!(text, "" | " " | "  OK")
+        || after_prefix(text, "  Under replicated ").is_some()
+        || after_prefix(text, "  Replica placement policy is violated for ").is_some()
 }
 
 /// Whether a path has the component by which HDFS names snapshots.
