@@ -1,4 +1,5 @@
-"""Says which lines `./puljemrod import` has to write of a text of fsck, and which table of names.
+"""Says which lines `./puljemrod import` has to write of a text of fsck, which table of names, and
+what it has to say at its end.
 
 All is computed from the cluster and from what its text shows, and never from the text itself.
 """
@@ -10,6 +11,9 @@ from fsck_cluster import (
     CORRUPT,
     DEFAULT_RACK,
     DRAINING,
+    ENTERING,
+    IN_MAINTENANCE,
+    LIVE,
     Block,
     Cluster,
     File,
@@ -240,3 +244,48 @@ def names(cluster: Cluster, call: Fsck, options: Import = Import()) -> list[str]
         on = numbering.nodes[node.address][0]
         lines.append(f"# storage {number} {name} node {on} {node.address}")
     return lines
+
+
+def kind_of(file: File) -> str:
+    """What is said of a file that is left out: the first kind that it has."""
+    if file.policy:
+        return "erasure coded files left out"
+    if file.is_open:
+        return "files that are being written left out"
+    if "/.snapshot/" in file.path:
+        return "files in snapshots left out"
+    return "files with more than 16 replicas left out"
+
+
+# The kinds of files that are left out, in the order in which the import says their numbers.
+KINDS = (
+    "erasure coded files left out",
+    "files with more than 16 replicas left out",
+    "files that are being written left out",
+    "files in snapshots left out",
+)
+
+UNCLEAR = "blocks with more places than live replicas "
+
+
+def notes(cluster: Cluster, call: Fsck, options: Import = Import()) -> list[str]:
+    """What the import has to say at its end: a number and what it counts, for each that is not 0."""
+    files = shown_files(cluster, call)
+    skipped = [kind_of(file) for file in files if is_skipped(file, call, options)]
+    counts = [(skipped.count(kind), kind) for kind in KINDS]
+    unclear = sum(
+        is_unclear(block, file, call)
+        for file in files
+        if not is_skipped(file, call, options)
+        for block in file.blocks
+    )
+    is_good = options.unclear == "good"
+    counts.append((unclear, UNCLEAR + ("taken with each place as good" if is_good else "left out")))
+    marks = [
+        mark_of(replica, call) if call.details else LIVE
+        for taken in taken_blocks(cluster, call, options)
+        for replica in taken.replicas
+    ]
+    maintained = marks.count(ENTERING) + marks.count(IN_MAINTENANCE)
+    counts.append((maintained, "replicas on nodes in maintenance taken as live"))
+    return [f"{count} {what}" for count, what in counts if count]
