@@ -285,6 +285,7 @@ def notes(cluster: Cluster, call: Fsck, options: Import = Import()) -> list[str]
         mark_of(replica, call) if call.details else LIVE
         for taken in taken_blocks(cluster, call, options)
         for replica in taken.replicas
+        if replica not in taken.corrupt
     ]
     maintained = marks.count(ENTERING) + marks.count(IN_MAINTENANCE)
     counts.append((maintained, "replicas on nodes in maintenance taken as live"))
