@@ -29,6 +29,9 @@ from fsck_cluster import (
     shown_files,
 )
 
+# The marks of replicas that fsck counts as live.
+LIVE_MARKS = (LIVE, "STALE_NODE", "STALE_BLOCK_CONTENT")
+
 # The largest number of replicas in a `report` line, and the largest replication of the tool.
 REPORT_LIMIT = 65_536
 MOST_REPLICAS = 16
@@ -73,30 +76,38 @@ def wanted(block: Block, file: File, version: Version) -> int:
     return max(1, live(block))
 
 
+def claims_live(replica: Replica, call: Fsck) -> bool:
+    """Whether the text may count the replica as live: by its mark, or because it has none."""
+    return not call.details or mark_of(replica, call) in LIVE_MARKS
+
+
 def is_unclear(block: Block, file: File, call: Fsck) -> bool:
-    """Whether more replicas are listed than are live, and no mark says which ones are not."""
-    if call.details:
-        return False
-    return len(places(block, file, call.version)) > live(block)
+    """Whether more replicas claim to be live than are. Without -maintenance, -replicaDetails marks
+    a replica in maintenance as live, and fsck does not count it."""
+    listed = places(block, file, call.version)
+    return sum(claims_live(replica, call) for replica in listed) > live(block)
+
+
+def kind_of(file: File, call: Fsck) -> str:
+    """The first kind that the file has of those that the tool has no lines for, or no word."""
+    if file.policy:
+        return SKIP_ERASURE_CODED
+    if file.is_open:
+        return SKIP_OPEN
+    if "/.snapshot/" in file.path:
+        return SKIP_SNAPSHOTS
+    numbers = [wanted(block, file, call.version) for block in file.blocks]
+    if call.version >= (3, 0):
+        numbers.append(file.replication)
+    return SKIP_REPLICATION if max(numbers, default=0) > MOST_REPLICAS else ""
 
 
 def is_skipped(file: File, call: Fsck, options: Import) -> bool:
-    is_kind = {
-        SKIP_ERASURE_CODED: bool(file.policy),
-        SKIP_REPLICATION: not file.policy
-        and any(wanted(it, file, call.version) > MOST_REPLICAS for it in file.blocks),
-        SKIP_OPEN: file.is_open,
-        SKIP_SNAPSHOTS: "/.snapshot/" in file.path,
-    }
-    return any(is_kind[word] for word in options.skip)
-
-
-def refuse_kind(file: File) -> None:
-    """Refuses a kind of file that the tool has no lines for: it has to be skipped by name."""
-    if file.policy:
-        raise Refused(f"{file.path} is erasure coded")
-    if file.is_open:
-        raise Refused(f"{file.path} is open")
+    """Whether the file is left out; refuses it if its kind is not to be left out."""
+    kind = kind_of(file, call)
+    if kind and kind not in options.skip:
+        raise Refused(f"{file.path} is of the kind {kind}")
+    return bool(kind)
 
 
 def taken_block(block: Block, file: File, call: Fsck) -> Taken:
@@ -117,12 +128,9 @@ def taken_blocks(cluster: Cluster, call: Fsck, options: Import) -> list[Taken]:
     for file in shown_files(cluster, call):
         if is_skipped(file, call, options):
             continue
-        refuse_kind(file)
         for block in file.blocks:
             if block.number in numbers:
                 raise Refused(f"block {block.number} was named before")
-            if wanted(block, file, call.version) > MOST_REPLICAS:
-                raise Refused(f"{file.path} wants more than {MOST_REPLICAS} replicas")
             numbers.add(block.number)
             if options.unclear == "good" or not is_unclear(block, file, call):
                 found.append(taken_block(block, file, call))
@@ -246,24 +254,13 @@ def names(cluster: Cluster, call: Fsck, options: Import = Import()) -> list[str]
     return lines
 
 
-def kind_of(file: File) -> str:
-    """What is said of a file that is left out: the first kind that it has."""
-    if file.policy:
-        return "erasure coded files left out"
-    if file.is_open:
-        return "files that are being written left out"
-    if "/.snapshot/" in file.path:
-        return "files in snapshots left out"
-    return "files with more than 16 replicas left out"
-
-
-# The kinds of files that are left out, in the order in which the import says their numbers.
-KINDS = (
-    "erasure coded files left out",
-    "files with more than 16 replicas left out",
-    "files that are being written left out",
-    "files in snapshots left out",
-)
+# What the import says of each kind of file that is left out, in this order.
+KIND_NOTES = {
+    SKIP_ERASURE_CODED: "erasure coded files left out",
+    SKIP_REPLICATION: "files with more than 16 replicas left out",
+    SKIP_OPEN: "files that are being written left out",
+    SKIP_SNAPSHOTS: "files in snapshots left out",
+}
 
 UNCLEAR = "blocks with more places than live replicas "
 
@@ -271,8 +268,8 @@ UNCLEAR = "blocks with more places than live replicas "
 def notes(cluster: Cluster, call: Fsck, options: Import = Import()) -> list[str]:
     """What the import has to say at its end: a number and what it counts, for each that is not 0."""
     files = shown_files(cluster, call)
-    skipped = [kind_of(file) for file in files if is_skipped(file, call, options)]
-    counts = [(skipped.count(kind), kind) for kind in KINDS]
+    skipped = [kind_of(file, call) for file in files if is_skipped(file, call, options)]
+    counts = [(skipped.count(kind), note) for kind, note in KIND_NOTES.items()]
     unclear = sum(
         is_unclear(block, file, call)
         for file in files
