@@ -266,7 +266,7 @@ UNCLEAR = "blocks with more places than live replicas "
 
 
 def notes(cluster: Cluster, call: Fsck, options: Import = Import()) -> list[str]:
-    """What the import has to say at its end: a number and what it counts, for each that is not 0."""
+    """What the import has to say at its end: a number and what it counts, if it is not 0."""
     files = shown_files(cluster, call)
     skipped = [kind_of(file, call) for file in files if is_skipped(file, call, options)]
     counts = [(skipped.count(kind), note) for kind, note in KIND_NOTES.items()]
