@@ -196,7 +196,7 @@ without_block (Err r) = Err r
 abbrev pub emitted : Files → BlockLine → ℕ → List Listed → Taken
 emitted s b repl listed =
     Ok (
-      record s { maintained = plus s.maintained (maintained listed) },
+      record s { maintained = plus s.maintained (maintained (has_number s.corrupt b.id) listed) },
       Some (record { id = b.id; stamp = b.stamp; wanted = repl; is_corrupt = has_number s.corrupt b.id; replicas = listed }),
     )
 

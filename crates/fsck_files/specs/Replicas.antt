@@ -36,6 +36,6 @@ is_maintained _ = false
 abbrev pub claims : List Listed → ℕ
 claims listed = count_by (λ one. claims_live one.mark) listed
 
--- how many replicas are on nodes in maintenance
-abbrev pub maintained : List Listed → ℕ
-maintained listed = count_by (λ one. is_maintained one.mark) listed
+-- how many replicas on nodes in maintenance count as good: none of a corrupt block
+abbrev pub maintained : Bool → List Listed → ℕ
+maintained is_corrupt listed = if is_corrupt then 0 else count_by (λ one. is_maintained one.mark) listed

@@ -450,12 +450,14 @@ impl Files {
     fn emit<'a>(&mut self, block: BlockLine<'a>, repl: u32, listed: Items<Listed<'a>>) -> Block<'a>
         ensures { emitted self.old block.entry repl listed.entry ≡ Ok (self.new, Some result) }
     {
-        self.maintained = plus(self.maintained, maintained(listed.as_slice()) as u64);
+        let is_corrupt = self.corrupt.has(block.id.0);
+        let maintained = maintained(is_corrupt, listed.as_slice());
+        self.maintained = plus(self.maintained, maintained as u64);
         Block {
             id: block.id,
             stamp: block.stamp,
             wanted: repl,
-            is_corrupt: self.corrupt.has(block.id.0),
+            is_corrupt,
             replicas: listed,
         }
     }

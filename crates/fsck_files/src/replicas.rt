@@ -70,9 +70,12 @@ pub fn claims(listed: &[Listed]) -> usize
     listed.iter().filter(|one| claims_live(one.mark)).count()
 }
 
-/// How many replicas are on nodes in maintenance.
-pub fn maintained(listed: &[Listed]) -> usize
-    ensures { result ≡ maintained listed.now }
+/// How many replicas on nodes in maintenance count as good: none of a corrupt block.
+pub fn maintained(is_corrupt: bool, listed: &[Listed]) -> usize
+    ensures { result ≡ maintained is_corrupt listed.now }
 {
+    if is_corrupt {
+        return 0;
+    }
     listed.iter().filter(|one| is_maintained(one.mark)).count()
 }

@@ -1,5 +1,5 @@
 -- A whole run.
-use Rattle.std.proofs.Common.{◌≡◌, ℕ, List, [], ◌∷◌, ◌++◌, Option, Some, None, IfSome, Result, Ok, Err, refl, sym, ap, subst, ◌∙◌}
+use Rattle.std.proofs.Common.{◌≡◌, ℕ, Option, Some, None, IfSome, Ok}
 use Rattle.fsck_text.specs.Cuts.{Text}
 use Rattle.std.specs.Io.KnownBytes.{Appends}
 use Rattle.fsck_import.specs.CallsFor.{calls_for}

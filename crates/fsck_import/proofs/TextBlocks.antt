@@ -1,5 +1,5 @@
 -- The blocks of a text, and what the calls for its cluster tell of them.
-use Rattle.std.proofs.Common.{◌≡◌, ℕ, ◌+◌, List, [], ◌∷◌, ◌++◌, Option, Some, None, IfSome, map, Result, Ok, Err, if◌then◌else◌, refl, sym, ap, subst, ◌∙◌}
+use Rattle.std.proofs.Common.{◌≡◌, ℕ, ◌+◌, List, [], ◌∷◌, Option, Some, None, IfSome, map, Result, Ok, Err, sym, ap, subst, ◌∙◌}
 use Rattle.std.specs.Str.{is_utf8}
 use Rattle.bm_lines.specs.Lines.{lines_of}
 use Rattle.fsck_text.specs.Cuts.{Text}
@@ -23,7 +23,6 @@ use Rattle.fsck_import.specs.Starts.{after_node_lines}
 use Rattle.fsck_import.specs.Writing.{Tells}
 use Rattle.fsck_import.specs.declared.fault.Cause.{Cause}
 use Rattle.fsck_import.specs.declared.fault.Cause.TheVariants as cause
-use Rattle.fsck_import.specs.declared.fault.Unread.{Unread}
 use Rattle.fsck_import.specs.declared.reading.Reading.{Reading}
 use Rattle.fsck_import.proofs.NameLemmas.{came_of, err_is_not_ok, if_ok, same_ok}
 use Rattle.fsck_import.proofs.StartLemmas.{nodes_fresh}

@@ -2,7 +2,6 @@
 -- and when they are refused is said by the definitions of the crate that reads them, clap: `matches_of` and `fault_of`.
 use Rattle.std.specs.Prelude.{ℕ, ◌==◌, ◌&&◌, ◌||◌, Bool, not, List, [], ◌∷◌, Option, Some, None, unwrap_or, option_and_then, option_map, codes, if◌then◌else◌}
 use Rattle.std.specs.List.{list_any, list_all, slice_split}
-use Rattle.std.specs.Option.{option_map_or}
 use Rattle.std.specs.Str.{bytes_eq}
 use Rattle.clap.specs.Walk.{Rule, first_of}
 use Rattle.clap.specs.Simple.{App, matches_of, new_rule, new_shape}

@@ -1,5 +1,5 @@
 -- What a whole text says of a cluster.
-use Rattle.std.specs.Prelude.{◌≡◌, ⊤, ℕ, List, [], Option, Some, None, IfSome, Result, Ok, Err, if◌then◌else◌}
+use Rattle.std.specs.Prelude.{◌≡◌, ⊤, ℕ, [], Option, Some, None, IfSome, Result, Ok, Err, if◌then◌else◌}
 use Rattle.fsck_text.specs.Cuts.{Text}
 use Rattle.fsck_text.specs.Wrongs.{after_ok}
 use Rattle.fsck_files.specs.Files as files

@@ -153,8 +153,16 @@ fn say_notes<R: Eprint>(rt: &R, asked: &Asked<'_>, notes: &Notes) {
 
 fn say_left_out<R: Eprint>(rt: &R, left_out: &LeftOut) {
     say_count(rt, left_out.erasure_coded, "erasure coded files left out");
-    say_count(rt, left_out.over_replicated, "files with more than 16 replicas left out");
-    say_count(rt, left_out.open_files, "files that are being written left out");
+    say_count(
+        rt,
+        left_out.over_replicated,
+        "files with more than 16 replicas left out",
+    );
+    say_count(
+        rt,
+        left_out.open_files,
+        "files that are being written left out",
+    );
     say_count(rt, left_out.snapshots, "files in snapshots left out");
 }
 
@@ -182,5 +190,12 @@ fn run<R: Input + Print + AllocGlobal, N: Destination>(
         drop(start);
         return Err(Fault::Memory);
     };
-    import(alloc, start, values.remaining, &mut reader, &mut writer, names)
+    import(
+        alloc,
+        start,
+        values.remaining,
+        &mut reader,
+        &mut writer,
+        names,
+    )
 }

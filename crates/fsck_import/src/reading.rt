@@ -109,11 +109,7 @@ pub fn read_cluster<R: BufRead>(
 }
 
 /// Takes a whole text of fsck.
-fn take_whole<R: BufRead>(
-    alloc: Global,
-    reader: &mut R,
-    reading: &mut Reading,
-) -> Result<(), Fault>
+fn take_whole<R: BufRead>(alloc: Global, reader: &mut R, reading: &mut Reading) -> Result<(), Fault>
     ensures text { OnOk result (IfSome (R.remaining reader.old)
         (λ text. reading_of reading.old text ≡ Ok reading.new)) }
     ensures refused { IfErr result (λ f. IsFaultOfReading reading.old f (R.remaining reader.old)) }

@@ -1,7 +1,7 @@
 use Rattle.std.proofs.Common.{◌∙◌, ap, sym, subst, codes, map, string_bytes}
 use Rattle.std.proofs.lemmas.Result.{err_from_is_err_and}
 use Rattle.clap.specs.Kinds.{HasKind, Kinds}
-use Rattle.fsck_import.specs.Options.{value_kinds, values_of}
+use Rattle.fsck_import.specs.Options.{value_kinds}
 use Rattle.fsck_import.proofs.OptionLemmas.{found, refused, taken, values_found, wrong_value}
 use Rattle.fsck_import.proofs.options.asked_by.Goals as goal
 
