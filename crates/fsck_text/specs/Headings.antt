@@ -115,6 +115,7 @@ is_ending text =
     bytes_eq text [] || bytes_eq text (codes " ") || bytes_eq text (codes "  OK")
     || is_some (after_prefix (codes "  Under replicated ") text)
     || is_some (after_prefix (codes "  Replica placement policy is violated for ") text)
+    || is_some (after_prefix (codes "  MISSING ") text)
 
 abbrev pub ended_by : Text → Begun → Result Heading Wrong
 ended_by front b =

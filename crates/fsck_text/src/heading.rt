@@ -70,6 +70,7 @@ fn is_ending(text: &str) -> bool
     matches!(text, "" | " " | "  OK")
         || after_prefix(text, "  Under replicated ").is_some()
         || after_prefix(text, "  Replica placement policy is violated for ").is_some()
+        || after_prefix(text, "  MISSING ").is_some()
 }
 
 /// Whether a path has the component by which HDFS names snapshots.
