@@ -8,6 +8,8 @@ pub mod Reporting
 -- for last_entry_decides, received_is_there, received_leaves_bad_bad, received_leaves_other_nodes, report_leaves_bad_bad,
 --   report_leaves_other_nodes, report_tells_all, second_report_changes_nothing
 pub mod ReportLaws
+-- for report_in_parts
+pub mod ReportParts
 -- for dead_node_leaves, failed_storage_leaves, heartbeat_leaves_others, last_heartbeat_counts, registered_node_is_there
 pub mod NodeChanges
 -- for added_block_is_known, corrupt_replica_is_bad, deleted_block_is_stray, deleted_replica_is_gone, event_leaves_other_blocks,

@@ -1,5 +1,5 @@
 -- What a full report and a received replica leave.
-use Rattle.std.specs.Prelude.{◌≡◌, ◌≢◌, ℕ, ◌≤◌, false, IsTrue, IsSome, List, ◌∷◌, ◌++◌, map, Some, None}
+use Rattle.std.specs.Prelude.{◌≡◌, ◌≢◌, ℕ, ◌+◌, ◌≤◌, false, IsTrue, IsSome, List, [], ◌∷◌, ◌++◌, map, length, Some, None}
 use Rattle.bm_base.specs.declared.replica.ReplicaId.{ReplicaId}
 use Rattle.bm_base.specs.declared.replica.Tag.TheVariants.{Good, Stale, Bad, Stray}
 use Rattle.bm_base.specs.declared.replica.Marks.{Marks}
@@ -61,6 +61,21 @@ second_report_changes_nothing =
     (M : State) (s : ℕ) (es : List Entry)
     → (held_after (after_event M (FullReport s es)) (FullReport s es) ≡ held_after M (FullReport s es))
     × (done_by (after_event M (FullReport s es)) (FullReport s es) ≡ record { added = 0; removed = 0 })
+
+-- the state after a received notice for each of these replicas on storage s, one after another,
+-- where none is refused
+abbrev pub after_each_received : State → ℕ → List Told → State
+after_each_received M s [] = M
+after_each_received M s (t ∷ ts) = after_each_received (after_event M (Received s t.id t.stamp)) s ts
+
+-- A full report of some entries, followed by a received notice for each number of the others, leaves
+-- the same state as one full report of all entries. Only the number of calls differs, since each
+-- notice is a call. The condition is that the storage holds no replica that the other entries name.
+-- A number may be named twice: the last stamp counts.
+abbrev pub report_in_parts : Type 0
+report_in_parts =
+    (M : State) (s : ℕ) (front behind : List Entry) → ((b : ℕ) → IsTrue (has (numbers_of behind) b) → get M.holdings.replicas (replica_at b s) ≡ None)
+    → after_each_received (after_event M (FullReport s front)) s (expanded behind) ≡ record (after_event M (FullReport s (front ++ behind))) { calls = M.calls + 1 + length (expanded behind) }
 
 -- two storages that are not of one node
 abbrev pub AreApart : Cluster → ℕ → ℕ → Type 0

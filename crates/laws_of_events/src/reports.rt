@@ -25,6 +25,13 @@ pub fn second_report_changes_nothing()
     ensures { law.second_report_changes_nothing }
 {}
 
+/// A full report of some entries, followed by a received notice for each number of the others,
+/// leaves the same state as one full report of all entries, but for the number of calls. The
+/// condition is that the storage holds no replica that the other entries name.
+pub fn report_in_parts()
+    ensures { law.report_in_parts }
+{}
+
 /// A full report leaves the replicas on the storages of other nodes as they were, marks included.
 pub fn report_leaves_other_nodes()
     ensures { law.report_leaves_other_nodes }
