@@ -215,12 +215,17 @@ def report_lines(numbering: Numbering) -> list[str]:
 
 
 def drain_lines(numbering: Numbering, call: Fsck, options: Import) -> list[str]:
-    """The nodes that drain: by the marks of their places, or by the text of the nodes."""
-    knows_state = call.details or options.nodes
+    """The nodes that drain: by the text of the nodes, or by the mark of a replica that is not corrupt."""
+    marked = {
+        replica.storage.node.address
+        for it in numbering.blocks
+        for replica in it.replicas
+        if call.details and replica not in it.corrupt
+    }
     return [
         line(op="drain", node=number)
         for number, node in numbering.nodes.values()
-        if knows_state and node.admin in DRAINING
+        if node.admin in DRAINING and (options.nodes or node.address in marked)
     ]
 
 
