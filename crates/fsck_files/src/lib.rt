@@ -1,7 +1,7 @@
 //! The files of a text of `hdfs fsck`: which of its blocks are taken, with which replicas, and which
 //! lines are refused.
 //!
-//! A line is refused where its file or its replicas cannot be told for certain, and at the end of the
+//! A line is refused if it leaves open what its file or its replicas are, and at the end of the
 //! text if the numbers of the summary are not those of what was read.
 #![tactic(auto)]
 

@@ -23,12 +23,12 @@ storages_of rows node = map (λ row. row.number) (filter (λ row. row.node == no
 abbrev pub register : List Row → NodeRow → Call
 register rows node = call.Apply (Register node.number node.rack (storages_of rows node.number))
 
--- the free bytes of a storage, of which its node has so many: those of the node parted evenly, or those of the option
+-- the free bytes of each of a node's storages: those of the node parted evenly, or those of the option
 abbrev pub free_on : ℕ → Option ℕ → ℕ → ℕ
 free_on remaining (Some bytes) storages = bytes / max 1 storages
 free_on remaining None storages = remaining
 
--- each of these storages has so many free bytes
+-- each of these storages has the same number of free bytes
 abbrev pub remaining_on : ℕ → List ℕ → List Remaining
 remaining_on bytes storages = map (λ storage. record { storage = storage; remaining = bytes }) storages
 

@@ -27,7 +27,7 @@ abbrev pub blocks_of : Files → List Text → List Block
 blocks_of f [] = []
 blocks_of f (line ∷ lines) = taken (λ g. blocks_of g lines) (files.after_line f (without_end 13 line))
 
--- what was written tells of the blocks of a text, and of nothing else
+-- what was written tells of the blocks of a text
 pub record TellsText (text : Text) (start : Reading) (remaining : ℕ) (old new : Option Text) : Type 0 where
   pub read : Reading
   pub told : reading_of start text ≡ Ok read

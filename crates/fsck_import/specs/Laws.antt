@@ -129,7 +129,7 @@ is_replica storage id r = bytes_eq storage r.storage && nat_eq id r.told.id
 abbrev pub EachOnce : List Replica → Type 0
 EachOnce replicas = (storage : Text) (id : ℕ) → count_by (is_replica storage id) replicas ≤ 1
 
--- the calls for a cluster tell of these blocks, and of nothing else
+-- the calls for a cluster tell of these blocks
 pub record TellsBlocks (blocks : List Block) (c : Cluster) (remaining : ℕ) : Type 0 where
   -- each is added, and once
   pub added : numbers_added (calls_for c remaining) ≡ ids blocks

@@ -41,12 +41,12 @@ module _ {T : Type 0} (after : T → Text → Result T Cause) where
 
 -- a line that is refused is the first such; a read may fail, and memory may be refused
 abbrev pub IsReadFault : {A : Type 0} → Fault → Result A Unread → Type 0
-IsReadFault (fault.Refused unread) told = told ≡ Err unread
-IsReadFault fault.Memory told = ⊤
-IsReadFault fault.Read told = ⊤
-IsReadFault fault.Write told = ⊥
-IsReadFault fault.Table told = ⊥
-IsReadFault fault.LongReport told = ⊥
+IsReadFault (fault.Refused unread) outcome = outcome ≡ Err unread
+IsReadFault fault.Memory outcome = ⊤
+IsReadFault fault.Read outcome = ⊤
+IsReadFault fault.Write outcome = ⊥
+IsReadFault fault.Table outcome = ⊥
+IsReadFault fault.LongReport outcome = ⊥
 
 -- a fault of reading a text, if it is known
 abbrev pub IsFaultOfText : {T : Type 0} → (T → Text → Result T Cause) → T → Fault → Option Text → Type 0

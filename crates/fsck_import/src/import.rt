@@ -29,9 +29,9 @@ pub struct Notes {
     pub lines: u64,
 }
 
-/// Reads a whole text of fsck, and then writes a table of names, and the lines that tell of its cluster,
-/// with so many free bytes on each storage whose node's are not known. Nothing is written before all of
-/// the text was read, and no line before the whole table.
+/// Reads a whole text of fsck, and then writes a table of names and the lines for its cluster.
+/// `remaining` is the number of free bytes on each storage whose node's are not known. Nothing is
+/// written before all of the text was read, and no line before the whole table.
 #[tactic(auto, using(crate::proofs::ImportLemmas::output_refuses, crate::proofs::ImportLemmas::output_writes, crate::proofs::ImportLemmas::whole_text, crate::proofs::ImportLemmas::whole_names))]
 pub fn import<R: BufRead, W: Write, N: Destination>(
     alloc: Global,

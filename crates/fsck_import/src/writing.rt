@@ -16,8 +16,8 @@ use fsck_cluster::{Cluster, Held, NodeRow, Row};
 use std::alloc::{AllocError, Global};
 use std::io::Write;
 
-/// Writes the line of each call for a cluster, with so many free bytes on each storage whose node's are
-/// not known, and flushes.
+/// Writes the line of each call for a cluster, and flushes. `remaining` is the number of free bytes on
+/// each storage whose node's are not known.
 pub fn write_flushed<W: Write>(
     alloc: Global,
     writer: &mut W,
@@ -136,7 +136,7 @@ fn heartbeat(
     }))
 }
 
-/// The free bytes of a storage, of which its node has so many.
+/// The free bytes of each of a node's storages.
 fn free_on(remaining: u64, of_node: Option<u64>, storages: usize) -> u64
     ensures { result ≡ free_on remaining of_node storages }
 {
@@ -146,7 +146,7 @@ fn free_on(remaining: u64, of_node: Option<u64>, storages: usize) -> u64
     }
 }
 
-/// Each of these storages has so many free bytes.
+/// Each of these storages has `remaining` free bytes.
 fn remaining_on(
     alloc: Global,
     storages: &[StorageId],
