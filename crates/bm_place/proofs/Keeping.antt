@@ -1,10 +1,12 @@
 -- What is true of a table of storages and its foremost targets, when it is made.
 use Rattle.std.specs.Prelude.{◌⊎◌, option_map, option_and_then}
+use Rattle.std.specs.List.Sorted.{IsPermutation}
 use Rattle.std.specs.Option.{option_map_or}
 use Rattle.std.specs.Ordering.{eq_by_cmp, nat_cmp}
 use Rattle.std.specs.FinMap.{find, is_sorted}
 use Rattle.std.specs.FinMap.Entries.{below_all}
 use Rattle.std.proofs.Common.{◌≡◌, ◌≤◌, ℕ, Bool, true, false, cond, List, [], ◌∷◌, map, Option, Some, None, is_some, refl, inl, inr, sym, ap, subst, ◌∙◌, T, arith}
+use Rattle.std.proofs.lemmas.List.Sorted.{IsPermutation-sym}
 use Rattle.std.proofs.lemmas.Option.{same_Some, cond_some, none-some}
 use Rattle.bm_base.specs.Conjunction.{first, second}
 use Rattle.bm_base.specs.Lists.{has}
@@ -17,11 +19,12 @@ use Rattle.bm_base.proofs.Maps.{each_entry, each_found, key_itself}
 use Rattle.bm_base.proofs.MapLaws.{find_below}
 use Rattle.bm_place.specs.declared.scheduled.Target.{Target}
 use Rattle.bm_place.specs.Targets.{target_at, target_table}
-use Rattle.bm_place.specs.Foremost.{IsAmong, AreForemost, IsKept, StandsFor, are_alike, with_firsts, foremost_in_order}
+use Rattle.bm_place.specs.Foremost.{IsAmong, AreForemost, IsKept, StandsFor, are_alike, with_firsts, firsts_of, AreFirstsInOrder}
 use Rattle.bm_place.proofs.Tables.{get-table, has-keys}
 use Rattle.bm_place.proofs.Alike.{IsLike, like, alike}
 use Rattle.bm_place.proofs.Covering.{AreFirst, covered}
-use Rattle.bm_place.proofs.Ordered.{AreApart, all_ordered, among_all, all_among}
+use Rattle.bm_place.proofs.Ordered.{AreApart, sorted_in_order}
+use Rattle.bm_place.proofs.Spanning.{moved_among}
 
 pub among_mapped : {X Y : Type 0} (f : X → Y) (xs : List X) (y : Y) → IsAmong (map f xs) y → (x : X) × IsAmong xs x × (f x ≡ y)
 among_mapped f [] y none = absurd none
@@ -86,13 +89,14 @@ module _ (rows : Map by_number Target) (at_storage : (s : ℕ) (t : Target) → 
       let is = each_among (λ (e : ℕ × Target). get rows e.0 ≡ Some e.1) (entries rows) h.0 (each_entry rows) h.1 in
       ap (get rows) (ap (λ (u : Target). u.storage) (sym h.2) ∙ at_storage h.0.0 h.0.1 is) ∙ is ∙ ap Some h.2
 
-  pub are_foremost : ((s : ℕ) (t : Target) → get rows s ≡ Some t → t.scheduled ≤ t.remaining) → ((t : Target) → IsAmong (rows_of rows) t → (n : ℕ) × (t.node ≡ Some n))
-      → ((s t : Target) → IsAmong (rows_of rows) s → IsAmong (rows_of rows) t → s.node ≡ t.node → are_alike s t ≡ true) → AreForemost rows (foremost_in_order (rows_of rows))
-  are_foremost within on_node alike_on = record {
+  pub are_foremost : (cs : List Target) → AreFirstsInOrder (rows_of rows) cs → ((s : ℕ) (t : Target) → get rows s ≡ Some t → t.scheduled ≤ t.remaining)
+      → ((t : Target) → IsAmong (rows_of rows) t → (n : ℕ) × (t.node ≡ Some n))
+      → ((s t : Target) → IsAmong (rows_of rows) s → IsAmong (rows_of rows) t → s.node ≡ t.node → are_alike s t ≡ true) → AreForemost rows cs
+  are_foremost cs are within on_node alike_on = record {
     known = λ c there. among_rows c (of_rows c there);
     first = λ t is. first_of t (row_among rows t.storage t is);
     within = λ c there. within c.storage c (among_rows c (of_rows c there));
-    ordered = all_ordered (rows_of firsts) [] (apart_of (entries firsts) (entries_sorted firsts) (each_then (λ e. get firsts e.0 ≡ Some e.1) (λ e. e.1.node ≡ Some e.0) (entries firsts) (each_entry firsts) (λ e is. (all.known e.0 e.1 is).1))) (λ t c there none. absurd none) tt;
+    ordered = sorted_in_order (rows_of firsts) cs (apart_of (entries firsts) (entries_sorted firsts) (each_then (λ e. get firsts e.0 ≡ Some e.1) (λ e. e.1.node ≡ Some e.0) (entries firsts) (each_entry firsts) (λ e is. (all.known e.0 e.1 is).1))) are.same are.in_order;
   }
     where
       firsts : Map by_number Target
@@ -106,16 +110,16 @@ module _ (rows : Map by_number Target) (at_storage : (s : ℕ) (t : Target) → 
           let e = among_mapped (λ (e : ℕ × Target). e.1) (entries firsts) c there in
           subst (IsAmong (rows_of rows)) e.2 (all.known e.0.0 e.0.1 (each_among (λ (e : ℕ × Target). get firsts e.0 ≡ Some e.1) (entries firsts) e.0 (each_entry firsts) e.1)).0
 
-      of_rows : (c : Target) → IsAmong (foremost_in_order (rows_of rows)) c → IsAmong (rows_of rows) c
-      of_rows c there = elim (among_all (rows_of firsts) [] c there) [ inl h ↦ of_firsts c h | inr none ↦ absurd none ]
+      of_rows : (c : Target) → IsAmong cs c → IsAmong (rows_of rows) c
+      of_rows c there = of_firsts c (moved_among cs (rows_of firsts) c (IsPermutation-sym (rows_of firsts) cs are.same) there)
 
-      first_of : (t : Target) → IsAmong (rows_of rows) t → (c : Target) × IsAmong (foremost_in_order (rows_of rows)) c × StandsFor c t
+      first_of : (t : Target) → IsAmong (rows_of rows) t → (c : Target) × IsAmong cs c × StandsFor c t
       first_of t there =
           let n = on_node t there in
           let c = all.first t n.0 there n.1 in
           let k = all.known n.0 c.0 c.1 in (
             c.0,
-            all_among (rows_of firsts) [] c.0 (inl (row_among firsts n.0 c.0 c.1)),
+            moved_among (rows_of firsts) cs c.0 are.same (row_among firsts n.0 c.0 c.1),
             record { alike = alike_on c.0 t k.0 there (k.1 ∙ sym n.1); before = c.2 },
           )
 
@@ -136,12 +140,12 @@ alike_on : (C : Cluster) (a b : ℕ) → node_of C a ≡ node_of C b → IsLike 
 unfolding rack_of is_draining
 alike_on C a b same = record { node = same; rack = ap (option_and_then (get C.nodes)) same; is_draining = ap (λ o. option_map_or (drains C) o false) same }
 
-pub kept_made : (C : Cluster) (rows : Map by_number Target) (cs : List Target) → rows ≡ target_table C (λ _. 0) → cs ≡ foremost_in_order (rows_of rows) → IsKept rows cs
-kept_made C rows cs made foremost =
+pub kept_made : (C : Cluster) (rows : Map by_number Target) (cs : List Target) → rows ≡ target_table C (λ _. 0) → AreFirstsInOrder (rows_of rows) cs → IsKept rows cs
+kept_made C rows cs made are =
     record {
       at_storage = at_storage;
       within = within;
-      foremost = subst (AreForemost rows) (sym foremost) (are_foremost rows at_storage within node one);
+      foremost = are_foremost rows at_storage cs are within node one;
     }
   where
     row : (s : ℕ) (t : Target) → get rows s ≡ Some t → (target_at C (λ _. 0) s ≡ t) × (has (keys C.storages) s ≡ true)

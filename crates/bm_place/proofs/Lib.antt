@@ -14,7 +14,7 @@ pub mod Walking
 pub mod Ordered
 pub mod Covering
 pub mod Counting
-pub mod Entering
+pub mod NonePasses
 pub mod Sending
 pub mod Surplus
 pub mod Comparing

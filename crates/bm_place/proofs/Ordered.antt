@@ -1,10 +1,15 @@
 -- Targets that stand in order, and one that is put among them.
 use Rattle.std.specs.Prelude.{◌⊎◌, slice_get}
-use Rattle.std.proofs.Common.{◌≡◌, ◌<◌, ◌≤◌, ◌+◌, ℕ, zero, suc, Bool, true, false, cond, List, [], ◌∷◌, length, drop, set, Some, refl, inl, inr, sym, ap, subst, ◌∙◌, arith, true≢false}
+use Rattle.std.specs.List.{count_by}
+use Rattle.std.specs.List.Sorted.{IsPermutation, IsSorted}
+use Rattle.std.specs.Ordering.{is_lt}
+use Rattle.std.proofs.Common.{◌≡◌, ◌<◌, ◌≤◌, ◌+◌, ℕ, zero, suc, Bool, true, false, cond, List, [], ◌∷◌, length, drop, set, get_or, Some, refl, inl, inr, sym, ap, subst, ◌∙◌, arith, true≢false}
+use Rattle.std.proofs.lemmas.List.Sorted.{sorted_far, sum_by-IsPermutation}
+use Rattle.std.proofs.lemmas.List.Sums.{sum_by-cons}
 use Rattle.std.proofs.lemmas.Option.{same_Some}
 use Rattle.bm_place.specs.declared.scheduled.Target.{Target}
-use Rattle.bm_place.specs.Foremost.{IsAmong, are_alike, goes_before, with_in_order, all_in_order, put_back, IsBehind, IsInOrder}
-use Rattle.bm_place.proofs.Alike.{like, alike, like_back, like_then, ranks}
+use Rattle.bm_place.specs.Foremost.{IsAmong, are_alike, cmp_alike, goes_before, with_in_order, put_back, IsBehind, IsInOrder}
+use Rattle.bm_place.proofs.Alike.{like, alike, like_back, like_itself, like_then, ranks}
 
 -- that no two of these are alike
 abbrev pub AreApart : List Target → Type 0
@@ -66,36 +71,62 @@ entered_in_order (c ∷ cs) t h apart = by (goes_before c t) refl (entered_in_or
     by true e rest = (λ d there. behind e d there, rest)
     by false e rest = (λ d there. in_front e d there, h)
 
--- All of some targets, put in order one after another.
+-- Targets that were sorted.
 
-pub all_ordered : (ts cs : List Target) → AreApart ts → ((t c : Target) → IsAmong ts t → IsAmong cs c → are_alike t c ≡ false) → IsInOrder cs → IsInOrder (all_in_order cs ts)
-all_ordered [] cs apart other h = h
-all_ordered (t ∷ ts) cs apart other h = all_ordered ts (with_in_order cs t) apart.1 (λ u c there among. still u c there among) (entered_in_order cs t h (λ c there. other t c (inl refl) there))
+abbrev one_if : Bool → ℕ
+one_if b = cond b 1 0
+
+count_first : (c t : Target) (ts : List Target) → count_by (are_alike c) (t ∷ ts) ≡ one_if (are_alike c t) + count_by (are_alike c) ts
+count_first c t ts = sum_by-cons (λ t. one_if (are_alike c t)) t ts
+
+none_alike : (ts : List Target) (c : Target) → ((d : Target) → IsAmong ts d → are_alike c d ≡ false) → count_by (are_alike c) ts ≡ 0
+none_alike [] c none = refl
+none_alike (t ∷ ts) c none = omega (arith, count_first c t ts, ap one_if (none t (inl refl)), none_alike ts c (λ d there. none d (inr there)))
+
+one_alike : (ts : List Target) (c d : Target) → IsAmong ts d → are_alike c d ≡ true → 1 ≤ count_by (are_alike c) ts
+one_alike [] c d none same = absurd none
+one_alike (t ∷ ts) c d (inl e) same = omega (arith, count_first c t ts, ap one_if (ap (are_alike c) e ∙ same))
+one_alike (t ∷ ts) c d (inr there) same = omega (arith, count_first c t ts, one_alike ts c d there same)
+
+-- of targets that are apart at most one is alike to another
+once_alike : (ts : List Target) (c : Target) → AreApart ts → count_by (are_alike c) ts ≤ 1
+once_alike [] c apart = omega arith
+once_alike (t ∷ ts) c apart = by (are_alike c t) refl (once_alike ts c apart.1)
   where
-    still : (u c : Target) → IsAmong ts u → IsAmong (with_in_order cs t) c → are_alike u c ≡ false
-    still u c there among =
-        elim (among_entered cs t c among) [
-          | inl same ↦ subst (λ c. are_alike u c ≡ false) same (not_alike_back t u (apart.0 u there))
-          | inr old ↦ other u c (inr there) old
-        ]
+    by : (b : Bool) → are_alike c t ≡ b → count_by (are_alike c) ts ≤ 1 → count_by (are_alike c) (t ∷ ts) ≤ 1
+    by false e rest = omega (arith, count_first c t ts, rest, ap one_if e)
+    by true e rest =
+        let others = none_alike ts c (λ d there. not_alike_too t c d (alike t c (like_back c t (like c t e))) (apart.0 d there)) in
+        omega (arith, count_first c t ts, others, ap one_if e)
 
-pub among_all : (ts cs : List Target) (x : Target) → IsAmong (all_in_order cs ts) x → IsAmong ts x ⊎ IsAmong cs x
-among_all [] cs x h = inr h
-among_all (t ∷ ts) cs x h =
-    elim (among_all ts (with_in_order cs t) x h) [
-      | inl there ↦ inl (inr there)
-      | inr there ↦ elim (among_entered cs t x there) [ inl e ↦ inl (inl e) | inr old ↦ inr old ]
-    ]
+-- none of these goes before one that is further to the front
+abbrev AreRanked : List Target → Type 0
+AreRanked cs = (i j : ℕ) (d : Target) → i ≤ j → j < length cs → goes_before (get_or cs j d) (get_or cs i d) ≡ false
 
-pub all_among : (ts cs : List Target) (x : Target) → IsAmong ts x ⊎ IsAmong cs x → IsAmong (all_in_order cs ts) x
-all_among [] cs x (inl none) = absurd none
-all_among [] cs x (inr h) = h
-all_among (t ∷ ts) cs x h = all_among ts (with_in_order cs t) x (by h)
+ranked_behind : (c : Target) (cs : List Target) → AreRanked (c ∷ cs) → (d : Target) → IsAmong cs d → goes_before d c ≡ false
+ranked_behind c cs ranked d there =
+    let i = index_of cs d there in
+    subst (λ d. goes_before d c ≡ false) (i.2 d) (ranked 0 (suc i.0) d (omega arith) (omega (arith, i.1)))
   where
-    by : ((t ≡ x) ⊎ IsAmong ts x) ⊎ IsAmong cs x → IsAmong ts x ⊎ IsAmong (with_in_order cs t) x
-    by (inl (inl e)) = inr (entered_among cs t x (inl e))
-    by (inl (inr there)) = inl there
-    by (inr old) = inr (entered_among cs t x (inr old))
+    index_of : (cs : List Target) (d : Target) → IsAmong cs d → (i : ℕ) × (i < length cs) × ((e : Target) → get_or cs i e ≡ d)
+    index_of [] d none = absurd none
+    index_of (c ∷ cs) d (inl e) = (0, omega arith, λ x. e)
+    index_of (c ∷ cs) d (inr there) = let i = index_of cs d there in (suc i.0, omega (arith, i.1), i.2)
+
+ranked_in_order : (cs : List Target) → AreRanked cs → ((c : Target) → count_by (are_alike c) cs ≤ 1) → IsInOrder cs
+ranked_in_order [] ranked once = tt
+ranked_in_order (c ∷ cs) ranked once = (
+  λ d there. record { order = ranked_behind c cs ranked d there; other = other d there (are_alike c d) refl },
+  ranked_in_order cs (λ i j d le within. ranked (suc i) (suc j) d (omega (arith, le)) (omega (arith, within))) (λ d. omega (arith, count_first d c cs, once d)),
+)
+  where
+    other : (d : Target) → IsAmong cs d → (b : Bool) → are_alike c d ≡ b → are_alike c d ≡ false
+    other d there false e = e
+    other d there true e = absurd (omega (arith, once c, count_first c c cs, one_alike cs c d there e, ap one_if (alike c c (like_itself c))))
+
+pub sorted_in_order : (ts cs : List Target) → AreApart ts → IsPermutation ts cs → IsSorted cmp_alike cs → IsInOrder cs
+sorted_in_order ts cs apart same up =
+    ranked_in_order cs (sorted_far (λ s t. is_lt (cmp_alike s t)) ranks cs up) (λ c. omega (arith, once_alike ts c apart, sum_by-IsPermutation (λ t. cond (are_alike c t) 1 0) ts cs same))
 
 -- A target in the place of another.
 

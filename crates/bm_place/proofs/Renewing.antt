@@ -20,7 +20,7 @@ use Rattle.bm_place.specs.Foremost.{IsAmong, IsKept, StandsFor, are_alike, goes_
 use Rattle.bm_place.proofs.Alike.{IsLike, like, alike, like_back, like_then, like_itself, less_room, ranks}
 use Rattle.bm_place.proofs.Scanning.{found}
 use Rattle.bm_place.proofs.Seating.{made_among, of_made}
-use Rattle.bm_place.proofs.Entering.{none_passes}
+use Rattle.bm_place.proofs.NonePasses.{none_passes}
 use Rattle.bm_place.proofs.Ordered.{without, among_put, put_among, of_without, here_or_without, among_at, apart_without, only_alike, put_in_order}
 
 -- so many bytes more are sent to a target

@@ -4,28 +4,13 @@ use Rattle.std.specs.List.{cons_option}
 use Rattle.std.specs.List.Sorted.{IsPermutation}
 use Rattle.std.proofs.Common.{◌≡◌, ℕ, zero, suc, List, [], ◌∷◌, ◌++◌, map, get_or, Option, Some, None, refl, inl, inr, sym, ap, subst, ◌∙◌}
 use Rattle.std.proofs.lemmas.List.{append_assoc}
-use Rattle.std.proofs.lemmas.List.Sorted.{Contains-permutation}
-use Rattle.std.proofs.lemmas.Option.{same_Some, slice_get-get_or, slice_get_within}
 use Rattle.bm_base.specs.Map.{Map, by_number, entries}
 use Rattle.bm_place.specs.declared.scheduled.Target.{Target}
 use Rattle.bm_place.specs.declared.seats.Seat.{Seat}
 use Rattle.bm_place.specs.Foremost.{IsAmong}
 use Rattle.bm_place.specs.Seats.{seat_of, AreSeated}
 use Rattle.bm_place.proofs.Keeping.{among_mapped, among_map, row_among}
-use Rattle.bm_place.proofs.Spanning.{place_among}
-
-among_place : {X : Type 0} (xs : List X) (i : ℕ) (x : X) → slice_get xs i ≡ Some x → IsAmong xs x
-among_place [] i x at = cc
-among_place (y ∷ xs) zero x at = inl (same_Some y x at)
-among_place (y ∷ xs) (suc i) x at = inr (among_place xs i x at)
-
-moved_among : {X : Type 0} (xs ys : List X) (x : X) → IsPermutation xs ys → IsAmong xs x → IsAmong ys x
-moved_among xs ys x moved there =
-    let p = place_among xs x there in
-    let within = slice_get_within xs p.0 x p.1 in
-    let at = same_Some (get_or xs p.0 x) x (sym (slice_get-get_or xs p.0 x within) ∙ p.1) in
-    let q = Contains-permutation xs ys x moved (p.0, within, at) in
-    among_place ys q.0 x (slice_get-get_or ys q.0 x q.1 ∙ ap Some q.2)
+use Rattle.bm_place.proofs.Spanning.{moved_among}
 
 -- in whatever order
 pub seated : (rows : Map by_number Target) (seats : List Seat) → IsPermutation (map (λ e. seat_of e.1) (entries rows)) seats → AreSeated rows seats

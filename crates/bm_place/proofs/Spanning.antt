@@ -1,10 +1,12 @@
 -- The storages of a node stand within its span.
 use Rattle.std.specs.Prelude.{nat_le, nat_lt, slice_get, option_and_then}
+use Rattle.std.specs.List.Sorted.{IsPermutation}
 use Rattle.std.specs.Option.{option_map_or}
 use Rattle.std.specs.Ordering.{eq_by_cmp, nat_cmp}
 use Rattle.std.proofs.lemmas.Bool.Decides.{nat_tests}
-use Rattle.std.proofs.Common.{◌≡◌, ◌≤◌, ◌<◌, ◌-◌, ℕ, zero, suc, Bool, true, false, cond, List, [], ◌∷◌, take, drop, length, true≢false, Option, Some, None, refl, inl, inr, sym, ap, subst, ◌∙◌, arith}
-use Rattle.std.proofs.lemmas.Option.{same_Some, slice_get_within}
+use Rattle.std.proofs.Common.{◌≡◌, ◌≤◌, ◌<◌, ◌-◌, ℕ, zero, suc, Bool, true, false, cond, List, [], ◌∷◌, take, drop, length, get_or, true≢false, Option, Some, None, refl, inl, inr, sym, ap, subst, ◌∙◌, arith}
+use Rattle.std.proofs.lemmas.List.Sorted.{Contains-permutation}
+use Rattle.std.proofs.lemmas.Option.{same_Some, slice_get-get_or, slice_get_within}
 use Rattle.bm_base.specs.Map.{Map, by_number, get, insert}
 use Rattle.bm_base.proofs.MapLaws.{get-insert}
 use Rattle.bm_base.proofs.Maps.{same_key, key_itself}
@@ -23,6 +25,19 @@ pub place_among : {X : Type 0} (xs : List X) (x : X) → IsAmong xs x → (i : �
 place_among [] x none = absurd none
 place_among (y ∷ xs) x (inl e) = (0, ap Some e)
 place_among (y ∷ xs) x (inr there) = let h = place_among xs x there in (suc h.0, h.1)
+
+among_place : {X : Type 0} (xs : List X) (i : ℕ) (x : X) → slice_get xs i ≡ Some x → IsAmong xs x
+among_place [] i x at = cc
+among_place (y ∷ xs) zero x at = inl (same_Some y x at)
+among_place (y ∷ xs) (suc i) x at = inr (among_place xs i x at)
+
+pub moved_among : {X : Type 0} (xs ys : List X) (x : X) → IsPermutation xs ys → IsAmong xs x → IsAmong ys x
+moved_among xs ys x moved there =
+    let p = place_among xs x there in
+    let within = slice_get_within xs p.0 x p.1 in
+    let at = same_Some (get_or xs p.0 x) x (sym (slice_get-get_or xs p.0 x within) ∙ p.1) in
+    let q = Contains-permutation xs ys x moved (p.0, within, at) in
+    among_place ys q.0 x (slice_get-get_or ys q.0 x q.1 ∙ ap Some q.2)
 
 among_take : {X : Type 0} (xs : List X) (n k : ℕ) (x : X) → slice_get xs k ≡ Some x → k < n → IsAmong (take n xs) x
 among_take [] n k x is less = cc

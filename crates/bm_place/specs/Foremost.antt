@@ -3,6 +3,7 @@ use Rattle.std.specs.Prelude.{◌≡◌, ◌≤◌, ℕ, zero, suc, Bool, true, 
 use Rattle.std.specs.declared.cmp.Ordering.{Ordering}
 use Rattle.std.specs.Ordering.{nat_cmp, ordering_then, is_lt}
 use Rattle.std.specs.Bool.{beq}
+use Rattle.std.specs.List.Sorted.{IsPermutation, IsSorted}
 use Rattle.std.specs.Option.{option_eq, option_map_or}
 use Rattle.bm_base.specs.Map.{Map, by_number, empty, entries, get, insert, values}
 use Rattle.bm_place.specs.declared.scheduled.Target.{Target}
@@ -49,14 +50,14 @@ abbrev pub with_in_order : List Target → Target → List Target
 with_in_order [] t = t ∷ []
 with_in_order (c ∷ cs) t = if goes_before c t then c ∷ with_in_order cs t else t ∷ c ∷ cs
 
--- the same with each of these
-abbrev pub all_in_order : List Target → List Target → List Target
-all_in_order cs [] = cs
-all_in_order cs (t ∷ ts) = all_in_order (with_in_order cs t) ts
+-- the first of these targets of each node
+abbrev pub firsts_of : List Target → List Target
+firsts_of ts = values (entries (with_firsts empty ts))
 
--- the first of these targets of each node, in order
-abbrev pub foremost_in_order : List Target → List Target
-foremost_in_order ts = all_in_order [] (values (entries (with_firsts empty ts)))
+-- that these are the first of those targets of each node, in order
+pub record AreFirstsInOrder (ts cs : List Target) : Type 0 where
+  pub same : IsPermutation (firsts_of ts) cs
+  pub in_order : IsSorted cmp_alike cs
 
 -- a target in the place of the one at a place, and from there behind those that go before it
 abbrev pub put_back : Target → ℕ → List Target → List Target

@@ -1,5 +1,6 @@
 // The targets that go before the others of their nodes.
-ghost use Rattle.std.specs.Prelude.{◌≡◌, ◌<◌, ◌==◌, not, [], filter_map, length, Some, position, IfOk, OnOk};
+ghost use Rattle.std.specs.Prelude.{◌≡◌, ◌<◌, ◌==◌, filter_map, length, Some, position, IfOk, OnOk};
+ghost use Rattle.std.specs.List.Sorted.{IsPermutation, IsSorted};
 ghost use Rattle.bm_base.specs.Map as table;
 ghost use Rattle.bm_place.specs.Foremost as nodes;
 ghost use Rattle.bm_place.specs.Scan as scanned;
@@ -10,13 +11,15 @@ use crate::seats::Seat;
 use bm_base::{NumberMap, StorageId};
 use std::alloc::{AllocError, Global};
 
-/// Of the targets of each node the one that goes before the others, in their order. Goes over them once, by a look-up or two each,
-/// and sorts those of the nodes.
+/// Of the targets of each node the one that goes before the others, in their order. Iterates over
+/// them once, by a look-up or two each, and sorts those of the nodes.
 pub fn foremost_of(alloc: Global, rows: &[(u64, Target)]) -> Result<Vec<Target>, AllocError>
-    ensures { IfOk result (λ v. v.items ≡ nodes.foremost_in_order (table.values rows.now)) }
+    ensures { IfOk result (λ v. nodes.AreFirstsInOrder (table.values rows.now) v.items) }
 {
     let firsts = firsts_of(alloc, rows)?;
-    targets_in_order(alloc, firsts.entries())
+    let mut foremost = targets_of(alloc, firsts.entries())?;
+    sort_targets(&mut foremost);
+    Ok(foremost)
 }
 
 /// By node the one of its targets that goes before the others.
@@ -43,35 +46,27 @@ fn enter(firsts: &mut NumberMap<Target>, target: &Target) -> Result<(), AllocErr
     }
 }
 
-/// These targets in their order.
-fn targets_in_order(alloc: Global, firsts: &[(u64, Target)]) -> Result<Vec<Target>, AllocError>
-    ensures { IfOk result (λ v. v.items ≡ nodes.all_in_order [] (table.values firsts.now)) }
+/// The targets of these entries.
+fn targets_of(alloc: Global, firsts: &[(u64, Target)]) -> Result<Vec<Target>, AllocError>
+    ensures { IfOk result (λ v. v.items ≡ table.values firsts.now) }
 {
-    let mut foremost = Vec::new(alloc);
+    let mut targets = Vec::with_capacity(alloc, firsts.len())?;
     for first in firsts {
-        insert(&mut foremost, &first.1)?;
+        targets.push(first.1)?;
     }
-    Ok(foremost)
+    Ok(targets)
 }
 
-/// Puts a target behind those that go before it.
-fn insert(foremost: &mut Vec<Target>, target: &Target) -> Result<(), AllocError>
-    ensures { OnOk result (foremost.new.items ≡ nodes.with_in_order foremost.old.items target.now) }
+/// Takes no memory.
+fn sort_targets(targets: &mut Vec<Target>)
+    ensures moved { IsPermutation targets.old.items targets.new.items }
+    ensures in_order { IsSorted nodes.cmp_alike targets.new.items }
 {
-    match place_for(foremost, target) {
-        Some(place) => foremost.insert(place, *target)?,
-        None => foremost.push(*target)?,
-    }
-    Ok(())
-}
-
-/// The first place whose target does not go before this one.
-fn place_for(foremost: &[Target], target: &Target) -> Option<usize>
-    ensures { result ≡ position (λ c. not (nodes.goes_before c target.now)) foremost.now }
-{
-    foremost
-        .iter()
-        .position(|other| !goes_before(other, target))
+    targets.sort_unstable_by(|one, other| {
+        room_on(other)
+            .cmp(&room_on(one))
+            .then(one.storage.cmp(&other.storage))
+    });
 }
 
 /// Of a target and the rows of some storages the one of the target's node that goes before the others. Looks up each storage once.

@@ -1,5 +1,5 @@
 -- What a shard is told by the entries of a report, and what a look-up of its numbers leaves as it was.
-use Rattle.std.specs.Prelude.{◌≡◌, ◌≢◌, ℕ, ◌≤◌, List, IsSome, Some, true}
+use Rattle.std.specs.Prelude.{◌≡◌, ◌≢◌, ℕ, ◌≤◌, List, IsSome, Some}
 use Rattle.bm_base.specs.declared.ids.Part.{Part}
 use Rattle.bm_base.specs.declared.event.Entry.{Entry}
 use Rattle.bm_base.specs.Entries.{Told, expanded}
@@ -7,7 +7,6 @@ use Rattle.bm_parts.specs.Parts.{told_of}
 use Rattle.bm_arena.specs.Triplets.{Block}
 use Rattle.bm_arena.specs.Contents.{Contents, block_at, slot_of, marks_at, list_of, room_at, with_room, HasHead, HasRoom}
 use Rattle.bm_arena.specs.Holding.{replicas_of, blocks_of}
-use Rattle.bm_report.specs.declared.slots_of_numbers.Known.{Known}
 
 -- what is told of a shard's numbers
 abbrev pub of_part : Part → List Told → List Told
@@ -16,15 +15,6 @@ of_part part ts = told_of part.index part.shards ts
 -- what the entries of a report tell of a shard's numbers, in their order, repeats included
 abbrev pub told_to : Part → List Entry → List Told
 told_to part es = of_part part (expanded es)
-
--- what was looked up of a number is so
-abbrev pub IsKnown : Contents → Known → Type 0
-IsKnown a k = (slot : ℕ) → k.slot ≡ Some slot → slot_of a k.id ≡ Some slot
-
--- and so is what was seen of the room in its slot
-pub record IsSeen (a : Contents) (k : Known) : Type 0 where
-  pub known : IsKnown a k
-  pub room : k.is_roomy ≡ true → (slot : ℕ) → k.slot ≡ Some slot → HasRoom a slot
 
 -- numbers may have got slots, and slots room: all that is held stays
 pub record IsPrepared (old new : Contents) : Type 0 where

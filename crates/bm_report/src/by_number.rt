@@ -8,7 +8,7 @@ ghost use Rattle.bm_report.specs.Expanded.{of_part, told_to};
 ghost use Rattle.bm_report.specs.Ready.{named_of, CanBeEntered};
 
 use crate::entering::enter;
-use crate::slots_of_numbers::first_of_part;
+use crate::first_of_part::first_of_part;
 use crate::sweeping::drop_lost_excess_of_one;
 use crate::tally::Tally;
 use crate::types::Named;

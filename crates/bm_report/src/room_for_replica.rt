@@ -1,5 +1,5 @@
 // Room for the replicas that a report may bring.
-ghost use Rattle.std.specs.Prelude.{◌≡◌, ℕ, IsSome, IfErr, OnOk, None, true};
+ghost use Rattle.std.specs.Prelude.{◌≡◌, ℕ, IsSome, IfErr, OnOk, None};
 ghost use Rattle.bm_base.specs.declared.refusal.Refusal.TheVariants.{Memory};
 ghost use Rattle.bm_arena.specs.Contents.{block_at, slot_of, marks_at, HasRoom};
 ghost use Rattle.bm_report.specs.Expanded.{IsPrepared};
@@ -7,21 +7,19 @@ ghost use Rattle.bm_report.specs.Expanded.{IsPrepared};
 use bm_arena::{Arena, Slot};
 use bm_base::{Refusal, StorageId};
 
-/// Makes room for a replica on the storage, where the block has none there, and is not known to have room.
+/// Makes room for a replica on the storage, unless the block has one there.
 pub(crate) fn make_room(
     arena: &mut Arena,
     slot: Slot,
     storage: StorageId,
-    is_roomy: bool,
 ) -> Result<(), Refusal>
     requires held { IsSome (block_at arena.old slot) }
-    requires roomy { is_roomy ≡ true → HasRoom arena.old slot }
     ensures kept { IsPrepared arena.old arena.new }
     ensures room { OnOk result (marks_at arena.new slot storage ≡ None → HasRoom arena.new slot) }
     ensures numbers { (b : ℕ) → slot_of arena.new b ≡ slot_of arena.old b }
     ensures refused { IfErr result (λ e. e ≡ Memory) }
 {
-    if is_roomy {
+    if arena.has_room(slot) {
         return Ok(());
     }
     if arena.marks(slot, storage).is_some() {

@@ -1,5 +1,5 @@
 // The checks of an event on the cluster, in their order.
-ghost use Rattle.std.specs.Prelude.{◌≡◌, ◌≤◌, ◌^◌, ◌+◌, ◌||◌, not, nat_le, nat_lt, length, None, OnOk, if◌then◌else◌};
+ghost use Rattle.std.specs.Prelude.{◌≡◌, ◌+◌, ◌-◌, ◌||◌, not, nat_le, nat_lt, length, Some, None, OnOk, if◌then◌else◌};
 ghost use Rattle.std.specs.List.{list_any};
 ghost use Rattle.std.specs.List.Sorted.{IsNonDecreasing};
 ghost use Rattle.bm_base.specs.Map as map;
@@ -256,18 +256,22 @@ fn stands_in(ordered: &[StorageId], storage: StorageId) -> bool
     ordered.binary_search(&storage).is_ok()
 }
 
-/// How many numbers an entry of a report names.
-fn run_length(entry: &Entry) -> u128
-    ensures count { result ≡ run_length entry.now }
-    ensures few { result ≤ 2 ^ 64 }
+/// How many further numbers a report may name after an entry, of `left` before it; `None` if the
+/// entry names more.
+fn left_after(entry: &Entry, left: u64) -> Option<u64>
+    ensures { result ≡ (if nat_le (run_length entry.now) left then Some (left
+        - run_length entry.now) else None) }
 {
     if entry.from.0 > entry.to.0 {
-        return 0;
+        return Some(left);
     }
-    u128::from(entry.to.0 - entry.from.0) + 1
+    match left.checked_sub(entry.to.0 - entry.from.0) {
+        Some(rest) => rest.checked_sub(1),
+        None => None,
+    }
 }
 
-/// Whether a report has too many entries, or names too many numbers. Nothing is added up past the limit.
+/// Whether a report has too many entries, or names too many numbers.
 #[tactic(auto, unfolding(bm_base::specs::Refusals::is_too_long, bm_base::specs::Entries::numbers_in))]
 fn is_too_long(entries: &[Entry]) -> bool
     ensures { result ≡ is_too_long entries.now }
@@ -275,11 +279,11 @@ fn is_too_long(entries: &[Entry]) -> bool
     if entries.len() > MAX_ENTRIES {
         return true;
     }
-    let mut numbers = 0u128;
+    let mut left = MAX_NUMBERS;
     for entry in entries {
-        numbers += run_length(entry);
-        if numbers > u128::from(MAX_NUMBERS) {
-            return true;
+        match left_after(entry, left) {
+            Some(rest) => left = rest,
+            None => return true,
         }
     }
     false

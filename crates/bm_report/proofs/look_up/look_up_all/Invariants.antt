@@ -1,22 +1,20 @@
-use Rattle.std.proofs.Common.{[], ◌≡◌, ℕ, true, false, ◌++◌, map, length}
+use Rattle.std.proofs.Common.{[], ◌≡◌, ℕ, true, false, ◌++◌, map, drop}
 use Rattle.bm_arena.specs.Contents.{slot_of}
 use Rattle.bm_base.specs.Events.{is_named}
 use Rattle.bm_report.specs.Midway.{AreHere, HaveRoom, told_of}
 use Rattle.bm_report.specs.Aborted.{NamesNew}
-use Rattle.bm_report.specs.Expanded.{IsPrepared, told_to}
+use Rattle.bm_report.specs.Expanded.{IsPrepared, of_part, told_to}
+use Rattle.bm_base.specs.Entries.{expanded}
 use Rattle.bm_report.proofs.look_up.look_up_all.Given as goal
 
-abbrev pub decreases-loop-rest : goal.decreases-loop-rest
-decreases-loop-rest l = length l.rest
-
-abbrev pub invariant-loop-rest : goal.invariant-loop-rest
-invariant-loop-rest l =
+abbrev pub invariant-loop-entry : goal.invariant-loop-entry
+invariant-loop-entry l =
     record {
       fresh : NamesNew l.initial.arena l.arena [] l.named.items;
       kept : IsPrepared l.initial.arena l.arena;
       here : AreHere l.arena l.named.items;
       room : HaveRoom l.arena l.storage l.named.items;
       others : (b : ℕ) → is_named (told_to l.part l.entries) b ≡ false → slot_of l.arena b ≡ slot_of l.initial.arena b;
-      left : (b : ℕ) → is_named (told_to l.part l.rest) b ≡ true → is_named (told_to l.part l.entries) b ≡ true;
-      named : map told_of l.named.items ++ told_to l.part l.rest ≡ told_to l.part l.entries;
+      rest : (b : ℕ) → is_named (of_part l.part (expanded (drop l.entry-index l.entries))) b ≡ true → is_named (told_to l.part l.entries) b ≡ true;
+      named : map told_of l.named.items ++ of_part l.part (expanded (drop l.entry-index l.entries)) ≡ told_to l.part l.entries;
     }

@@ -6,7 +6,7 @@ use Rattle.bm_base.specs.Events.{is_named}
 use Rattle.bm_report.specs.Midway.{told_of}
 use Rattle.std.proofs.Common.{refl}
 use Rattle.bm_report.proofs.Aborts.{naming-none, naming-chain}
-use Rattle.bm_report.proofs.Prepared.{prepared-none, prepared-chain, seen-prepared}
+use Rattle.bm_report.proofs.Prepared.{prepared-none, prepared-chain}
 use Rattle.bm_report.proofs.Running.{told_from, told_first, run_step}
 use Rattle.bm_report.proofs.Naming.{named_apart, next_named, later_named}
 use Rattle.bm_report.proofs.look_up.look_up_run.Goals as goal
@@ -19,7 +19,6 @@ loop-next-init c =
       kept = prepared-none c.args.arena.now;
       here = c.requires.here;
       room = c.requires.room;
-      known = c.requires.known;
       others = λ b out. refl;
       rest = λ b in_it. ap (λ l. is_named l b) first_is ∙ in_it;
       own = c.first_of_part-next.ensures.of_part;
@@ -34,7 +33,6 @@ loop-next-preserved c =
       kept = prepared-chain c.args.arena.now c.loop-next.arena c.look_up_one.new.arena c.loop-next.invariant.kept c.look_up_one.ensures.kept;
       here = c.in_ok-look_up_one.ensures.here;
       room = c.in_ok-look_up_one.ensures.room;
-      known = seen-prepared c.loop-next.arena c.look_up_one.new.arena c.args.known.now c.lawful.ensures c.look_up_one.ensures.kept c.loop-next.invariant.known;
       others = λ b out. c.look_up_one.ensures.others b (λ same. named_apart _ b out (c.loop-next.invariant.rest b (next_named c.args.part c.args.entry.now c.loop-next.next b c.requires.index c.loop-next.invariant.own within same))) ∙ c.loop-next.invariant.others b out;
       rest = λ b in_it.
           let at : is_named (of_part c.args.part (told_from c.args.entry.now (c.loop-next.next + c.args.part.shards))) b ≡ true = ap (λ k. is_named (of_part c.args.part (told_from c.args.entry.now (c.loop-next.next + k))) b) (sym c.from-next.ensures) ∙ in_it in

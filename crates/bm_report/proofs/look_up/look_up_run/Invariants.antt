@@ -5,7 +5,7 @@ use Rattle.bm_base.specs.Entries.{told_by}
 use Rattle.bm_base.specs.Shards.{shard_of}
 use Rattle.bm_report.specs.Midway.{AreHere, HaveRoom, told_of}
 use Rattle.bm_report.specs.Aborted.{NamesNew}
-use Rattle.bm_report.specs.Expanded.{IsPrepared, IsSeen, of_part}
+use Rattle.bm_report.specs.Expanded.{IsPrepared, of_part}
 use Rattle.bm_report.proofs.Running.{told_from}
 use Rattle.bm_report.proofs.look_up.look_up_run.Given as goal
 
@@ -16,7 +16,6 @@ invariant-loop-next l =
       kept : IsPrepared l.initial.arena l.arena;
       here : AreHere l.arena l.named.items;
       room : HaveRoom l.arena l.storage l.named.items;
-      known : IsSeen l.arena l.known;
       others : (b : ℕ) → is_named (of_part l.part (told_by l.entry)) b ≡ false → slot_of l.arena b ≡ slot_of l.initial.arena b;
       rest : (b : ℕ) → is_named (of_part l.part (told_from l.entry l.next)) b ≡ true → is_named (of_part l.part (told_by l.entry)) b ≡ true;
       own : shard_of l.next l.part.shards ≡ l.part.index;

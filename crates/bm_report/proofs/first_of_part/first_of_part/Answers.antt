@@ -1,8 +1,8 @@
 use Rattle.std.proofs.Common.{◌≡◌, ◌<◌, ◌%◌, arith, sym, ap, ◌∙◌}
 use Rattle.std.proofs.Math.Nat.{mod-lt}
 use Rattle.bm_report.proofs.Running.{ahead, around}
-use Rattle.bm_report.proofs.slots_of_numbers.first_of_part.Goals.{then-here-index, else-here-index}
-use Rattle.bm_report.proofs.slots_of_numbers.first_of_part.Goals as goal
+use Rattle.bm_report.proofs.first_of_part.first_of_part.Goals.{then-here-index, else-here-index}
+use Rattle.bm_report.proofs.first_of_part.first_of_part.Goals as goal
 
 pub returns-clause-of_part : goal.returns-clause-of_part
 returns-clause-of_part c =

@@ -5,7 +5,7 @@ use Rattle.bm_arena.specs.Contents.{Contents, slot_of, IsAdded, IsLawful}
 use Rattle.bm_report.specs.Expanded.{IsPrepared}
 use Rattle.bm_report.proofs.Maps.{some_is}
 use Rattle.bm_report.proofs.Prepared.{prepared-none, prepared-added}
-use Rattle.bm_report.proofs.slots_of_numbers.slot_for.Goals as goal
+use Rattle.bm_report.proofs.look_up.slot_for.Goals as goal
 
 same_as : (a c : Contents) → c ≡ a → IsPrepared a c
 same_as a c e = let P : Contents → Type 0 = λ x. IsPrepared a x in subst P (sym e) (prepared-none a)
