@@ -43,9 +43,9 @@ below-detached slots t s bound below =
 pub below-changed : (g : Entry → Entry) (slots new : Slab Entry) (x bound : ℕ) → new ≡ at_slot g slots x → AllBelow slots bound → AllBelow new bound
 below-changed g slots new x bound is below = rw is (below-at_slot g slots x bound below)
 
-pub below-linked : (slots mid new : Slab Entry) (first : Option ℕ) (x s : ℕ) (t : Triplet) (bound : ℕ) → mid ≡ added slots x t → new ≡ attached mid first x s → AllBelow slots bound → AllBelow new bound
+pub below-linked : (slots mid new : Slab Entry) (first : Option ℕ) (x s : ℕ) (t : Triplet) (bound : ℕ) → mid ≡ added slots x t → new ≡ previous_set mid first s (Some x) → AllBelow slots bound → AllBelow new bound
 below-linked slots mid new first x s t bound mid_is new_is below =
-    rw (new_is, mid_is) (below-attached (added slots x t) first x s bound (below-at_slot _ slots x bound below))
+    rw (new_is, mid_is) (below-previous_set (added slots x t) first s (Some x) bound (below-at_slot _ slots x bound below))
 
 pub below-unlinked : (slots mid new : Slab Entry) (x s : ℕ) (t : Triplet) (bound : ℕ) → mid ≡ detached slots t s → new ≡ removed mid x s → AllBelow slots bound → AllBelow new bound
 below-unlinked slots mid new x s t bound mid_is new_is below =

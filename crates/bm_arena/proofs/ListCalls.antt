@@ -12,7 +12,7 @@ use Rattle.slab.specs.Slab.{Slab, get}
 use Rattle.bm_arena.specs.declared.types.Entry.{Entry}
 use Rattle.bm_arena.specs.declared.types.Triplet.{Triplet}
 use Rattle.bm_base.specs.declared.replica.Marks.{Marks}
-use Rattle.bm_arena.specs.Triplets.{Block, find_triplet, triplet_at, seen_slots, seen_entry, change_block, added, removed, attached, detached}
+use Rattle.bm_arena.specs.Triplets.{Block, find_triplet, triplet_at, seen_slots, seen_entry, change_block, added, removed, attached, previous_set, detached}
 use Rattle.bm_arena.specs.Contents.{Contents, with_replica, without_replica, linked_front, unlinked, moved_front, count_up}
 use Rattle.bm_arena.specs.Inside.{list_from, lists_from, IsSound, AreIds, IsArena}
 use Rattle.bm_arena.proofs.Triplets.{read, get_or-set_here}
@@ -76,7 +76,7 @@ module _ (slots : Slab Entry) (heads : List (ℕ × Option ℕ)) (first : Option
     (room : IsSomeAnd (get_or (seen_slots slots) x None) (λ (b : Block). length b.replicas < b.room))
     (absent : marks_in (seen_slots slots) x storage ≡ None) where
   abbrev new_triplet : Triplet
-  new_triplet = record { storage = storage; previous = None; next = None; marks = marks }
+  new_triplet = record { storage = storage; previous = None; next = first; marks = marks }
 
   here : (e : Entry) × (get slots x ≡ Some e) × (find_triplet e.triplets.items storage ≡ None)
   here = by (get slots x) refl
@@ -90,7 +90,7 @@ module _ (slots : Slab Entry) (heads : List (ℕ × Option ℕ)) (first : Option
           let gone : triplet_at slots x storage ≡ None = none_inside marks_of (triplet_at slots x storage) (sym (marks-seen slots x storage) ∙ absent) in
           (e, at, sym (ap (read storage) at) ∙ gone)
 
-  pub link_front-sound : (mid new : Slab Entry) (entries : List (ℕ × Option ℕ)) (w : Option ℕ) → mid ≡ added slots x new_triplet → new ≡ attached mid first x storage → entries ≡ set_value (nat_eq storage) heads w → w ≡ Some x → IsDistinct nat_eq (keys_of entries) → IsArena new ids entries delimiter
+  pub link_front-sound : (mid new : Slab Entry) (entries : List (ℕ × Option ℕ)) (w : Option ℕ) → mid ≡ added slots x new_triplet → new ≡ previous_set mid first storage (Some x) → entries ≡ set_value (nat_eq storage) heads w → w ≡ Some x → IsDistinct nat_eq (keys_of entries) → IsArena new ids entries delimiter
   link_front-sound mid new entries w mid_is new_is entries_is w_is unique =
       let unique_at = rw (entries_is, w_is) at unique in
       rw (entries_is, w_is, new_is, mid_is) (record {
@@ -100,7 +100,7 @@ module _ (slots : Slab Entry) (heads : List (ℕ × Option ℕ)) (first : Option
             (AreIds-change (seen_slots slots) ids delimiter (length heads) x (with_replica storage marks) (λ _. refl) (λ _ _. omega arith) arena.numbers);
       })
 
-  pub link_front-view : (mid new : Slab Entry) (entries : List (ℕ × Option ℕ)) (w : Option ℕ) (steps counted bound : ℕ) → mid ≡ added slots x new_triplet → new ≡ attached mid first x storage → entries ≡ set_value (nat_eq storage) heads w → w ≡ Some x → counted ≡ count_up steps
+  pub link_front-view : (mid new : Slab Entry) (entries : List (ℕ × Option ℕ)) (w : Option ℕ) (steps counted bound : ℕ) → mid ≡ added slots x new_triplet → new ≡ previous_set mid first storage (Some x) → entries ≡ set_value (nat_eq storage) heads w → w ≡ Some x → counted ≡ count_up steps
       → ◌≡◌ {A = Contents} (record { ids = ids; delimiter = delimiter; blocks = seen_slots new; lists = lists_from new entries; steps = counted; bound = bound })
       (linked_front (record { ids = ids; delimiter = delimiter; blocks = seen_slots slots; lists = lists_from slots heads; steps = steps; bound = bound }) x storage marks)
   link_front-view mid new entries w steps counted bound mid_is new_is entries_is w_is counted_is =

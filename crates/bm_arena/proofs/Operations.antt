@@ -11,7 +11,7 @@ use Rattle.slab.specs.Slab.{Slab, get}
 use Rattle.bm_arena.specs.declared.types.Entry.{Entry}
 use Rattle.bm_arena.specs.declared.types.Triplet.{Triplet}
 use Rattle.bm_base.specs.declared.replica.Marks.{Marks}
-use Rattle.bm_arena.specs.Triplets.{Block, find_triplet, triplet_at, links_of, seen_slots, seen_entry, change_block, added, removed, attached, detached, fill_first, is_of, with_triplets}
+use Rattle.bm_arena.specs.Triplets.{Block, find_triplet, triplet_at, links_of, seen_slots, seen_entry, change_block, added, removed, attached, previous_set, detached, fill_first, is_of, with_triplets}
 use Rattle.bm_base.specs.SlotLists.{Among, Distinct, without}
 use Rattle.bm_arena.specs.Lists.{IsList}
 use Rattle.bm_arena.specs.Contents.{Contents, with_replica, without_replica, linked_front, unlinked, moved_front, count_up}
@@ -20,7 +20,7 @@ use Rattle.bm_base.proofs.SlotLists.{Among-without_other, without-gone}
 use Rattle.bm_arena.proofs.Lists.{Chain-frame}
 use Rattle.bm_arena.proofs.Triplets.{read, triplet_at-elsewhere, triplet_at-kept, get-at_slot, length-at_slot}
 use Rattle.bm_arena.proofs.Replicas.{seen-added, seen-removed, keys, none-absent, found-push_here, found-push_other, found-fill_first_here, found-fill_first_other, Distinct-push, Distinct-fill_first, map-fill_first}
-use Rattle.bm_arena.proofs.Linking.{first_after, attached-storage, attached-list, seen-attached, length-attached, detached-storage, detached-list, seen-detached, length-detached}
+use Rattle.bm_arena.proofs.Linking.{first_after, front-storage, front-list, seen-front, length-front, attached-storage, attached-list, seen-attached, length-attached, detached-storage, detached-list, seen-detached, length-detached}
 use Rattle.bm_arena.proofs.Sound.{lists-step, IsSound-step, Chain-member}
 use Rattle.bm_arena.proofs.Seeing.{same_presence, lookup-lists_from, seen_at, storages_seen, once-change}
 
@@ -45,10 +45,10 @@ module _ (slots : Slab Entry) (heads : List (ℕ × Option ℕ)) (first : Option
   -- a replica was added, and linked at the head
   module _ (x : ℕ) (marks : Marks) (e : Entry) (there : get slots x ≡ Some e) (absent : find_triplet e.triplets.items storage ≡ None) where
     abbrev t0 : Triplet
-    t0 = record { storage = storage; previous = None; next = None; marks = marks }
+    t0 = record { storage = storage; previous = None; next = first; marks = marks }
 
     abbrev pub linked : Slab Entry
-    linked = attached (added slots x t0) first x storage
+    linked = previous_set (added slots x t0) first storage (Some x)
 
     no_triplet : triplet_at slots x storage ≡ None
     no_triplet = ap (read storage) there ∙ absent
@@ -61,31 +61,26 @@ module _ (slots : Slab Entry) (heads : List (ℕ × Option ℕ)) (first : Option
 
     linked-others : (other : ℕ) → other ≢ storage → (y : ℕ) → triplet_at linked y other ≡ triplet_at slots y other
     linked-others other differs y =
-        attached-storage (added slots x t0) first x storage y other differs
+        front-storage (added slots x t0) first x storage y other differs
         ∙ triplet_at-kept _ slots x y other (λ e _. found-push_other e.triplets.items t0 other (λ s. differs (sym s)))
 
     linked-len : length linked.slots ≡ length slots.slots
-    linked-len = length-attached (added slots x t0) first x storage ∙ length-at_slot _ slots x
+    linked-len = length-front (added slots x t0) first x storage ∙ length-at_slot _ slots x
 
     pub linked-seen : seen_slots linked ≡ change_block (with_replica storage marks) (seen_slots slots) x
-    linked-seen = seen-attached (added slots x t0) first x storage ∙ seen-added slots x t0
+    linked-seen = seen-front (added slots x t0) first x storage ∙ seen-added slots x t0
 
     linked-list : IsList (links_of linked storage) (Some x) (x ∷ old_list)
     linked-list =
-        attached-list (added slots x t0) first x storage t0 old_list added-own
-        (record {
-          chain = Chain-frame (links_of slots storage) (links_of (added slots x t0) storage) None first old_list is_list.chain (λ z h.
-              triplet_at-elsewhere _ slots x z storage (λ s. fresh (let P : ℕ → Type 0 = λ w. Among w old_list in subst P s h)));
-          distinct = is_list.distinct;
-        })
-        fresh
+        front-list (added slots x t0) first x storage (links_of slots storage) t0 old_list added-own refl refl is_list fresh
+        (λ y differs. triplet_at-elsewhere _ slots x y storage differs)
 
     linked-all : (y : ℕ) (t : Triplet) → triplet_at linked y storage ≡ Some t → Among y (x ∷ old_list)
     linked-all y t is =
         elim (cases_eq y x) [
           | inl same ↦ inl same
           | inr differs ↦
-              let before = same_presence (added slots x t0) linked y storage t (seen-attached (added slots x t0) first x storage) is in
+              let before = same_presence (added slots x t0) linked y storage t (seen-front (added slots x t0) first x storage) is in
               inr (in_list y before.0 (sym (triplet_at-elsewhere _ slots x y storage differs) ∙ before.1))
         ]
 

@@ -6,7 +6,7 @@ ghost use Rattle.bm_arena.specs.declared.types.Entry.{Entry};
 ghost use Rattle.smallvec.specs.SmallVec.{HasRoomFor};
 ghost use Rattle.bm_base.specs.SlotLinks.{end_of_links};
 ghost use Rattle.bm_base.specs.SlotLists.{Distinct};
-ghost use Rattle.bm_arena.specs.Triplets.{seen_triplet, with_capacity, capacity_at, at_slot, added, removed, fill_first, is_of, attached, detached, find_triplet, change_triplet, storages_in, with_previous, with_next, with_triplet_marks, triplet_at, change_at, AreOnce};
+ghost use Rattle.bm_arena.specs.Triplets.{seen_triplet, with_capacity, capacity_at, at_slot, added, removed, fill_first, is_of, attached, previous_set, detached, find_triplet, change_triplet, storages_in, with_previous, with_next, with_triplet_marks, triplet_at, change_at, AreOnce};
 
 use crate::types::{Entry, TRIPLETS_IN_PLACE, Triplet};
 use bm_base::{BlockInfo, Marks, NO_LINK, SlotLink, StorageId};
@@ -59,14 +59,6 @@ fn set_previous_in(triplets: &mut [Triplet], storage: u32, previous: SlotLink)
 {
     if let Some(place) = place_of(triplets, storage) {
         triplets[place].previous = previous;
-    }
-}
-
-fn set_next_in(triplets: &mut [Triplet], storage: u32, next: SlotLink)
-    ensures { triplets.new ≡ change_triplet (with_next next) triplets.old storage }
-{
-    if let Some(place) = place_of(triplets, storage) {
-        triplets[place].next = next;
     }
 }
 
@@ -158,14 +150,6 @@ fn set_previous(slots: &mut Slab<Entry>, slot: usize, storage: u32, previous: Sl
     }
 }
 
-fn set_next(slots: &mut Slab<Entry>, slot: usize, storage: u32, next: SlotLink)
-    ensures { slots.new ≡ change_at (with_next next) slots.old slot storage }
-{
-    if let Some(entry) = slots.get_mut(slot) {
-        set_next_in(entry.triplets.as_mut_slice(), storage, next);
-    }
-}
-
 fn set_previous_near(
     slots: &mut Slab<Entry>,
     slot: usize,
@@ -222,22 +206,20 @@ pub(crate) fn set_info(slots: &mut Slab<Entry>, slot: usize, info: Option<BlockI
     }
 }
 
-// Links a slot, which has its triplet, before the slot that was first.
+// Puts a slot at the head of a list. Its triplet has no previous link, and its next link is the old head.
 pub(crate) fn attach(slots: &mut Slab<Entry>, first: &mut SlotLink, slot: usize, storage: u32)
     requires { slot < end_of_links }
-    ensures slots { slots.new ≡ attached slots.old first.old slot storage }
+    ensures slots { slots.new ≡ previous_set slots.old first.old storage (Some slot) }
     ensures first { first.new ≡ Some slot }
 {
     let here = SlotLink::to(slot);
     if let Some(old_first) = first.slot() {
         set_previous(slots, old_first, storage, here);
     }
-    set_previous(slots, slot, storage, NO_LINK);
-    set_next(slots, slot, storage, *first);
     *first = here;
 }
 
-// The same, with a guess of the place of the storage's triplet in each of the two blocks.
+// Links a slot, which has a triplet, before the old head. The triplets are probably at index `guess`.
 pub(crate) fn attach_near(
     slots: &mut Slab<Entry>,
     first: &mut SlotLink,

@@ -91,7 +91,7 @@ impl Arena {
             let triplet = Triplet {
                 storage: storage.0,
                 previous: NO_LINK,
-                next: NO_LINK,
+                next: *first,
                 marks,
             };
             links::add_triplet(&mut self.slots, slot, triplet);
