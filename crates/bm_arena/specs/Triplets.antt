@@ -7,7 +7,6 @@ use Rattle.bm_base.specs.declared.replica.Marks.{Marks}
 use Rattle.bm_base.specs.declared.replica.BlockInfo.{BlockInfo}
 use Rattle.bm_arena.specs.declared.types.Triplet.{Triplet}
 use Rattle.bm_arena.specs.declared.types.Entry.{Entry}
-use Rattle.bm_base.specs.SlotLists.{Distinct}
 
 -- what is seen of a block: its number, what is known of it, each replica's storage and marks, and how many replicas fit
 pub record Block : Type 0 where
@@ -120,7 +119,3 @@ attached slots first x storage =
 -- the slab after the neighbours of a triplet were linked to each other
 abbrev pub detached : Slab Entry → Triplet → ℕ → Slab Entry
 detached slots t storage = previous_set (next_set slots t.previous storage t.next) t.next storage t.previous
-
--- in no block two triplets are of one storage
-abbrev pub AreOnce : Slab Entry → Type 0
-AreOnce slots = (x : ℕ) (e : Entry) → get slots x ≡ Some e → Distinct (storages_in e.triplets.items)

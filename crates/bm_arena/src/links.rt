@@ -1,12 +1,13 @@
 // Reads and writes of the triplets of one block, and the linking of one slot between its neighbours.
 ghost use Rattle.std.specs.Prelude.{OnSome, OnOk, OnErr, IsOk, IsSomeAnd, if◌then◌else◌, is_some, ◌≡◌, ◌<◌, ◌≤◌, slice_get, Some, None, IsSome, slice_set, position, ◌==◌};
+ghost use Rattle.std.specs.List.{position_or_len};
 ghost use Rattle.std.specs.Option.{option_map, option_and_then};
 ghost use Rattle.slab.specs.Slab.{get};
 ghost use Rattle.bm_arena.specs.declared.types.Entry.{Entry};
 ghost use Rattle.smallvec.specs.SmallVec.{HasRoomFor};
 ghost use Rattle.bm_base.specs.SlotLinks.{end_of_links};
 ghost use Rattle.bm_base.specs.SlotLists.{Distinct};
-ghost use Rattle.bm_arena.specs.Triplets.{seen_triplet, with_capacity, capacity_at, at_slot, added, removed, fill_first, is_of, attached, previous_set, detached, find_triplet, change_triplet, storages_in, with_previous, with_next, with_triplet_marks, triplet_at, change_at, AreOnce};
+ghost use Rattle.bm_arena.specs.Triplets.{seen_triplet, with_capacity, capacity_at, at_slot, added, removed, fill_first, is_of, attached, previous_set, detached, find_triplet, change_triplet, storages_in, with_previous, with_next, with_triplet_marks, triplet_at, change_at};
 
 use crate::types::{Entry, TRIPLETS_IN_PLACE, Triplet};
 use bm_base::{BlockInfo, Marks, NO_LINK, SlotLink, StorageId};
@@ -14,17 +15,12 @@ use slab::Slab;
 use smallvec::SmallVec;
 use std::alloc::AllocError;
 
-// The place of a storage's triplet. All few are looked at, from the last on: at which place a storage stands can't be foretold, so
-// a search that ends there would make the processor throw away what it does ahead.
+// The index of a storage's triplet.
+#[inline]
 fn place_of(triplets: &[Triplet], storage: u32) -> Option<usize>
     ensures { result ≡ position (λ t. t.storage == storage) triplets.now }
 {
-    let mut first = triplets.len();
-    for place in (0..triplets.len()).rev() {
-        if triplets[place].storage == storage {
-            first = place;
-        }
-    }
+    let first = first_place(triplets, storage);
     if first < triplets.len() {
         Some(first)
     } else {
@@ -32,8 +28,58 @@ fn place_of(triplets: &[Triplet], storage: u32) -> Option<usize>
     }
 }
 
-// The same, where no two triplets are of one storage: the guessed place is looked at first, and all only where another storage stands
-// there.
+// The index of the first triplet of a storage; the number of triplets if there is none. Up to three
+// are compared with no loop and no branch on the outcome, since the processor can't predict the index.
+#[inline]
+fn first_place(triplets: &[Triplet], storage: u32) -> usize
+    ensures { result ≡ position_or_len (λ t. t.storage == storage) triplets.now }
+{
+    match triplets {
+        [] => 0,
+        [a] => first_true(a.storage == storage, true, true),
+        [a, b] => first_true(a.storage == storage, b.storage == storage, true),
+        [a, b, c] => first_true(
+            a.storage == storage,
+            b.storage == storage,
+            c.storage == storage,
+        ),
+        _ => first_of_many(triplets, storage),
+    }
+}
+
+// The index of the first value that is true; 3 if none is.
+#[inline(always)]
+fn first_true(a: bool, b: bool, c: bool) -> usize
+    ensures { result ≡ (if a then 0 else (if b then 1 else (if c then 2 else 3))) }
+{
+    let mut first = 3;
+    if c {
+        first = 2;
+    }
+    if b {
+        first = 1;
+    }
+    if a {
+        first = 0;
+    }
+    first
+}
+
+#[inline(never)]
+fn first_of_many(triplets: &[Triplet], storage: u32) -> usize
+    ensures { result ≡ position_or_len (λ t. t.storage == storage) triplets.now }
+{
+    let mut first = triplets.len();
+    for place in (0..triplets.len()).rev() {
+        if triplets[place].storage == storage {
+            first = place;
+        }
+    }
+    first
+}
+
+// The index of a storage's triplet, where no two triplets are of one storage. Compares the triplet
+// at index `guess` first, and the others only if that one is of another storage.
 fn place_near(triplets: &[Triplet], storage: u32, guess: usize) -> Option<usize>
     requires { Distinct (storages_in triplets.now) }
     ensures { result ≡ position (λ t. t.storage == storage) triplets.now }
@@ -62,20 +108,10 @@ fn set_previous_in(triplets: &mut [Triplet], storage: u32, previous: SlotLink)
     }
 }
 
-fn set_previous_near_in(triplets: &mut [Triplet], storage: u32, previous: SlotLink, guess: usize)
-    requires { Distinct (storages_in triplets.old) }
-    ensures { triplets.new ≡ change_triplet (with_previous previous) triplets.old storage }
-{
-    if let Some(place) = place_near(triplets, storage, guess) {
-        triplets[place].previous = previous;
-    }
-}
-
-fn set_next_near_in(triplets: &mut [Triplet], storage: u32, next: SlotLink, guess: usize)
-    requires { Distinct (storages_in triplets.old) }
+fn set_next_in(triplets: &mut [Triplet], storage: u32, next: SlotLink)
     ensures { triplets.new ≡ change_triplet (with_next next) triplets.old storage }
 {
-    if let Some(place) = place_near(triplets, storage, guess) {
+    if let Some(place) = place_of(triplets, storage) {
         triplets[place].next = next;
     }
 }
@@ -107,41 +143,6 @@ pub(crate) fn find(slots: &Slab<Entry>, slot: usize, storage: u32) -> Option<Tri
     }
 }
 
-// A guess of the place of a storage's triplet in the blocks that stand beside this one in its list: that of its own, since blocks of a
-// storage mostly have their replicas in one order.
-pub(crate) fn usual_place(slots: &Slab<Entry>, slot: usize, storage: u32) -> usize {
-    match slots.get(slot) {
-        Some(entry) => place_of(entry.triplets.as_slice(), storage).unwrap_or(0),
-        None => 0,
-    }
-}
-
-// The triplet of a storage in the block at a slot, with a guess of its place.
-pub(crate) fn find_near(
-    slots: &Slab<Entry>,
-    slot: usize,
-    storage: u32,
-    guess: usize,
-) -> Option<Triplet>
-    requires { AreOnce slots.now }
-    ensures { result ≡ triplet_at slots.now slot storage }
-{
-    match slots.get(slot) {
-        Some(entry) => find_near_in(entry.triplets.as_slice(), storage, guess),
-        None => None,
-    }
-}
-
-fn find_near_in(triplets: &[Triplet], storage: u32, guess: usize) -> Option<Triplet>
-    requires { Distinct (storages_in triplets.now) }
-    ensures { result ≡ find_triplet triplets.now storage }
-{
-    match place_near(triplets, storage, guess) {
-        Some(place) => Some(triplets[place]),
-        None => None,
-    }
-}
-
 fn set_previous(slots: &mut Slab<Entry>, slot: usize, storage: u32, previous: SlotLink)
     ensures { slots.new ≡ change_at (with_previous previous) slots.old slot storage }
 {
@@ -150,27 +151,11 @@ fn set_previous(slots: &mut Slab<Entry>, slot: usize, storage: u32, previous: Sl
     }
 }
 
-fn set_previous_near(
-    slots: &mut Slab<Entry>,
-    slot: usize,
-    storage: u32,
-    previous: SlotLink,
-    guess: usize,
-)
-    requires { AreOnce slots.old }
-    ensures { slots.new ≡ change_at (with_previous previous) slots.old slot storage }
-{
-    if let Some(entry) = slots.get_mut(slot) {
-        set_previous_near_in(entry.triplets.as_mut_slice(), storage, previous, guess);
-    }
-}
-
-fn set_next_near(slots: &mut Slab<Entry>, slot: usize, storage: u32, next: SlotLink, guess: usize)
-    requires { AreOnce slots.old }
+fn set_next(slots: &mut Slab<Entry>, slot: usize, storage: u32, next: SlotLink)
     ensures { slots.new ≡ change_at (with_next next) slots.old slot storage }
 {
     if let Some(entry) = slots.get_mut(slot) {
-        set_next_near_in(entry.triplets.as_mut_slice(), storage, next, guess);
+        set_next_in(entry.triplets.as_mut_slice(), storage, next);
     }
 }
 
@@ -219,47 +204,32 @@ pub(crate) fn attach(slots: &mut Slab<Entry>, first: &mut SlotLink, slot: usize,
     *first = here;
 }
 
-// Links a slot, which has a triplet, before the old head. The triplets are probably at index `guess`.
-pub(crate) fn attach_near(
-    slots: &mut Slab<Entry>,
-    first: &mut SlotLink,
-    slot: usize,
-    storage: u32,
-    guess: usize,
-)
-    requires here { slot < end_of_links }
-    requires once { AreOnce slots.old }
+// Links a slot, which has a triplet, before the old head.
+pub(crate) fn attach_again(slots: &mut Slab<Entry>, first: &mut SlotLink, slot: usize, storage: u32)
+    requires { slot < end_of_links }
     ensures slots { slots.new ≡ attached slots.old first.old slot storage }
     ensures first { first.new ≡ Some slot }
 {
     let here = SlotLink::to(slot);
     if let Some(old_first) = first.slot() {
-        set_previous_near(slots, old_first, storage, here, guess);
+        set_previous(slots, old_first, storage, here);
     }
-    set_previous_near(slots, slot, storage, NO_LINK, guess);
-    set_next_near(slots, slot, storage, *first, guess);
+    set_previous(slots, slot, storage, NO_LINK);
+    set_next(slots, slot, storage, *first);
     *first = here;
 }
 
-// Links the neighbours of a triplet to each other, with a guess of the place of the storage's triplet in each.
-pub(crate) fn detach(
-    slots: &mut Slab<Entry>,
-    first: &mut SlotLink,
-    triplet: Triplet,
-    storage: u32,
-    guess: usize,
-)
-    requires { AreOnce slots.old }
+// Links the neighbours of a triplet to each other.
+pub(crate) fn detach(slots: &mut Slab<Entry>, first: &mut SlotLink, triplet: Triplet, storage: u32)
     ensures slots { slots.new ≡ detached slots.old triplet storage }
     ensures first { first.new ≡ (if is_some triplet.previous then first.old else triplet.next) }
-    ensures once { AreOnce slots.new }
 {
     match triplet.previous.slot() {
-        Some(previous) => set_next_near(slots, previous, storage, triplet.next, guess),
+        Some(previous) => set_next(slots, previous, storage, triplet.next),
         None => *first = triplet.next,
     }
     if let Some(next) = triplet.next.slot() {
-        set_previous_near(slots, next, storage, triplet.previous, guess);
+        set_previous(slots, next, storage, triplet.previous);
     }
 }
 

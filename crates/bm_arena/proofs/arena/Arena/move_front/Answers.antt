@@ -5,30 +5,22 @@ use Rattle.bm_arena.proofs.ListCalls.{move_front-sound, move_front-view, no_repl
 use Rattle.bm_arena.proofs.Lawfulness.{IsLawful-arena}
 use Rattle.bm_arena.proofs.Bounds.{below-moved}
 use Rattle.bm_arena.proofs.Held.{replicas-moved, blocks-kept}
-use Rattle.bm_arena.specs.Triplets.{seen_entry}
-use Rattle.bm_arena.proofs.Seeing.{seen_at}
 use Rattle.bm_arena.proofs.arena.Arena.move_front.Goals as goal
-
-pub find_near-requires : goal.find_near-requires
-find_near-requires c x e here = c.self.invariant.arena.sound.once x (seen_entry e) (seen_at c.self.inside.slots x e here)
-
-pub detach-requires : goal.detach-requires
-detach-requires c x e here = c.self.invariant.arena.sound.once x (seen_entry e) (seen_at c.self.inside.slots x e here)
 
 pub invariant_of-self : goal.invariant_of-self
 invariant_of-self c =
     record {
       arena =
           move_front-sound c.self.inside.slots c.self.inside.heads.entries c.in-Some-get_mut.first.now c.storage.inside.0 c.args.slot c.in-Some.triplet c.self.inside.ids c.self.inside.delimiter c.self.invariant.arena c.in-Some-get_mut.ensures.value c.in-Some.ensures
-          c.detach.new.slots c.attach_near.new.slots c.detach.new.first c.attach_near.new.first _ c.detach.ensures.slots c.detach.ensures.first c.attach_near.ensures.slots (c.get_mut.follows.holds c.attach_near.new.first).0 c.attach_near.ensures.first (c.get_mut.follows.holds c.attach_near.new.first).4;
-      bounded = below-moved c.self.inside.slots c.detach.new.slots c.attach_near.new.slots c.detach.new.first c.args.slot c.storage.inside.0 c.in-Some.triplet c.self.inside.bound c.detach.ensures.slots c.attach_near.ensures.slots c.self.invariant.bounded;
+          c.detach.new.slots c.attach_again.new.slots c.detach.new.first c.attach_again.new.first _ c.detach.ensures.slots c.detach.ensures.first c.attach_again.ensures.slots (c.get_mut.follows.holds c.attach_again.new.first).0 c.attach_again.ensures.first (c.get_mut.follows.holds c.attach_again.new.first).4;
+      bounded = below-moved c.self.inside.slots c.detach.new.slots c.attach_again.new.slots c.detach.new.first c.args.slot c.storage.inside.0 c.in-Some.triplet c.self.inside.bound c.detach.ensures.slots c.attach_again.ensures.slots c.self.invariant.bounded;
     }
 
 pub returns-in-Some-get_mut-clause-after : goal.returns-in-Some-get_mut-clause-after
 returns-in-Some-get_mut-clause-after c =
     rw (← c.self.view_is, ← c.storage.view_is)
     (move_front-view c.self.inside.slots c.self.inside.heads.entries c.in-Some-get_mut.first.now c.storage.inside.0 c.args.slot c.in-Some.triplet c.self.inside.ids c.self.inside.delimiter c.self.invariant.arena c.in-Some-get_mut.ensures.value c.in-Some.ensures
-    c.detach.new.slots c.attach_near.new.slots c.detach.new.first c.attach_near.new.first _ c.self.inside.steps c.count_up-self-inside.result c.self.inside.bound c.detach.ensures.slots c.detach.ensures.first c.attach_near.ensures.slots (c.get_mut.follows.holds c.attach_near.new.first).0 c.attach_near.ensures.first
+    c.detach.new.slots c.attach_again.new.slots c.detach.new.first c.attach_again.new.first _ c.self.inside.steps c.count_up-self-inside.result c.self.inside.bound c.detach.ensures.slots c.detach.ensures.first c.attach_again.ensures.slots (c.get_mut.follows.holds c.attach_again.new.first).0 c.attach_again.ensures.first
     c.count_up-self-inside.ensures)
 
 pub returns-in_default : goal.returns-in_default
@@ -37,7 +29,7 @@ returns-in_default c =
     absurd (no_replica c.self.inside.slots c.storage.inside.0 c.args.slot c.in_default.ensures there)
 
 pub returns-in-Some-get_mut-clause-lawful : goal.returns-in-Some-get_mut-clause-lawful
-returns-in-Some-get_mut-clause-lawful c = IsLawful-arena c.attach_near.new.slots _ _ _ _ (invariant_of-self c) _
+returns-in-Some-get_mut-clause-lawful c = IsLawful-arena c.attach_again.new.slots _ _ _ _ (invariant_of-self c) _
 
 pub returns-in-Some-get_mut-clause-list : goal.returns-in-Some-get_mut-clause-list
 returns-in-Some-get_mut-clause-list c =

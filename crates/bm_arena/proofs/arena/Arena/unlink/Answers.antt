@@ -5,15 +5,7 @@ use Rattle.bm_arena.proofs.ListCalls.{unlink-sound, unlink-view, no_replica}
 use Rattle.bm_arena.proofs.Lawfulness.{IsLawful-arena}
 use Rattle.bm_arena.proofs.Bounds.{below-unlinked}
 use Rattle.bm_arena.proofs.Held.{replicas-out, blocks-kept}
-use Rattle.bm_arena.specs.Triplets.{seen_entry}
-use Rattle.bm_arena.proofs.Seeing.{seen_at}
 use Rattle.bm_arena.proofs.arena.Arena.unlink.Goals as goal
-
-pub find_near-requires : goal.find_near-requires
-find_near-requires c x e here = c.self.invariant.arena.sound.once x (seen_entry e) (seen_at c.self.inside.slots x e here)
-
-pub detach-requires : goal.detach-requires
-detach-requires c x e here = c.self.invariant.arena.sound.once x (seen_entry e) (seen_at c.self.inside.slots x e here)
 
 pub invariant_of-self : goal.invariant_of-self
 invariant_of-self c =
