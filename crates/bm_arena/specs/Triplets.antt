@@ -1,5 +1,5 @@
 -- Triplets in a block's vector, found by their storage.
-use Rattle.std.specs.Prelude.{◌≡◌, ℕ, ◌==◌, List, map, [], ◌∷◌, Option, Some, None, if◌then◌else◌, Bool}
+use Rattle.std.specs.Prelude.{◌≡◌, ℕ, ◌==◌, List, map, [], ◌∷◌, Option, Some, None, is_some, if◌then◌else◌, Bool}
 use Rattle.std.specs.Option.{option_map, option_and_then, option_map_or}
 use Rattle.std.specs.Prelude.{slice_set, slice_index_or, take, length, ◌++◌}
 use Rattle.slab.specs.Slab.{Slab, get}
@@ -30,6 +30,14 @@ with_previous previous t = record t { previous = previous }
 
 abbrev pub with_next : Option ℕ → Triplet → Triplet
 with_next next t = record t { next = next }
+
+-- the first slot of a list, once the slot of a triplet has left it
+abbrev pub first_after : Option ℕ → Triplet → Option ℕ
+first_after first t = if is_some t.previous then first else t.next
+
+-- a triplet linked as the head of its list
+abbrev pub as_first : Option ℕ → Triplet → Triplet
+as_first first t = record t { previous = None; next = first_after first t }
 
 abbrev pub with_triplet_marks : Marks → Triplet → Triplet
 with_triplet_marks marks t = record t { marks = marks }
@@ -110,11 +118,6 @@ previous_set slots (Some y) storage previous = change_at (with_previous previous
 abbrev pub next_set : Slab Entry → Option ℕ → ℕ → Option ℕ → Slab Entry
 next_set slots None storage next = slots
 next_set slots (Some y) storage next = change_at (with_next next) slots y storage
-
--- the slab after the slot x was linked before the slot that was first
-abbrev pub attached : Slab Entry → Option ℕ → ℕ → ℕ → Slab Entry
-attached slots first x storage =
-    change_at (with_next first) (change_at (with_previous None) (previous_set slots first storage (Some x)) x storage) x storage
 
 -- the slab after the neighbours of a triplet were linked to each other
 abbrev pub detached : Slab Entry → Triplet → ℕ → Slab Entry

@@ -7,7 +7,7 @@ ghost use Rattle.bm_arena.specs.declared.types.Entry.{Entry};
 ghost use Rattle.smallvec.specs.SmallVec.{HasRoomFor};
 ghost use Rattle.bm_base.specs.SlotLinks.{end_of_links};
 ghost use Rattle.bm_base.specs.SlotLists.{Distinct};
-ghost use Rattle.bm_arena.specs.Triplets.{seen_triplet, with_capacity, capacity_at, at_slot, added, removed, fill_first, is_of, attached, previous_set, detached, find_triplet, change_triplet, storages_in, with_previous, with_next, with_triplet_marks, triplet_at, change_at};
+ghost use Rattle.bm_arena.specs.Triplets.{seen_triplet, with_capacity, capacity_at, at_slot, added, removed, fill_first, is_of, as_first, first_after, previous_set, detached, find_triplet, change_triplet, storages_in, with_previous, with_next, with_triplet_marks, triplet_at, change_at};
 
 use crate::types::{Entry, TRIPLETS_IN_PLACE, Triplet};
 use bm_base::{BlockInfo, Marks, NO_LINK, SlotLink, StorageId};
@@ -29,7 +29,7 @@ fn place_of(triplets: &[Triplet], storage: u32) -> Option<usize>
 }
 
 // The index of the first triplet of a storage; the number of triplets if there is none. Up to three
-// are compared with no loop and no branch on the outcome, since the processor can't predict the index.
+// are compared with no loop and no branch, since the processor can't predict the index.
 #[inline]
 fn first_place(triplets: &[Triplet], storage: u32) -> usize
     ensures { result ≡ position_or_len (λ t. t.storage == storage) triplets.now }
@@ -159,6 +159,52 @@ fn set_next(slots: &mut Slab<Entry>, slot: usize, storage: u32, next: SlotLink)
     }
 }
 
+// Relinks the triplet of a storage as the head of its list, and gives it as it was.
+pub(crate) fn put_first(
+    slots: &mut Slab<Entry>,
+    slot: usize,
+    storage: u32,
+    first: SlotLink,
+) -> Option<Triplet>
+    ensures found { result ≡ triplet_at slots.old slot storage }
+    ensures slots { slots.new ≡ change_at (as_first first) slots.old slot storage }
+{
+    match slots.get_mut(slot) {
+        Some(entry) => put_first_in(entry.triplets.as_mut_slice(), storage, first),
+        None => None,
+    }
+}
+
+fn put_first_in(triplets: &mut [Triplet], storage: u32, first: SlotLink) -> Option<Triplet>
+    ensures found { result ≡ find_triplet triplets.old storage }
+    ensures triplets { triplets.new ≡ change_triplet (as_first first) triplets.old storage }
+{
+    match place_of(triplets, storage) {
+        Some(place) => {
+            let triplet = triplets[place];
+            triplets[place] = as_first(&triplet, first);
+            Some(triplet)
+        }
+        None => None,
+    }
+}
+
+// A triplet linked as the head of its list. If it is the head already, its next link stays.
+fn as_first(triplet: &Triplet, first: SlotLink) -> Triplet
+    ensures { result ≡ as_first first triplet.now }
+{
+    let next = if triplet.previous.slot().is_some() {
+        first
+    } else {
+        triplet.next
+    };
+    Triplet {
+        previous: NO_LINK,
+        next,
+        ..*triplet
+    }
+}
+
 pub(crate) fn set_marks(slots: &mut Slab<Entry>, slot: usize, storage: u32, marks: Marks)
     ensures { slots.new ≡ change_at (with_triplet_marks marks) slots.old slot storage }
 {
@@ -204,25 +250,11 @@ pub(crate) fn attach(slots: &mut Slab<Entry>, first: &mut SlotLink, slot: usize,
     *first = here;
 }
 
-// Links a slot, which has a triplet, before the old head.
-pub(crate) fn attach_again(slots: &mut Slab<Entry>, first: &mut SlotLink, slot: usize, storage: u32)
-    requires { slot < end_of_links }
-    ensures slots { slots.new ≡ attached slots.old first.old slot storage }
-    ensures first { first.new ≡ Some slot }
-{
-    let here = SlotLink::to(slot);
-    if let Some(old_first) = first.slot() {
-        set_previous(slots, old_first, storage, here);
-    }
-    set_previous(slots, slot, storage, NO_LINK);
-    set_next(slots, slot, storage, *first);
-    *first = here;
-}
-
 // Links the neighbours of a triplet to each other.
+#[inline]
 pub(crate) fn detach(slots: &mut Slab<Entry>, first: &mut SlotLink, triplet: Triplet, storage: u32)
     ensures slots { slots.new ≡ detached slots.old triplet storage }
-    ensures first { first.new ≡ (if is_some triplet.previous then first.old else triplet.next) }
+    ensures first { first.new ≡ first_after first.old triplet }
 {
     match triplet.previous.slot() {
         Some(previous) => set_next(slots, previous, storage, triplet.next),
@@ -244,21 +276,25 @@ pub(crate) fn add_triplet(slots: &mut Slab<Entry>, slot: usize, triplet: Triplet
 }
 
 // Takes a storage's triplet out of a block's: the last one fills its place.
-fn fill_place(triplets: &mut SmallVec<Triplet, TRIPLETS_IN_PLACE>, storage: u32)
+fn fill_place(triplets: &mut SmallVec<Triplet, TRIPLETS_IN_PLACE>, storage: u32) -> Option<Triplet>
+    ensures found { result ≡ find_triplet triplets.old.items storage }
     ensures items { triplets.new.items ≡ fill_first (is_of storage) triplets.old.items }
     ensures capacity { triplets.new.capacity ≡ triplets.old.capacity }
 {
-    if let Some(place) = place_of(triplets.as_slice(), storage) {
-        let _ = triplets.swap_remove(place);
+    match place_of(triplets.as_slice(), storage) {
+        Some(place) => Some(triplets.swap_remove(place)),
+        None => None,
     }
 }
 
 // Takes a storage's triplet out of the block at a slot: the block's last triplet fills its place.
-pub(crate) fn remove_triplet(slots: &mut Slab<Entry>, slot: usize, storage: u32)
-    ensures { slots.new ≡ removed slots.old slot storage }
+pub(crate) fn remove_triplet(slots: &mut Slab<Entry>, slot: usize, storage: u32) -> Option<Triplet>
+    ensures found { result ≡ triplet_at slots.old slot storage }
+    ensures slots { slots.new ≡ removed slots.old slot storage }
 {
-    if let Some(entry) = slots.get_mut(slot) {
-        fill_place(&mut entry.triplets, storage);
+    match slots.get_mut(slot) {
+        Some(entry) => fill_place(&mut entry.triplets, storage),
+        None => None,
     }
 }
 

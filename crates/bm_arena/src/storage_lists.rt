@@ -113,10 +113,9 @@ impl Arena {
         ensures known { blocks_of self.new ≡ blocks_of self.old }
         ensures lawful { IsLawful self.new }
     {
-        if let Some(triplet) = links::find(&self.slots, slot, storage.0) {
-            if let Some(first) = self.heads.get_mut(&storage.0) {
+        if let Some(first) = self.heads.get_mut(&storage.0) {
+            if let Some(triplet) = links::remove_triplet(&mut self.slots, slot, storage.0) {
                 links::detach(&mut self.slots, first, triplet, storage.0);
-                links::remove_triplet(&mut self.slots, slot, storage.0);
                 self.steps = count_up(self.steps);
             }
         }
@@ -133,10 +132,10 @@ impl Arena {
         ensures known { blocks_of self.new ≡ blocks_of self.old }
         ensures lawful { IsLawful self.new }
     {
-        if let Some(triplet) = links::find(&self.slots, slot, storage.0) {
-            if let Some(first) = self.heads.get_mut(&storage.0) {
+        if let Some(first) = self.heads.get_mut(&storage.0) {
+            if let Some(triplet) = links::put_first(&mut self.slots, slot, storage.0, *first) {
                 links::detach(&mut self.slots, first, triplet, storage.0);
-                links::attach_again(&mut self.slots, first, slot, storage.0);
+                links::attach(&mut self.slots, first, slot, storage.0);
                 self.steps = count_up(self.steps);
             }
         }
