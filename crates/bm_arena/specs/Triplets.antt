@@ -1,5 +1,5 @@
 -- Triplets in a block's vector, found by their storage.
-use Rattle.std.specs.Prelude.{◌≡◌, ℕ, ◌==◌, List, map, [], ◌∷◌, Option, Some, None, is_some, if◌then◌else◌, Bool}
+use Rattle.std.specs.Prelude.{ℕ, ◌==◌, List, map, [], ◌∷◌, Option, Some, None, is_some, if◌then◌else◌, Bool}
 use Rattle.std.specs.Option.{option_map, option_and_then, option_map_or}
 use Rattle.std.specs.Prelude.{slice_set, slice_index_or, take, length, ◌++◌}
 use Rattle.slab.specs.Slab.{Slab, get}

@@ -237,7 +237,9 @@ pub(crate) fn set_info(slots: &mut Slab<Entry>, slot: usize, info: Option<BlockI
     }
 }
 
-// Puts a slot at the head of a list. Its triplet has no previous link, and its next link is the old head.
+// Puts a slot at the head of a list. Its triplet has no previous link, and its next link leads to
+// the old head.
+#[inline]
 pub(crate) fn attach(slots: &mut Slab<Entry>, first: &mut SlotLink, slot: usize, storage: u32)
     requires { slot < end_of_links }
     ensures slots { slots.new ≡ previous_set slots.old first.old storage (Some slot) }
@@ -251,7 +253,7 @@ pub(crate) fn attach(slots: &mut Slab<Entry>, first: &mut SlotLink, slot: usize,
 }
 
 // Links the neighbours of a triplet to each other.
-#[inline]
+#[inline(always)]
 pub(crate) fn detach(slots: &mut Slab<Entry>, first: &mut SlotLink, triplet: Triplet, storage: u32)
     ensures slots { slots.new ≡ detached slots.old triplet storage }
     ensures first { first.new ≡ first_after first.old triplet }
