@@ -11,22 +11,22 @@ pub invariant_of-self : goal.invariant_of-self
 invariant_of-self c =
     record {
       arena =
-          move_front-sound c.self.inside.slots c.self.inside.heads.entries c.in-Some.first.now c.storage.inside.0 c.args.slot c.in-Some-put_first.triplet c.self.inside.ids c.self.inside.delimiter c.self.invariant.arena c.in-Some.ensures.value c.in-Some-put_first.ensures.found
-          c.put_first.new.slots c.detach.new.slots c.attach.new.slots c.detach.new.first c.attach.new.first _ c.put_first.ensures.slots c.detach.ensures.slots c.detach.ensures.first c.attach.ensures.slots (c.get_mut.follows.holds c.attach.new.first).0 c.attach.ensures.first (c.get_mut.follows.holds c.attach.new.first).4;
-      bounded = below-moved c.self.inside.slots c.put_first.new.slots c.detach.new.slots c.attach.new.slots c.in-Some.first.now c.detach.new.first c.args.slot c.storage.inside.0 c.in-Some-put_first.triplet c.self.inside.bound c.put_first.ensures.slots c.detach.ensures.slots c.attach.ensures.slots c.self.invariant.bounded;
+          move_front-sound c.self.inside.slots c.self.inside.heads.entries c.in-Some.head.first c.storage.inside.0 c.args.slot c.in-Some-put_first.triplet c.self.inside.ids c.self.inside.delimiter c.self.invariant.arena c.in-Some.ensures.first c.in-Some-put_first.ensures.found
+          c.put_first.new.slots c.detach.new.slots c.attach.new.slots c.detach.new.first c.attach.new.first _ c.put_first.ensures.slots c.detach.ensures.slots c.detach.ensures.first c.attach.ensures.slots (c.set.ensures.entries c.storage.inside.0 c.in-Some.head.first c.in-Some.ensures.index) c.attach.ensures.first c.set.ensures.unique;
+      bounded = below-moved c.self.inside.slots c.put_first.new.slots c.detach.new.slots c.attach.new.slots c.in-Some.head.first c.detach.new.first c.args.slot c.storage.inside.0 c.in-Some-put_first.triplet c.self.inside.bound c.put_first.ensures.slots c.detach.ensures.slots c.attach.ensures.slots c.self.invariant.bounded;
     }
 
 pub returns-in-Some-put_first-clause-after : goal.returns-in-Some-put_first-clause-after
 returns-in-Some-put_first-clause-after c =
     rw (← c.self.view_is, ← c.storage.view_is)
-    (move_front-view c.self.inside.slots c.self.inside.heads.entries c.in-Some.first.now c.storage.inside.0 c.args.slot c.in-Some-put_first.triplet c.self.inside.ids c.self.inside.delimiter c.self.invariant.arena c.in-Some.ensures.value c.in-Some-put_first.ensures.found
-    c.put_first.new.slots c.detach.new.slots c.attach.new.slots c.detach.new.first c.attach.new.first _ c.self.inside.steps c.count_up-self-inside.result c.self.inside.bound c.put_first.ensures.slots c.detach.ensures.slots c.detach.ensures.first c.attach.ensures.slots (c.get_mut.follows.holds c.attach.new.first).0 c.attach.ensures.first
+    (move_front-view c.self.inside.slots c.self.inside.heads.entries c.in-Some.head.first c.storage.inside.0 c.args.slot c.in-Some-put_first.triplet c.self.inside.ids c.self.inside.delimiter c.self.invariant.arena c.in-Some.ensures.first c.in-Some-put_first.ensures.found
+    c.put_first.new.slots c.detach.new.slots c.attach.new.slots c.detach.new.first c.attach.new.first _ c.self.inside.steps c.count_up-self-inside.result c.self.inside.bound c.put_first.ensures.slots c.detach.ensures.slots c.detach.ensures.first c.attach.ensures.slots (c.set.ensures.entries c.storage.inside.0 c.in-Some.head.first c.in-Some.ensures.index) c.attach.ensures.first
     c.count_up-self-inside.ensures)
 
 pub returns-in_default : goal.returns-in_default
 returns-in_default c =
     let there = rw (← c.self.view_is, ← c.storage.view_is) at c.requires in
-    absurd (no_list c.self.inside.slots c.self.inside.heads.entries c.storage.inside.0 c.args.slot c.self.invariant.arena.sound c.in_default.ensures.value there)
+    absurd (no_list c.self.inside.slots c.self.inside.heads.entries c.storage.inside.0 c.args.slot c.self.invariant.arena.sound c.in_default.ensures.first there)
 
 pub returns-in-Some-put_first-clause-lawful : goal.returns-in-Some-put_first-clause-lawful
 returns-in-Some-put_first-clause-lawful c = IsLawful-arena c.attach.new.slots _ _ _ _ (invariant_of-self c) _

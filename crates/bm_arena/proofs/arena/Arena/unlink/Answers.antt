@@ -11,22 +11,22 @@ pub invariant_of-self : goal.invariant_of-self
 invariant_of-self c =
     record {
       arena =
-          unlink-sound c.self.inside.slots c.self.inside.heads.entries c.in-Some.first.now c.storage.inside.0 c.args.slot c.in-Some-remove_triplet.triplet c.self.inside.ids c.self.inside.delimiter c.self.invariant.arena c.in-Some.ensures.value c.in-Some-remove_triplet.ensures.found
-          c.remove_triplet.new.slots c.detach.new.slots _ c.detach.new.first c.remove_triplet.ensures.slots c.detach.ensures.slots (c.get_mut.follows.holds c.detach.new.first).0 c.detach.ensures.first (c.get_mut.follows.holds c.detach.new.first).4;
+          unlink-sound c.self.inside.slots c.self.inside.heads.entries c.in-Some.head.first c.storage.inside.0 c.args.slot c.in-Some-remove_triplet.triplet c.self.inside.ids c.self.inside.delimiter c.self.invariant.arena c.in-Some.ensures.first c.in-Some-remove_triplet.ensures.found
+          c.remove_triplet.new.slots c.detach.new.slots _ c.detach.new.first c.remove_triplet.ensures.slots c.detach.ensures.slots (c.set.ensures.entries c.storage.inside.0 c.in-Some.head.first c.in-Some.ensures.index) c.detach.ensures.first c.set.ensures.unique;
       bounded = below-unlinked c.self.inside.slots c.remove_triplet.new.slots c.detach.new.slots c.args.slot c.storage.inside.0 c.in-Some-remove_triplet.triplet c.self.inside.bound c.remove_triplet.ensures.slots c.detach.ensures.slots c.self.invariant.bounded;
     }
 
 pub returns-in-Some-remove_triplet-clause-after : goal.returns-in-Some-remove_triplet-clause-after
 returns-in-Some-remove_triplet-clause-after c =
     rw (← c.self.view_is, ← c.storage.view_is)
-    (unlink-view c.self.inside.slots c.self.inside.heads.entries c.in-Some.first.now c.storage.inside.0 c.args.slot c.in-Some-remove_triplet.triplet c.self.inside.ids c.self.inside.delimiter c.self.invariant.arena c.in-Some.ensures.value c.in-Some-remove_triplet.ensures.found
-    c.remove_triplet.new.slots c.detach.new.slots _ c.detach.new.first c.self.inside.steps c.count_up-self-inside.result c.self.inside.bound c.remove_triplet.ensures.slots c.detach.ensures.slots (c.get_mut.follows.holds c.detach.new.first).0 c.detach.ensures.first
+    (unlink-view c.self.inside.slots c.self.inside.heads.entries c.in-Some.head.first c.storage.inside.0 c.args.slot c.in-Some-remove_triplet.triplet c.self.inside.ids c.self.inside.delimiter c.self.invariant.arena c.in-Some.ensures.first c.in-Some-remove_triplet.ensures.found
+    c.remove_triplet.new.slots c.detach.new.slots _ c.detach.new.first c.self.inside.steps c.count_up-self-inside.result c.self.inside.bound c.remove_triplet.ensures.slots c.detach.ensures.slots (c.set.ensures.entries c.storage.inside.0 c.in-Some.head.first c.in-Some.ensures.index) c.detach.ensures.first
     c.count_up-self-inside.ensures)
 
 pub returns-in_default : goal.returns-in_default
 returns-in_default c =
     let there = rw (← c.self.view_is, ← c.storage.view_is) at c.requires in
-    absurd (no_list c.self.inside.slots c.self.inside.heads.entries c.storage.inside.0 c.args.slot c.self.invariant.arena.sound c.in_default.ensures.value there)
+    absurd (no_list c.self.inside.slots c.self.inside.heads.entries c.storage.inside.0 c.args.slot c.self.invariant.arena.sound c.in_default.ensures.first there)
 
 pub returns-in-Some-remove_triplet-clause-lawful : goal.returns-in-Some-remove_triplet-clause-lawful
 returns-in-Some-remove_triplet-clause-lawful c = IsLawful-arena c.detach.new.slots _ _ _ _ (invariant_of-self c) _
