@@ -7,7 +7,7 @@ use Rattle.std.proofs.lemmas.List.{get_or-set_other}
 use Rattle.slab.specs.Slab.{Slab, get, Updates}
 use Rattle.bm_arena.specs.declared.types.Entry.{Entry}
 use Rattle.bm_arena.specs.declared.types.Triplet.{Triplet}
-use Rattle.bm_arena.specs.Triplets.{Block, seen_slots, at_slot, change_at, with_previous, added, removed, attached, detached, previous_set, next_set}
+use Rattle.bm_arena.specs.Triplets.{Block, seen_slots, at_slot, change_at, as_first, added, removed, detached, previous_set, next_set}
 use Rattle.bm_arena.specs.Inside.{AllBelow}
 use Rattle.bm_arena.proofs.Triplets.{get_or-set_here}
 use Rattle.bm_arena.proofs.Seeing.{some_inside, entry_seen}
@@ -30,12 +30,6 @@ below-next_set : (slots : Slab Entry) (at : Option ℕ) (s : ℕ) (next : Option
 below-next_set slots None s next bound below = below
 below-next_set slots (Some y) s next bound below = below-at_slot _ slots y bound below
 
-below-attached : (slots : Slab Entry) (first : Option ℕ) (x s bound : ℕ) → AllBelow slots bound → AllBelow (attached slots first x s) bound
-below-attached slots first x s bound below =
-    let before = previous_set slots first s (Some x) in
-    let linked = change_at (with_previous None) before x s in
-    below-at_slot _ linked x bound (below-at_slot _ before x bound (below-previous_set slots first s (Some x) bound below))
-
 below-detached : (slots : Slab Entry) (t : Triplet) (s bound : ℕ) → AllBelow slots bound → AllBelow (detached slots t s) bound
 below-detached slots t s bound below =
     below-previous_set (next_set slots t.previous s t.next) t.next s t.previous bound (below-next_set slots t.previous s t.next bound below)
@@ -43,17 +37,19 @@ below-detached slots t s bound below =
 pub below-changed : (g : Entry → Entry) (slots new : Slab Entry) (x bound : ℕ) → new ≡ at_slot g slots x → AllBelow slots bound → AllBelow new bound
 below-changed g slots new x bound is below = rw is (below-at_slot g slots x bound below)
 
-pub below-linked : (slots mid new : Slab Entry) (first : Option ℕ) (x s : ℕ) (t : Triplet) (bound : ℕ) → mid ≡ added slots x t → new ≡ attached mid first x s → AllBelow slots bound → AllBelow new bound
+pub below-linked : (slots mid new : Slab Entry) (first : Option ℕ) (x s : ℕ) (t : Triplet) (bound : ℕ) → mid ≡ added slots x t → new ≡ previous_set mid first s (Some x) → AllBelow slots bound → AllBelow new bound
 below-linked slots mid new first x s t bound mid_is new_is below =
-    rw (new_is, mid_is) (below-attached (added slots x t) first x s bound (below-at_slot _ slots x bound below))
+    rw (new_is, mid_is) (below-previous_set (added slots x t) first s (Some x) bound (below-at_slot _ slots x bound below))
 
-pub below-unlinked : (slots mid new : Slab Entry) (x s : ℕ) (t : Triplet) (bound : ℕ) → mid ≡ detached slots t s → new ≡ removed mid x s → AllBelow slots bound → AllBelow new bound
+pub below-unlinked : (slots mid new : Slab Entry) (x s : ℕ) (t : Triplet) (bound : ℕ) → mid ≡ removed slots x s → new ≡ detached mid t s → AllBelow slots bound → AllBelow new bound
 below-unlinked slots mid new x s t bound mid_is new_is below =
-    rw (new_is, mid_is) (below-at_slot _ (detached slots t s) x bound (below-detached slots t s bound below))
+    rw (new_is, mid_is) (below-detached (removed slots x s) t s bound (below-at_slot _ slots x bound below))
 
-pub below-moved : (slots mid new : Slab Entry) (first : Option ℕ) (x s : ℕ) (t : Triplet) (bound : ℕ) → mid ≡ detached slots t s → new ≡ attached mid first x s → AllBelow slots bound → AllBelow new bound
-below-moved slots mid new first x s t bound mid_is new_is below =
-    rw (new_is, mid_is) (below-attached (detached slots t s) first x s bound (below-detached slots t s bound below))
+pub below-moved : (slots front mid new : Slab Entry) (first middle : Option ℕ) (x s : ℕ) (t : Triplet) (bound : ℕ) → front ≡ change_at (as_first first) slots x s → mid ≡ detached front t s → new ≡ previous_set mid middle s (Some x) → AllBelow slots bound → AllBelow new bound
+below-moved slots front mid new first middle x s t bound front_is mid_is new_is below =
+    rw (new_is, mid_is, front_is)
+    (below-previous_set (detached (change_at (as_first first) slots x s) t s) middle s (Some x) bound
+    (below-detached (change_at (as_first first) slots x s) t s bound (below-at_slot _ slots x bound below)))
 
 pub below-dropped : (slots new : Slab Entry) (x bound : ℕ) → new.slots ≡ set slots.slots x None → AllBelow slots bound → AllBelow new bound
 below-dropped slots new x bound new_is below y e is =

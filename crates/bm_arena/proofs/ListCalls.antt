@@ -12,13 +12,12 @@ use Rattle.slab.specs.Slab.{Slab, get}
 use Rattle.bm_arena.specs.declared.types.Entry.{Entry}
 use Rattle.bm_arena.specs.declared.types.Triplet.{Triplet}
 use Rattle.bm_base.specs.declared.replica.Marks.{Marks}
-use Rattle.bm_arena.specs.Triplets.{Block, find_triplet, triplet_at, seen_slots, seen_entry, change_block, added, removed, attached, detached}
+use Rattle.bm_arena.specs.Triplets.{Block, find_triplet, triplet_at, seen_slots, seen_entry, change_block, added, removed, as_first, first_after, change_at, previous_set, detached}
 use Rattle.bm_arena.specs.Contents.{Contents, with_replica, without_replica, linked_front, unlinked, moved_front, count_up}
 use Rattle.bm_arena.specs.Inside.{list_from, lists_from, IsSound, AreIds, IsArena}
 use Rattle.bm_arena.proofs.Triplets.{read, get_or-set_here}
 use Rattle.bm_arena.proofs.Seeing.{marks_in, marks_of, none_inside, marks-seen, lookup-lists_from}
 use Rattle.bm_arena.proofs.Operations.{linked-seen, out-seen, moved-seen, linked-sound, linked-view, out-sound, out-view, moved-sound, moved-view}
-use Rattle.bm_arena.proofs.Linking.{first_after}
 
 length-set_value : (storage : ℕ) (w : Option ℕ) (es : List (ℕ × Option ℕ)) → length (set_value (nat_eq storage) es w) ≡ length es
 length-set_value storage w [] = refl
@@ -76,7 +75,7 @@ module _ (slots : Slab Entry) (heads : List (ℕ × Option ℕ)) (first : Option
     (room : IsSomeAnd (get_or (seen_slots slots) x None) (λ (b : Block). length b.replicas < b.room))
     (absent : marks_in (seen_slots slots) x storage ≡ None) where
   abbrev new_triplet : Triplet
-  new_triplet = record { storage = storage; previous = None; next = None; marks = marks }
+  new_triplet = record { storage = storage; previous = None; next = first; marks = marks }
 
   here : (e : Entry) × (get slots x ≡ Some e) × (find_triplet e.triplets.items storage ≡ None)
   here = by (get slots x) refl
@@ -90,7 +89,7 @@ module _ (slots : Slab Entry) (heads : List (ℕ × Option ℕ)) (first : Option
           let gone : triplet_at slots x storage ≡ None = none_inside marks_of (triplet_at slots x storage) (sym (marks-seen slots x storage) ∙ absent) in
           (e, at, sym (ap (read storage) at) ∙ gone)
 
-  pub link_front-sound : (mid new : Slab Entry) (entries : List (ℕ × Option ℕ)) (w : Option ℕ) → mid ≡ added slots x new_triplet → new ≡ attached mid first x storage → entries ≡ set_value (nat_eq storage) heads w → w ≡ Some x → IsDistinct nat_eq (keys_of entries) → IsArena new ids entries delimiter
+  pub link_front-sound : (mid new : Slab Entry) (entries : List (ℕ × Option ℕ)) (w : Option ℕ) → mid ≡ added slots x new_triplet → new ≡ previous_set mid first storage (Some x) → entries ≡ set_value (nat_eq storage) heads w → w ≡ Some x → IsDistinct nat_eq (keys_of entries) → IsArena new ids entries delimiter
   link_front-sound mid new entries w mid_is new_is entries_is w_is unique =
       let unique_at = rw (entries_is, w_is) at unique in
       rw (entries_is, w_is, new_is, mid_is) (record {
@@ -100,7 +99,7 @@ module _ (slots : Slab Entry) (heads : List (ℕ × Option ℕ)) (first : Option
             (AreIds-change (seen_slots slots) ids delimiter (length heads) x (with_replica storage marks) (λ _. refl) (λ _ _. omega arith) arena.numbers);
       })
 
-  pub link_front-view : (mid new : Slab Entry) (entries : List (ℕ × Option ℕ)) (w : Option ℕ) (steps counted bound : ℕ) → mid ≡ added slots x new_triplet → new ≡ attached mid first x storage → entries ≡ set_value (nat_eq storage) heads w → w ≡ Some x → counted ≡ count_up steps
+  pub link_front-view : (mid new : Slab Entry) (entries : List (ℕ × Option ℕ)) (w : Option ℕ) (steps counted bound : ℕ) → mid ≡ added slots x new_triplet → new ≡ previous_set mid first storage (Some x) → entries ≡ set_value (nat_eq storage) heads w → w ≡ Some x → counted ≡ count_up steps
       → ◌≡◌ {A = Contents} (record { ids = ids; delimiter = delimiter; blocks = seen_slots new; lists = lists_from new entries; steps = counted; bound = bound })
       (linked_front (record { ids = ids; delimiter = delimiter; blocks = seen_slots slots; lists = lists_from slots heads; steps = steps; bound = bound }) x storage marks)
   link_front-view mid new entries w steps counted bound mid_is new_is entries_is w_is counted_is =
@@ -123,7 +122,7 @@ module _ (slots : Slab Entry) (heads : List (ℕ × Option ℕ)) (first : Option
       by None at = absurd (none-some t (sym (own ∙ ap (read storage) at)))
       by (Some e) at = (e, at)
 
-  pub unlink-sound : (mid new : Slab Entry) (entries : List (ℕ × Option ℕ)) (w : Option ℕ) → mid ≡ detached slots t storage → new ≡ removed mid x storage → entries ≡ set_value (nat_eq storage) heads w → w ≡ first_after first t → IsDistinct nat_eq (keys_of entries) → IsArena new ids entries delimiter
+  pub unlink-sound : (mid new : Slab Entry) (entries : List (ℕ × Option ℕ)) (w : Option ℕ) → mid ≡ removed slots x storage → new ≡ detached mid t storage → entries ≡ set_value (nat_eq storage) heads w → w ≡ first_after first t → IsDistinct nat_eq (keys_of entries) → IsArena new ids entries delimiter
   unlink-sound mid new entries w mid_is new_is entries_is w_is unique =
       let unique_at = rw (entries_is, w_is) at unique in
       rw (entries_is, w_is, new_is, mid_is) (record {
@@ -133,26 +132,26 @@ module _ (slots : Slab Entry) (heads : List (ℕ × Option ℕ)) (first : Option
             (AreIds-change (seen_slots slots) ids delimiter (length heads) x (without_replica storage) (λ _. refl) (λ _ _. omega arith) arena.numbers);
       })
 
-  pub unlink-view : (mid new : Slab Entry) (entries : List (ℕ × Option ℕ)) (w : Option ℕ) (steps counted bound : ℕ) → mid ≡ detached slots t storage → new ≡ removed mid x storage → entries ≡ set_value (nat_eq storage) heads w → w ≡ first_after first t → counted ≡ count_up steps
+  pub unlink-view : (mid new : Slab Entry) (entries : List (ℕ × Option ℕ)) (w : Option ℕ) (steps counted bound : ℕ) → mid ≡ removed slots x storage → new ≡ detached mid t storage → entries ≡ set_value (nat_eq storage) heads w → w ≡ first_after first t → counted ≡ count_up steps
       → ◌≡◌ {A = Contents} (record { ids = ids; delimiter = delimiter; blocks = seen_slots new; lists = lists_from new entries; steps = counted; bound = bound })
       (unlinked (record { ids = ids; delimiter = delimiter; blocks = seen_slots slots; lists = lists_from slots heads; steps = steps; bound = bound }) x storage)
   unlink-view mid new entries w steps counted bound mid_is new_is entries_is w_is counted_is =
       rw (entries_is, w_is, new_is, mid_is, counted_is) (out-view slots heads first storage arena.sound (sym known) x t holder.0 holder.1 (sym own) arena.unique ids delimiter steps bound)
 
-  pub move_front-sound : (mid new : Slab Entry) (middle w : Option ℕ) (entries : List (ℕ × Option ℕ)) → mid ≡ detached slots t storage → middle ≡ first_after first t → new ≡ attached mid middle x storage → entries ≡ set_value (nat_eq storage) heads w → w ≡ Some x → IsDistinct nat_eq (keys_of entries) → IsArena new ids entries delimiter
-  move_front-sound mid new middle w entries mid_is middle_is new_is entries_is w_is unique =
+  pub move_front-sound : (front mid new : Slab Entry) (middle w : Option ℕ) (entries : List (ℕ × Option ℕ)) → front ≡ change_at (as_first first) slots x storage → mid ≡ detached front t storage → middle ≡ first_after first t → new ≡ previous_set mid middle storage (Some x) → entries ≡ set_value (nat_eq storage) heads w → w ≡ Some x → IsDistinct nat_eq (keys_of entries) → IsArena new ids entries delimiter
+  move_front-sound front mid new middle w entries front_is mid_is middle_is new_is entries_is w_is unique =
       let unique_at = rw (entries_is, w_is) at unique in
-      rw (entries_is, w_is, new_is, mid_is, middle_is) (record {
+      rw (entries_is, w_is, new_is, mid_is, front_is, middle_is) (record {
         unique = unique_at;
         sound = moved-sound slots heads first storage arena.sound (sym known) x t holder.0 holder.1 (sym own);
         numbers = rw (moved-seen slots heads first storage arena.sound (sym known) x t holder.0 holder.1 (sym own), length-set_value storage (Some x) heads) arena.numbers;
       })
 
-  pub move_front-view : (mid new : Slab Entry) (middle w : Option ℕ) (entries : List (ℕ × Option ℕ)) (steps counted bound : ℕ) → mid ≡ detached slots t storage → middle ≡ first_after first t → new ≡ attached mid middle x storage → entries ≡ set_value (nat_eq storage) heads w → w ≡ Some x → counted ≡ count_up steps
+  pub move_front-view : (front mid new : Slab Entry) (middle w : Option ℕ) (entries : List (ℕ × Option ℕ)) (steps counted bound : ℕ) → front ≡ change_at (as_first first) slots x storage → mid ≡ detached front t storage → middle ≡ first_after first t → new ≡ previous_set mid middle storage (Some x) → entries ≡ set_value (nat_eq storage) heads w → w ≡ Some x → counted ≡ count_up steps
       → ◌≡◌ {A = Contents} (record { ids = ids; delimiter = delimiter; blocks = seen_slots new; lists = lists_from new entries; steps = counted; bound = bound })
       (moved_front (record { ids = ids; delimiter = delimiter; blocks = seen_slots slots; lists = lists_from slots heads; steps = steps; bound = bound }) x storage)
-  move_front-view mid new middle w entries steps counted bound mid_is middle_is new_is entries_is w_is counted_is =
-      rw (entries_is, w_is, new_is, mid_is, middle_is, counted_is) (moved-view slots heads first storage arena.sound (sym known) x t holder.0 holder.1 (sym own) arena.unique ids delimiter steps bound)
+  move_front-view front mid new middle w entries steps counted bound front_is mid_is middle_is new_is entries_is w_is counted_is =
+      rw (entries_is, w_is, new_is, mid_is, front_is, middle_is, counted_is) (moved-view slots heads first storage arena.sound (sym known) x t holder.0 holder.1 (sym own) arena.unique ids delimiter steps bound)
 
 -- a replica that is seen has a head and a triplet
 pub no_replica : (slots : Slab Entry) (storage x : ℕ) → None ≡ triplet_at slots x storage → IsSome (marks_in (seen_slots slots) x storage) → ⊥
@@ -165,3 +164,10 @@ pub headed : (slots : Slab Entry) (heads : List (ℕ × Option ℕ)) (storage x 
 headed slots heads storage x t sound own none =
     let found = sound.complete x storage t (sym own) in
     none-some found.0 (none ∙ found.1)
+
+pub no_list : (slots : Slab Entry) (heads : List (ℕ × Option ℕ)) (storage x : ℕ) → IsSound slots heads → None ≡ lookup (nat_eq storage) heads → IsSome (marks_in (seen_slots slots) x storage) → ⊥
+no_list slots heads storage x sound none some = by (triplet_at slots x storage) refl
+  where
+    by : (o : Option Triplet) → triplet_at slots x storage ≡ o → ⊥
+    by None is = no_replica slots storage x (sym is) some
+    by (Some t) is = headed slots heads storage x t sound (sym is) none

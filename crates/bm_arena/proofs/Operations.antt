@@ -11,16 +11,16 @@ use Rattle.slab.specs.Slab.{Slab, get}
 use Rattle.bm_arena.specs.declared.types.Entry.{Entry}
 use Rattle.bm_arena.specs.declared.types.Triplet.{Triplet}
 use Rattle.bm_base.specs.declared.replica.Marks.{Marks}
-use Rattle.bm_arena.specs.Triplets.{Block, find_triplet, triplet_at, links_of, seen_slots, seen_entry, change_block, added, removed, attached, detached, fill_first, is_of, with_triplets}
+use Rattle.bm_arena.specs.Triplets.{Block, find_triplet, triplet_at, links_of, seen_slots, seen_entry, change_block, added, removed, previous_set, detached, fill_first, is_of, with_triplets, change_at, as_first, first_after}
 use Rattle.bm_base.specs.SlotLists.{Among, Distinct, without}
 use Rattle.bm_arena.specs.Lists.{IsList}
 use Rattle.bm_arena.specs.Contents.{Contents, with_replica, without_replica, linked_front, unlinked, moved_front, count_up}
 use Rattle.bm_arena.specs.Inside.{list_from, lists_from, storages_of, IsSound}
 use Rattle.bm_base.proofs.SlotLists.{Among-without_other, without-gone}
-use Rattle.bm_arena.proofs.Lists.{Chain-frame}
-use Rattle.bm_arena.proofs.Triplets.{read, triplet_at-elsewhere, triplet_at-kept, get-at_slot, length-at_slot}
+use Rattle.bm_arena.proofs.Lists.{next-apart, previous-apart}
+use Rattle.bm_arena.proofs.Triplets.{read, triplet_at-elsewhere, triplet_at-kept, triplet_at-change_same, triplet_at-change_storage, get-at_slot, length-at_slot, length-change, seen-change}
 use Rattle.bm_arena.proofs.Replicas.{seen-added, seen-removed, keys, none-absent, found-push_here, found-push_other, found-fill_first_here, found-fill_first_other, Distinct-push, Distinct-fill_first, map-fill_first}
-use Rattle.bm_arena.proofs.Linking.{first_after, attached-storage, attached-list, seen-attached, length-attached, detached-storage, detached-list, seen-detached, length-detached}
+use Rattle.bm_arena.proofs.Linking.{front-storage, front-list, seen-front, length-front, detached-storage, detached-own, detached-list, seen-detached, length-detached}
 use Rattle.bm_arena.proofs.Sound.{lists-step, IsSound-step, Chain-member}
 use Rattle.bm_arena.proofs.Seeing.{same_presence, lookup-lists_from, seen_at, storages_seen, once-change}
 
@@ -45,10 +45,10 @@ module _ (slots : Slab Entry) (heads : List (ℕ × Option ℕ)) (first : Option
   -- a replica was added, and linked at the head
   module _ (x : ℕ) (marks : Marks) (e : Entry) (there : get slots x ≡ Some e) (absent : find_triplet e.triplets.items storage ≡ None) where
     abbrev t0 : Triplet
-    t0 = record { storage = storage; previous = None; next = None; marks = marks }
+    t0 = record { storage = storage; previous = None; next = first; marks = marks }
 
     abbrev pub linked : Slab Entry
-    linked = attached (added slots x t0) first x storage
+    linked = previous_set (added slots x t0) first storage (Some x)
 
     no_triplet : triplet_at slots x storage ≡ None
     no_triplet = ap (read storage) there ∙ absent
@@ -61,31 +61,26 @@ module _ (slots : Slab Entry) (heads : List (ℕ × Option ℕ)) (first : Option
 
     linked-others : (other : ℕ) → other ≢ storage → (y : ℕ) → triplet_at linked y other ≡ triplet_at slots y other
     linked-others other differs y =
-        attached-storage (added slots x t0) first x storage y other differs
+        front-storage (added slots x t0) first x storage y other differs
         ∙ triplet_at-kept _ slots x y other (λ e _. found-push_other e.triplets.items t0 other (λ s. differs (sym s)))
 
     linked-len : length linked.slots ≡ length slots.slots
-    linked-len = length-attached (added slots x t0) first x storage ∙ length-at_slot _ slots x
+    linked-len = length-front (added slots x t0) first x storage ∙ length-at_slot _ slots x
 
     pub linked-seen : seen_slots linked ≡ change_block (with_replica storage marks) (seen_slots slots) x
-    linked-seen = seen-attached (added slots x t0) first x storage ∙ seen-added slots x t0
+    linked-seen = seen-front (added slots x t0) first x storage ∙ seen-added slots x t0
 
     linked-list : IsList (links_of linked storage) (Some x) (x ∷ old_list)
     linked-list =
-        attached-list (added slots x t0) first x storage t0 old_list added-own
-        (record {
-          chain = Chain-frame (links_of slots storage) (links_of (added slots x t0) storage) None first old_list is_list.chain (λ z h.
-              triplet_at-elsewhere _ slots x z storage (λ s. fresh (let P : ℕ → Type 0 = λ w. Among w old_list in subst P s h)));
-          distinct = is_list.distinct;
-        })
-        fresh
+        front-list (added slots x t0) first x storage (links_of slots storage) t0 old_list added-own refl refl is_list fresh
+        (λ y differs. triplet_at-elsewhere _ slots x y storage differs)
 
     linked-all : (y : ℕ) (t : Triplet) → triplet_at linked y storage ≡ Some t → Among y (x ∷ old_list)
     linked-all y t is =
         elim (cases_eq y x) [
           | inl same ↦ inl same
           | inr differs ↦
-              let before = same_presence (added slots x t0) linked y storage t (seen-attached (added slots x t0) first x storage) is in
+              let before = same_presence (added slots x t0) linked y storage t (seen-front (added slots x t0) first x storage) is in
               inr (in_list y before.0 (sym (triplet_at-elsewhere _ slots x y storage differs) ∙ before.1))
         ]
 
@@ -107,67 +102,51 @@ module _ (slots : Slab Entry) (heads : List (ℕ × Option ℕ)) (first : Option
     linked-view distinct ids delimiter steps bound =
         rw (linked-seen, lists-step slots linked storage (Some x) (x ∷ old_list) linked-others linked-len linked-list heads distinct, lookup-lists_from slots storage heads, known) refl
 
-  -- a replica that is there was taken out of its list, between its neighbours
+  -- a replica that is there was taken out of its list
   module _ (x : ℕ) (t : Triplet) (e : Entry) (there : get slots x ≡ Some e) (own : triplet_at slots x storage ≡ Some t) where
-    abbrev apart : Slab Entry
-    apart = detached slots t storage
-
     abbrev rest : List ℕ
     rest = without x old_list
 
     inside : Among x old_list
     inside = in_list x t own
 
-    apart-list : IsList (links_of apart storage) (first_after first t) rest
-    apart-list = detached-list slots t storage first x old_list own is_list inside
-
-    apart-seen : seen_slots apart ≡ seen_slots slots
-    apart-seen = seen-detached slots t storage
-
     absent_from_rest : Among x rest → ⊥
     absent_from_rest = without-gone x old_list is_list.distinct
 
-    -- and its triplet was removed
-    abbrev pub out : Slab Entry
-    out = removed apart x storage
+    -- its triplet was removed before
+    abbrev gone : Slab Entry
+    gone = removed slots x storage
 
-    apart-once : (e' : Entry) → get apart x ≡ Some e' → Distinct (keys e'.triplets.items)
-    apart-once e' at =
-        let seen : get_or (seen_slots slots) x None ≡ Some (seen_entry e') = ap (λ bs. get_or bs x None) (sym apart-seen) ∙ seen_at apart x e' at in
-        rw (← storages_seen e') (sound.once x (seen_entry e') seen)
+    abbrev pub out : Slab Entry
+    out = detached gone t storage
+
+    own-once : (e' : Entry) → get slots x ≡ Some e' → Distinct (keys e'.triplets.items)
+    own-once e' at = rw (← storages_seen e') (sound.once x (seen_entry e') (seen_at slots x e' at))
 
     out-others : (other : ℕ) → other ≢ storage → (y : ℕ) → triplet_at out y other ≡ triplet_at slots y other
     out-others other differs y =
-        triplet_at-kept _ apart x y other (λ e' at. found-fill_first_other e'.triplets.items storage other (apart-once e' at) differs)
-        ∙ detached-storage slots t storage y other differs
+        detached-storage gone t storage y other differs
+        ∙ triplet_at-kept _ slots x y other (λ e' at. found-fill_first_other e'.triplets.items storage other (own-once e' at) differs)
 
     out-len : length out.slots ≡ length slots.slots
-    out-len = length-at_slot _ apart x ∙ length-detached slots t storage
+    out-len = length-detached gone t storage ∙ length-at_slot _ slots x
 
     pub out-seen : seen_slots out ≡ change_block (without_replica storage) (seen_slots slots) x
-    out-seen = seen-removed apart x storage ∙ ap (λ bs. change_block (without_replica storage) bs x) apart-seen
+    out-seen = seen-detached gone t storage ∙ seen-removed slots x storage
 
-    out-own : triplet_at out x storage ≡ None
-    out-own = by (get apart x) refl
-      where
-        by : (o : Option Entry) → get apart x ≡ o → triplet_at out x storage ≡ None
-        by None at = ap (read storage) (get-at_slot _ apart x ∙ ap (option_map (λ (e : Entry). with_triplets e (fill_first (is_of storage) e.triplets.items))) at)
-        by (Some e') at =
-            ap (read storage) (get-at_slot _ apart x ∙ ap (option_map (λ (e : Entry). with_triplets e (fill_first (is_of storage) e.triplets.items))) at)
-            ∙ found-fill_first_here e'.triplets.items storage (apart-once e' at)
+    gone-own : triplet_at gone x storage ≡ None
+    gone-own =
+        ap (read storage) (get-at_slot _ slots x ∙ ap (option_map (λ (e : Entry). with_triplets e (fill_first (is_of storage) e.triplets.items))) there)
+        ∙ found-fill_first_here e.triplets.items storage (own-once e there)
 
     out-list : IsList (links_of out storage) (first_after first t) rest
-    out-list = record {
-      chain = Chain-frame (links_of apart storage) (links_of out storage) None (first_after first t) rest apart-list.chain (λ z h.
-          triplet_at-elsewhere _ apart x z storage (λ s. absent_from_rest (let P : ℕ → Type 0 = λ w. Among w rest in subst P s h)));
-      distinct = apart-list.distinct;
-    }
+    out-list = detached-list gone t storage (links_of slots storage) first x old_list own (λ y differs. triplet_at-elsewhere _ slots x y storage differs) is_list inside
 
     out-all : (y : ℕ) (u : Triplet) → triplet_at out y storage ≡ Some u → Among y rest
     out-all y u is =
-        let differs : y ≢ x = λ same. none-some u (sym out-own ∙ (let P : ℕ → Type 0 = λ w. triplet_at out w storage ≡ Some u in subst P same is)) in
-        let before = same_presence slots apart y storage u apart-seen (sym (triplet_at-elsewhere _ apart x y storage differs) ∙ is) in
-        Among-without_other x y old_list (in_list y before.0 before.1) differs
+        let before = same_presence gone out y storage u (seen-detached gone t storage) is in
+        let differs : y ≢ x = λ same. none-some before.0 (sym gone-own ∙ (let P : ℕ → Type 0 = λ w. triplet_at gone w storage ≡ Some before.0 in subst P same before.1)) in
+        Among-without_other x y old_list (in_list y before.0 (sym (triplet_at-elsewhere _ slots x y storage differs) ∙ before.1)) differs
 
     out-once : (y : ℕ) (b : Block) → get_or (seen_slots out) y None ≡ Some b → Distinct (storages_of b)
     out-once y b is =
@@ -186,23 +165,43 @@ module _ (slots : Slab Entry) (heads : List (ℕ × Option ℕ)) (first : Option
     out-view distinct ids delimiter steps bound =
         rw (out-seen, lists-step slots out storage (first_after first t) rest out-others out-len out-list heads distinct, lookup-lists_from slots storage heads, known) refl
 
-    -- or its slot was linked again, at the head
+    -- or its triplet was linked as the first before, and its slot put at the head
+    abbrev front : Slab Entry
+    front = change_at (as_first first) slots x storage
+
+    abbrev apart : Slab Entry
+    apart = detached front t storage
+
     abbrev pub moved : Slab Entry
-    moved = attached apart (first_after first t) x storage
+    moved = previous_set apart (first_after first t) storage (Some x)
 
     moved-others : (other : ℕ) → other ≢ storage → (y : ℕ) → triplet_at moved y other ≡ triplet_at slots y other
-    moved-others other differs y = attached-storage apart (first_after first t) x storage y other differs ∙ detached-storage slots t storage y other differs
+    moved-others other differs y =
+        front-storage apart (first_after first t) x storage y other differs
+        ∙ detached-storage front t storage y other differs
+        ∙ triplet_at-change_storage (as_first first) (λ _. refl) slots x y storage other differs
 
     moved-len : length moved.slots ≡ length slots.slots
-    moved-len = length-attached apart (first_after first t) x storage ∙ length-detached slots t storage
+    moved-len =
+        length-front apart (first_after first t) x storage ∙ length-detached front t storage ∙ length-change (as_first first) (λ _. refl) slots x storage
 
     pub moved-seen : seen_slots moved ≡ seen_slots slots
-    moved-seen = seen-attached apart (first_after first t) x storage ∙ apart-seen
+    moved-seen = seen-front apart (first_after first t) x storage ∙ seen-detached front t storage ∙ seen-change (as_first first) (λ _. refl) slots x storage
+
+    apart-own : triplet_at apart x storage ≡ Some (as_first first t)
+    apart-own =
+        detached-own front t storage x
+        (previous-apart (links_of slots storage) x t own None first old_list is_list.chain is_list.distinct (λ q e h. none-some q e) inside)
+        (next-apart (links_of slots storage) x t own None first old_list is_list.chain is_list.distinct inside)
+        ∙ triplet_at-change_same (as_first first) (λ _. refl) slots x storage
+        ∙ ap (option_map (as_first first)) own
+
+    apart-list : IsList (links_of apart storage) (first_after first t) rest
+    apart-list = detached-list front t storage (links_of slots storage) first x old_list own (λ y differs. triplet_at-elsewhere _ slots x y storage differs) is_list inside
 
     moved-list : IsList (links_of moved storage) (Some x) (x ∷ rest)
     moved-list =
-        let still = same_presence apart slots x storage t (sym apart-seen) own in
-        attached-list apart (first_after first t) x storage still.0 rest still.1 apart-list absent_from_rest
+        front-list apart (first_after first t) x storage (links_of apart storage) (as_first first t) rest apart-own refl refl apart-list absent_from_rest (λ y differs. refl)
 
     moved-all : (y : ℕ) (u : Triplet) → triplet_at moved y storage ≡ Some u → Among y (x ∷ rest)
     moved-all y u is =

@@ -1,5 +1,5 @@
 -- Triplets in a block's vector, found by their storage.
-use Rattle.std.specs.Prelude.{◌≡◌, ℕ, ◌==◌, List, map, [], ◌∷◌, Option, Some, None, if◌then◌else◌, Bool}
+use Rattle.std.specs.Prelude.{ℕ, ◌==◌, List, map, [], ◌∷◌, Option, Some, None, is_some, if◌then◌else◌, Bool}
 use Rattle.std.specs.Option.{option_map, option_and_then, option_map_or}
 use Rattle.std.specs.Prelude.{slice_set, slice_index_or, take, length, ◌++◌}
 use Rattle.slab.specs.Slab.{Slab, get}
@@ -7,7 +7,6 @@ use Rattle.bm_base.specs.declared.replica.Marks.{Marks}
 use Rattle.bm_base.specs.declared.replica.BlockInfo.{BlockInfo}
 use Rattle.bm_arena.specs.declared.types.Triplet.{Triplet}
 use Rattle.bm_arena.specs.declared.types.Entry.{Entry}
-use Rattle.bm_base.specs.SlotLists.{Distinct}
 
 -- what is seen of a block: its number, what is known of it, each replica's storage and marks, and how many replicas fit
 pub record Block : Type 0 where
@@ -31,6 +30,14 @@ with_previous previous t = record t { previous = previous }
 
 abbrev pub with_next : Option ℕ → Triplet → Triplet
 with_next next t = record t { next = next }
+
+-- the first slot of a list, once the slot of a triplet has left it
+abbrev pub first_after : Option ℕ → Triplet → Option ℕ
+first_after first t = if is_some t.previous then first else t.next
+
+-- a triplet linked as the head of its list
+abbrev pub as_first : Option ℕ → Triplet → Triplet
+as_first first t = record t { previous = None; next = first_after first t }
 
 abbrev pub with_triplet_marks : Marks → Triplet → Triplet
 with_triplet_marks marks t = record t { marks = marks }
@@ -112,15 +119,6 @@ abbrev pub next_set : Slab Entry → Option ℕ → ℕ → Option ℕ → Slab 
 next_set slots None storage next = slots
 next_set slots (Some y) storage next = change_at (with_next next) slots y storage
 
--- the slab after the slot x was linked before the slot that was first
-abbrev pub attached : Slab Entry → Option ℕ → ℕ → ℕ → Slab Entry
-attached slots first x storage =
-    change_at (with_next first) (change_at (with_previous None) (previous_set slots first storage (Some x)) x storage) x storage
-
 -- the slab after the neighbours of a triplet were linked to each other
 abbrev pub detached : Slab Entry → Triplet → ℕ → Slab Entry
 detached slots t storage = previous_set (next_set slots t.previous storage t.next) t.next storage t.previous
-
--- in no block two triplets are of one storage
-abbrev pub AreOnce : Slab Entry → Type 0
-AreOnce slots = (x : ℕ) (e : Entry) → get slots x ≡ Some e → Distinct (storages_in e.triplets.items)

@@ -33,6 +33,9 @@ pub struct Arena {
     pub(crate) ids: Numbers,
     // The first slot of each storage's list.
     pub(crate) heads: IndexMap<u32, SlotLink, HashSecret>,
+    // The index in `heads` of the storage whose list changed last: a hint, since most changes in a row
+    // are of one list.
+    pub(crate) last_head: usize,
     // The slot of an entry that is no block, and marks a place in a list.
     pub(crate) delimiter: usize,
     pub(crate) steps: u64,
@@ -114,6 +117,7 @@ impl Arena {
             slots,
             ids: Numbers::new(alloc, secret),
             heads: IndexMap::with_hasher(alloc, secret),
+            last_head: 0,
             delimiter,
             steps: 0,
             bound: delimiter + 1,

@@ -8,6 +8,7 @@
 mod arena;
 mod block_entries;
 mod links;
+mod list_heads;
 mod look_ups;
 mod numbers;
 mod storage_lists;

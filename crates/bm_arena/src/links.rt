@@ -1,12 +1,13 @@
 // Reads and writes of the triplets of one block, and the linking of one slot between its neighbours.
 ghost use Rattle.std.specs.Prelude.{OnSome, OnOk, OnErr, IsOk, IsSomeAnd, if◌then◌else◌, is_some, ◌≡◌, ◌<◌, ◌≤◌, slice_get, Some, None, IsSome, slice_set, position, ◌==◌};
+ghost use Rattle.std.specs.List.{position_or_len};
 ghost use Rattle.std.specs.Option.{option_map, option_and_then};
 ghost use Rattle.slab.specs.Slab.{get};
 ghost use Rattle.bm_arena.specs.declared.types.Entry.{Entry};
 ghost use Rattle.smallvec.specs.SmallVec.{HasRoomFor};
 ghost use Rattle.bm_base.specs.SlotLinks.{end_of_links};
 ghost use Rattle.bm_base.specs.SlotLists.{Distinct};
-ghost use Rattle.bm_arena.specs.Triplets.{seen_triplet, with_capacity, capacity_at, at_slot, added, removed, fill_first, is_of, attached, detached, find_triplet, change_triplet, storages_in, with_previous, with_next, with_triplet_marks, triplet_at, change_at, AreOnce};
+ghost use Rattle.bm_arena.specs.Triplets.{seen_triplet, with_capacity, capacity_at, at_slot, added, removed, fill_first, is_of, as_first, first_after, previous_set, detached, find_triplet, change_triplet, storages_in, with_previous, with_next, with_triplet_marks, triplet_at, change_at};
 
 use crate::types::{Entry, TRIPLETS_IN_PLACE, Triplet};
 use bm_base::{BlockInfo, Marks, NO_LINK, SlotLink, StorageId};
@@ -14,17 +15,12 @@ use slab::Slab;
 use smallvec::SmallVec;
 use std::alloc::AllocError;
 
-// The place of a storage's triplet. All few are looked at, from the last on: at which place a storage stands can't be foretold, so
-// a search that ends there would make the processor throw away what it does ahead.
+// The index of a storage's triplet.
+#[inline]
 fn place_of(triplets: &[Triplet], storage: u32) -> Option<usize>
     ensures { result ≡ position (λ t. t.storage == storage) triplets.now }
 {
-    let mut first = triplets.len();
-    for place in (0..triplets.len()).rev() {
-        if triplets[place].storage == storage {
-            first = place;
-        }
-    }
+    let first = first_place(triplets, storage);
     if first < triplets.len() {
         Some(first)
     } else {
@@ -32,8 +28,58 @@ fn place_of(triplets: &[Triplet], storage: u32) -> Option<usize>
     }
 }
 
-// The same, where no two triplets are of one storage: the guessed place is looked at first, and all only where another storage stands
-// there.
+// The index of the first triplet of a storage; the number of triplets if there is none. Up to three
+// are compared with no loop and no branch, since the processor can't predict the index.
+#[inline]
+fn first_place(triplets: &[Triplet], storage: u32) -> usize
+    ensures { result ≡ position_or_len (λ t. t.storage == storage) triplets.now }
+{
+    match triplets {
+        [] => 0,
+        [a] => first_true(a.storage == storage, true, true),
+        [a, b] => first_true(a.storage == storage, b.storage == storage, true),
+        [a, b, c] => first_true(
+            a.storage == storage,
+            b.storage == storage,
+            c.storage == storage,
+        ),
+        _ => first_of_many(triplets, storage),
+    }
+}
+
+// The index of the first value that is true; 3 if none is.
+#[inline(always)]
+fn first_true(a: bool, b: bool, c: bool) -> usize
+    ensures { result ≡ (if a then 0 else (if b then 1 else (if c then 2 else 3))) }
+{
+    let mut first = 3;
+    if c {
+        first = 2;
+    }
+    if b {
+        first = 1;
+    }
+    if a {
+        first = 0;
+    }
+    first
+}
+
+#[inline(never)]
+fn first_of_many(triplets: &[Triplet], storage: u32) -> usize
+    ensures { result ≡ position_or_len (λ t. t.storage == storage) triplets.now }
+{
+    let mut first = triplets.len();
+    for place in (0..triplets.len()).rev() {
+        if triplets[place].storage == storage {
+            first = place;
+        }
+    }
+    first
+}
+
+// The index of a storage's triplet, where no two triplets are of one storage. Compares the triplet
+// at index `guess` first, and the others only if that one is of another storage.
 fn place_near(triplets: &[Triplet], storage: u32, guess: usize) -> Option<usize>
     requires { Distinct (storages_in triplets.now) }
     ensures { result ≡ position (λ t. t.storage == storage) triplets.now }
@@ -70,24 +116,6 @@ fn set_next_in(triplets: &mut [Triplet], storage: u32, next: SlotLink)
     }
 }
 
-fn set_previous_near_in(triplets: &mut [Triplet], storage: u32, previous: SlotLink, guess: usize)
-    requires { Distinct (storages_in triplets.old) }
-    ensures { triplets.new ≡ change_triplet (with_previous previous) triplets.old storage }
-{
-    if let Some(place) = place_near(triplets, storage, guess) {
-        triplets[place].previous = previous;
-    }
-}
-
-fn set_next_near_in(triplets: &mut [Triplet], storage: u32, next: SlotLink, guess: usize)
-    requires { Distinct (storages_in triplets.old) }
-    ensures { triplets.new ≡ change_triplet (with_next next) triplets.old storage }
-{
-    if let Some(place) = place_near(triplets, storage, guess) {
-        triplets[place].next = next;
-    }
-}
-
 fn set_marks_in(triplets: &mut [Triplet], storage: u32, marks: Marks)
     ensures { triplets.new ≡ change_triplet (with_triplet_marks marks) triplets.old storage }
 {
@@ -115,41 +143,6 @@ pub(crate) fn find(slots: &Slab<Entry>, slot: usize, storage: u32) -> Option<Tri
     }
 }
 
-// A guess of the place of a storage's triplet in the blocks that stand beside this one in its list: that of its own, since blocks of a
-// storage mostly have their replicas in one order.
-pub(crate) fn usual_place(slots: &Slab<Entry>, slot: usize, storage: u32) -> usize {
-    match slots.get(slot) {
-        Some(entry) => place_of(entry.triplets.as_slice(), storage).unwrap_or(0),
-        None => 0,
-    }
-}
-
-// The triplet of a storage in the block at a slot, with a guess of its place.
-pub(crate) fn find_near(
-    slots: &Slab<Entry>,
-    slot: usize,
-    storage: u32,
-    guess: usize,
-) -> Option<Triplet>
-    requires { AreOnce slots.now }
-    ensures { result ≡ triplet_at slots.now slot storage }
-{
-    match slots.get(slot) {
-        Some(entry) => find_near_in(entry.triplets.as_slice(), storage, guess),
-        None => None,
-    }
-}
-
-fn find_near_in(triplets: &[Triplet], storage: u32, guess: usize) -> Option<Triplet>
-    requires { Distinct (storages_in triplets.now) }
-    ensures { result ≡ find_triplet triplets.now storage }
-{
-    match place_near(triplets, storage, guess) {
-        Some(place) => Some(triplets[place]),
-        None => None,
-    }
-}
-
 fn set_previous(slots: &mut Slab<Entry>, slot: usize, storage: u32, previous: SlotLink)
     ensures { slots.new ≡ change_at (with_previous previous) slots.old slot storage }
 {
@@ -166,27 +159,49 @@ fn set_next(slots: &mut Slab<Entry>, slot: usize, storage: u32, next: SlotLink)
     }
 }
 
-fn set_previous_near(
+// Relinks the triplet of a storage as the head of its list, and gives it as it was.
+pub(crate) fn put_first(
     slots: &mut Slab<Entry>,
     slot: usize,
     storage: u32,
-    previous: SlotLink,
-    guess: usize,
-)
-    requires { AreOnce slots.old }
-    ensures { slots.new ≡ change_at (with_previous previous) slots.old slot storage }
+    first: SlotLink,
+) -> Option<Triplet>
+    ensures found { result ≡ triplet_at slots.old slot storage }
+    ensures slots { slots.new ≡ change_at (as_first first) slots.old slot storage }
 {
-    if let Some(entry) = slots.get_mut(slot) {
-        set_previous_near_in(entry.triplets.as_mut_slice(), storage, previous, guess);
+    match slots.get_mut(slot) {
+        Some(entry) => put_first_in(entry.triplets.as_mut_slice(), storage, first),
+        None => None,
     }
 }
 
-fn set_next_near(slots: &mut Slab<Entry>, slot: usize, storage: u32, next: SlotLink, guess: usize)
-    requires { AreOnce slots.old }
-    ensures { slots.new ≡ change_at (with_next next) slots.old slot storage }
+fn put_first_in(triplets: &mut [Triplet], storage: u32, first: SlotLink) -> Option<Triplet>
+    ensures found { result ≡ find_triplet triplets.old storage }
+    ensures triplets { triplets.new ≡ change_triplet (as_first first) triplets.old storage }
 {
-    if let Some(entry) = slots.get_mut(slot) {
-        set_next_near_in(entry.triplets.as_mut_slice(), storage, next, guess);
+    match place_of(triplets, storage) {
+        Some(place) => {
+            let triplet = triplets[place];
+            triplets[place] = as_first(&triplet, first);
+            Some(triplet)
+        }
+        None => None,
+    }
+}
+
+// A triplet linked as the head of its list. If it is the head already, its next link stays.
+fn as_first(triplet: &Triplet, first: SlotLink) -> Triplet
+    ensures { result ≡ as_first first triplet.now }
+{
+    let next = if triplet.previous.slot().is_some() {
+        first
+    } else {
+        triplet.next
+    };
+    Triplet {
+        previous: NO_LINK,
+        next,
+        ..*triplet
     }
 }
 
@@ -222,62 +237,33 @@ pub(crate) fn set_info(slots: &mut Slab<Entry>, slot: usize, info: Option<BlockI
     }
 }
 
-// Links a slot, which has its triplet, before the slot that was first.
+// Puts a slot at the head of a list. Its triplet has no previous link, and its next link leads to
+// the old head.
+#[inline]
 pub(crate) fn attach(slots: &mut Slab<Entry>, first: &mut SlotLink, slot: usize, storage: u32)
     requires { slot < end_of_links }
-    ensures slots { slots.new ≡ attached slots.old first.old slot storage }
+    ensures slots { slots.new ≡ previous_set slots.old first.old storage (Some slot) }
     ensures first { first.new ≡ Some slot }
 {
     let here = SlotLink::to(slot);
     if let Some(old_first) = first.slot() {
         set_previous(slots, old_first, storage, here);
     }
-    set_previous(slots, slot, storage, NO_LINK);
-    set_next(slots, slot, storage, *first);
     *first = here;
 }
 
-// The same, with a guess of the place of the storage's triplet in each of the two blocks.
-pub(crate) fn attach_near(
-    slots: &mut Slab<Entry>,
-    first: &mut SlotLink,
-    slot: usize,
-    storage: u32,
-    guess: usize,
-)
-    requires here { slot < end_of_links }
-    requires once { AreOnce slots.old }
-    ensures slots { slots.new ≡ attached slots.old first.old slot storage }
-    ensures first { first.new ≡ Some slot }
-{
-    let here = SlotLink::to(slot);
-    if let Some(old_first) = first.slot() {
-        set_previous_near(slots, old_first, storage, here, guess);
-    }
-    set_previous_near(slots, slot, storage, NO_LINK, guess);
-    set_next_near(slots, slot, storage, *first, guess);
-    *first = here;
-}
-
-// Links the neighbours of a triplet to each other, with a guess of the place of the storage's triplet in each.
-pub(crate) fn detach(
-    slots: &mut Slab<Entry>,
-    first: &mut SlotLink,
-    triplet: Triplet,
-    storage: u32,
-    guess: usize,
-)
-    requires { AreOnce slots.old }
+// Links the neighbours of a triplet to each other.
+#[inline(always)]
+pub(crate) fn detach(slots: &mut Slab<Entry>, first: &mut SlotLink, triplet: Triplet, storage: u32)
     ensures slots { slots.new ≡ detached slots.old triplet storage }
-    ensures first { first.new ≡ (if is_some triplet.previous then first.old else triplet.next) }
-    ensures once { AreOnce slots.new }
+    ensures first { first.new ≡ first_after first.old triplet }
 {
     match triplet.previous.slot() {
-        Some(previous) => set_next_near(slots, previous, storage, triplet.next, guess),
+        Some(previous) => set_next(slots, previous, storage, triplet.next),
         None => *first = triplet.next,
     }
     if let Some(next) = triplet.next.slot() {
-        set_previous_near(slots, next, storage, triplet.previous, guess);
+        set_previous(slots, next, storage, triplet.previous);
     }
 }
 
@@ -292,21 +278,25 @@ pub(crate) fn add_triplet(slots: &mut Slab<Entry>, slot: usize, triplet: Triplet
 }
 
 // Takes a storage's triplet out of a block's: the last one fills its place.
-fn fill_place(triplets: &mut SmallVec<Triplet, TRIPLETS_IN_PLACE>, storage: u32)
+fn fill_place(triplets: &mut SmallVec<Triplet, TRIPLETS_IN_PLACE>, storage: u32) -> Option<Triplet>
+    ensures found { result ≡ find_triplet triplets.old.items storage }
     ensures items { triplets.new.items ≡ fill_first (is_of storage) triplets.old.items }
     ensures capacity { triplets.new.capacity ≡ triplets.old.capacity }
 {
-    if let Some(place) = place_of(triplets.as_slice(), storage) {
-        let _ = triplets.swap_remove(place);
+    match place_of(triplets.as_slice(), storage) {
+        Some(place) => Some(triplets.swap_remove(place)),
+        None => None,
     }
 }
 
 // Takes a storage's triplet out of the block at a slot: the block's last triplet fills its place.
-pub(crate) fn remove_triplet(slots: &mut Slab<Entry>, slot: usize, storage: u32)
-    ensures { slots.new ≡ removed slots.old slot storage }
+pub(crate) fn remove_triplet(slots: &mut Slab<Entry>, slot: usize, storage: u32) -> Option<Triplet>
+    ensures found { result ≡ triplet_at slots.old slot storage }
+    ensures slots { slots.new ≡ removed slots.old slot storage }
 {
-    if let Some(entry) = slots.get_mut(slot) {
-        fill_place(&mut entry.triplets, storage);
+    match slots.get_mut(slot) {
+        Some(entry) => fill_place(&mut entry.triplets, storage),
+        None => None,
     }
 }
 

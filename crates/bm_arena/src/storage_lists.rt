@@ -11,9 +11,9 @@ ghost use Rattle.bm_base.specs.State.{replica_at};
 ghost use Rattle.bm_base.specs.SlotLists.{without};
 
 use crate::arena::{Arena, Slot, count_up};
-use crate::links;
 use crate::types::{NO_MARKS, Triplet};
 use crate::walk::Walk;
+use crate::{links, list_heads};
 use bm_base::{Marks, NO_LINK, Refusal, StorageId};
 
 impl Arena {
@@ -87,15 +87,18 @@ impl Arena {
         ensures known { blocks_of self.new ≡ blocks_of self.old }
         ensures lawful { IsLawful self.new }
     {
-        if let Some(first) = self.heads.get_mut(&storage.0) {
+        if let Some(head) = list_heads::find(&self.heads, storage.0, self.last_head) {
+            let mut first = head.first;
             let triplet = Triplet {
                 storage: storage.0,
                 previous: NO_LINK,
-                next: NO_LINK,
+                next: head.first,
                 marks,
             };
             links::add_triplet(&mut self.slots, slot, triplet);
-            links::attach(&mut self.slots, first, slot, storage.0);
+            links::attach(&mut self.slots, &mut first, slot, storage.0);
+            list_heads::set(&mut self.heads, head.index, first);
+            self.last_head = head.index;
             self.steps = count_up(self.steps);
         }
     }
@@ -113,11 +116,12 @@ impl Arena {
         ensures known { blocks_of self.new ≡ blocks_of self.old }
         ensures lawful { IsLawful self.new }
     {
-        let guess = links::usual_place(&self.slots, slot, storage.0);
-        if let Some(triplet) = links::find_near(&self.slots, slot, storage.0, guess) {
-            if let Some(first) = self.heads.get_mut(&storage.0) {
-                links::detach(&mut self.slots, first, triplet, storage.0, guess);
-                links::remove_triplet(&mut self.slots, slot, storage.0);
+        if let Some(head) = list_heads::find(&self.heads, storage.0, self.last_head) {
+            let mut first = head.first;
+            if let Some(triplet) = links::remove_triplet(&mut self.slots, slot, storage.0) {
+                links::detach(&mut self.slots, &mut first, triplet, storage.0);
+                list_heads::set(&mut self.heads, head.index, first);
+                self.last_head = head.index;
                 self.steps = count_up(self.steps);
             }
         }
@@ -134,11 +138,13 @@ impl Arena {
         ensures known { blocks_of self.new ≡ blocks_of self.old }
         ensures lawful { IsLawful self.new }
     {
-        let guess = links::usual_place(&self.slots, slot, storage.0);
-        if let Some(triplet) = links::find_near(&self.slots, slot, storage.0, guess) {
-            if let Some(first) = self.heads.get_mut(&storage.0) {
-                links::detach(&mut self.slots, first, triplet, storage.0, guess);
-                links::attach_near(&mut self.slots, first, slot, storage.0, guess);
+        if let Some(head) = list_heads::find(&self.heads, storage.0, self.last_head) {
+            let mut first = head.first;
+            if let Some(triplet) = links::put_first(&mut self.slots, slot, storage.0, head.first) {
+                links::detach(&mut self.slots, &mut first, triplet, storage.0);
+                links::attach(&mut self.slots, &mut first, slot, storage.0);
+                list_heads::set(&mut self.heads, head.index, first);
+                self.last_head = head.index;
                 self.steps = count_up(self.steps);
             }
         }

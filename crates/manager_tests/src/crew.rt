@@ -117,14 +117,14 @@ static RUNS: [Runs<'static>; 4] = [
         results: &[(0, 25), (1, 36), (2, 49)],
     },
     Runs {
-        workers: &[2],
+        workers: &[1, 2, 16],
         room: 0,
         items: &[],
         work: Work::AddShards,
         results: &[],
     },
     Runs {
-        workers: &[2],
+        workers: &[1, 2, 16],
         room: 3,
         items: &[],
         work: Work::AddShards,

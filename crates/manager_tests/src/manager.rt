@@ -11,7 +11,7 @@ use std::alloc::Global;
 use std::process::Abort;
 use std::sync::Wait;
 use std::sync::atomic::{AtomicU64, Ordering};
-use std::thread::Threads;
+use std::thread::{self, Threads};
 
 mod readers;
 
@@ -363,6 +363,8 @@ fn two_managers_answer_alike(rt: HostRuntime) {
 #[derive(Drop)]
 struct Meeting {
     shards: u32,
+    /// The one shard whose piece waits. `None` if each piece does.
+    only: Option<u32>,
     /// How often the piece of each shard was entered.
     entered: [AtomicU64; 4],
     /// How often a piece gave up waiting.
@@ -370,9 +372,10 @@ struct Meeting {
 }
 
 impl Meeting {
-    fn new(shards: u32) -> Meeting {
+    fn new(shards: u32, only: Option<u32>) -> Meeting {
         Meeting {
             shards,
+            only,
             entered: [
                 AtomicU64::new(0),
                 AtomicU64::new(0),
@@ -408,13 +411,17 @@ impl Meeting {
 }
 
 impl Gate for Meeting {
-    /// Turns until all shards' pieces were entered, and gives up in the end.
+    /// Lets other threads go first until the pieces of all shards were entered, and gives up in the end.
     fn at(&self, shard: u32) {
         let times = self.enter(shard);
-        for _ in 0..100_000_000u32 {
+        if self.only.unwrap_or(shard) != shard {
+            return;
+        }
+        for _ in 0..3_000_000u32 {
             if (0..self.shards).all(|other| self.times_entered(other) >= times) {
                 return;
             }
+            thread::yield_now();
         }
         self.gave_up.fetch_add(1, Ordering::SeqCst);
     }
@@ -452,53 +459,55 @@ static MET: [(Told<'static>, Must<'static>, bool); 17] = [
     (Told::Places(4), Must::Places(&[]), false),
 ];
 
-/// The answer to a call. Where the crew works it, the shards' pieces meet at a gate.
-fn met_answer<R: Abort + Threads + Wait + Sync>(
-    rt: &R,
-    manager: &mut Manager,
-    shards: u32,
-    call: &Call,
-    crewed: bool,
-) -> Answer {
-    if !crewed {
-        return manager.answer(rt, &NoGate, call);
-    }
-    let gate = Meeting::new(shards);
-    let answer = manager.answer(rt, &gate, call);
-    assert!(rt; gate.has_met());
-    drop(gate);
-    answer
-}
-
-fn check_met<R: Abort + Threads + Wait + Sync>(
+/// Whether a call is answered as it must be, and the shards' pieces met at the gate if the crew works it.
+fn is_met<R: Abort + Threads + Wait + Sync>(
     rt: &R,
     alloc: Global,
     manager: &mut Manager,
-    shards: u32,
+    gate: &Meeting,
     told: Told<'_>,
     must: Must<'_>,
     crewed: bool,
-) {
+) -> bool {
     let call = call_of(rt, alloc, told);
-    let answer = met_answer(rt, manager, shards, &call, crewed);
-    assert!(rt; is_as(&answer, &must));
+    let answer = manager.answer(rt, gate, &call);
+    let is_so = is_as(&answer, &must) && gate.has_met() == crewed;
     drop(answer);
     drop(call);
+    is_so
 }
 
-/// As many workers as shards.
-fn check_meetings<R: Abort + Threads + Wait + Sync>(rt: &R, alloc: Global, shards: u32) {
-    let mut manager = Manager::new(alloc, config(shards, shards)).expect(rt, "memory");
-    for (told, want, crewed) in &MET {
-        check_met(rt, alloc, &mut manager, shards, *told, *want, *crewed);
+fn check_meetings<R: Abort + Threads + Wait + Sync>(
+    rt: &R,
+    alloc: Global,
+    shards: u32,
+    workers: u32,
+    only: Option<u32>,
+) {
+    let mut manager = Manager::new(alloc, config(shards, workers)).expect(rt, "memory");
+    for (index, (told, must, crewed)) in MET.iter().enumerate() {
+        let gate = Meeting::new(shards, only);
+        let is_so = is_met(rt, alloc, &mut manager, &gate, *told, *must, *crewed);
+        assert!(rt; is_so, "call {index}, waits {only:?}");
+        drop(gate);
     }
     drop(manager);
 }
 
+/// Each piece waits for all of them, so there have to be as many workers as shards.
 #[test]
 fn the_shards_of_a_call_are_worked_at_once(rt: HostRuntime) {
-    check_meetings(&rt, rt.alloc(), 2);
-    check_meetings(&rt, rt.alloc(), 4);
+    check_meetings(&rt, rt.alloc(), 2, 2, None);
+    check_meetings(&rt, rt.alloc(), 4, 4, None);
+}
+
+/// Whichever shard's piece holds its worker up, the other worker works the other three shards. With fixed shares one
+/// of these would wait behind the piece that waits for it.
+#[test]
+fn a_free_worker_takes_the_next_shard(rt: HostRuntime) {
+    for shard in 0..4 {
+        check_meetings(&rt, rt.alloc(), 4, 2, Some(shard));
+    }
 }
 
 /// Shards, workers, work, invalidate and pend, of which one is outside its range.

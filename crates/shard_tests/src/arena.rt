@@ -46,12 +46,16 @@ enum Deed {
 /// The same, many times.
 #[derive(Clone, Copy)]
 enum Many {
-    /// The blocks 0 to a number, without it, each with a replica on storage 11.
+    /// So many blocks from 10,000 on, each with a replica on storage 11.
     Add(u32),
+    /// So many blocks from 10,000 on, the first one with a replica on storage 0, the next one on storage 1 and so on.
+    AddEach(u32),
     /// A replica of a block on each of the storages 0 to a number, without it.
     Link(u64, u32),
     /// The delimiter at the head of each of the lists 0 to a number, without it.
     PutDelimiter(u32),
+    /// The delimiter out of each of these lists.
+    TakeDelimiter(u32),
 }
 
 /// What is asked of an arena, and answered by a slot.
@@ -86,6 +90,8 @@ enum Step {
     Where(Place),
     HowMany(Count),
     Walk(u32),
+    /// Whether each of the lists 0 to a number, without it, holds block 7 and then its own block of `AddEach`.
+    WalkEach(u32),
     TripletAt(u64, usize),
     IsDelimiter(u64),
     HasHead(u32),
@@ -277,6 +283,10 @@ fn do_deed(rt: &impl Abort, alloc: Global, arena: &mut Arena, slots: &Slots, dee
     }
 }
 
+fn new_block(number: u32) -> u64 {
+    u64::from(number).saturating_add(10_000)
+}
+
 /// The deed of this number, of many.
 fn one_of_many(
     rt: &impl Abort,
@@ -294,12 +304,13 @@ fn one_of_many(
         return Answer::Other;
     }
     match many {
-        Many::Add(_) => {
-            let slot = add(rt, arena, u64::from(number));
+        Many::Add(_) | Many::AddEach(_) => {
+            let slot = add(rt, arena, new_block(number));
             link(arena, slot, StorageId(storage))
         }
         Many::Link(block, _) => link(arena, slot_of(slots, block), StorageId(storage)),
         Many::PutDelimiter(_) => put_delimiter(arena, StorageId(storage)),
+        Many::TakeDelimiter(_) => take_delimiter(arena, StorageId(storage)),
     }
 }
 
@@ -311,7 +322,11 @@ fn done_often(
     slots: &Slots,
     many: Many,
 ) -> Answer {
-    let (Many::Add(count) | Many::Link(_, count) | Many::PutDelimiter(count)) = many;
+    let (Many::Add(count)
+    | Many::AddEach(count)
+    | Many::Link(_, count)
+    | Many::PutDelimiter(count)
+    | Many::TakeDelimiter(count)) = many;
     for number in 0..count {
         if one_of_many(rt, alloc, arena, slots, many, number) != Answer::Fine {
             return Answer::Other;
@@ -390,6 +405,16 @@ fn walk(arena: &Arena, storage: StorageId) -> Answer {
     Answer::Blocks(numbers, count)
 }
 
+fn walk_each(arena: &Arena, count: u32) -> bool {
+    for number in 0..count {
+        let blocks = [7, new_block(number), 0];
+        if walk(arena, StorageId(number)) != Answer::Blocks(blocks, 2) {
+            return false;
+        }
+    }
+    true
+}
+
 fn replica(replica: Option<(StorageId, Marks)>) -> Answer {
     match replica {
         None => Answer::Nothing,
@@ -443,6 +468,7 @@ fn answer_of(
 fn looked_up(arena: &Arena, slots: &Slots, step: Step) -> Answer {
     match step {
         Step::Walk(storage) => walk(arena, StorageId(storage)),
+        Step::WalkEach(count) => yes(walk_each(arena, count)),
         Step::TripletAt(block, place) => replica(arena.triplet_at(slot_of(slots, block), place)),
         Step::IsDelimiter(block) => yes(arena.is_delimiter(slot_of(slots, block))),
         Step::HasHead(storage) => yes(arena.has_head(StorageId(storage))),
@@ -588,11 +614,22 @@ static SCENARIOS: [Scenario<'static>; 8] = [
         ],
     },
     Scenario {
-        name: "delimiter stands in 1024 lists",
-        setup: &[],
+        name: "delimiter is put into 4,096 lists and taken out of them",
+        setup: &[
+            (Step::Add(7), Answer::Fine),
+            (Step::DoMany(Many::AddEach(4096)), Answer::Fine),
+            (Step::DoMany(Many::Link(7, 4096)), Answer::Fine),
+        ],
         steps: &[
-            (Step::DoMany(Many::PutDelimiter(1024)), Answer::Fine),
-            (Step::HowMany(Count::Steps), Answer::Number(1024)),
+            (Step::WalkEach(4096), Answer::Yes),
+            (Step::HowMany(Count::Steps), Answer::Number(8192)),
+            (Step::DoMany(Many::PutDelimiter(4096)), Answer::Fine),
+            (Step::HowMany(Count::Walked(4095)), Answer::Number(3)),
+            (Step::Where(Place::BehindDelimiter(0)), Answer::SlotOf(7)),
+            (Step::Where(Place::BehindDelimiter(4095)), Answer::SlotOf(7)),
+            (Step::DoMany(Many::TakeDelimiter(4096)), Answer::Fine),
+            (Step::WalkEach(4096), Answer::Yes),
+            (Step::HowMany(Count::Steps), Answer::Number(16384)),
         ],
     },
 ];

@@ -159,8 +159,10 @@ fn is_wish(wish: &Wish, count: u32, pending: &[StorageId]) -> bool {
     let source = [StorageId(11)];
     wish.level == Level::Highest
         && wish.block == SEVEN
+        && wish.stamp == STAMP
         && wish.count == count
         && wish.live.as_slice() == source.as_slice()
+        && wish.drained.as_slice() == NONE.as_slice()
         && wish.pairs.as_slice() == source.as_slice()
         && wish.pending.as_slice() == pending
 }
@@ -188,7 +190,18 @@ fn one_copy(rt: &impl Abort, alloc: Global) -> Chosen {
     }
 }
 
-/// The next round wishes for two copies; one is commanded, and the round after it wishes for the other.
+/// A notice of a new block, and one of a replica of block 7 on the target of the copy, are given up.
+fn give_up_notices(rt: &impl Abort, topology: &Topology, shard: &mut Shard)
+    requires standing { StandsIn topology.now.cluster shard.old }
+    ensures standing { StandsIn topology.now.cluster shard.new }
+    ensures round { shard.new.round ≡ shard.old.round }
+{
+    give_up(rt, topology, shard, &received_event(21, BlockId(8)));
+    give_up(rt, topology, shard, &received_event(31, SEVEN));
+}
+
+/// The next round wishes for two copies; one is commanded, and the round after it wishes for the other. A notice that
+/// is given up in between changes nothing.
 fn copy(rt: &impl Abort, alloc: Global, topology: &Topology, shard: &mut Shard)
     requires standing { StandsIn topology.now.cluster shard.old }
     requires round { shard.old.round ≡ 0 }
@@ -201,6 +214,9 @@ fn copy(rt: &impl Abort, alloc: Global, topology: &Topology, shard: &mut Shard)
         .expect(rt, "memory");
     shard.round_commit(&part, &chosen, topology);
     drop(part);
+    look(rt, shard);
+    give_up_notices(rt, topology, shard);
+    look(rt, shard);
     let part = shard.round_part(2, topology).expect(rt, "memory");
     wishes(rt, &part, 1, [StorageId(31)].as_slice());
     drop(part);
@@ -213,7 +229,7 @@ fn a_block_with_one_replica_is_copied_and_what_is_given_up_changes_nothing(rt: H
     let mut shard = fresh(&rt, alloc, &topology);
     begin(&rt, alloc, &mut topology, &mut shard);
     look(&rt, &shard);
-    give_up(&rt, &topology, &mut shard, &received_event(21, BlockId(8)));
+    give_up_notices(&rt, &topology, &mut shard);
     look(&rt, &shard);
     copy(&rt, alloc, &topology, &mut shard);
     drop(shard);

@@ -14,9 +14,9 @@ invariant_of-self c =
     let absent = rw (← c.self.view_is, ← c.storage.view_is) at c.requires.absent in
     record {
       arena =
-          link_front-sound c.self.inside.slots c.self.inside.heads.entries c.in-Some.first.now c.storage.inside.0 c.args.slot c.args.marks c.self.inside.ids c.self.inside.delimiter c.self.invariant.arena c.in-Some.ensures.value room absent
-          c.add_triplet.new.slots c.attach.new.slots _ c.attach.new.first c.add_triplet.ensures c.attach.ensures.slots (c.get_mut.follows.holds c.attach.new.first).0 c.attach.ensures.first (c.get_mut.follows.holds c.attach.new.first).4;
-      bounded = below-linked c.self.inside.slots c.add_triplet.new.slots c.attach.new.slots c.in-Some.first.now c.args.slot c.storage.inside.0 _ c.self.inside.bound c.add_triplet.ensures c.attach.ensures.slots c.self.invariant.bounded;
+          link_front-sound c.self.inside.slots c.self.inside.heads.entries c.in-Some.head.first c.storage.inside.0 c.args.slot c.args.marks c.self.inside.ids c.self.inside.delimiter c.self.invariant.arena c.in-Some.ensures.first room absent
+          c.add_triplet.new.slots c.attach.new.slots _ c.attach.new.first c.add_triplet.ensures c.attach.ensures.slots (c.set.ensures.entries c.storage.inside.0 c.in-Some.head.first c.in-Some.ensures.index) c.attach.ensures.first c.set.ensures.unique;
+      bounded = below-linked c.self.inside.slots c.add_triplet.new.slots c.attach.new.slots c.in-Some.head.first c.args.slot c.storage.inside.0 _ c.self.inside.bound c.add_triplet.ensures c.attach.ensures.slots c.self.invariant.bounded;
     }
 
 pub returns-in-Some-clause-after : goal.returns-in-Some-clause-after
@@ -24,14 +24,14 @@ returns-in-Some-clause-after c =
     let room = rw (← c.self.view_is) at c.requires.room in
     let absent = rw (← c.self.view_is, ← c.storage.view_is) at c.requires.absent in
     rw (← c.self.view_is, ← c.storage.view_is)
-    (link_front-view c.self.inside.slots c.self.inside.heads.entries c.in-Some.first.now c.storage.inside.0 c.args.slot c.args.marks c.self.inside.ids c.self.inside.delimiter c.self.invariant.arena c.in-Some.ensures.value room absent
-    c.add_triplet.new.slots c.attach.new.slots _ c.attach.new.first c.self.inside.steps c.count_up-self-inside.result c.self.inside.bound c.add_triplet.ensures c.attach.ensures.slots (c.get_mut.follows.holds c.attach.new.first).0 c.attach.ensures.first
+    (link_front-view c.self.inside.slots c.self.inside.heads.entries c.in-Some.head.first c.storage.inside.0 c.args.slot c.args.marks c.self.inside.ids c.self.inside.delimiter c.self.invariant.arena c.in-Some.ensures.first room absent
+    c.add_triplet.new.slots c.attach.new.slots _ c.attach.new.first c.self.inside.steps c.count_up-self-inside.result c.self.inside.bound c.add_triplet.ensures c.attach.ensures.slots (c.set.ensures.entries c.storage.inside.0 c.in-Some.head.first c.in-Some.ensures.index) c.attach.ensures.first
     c.count_up-self-inside.ensures)
 
 pub returns-in_default : goal.returns-in_default
 returns-in_default c =
     let head = rw (← c.self.view_is, ← c.storage.view_is) at c.requires.head in
-    absurd (no_head c.self.inside.slots c.self.inside.heads.entries c.storage.inside.0 c.in_default.ensures.value head)
+    absurd (no_head c.self.inside.slots c.self.inside.heads.entries c.storage.inside.0 c.in_default.ensures.first head)
 
 pub returns-in-Some-clause-lawful : goal.returns-in-Some-clause-lawful
 returns-in-Some-clause-lawful c = IsLawful-arena c.attach.new.slots _ _ _ _ (invariant_of-self c) _

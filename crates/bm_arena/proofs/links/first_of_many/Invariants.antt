@@ -1,7 +1,7 @@
 use Rattle.std.proofs.Common.{◌≡◌, ◌+◌, ◌≤◌, length, drop}
 use Rattle.std.specs.List.{position_or_len}
 use Rattle.bm_arena.specs.Triplets.{is_of}
-use Rattle.bm_arena.proofs.links.place_of.Given as goal
+use Rattle.bm_arena.proofs.links.first_of_many.Given as goal
 
 -- the first of the places that were looked at
 abbrev pub invariant-loop-place : goal.invariant-loop-place
