@@ -1,5 +1,5 @@
 -- A storage's head at an index: what is found there, and what a write there leaves.
-use Rattle.std.proofs.Common.{◌≡◌, ℕ, zero, suc, true, false, eqb, List, [], ◌∷◌, get_or, Option, Some, None, slice_get, position, refl, sym, ap, ◌∙◌, subst}
+use Rattle.std.proofs.Common.{◌≡◌, ℕ, zero, suc, true, false, eqb, List, [], ◌∷◌, get_or, Option, Some, slice_get, position, refl, sym, ap, ◌∙◌, subst}
 use Rattle.std.specs.Prelude.{nat_eq}
 use Rattle.std.specs.Map.{set_value, keys_of}
 use Rattle.std.specs.List.{IsDistinct, AllByRecursion}
