@@ -46,9 +46,9 @@ enum Deed {
 /// The same, many times.
 #[derive(Clone, Copy)]
 enum Many {
-    /// So many blocks from 10,000 on, each with a replica on storage 11.
+    /// A number of blocks from 10,000 on, each with a replica on storage 11.
     Add(u32),
-    /// So many blocks from 10,000 on, the first one with a replica on storage 0, the next one on storage 1 and so on.
+    /// The same blocks, the first with a replica on storage 0, the next on storage 1 and so on.
     AddEach(u32),
     /// A replica of a block on each of the storages 0 to a number, without it.
     Link(u64, u32),
@@ -90,7 +90,8 @@ enum Step {
     Where(Place),
     HowMany(Count),
     Walk(u32),
-    /// Whether each of the lists 0 to a number, without it, holds block 7 and then its own block of `AddEach`.
+    /// Whether each of the lists 0 to a number, without it, holds block 7, then its own block of
+    /// `AddEach`, and no other.
     WalkEach(u32),
     TripletAt(u64, usize),
     IsDelimiter(u64),

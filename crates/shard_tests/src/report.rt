@@ -1,5 +1,6 @@
-// What reports and notices make of small arenas, worked out by hand: a table of scenarios, each a list of steps with what each must
-// answer. Each is tried with a `Report`, and again with the free functions.
+// What reports and notices make of small arenas, worked out by hand: a table of scenarios, each a
+// list of steps with what each must answer. Each is tried with a `Report`, and again with the free
+// functions.
 ghost use Rattle.std.specs.Prelude.{◌≡◌, ◌<◌, ◌≤◌, ℕ, true};
 ghost use Rattle.bm_base.specs.declared.limits.TheConstants.{MAX_NUMBERS};
 ghost use Rattle.bm_base.specs.Entries.{numbers_in};

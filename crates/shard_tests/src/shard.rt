@@ -190,7 +190,7 @@ fn one_copy(rt: &impl Abort, alloc: Global) -> Chosen {
     }
 }
 
-/// A notice of a new block, and one of a replica of block 7 on the target of the copy, are given up.
+/// A notice of a new block, and one of block 7 on the target of the copy, are given up.
 fn give_up_notices(rt: &impl Abort, topology: &Topology, shard: &mut Shard)
     requires standing { StandsIn topology.now.cluster shard.old }
     ensures standing { StandsIn topology.now.cluster shard.new }
@@ -200,8 +200,8 @@ fn give_up_notices(rt: &impl Abort, topology: &Topology, shard: &mut Shard)
     give_up(rt, topology, shard, &received_event(31, SEVEN));
 }
 
-/// The next round wishes for two copies; one is commanded, and the round after it wishes for the other. A notice that
-/// is given up in between changes nothing.
+/// The next round wishes for two copies; one is commanded, and the round after it wishes for the
+/// other. Notices that are given up in between change nothing.
 fn copy(rt: &impl Abort, alloc: Global, topology: &Topology, shard: &mut Shard)
     requires standing { StandsIn topology.now.cluster shard.old }
     requires round { shard.old.round ≡ 0 }
