@@ -411,7 +411,8 @@ impl Meeting {
 }
 
 impl Gate for Meeting {
-    /// Lets other threads go first until the pieces of all shards were entered, and gives up in the end.
+    /// Lets other threads go first until the pieces of all shards were entered, and gives up in
+    /// the end.
     fn at(&self, shard: u32) {
         let times = self.enter(shard);
         if self.only.unwrap_or(shard) != shard {
@@ -459,7 +460,8 @@ static MET: [(Told<'static>, Must<'static>, bool); 17] = [
     (Told::Places(4), Must::Places(&[]), false),
 ];
 
-/// Whether a call is answered as it must be, and the shards' pieces met at the gate if the crew works it.
+/// Whether a call is answered as it must be, and the shards' pieces met at the gate if the crew
+/// works it.
 fn is_met<R: Abort + Threads + Wait + Sync>(
     rt: &R,
     alloc: Global,
@@ -501,8 +503,8 @@ fn the_shards_of_a_call_are_worked_at_once(rt: HostRuntime) {
     check_meetings(&rt, rt.alloc(), 4, 4, None);
 }
 
-/// Whichever shard's piece holds its worker up, the other worker works the other three shards. With fixed shares one
-/// of these would wait behind the piece that waits for it.
+/// Whichever shard's piece holds its worker up, the other worker works the other three shards. With
+/// fixed shares one of these would wait behind the piece that waits for it.
 #[test]
 fn a_free_worker_takes_the_next_shard(rt: HostRuntime) {
     for shard in 0..4 {
