@@ -6,7 +6,7 @@ use Rattle.std.specs.List.Sorted.{IsPermutation}
 use Rattle.std.proofs.Math.ListN.{get_or-map}
 use Rattle.std.proofs.lemmas.Bool.{cases_eq, eq-eqb, ne_eqb}
 use Rattle.std.proofs.lemmas.Option.{none-some, same_Some}
-use Rattle.std.proofs.lemmas.List.{get_or-set_same, get_or-set_other, get_or_append_left, get_or_push, get_or_past, length-append, length-map, length-replicate, length-set, length_push, get_or_default, map-append, reverse-append, take_all}
+use Rattle.std.proofs.lemmas.List.{get_or-set_same, get_or-set_other, get_or_append_left, get_or_push, get_or_past, length-append, length-map, length-replicate, length-set, length_push, get_or_default, map-append, reverse-append, reverse-reverse, take_all}
 use Rattle.bm_base.specs.declared.level.Level.{Level}
 use Rattle.bm_base.specs.declared.level.Level.TheVariants.{Highest, VeryUnderReplicated, UnderReplicated, BadlyDistributed, NoUsableReplica}
 use Rattle.bm_base.specs.Levels.{level_number}
@@ -90,6 +90,9 @@ module _ (cells new : List Cell) (n k : ℕ) (o : Option Level) (none : o ≡ No
 -- The list of a level is its array from the end.
 pub seen-list : (levels : List (Option Level)) (arrays : List (List ℕ)) (l : Level) → slots_of (seen levels arrays) l ≡ reverse (array_of arrays l)
 seen-list levels arrays l = get_or-map reverse arrays (level_number l) []
+
+pub seen-array : (levels : List (Option Level)) (arrays : List (List ℕ)) (l : Level) → reverse (slots_of (seen levels arrays) l) ≡ array_of arrays l
+seen-array levels arrays l = ap reverse (seen-list levels arrays l) ∙ reverse-reverse (array_of arrays l)
 
 -- what one array's change does to the lists
 module _ (arrays : List (List ℕ)) (l : Level) (ys : List ℕ) where

@@ -59,10 +59,13 @@ impl LevelLists {
         })
     }
 
-    /// Says to the function that calls it that level lists are lawful at all times, and that going from the first slot of a level
-    /// to the next, and so on, visits just its slots, each once and in order. It does nothing when it runs.
+    /// Says to the function that calls it that level lists are lawful at all times, also what `slots` gives, and that going from the first
+    /// slot of a level to the next, and so on, visits just its slots, each once and in order. It does nothing when it runs.
     pub fn lawful(&self)
         ensures lawful { IsLawful self.now }
+        ensures exact { (l : Level) (slot : ℕ)
+            → Among slot (reverse (slots_of self.now l)) ↔ (level_at self.now slot ≡ Some l) }
+        ensures once { (l : Level) → Distinct (reverse (slots_of self.now l)) }
         ensures visited { (l : Level) → visited self.now l ≡ slots_of self.now l }
     {
         let _ = &self.cells;
