@@ -3,6 +3,8 @@ use Rattle.std.specs.Prelude.{◌≡◌, ◌≢◌, ℕ, Bool, true, false, not,
 use Rattle.std.specs.Option.{option_map_or}
 use Rattle.std.proofs.Common.{◌⊎◌, cond, inl, inr, refl, sym, ap, subst, ◌∙◌}
 use Rattle.std.proofs.lemmas.Bool.{cases_Bool, true≢false, and_from}
+use Rattle.std.proofs.lemmas.List.{append_assoc, map-append}
+use Rattle.std.proofs.lemmas.List.Elements.{filter-append}
 use Rattle.bm_base.specs.declared.level.Level.{Level}
 use Rattle.bm_base.specs.declared.level.Level.TheVariants.{Highest, VeryUnderReplicated, UnderReplicated, BadlyDistributed, NoUsableReplica}
 use Rattle.bm_base.specs.SlotLists.{Among, Distinct}
@@ -12,7 +14,7 @@ use Rattle.bm_arena.specs.Contents.{Contents, block_at, slot_of, IsLawful}
 use Rattle.bm_arena.specs.Holding.{info_at, id_at}
 use Rattle.bm_arena.proofs.Replicas.{Among-append, Among-left}
 use Rattle.bm_levels.specs.Judged.{is_settled_at}
-use Rattle.bm_levels.specs.Kept.{Kept, level_of_slot, IsUnsettled, AreWishing, wishes_copies}
+use Rattle.bm_levels.specs.Kept.{Kept, level_of_slot, IsUnsettled, AreWishing, wishing_slots, wishes_copies}
 use Rattle.bm_levels.specs.Leveled.{Leveled, IsLeveled}
 use Rattle.bm_levels.proofs.Alike.{has_among, among_has}
 use Rattle.bm_levels.proofs.ManySlots.{marker_settled}
@@ -99,8 +101,8 @@ latter false t e = absurd (true≢false (sym e))
 -- what is known of the sets of slots
 pub record AreListed (K : Kept) : Type 0 where
   pub unsettled : Distinct K.unsettled.slots
-  pub wishing : AreWishing K K.wishing.slots
-  pub once : Distinct K.wishing.slots
+  pub wishing : AreWishing K (wishing_slots K)
+  pub once : Distinct (wishing_slots K)
 
 module _ (K : Kept) (is : AreListed K) where
   abbrev u : List ℕ
@@ -108,17 +110,17 @@ module _ (K : Kept) (is : AreListed K) where
 
   module _ (a : Contents) (bound : Option (ℕ × ℕ)) where
     abbrev settled : List ℕ
-    settled = filter (is_told K a bound) K.wishing.slots
+    settled = filter (is_told K a bound) (wishing_slots K)
 
     settled_apart : AreApart u settled
-    settled_apart z here there = true≢false (sym (among_has u z here) ∙ by (has u z) (latter (is_before bound (key_at K a z)) (not (has u z)) (among_filtered (is_told K a bound) z K.wishing.slots there).1))
+    settled_apart z here there = true≢false (sym (among_has u z here) ∙ by (has u z) (latter (is_before bound (key_at K a z)) (not (has u z)) (among_filtered (is_told K a bound) z (wishing_slots K) there).1))
       where
         by : (t : Bool) → not t ≡ true → t ≡ false
         by true e = absurd (true≢false (sym e))
         by false e = refl
 
     pub visits_once : Distinct (visits K a bound)
-    visits_once = distinct_appended u settled is.unsettled (distinct_filtered (is_told K a bound) K.wishing.slots is.once) settled_apart
+    visits_once = distinct_appended u settled is.unsettled (distinct_filtered (is_told K a bound) (wishing_slots K) is.once) settled_apart
 
     pub unsettled_visited : (slot : ℕ) → IsUnsettled K slot → Among slot (visits K a bound)
     unsettled_visited slot h = Among-left slot u settled h
@@ -128,7 +130,7 @@ module _ (K : Kept) (is : AreListed K) where
         elim (cases_Bool (has u slot)) [
           | inl there ↦ unsettled_visited slot (has_among u slot there)
           | inr none ↦
-              among_right slot u settled (among_passing (is_told K a bound) slot K.wishing.slots ((is.wishing slot).1 (ap wishes_copies at ∙ wishing_at l wanted))
+              among_right slot u settled (among_passing (is_told K a bound) slot (wishing_slots K) ((is.wishing slot).1 (ap wishes_copies at ∙ wishing_at l wanted))
               (and_from (is_before bound (key_at K a slot)) (not (has u slot)) early (ap not none)))
         ]
 
@@ -137,7 +139,7 @@ module _ (K : Kept) (is : AreListed K) where
     visit_is slot h =
         elim (Among-append slot u settled h) [
           | inl loose ↦ inl loose
-          | inr wishing ↦ inr (level_wishing (level_of_slot K slot) ((is.wishing slot).0 (among_filtered (is_told K a bound) slot K.wishing.slots wishing).0))
+          | inr wishing ↦ inr (level_wishing (level_of_slot K slot) ((is.wishing slot).0 (among_filtered (is_told K a bound) slot (wishing_slots K) wishing).0))
         ]
 
 module _ (v : Leveled) (lawful : IsLawful v.arena) (leveled : IsLeveled v) (is : AreListed v.kept) (bound : Option (ℕ × ℕ)) where
@@ -174,3 +176,8 @@ module _ (v : Leveled) (lawful : IsLawful v.arena) (leveled : IsLeveled v) (is :
 
   pub ids_once : Distinct (map (id_at a) (visits v.kept a bound))
   ids_once = distinct_mapped (id_at a) (slot_of a) (visits v.kept a bound) (visits_once v.kept is a bound) visit_known
+
+-- the slots of each of the four levels put behind those that are there come to all
+pub told_by_level : {Y : Type 0} (f : ℕ → Y) (p : ℕ → Bool) (u w x y z : List ℕ)
+    → (((map f u ++ map f (filter p w)) ++ map f (filter p x)) ++ map f (filter p y)) ++ map f (filter p z) ≡ map f (u ++ filter p (w ++ (x ++ (y ++ z))))
+told_by_level f p u w x y z = simp (filter-append, map-append, append_assoc)

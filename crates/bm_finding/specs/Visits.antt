@@ -6,7 +6,7 @@ use Rattle.bm_base.specs.Levels.{level_number}
 use Rattle.bm_parts.specs.Before.{is_before}
 use Rattle.bm_arena.specs.Contents.{Contents}
 use Rattle.bm_arena.specs.Holding.{id_at}
-use Rattle.bm_levels.specs.Kept.{Kept, level_of_slot}
+use Rattle.bm_levels.specs.Kept.{Kept, level_of_slot, wishing_slots}
 
 -- the level and the number of the block at a slot; 5 where it has no level
 abbrev pub key_at : Kept → Contents → ℕ → ℕ × ℕ
@@ -23,4 +23,4 @@ is_told K a bound slot = is_before bound (key_at K a slot) && not (has K.unsettl
 -- where a round looks to be told the wishes before a bound: at the unsettled slots, and at those before the bound of the settled ones at
 -- a level at which copies are wished for
 abbrev pub visits : Kept → Contents → Option (ℕ × ℕ) → List ℕ
-visits K a bound = K.unsettled.slots ++ filter (is_told K a bound) K.wishing.slots
+visits K a bound = K.unsettled.slots ++ filter (is_told K a bound) (wishing_slots K)

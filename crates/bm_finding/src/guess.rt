@@ -1,5 +1,8 @@
 // A guess of which wishes a round needs.
+ghost use Rattle.std.specs.Prelude.{◌<◌};
+
 use bm_arena::Slot;
+use bm_base::Level;
 use bm_levels::LeveledBlocks;
 use bm_parts::merge::Key;
 use bm_pending::PendingTransfers;
@@ -20,17 +23,34 @@ pub fn likely_bound(
     most: usize,
     samples: usize,
 ) -> Result<Option<Key>, AllocError> {
-    let wishing = blocks.kept_levels().wishing_slots();
-    if blocks.kept_levels().unsettled_count() > wishing.len() / WISHING_FOR_UNSETTLED {
+    let count = blocks.kept_levels().wishing_count();
+    if blocks.kept_levels().unsettled_count() > count / WISHING_FOR_UNSETTLED {
         return Ok(None);
     }
-    let step = wishing.len() / samples.max(1) + 1;
+    let step = count / samples.max(1) + 1;
     let mut keys = Vec::new(alloc);
-    for member in wishing.iter().step_by(step) {
-        push_key(blocks, pending, *member as usize, &mut keys)?;
-    }
+    push_keys(blocks, pending, Level::Highest, step, &mut keys)?;
+    push_keys(blocks, pending, Level::VeryUnderReplicated, step, &mut keys)?;
+    push_keys(blocks, pending, Level::UnderReplicated, step, &mut keys)?;
+    push_keys(blocks, pending, Level::BadlyDistributed, step, &mut keys)?;
     keys.sort()?;
     Ok(keys.get(most / step).copied())
+}
+
+/// Puts the keys of every so many slots of a level behind those that are there.
+fn push_keys(
+    blocks: &LeveledBlocks,
+    pending: &PendingTransfers,
+    level: Level,
+    step: usize,
+    into: &mut Vec<Key>,
+) -> Result<(), AllocError>
+    requires { 0 < step }
+{
+    for member in blocks.kept_levels().at_level(level).iter().step_by(step) {
+        push_key(blocks, pending, *member as usize, into)?;
+    }
+    Ok(())
 }
 
 /// Puts the level and the number of the block at a slot behind those that are there, if no transfer of it is on its way.

@@ -1,10 +1,12 @@
 // By what slots are put in order: the level of their block, and its number.
-ghost use Rattle.std.specs.Prelude.{◌≡◌};
+ghost use Rattle.std.specs.Prelude.{◌≡◌, Some};
 ghost use Rattle.bm_parts.specs.Before as before;
 ghost use Rattle.bm_arena.specs.Holding as holding;
+ghost use Rattle.bm_levels.specs.Kept as kept_levels;
 ghost use Rattle.bm_finding.specs.Visits as visits;
 
 use bm_arena::{Arena, Slot};
+use bm_base::Level;
 use bm_levels::KeptLevels;
 use bm_parts::merge::Key;
 
@@ -20,6 +22,14 @@ pub(crate) fn key_of(kept: &KeptLevels, arena: &Arena, slot: Slot) -> Key
         None => NO_LEVEL,
     };
     (level as u64, number_of(arena, slot))
+}
+
+/// The same where the level is known, so that nothing is read but the number.
+pub(crate) fn key_at_level(_kept: &KeptLevels, arena: &Arena, slot: Slot, level: Level) -> Key
+    requires { kept_levels.level_of_slot _kept.now slot ≡ Some level }
+    ensures { result ≡ visits.key_at _kept.now arena.now slot }
+{
+    (level.number() as u64, number_of(arena, slot))
 }
 
 /// The number of the block at a slot; 0 where no block stands.

@@ -1,30 +1,85 @@
--- The set of the slots at a level at which copies are wished for, as one slot is given a level.
-use Rattle.std.specs.Prelude.{◌≡◌, ◌≢◌, ◌↔◌, ℕ, ◌==◌, true, if◌then◌else◌, length, Option}
-use Rattle.std.proofs.Common.{inl, inr, subst, sym, ap, ◌∙◌, arith}
-use Rattle.std.proofs.lemmas.Bool.{cases_eq, eq-eqb, ne_eqb}
+-- The slots at a level at which copies are wished for: those of four levels.
+use Rattle.std.specs.Prelude.{◌≡◌, ◌↔◌, ℕ, Bool, true, false, List, [], ◌∷◌, ◌++◌, reverse, Option, Some, None}
+use Rattle.std.proofs.Common.{◌⊎◌, inl, inr, subst, sym, ap, ◌∙◌, refl}
+use Rattle.std.proofs.lemmas.Bool.{true≢false}
 use Rattle.bm_base.specs.declared.level.Level.{Level}
-use Rattle.bm_base.specs.SlotLists.{Among}
-use Rattle.bm_queues.specs.Levels.{Levels, level_at}
-use Rattle.bm_queues.specs.Members.{Members}
-use Rattle.bm_levels.specs.Kept.{HasWishing, wishes_copies}
+use Rattle.bm_base.specs.declared.level.Level.TheVariants.{Highest, VeryUnderReplicated, UnderReplicated, BadlyDistributed, NoUsableReplica}
+use Rattle.bm_base.specs.SlotLists.{Among, Distinct}
+use Rattle.bm_arena.proofs.Replicas.{Among-append, Among-left}
+use Rattle.bm_levels.specs.Kept.{Kept, level_of_slot, slots_at, wishing_slots, wishes_copies, AreSlotsAt, AreWishing}
 
-module _ (old : Levels) (before : Members) (has : HasWishing old before) (new : Levels) (after : Members) where
-  -- a slot given a level, which is in the set after it just where copies are wished for at that level
-  pub wishing_set : (slot : ℕ) (level : Option Level) → ((other : ℕ) → level_at new other ≡ (if other == slot then level else level_at old other)) → length new.levels ≡ length old.levels → after.room ≡ before.room
-      → ((other : ℕ) → other ≢ slot → Among other after.slots ↔ Among other before.slots) → (Among slot after.slots ↔ (wishes_copies level ≡ true)) → HasWishing new after
-  wishing_set slot level levels long room others own =
-      record {
-        exact = λ z. elim (cases_eq z slot) [
-          | inl same ↦
-              let at : level_at new z ≡ level = levels z ∙ ap (λ b. if b then level else level_at old z) (eq-eqb z slot same) in (
-                λ there. ap wishes_copies at ∙ own.0 (let P : ℕ → Type 0 = λ w. Among w after.slots in subst P same there),
-                λ wishes. let P : ℕ → Type 0 = λ w. Among w after.slots in subst P (sym same) (own.1 (sym (ap wishes_copies at) ∙ wishes)),
-              )
-          | inr differs ↦
-              let at : level_at new z ≡ level_at old z = levels z ∙ ap (λ b. if b then level else level_at old z) (ne_eqb z slot differs) in (
-                λ there. ap wishes_copies at ∙ (has.exact z).0 ((others z differs).0 there),
-                λ wishes. (others z differs).1 ((has.exact z).1 (sym (ap wishes_copies at) ∙ wishes)),
-              )
-        ];
-        room = (let enough = has.room in omega (arith, enough, long, room));
-      }
+among_right : (x : ℕ) (xs ys : List ℕ) → Among x ys → Among x (xs ++ ys)
+among_right x [] ys h = h
+among_right x (z ∷ zs) ys h = inr (among_right x zs ys h)
+
+distinct_both : (xs ys : List ℕ) → Distinct xs → Distinct ys → ((z : ℕ) → Among z xs → Among z ys → ⊥) → Distinct (xs ++ ys)
+distinct_both [] ys d e apart = e
+distinct_both (x ∷ xs) ys d e apart =
+    (λ h. elim (Among-append x xs ys h) [ inl l ↦ d.0 l | inr r ↦ apart x (inl refl) r ], distinct_both xs ys d.1 e (λ z h. apart z (inr h)))
+
+module _ (K : Kept) (listed : (l : Level) → AreSlotsAt K l (slots_at K l)) where
+  abbrev second : List ℕ
+  second = slots_at K UnderReplicated ++ slots_at K BadlyDistributed
+
+  abbrev first : List ℕ
+  first = slots_at K VeryUnderReplicated ++ second
+
+  in_list : (slot : ℕ) (l : Level) → level_of_slot K slot ≡ Some l → wishes_copies (Some l) ≡ true → Among slot (wishing_slots K)
+  in_list slot Highest at wishes = Among-left slot (slots_at K Highest) first ((listed Highest slot).1 at)
+  in_list slot VeryUnderReplicated at wishes = among_right slot (slots_at K Highest) first (Among-left slot (slots_at K VeryUnderReplicated) second ((listed VeryUnderReplicated slot).1 at))
+  in_list slot UnderReplicated at wishes =
+      among_right slot (slots_at K Highest) first (among_right slot (slots_at K VeryUnderReplicated) second (Among-left slot (slots_at K UnderReplicated) (slots_at K BadlyDistributed) ((listed UnderReplicated slot).1 at)))
+  in_list slot BadlyDistributed at wishes =
+      among_right slot (slots_at K Highest) first (among_right slot (slots_at K VeryUnderReplicated) second (among_right slot (slots_at K UnderReplicated) (slots_at K BadlyDistributed) ((listed BadlyDistributed slot).1 at)))
+  in_list slot NoUsableReplica at wishes = absurd (true≢false (sym wishes))
+
+  wishing : (slot : ℕ) (o : Option Level) → level_of_slot K slot ≡ o → wishes_copies o ≡ true → Among slot (wishing_slots K)
+  wishing slot None at wishes = absurd (true≢false (sym wishes))
+  wishing slot (Some l) at wishes = in_list slot l at wishes
+
+  -- one of the four levels
+  level_in : (slot : ℕ) → Among slot (wishing_slots K)
+      → (level_of_slot K slot ≡ Some Highest) ⊎ ((level_of_slot K slot ≡ Some VeryUnderReplicated) ⊎ ((level_of_slot K slot ≡ Some UnderReplicated) ⊎ (level_of_slot K slot ≡ Some BadlyDistributed)))
+  level_in slot h =
+      elim (Among-append slot (slots_at K Highest) first h) [
+        | inl a ↦ inl ((listed Highest slot).0 a)
+        | inr g ↦ elim (Among-append slot (slots_at K VeryUnderReplicated) second g) [
+          | inl b ↦ inr (inl ((listed VeryUnderReplicated slot).0 b))
+          | inr f ↦ elim (Among-append slot (slots_at K UnderReplicated) (slots_at K BadlyDistributed) f) [
+            | inl d ↦ inr (inr (inl ((listed UnderReplicated slot).0 d)))
+            | inr e ↦ inr (inr (inr ((listed BadlyDistributed slot).0 e)))
+          ]
+        ]
+      ]
+
+  pub are_wishing : AreWishing K (wishing_slots K)
+  are_wishing slot = (
+    λ h. elim (level_in slot h) [
+      | inl a ↦ ap wishes_copies a
+      | inr g ↦ elim g [ inl b ↦ ap wishes_copies b | inr f ↦ elim f [ inl d ↦ ap wishes_copies d | inr e ↦ ap wishes_copies e ] ]
+    ],
+    wishing slot (level_of_slot K slot) refl,
+  )
+
+  -- a slot has one level
+  not_both : (l m : Level) (slot : ℕ) → (Some l ≡ Some m → ⊥) → Among slot (slots_at K l) → level_of_slot K slot ≡ Some m → ⊥
+  not_both l m slot differ there at = differ (sym ((listed l slot).0 there) ∙ at)
+
+  module _ (once : (l : Level) → Distinct (slots_at K l)) where
+    pub wishing_once : Distinct (wishing_slots K)
+    wishing_once =
+        distinct_both (slots_at K Highest) first (once Highest)
+        (distinct_both (slots_at K VeryUnderReplicated) second (once VeryUnderReplicated)
+        (distinct_both (slots_at K UnderReplicated) (slots_at K BadlyDistributed) (once UnderReplicated) (once BadlyDistributed)
+        (λ z h g. not_both UnderReplicated BadlyDistributed z (λ e. cc) h ((listed BadlyDistributed z).0 g)))
+        (λ z h g. elim (Among-append z (slots_at K UnderReplicated) (slots_at K BadlyDistributed) g) [
+          | inl b ↦ not_both VeryUnderReplicated UnderReplicated z (λ e. cc) h ((listed UnderReplicated z).0 b)
+          | inr d ↦ not_both VeryUnderReplicated BadlyDistributed z (λ e. cc) h ((listed BadlyDistributed z).0 d)
+        ]))
+        (λ z h g. elim (Among-append z (slots_at K VeryUnderReplicated) second g) [
+          | inl a ↦ not_both Highest VeryUnderReplicated z (λ e. cc) h ((listed VeryUnderReplicated z).0 a)
+          | inr f ↦ elim (Among-append z (slots_at K UnderReplicated) (slots_at K BadlyDistributed) f) [
+            | inl b ↦ not_both Highest UnderReplicated z (λ e. cc) h ((listed UnderReplicated z).0 b)
+            | inr d ↦ not_both Highest BadlyDistributed z (λ e. cc) h ((listed BadlyDistributed z).0 d)
+          ]
+        ])

@@ -1,11 +1,11 @@
 -- What is kept of blocks beside their replicas, by slot.
-use Rattle.std.specs.Prelude.{◌≡◌, ◌↔◌, ℕ, ◌+◌, ◌<◌, ◌≤◌, Bool, true, false, List, length, map, Option, Some, None, slice_get, slice_index_or}
+use Rattle.std.specs.Prelude.{◌≡◌, ◌↔◌, ℕ, ◌+◌, ◌<◌, ◌≤◌, Bool, true, false, List, ◌++◌, length, map, reverse, Option, Some, None, slice_get, slice_index_or}
 use Rattle.bm_base.specs.declared.level.Level.{Level}
-use Rattle.bm_base.specs.declared.level.Level.TheVariants.{NoUsableReplica}
+use Rattle.bm_base.specs.declared.level.Level.TheVariants.{Highest, VeryUnderReplicated, UnderReplicated, BadlyDistributed, NoUsableReplica}
 use Rattle.bm_base.specs.SlotLists.{Among}
 use Rattle.bm_base.specs.State.{Cluster}
 use Rattle.bm_base.specs.Replicas.{rack_of, is_draining, is_multi_rack}
-use Rattle.bm_queues.specs.Levels.{Levels, level_at}
+use Rattle.bm_queues.specs.Levels.{Levels, level_at, slots_of}
 use Rattle.bm_queues.specs.Members.{Members}
 use Rattle.bm_queues.specs.Walks.{slots_from, IsOn, IsPast}
 use Rattle.bm_arena.specs.Triplets.{Block}
@@ -13,11 +13,10 @@ use Rattle.bm_arena.specs.Contents.{Contents, block_at}
 use Rattle.bm_levels.specs.declared.judging.Judged.{Judged}
 use Rattle.bm_levels.specs.Judged.{level_by, is_settled_at}
 
--- the levels of the slots, the slots at which a round has to look, and those at a level at which copies are wished for
+-- the levels of the slots, and the slots at which a round has to look
 pub record Kept : Type 0 where
   pub levels : Levels
   pub unsettled : Members
-  pub wishing : Members
 
 -- copies of a block are wished for at each level but the one without a usable replica
 abbrev pub wishes_copies : Option Level → Bool
@@ -25,10 +24,13 @@ wishes_copies None = false
 wishes_copies (Some NoUsableReplica) = false
 wishes_copies (Some _) = true
 
--- the set is that of the slots at such a level, with room for each slot that has a level
-pub record HasWishing (levels : Levels) (wishing : Members) : Type 0 where
-  pub exact : (slot : ℕ) → Among slot wishing.slots ↔ (wishes_copies (level_at levels slot) ≡ true)
-  pub room : length levels.levels ≤ wishing.room
+-- the slots at a level, in the order of the array that has them
+abbrev pub slots_at : Kept → Level → List ℕ
+slots_at K l = reverse (slots_of K.levels l)
+
+-- the slots at a level at which copies are wished for, the most urgent level first
+abbrev pub wishing_slots : Kept → List ℕ
+wishing_slots K = slots_at K Highest ++ (slots_at K VeryUnderReplicated ++ (slots_at K UnderReplicated ++ slots_at K BadlyDistributed))
 
 abbrev pub level_of_slot : Kept → ℕ → Option Level
 level_of_slot K slot = level_at K.levels slot

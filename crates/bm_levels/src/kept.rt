@@ -1,16 +1,14 @@
 // What is kept of the blocks of a shard beside their replicas.
-ghost use Rattle.std.specs.Prelude.{◌≡◌, true, ◌≢◌, ℕ, ◌≤◌, None, IfOk, IfErr, OnOk, IsOk};
+ghost use Rattle.std.specs.Prelude.{◌≡◌, true, ◌≢◌, ℕ, ◌≤◌, None, length, IfOk, IfErr, OnOk, IsOk};
 ghost use Rattle.bm_base.specs.declared.refusal.Refusal.TheVariants.{Memory};
 ghost use Rattle.bm_base.specs.declared.level.Level.{Level};
 ghost use Rattle.bm_base.specs.SlotLists.{Distinct};
-ghost use Rattle.bm_queues.specs.Levels as queues;
-ghost use Rattle.bm_levels.specs.Kept.{level_of_slot, IsUnsettled, HasRoomFor, HasRoomAt, KeepsRoom, AreSlotsAt, AreWishing, IsKeptAs, IsSameAt, KeepsAhead};
+ghost use Rattle.bm_levels.specs.Kept.{level_of_slot, IsUnsettled, HasRoomFor, HasRoomAt, KeepsRoom, AreSlotsAt, AreWishing, slots_at, wishing_slots, IsKeptAs, IsSameAt, KeepsAhead};
 
 use crate::judging::Judged;
-use crate::wishing::set_level;
 use bm_arena::Slot;
 use bm_base::{Level, Refusal};
-use bm_queues::{LevelLists, SlotSet, SparseSet, Walk};
+use bm_queues::{LevelLists, SlotSet};
 use std::alloc::Global;
 use std::marker::Model;
 
@@ -27,8 +25,7 @@ fn ahead_of(bound: usize) -> usize
     if bound < FAR { bound + AHEAD } else { bound }
 }
 
-/// The level of each block, the set of those at a level at which copies are wished for, and the set of the blocks that are not settled,
-/// all by the slots of an arena.
+/// The level of each block, the blocks of each level, and the set of the blocks that are not settled, all by the slots of an arena.
 ///
 /// A block is settled if all its replicas are good ones with no mark, and no more of them are there than are wanted: a round marks
 /// none of them and deletes none. Blocks that wait for a delete that was ordered stay unsettled until it is reported.
@@ -36,22 +33,17 @@ fn ahead_of(bound: usize) -> usize
 pub struct KeptLevels {
     pub(crate) levels: LevelLists,
     pub(crate) unsettled: SlotSet,
-    // Just the slots that `levels` has at a level at which copies are wished for.
-    pub(crate) wishing: SparseSet,
 }
 
 impl Model for KeptLevels {
-    ghost use Rattle.bm_levels.specs.Kept.{Kept, HasWishing};
+    ghost use Rattle.bm_levels.specs.Kept.{Kept};
 
     ghost Value = { Kept };
 
     ghost view = { λ k. record {
       levels = k.levels;
       unsettled = k.unsettled;
-      wishing = k.wishing;
     } };
-
-    ghost invariant = { λ k. HasWishing k.levels k.wishing };
 }
 
 impl KeptLevels {
@@ -64,7 +56,6 @@ impl KeptLevels {
         Ok(KeptLevels {
             levels: LevelLists::new(alloc)?,
             unsettled: SlotSet::new(alloc)?,
-            wishing: SparseSet::new(alloc),
         })
     }
 
@@ -98,7 +89,6 @@ impl KeptLevels {
         ensures same { (slot : ℕ) → IsSameAt self.old self.new slot }
         ensures refused { IfErr result (λ e. e ≡ Memory) }
     {
-        self.wishing.grow_to(bound)?;
         self.levels.grow_to(bound)?;
         self.unsettled.grow_to(bound)
     }
@@ -111,7 +101,7 @@ impl KeptLevels {
         ensures ahead { KeepsAhead slot self.old.unsettled.slots self.new.unsettled.slots }
         ensures room { KeepsRoom self.old self.new }
     {
-        set_level(&mut self.levels, &mut self.wishing, slot, judged.level);
+        self.levels.set(slot, judged.level);
         if judged.is_settled {
             self.unsettled.remove(slot);
         } else {
@@ -142,27 +132,35 @@ impl KeptLevels {
     }
 
     /// The slots at a level, in any order.
-    pub fn at_level(&self, level: Level) -> Walk<'_>
-        ensures slots { result ≡ queues.slots_of self.now.levels level }
-        ensures exact { AreSlotsAt self.now level result }
-        ensures once { Distinct result }
+    pub fn at_level(&self, level: Level) -> &[u32]
+        ensures slots { result.now ≡ slots_at self.now level }
+        ensures exact { AreSlotsAt self.now level result.now }
+        ensures once { Distinct result.now }
+    {
+        self.levels.slots(level)
+    }
+
+    /// How many slots are at a level at which copies are wished for.
+    pub fn wishing_count(&self) -> usize
+        ensures { result ≡ length (wishing_slots self.now) }
     {
         self.levels.lawful();
-        self.levels.walk(level)
+        self.levels.slots(Level::Highest).len()
+            + self.levels.slots(Level::VeryUnderReplicated).len()
+            + self.levels.slots(Level::UnderReplicated).len()
+            + self.levels.slots(Level::BadlyDistributed).len()
     }
 
     /// Does nothing: a caller has by it that a level's list has just the slots at the level, each once, that no slot is twice
     /// unsettled, and that just the slots at a level at which copies are wished for are wishing, each once.
     pub fn lawful(&self)
-        ensures listed { (level : Level)
-            → AreSlotsAt self.now level (queues.slots_of self.now.levels level) }
-        ensures once { (level : Level) → Distinct (queues.slots_of self.now.levels level) }
+        ensures listed { (level : Level) → AreSlotsAt self.now level (slots_at self.now level) }
+        ensures once { (level : Level) → Distinct (slots_at self.now level) }
         ensures unsettled { Distinct self.now.unsettled.slots }
-        ensures wishing { AreWishing self.now self.now.wishing.slots }
-        ensures wishing_once { Distinct self.now.wishing.slots }
+        ensures wishing { AreWishing self.now (wishing_slots self.now) }
+        ensures wishing_once { Distinct (wishing_slots self.now) }
     {
         self.levels.lawful();
         self.unsettled.lawful();
-        self.wishing.lawful();
     }
 }

@@ -1,10 +1,9 @@
 //! How urgent the blocks of a shard are, and at which of them a round has to look.
 //!
-//! The blocks and replicas of a shard stand in an arena. Beside it stand, by the slots of the arena, the level of each block, the set of
-//! those at a level at which copies are wished for, and the set of the blocks that are not settled: those of which a round may mark or
-//! delete a replica. Where the replicas of a block change,
-//! the block is judged anew from its own replicas, with one look at each of them. Nothing here takes memory but `new`, `grow_to`,
-//! `ready_block` and `ready_report`.
+//! The blocks and replicas of a shard stand in an arena. Beside it stand, by the slots of the arena, the level of each block, the blocks of
+//! each level, and the set of the blocks that are not settled: those of which a round may mark or delete a replica. Where the replicas of
+//! a block change, the block is judged anew from its own replicas, with one look at each of them. Nothing here takes memory but `new`,
+//! `grow_to`, `ready_block` and `ready_report`.
 #![tactic(auto)]
 
 mod around;
@@ -27,7 +26,6 @@ mod reports;
 mod round_begins;
 mod round_ends;
 mod unsettled;
-mod wishing;
 
 pub use kept::KeptLevels;
 pub use leveled::LeveledBlocks;

@@ -43,8 +43,9 @@ pub fn missing_blocks(alloc: Global, blocks: &LeveledBlocks) -> Result<Items<Blo
     let arena = blocks.arena();
     arena.lawful();
     let mut ids = Vec::new(alloc);
-    for slot in blocks.kept_levels().at_level(Level::NoUsableReplica) {
-        ids.push(arena.id_of(slot))?;
+    let slots = blocks.kept_levels().at_level(Level::NoUsableReplica);
+    for slot in slots {
+        ids.push(arena.id_of(*slot as usize))?;
     }
     ids.sort()?;
     Ok(Items::from_vec(ids))

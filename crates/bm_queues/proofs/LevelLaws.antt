@@ -1,27 +1,28 @@
--- Level lists: that they are lawful, and that a growth and a change of level keep them so.
-use Rattle.std.proofs.Common.{◌≡◌, ◌≢◌, ◌⊎◌, ℕ, zero, suc, ◌<◌, ◌≤◌, ◌-◌, ◌++◌, List, [], ◌∷◌, length, get_or, set, take, replicate, Option, Some, None, inl, inr, subst, sym, ap, ◌∙◌, refl, arith}
+-- Level lists in arrays: that they are lawful, and that a growth and a change of level keep them so.
+use Rattle.std.proofs.Common.{◌≡◌, ◌≢◌, ◌⊎◌, ℕ, zero, suc, ◌<◌, ◌≤◌, ◌+◌, ◌-◌, ◌++◌, List, [], ◌∷◌, length, get_or, set, map, take, reverse, replicate, Option, Some, None, inl, inr, subst, sym, ap, ◌∙◌, refl, arith}
 use Rattle.std.specs.Prelude.{if◌then◌else◌, ◌==◌, ◌↔◌, option_and_then}
+use Rattle.std.specs.List.{swap_remove, All}
+use Rattle.std.specs.List.Sorted.{IsPermutation}
+use Rattle.std.proofs.Math.ListN.{get_or-map}
 use Rattle.std.proofs.lemmas.Bool.{cases_eq, eq-eqb, ne_eqb}
 use Rattle.std.proofs.lemmas.Option.{none-some, same_Some}
-use Rattle.std.proofs.lemmas.List.{get_or-set_same, get_or-set_other, get_or_past, length-set, take_all}
+use Rattle.std.proofs.lemmas.List.{get_or-set_same, get_or-set_other, get_or_append_left, get_or_push, get_or_past, length-append, length-map, length-replicate, length-set, length_push, get_or_default, map-append, reverse-append, reverse-reverse, take_all}
 use Rattle.bm_base.specs.declared.level.Level.{Level}
 use Rattle.bm_base.specs.declared.level.Level.TheVariants.{Highest, VeryUnderReplicated, UnderReplicated, BadlyDistributed, NoUsableReplica}
 use Rattle.bm_base.specs.Levels.{level_number}
+use Rattle.bm_base.specs.SlotLinks.{end_of_links}
+use Rattle.bm_base.specs.SlotLists.{Among, Distinct, first_of, slot_after}
+use Rattle.bm_base.proofs.SlotLists.{length-distinct_below}
 use Rattle.bm_queues.specs.LevelBytes.{level_of_byte}
-use Rattle.bm_base.specs.SlotLists.{Among, without, slot_after}
-use Rattle.bm_queues.specs.Links.{list_from, AreLinks}
-use Rattle.bm_queues.specs.Levels.{Levels, IsLawful, AreLevels, five, with_room, visited, level_at, slots_of, next_of}
-use Rattle.bm_queues.specs.Walks.{slots_from, IsOn, IsPast}
+use Rattle.bm_queues.specs.Levels.{Levels, IsLawful, visited, level_at, slots_of, next_of}
+use Rattle.bm_queues.specs.declared.level_lists.Cell.{Cell}
+use Rattle.bm_queues.specs.DenseLevels.{AreDense, seen, level_in, array_of, levels_in, indices_in}
+use Rattle.bm_queues.specs.Walks.{slots_from, IsOn, IsPast, GoesOn}
 use Rattle.bm_queues.proofs.Visits.{walk-after, below_or_past}
-use Rattle.bm_queues.proofs.Walking.{from-with, from-without, on-with, on-without, next-is_on, rest-next, past-is}
-use Rattle.bm_base.proofs.SlotLists.{Among-without, Among-without_other, without-gone, without-absent}
+use Rattle.bm_queues.proofs.Walking.{next-is_on, rest-next, past-is}
+use Rattle.bm_queues.proofs.Indices.{AreApart, place_among, among_here, distinct_apart, among-reverse, distinct-reverse, first-taken, after-index, rest-length, rest-at, rest-place, rest-from, rest-on, permutation-reverse}
 
-pub five-at : (k : ℕ) (next back : List (Option ℕ)) (l : Level) → get_or (five k next back) (level_number l) [] ≡ list_from k next back (level_number l)
-five-at k next back Highest = refl
-five-at k next back VeryUnderReplicated = refl
-five-at k next back UnderReplicated = refl
-five-at k next back BadlyDistributed = refl
-five-at k next back NoUsableReplica = refl
+-- Levels and their numbers.
 
 pub level_below : (l : Level) → level_number l < 5
 level_below Highest = omega arith
@@ -37,7 +38,7 @@ back_again UnderReplicated = refl
 back_again BadlyDistributed = refl
 back_again NoUsableReplica = refl
 
-pub same_level : (l m : Level) → level_number l ≡ level_number m → l ≡ m
+same_level : (l m : Level) → level_number l ≡ level_number m → l ≡ m
 same_level l m same = same_Some l m (sym (back_again l) ∙ ap level_of_byte same ∙ back_again m)
 
 -- each number below five is a level's
@@ -47,239 +48,455 @@ level_with (suc zero) h = (VeryUnderReplicated, refl)
 level_with (suc (suc zero)) h = (UnderReplicated, refl)
 level_with (suc (suc (suc zero))) h = (BadlyDistributed, refl)
 level_with (suc (suc (suc (suc zero)))) h = (NoUsableReplica, refl)
-level_with (suc (suc (suc (suc (suc n))))) h = absurd (omega arith)
+level_with (suc (suc (suc (suc (suc n))))) h = absurd (omega (arith, h))
+
+-- two levels are one, or their numbers differ
+cases_level : (l m : Level) → (l ≡ m) ⊎ (level_number l ≢ level_number m)
+cases_level l m = elim (cases_eq (level_number l) (level_number m)) [ inl same ↦ inl (same_level l m same) | inr apart ↦ inr apart ]
 
 -- a slot that has a level lies below the room
-held_below : (levels : List (Option Level)) (slot : ℕ) (l : Level) → get_or levels slot None ≡ Some l → slot < length levels
+pub held_below : (levels : List (Option Level)) (slot : ℕ) (l : Level) → get_or levels slot None ≡ Some l → slot < length levels
 held_below levels slot l is =
     elim (below_or_past slot (length levels)) [
       | inl below ↦ below
       | inr past ↦ absurd (none-some l (sym (get_or_past levels slot None past) ∙ is))
     ]
 
-module _ (k : ℕ) (next back : List (Option ℕ)) (levels : List (Option Level)) (are : AreLevels k next back levels) where
-  pub low : (l : Level) → level_number l < k
-  low l = let five_heads = are.heads in let below = level_below l in omega (arith, five_heads, below)
+-- more of what a list has past its end
+pub padded : {A : Type 0} (d : A) (xs : List A) (k i : ℕ) → get_or (xs ++ replicate k d) i d ≡ get_or xs i d
+padded d [] zero i = refl
+padded d [] (suc k) zero = refl
+padded d [] (suc k) (suc i) = padded d [] k i
+padded d (x ∷ xs) k zero = refl
+padded d (x ∷ xs) k (suc i) = padded d xs k i
 
-  pub lawful-levels : IsLawful (record { levels = levels; lists = five k next back })
+map-replicate : {A B : Type 0} (f : A → B) (k : ℕ) (x : A) → map f (replicate k x) ≡ replicate k (f x)
+map-replicate f zero x = refl
+map-replicate f (suc k) x = ap (λ ys. f x ∷ ys) (map-replicate f k x)
+
+-- cells of slots without a level behind the others
+module _ (cells new : List Cell) (n k : ℕ) (o : Option Level) (none : o ≡ None) (is : new ≡ take n cells ++ replicate (n - k) (record { level = o; index = 0 })) (few : length cells ≤ n) where
+  mapped : {B : Type 0} (f : Cell → B) → map f new ≡ map f cells ++ replicate (n - k) (f (record { level = o; index = 0 }))
+  mapped f =
+      ap (map f) (is ∙ ap (λ cs. cs ++ replicate (n - k) (record { level = o; index = 0 })) (take_all n cells few))
+      ∙ map-append f cells (replicate (n - k) (record { level = o; index = 0 })) ∙ ap (λ ys. map f cells ++ ys) (map-replicate f (n - k) (record { level = o; index = 0 }))
+
+  pub grown-levels : levels_in new ≡ levels_in cells ++ replicate (n - k) None
+  grown-levels = mapped (λ (c : Cell). c.level) ∙ ap (λ l. levels_in cells ++ replicate (n - k) l) none
+
+  pub grown-indices : indices_in new ≡ indices_in cells ++ replicate (n - k) 0
+  grown-indices = mapped (λ (c : Cell). c.index)
+
+-- The list of a level is its array from the end.
+pub seen-list : (levels : List (Option Level)) (arrays : List (List ℕ)) (l : Level) → slots_of (seen levels arrays) l ≡ reverse (array_of arrays l)
+seen-list levels arrays l = get_or-map reverse arrays (level_number l) []
+
+pub seen-array : (levels : List (Option Level)) (arrays : List (List ℕ)) (l : Level) → reverse (slots_of (seen levels arrays) l) ≡ array_of arrays l
+seen-array levels arrays l = ap reverse (seen-list levels arrays l) ∙ reverse-reverse (array_of arrays l)
+
+-- what one array's change does to the lists
+module _ (arrays : List (List ℕ)) (l : Level) (ys : List ℕ) where
+  pub own-array : length arrays ≡ 5 → array_of (set arrays (level_number l) ys) l ≡ ys
+  own-array five = get_or-set_same arrays (level_number l) ys [] (let low = level_below l in omega (arith, low, five))
+
+  pub other-array : (m : Level) → level_number m ≢ level_number l → array_of (set arrays (level_number l) ys) m ≡ array_of arrays m
+  other-array m apart = get_or-set_other arrays (level_number l) (level_number m) ys [] apart
+
+module _ (levels : List (Option Level)) (indices : List ℕ) (arrays : List (List ℕ)) (are : AreDense levels indices arrays) where
+  abbrev v : Levels
+  v = seen levels arrays
+
+  pub array-apart : (l : Level) → AreApart (array_of arrays l)
+  array-apart l i j low_i low_j same = sym (are.index l i low_i) ∙ ap (λ x. get_or indices x 0) same ∙ are.index l j low_j
+
+  pub array-exact : (l : Level) (slot : ℕ) → Among slot (array_of arrays l) ↔ (level_in levels slot ≡ Some l)
+  array-exact l slot = (
+    λ h. let found = place_among slot (array_of arrays l) h in
+        ap (λ x. level_in levels x) (sym found.2) ∙ are.level l found.0 found.1,
+    λ is. among_here slot (array_of arrays l) (get_or indices slot 0) (are.inside l slot is) (are.there l slot is),
+  )
+
+  pub array-once : (l : Level) → Distinct (array_of arrays l)
+  array-once l = distinct_apart (array_of arrays l) (array-apart l)
+
+  pub array-few : (l : Level) → length (array_of arrays l) ≤ length levels
+  array-few l = length-distinct_below (length levels) (array_of arrays l) (array-once l) (λ x h. held_below levels x l ((array-exact l x).0 h))
+
+  pub arrays-few : (n : ℕ) → length levels ≤ n → All (λ a. length a ≤ n) arrays
+  arrays-few n enough k d low =
+      let five = are.five in
+      let l = level_with k (omega (arith, low, five)) in
+      let same : get_or arrays k d ≡ array_of arrays l.0 = get_or_default arrays k d [] low ∙ ap (λ i. get_or arrays i []) (sym l.1) in
+      let few = array-few l.0 in
+      let len = ap length same in
+      omega (arith, few, len, enough)
+
+  pub lawful-levels : IsLawful v
   lawful-levels = record {
-    distinct = λ l. rw (five-at k next back l) (are.links.distinct (level_number l) (low l));
-    exact = λ l slot. rw (five-at k next back l) (are.known l slot, are.listed l slot);
-    five = refl;
-    below = λ l slot. rw (five-at k next back l) (λ there. held_below levels slot l (are.known l slot there));
-    small = let room = are.room in let reach = are.links.small in let heads = are.heads in omega (arith, room, reach, heads);
+    five = length-map arrays reverse ∙ are.five;
+    distinct = λ l. rw (seen-list levels arrays l) (distinct-reverse (array_of arrays l) (array-apart l));
+    exact = λ l slot. rw (seen-list levels arrays l) (
+      λ h. (array-exact l slot).0 ((among-reverse slot (array_of arrays l)).0 h),
+      λ is. (among-reverse slot (array_of arrays l)).1 ((array-exact l slot).1 is),
+    );
+    below = λ l slot. rw (seen-list levels arrays l) (λ h. held_below levels slot l ((array-exact l slot).0 ((among-reverse slot (array_of arrays l)).0 h)));
+    small = are.small;
   }
 
   -- going on by the slot behind visits the slots of a level
-  pub visited-levels : (l : Level) → visited (record { levels = levels; lists = five k next back }) l ≡ slots_of (record { levels = levels; lists = five k next back }) l
+  pub visited-levels : (l : Level) → visited v l ≡ slots_of v l
   visited-levels l =
-      let v : Levels = record { levels = levels; lists = five k next back } in
       let lawful = lawful-levels in
       walk-after (next_of v) (slots_of v l) (length (slots_of v l)) (lawful.distinct l)
       (λ x there. ap (option_and_then (λ m. slot_after x (slots_of v m))) ((lawful.exact l x).0 there)) (omega arith)
 
-  -- lists that stay, with room for more slots
-  pub kept-levels : (k' : ℕ) (next' back' : List (Option ℕ)) (levels' : List (Option Level)) → k' ≡ k → AreLinks k' next' back' → length levels' ≤ length back'
-      → ((l : ℕ) → l < k → list_from k' next' back' l ≡ list_from k next back l) → ((slot : ℕ) → get_or levels' slot None ≡ get_or levels slot None) → AreLevels k' next' back' levels'
-  kept-levels k' next' back' levels' heads links room same same_levels =
-      let P : List ℕ → ℕ → Type 0 = λ xs slot. Among slot xs in
-      record {
-        heads = heads ∙ are.heads;
-        links = links;
-        room = room;
-        listed = λ l slot is. subst (λ xs. Among slot xs) (sym (same (level_number l) (low l))) (are.listed l slot (sym (same_levels slot) ∙ is));
-        known = λ l slot there. same_levels slot ∙ are.known l slot (subst (λ xs. Among slot xs) (same (level_number l) (low l)) there);
+  -- more slots, without a level
+  pub grown-dense : (k : ℕ) → length levels + k + 1 ≤ end_of_links → AreDense (levels ++ replicate k None) (indices ++ replicate k 0) arrays
+  grown-dense k fits = record {
+    five = are.five;
+    level = λ l i low. padded None levels k (get_or (array_of arrays l) i 0) ∙ are.level l i low;
+    index = λ l i low. padded 0 indices k (get_or (array_of arrays l) i 0) ∙ are.index l i low;
+    inside = λ l s at. rw (padded 0 indices k s) (are.inside l s (sym (padded None levels k s) ∙ at));
+    there = λ l s at. rw (padded 0 indices k s) (are.there l s (sym (padded None levels k s) ∙ at));
+    small = (let len = length-append levels (replicate k None) in let none : Option Level = None in let new = length-replicate k none in omega (arith, fits, len, new));
+  }
+
+  -- the slot behind one that has a level
+  module _ (slot : ℕ) (l : Level) (is : level_in levels slot ≡ Some l) where
+    behind-slot : next_of v slot ≡ first_of (reverse (take (get_or indices slot 0) (array_of arrays l)))
+    behind-slot =
+        ap (option_and_then (λ m. slot_after slot (slots_of v m))) is ∙ ap (slot_after slot) (seen-list levels arrays l)
+        ∙ ap (λ x. slot_after x (reverse (array_of arrays l))) (sym (are.there l slot is)) ∙ after-index (array_of arrays l) (array-apart l) (get_or indices slot 0) (are.inside l slot is)
+
+    pub none-behind : get_or indices slot 0 ≡ 0 → None ≡ next_of v slot
+    none-behind first = sym (behind-slot ∙ ap (λ i. first_of (reverse (take i (array_of arrays l)))) first)
+
+    pub one-behind : (i : ℕ) → get_or indices slot 0 ≡ i + 1 → Some (get_or (array_of arrays l) i 0) ≡ next_of v slot
+    one-behind i next =
+        let inside = are.inside l slot is in
+        sym (behind-slot ∙ ap (λ j. first_of (reverse (take j (array_of arrays l)))) next ∙ first-taken (array_of arrays l) i (omega (arith, inside, next)))
+
+  -- a slot that takes no level with it
+  module _ (slot : ℕ) (l : Level) (is : level_in levels slot ≡ Some l) where
+    abbrev xs : List ℕ
+    xs = array_of arrays l
+
+    abbrev place : ℕ
+    place = get_or indices slot 0
+
+    abbrev end : ℕ
+    end = length xs - 1
+
+    abbrev last : ℕ
+    last = get_or xs end 0
+
+    abbrev rest : List ℕ
+    rest = swap_remove xs place slot
+
+    low : place < length xs
+    low = are.inside l slot is
+
+    at : get_or xs place 0 ≡ slot
+    at = are.there l slot is
+
+    pub one-held : 0 < length xs
+    one-held = omega (arith, low)
+
+    last-level : level_in levels last ≡ Some l
+    last-level = are.level l end (omega (arith, low))
+
+    pub last-below : last < length levels
+    last-below = held_below levels last l last-level
+
+    last-index : get_or indices last 0 ≡ end
+    last-index = are.index l end (omega (arith, low))
+
+    abbrev arrays' : List (List ℕ)
+    arrays' = set arrays (level_number l) rest
+
+    kept-array : array_of arrays' l ≡ rest
+    kept-array = own-array arrays l rest are.five
+
+    -- another slot keeps its level, and one that is not the last its index
+    other-level : (s : ℕ) → s ≢ slot → level_in (set levels slot None) s ≡ level_in levels s
+    other-level s differs = get_or-set_other levels slot s None None differs
+
+    other-index : (s : ℕ) → s ≢ last → get_or (set indices last place) s 0 ≡ get_or indices s 0
+    other-index s differs = get_or-set_other indices last s place 0 differs
+
+    -- what is at an index of the rest
+    moved : (i : ℕ) → i < end → (s : ℕ) × (get_or rest i 0 ≡ s) × (s ≢ slot) × (level_in levels s ≡ Some l) × (((s ≡ last) × (i ≡ place)) ⊎ ((s ≢ last) × (get_or indices s 0 ≡ i)))
+    moved i below =
+        elim (cases_eq i place) [
+          | inl same ↦
+              let here : place < end = omega (arith, below, same) in (
+                last,
+                ap (λ j. get_or rest j 0) same ∙ rest-place xs (array-apart l) slot place low at here,
+                (λ e. let equal : end ≡ place = sym last-index ∙ ap (λ x. get_or indices x 0) e in absurd (omega (arith, equal, here))),
+                last-level,
+                inl (refl, same),
+              )
+          | inr other ↦
+              let inside : i < length xs = omega (arith, below) in
+              let index = are.index l i inside in (
+                get_or xs i 0,
+                rest-at xs (array-apart l) slot place low at i below other,
+                (λ e. other (sym index ∙ ap (λ x. get_or indices x 0) e)),
+                are.level l i inside,
+                inr ((λ e. let equal : i ≡ end = sym index ∙ ap (λ x. get_or indices x 0) e ∙ last-index in absurd (omega (arith, equal, below))), index),
+              )
+        ]
+
+    short : (i : ℕ) → i < length (array_of arrays' l) → i < end
+    short i low_i = let len = ap length kept-array ∙ rest-length xs (array-apart l) slot place low at in omega (arith, low_i, len)
+
+    left-level : (m : Level) (i : ℕ) → i < length (array_of arrays' m) → level_in (set levels slot None) (get_or (array_of arrays' m) i 0) ≡ Some m
+    left-level m i low_i =
+        elim (cases_level m l) [
+          | inl same ↦
+              let found = moved i (short i (subst (λ k. i < length (array_of arrays' k)) same low_i)) in
+              ap (λ k. level_in (set levels slot None) (get_or (array_of arrays' k) i 0)) same ∙ ap (λ ys. level_in (set levels slot None) (get_or ys i 0)) kept-array
+              ∙ ap (level_in (set levels slot None)) found.1 ∙ other-level found.0 found.2 ∙ found.3 ∙ ap Some (sym same)
+          | inr apart ↦
+              let array = other-array arrays l rest m apart in
+              let inside : i < length (array_of arrays m) = rw (← array) low_i in
+              let held = are.level m i inside in
+              let other : get_or (array_of arrays m) i 0 ≢ slot = λ e. apart (ap level_number (same_Some m l (sym held ∙ ap (level_in levels) e ∙ is))) in
+              ap (λ ys. level_in (set levels slot None) (get_or ys i 0)) array ∙ other-level (get_or (array_of arrays m) i 0) other ∙ held
+        ]
+
+    module _ (long : length indices ≡ length levels) where
+      last_now : get_or (set indices last place) last 0 ≡ place
+      last_now = get_or-set_same indices last place 0 (let below = last-below in omega (arith, below, long))
+
+      left-index : (m : Level) (i : ℕ) → i < length (array_of arrays' m) → get_or (set indices last place) (get_or (array_of arrays' m) i 0) 0 ≡ i
+      left-index m i low_i =
+          elim (cases_level m l) [
+            | inl same ↦
+                let found = moved i (short i (subst (λ k. i < length (array_of arrays' k)) same low_i)) in
+                ap (λ k. get_or (set indices last place) (get_or (array_of arrays' k) i 0) 0) same ∙ ap (λ ys. get_or (set indices last place) (get_or ys i 0) 0) kept-array
+                ∙ ap (λ s. get_or (set indices last place) s 0) found.1
+                ∙ elim found.4 [
+                  | inl filled ↦ ap (λ s. get_or (set indices last place) s 0) filled.0 ∙ last_now ∙ sym filled.1
+                  | inr stays ↦ other-index found.0 stays.0 ∙ stays.1
+                ]
+            | inr apart ↦
+                let array = other-array arrays l rest m apart in
+                let inside : i < length (array_of arrays m) = rw (← array) low_i in
+                let held = are.level m i inside in
+                let other : get_or (array_of arrays m) i 0 ≢ last = λ e. apart (ap level_number (same_Some m l (sym held ∙ ap (level_in levels) e ∙ last-level))) in
+                ap (λ ys. get_or (set indices last place) (get_or ys i 0) 0) array ∙ other-index (get_or (array_of arrays m) i 0) other ∙ are.index m i inside
+          ]
+
+      -- a slot that still has a level is where its index says
+      left-found : (m : Level) (s : ℕ) → level_in (set levels slot None) s ≡ Some m
+          → (get_or (set indices last place) s 0 < length (array_of arrays' m)) × (get_or (array_of arrays' m) (get_or (set indices last place) s 0) 0 ≡ s)
+      left-found m s now =
+          elim (cases_eq s slot) [
+            | inl gone ↦ absurd (none-some m (sym (ap (level_in (set levels slot None)) gone ∙ get_or-set_same levels slot None None (held_below levels slot l is)) ∙ now))
+            | inr differs ↦
+                let was : level_in levels s ≡ Some m = sym (other-level s differs) ∙ now in
+                elim (cases_level m l) [
+                  | inl same ↦
+                      let Found : List ℕ → Type 0 = λ ys. (get_or (set indices last place) s 0 < length ys) × (get_or ys (get_or (set indices last place) s 0) 0 ≡ s) in
+                      let before : level_in levels s ≡ Some l = was ∙ ap Some same in
+                      subst (λ k. Found (array_of arrays' k)) (sym same) (subst Found (sym kept-array) (in_rest s differs before))
+                  | inr apart ↦
+                      let array = other-array arrays l rest m apart in
+                      let other : s ≢ last = λ e. apart (ap level_number (same_Some m l (sym was ∙ ap (level_in levels) e ∙ last-level))) in
+                      rw (array, other-index s other) (are.inside m s was, are.there m s was)
+                ]
+          ]
+        where
+          in_rest : (s : ℕ) → s ≢ slot → level_in levels s ≡ Some l → (get_or (set indices last place) s 0 < length rest) × (get_or rest (get_or (set indices last place) s 0) 0 ≡ s)
+          in_rest s differs before =
+              let len = rest-length xs (array-apart l) slot place low at in
+              let inside = are.inside l s before in
+              let there = are.there l s before in
+              elim (cases_eq s last) [
+                | inl same ↦
+                    let index : get_or (set indices last place) s 0 ≡ place = ap (λ x. get_or (set indices last place) x 0) same ∙ last_now in
+                    let here : place < end = (let apart : place ≢ end = λ e. differs (same ∙ sym (ap (λ i. get_or xs i 0) e) ∙ at) in omega (arith, low, apart)) in
+                    rw index (omega (arith, here, len), rest-place xs (array-apart l) slot place low at here ∙ sym same)
+                | inr other ↦
+                    let index = other-index s other in
+                    let not_end : get_or indices s 0 ≢ end = λ e. other (sym there ∙ ap (λ i. get_or xs i 0) e) in
+                    let not_hole : get_or indices s 0 ≢ place = λ e. differs (sym there ∙ ap (λ i. get_or xs i 0) e ∙ at) in
+                    let inner : get_or indices s 0 < end = omega (arith, inside, not_end) in
+                    rw index (omega (arith, inner, len), rest-at xs (array-apart l) slot place low at (get_or indices s 0) inner not_hole ∙ there)
+              ]
+
+      pub left-dense : AreDense (set levels slot None) (set indices last place) arrays'
+      left-dense = record {
+        five = length-set arrays (level_number l) rest ∙ are.five;
+        level = left-level;
+        index = left-index;
+        inside = λ m s now. (left-found m s now).0;
+        there = λ m s now. (left-found m s now).1;
+        small = (let old = are.small in let len = length-set levels slot None in omega (arith, old, len));
       }
 
-  -- a slot given another level
-  module _ (slot : ℕ) (level : Option Level) (k' : ℕ) (next' back' : List (Option ℕ)) (heads : k' ≡ k) (links : AreLinks k' next' back') (room : length back' ≡ length back) (inside : slot < length levels)
-      (others : (l : Level) (s : ℕ) → s ≢ slot → Among s (list_from k' next' back' (level_number l)) ↔ Among s (list_from k next back (level_number l)))
-      (own : (l : Level) → Among slot (list_from k' next' back' (level_number l)) ↔ (level ≡ Some l)) where
-    pub changed-levels : AreLevels k' next' back' (set levels slot level)
-    changed-levels = record {
-      heads = heads ∙ are.heads;
-      links = links;
-      room = let old = are.room in let len = length-set levels slot level in omega (arith, old, len, room);
-      listed = λ l s is. elim (cases_eq s slot) [
-        | inl same ↦
-            let at : level ≡ Some l = sym (get_or-set_same levels slot level None inside) ∙ ap (λ i. get_or (set levels slot level) i None) (sym same) ∙ is in
-            (let P : ℕ → Type 0 = λ i. Among i (list_from k' next' back' (level_number l)) in subst P (sym same) ((own l).1 at))
-        | inr differs ↦ (others l s differs).1 (are.listed l s (sym (get_or-set_other levels slot s level None differs) ∙ is))
-      ];
-      known = λ l s there. elim (cases_eq s slot) [
-        | inl same ↦
-            let P : ℕ → Type 0 = λ i. Among i (list_from k' next' back' (level_number l)) in
-            ap (λ i. get_or (set levels slot level) i None) same ∙ get_or-set_same levels slot level None inside ∙ (own l).0 (subst P same there)
-        | inr differs ↦ get_or-set_other levels slot s level None differs ∙ are.known l s ((others l s differs).0 there)
-      ];
-    }
+    -- what is seen of it
+    left-list : slots_of (seen (set levels slot None) arrays') l ≡ reverse rest
+    left-list = seen-list (set levels slot None) arrays' l ∙ ap reverse kept-array
 
-  module _ (slot : ℕ) (inside : slot < length levels) (k' : ℕ) (next' back' : List (Option ℕ)) (heads : k' ≡ k) (links : AreLinks k' next' back') (room : length back' ≡ length back) where
-    -- taken out of all lists
-    pub cleared-levels : ((l : ℕ) → l < k → list_from k' next' back' l ≡ without slot (list_from k next back l)) → AreLevels k' next' back' (set levels slot None)
-    cleared-levels lists =
-        changed-levels slot None k' next' back' heads links room inside
-        (λ l s differs. rw (lists (level_number l) (low l)) (
-          λ h. Among-without slot s (list_from k next back (level_number l)) h,
-          λ h. Among-without_other slot s (list_from k next back (level_number l)) h differs,
-        ))
-        (λ l. rw (lists (level_number l) (low l)) (
-          λ h. absurd (without-gone slot (list_from k next back (level_number l)) (are.links.distinct (level_number l) (low l)) h),
-          λ e. absurd (none-some l e),
-        ))
+    pub left-permutation : (m : Level) → level_in levels slot ≡ Some m → IsPermutation (slots_of v m) (slot ∷ slots_of (seen (set levels slot None) arrays') m)
+    left-permutation m was =
+        let same : l ≡ m = same_Some l m (sym is ∙ was) in
+        subst (λ k. IsPermutation (slots_of v k) (slot ∷ slots_of (seen (set levels slot None) arrays') k)) same
+        (rw (seen-list levels arrays l, left-list) (permutation-reverse xs (array-apart l) slot place low at))
 
-    -- and put at the front of one
-    pub placed-levels : (t : Level) → ((l : ℕ) → l < k → list_from k' next' back' l ≡ (if l == level_number t then slot ∷ without slot (list_from k next back l) else without slot (list_from k next back l)))
-        → AreLevels k' next' back' (set levels slot (Some t))
-    placed-levels t lists =
-        changed-levels slot (Some t) k' next' back' heads links room inside
-        (λ l s differs. rw (lists (level_number l) (low l)) (other l s differs))
-        (λ l. rw (lists (level_number l) (low l)) (mine l))
-      where
-        other : (l : Level) (s : ℕ) → s ≢ slot → Among s (if level_number l == level_number t then slot ∷ without slot (list_from k next back (level_number l)) else without slot (list_from k next back (level_number l))) ↔ Among s (list_from k next back (level_number l))
-        other l s differs =
-            elim (cases_eq (level_number l) (level_number t)) [
-              | inl same ↦ rw (eq-eqb (level_number l) (level_number t) same) (
-                λ h. elim h [ inl e ↦ absurd (differs e) | inr later ↦ Among-without slot s (list_from k next back (level_number l)) later ],
-                λ h. inr (Among-without_other slot s (list_from k next back (level_number l)) h differs),
-              )
-              | inr apart ↦ rw (ne_eqb (level_number l) (level_number t) apart) (
-                λ h. Among-without slot s (list_from k next back (level_number l)) h,
-                λ h. Among-without_other slot s (list_from k next back (level_number l)) h differs,
-              )
-            ]
+    pub left-others : (m : Level) → Some m ≢ level_in levels slot → slots_of (seen (set levels slot None) arrays') m ≡ slots_of v m
+    left-others m not_old =
+        elim (cases_level m l) [
+          | inl same ↦ absurd (not_old (ap Some same ∙ sym is))
+          | inr apart ↦ seen-list (set levels slot None) arrays' m ∙ ap reverse (other-array arrays l rest m apart) ∙ sym (seen-list levels arrays m)
+        ]
 
-        mine : (l : Level) → Among slot (if level_number l == level_number t then slot ∷ without slot (list_from k next back (level_number l)) else without slot (list_from k next back (level_number l))) ↔ (Some t ≡ Some l)
-        mine l =
-            elim (cases_eq (level_number l) (level_number t)) [
-              | inl same ↦ rw (eq-eqb (level_number l) (level_number t) same) (
-                λ h. ap Some (sym (same_level l t same)),
-                λ e. inl refl,
-              )
-              | inr apart ↦ rw (ne_eqb (level_number l) (level_number t) apart) (
-                λ h. absurd (without-gone slot (list_from k next back (level_number l)) (are.links.distinct (level_number l) (low l)) h),
-                λ e. absurd (apart (ap level_number (sym (same_Some t l e)))),
-              )
-            ]
+    pub left-rest : (m : Level) (p : Option ℕ) → IsPast slot p (slots_of v m) → slots_from (slots_of (seen (set levels slot None) arrays') m) p ≡ slots_from (slots_of v m) p
+    left-rest m p past =
+        elim (cases_level m l) [
+          | inl same ↦
+              subst (λ k. IsPast slot p (slots_of v k) → slots_from (slots_of (seen (set levels slot None) arrays') k) p ≡ slots_from (slots_of v k) p) (sym same)
+              (rw (seen-list levels arrays l, left-list) (rest-from xs (array-apart l) slot place low at p)) past
+          | inr apart ↦ ap (λ ys. slots_from ys p) (left-others m (λ e. apart (ap level_number (same_Some m l (e ∙ is)))))
+        ]
 
-    -- taken out of all lists, and put at the front of that of a number
-    pub moved-levels : (t : Level) (n : ℕ) → n ≡ level_number t → (level : Option Level) → level ≡ Some t → (k'' : ℕ) (next'' back'' : List (Option ℕ)) → k'' ≡ k
-        → ((l : ℕ) → l < k → list_from k'' next'' back'' l ≡ without slot (list_from k next back l))
-        → ((l : ℕ) → l < k'' → list_from k' next' back' l ≡ (if l == n then slot ∷ list_from k'' next'' back'' l else list_from k'' next'' back'' l)) → AreLevels k' next' back' (set levels slot level)
-    moved-levels t n number level is k'' next'' back'' middle taken put =
-        rw is (placed-levels t (λ l below. rw (← taken l below, ← number) (put l (omega (arith, below, middle)))))
+    pub left-on : (m : Level) (p : Option ℕ) → IsPast slot p (slots_of v m) → IsOn p (slots_of v m) → IsOn p (slots_of (seen (set levels slot None) arrays') m)
+    left-on m p past on =
+        elim (cases_level m l) [
+          | inl same ↦
+              subst (λ k. IsPast slot p (slots_of v k) → IsOn p (slots_of v k) → IsOn p (slots_of (seen (set levels slot None) arrays') k)) (sym same)
+              (rw (seen-list levels arrays l, left-list) (rest-on xs (array-apart l) slot place low at p)) past on
+          | inr apart ↦ subst (IsOn p) (sym (left-others m (λ e. apart (ap level_number (same_Some m l (e ∙ is)))))) on
+        ]
 
-  -- the list of a level that the slot has not
-  pub other-list : (slot : ℕ) (l : Level) → Some l ≢ get_or levels slot None → without slot (list_from k next back (level_number l)) ≡ list_from k next back (level_number l)
-  other-list slot l not_old = without-absent slot (list_from k next back (level_number l)) (λ h. not_old (sym (are.known l slot h)))
+  -- a slot given a level
+  module _ (slot : ℕ) (l : Level) (none : level_in levels slot ≡ None) (below : slot < length levels) where
+    abbrev ys : List ℕ
+    ys = array_of arrays l
 
-  pub others-none : (k' : ℕ) (next' back' : List (Option ℕ)) (slot : ℕ) → ((l : ℕ) → l < k → list_from k' next' back' l ≡ without slot (list_from k next back l))
-      → (l : Level) → Some l ≢ get_or levels slot None → get_or (five k' next' back') (level_number l) [] ≡ get_or (five k next back) (level_number l) []
-  others-none k' next' back' slot lists l not_old = five-at k' next' back' l ∙ lists (level_number l) (low l) ∙ other-list slot l not_old ∙ sym (five-at k next back l)
+    abbrev more : List ℕ
+    more = ys ++ slot ∷ []
 
-  pub others-some : (k' : ℕ) (next' back' : List (Option ℕ)) (slot : ℕ) (t : Level) (n : ℕ) → n ≡ level_number t → (level : Option Level) → level ≡ Some t → (k'' : ℕ) (next'' back'' : List (Option ℕ)) → k'' ≡ k
-      → ((l : ℕ) → l < k → list_from k'' next'' back'' l ≡ without slot (list_from k next back l))
-      → ((l : ℕ) → l < k'' → list_from k' next' back' l ≡ (if l == n then slot ∷ list_from k'' next'' back'' l else list_from k'' next'' back'' l))
-      → (l : Level) → Some l ≢ level → Some l ≢ get_or levels slot None → get_or (five k' next' back') (level_number l) [] ≡ get_or (five k next back) (level_number l) []
-  others-some k' next' back' slot t n number level is k'' next'' back'' middle taken put l not_new not_old =
-      let below = low l in
-      let apart : level_number l ≢ n = λ e. not_new (ap Some (same_level l t (e ∙ number)) ∙ sym is) in
-      let here = put (level_number l) (omega (arith, below, middle)) in
-      let stays : list_from k' next' back' (level_number l) ≡ list_from k'' next'' back'' (level_number l) = here ∙ (rw (ne_eqb (level_number l) n apart) refl) in
-      five-at k' next' back' l ∙ stays
-      ∙ taken (level_number l) below ∙ other-list slot l not_old ∙ sym (five-at k next back l)
+    abbrev arrays+ : List (List ℕ)
+    arrays+ = set arrays (level_number l) more
 
-  -- what is seen of the list that a slot leaves, and of the one that it comes to
-  pub left-none : (k' : ℕ) (next' back' : List (Option ℕ)) (slot : ℕ) → ((l : ℕ) → l < k → list_from k' next' back' l ≡ without slot (list_from k next back l))
-      → (l : Level) → get_or (five k' next' back') (level_number l) [] ≡ without slot (get_or (five k next back) (level_number l) [])
-  left-none k' next' back' slot lists l = five-at k' next' back' l ∙ lists (level_number l) (low l) ∙ ap (without slot) (sym (five-at k next back l))
+    grown-array : array_of arrays+ l ≡ more
+    grown-array = own-array arrays l more are.five
 
-  module _ (k' : ℕ) (next' back' : List (Option ℕ)) (slot : ℕ) (t : Level) (n : ℕ) (number : n ≡ level_number t) (level : Option Level) (is : level ≡ Some t) (k'' : ℕ) (next'' back'' : List (Option ℕ)) (middle : k'' ≡ k)
-      (taken : (l : ℕ) → l < k → list_from k'' next'' back'' l ≡ without slot (list_from k next back l))
-      (put : (l : ℕ) → l < k'' → list_from k' next' back' l ≡ (if l == n then slot ∷ list_from k'' next'' back'' l else list_from k'' next'' back'' l)) where
-    pub left-some : (l : Level) → level ≢ Some l → get_or (five k' next' back') (level_number l) [] ≡ without slot (get_or (five k next back) (level_number l) [])
-    left-some l not_new =
-        let below = low l in
-        let apart : level_number l ≢ n = λ e. not_new (is ∙ ap Some (sym (same_level l t (e ∙ number)))) in
-        let here = put (level_number l) (omega (arith, below, middle)) in
-        let stays : list_from k' next' back' (level_number l) ≡ list_from k'' next'' back'' (level_number l) = here ∙ (rw (ne_eqb (level_number l) n apart) refl) in
-        five-at k' next' back' l ∙ stays ∙ taken (level_number l) below ∙ ap (without slot) (sym (five-at k next back l))
+    -- a slot with a level is another one
+    levelled : (s : ℕ) (m : Level) → level_in levels s ≡ Some m → s ≢ slot
+    levelled s m at e = none-some m (sym none ∙ sym (ap (level_in levels) e) ∙ at)
 
-    pub front-some : (l : Level) → level ≡ Some l → Some l ≢ get_or levels slot None → get_or (five k' next' back') (level_number l) [] ≡ slot ∷ get_or (five k next back) (level_number l) []
-    front-some l new not_old =
-        let below = low l in
-        let same : level_number l ≡ n = ap level_number (same_Some l t (sym new ∙ is)) ∙ sym number in
-        let here = put (level_number l) (omega (arith, below, middle)) in
-        let comes : list_from k' next' back' (level_number l) ≡ slot ∷ list_from k'' next'' back'' (level_number l) = here ∙ (rw (eq-eqb (level_number l) n same) refl) in
-        five-at k' next' back' l ∙ comes ∙ ap (λ xs. slot ∷ xs) (taken (level_number l) below ∙ other-list slot l not_old ∙ sym (five-at k next back l))
+    pub room-for-one : length ys < length levels
+    room-for-one =
+        let all : length (slot ∷ ys) ≤ length levels =
+        length-distinct_below (length levels) (slot ∷ ys) ((λ h. levelled slot l ((array-exact l slot).0 h) refl), array-once l)
+        (λ x there. elim there [
+          | inl here ↦ (let P : ℕ → Type 0 = λ y. y < length levels in subst P (sym here) below)
+          | inr later ↦ held_below levels x l ((array-exact l x).0 later)
+        ]) in
+        omega (arith, all)
 
-  -- the slot behind a slot in the list of its level
-  pub next-levels : (slot : ℕ) (r : Option ℕ) → ((l : ℕ) → l < k → Among slot (list_from k next back l) → r ≡ slot_after slot (list_from k next back l))
-      → (((l : ℕ) → l < k → Among slot (list_from k next back l) → ⊥) → r ≡ None)
-      → r ≡ option_and_then (λ l. slot_after slot (get_or (five k next back) (level_number l) [])) (get_or levels slot None)
-  next-levels slot r listed absent = by (get_or levels slot None) refl
-    where
-      by : (o : Option Level) → get_or levels slot None ≡ o → r ≡ option_and_then (λ l. slot_after slot (get_or (five k next back) (level_number l) [])) o
-      by None none = absent (λ n below there.
-          let heads = are.heads in
-          let l = level_with n (omega (arith, below, heads)) in
-          let P : ℕ → Type 0 = λ m. Among slot (list_from k next back m) in
-          none-some l.0 (sym none ∙ are.known l.0 slot (subst P (sym l.1) there)))
-      by (Some l) some = rw (five-at k next back l) (listed (level_number l) (low l) (are.listed l slot some))
+    module _ (long : length indices ≡ length levels) where
+      level-now : level_in (set levels slot (Some l)) slot ≡ Some l
+      level-now = get_or-set_same levels slot (Some l) None below
 
-  -- what is seen after a growth
-  pub grown-view : (k' : ℕ) (next' back' : List (Option ℕ)) (levels' : List (Option Level)) → ((l : ℕ) → l < k → list_from k' next' back' l ≡ list_from k next back l) → (n : ℕ) → length levels < n
-      → levels' ≡ take n levels ++ replicate (n - length levels) None → ◌≡◌ {A = Levels} (record { levels = levels'; lists = five k' next' back' }) (with_room (record { levels = levels; lists = five k next back }) n)
-  grown-view k' next' back' levels' same n more is =
-      let heads = are.heads in
-      rw (is, take_all n levels (omega (arith, more)), same 0 (omega (arith, heads)), same 1 (omega (arith, heads)), same 2 (omega (arith, heads)), same 3 (omega (arith, heads)), same 4 (omega (arith, heads))) refl
+      index-now : get_or (set indices slot (length ys)) slot 0 ≡ length ys
+      index-now = get_or-set_same indices slot (length ys) 0 (omega (arith, below, long))
 
--- Going over the slots of a level while another slot's level changes.
+      -- what is at an index of an array
+      abbrev AtIndex : Level → ℕ → ℕ → Type 0
+      AtIndex m i s = (level_in (set levels slot (Some l)) s ≡ Some m) × (get_or (set indices slot (length ys)) s 0 ≡ i)
 
-dec_level : (o : Option Level) (l : Level) → (o ≡ Some l) ⊎ (o ≡ Some l → ⊥)
-dec_level None l = inr (none-some l)
-dec_level (Some t) l =
-    elim (cases_eq (level_number t) (level_number l)) [
-      | inl same ↦ inl (ap Some (same_level t l same))
-      | inr apart ↦ inr (λ e. apart (ap level_number (same_Some t l e)))
+      kept-index : (m : Level) (i : ℕ) → i < length (array_of arrays m) → AtIndex m i (get_or (array_of arrays m) i 0)
+      kept-index m i low_i =
+          let held = are.level m i low_i in
+          let differs = levelled (get_or (array_of arrays m) i 0) m held in (
+            get_or-set_other levels slot (get_or (array_of arrays m) i 0) (Some l) None differs ∙ held,
+            get_or-set_other indices slot (get_or (array_of arrays m) i 0) (length ys) 0 differs ∙ are.index m i low_i,
+          )
+
+      more-index : (i : ℕ) → i < length more → AtIndex l i (get_or more i 0)
+      more-index i low_i =
+          let len = length_push ys slot in
+          elim (cases_eq i (length ys)) [
+            | inl end ↦ subst (AtIndex l i) (sym (get_or_push ys slot 0 i (sym end))) (level-now, index-now ∙ sym end)
+            | inr other ↦
+                let inner : i < length ys = omega (arith, low_i, len, other) in
+                subst (AtIndex l i) (sym (get_or_append_left ys (slot ∷ []) 0 i inner)) (kept-index l i inner)
+          ]
+
+      all-index : (m : Level) (i : ℕ) → i < length (array_of arrays+ m) → AtIndex m i (get_or (array_of arrays+ m) i 0)
+      all-index m i =
+          elim (cases_level m l) [
+            | inl same ↦ subst (λ k. i < length (array_of arrays+ k) → AtIndex k i (get_or (array_of arrays+ k) i 0)) (sym same) (rw grown-array (more-index i))
+            | inr apart ↦ rw (other-array arrays l more m apart) (kept-index m i)
+          ]
+
+      abbrev Found : Level → ℕ → Type 0
+      Found m s = (get_or (set indices slot (length ys)) s 0 < length (array_of arrays+ m)) × (get_or (array_of arrays+ m) (get_or (set indices slot (length ys)) s 0) 0 ≡ s)
+
+      all-found : (m : Level) (s : ℕ) → level_in (set levels slot (Some l)) s ≡ Some m → Found m s
+      all-found m s now =
+          let len = length_push ys slot in
+          elim (cases_eq s slot) [
+            | inl same ↦
+                let level : l ≡ m = same_Some l m (sym level-now ∙ sym (ap (level_in (set levels slot (Some l))) same) ∙ now) in
+                subst (λ k. Found k s) level (
+                let index : get_or (set indices slot (length ys)) s 0 ≡ length ys = ap (λ x. get_or (set indices slot (length ys)) x 0) same ∙ index-now in
+                rw (grown-array, index) (omega (arith, len), get_or_push ys slot 0 (length ys) refl ∙ sym same))
+            | inr differs ↦
+                let was : level_in levels s ≡ Some m = sym (get_or-set_other levels slot s (Some l) None differs) ∙ now in
+                let index : get_or (set indices slot (length ys)) s 0 ≡ get_or indices s 0 = get_or-set_other indices slot s (length ys) 0 differs in
+                let inside = are.inside m s was in
+                let there = are.there m s was in
+                elim (cases_level m l) [
+                  | inl same ↦
+                      let inside_l : get_or indices s 0 < length ys = subst (λ k. get_or indices s 0 < length (array_of arrays k)) same inside in
+                      let there_l : get_or ys (get_or indices s 0) 0 ≡ s = subst (λ k. get_or (array_of arrays k) (get_or indices s 0) 0 ≡ s) same there in
+                      subst (λ k. Found k s) (sym same)
+                      (rw (grown-array, index) (omega (arith, inside_l, len), get_or_append_left ys (slot ∷ []) 0 (get_or indices s 0) inside_l ∙ there_l))
+                  | inr apart ↦ rw (other-array arrays l more m apart, index) (inside, there)
+                ]
+          ]
+
+      pub more-dense : AreDense (set levels slot (Some l)) (set indices slot (length ys)) arrays+
+      more-dense = record {
+        five = length-set arrays (level_number l) more ∙ are.five;
+        level = λ m i low_i. (all-index m i low_i).0;
+        index = λ m i low_i. (all-index m i low_i).1;
+        inside = λ m s now. (all-found m s now).0;
+        there = λ m s now. (all-found m s now).1;
+        small = (let old = are.small in let len = length-set levels slot (Some l) in omega (arith, old, len));
+      }
+
+    pub more-front : slots_of (seen (set levels slot (Some l)) arrays+) l ≡ slot ∷ slots_of v l
+    more-front = seen-list (set levels slot (Some l)) arrays+ l ∙ ap reverse grown-array ∙ reverse-append ys (slot ∷ []) ∙ ap (λ zs. slot ∷ zs) (sym (seen-list levels arrays l))
+
+    pub more-others : (m : Level) → m ≢ l → slots_of (seen (set levels slot (Some l)) arrays+) m ≡ slots_of v m
+    more-others m differs =
+        elim (cases_level m l) [
+          | inl same ↦ absurd (differs same)
+          | inr apart ↦ seen-list (set levels slot (Some l)) arrays+ m ∙ ap reverse (other-array arrays l more m apart) ∙ sym (seen-list levels arrays m)
+        ]
+
+-- a level set for one slot, as the calls have it
+pub level-set : (levels : List (Option Level)) (slot : ℕ) (level : Option Level) → slot < length levels → (other : ℕ)
+    → level_in (set levels slot level) other ≡ (if other == slot then level else level_in levels other)
+level-set levels slot level below other =
+    elim (cases_eq other slot) [
+      | inl same ↦ rw (eq-eqb other slot same) (ap (level_in (set levels slot level)) same ∙ get_or-set_same levels slot level None below)
+      | inr differs ↦ rw (ne_eqb other slot differs) (get_or-set_other levels slot other level None differs)
     ]
 
--- where the slot has another level than before, and these are the lists then
-module _ (v : Levels) (lists : Level → List ℕ) (slot : ℕ) (level : Option Level)
-    (front : (l : Level) → level ≡ Some l → lists l ≡ slot ∷ slots_of v l)
-    (left : (l : Level) → level_at v slot ≡ Some l → level ≢ Some l → lists l ≡ without slot (slots_of v l))
-    (others : (l : Level) → Some l ≢ level → Some l ≢ level_at v slot → lists l ≡ slots_of v l) where
-  -- it leaves what is to come, if it was left behind
-  pub rest-set : (l : Level) (at : Option ℕ) → IsPast slot at (slots_of v l) → slots_from (lists l) at ≡ slots_from (slots_of v l) at
-  rest-set l at past =
-      elim (dec_level level l) [
-        | inl new ↦ ap (λ xs. slots_from xs at) (front l new) ∙ from-with slot (slots_of v l) at past
-        | inr not_new ↦ elim (dec_level (level_at v slot) l) [
-          | inl was ↦ ap (λ xs. slots_from xs at) (left l was not_new) ∙ from-without slot (slots_of v l) at past
-          | inr not_was ↦ ap (λ xs. slots_from xs at) (others l (λ e. not_new (sym e)) (λ e. not_was (sym e)))
-        ]
-      ]
-
-  pub on-set : (l : Level) (at : Option ℕ) → IsPast slot at (slots_of v l) → IsOn at (slots_of v l) → IsOn at (lists l)
-  on-set l at past on =
-      elim (dec_level level l) [
-        | inl new ↦ subst (λ xs. IsOn at xs) (sym (front l new)) (on-with slot (slots_of v l) at on)
-        | inr not_new ↦ elim (dec_level (level_at v slot) l) [
-          | inl was ↦ subst (λ xs. IsOn at xs) (sym (left l was not_new)) (on-without slot (slots_of v l) at past on)
-          | inr not_was ↦ subst (λ xs. IsOn at xs) (sym (others l (λ e. not_new (sym e)) (λ e. not_was (sym e)))) on
-        ]
-      ]
-
 -- the slot behind a slot of a level, as `next` has it
-module _ (v : Levels) (lawful : IsLawful v) (slot : ℕ) (r : Option ℕ) (is : r ≡ next_of v slot) (l : Level) (at : level_at v slot ≡ Some l) where
-  behind : r ≡ slot_after slot (slots_of v l)
-  behind = is ∙ ap (option_and_then (λ m. slot_after slot (slots_of v m))) at
-
-  pub level-on : IsOn r (slots_of v l)
-  level-on = next-is_on (slots_of v l) r slot behind
-
-  pub level-rest : slots_from (slots_of v l) (Some slot) ≡ slot ∷ slots_from (slots_of v l) r
-  level-rest = rest-next (slots_of v l) r slot behind (lawful.distinct l) ((lawful.exact l slot).1 at)
-
-  pub level-past : IsPast slot r (slots_of v l)
-  level-past = past-is (slots_of v l) r slot behind (lawful.distinct l)
+pub goes-on : (v : Levels) → IsLawful v → (slot : ℕ) (r : Option ℕ) → r ≡ next_of v slot → (l : Level) → level_at v slot ≡ Some l → GoesOn slot r (slots_of v l)
+goes-on v lawful slot r is l at =
+    let behind : r ≡ slot_after slot (slots_of v l) = is ∙ ap (option_and_then (λ m. slot_after slot (slots_of v m))) at in
+    record {
+      on = next-is_on (slots_of v l) r slot behind;
+      rest = rest-next (slots_of v l) r slot behind (lawful.distinct l) ((lawful.exact l slot).1 at);
+      past = past-is (slots_of v l) r slot behind (lawful.distinct l);
+    }

@@ -3,6 +3,9 @@ pub mod Held
 pub mod Calls
 pub mod Visits
 pub mod Walking
-pub mod LevelLaws
 pub mod MemberLaws
+pub mod OneArray
+pub mod Indices
+pub mod LevelLaws
+pub mod CellLaws
 pub mod Sparse

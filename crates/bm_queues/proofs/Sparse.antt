@@ -1,33 +1,16 @@
 -- A dense list of slots with a place for each slot: what its members are, before and after a change.
-use Rattle.std.proofs.Common.{◌≡◌, ◌≢◌, ◌⊎◌, ℕ, zero, suc, ◌<◌, ◌≤◌, ◌-◌, ◌++◌, List, [], ◌∷◌, length, get_or, set, inl, inr, subst, sym, ap, ◌∙◌, refl, arith}
+use Rattle.std.proofs.Common.{◌≡◌, ◌≢◌, ◌⊎◌, ℕ, ◌<◌, ◌≤◌, ◌++◌, List, [], ◌∷◌, length, get_or, set, inl, inr, subst, sym, ap, ◌∙◌, refl, arith}
 use Rattle.std.specs.Prelude.{◌↔◌, Option, Some, None, IsTrue, is_some}
-use Rattle.std.specs.List.{swap_remove}
 use Rattle.std.specs.Option.{IfSome}
 use Rattle.std.proofs.lemmas.Bool.{cases_eq, false≢true}
 use Rattle.std.proofs.lemmas.List.{get_or_push, get_or_append_left, get_or-set_same, get_or-set_other, length-set, length-append}
-use Rattle.std.proofs.lemmas.Grind.{common_steps}
 use Rattle.bm_base.specs.SlotLists.{Among, Distinct}
 use Rattle.bm_base.proofs.SlotLists.{length-distinct_below}
+use Rattle.bm_queues.proofs.Indices.{place_among, among_here, distinct_apart}
 use Rattle.bm_queues.specs.Members.{IsLawful}
 use Rattle.bm_queues.specs.Sparse.{AreSparse}
 
 -- Slots of a list, and their places.
-
-pub place_among : (x : ℕ) (xs : List ℕ) → Among x xs → (i : ℕ) × (i < length xs) × (get_or xs i 0 ≡ x)
-place_among x [] there = absurd there
-place_among x (y ∷ ys) there =
-    elim there [
-      | inl here ↦ (zero, omega arith, sym here)
-      | inr later ↦ (let found = place_among x ys later in (suc found.0, (let low = found.1 in omega (arith, low)), found.2))
-    ]
-
-pub among_at : (xs : List ℕ) (i : ℕ) → i < length xs → Among (get_or xs i 0) xs
-among_at [] i low = absurd (omega (arith, low))
-among_at (x ∷ xs) zero low = inl refl
-among_at (x ∷ xs) (suc i) low = inr (among_at xs i (omega (arith, low)))
-
-pub among_here : (x : ℕ) (xs : List ℕ) (i : ℕ) → i < length xs → get_or xs i 0 ≡ x → Among x xs
-among_here x xs i low is = let P : ℕ → Type 0 = λ y. Among y xs in subst P is (among_at xs i low)
 
 pub among_front : (x y : ℕ) (xs : List ℕ) → Among x xs → Among x (xs ++ y ∷ [])
 among_front x y [] there = absurd there
@@ -50,30 +33,12 @@ pub found_or : (o : Option ℕ) (slot : ℕ) (xs : List ℕ) → IfSome o (λ pl
 found_or None slot xs found absent = (λ h. absurd (false≢true h), λ there. absurd (absent refl there))
 found_or (Some place) slot xs found absent = (λ h. among_here slot xs place found.0 found.1, λ there. refl)
 
--- no slot stands at two places
-AreApart : List ℕ → Type 0
-AreApart xs = (i j : ℕ) → i < length xs → j < length xs → get_or xs i 0 ≡ get_or xs j 0 → i ≡ j
-
-distinct_apart : (xs : List ℕ) → AreApart xs → Distinct xs
-unfolding AreApart
-distinct_apart [] apart = tt
-distinct_apart (x ∷ xs) apart = (
-  λ there. let found = place_among x xs there in
-      let low = found.1 in
-      let same : suc found.0 ≡ zero = apart (suc found.0) zero (omega (arith, low)) (omega arith) found.2 in
-      absurd (omega (arith, same)),
-  distinct_apart xs (λ i j low_i low_j same.
-      let e : suc i ≡ suc j = apart (suc i) (suc j) (omega (arith, low_i)) (omega (arith, low_j)) same in
-      omega (arith, e)),
-)
-
 module _ (order places : List ℕ) (capacity : ℕ) (are : AreSparse order places capacity) where
   -- a slot has one place
   pub one_place : (i j : ℕ) → i < length order → j < length order → get_or order i 0 ≡ get_or order j 0 → i ≡ j
   one_place i j low_i low_j same = sym (are.placed i low_i) ∙ ap (λ x. get_or places x 0) same ∙ are.placed j low_j
 
   pub distinct_members : Distinct order
-  unfolding AreApart
   distinct_members = distinct_apart order one_place
 
   pub below_room : (slot : ℕ) → Among slot order → slot < length places
@@ -128,53 +93,3 @@ module _ (order places : List ℕ) (capacity : ℕ) (are : AreSparse order place
         small = (let old = are.small in omega (arith, old, long));
         room = (let old = are.room in omega (arith, old, long));
       }
-
-  module _ (slot place : ℕ) (low : place < length order) (at : get_or order place 0 ≡ slot) where
-    abbrev last : ℕ
-    last = length order - 1
-
-    abbrev rest : List ℕ
-    rest = swap_remove order place slot
-
-    rest-length : length rest ≡ last
-    rest-length = grind (arith, common_steps)
-
-    rest-at : (i : ℕ) → i < last → i ≢ place → get_or rest i 0 ≡ get_or order i 0
-    rest-at i below other = grind (arith, common_steps)
-
-    rest-place : place < last → get_or rest place 0 ≡ get_or order last 0
-    rest-place below = grind (arith, common_steps)
-
-    pub member_gone : Among slot rest → ⊥
-    member_gone there =
-        let found = place_among slot rest there in
-        let below : found.0 < last = (let f = found.1 in omega (arith, f, rest-length)) in
-        elim (cases_eq found.0 place) [
-          | inl same ↦
-              let here : place < last = omega (arith, below, same) in
-              let e : last ≡ place = one_place last place (omega (arith, low)) low (sym (rest-place here) ∙ ap (λ i. get_or rest i 0) (sym same) ∙ found.2 ∙ sym at) in
-              absurd (omega (arith, e, here))
-          | inr other ↦
-              let e : found.0 ≡ place = one_place found.0 place (omega (arith, below)) low (sym (rest-at found.0 below other) ∙ found.2 ∙ sym at) in
-              other e
-        ]
-
-    pub others_stay : (other : ℕ) → other ≢ slot → Among other rest ↔ Among other order
-    others_stay other differs = (
-      λ there. let found = place_among other rest there in
-          let below : found.0 < last = (let f = found.1 in omega (arith, f, rest-length)) in
-          elim (cases_eq found.0 place) [
-            | inl same ↦ among_here other order last (omega (arith, low)) (sym (rest-place (omega (arith, below, same))) ∙ ap (λ i. get_or rest i 0) (sym same) ∙ found.2)
-            | inr away ↦ among_here other order found.0 (omega (arith, below)) (sym (rest-at found.0 below away) ∙ found.2)
-          ],
-      λ there. let found = place_among other order there in
-          let apart : found.0 ≢ place = λ e. differs (sym found.2 ∙ ap (λ i. get_or order i 0) e ∙ at) in
-          elim (cases_eq found.0 last) [
-            | inl end ↦
-                let here : place < last = (let f = found.1 in omega (arith, f, end, apart, low)) in
-                among_here other rest place (omega (arith, here, rest-length)) (rest-place here ∙ ap (λ i. get_or order i 0) (sym end) ∙ found.2)
-            | inr inner ↦
-                let below : found.0 < last = (let f = found.1 in omega (arith, f, inner)) in
-                among_here other rest found.0 (omega (arith, below, rest-length)) (rest-at found.0 below apart ∙ found.2)
-          ],
-    )

@@ -1,11 +1,11 @@
 -- What a contract sees of level lists.
 -- Source: the queues of Hadoop 2's UnderReplicatedBlocks.
-use Rattle.std.specs.Prelude.{◌≡◌, ◌↔◌, ℕ, ◌+◌, ◌-◌, ◌<◌, ◌≤◌, ◌++◌, List, [], ◌∷◌, length, map, replicate, Option, Some, None, slice_index_or, slice_set, option_and_then}
+use Rattle.std.specs.Prelude.{◌≡◌, ◌↔◌, ℕ, ◌+◌, ◌-◌, ◌<◌, ◌≤◌, ◌++◌, List, [], length, replicate, Option, Some, None, slice_index_or, option_and_then}
 use Rattle.bm_base.specs.declared.level.Level.{Level}
 use Rattle.bm_base.specs.Levels.{level_number}
-use Rattle.bm_base.specs.SlotLists.{Among, Distinct, without, first_of, slot_after}
+use Rattle.bm_base.specs.SlotLists.{Among, Distinct, first_of, slot_after}
 use Rattle.bm_base.specs.SlotLinks.{end_of_links}
-use Rattle.bm_queues.specs.Links.{AreLinks, list_from, walk}
+use Rattle.bm_queues.specs.Links.{walk}
 
 -- the level of each slot that there is room for, and by number of level the slots that have it, in order from the front
 pub record Levels : Type 0 where
@@ -26,15 +26,6 @@ next_of v slot = option_and_then (λ l. slot_after slot (slots_of v l)) (level_a
 abbrev pub with_room : Levels → ℕ → Levels
 with_room v room = record v { levels = v.levels ++ replicate (room - length v.levels) None }
 
--- a slot put at the front of the list of a level
-abbrev pub put_front : Option Level → ℕ → List (List ℕ) → List (List ℕ)
-put_front None slot lists = lists
-put_front (Some l) slot lists = slice_set lists (level_number l) (slot ∷ slice_index_or lists (level_number l) [])
-
--- a slot taken out of the list that it is in, and put at the front of that of another level, or of none
-abbrev pub moved : Levels → ℕ → Option Level → Levels
-moved v slot level = record { levels = slice_set v.levels slot level; lists = put_front level slot (map (without slot) v.lists) }
-
 -- the slots that are met from the first of a level on, each by the one behind it
 abbrev pub visited : Levels → Level → List ℕ
 visited v l = walk (next_of v) (length (slots_of v l)) (first_of (slots_of v l))
@@ -50,16 +41,4 @@ pub record IsLawful (v : Levels) : Type 0 where
   -- which lie below the room
   pub below : (l : Level) (slot : ℕ) → Among slot (slots_of v l) → slot < length v.levels
   -- links can name all slots that there is room for
-  pub small : length v.levels + 5 ≤ end_of_links
-
--- the lists of five heads
-abbrev pub five : ℕ → List (Option ℕ) → List (Option ℕ) → List (List ℕ)
-five k next back = list_from k next back 0 ∷ list_from k next back 1 ∷ list_from k next back 2 ∷ list_from k next back 3 ∷ list_from k next back 4 ∷ []
-
--- How the fields stand for them. The links may reach further than the levels: a refused growth may have made room for links alone.
-pub record AreLevels (k : ℕ) (next back : List (Option ℕ)) (levels : List (Option Level)) : Type 0 where
-  pub heads : k ≡ 5
-  pub links : AreLinks k next back
-  pub room : length levels ≤ length back
-  pub listed : (l : Level) (slot : ℕ) → slice_index_or levels slot None ≡ Some l → Among slot (list_from k next back (level_number l))
-  pub known : (l : Level) (slot : ℕ) → Among slot (list_from k next back (level_number l)) → slice_index_or levels slot None ≡ Some l
+  pub small : length v.levels + 1 ≤ end_of_links

@@ -3,5 +3,6 @@ pub mod Walks
 pub mod Linked
 pub mod LevelBytes
 pub mod Levels
+pub mod DenseLevels
 pub mod Members
 pub mod Sparse

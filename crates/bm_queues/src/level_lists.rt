@@ -1,41 +1,48 @@
-// Five lists over slots, one for each level.
-ghost use Rattle.std.specs.Prelude.{◌≡◌, ◌≢◌, ◌<◌, ◌≤◌, ◌==◌, ℕ, [], ◌∷◌, length, if◌then◌else◌, Option, Some, IfOk, IfErr, OnOk, OnErr, IsOk};
+// Five lists of slots, one for each level.
+ghost use Rattle.std.specs.Prelude.{◌≡◌, ◌≢◌, ◌<◌, ◌≤◌, ◌==◌, ◌↔◌, ℕ, [], ◌∷◌, length, reverse, if◌then◌else◌, Option, Some, None, IfOk, IfErr, OnOk, OnErr, IsOk};
+ghost use Rattle.std.specs.List.Sorted.{IsPermutation};
 ghost use Rattle.bm_base.specs.declared.level.Level.{Level};
 ghost use Rattle.bm_base.specs.declared.refusal.Refusal.TheVariants.{Memory};
-ghost use Rattle.bm_base.specs.SlotLists.{first_of, without};
-ghost use Rattle.bm_queues.specs.Levels.{level_at, slots_of, next_of, with_room, moved, visited, IsLawful};
+ghost use Rattle.bm_base.specs.SlotLists.{Among, Distinct, first_of};
+ghost use Rattle.bm_queues.specs.Levels.{level_at, slots_of, next_of, with_room, visited, IsLawful};
 ghost use Rattle.bm_queues.specs.Walks.{slots_from, IsOn, IsPast, GoesOn};
 
+use crate::arrays::{new_arrays, reserve_each};
 use crate::level_byte::{LevelByte, no_level};
-use crate::slot_lists::SlotLists;
-use crate::walk::Walk;
-use bm_base::{Level, Refusal};
+use bm_base::{Level, Refusal, fits_link};
 use std::alloc::Global;
 use std::marker::Model;
 
+/// The level of a slot, or none, and its index in the array of that level; any number where it has none.
+#[derive(Clone, Copy)]
+pub(crate) struct Cell {
+    level: LevelByte,
+    index: u32,
+}
+
 /// For each slot below the room a level or none, and for each level the list of its slots.
 ///
-/// A contract sees it as `Levels`. Only `new` and `grow_to` take memory, nine bytes a slot and twenty for the heads; every other
-/// call takes none and succeeds. Each call is a constant number of steps, but for `grow_to`; going over a walk is a step a slot.
+/// A contract sees it as `Levels`. The list of a level is an array, and its front is the end of the array. So a change of level writes
+/// to the cells of two slots and to two arrays. Only `new` and `grow_to` take memory, 28 bytes a slot: 8 for its cell, and 4 in the
+/// array of each level. Every other call takes none and succeeds. Each call but `grow_to` is a constant number of steps.
 #[derive(Drop)]
 pub struct LevelLists {
-    lists: SlotLists,
-    // As many as there is room for.
-    levels: Vec<LevelByte>,
+    cells: Vec<Cell>,
+    // By number of level, each with capacity for all slots.
+    arrays: Vec<Vec<u32>>,
 }
 
 impl Model for LevelLists {
-    ghost use Rattle.bm_queues.specs.Levels.{Levels, five, AreLevels};
+    ghost use Rattle.std.specs.Prelude.{length};
+    ghost use Rattle.bm_queues.specs.Levels.{Levels};
+    ghost use Rattle.bm_queues.specs.DenseLevels.{levels_in, indices_in, arrays_in, seen, AreDense, HaveRoom};
 
     ghost Value = { Levels };
 
-    ghost view = { λ a. record {
-      levels = a.levels.items;
-      lists = five a.lists.heads a.lists.next.items a.lists.previous.items;
-    } };
+    ghost view = { λ a. seen (levels_in a.cells.items) (arrays_in a.arrays.items) };
 
-    ghost invariant = { λ a. AreLevels a.lists.heads a.lists.next.items a.lists.previous.items
-        a.levels.items };
+    ghost invariant = { λ a. AreDense (levels_in a.cells.items) (indices_in a.cells.items)
+        (arrays_in a.arrays.items) × HaveRoom a.arrays.items (length (levels_in a.cells.items)) };
 }
 
 impl LevelLists {
@@ -45,31 +52,34 @@ impl LevelLists {
         ensures lists { IfOk result (λ a. a.lists ≡ [] ∷ [] ∷ [] ∷ [] ∷ [] ∷ []) }
         ensures refused { IfErr result (λ e. e ≡ Memory) }
     {
-        let lists = SlotLists::new(alloc, 5)?;
+        let arrays = new_arrays(alloc)?;
         Ok(LevelLists {
-            lists,
-            levels: Vec::new(alloc),
+            cells: Vec::new(alloc),
+            arrays,
         })
     }
 
-    /// Says to the function that calls it that level lists are lawful at all times, and that going from the first slot of a level
-    /// to the next, and so on, visits just its slots, each once and in order. It does nothing when it runs.
+    /// Says to the function that calls it that level lists are lawful at all times, also what `slots` gives, and that going from the first
+    /// slot of a level to the next, and so on, visits just its slots, each once and in order. It does nothing when it runs.
     pub fn lawful(&self)
         ensures lawful { IsLawful self.now }
+        ensures exact { (l : Level) (slot : ℕ)
+            → Among slot (reverse (slots_of self.now l)) ↔ (level_at self.now slot ≡ Some l) }
+        ensures once { (l : Level) → Distinct (reverse (slots_of self.now l)) }
         ensures visited { (l : Level) → visited self.now l ≡ slots_of self.now l }
     {
-        let _ = &self.levels;
+        let _ = &self.cells;
     }
 
     /// How many slots there is room for: the condition of the calls on a slot.
     pub fn room(&self) -> usize
         ensures { result ≡ length self.now.levels }
     {
-        self.levels.len()
+        self.cells.len()
     }
 
     /// Makes room for the slots below `room`; those that are new have no level. Where there is room already, nothing
-    /// changes. May answer `Memory`, also where a link of 32 bits could not name them all; room that was made for links is kept then.
+    /// changes. May answer `Memory`, also where 32 bits could not name them all; capacity that the arrays gained is kept then.
     pub fn grow_to(&mut self, room: usize) -> Result<(), Refusal>
         ensures after { OnOk result (self.new ≡ with_room self.old room) }
         ensures room { OnOk result (room ≤ length self.new.levels) }
@@ -80,24 +90,30 @@ impl LevelLists {
         ensures unchanged { OnErr result (self.new ≡ self.old) }
         ensures lawful { IsLawful self.new }
     {
-        if room <= self.levels.len() {
+        if room <= self.cells.len() {
             return Ok(());
         }
-        self.lists.grow_to(room)?;
-        self.levels.resize(room, no_level())?;
+        if !fits_link(room) {
+            return Err(Refusal::Memory);
+        }
+        reserve_each(&mut self.arrays, room)?;
+        let empty = Cell {
+            level: no_level(),
+            index: 0,
+        };
+        self.cells.resize(room, empty)?;
         Ok(())
     }
 
-    /// Gives a slot a level, or none: it leaves the list that it is in, and stands at the front of that of its new level. Where it
-    /// has the level nothing changes. Takes no memory.
+    /// Gives a slot a level, or none: it leaves the list that it is in, whose first slot comes to its place, and stands at the front of
+    /// that of its new level. Where it has the level nothing changes. Takes no memory.
     pub fn set(&mut self, slot: usize, level: Option<Level>)
         requires { slot < length self.old.levels }
         ensures same { level_at self.old slot ≡ level → self.new ≡ self.old }
-        ensures after { level_at self.old slot ≢ level → self.new ≡ moved self.old slot level }
         ensures front { (l : Level) → level ≡ Some l → level_at self.old slot ≢ level
             → slots_of self.new l ≡ slot ∷ slots_of self.old l }
         ensures left { (l : Level) → level_at self.old slot ≡ Some l → level ≢ Some l
-            → slots_of self.new l ≡ without slot (slots_of self.old l) }
+            → IsPermutation (slots_of self.old l) (slot ∷ slots_of self.new l) }
         ensures room { length self.new.levels ≡ length self.old.levels }
         ensures levels { (other : ℕ)
             → level_at self.new other ≡ (if other == slot then level else level_at self.old other) }
@@ -109,15 +125,58 @@ impl LevelLists {
             → IsOn at (slots_of self.old l) → IsOn at (slots_of self.new l) }
         ensures lawful { IsLawful self.new }
     {
-        let byte = LevelByte::of(level);
-        if self.levels[slot].is(byte) {
+        if self.cells[slot].level.is(LevelByte::of(level)) {
             return;
         }
-        self.levels[slot] = byte;
-        self.lists.unlink(slot);
+        self.leave(slot);
         if let Some(wanted) = level {
-            self.lists.link_front(wanted.number() as usize, slot);
+            self.enter(slot, wanted);
         }
+    }
+
+    /// Takes a slot out of the list that it is in, if it is in one: it has no level then.
+    fn leave(&mut self, slot: usize)
+        requires { slot < length self.old.levels }
+        ensures left { (l : Level) → level_at self.old slot ≡ Some l
+            → IsPermutation (slots_of self.old l) (slot ∷ slots_of self.new l) }
+        ensures room { length self.new.levels ≡ length self.old.levels }
+        ensures levels { (other : ℕ)
+            → level_at self.new other ≡ (if other == slot then None else level_at self.old other) }
+        ensures others { (l : Level) → Some l ≢ level_at self.old slot
+            → slots_of self.new l ≡ slots_of self.old l }
+        ensures rest { (l : Level) (at : Option ℕ) → IsPast slot at (slots_of self.old l)
+            → slots_from (slots_of self.new l) at ≡ slots_from (slots_of self.old l) at }
+        ensures on { (l : Level) (at : Option ℕ) → IsPast slot at (slots_of self.old l)
+            → IsOn at (slots_of self.old l) → IsOn at (slots_of self.new l) }
+        ensures lawful { IsLawful self.new }
+    {
+        let cell = self.cells[slot];
+        if let Some(level) = cell.level.get() {
+            let array = &mut self.arrays[level.number() as usize];
+            let last = array[array.len() - 1];
+            self.cells[last as usize].index = cell.index;
+            self.cells[slot].level = no_level();
+            array.swap_remove(cell.index as usize);
+        }
+    }
+
+    /// Puts a slot that has no level at the front of the list of one.
+    fn enter(&mut self, slot: usize, level: Level)
+        requires inside { slot < length self.old.levels }
+        requires absent { level_at self.old slot ≡ None }
+        ensures front { slots_of self.new level ≡ slot ∷ slots_of self.old level }
+        ensures room { length self.new.levels ≡ length self.old.levels }
+        ensures levels { (other : ℕ)
+            → level_at self.new other ≡ (if other == slot then Some level else level_at self.old other) }
+        ensures others { (l : Level) → l ≢ level → slots_of self.new l ≡ slots_of self.old l }
+        ensures lawful { IsLawful self.new }
+    {
+        let array = &mut self.arrays[level.number() as usize];
+        self.cells[slot] = Cell {
+            level: LevelByte::of(Some(level)),
+            index: array.len() as u32,
+        };
+        array.push_reserved(slot as u32);
     }
 
     /// The level of a slot.
@@ -125,7 +184,17 @@ impl LevelLists {
         requires { slot < length self.now.levels }
         ensures { result ≡ level_at self.now slot }
     {
-        self.levels[slot].get()
+        self.cells[slot].level.get()
+    }
+
+    /// The slots of a level, from the back of its list to the front. Takes no memory.
+    pub fn slots(&self, level: Level) -> &[u32]
+        ensures slots { result.now ≡ reverse (slots_of self.now level) }
+        ensures exact { (slot : ℕ) → Among slot result.now ↔ (level_at self.now slot ≡ Some level) }
+        ensures once { Distinct result.now }
+        ensures few { length result.now ≤ length self.now.levels }
+    {
+        self.arrays[level.number() as usize].as_slice()
     }
 
     /// The first slot of a level; none where its list is empty. All its slots are to come from there on.
@@ -134,7 +203,8 @@ impl LevelLists {
         ensures on { IsOn result (slots_of self.now level) }
         ensures rest { slots_from (slots_of self.now level) result ≡ slots_of self.now level }
     {
-        self.lists.first(level.number() as usize)
+        let first = self.slots(level).last()?;
+        Some(*first as usize)
     }
 
     /// The slot behind a slot in the list of its level; none behind the last one, and where it has no level. From there on those
@@ -146,13 +216,12 @@ impl LevelLists {
         ensures goes_on { (l : Level) → level_at self.now slot ≡ Some l
             → GoesOn slot result (slots_of self.now l) }
     {
-        self.lists.next(slot)
-    }
-
-    /// The slots of a level, from the front on. Takes no memory.
-    pub fn walk(&self, level: Level) -> Walk<'_>
-        ensures { result ≡ slots_of self.now level }
-    {
-        self.lists.walk(level.number() as usize)
+        let cell = self.cells[slot];
+        let level = cell.level.get()?;
+        if cell.index == 0 {
+            return None;
+        }
+        let array = self.slots(level);
+        Some(array[cell.index as usize - 1] as usize)
     }
 }

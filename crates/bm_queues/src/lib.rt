@@ -1,10 +1,11 @@
 //! Lists over slots: for each level the list of the slots that have it, and two kinds of sets of slots.
 //!
-//! The lists of the levels and one kind of set are doubly linked lists through arrays by slot, so one who goes over them may change
-//! what is behind. The members of the other kind stand densely, so one who goes over them reads memory in order. A change of any is a
-//! constant number of steps and takes no memory, and one who looks for the slots of a level, or of a set, meets no other.
+//! The list of a level is an array, whose end is the front, and one kind of set is a doubly linked list through arrays by slot: both may
+//! be changed behind a caller that iterates over them. The members of the other kind are an array too. A change of any is a constant
+//! number of steps and takes no memory, and a caller that reads the slots of a level, or of a set, reads no other.
 #![tactic(auto)]
 
+mod arrays;
 mod level_byte;
 mod level_lists;
 mod slot_lists;

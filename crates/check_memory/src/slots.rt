@@ -86,7 +86,7 @@ fn gather(lists: &mut LevelLists, size: usize, tally: &mut Tally) {
             lists.set(slot, Some(Level::Highest));
         }
     }
-    tally.note(length_of(lists.walk(Level::Highest)) == size);
+    tally.note(lists.slots(Level::Highest).len() == size);
     tally.note(lists.first(Level::UnderReplicated).is_none());
 }
 

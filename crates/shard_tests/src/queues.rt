@@ -17,7 +17,7 @@ enum LevelStep {
     First(Level),
     Next(usize),
     Room,
-    Walk(Level),
+    Slots(Level),
 }
 
 /// What is done with a set of slots, or asked of it.
@@ -48,7 +48,7 @@ enum Answer {
     Number(usize),
     Slot(usize),
     Level(Level),
-    /// The slots that a walk meets, and how many these are.
+    /// Slots in order, and how many these are.
     Slots([usize; 2], usize),
     TooManySlots,
 }
@@ -84,6 +84,19 @@ fn answer_walk(walk: Walk<'_>) -> Answer {
     Answer::Slots(slots, count)
 }
 
+fn answer_slots(slots: &[u32]) -> Answer {
+    let mut found = [0; 2];
+    let mut count = 0;
+    for slot in slots {
+        if count >= 2 {
+            return Answer::TooManySlots;
+        }
+        found[count] = *slot as usize;
+        count += 1;
+    }
+    Answer::Slots(found, count)
+}
+
 fn set(lists: &mut LevelLists, slot: usize, level: Option<Level>) -> Answer {
     if slot >= lists.room() {
         return Answer::NoRoom;
@@ -117,7 +130,7 @@ fn of_levels(lists: &mut LevelLists, step: LevelStep) -> Answer {
         LevelStep::First(level) => slot(lists.first(level)),
         LevelStep::Next(slot) => next(lists, slot),
         LevelStep::Room => Answer::Number(lists.room()),
-        LevelStep::Walk(level) => answer_walk(lists.walk(level)),
+        LevelStep::Slots(level) => answer_slots(lists.slots(level)),
     }
 }
 
@@ -166,9 +179,10 @@ static LEVELS_OF_THREE_SLOTS: [(LevelStep, Answer); 22] = [
         LevelStep::Set(4, Some(Level::UnderReplicated)),
         Answer::Fine,
     ),
+    // From the back of the list to the front.
     (
-        LevelStep::Walk(Level::UnderReplicated),
-        Answer::Slots([4, 0], 2),
+        LevelStep::Slots(Level::UnderReplicated),
+        Answer::Slots([0, 4], 2),
     ),
 ];
 

@@ -8,13 +8,13 @@ use Rattle.bm_levels.proofs.kept.KeptLevels.keep.Goals as goal
 pub returns-then-judged-clause-others : goal.returns-then-judged-clause-others
 returns-then-judged-clause-others c =
     λ other ne.
-    let level = c.set_level.ensures.levels other ∙ ap (λ b. if b then c.args.judged.level else level_at c.self.inside.levels other) (ne_eqb other c.args.slot ne) in
-    let P : Kept → Type 0 = λ K. IsSameAt K (record { levels = c.set_level.new.levels; unsettled = c.remove.new.self; wishing = c.set_level.new.wishing }) other in
+    let level = c.set.ensures.levels other ∙ ap (λ b. if b then c.args.judged.level else level_at c.self.inside.levels other) (ne_eqb other c.args.slot ne) in
+    let P : Kept → Type 0 = λ K. IsSameAt K (record { levels = c.set.new.self; unsettled = c.remove.new.self }) other in
     subst P c.self.view_is (record { level = level; unsettled = c.remove.ensures.others other ne })
 
 pub returns-else-judged-clause-others : goal.returns-else-judged-clause-others
 returns-else-judged-clause-others c =
     λ other ne.
-    let level = c.set_level.ensures.levels other ∙ ap (λ b. if b then c.args.judged.level else level_at c.self.inside.levels other) (ne_eqb other c.args.slot ne) in
-    let P : Kept → Type 0 = λ K. IsSameAt K (record { levels = c.set_level.new.levels; unsettled = c.insert.new.self; wishing = c.set_level.new.wishing }) other in
+    let level = c.set.ensures.levels other ∙ ap (λ b. if b then c.args.judged.level else level_at c.self.inside.levels other) (ne_eqb other c.args.slot ne) in
+    let P : Kept → Type 0 = λ K. IsSameAt K (record { levels = c.set.new.self; unsettled = c.insert.new.self }) other in
     subst P c.self.view_is (record { level = level; unsettled = c.insert.ensures.others other ne })

@@ -2,7 +2,8 @@ use Rattle.std.proofs.Common.{◌≡◌, get_or, sym, ap, ◌∙◌, vec_capacit
 use Rattle.std.specs.List.{swap_remove}
 use Rattle.std.proofs.lemmas.List.{get_or_default}
 use Rattle.std.proofs.lemmas.List.Sorted.{IsPermutation-swap_remove}
-use Rattle.bm_queues.proofs.Sparse.{members_fit, among_here, member_gone, others_stay}
+use Rattle.bm_queues.proofs.Indices.{among_here, member_gone, others_stay}
+use Rattle.bm_queues.proofs.Sparse.{members_fit, one_place}
 use Rattle.bm_queues.proofs.sparse_set.SparseSet.remove.Goals as goal
 
 pub overflow_cast-place : goal.overflow_cast-place
@@ -33,9 +34,9 @@ returns-in-Some-clause-after c there =
 pub returns-in-Some-clause-gone : goal.returns-in-Some-clause-gone
 returns-in-Some-clause-gone c =
     let found = rw (← c.self.view_is) at c.in-Some.ensures.found in
-    rw (left c) (member_gone c.self.inside.order.items c.self.inside.places.items (vec_capacity c.self.inside.order) c.self.invariant c.args.slot c.in-Some.place found.0 found.1)
+    rw (left c) (member_gone c.self.inside.order.items (one_place c.self.inside.order.items c.self.inside.places.items (vec_capacity c.self.inside.order) c.self.invariant) c.args.slot c.in-Some.place found.0 found.1)
 
 pub returns-in-Some-clause-others : goal.returns-in-Some-clause-others
 returns-in-Some-clause-others c other differs =
     let found = rw (← c.self.view_is) at c.in-Some.ensures.found in
-    rw (← c.self.view_is, left c) (others_stay c.self.inside.order.items c.self.inside.places.items (vec_capacity c.self.inside.order) c.self.invariant c.args.slot c.in-Some.place found.0 found.1 other differs)
+    rw (← c.self.view_is, left c) (others_stay c.self.inside.order.items (one_place c.self.inside.order.items c.self.inside.places.items (vec_capacity c.self.inside.order) c.self.invariant) c.args.slot c.in-Some.place found.0 found.1 other differs)

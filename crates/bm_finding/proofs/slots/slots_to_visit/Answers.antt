@@ -1,0 +1,21 @@
+use Rattle.std.proofs.Common.{◌≡◌, ◌++◌, List, ℕ, map, filter, ap, ◌∙◌, arith}
+use Rattle.std.proofs.lemmas.Grind.{common_steps}
+use Rattle.std.proofs.lemmas.List.{append-nil}
+use Rattle.bm_base.specs.declared.level.Level.TheVariants.{Highest, VeryUnderReplicated, UnderReplicated, BadlyDistributed}
+use Rattle.bm_levels.specs.Kept.{slots_at}
+use Rattle.bm_finding.specs.Visits.{keyed_at, is_told}
+use Rattle.bm_finding.proofs.Visited.{told_by_level}
+use Rattle.bm_finding.proofs.slots.slots_to_visit.Goals as goal
+
+pub returns : goal.returns
+returns c =
+    let K = c.args.kept.now in
+    let f = keyed_at K c.args.arena.now in
+    let p = is_told K c.args.arena.now c.args.bound in
+    let start : c.loop-slot.keyed.items ≡ map (keyed_at c.args.kept.now c.args.arena.now) c.args.kept.now.unsettled.slots = grind (arith, common_steps, append-nil) in
+    c.in_ok-push_settled-4.ensures
+    ∙ ap (λ xs. xs ++ map f (filter p (slots_at K BadlyDistributed))) (c.in_ok-push_settled-3.ensures
+    ∙ ap (λ xs. xs ++ map f (filter p (slots_at K UnderReplicated))) (c.in_ok-push_settled-2.ensures
+    ∙ ap (λ xs. xs ++ map f (filter p (slots_at K VeryUnderReplicated))) (c.in_ok-push_settled.ensures
+    ∙ ap (λ xs. xs ++ map f (filter p (slots_at K Highest))) start)))
+    ∙ told_by_level f p K.unsettled.slots (slots_at K Highest) (slots_at K VeryUnderReplicated) (slots_at K UnderReplicated) (slots_at K BadlyDistributed)
