@@ -27,7 +27,7 @@ pub fn likely_bound(
     if blocks.kept_levels().unsettled_count() > count / WISHING_FOR_UNSETTLED {
         return Ok(None);
     }
-    let step = count / samples.max(1) + 1;
+    let step = (count / samples.max(1)).saturating_add(1);
     let mut keys = Vec::new(alloc);
     push_keys(blocks, pending, Level::Highest, step, &mut keys)?;
     push_keys(blocks, pending, Level::VeryUnderReplicated, step, &mut keys)?;
@@ -37,7 +37,7 @@ pub fn likely_bound(
     Ok(keys.get(most / step).copied())
 }
 
-/// Puts the keys of every so many slots of a level behind those that are there.
+/// Appends the key of every `step`-th slot of a level.
 fn push_keys(
     blocks: &LeveledBlocks,
     pending: &PendingTransfers,
