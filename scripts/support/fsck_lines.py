@@ -215,12 +215,12 @@ def report_lines(numbering: Numbering) -> list[str]:
 
 
 def drain_lines(numbering: Numbering, call: Fsck, options: Import) -> list[str]:
-    """The nodes that drain: by the text of the nodes, or by the mark of a replica that is not corrupt."""
+    """The nodes that drain: by the text of the nodes, or by the mark of a replica."""
     marked = {
         replica.storage.node.address
         for it in numbering.blocks
         for replica in it.replicas
-        if call.details and replica not in it.corrupt
+        if call.details
     }
     return [
         line(op="drain", node=number)

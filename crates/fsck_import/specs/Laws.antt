@@ -11,10 +11,8 @@ use Rattle.bm_base.specs.declared.event.Event.TheVariants.{AddBlock, FullReport,
 use Rattle.fsck_text.specs.Cuts.{Text}
 use Rattle.fsck_text.specs.Wrongs.{after_ok}
 use Rattle.fsck_text.specs.declared.list.Listed.{Listed}
-use Rattle.fsck_files.specs.Replicas.{state_of}
+use Rattle.fsck_files.specs.Replicas as replicas
 use Rattle.fsck_files.specs.declared.replicas.Block.{Block}
-use Rattle.fsck_files.specs.declared.replicas.State.{State}
-use Rattle.fsck_files.specs.declared.replicas.State.TheVariants as state
 use Rattle.fsck_cluster.specs.Clusters.{After, after_block}
 use Rattle.fsck_cluster.specs.Names.{name_of}
 use Rattle.fsck_cluster.specs.declared.cluster.Cluster.{Cluster}
@@ -51,27 +49,20 @@ replica_at b l = replica l.place.storage (record { id = b.id; stamp = b.stamp })
 abbrev pub replicas_of : Block → List Replica
 replicas_of b = map (replica_at b) b.replicas
 
-abbrev pub is_bad : State → Bool
-is_bad state.Corrupt = true
-is_bad _ = false
-
 abbrev pub is_corrupt : Block → Listed → Bool
-is_corrupt b l = is_bad (state_of l.mark b.is_corrupt)
+is_corrupt b l = replicas.is_corrupt l.mark b.is_corrupt
 
 -- the corrupt replicas of a block: storage and block
 abbrev pub corrupt_of : Block → List (Text × ℕ)
 corrupt_of b = map (λ l. (l.place.storage, b.id)) (filter (is_corrupt b) b.replicas)
 
-abbrev pub drains : State → Bool
-drains state.Drained = true
-drains _ = false
-
-abbrev pub is_drained : Block → Listed → Bool
-is_drained b l = drains (state_of l.mark b.is_corrupt)
+-- whether the node of a replica drains, by the mark alone
+abbrev pub is_drained : Listed → Bool
+is_drained l = replicas.is_draining l.mark
 
 -- the nodes of the drained replicas of a block
 abbrev pub drained_of : Block → List Text
-drained_of b = map (λ l. l.place.address) (filter (is_drained b) b.replicas)
+drained_of b = map (λ l. l.place.address) (filter is_drained b.replicas)
 
 -- the number of the block that a call adds, if it adds one
 abbrev pub number_added : Call → List ℕ
