@@ -62,6 +62,7 @@ held_sound c t b l ready known last new before =
     let once : AllByRecursion (Once t.numbers b.id) c.rows = subst (λ n. AllByRecursion (Once t.numbers n) c.rows) last before.once in
     let more : Once t.numbers b.id (holding ready.row h) = once_more t.numbers ready.row h known new (all-get (Once t.numbers b.id) c.rows at ready.row once ready.here) in
     record {
+      blocks = before.blocks;
       numbers = before.numbers;
       apart = before.apart;
       stored = subst (λ rs. Stored rs c.storages (t.replicas ++ replica_at b l ∷ [])) same (stored_replica c.rows c.storages t.replicas l.place.storage ready.row h ready.known ready.here before.stored);
@@ -87,6 +88,7 @@ named c l ready =
 bad_sound : (c : Cluster) (t : Taken) (b : Block) (l : Listed) (row : Row) → IsNamed c row l.place.storage → Sound c t → (corrupt : Bool)
     → Sound (with_bad c (record { storage = row.number; id = b.id }) corrupt) (with_one_bad t b l corrupt)
 bad_sound c t b l row is_named before corrupt = record {
+  blocks = before.blocks;
   numbers = before.numbers;
   apart = before.apart;
   stored = before.stored;
@@ -106,6 +108,7 @@ bad_sound c t b l row is_named before corrupt = record {
 drained_sound : (c : Cluster) (t : Taken) (l : Listed) (node : ℕ) → (1 ≤ node) × (node ≤ length c.nodes) → name_of c.nodes node ≡ l.place.address → Sound c t → (drains : Bool)
     → Sound (with_draining c node drains) (with_one_drained t l drains)
 drained_sound c t l node within name before drains = record {
+  blocks = before.blocks;
   numbers = before.numbers;
   apart = before.apart;
   stored = before.stored;
