@@ -1,5 +1,5 @@
 -- A cluster, block by block.
-use Rattle.std.specs.Prelude.{◌≡◌, ⊤, ℕ, ◌||◌, Bool, false, nat_lt, length, List, [], ◌∷◌, ◌++◌, Option, Some, None, unwrap_or, position, slice_get, Result, Ok, Err, if◌then◌else◌, codes}
+use Rattle.std.specs.Prelude.{◌≡◌, ⊤, ℕ, ◌||◌, Bool, false, not, nat_lt, length, List, [], ◌∷◌, ◌++◌, Option, Some, None, unwrap_or, position, slice_get, Result, Ok, Err, if◌then◌else◌, codes}
 use Rattle.std.specs.Option.{option_map_or}
 use Rattle.std.specs.Str.{bytes_eq}
 use Rattle.bm_base.specs.declared.replica.Stamp.{Stamp}
@@ -10,7 +10,7 @@ use Rattle.fsck_text.specs.declared.list.Listed.{Listed}
 use Rattle.fsck_files.specs.Numbers.{with_number}
 use Rattle.fsck_files.specs.Replicas.{is_corrupt, is_draining}
 use Rattle.fsck_files.specs.declared.replicas.Block.{Block}
-use Rattle.fsck_cluster.specs.Names.{name_number, name_of, with_name}
+use Rattle.fsck_cluster.specs.Names.{is_new, name_number, name_of, with_name}
 use Rattle.fsck_cluster.specs.Blocks.{has_block, with_block}
 use Rattle.fsck_cluster.specs.Rows.{new_row, ends_with, with_held_at, has_storage}
 use Rattle.fsck_cluster.specs.declared.cluster.Bad.{Bad}
@@ -142,11 +142,12 @@ with_spare c node = record c {
   rows = c.rows ++ new_row (name_number c.storages (name_of c.nodes node)) node ∷ [];
 }
 
--- with a storage for a node, if it has none
+-- with a storage for a node, if it has none; a storage of this name on another node is refused
 abbrev pub after_spare : Cluster → ℕ → After
 after_spare c node =
     if has_storage c.rows node then Ok c
-    else (if nat_lt (length c.storages) 4096 then Ok (with_spare c node) else Err why.TooManyStorages)
+    else (if not (is_new c.storages (name_of c.nodes node)) then Err why.Elsewhere
+    else (if nat_lt (length c.storages) 4096 then Ok (with_spare c node) else Err why.TooManyStorages))
 
 -- the same for these nodes
 abbrev pub after_spares : Cluster → List NodeRow → After

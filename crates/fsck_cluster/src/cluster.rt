@@ -305,6 +305,9 @@ impl Cluster {
         if self.rows.has_storage(node) {
             return Ok(());
         }
+        if self.storages.index(self.nodes.name(node)).is_some() {
+            return Err(ClusterFault::Refused(Why::Elsewhere));
+        }
         if self.storages.len() >= MAX_STORAGES {
             return Err(ClusterFault::Refused(Why::TooManyStorages));
         }
