@@ -215,12 +215,12 @@ def report_lines(numbering: Numbering) -> list[str]:
 
 
 def drain_lines(numbering: Numbering, call: Fsck, options: Import) -> list[str]:
-    """The nodes that drain: by the text of the nodes, or by the mark of a replica that is not corrupt."""
+    """The nodes that drain: by the text of the nodes, or by the mark of a replica."""
     marked = {
         replica.storage.node.address
         for it in numbering.blocks
         for replica in it.replicas
-        if call.details and replica not in it.corrupt
+        if call.details
     }
     return [
         line(op="drain", node=number)
@@ -259,30 +259,38 @@ def names(cluster: Cluster, call: Fsck, options: Import = Import()) -> list[str]
     return lines
 
 
-# What the import says of each kind of file that is left out, in this order.
+# What the import says of each kind of file that is left out, in this order: of one file and of several.
 KIND_NOTES = {
-    SKIP_ERASURE_CODED: "erasure coded files left out",
-    SKIP_REPLICATION: "files with more than 16 replicas left out",
-    SKIP_OPEN: "files that are being written left out",
-    SKIP_SNAPSHOTS: "files in snapshots left out",
+    SKIP_ERASURE_CODED: ("erasure coded file left out", "erasure coded files left out"),
+    SKIP_REPLICATION: (
+        "file with more than 16 replicas left out",
+        "files with more than 16 replicas left out",
+    ),
+    SKIP_OPEN: ("file that is being written left out", "files that are being written left out"),
+    SKIP_SNAPSHOTS: ("file in a snapshot left out", "files in snapshots left out"),
 }
 
-UNCLEAR = "blocks with more places than live replicas "
+UNCLEAR = " with more places than live replicas "
+
+MAINTAINED = (
+    "replica on a node in maintenance taken as live",
+    "replicas on nodes in maintenance taken as live",
+)
 
 
 def notes(cluster: Cluster, call: Fsck, options: Import = Import()) -> list[str]:
     """What the import has to say at its end: a number and what it counts, if it is not 0."""
     files = shown_files(cluster, call)
     skipped = [kind_of(file, call) for file in files if is_skipped(file, call, options)]
-    counts = [(skipped.count(kind), note) for kind, note in KIND_NOTES.items()]
+    counts = [(skipped.count(kind), words) for kind, words in KIND_NOTES.items()]
     unclear = sum(
         is_unclear(block, file, call)
         for file in files
         if not is_skipped(file, call, options)
         for block in file.blocks
     )
-    is_good = options.unclear == "good"
-    counts.append((unclear, UNCLEAR + ("taken with each place as good" if is_good else "left out")))
+    done = UNCLEAR + ("taken with each place as good" if options.unclear == "good" else "left out")
+    counts.append((unclear, ("block" + done, "blocks" + done)))
     marks = [
         mark_of(replica, call) if call.details else LIVE
         for taken in taken_blocks(cluster, call, options)
@@ -290,5 +298,5 @@ def notes(cluster: Cluster, call: Fsck, options: Import = Import()) -> list[str]
         if replica not in taken.corrupt
     ]
     maintained = marks.count(ENTERING) + marks.count(IN_MAINTENANCE)
-    counts.append((maintained, "replicas on nodes in maintenance taken as live"))
-    return [f"{count} {what}" for count, what in counts if count]
+    counts.append((maintained, MAINTAINED))
+    return [f"{count} {several if count > 1 else one}" for count, (one, several) in counts if count]

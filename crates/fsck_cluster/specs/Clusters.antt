@@ -1,5 +1,5 @@
 -- A cluster, block by block.
-use Rattle.std.specs.Prelude.{◌≡◌, ⊤, ℕ, ◌||◌, Bool, false, nat_lt, length, List, [], ◌∷◌, ◌++◌, Option, Some, None, unwrap_or, position, slice_get, Result, Ok, Err, if◌then◌else◌, codes}
+use Rattle.std.specs.Prelude.{◌≡◌, ⊤, ℕ, ◌||◌, Bool, false, not, nat_lt, length, List, [], ◌∷◌, ◌++◌, Option, Some, None, unwrap_or, position, slice_get, Result, Ok, Err, if◌then◌else◌, codes}
 use Rattle.std.specs.Option.{option_map_or}
 use Rattle.std.specs.Str.{bytes_eq}
 use Rattle.bm_base.specs.declared.replica.Stamp.{Stamp}
@@ -8,13 +8,12 @@ use Rattle.fsck_text.specs.Wrongs.{after_ok}
 use Rattle.fsck_text.specs.declared.place.Place.{Place}
 use Rattle.fsck_text.specs.declared.list.Listed.{Listed}
 use Rattle.fsck_files.specs.Numbers.{with_number}
-use Rattle.fsck_files.specs.Replicas.{state_of}
+use Rattle.fsck_files.specs.Replicas.{is_corrupt, is_draining}
 use Rattle.fsck_files.specs.declared.replicas.Block.{Block}
-use Rattle.fsck_files.specs.declared.replicas.State.{State}
-use Rattle.fsck_files.specs.declared.replicas.State.TheVariants as state
-use Rattle.fsck_cluster.specs.Names.{name_number, name_of, with_name}
+use Rattle.fsck_cluster.specs.Names.{is_new, name_number, name_of, with_name}
 use Rattle.fsck_cluster.specs.Blocks.{has_block, with_block}
 use Rattle.fsck_cluster.specs.Rows.{new_row, ends_with, with_held_at, has_storage}
+use Rattle.fsck_cluster.specs.declared.cluster.Bad.{Bad}
 use Rattle.fsck_cluster.specs.declared.cluster.Cluster.{Cluster}
 use Rattle.fsck_cluster.specs.declared.cluster.ClusterFault.{ClusterFault}
 use Rattle.fsck_cluster.specs.declared.cluster.ClusterFault.TheVariants as fault
@@ -95,21 +94,26 @@ at_storage c p None = if nat_lt (length c.storages) 4096 then Ok (after_new_stor
 abbrev pub after_storage : Cluster → Place → After
 after_storage c p = at_storage c p (position (bytes_eq p.storage) c.storages)
 
--- with what a replica is besides being there: a corrupt one is listed, and the node of a drained one drains
-abbrev pub with_state : Cluster → Row → ℕ → State → Cluster
-with_state c row id state.Good = c
-with_state c row id state.Corrupt = record c { bad = c.bad ++ record { storage = row.number; id = id } ∷ [] }
-with_state c row id state.Drained = record c { draining = with_number c.draining row.node }
+-- with a replica that is corrupt, if it is
+abbrev pub with_bad : Cluster → Bad → Bool → Cluster
+with_bad c b corrupt = record c { bad = if corrupt then c.bad ++ b ∷ [] else c.bad }
+
+-- with a node that drains, if it does
+abbrev pub with_draining : Cluster → ℕ → Bool → Cluster
+with_draining c node drains = record c { draining = if drains then with_number c.draining node else c.draining }
 
 -- with a replica of a block on the storage at an index
 abbrev pub with_replica : Cluster → ℕ → ℕ → Stamp → Cluster
 with_replica c at id stamp = record c { rows = with_held_at c.rows at (record { id = id; stamp = stamp }) }
 
+-- a replica on the storage at an index, with what its mark says of it and of its node
+abbrev pub with_listed : Cluster → Block → Listed → ℕ → Row → Cluster
+with_listed c b l at row =
+    with_draining (with_bad (with_replica c at b.id b.stamp) (record { storage = row.number; id = b.id }) (is_corrupt l.mark b.is_corrupt)) row.node (is_draining l.mark)
+
 -- a storage has one replica of a block, and no more
 abbrev pub on_row : Cluster → Block → Listed → ℕ → Row → After
-on_row c b l at row =
-    if ends_with row b.id then Err why.StorageTwice
-    else Ok (with_state (with_replica c at b.id b.stamp) row b.id (state_of l.mark b.is_corrupt))
+on_row c b l at row = if ends_with row b.id then Err why.StorageTwice else Ok (with_listed c b l at row)
 
 -- with a replica on the storage of its place, which is known
 abbrev pub after_replica : Cluster → Block → Listed → After
@@ -138,11 +142,12 @@ with_spare c node = record c {
   rows = c.rows ++ new_row (name_number c.storages (name_of c.nodes node)) node ∷ [];
 }
 
--- with a storage for a node, if it has none
+-- with a storage for a node, if it has none; a storage of this name on another node is refused
 abbrev pub after_spare : Cluster → ℕ → After
 after_spare c node =
     if has_storage c.rows node then Ok c
-    else (if nat_lt (length c.storages) 4096 then Ok (with_spare c node) else Err why.TooManyStorages)
+    else (if not (is_new c.storages (name_of c.nodes node)) then Err why.Elsewhere
+    else (if nat_lt (length c.storages) 4096 then Ok (with_spare c node) else Err why.TooManyStorages))
 
 -- the same for these nodes
 abbrev pub after_spares : Cluster → List NodeRow → After

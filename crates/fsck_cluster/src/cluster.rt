@@ -1,12 +1,12 @@
 // A cluster, block by block.
 ghost use Rattle.std.specs.Prelude.{◌≡◌, Ok, Err, OnOk, IfErr, option_copied, option_map, slice_get};
-ghost use Rattle.fsck_cluster.specs.Clusters.{no_cluster, is_on_rack, is_on_node, after_block, after_places, after_place, after_node, after_new_node, after_storage, after_new_storage, after_replica, after_spare, after_spares, with_spares, IsCause};
+ghost use Rattle.fsck_cluster.specs.Clusters.{no_cluster, is_on_rack, is_on_node, after_block, after_places, after_place, after_node, after_new_node, after_storage, after_new_storage, after_replica, with_bad, with_draining, after_spare, after_spares, with_spares, IsCause};
 
 use crate::blocks::Blocks;
 use crate::names::Names;
 use crate::rows::{Held, Rows};
 use bm_base::{BlockId, BlockInfo, Items, MAX_NODES, MAX_STORAGES, StorageId};
-use fsck_files::{Block, Numbers, State, state_of};
+use fsck_files::{Block, Numbers, is_corrupt, is_draining};
 use fsck_text::{Listed, Piece, Place};
 use std::alloc::{AllocError, Global};
 use thiserror::Error;
@@ -243,15 +243,34 @@ impl Cluster {
             stamp: block.stamp,
         };
         self.rows.add(at, held)?;
-        match state_of(listed.mark, block.is_corrupt) {
-            State::Good => {}
-            State::Corrupt => self.bad.push(Bad {
-                storage,
-                id: block.id,
-            })?,
-            State::Drained => self.draining.add(u64::from(node))?,
+        let bad = Bad {
+            storage,
+            id: block.id,
+        };
+        self.take_bad(bad, is_corrupt(listed.mark, block.is_corrupt))?;
+        Ok(self.take_draining(node, is_draining(listed.mark))?)
+    }
+
+    /// Lists a replica, if it is corrupt.
+    fn take_bad(&mut self, bad: Bad, is_corrupt: bool) -> Result<(), AllocError>
+        ensures { OnOk result (self.new ≡ with_bad self.old bad is_corrupt) }
+    {
+        if is_corrupt {
+            self.bad.push(bad)
+        } else {
+            Ok(())
         }
-        Ok(())
+    }
+
+    /// Adds a node to those that drain, if it does.
+    fn take_draining(&mut self, node: u32, is_draining: bool) -> Result<(), AllocError>
+        ensures { OnOk result (self.new ≡ with_draining self.old node is_draining) }
+    {
+        if is_draining {
+            self.draining.add(u64::from(node))
+        } else {
+            Ok(())
+        }
     }
 
     /// Gives each known node without a storage one of its own name: nothing says which storages a node
@@ -285,6 +304,9 @@ impl Cluster {
     {
         if self.rows.has_storage(node) {
             return Ok(());
+        }
+        if self.storages.index(self.nodes.name(node)).is_some() {
+            return Err(ClusterFault::Refused(Why::Elsewhere));
         }
         if self.storages.len() >= MAX_STORAGES {
             return Err(ClusterFault::Refused(Why::TooManyStorages));

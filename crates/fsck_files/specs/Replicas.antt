@@ -3,21 +3,21 @@ use Rattle.std.specs.Prelude.{ℕ, Bool, true, false, List, if◌then◌else◌,
 use Rattle.fsck_text.specs.declared.mark.Mark.{Mark}
 use Rattle.fsck_text.specs.declared.mark.Mark.TheVariants as mark
 use Rattle.fsck_text.specs.declared.list.Listed.{Listed}
-use Rattle.fsck_files.specs.declared.replicas.State.{State}
-use Rattle.fsck_files.specs.declared.replicas.State.TheVariants as state
 
--- what a replica with a mark is to a block manager; if fsck says that each known replica of its block is corrupt, one on a node that is decommissioned or in maintenance is corrupt too
-abbrev pub state_of : Mark → Bool → State
-state_of mark.Absent is_corrupt = state.Good
-state_of mark.Live is_corrupt = state.Good
-state_of mark.Excess is_corrupt = state.Good
-state_of mark.StaleNode is_corrupt = state.Good
-state_of mark.StaleContent is_corrupt = state.Good
-state_of mark.Corrupt is_corrupt = state.Corrupt
-state_of mark.Decommissioned is_corrupt = if is_corrupt then state.Corrupt else state.Drained
-state_of mark.Decommissioning is_corrupt = if is_corrupt then state.Corrupt else state.Drained
-state_of mark.EnteringMaintenance is_corrupt = if is_corrupt then state.Corrupt else state.Good
-state_of mark.InMaintenance is_corrupt = if is_corrupt then state.Corrupt else state.Good
+-- whether a replica with a mark is corrupt, by whether fsck says that each known replica of its block is: if the node is decommissioned or in maintenance, the mark says that alone, also of a corrupt replica
+abbrev pub is_corrupt : Mark → Bool → Bool
+is_corrupt mark.Corrupt block_is_corrupt = true
+is_corrupt mark.Decommissioned block_is_corrupt = block_is_corrupt
+is_corrupt mark.Decommissioning block_is_corrupt = block_is_corrupt
+is_corrupt mark.EnteringMaintenance block_is_corrupt = block_is_corrupt
+is_corrupt mark.InMaintenance block_is_corrupt = block_is_corrupt
+is_corrupt _ block_is_corrupt = false
+
+-- whether the node of a replica with this mark is being decommissioned, or has been
+abbrev pub is_draining : Mark → Bool
+is_draining mark.Decommissioned = true
+is_draining mark.Decommissioning = true
+is_draining _ = false
 
 -- fsck counts a replica with this mark as live; without a mark it may
 abbrev pub claims_live : Mark → Bool

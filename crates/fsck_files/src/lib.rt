@@ -16,5 +16,5 @@ pub use counts::{Counts, Sums};
 pub use files::{File, Files, LineFault, Part};
 pub use numbers::Numbers;
 pub use refusal::{Mismatch, Refusal, Why};
-pub use replicas::{Block, State, state_of};
+pub use replicas::{Block, is_corrupt, is_draining};
 pub use skips::{Kind, LeftOut, Skips, Unclear};

@@ -5,7 +5,7 @@ use thiserror::Error;
 
 /// A number of the summary that is not the one that was read.
 #[derive(Clone, Copy, Debug, Drop, Error)]
-#[error("the summary says {sum} {count}, and {read} were read")]
+#[error("the number of {count} is {sum} in the summary, and {read} in the files above it")]
 pub struct Mismatch {
     pub count: Count,
     /// What the summary says.
@@ -33,9 +33,9 @@ pub enum Why {
     #[error("no replica is wanted of the block")]
     NoneWanted,
     /// It is not known which of the places are live.
-    #[error("{places} places, of which {live} are live: -replicaDetails says which, --unclear=omit leaves such blocks out, --unclear=good takes each place as good")]
+    #[error("more places ({places}) than live replicas ({live}): -replicaDetails and -maintenance of fsck say which are live, --unclear=omit leaves such blocks out, --unclear=good takes each place as good")]
     MoreThanLive { places: usize, live: u32 },
-    #[error("{places} places, and {live} live replicas")]
+    #[error("fewer places ({places}) than live replicas ({live})")]
     FewerThanLive { places: usize, live: u32 },
     #[error("{0}")]
     Mismatch(Mismatch),

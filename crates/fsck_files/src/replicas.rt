@@ -1,19 +1,9 @@
 // The replicas of a block that is taken.
 ghost use Rattle.std.specs.Prelude.{◌≡◌};
-ghost use Rattle.fsck_files.specs.Replicas.{state_of, claims_live, is_maintained, claims, maintained};
+ghost use Rattle.fsck_files.specs.Replicas.{is_corrupt, is_draining, claims_live, is_maintained, claims, maintained};
 
 use bm_base::{BlockId, Items, Stamp};
 use fsck_text::{Listed, Mark};
-
-/// What a replica is to a block manager.
-#[derive(Clone, Copy, Debug, PartialEq, Drop)]
-pub enum State {
-    /// Live, stale, in excess, or on a node in maintenance.
-    Good,
-    Corrupt,
-    /// Good, on a node that is being decommissioned or has been.
-    Drained,
-}
 
 /// A block that is taken.
 #[derive(Drop)]
@@ -28,23 +18,26 @@ pub struct Block<'a> {
     pub replicas: Items<Listed<'a>>,
 }
 
-/// What a replica with a mark is, of a block of which each known replica is corrupt or not. fsck marks a
-/// corrupt replica on a node that is decommissioned or in maintenance by the state of its node.
-pub fn state_of(mark: Mark, is_corrupt: bool) -> State
-    ensures { result ≡ state_of mark is_corrupt }
+/// Whether a replica with a mark is corrupt, by whether fsck calls its block corrupt: if the node is
+/// decommissioned or in maintenance, the mark says that alone, also of a corrupt replica.
+pub fn is_corrupt(mark: Mark, block_is_corrupt: bool) -> bool
+    ensures { result ≡ is_corrupt mark block_is_corrupt }
 {
     match mark {
-        Mark::Corrupt => State::Corrupt,
-        Mark::Decommissioned | Mark::Decommissioning if !is_corrupt => State::Drained,
-        Mark::EnteringMaintenance | Mark::InMaintenance if !is_corrupt => State::Good,
+        Mark::Corrupt => true,
         Mark::Decommissioned
         | Mark::Decommissioning
         | Mark::EnteringMaintenance
-        | Mark::InMaintenance => State::Corrupt,
-        Mark::Absent | Mark::Live | Mark::Excess | Mark::StaleNode | Mark::StaleContent => {
-            State::Good
-        }
+        | Mark::InMaintenance => block_is_corrupt,
+        Mark::Absent | Mark::Live | Mark::Excess | Mark::StaleNode | Mark::StaleContent => false,
     }
+}
+
+/// Whether the node of a replica with this mark is being decommissioned, or has been.
+pub fn is_draining(mark: Mark) -> bool
+    ensures { result ≡ is_draining mark }
+{
+    matches!(mark, Mark::Decommissioned | Mark::Decommissioning)
 }
 
 /// Whether fsck counts a replica with this mark as live; without a mark it may.

@@ -1,5 +1,5 @@
 -- The blocks that a cluster takes.
-use Rattle.std.proofs.Common.{◌≡◌, ℕ, ◌==◌, ◌||◌, Bool, true, false, nat_eq, List, [], ◌∷◌, ◌++◌, Ok, refl, sym, ap, subst, ◌∙◌, append_assoc}
+use Rattle.std.proofs.Common.{◌≡◌, ℕ, ◌==◌, ◌||◌, Bool, true, false, nat_eq, List, [], ◌∷◌, ◌++◌, Ok, map, refl, sym, ap, subst, ◌∙◌, append_assoc}
 use Rattle.std.specs.List.{list_any, flat_map}
 use Rattle.std.proofs.lemmas.List.{append-nil}
 use Rattle.std.proofs.lemmas.List.Folds.{list_any-append}
@@ -31,9 +31,13 @@ repeats-push (y ∷ xs) x h e =
     let new = or_false (nat_eq x y) (list_any (nat_eq x) xs) e in
     ap (λ b. b || has_repeats (xs ++ x ∷ [])) (has-push xs x y apart.0 new.0) ∙ repeats-push xs x apart.1 new.1
 
+-- a block by its number
+abbrev pub numbered : Block → ℕ × BlockInfo
+numbered b = (b.id, record { stamp = b.stamp; repl = b.wanted })
+
 -- with the number of a block, which is then the last
 abbrev pub with_number : Taken → Block → Taken
-with_number t b = record t { numbers = t.numbers ++ b.id ∷ []; last = b.id }
+with_number t b = record t { blocks = t.blocks ++ numbered b ∷ []; numbers = t.numbers ++ b.id ∷ []; last = b.id }
 
 -- with a block and its replicas
 abbrev pub with_taken : Taken → Block → Taken
@@ -52,6 +56,7 @@ block_sound c d t b e before =
     let known : list_any (nat_eq b.id) (t.numbers ++ b.id ∷ []) ≡ true =
     list_any-append (nat_eq b.id) t.numbers (b.id ∷ []) ∙ ap (λ x. list_any (nat_eq b.id) t.numbers || (x || false)) (number_is_itself b.id) ∙ or_true (list_any (nat_eq b.id) t.numbers) in
     let more : Sound m (with_number t b) = record {
+      blocks = ap (λ xs. xs ++ numbered b ∷ []) before.blocks;
       numbers = map-push (λ x. x.0) c.blocks (b.id, info) ∙ ap (λ ns. ns ++ b.id ∷ []) before.numbers;
       apart = repeats-push t.numbers b.id before.apart new;
       stored = before.stored;
@@ -78,6 +83,10 @@ blocks_sound c d t (b ∷ blocks) e before =
 pub all_numbers : (t : Taken) (blocks : List Block) → (with_blocks t blocks).numbers ≡ t.numbers ++ ids blocks
 all_numbers t [] = sym (append-nil t.numbers)
 all_numbers t (b ∷ blocks) = all_numbers (with_taken t b) blocks ∙ append_assoc t.numbers (b.id ∷ []) (ids blocks)
+
+pub all_blocks : (t : Taken) (blocks : List Block) → (with_blocks t blocks).blocks ≡ t.blocks ++ map numbered blocks
+all_blocks t [] = sym (append-nil t.blocks)
+all_blocks t (b ∷ blocks) = all_blocks (with_taken t b) blocks ∙ append_assoc t.blocks (numbered b ∷ []) (map numbered blocks)
 
 pub all_replicas : (t : Taken) (blocks : List Block) → (with_blocks t blocks).replicas ≡ t.replicas ++ flat_map replicas_of blocks
 all_replicas t [] = sym (append-nil t.replicas)

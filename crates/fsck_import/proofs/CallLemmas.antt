@@ -10,7 +10,7 @@ use Rattle.fsck_cluster.specs.Blocks.{Named}
 use Rattle.fsck_cluster.specs.declared.cluster.Cluster.{Cluster}
 use Rattle.fsck_cluster.specs.declared.rows.Row.{Row}
 use Rattle.fsck_import.specs.CallsFor.{register, heartbeat, add, received, reports, corrupt, drain, draining, calls_before, calls_after, calls_for}
-use Rattle.fsck_import.specs.Laws.{number_added, numbers_added, is_about_replicas, AddsFirst}
+use Rattle.fsck_import.specs.Laws.{add_in, adds_in, is_about_replicas, AddsFirst}
 
 -- What some calls do not have, all of them together do not have.
 module _ {X : Type 0} (g : Call → List X) where
@@ -39,29 +39,29 @@ pub none-nodes : {X : Type 0} (g : Call → List X) (c : Cluster) (remaining : �
     → flat_map g (map (register c.rows) c.node_rows ++ map (heartbeat c.rows remaining) c.node_rows) ≡ []
 none-nodes g c remaining h k = none-append g (map (register c.rows) c.node_rows) (map (heartbeat c.rows remaining) c.node_rows) (none-map g (register c.rows) h c.node_rows) (none-map g (heartbeat c.rows remaining) k c.node_rows)
 
-adds-map : (blocks : Named) → numbers_added (map add blocks) ≡ map (λ b. b.0) blocks
+adds-map : (blocks : Named) → adds_in (map add blocks) ≡ map add blocks
 adds-map [] = refl
-adds-map (b ∷ blocks) = ap (λ ids. b.0 ∷ ids) (adds-map blocks)
+adds-map (b ∷ blocks) = ap (λ calls. add b ∷ calls) (adds-map blocks)
 
-no_add-reports : (row : Row) → numbers_added (reports row) ≡ []
-no_add-reports row = none-map number_added (received row.number) (λ x. refl) (drop MAX_ENTRIES row.held)
+no_add-reports : (row : Row) → adds_in (reports row) ≡ []
+no_add-reports row = none-map add_in (received row.number) (λ x. refl) (drop MAX_ENTRIES row.held)
 
 -- no call after the adds is one
-no_add-after : (c : Cluster) → numbers_added (calls_after c) ≡ []
+no_add-after : (c : Cluster) → adds_in (calls_after c) ≡ []
 no_add-after c =
-    none-append number_added (flat_map reports c.rows ++ map corrupt c.bad) (map drain (draining c))
-    (none-append number_added (flat_map reports c.rows) (map corrupt c.bad) (none-flat number_added reports no_add-reports c.rows) (none-map number_added corrupt (λ x. refl) c.bad))
-    (none-map number_added drain (λ x. refl) (draining c))
+    none-append add_in (flat_map reports c.rows ++ map corrupt c.bad) (map drain (draining c))
+    (none-append add_in (flat_map reports c.rows) (map corrupt c.bad) (none-flat add_in reports no_add-reports c.rows) (none-map add_in corrupt (λ x. refl) c.bad))
+    (none-map add_in drain (λ x. refl) (draining c))
 
 -- the calls for a cluster add its blocks
-pub numbers_added-calls : (c : Cluster) (remaining : ℕ) → numbers_added (calls_for c remaining) ≡ map (λ b. b.0) c.blocks
-numbers_added-calls c remaining =
+pub adds_in-calls : (c : Cluster) (remaining : ℕ) → adds_in (calls_for c remaining) ≡ map add c.blocks
+adds_in-calls c remaining =
     let nodes = map (register c.rows) c.node_rows ++ map (heartbeat c.rows remaining) c.node_rows in
-    flat_map-append number_added (calls_before c remaining) (calls_after c)
-    ∙ ap (λ t. numbers_added (calls_before c remaining) ++ t) (no_add-after c)
-    ∙ append-nil (numbers_added (calls_before c remaining))
-    ∙ flat_map-append number_added nodes (map add c.blocks)
-    ∙ ap (λ t. t ++ numbers_added (map add c.blocks)) (none-nodes number_added c remaining (λ x. refl) (λ x. refl))
+    flat_map-append add_in (calls_before c remaining) (calls_after c)
+    ∙ ap (λ t. adds_in (calls_before c remaining) ++ t) (no_add-after c)
+    ∙ append-nil (adds_in (calls_before c remaining))
+    ∙ flat_map-append add_in nodes (map add c.blocks)
+    ∙ ap (λ t. t ++ adds_in (map add c.blocks)) (none-nodes add_in c remaining (λ x. refl) (λ x. refl))
     ∙ adds-map c.blocks
 
 pub adds_first : (c : Cluster) (remaining : ℕ) → AddsFirst (calls_for c remaining)

@@ -1,5 +1,5 @@
 -- A replica that a cluster takes.
-use Rattle.std.proofs.Common.{◌≡◌, ℕ, ◌-◌, ◌<◌, Bool, true, false, cond, nat_eq, List, [], ◌∷◌, ◌++◌, Ok, map, filter, length, refl, sym, ap, subst, ◌∙◌, append_assoc, arith}
+use Rattle.std.proofs.Common.{◌≡◌, ℕ, ◌-◌, ◌<◌, ◌≤◌, Bool, true, false, cond, nat_eq, List, [], ◌∷◌, ◌++◌, Ok, map, filter, length, refl, sym, ap, subst, ◌∙◌, append_assoc, arith, if◌then◌else◌}
 use Rattle.std.specs.Prelude.{slice_get, slice_set, slice_index_or}
 use Rattle.std.specs.List.{list_any, position_or_len, AllByRecursion}
 use Rattle.std.specs.Option.{option_map_or}
@@ -7,18 +7,17 @@ use Rattle.std.specs.Str.{bytes_eq}
 use Rattle.std.proofs.lemmas.List.{append-nil}
 use Rattle.fsck_text.specs.Cuts.{Text}
 use Rattle.fsck_text.specs.declared.list.Listed.{Listed}
-use Rattle.fsck_files.specs.Replicas.{state_of}
 use Rattle.fsck_files.specs.declared.replicas.Block.{Block}
-use Rattle.fsck_files.specs.declared.replicas.State.{State}
-use Rattle.fsck_files.specs.declared.replicas.State.TheVariants as state
-use Rattle.fsck_cluster.specs.Clusters.{after_node, after_storage, with_replica, with_state, on_row, after_replica, after_place, after_places}
+use Rattle.fsck_files.specs.Numbers.{with_number}
+use Rattle.fsck_cluster.specs.Clusters.{after_node, after_storage, with_replica, with_bad, with_draining, with_listed, on_row, after_replica, after_place, after_places}
 use Rattle.fsck_cluster.specs.Names.{name_of}
 use Rattle.fsck_cluster.specs.Rows.{ends_with, with_held_at}
+use Rattle.fsck_cluster.specs.declared.cluster.Bad.{Bad}
 use Rattle.fsck_cluster.specs.declared.cluster.Cluster.{Cluster}
 use Rattle.fsck_cluster.specs.declared.cluster.Why.TheVariants as why
 use Rattle.fsck_cluster.specs.declared.rows.Held.{Held}
 use Rattle.fsck_cluster.specs.declared.rows.Row.{Row}
-use Rattle.fsck_import.specs.Laws.{replica_at, is_bad, is_corrupt, drains, is_drained}
+use Rattle.fsck_import.specs.Laws.{replica_at, is_corrupt, is_drained}
 use Rattle.fsck_import.proofs.NameLemmas.{same_ok, if_not, came_of, position-known, name-at, known_below}
 use Rattle.fsck_import.proofs.StorageLemmas.{Stored, held_at, holding, stored_replica, all-set, all-get}
 use Rattle.fsck_import.proofs.OnceLemmas.{Once, once_more}
@@ -34,27 +33,27 @@ abbrev pub address_of : Listed → Text
 address_of l = l.place.address
 
 -- with a replica
-abbrev pub with_listed : Taken → Block → Listed → Taken
-with_listed t b l = record t { replicas = t.replicas ++ replica_at b l ∷ [] }
+abbrev pub with_one : Taken → Block → Listed → Taken
+with_one t b l = record t { replicas = t.replicas ++ replica_at b l ∷ [] }
 
--- with a replica in this state
-abbrev pub with_listed_state : Taken → Block → Listed → State → Taken
-with_listed_state t b l s = record t {
-  replicas = t.replicas ++ replica_at b l ∷ [];
-  bad = t.bad ++ map (bad_name b) (cond (is_bad s) (l ∷ []) []);
-  addresses = t.addresses ++ map address_of (cond (drains s) (l ∷ []) []);
-}
+-- with a replica that is corrupt, if it is
+abbrev pub with_one_bad : Taken → Block → Listed → Bool → Taken
+with_one_bad t b l corrupt = record t { bad = t.bad ++ map (bad_name b) (cond corrupt (l ∷ []) []) }
+
+-- with the node of a replica, if it drains
+abbrev pub with_one_drained : Taken → Listed → Bool → Taken
+with_one_drained t l drains = record t { addresses = t.addresses ++ map address_of (cond drains (l ∷ []) []) }
 
 -- with these replicas of a block
 abbrev pub with_all : Taken → Block → List Listed → Taken
 with_all t b ls = record t {
   replicas = t.replicas ++ map (replica_at b) ls;
   bad = t.bad ++ map (bad_name b) (filter (is_corrupt b) ls);
-  addresses = t.addresses ++ map address_of (filter (is_drained b) ls);
+  addresses = t.addresses ++ map address_of (filter is_drained ls);
 }
 
 held_sound : (c : Cluster) (t : Taken) (b : Block) (l : Listed) (ready : Ready c l.place) → list_any (nat_eq b.id) t.numbers ≡ true → t.last ≡ b.id → ends_with ready.row b.id ≡ false → Sound c t
-    → Sound (with_replica c (position_or_len (bytes_eq l.place.storage) c.storages) b.id b.stamp) (with_listed t b l)
+    → Sound (with_replica c (position_or_len (bytes_eq l.place.storage) c.storages) b.id b.stamp) (with_one t b l)
 held_sound c t b l ready known last new before =
     let at = position_or_len (bytes_eq l.place.storage) c.storages in
     let h : Held = record { id = b.id; stamp = b.stamp } in
@@ -63,6 +62,7 @@ held_sound c t b l ready known last new before =
     let once : AllByRecursion (Once t.numbers b.id) c.rows = subst (λ n. AllByRecursion (Once t.numbers n) c.rows) last before.once in
     let more : Once t.numbers b.id (holding ready.row h) = once_more t.numbers ready.row h known new (all-get (Once t.numbers b.id) c.rows at ready.row once ready.here) in
     record {
+      blocks = before.blocks;
       numbers = before.numbers;
       apart = before.apart;
       stored = subst (λ rs. Stored rs c.storages (t.replicas ++ replica_at b l ∷ [])) same (stored_replica c.rows c.storages t.replicas l.place.storage ready.row h ready.known ready.here before.stored);
@@ -74,47 +74,55 @@ held_sound c t b l ready known last new before =
       drained = before.drained;
     }
 
--- with one more replica in its rows, and then with what the state of the replica says
-state_sound : (c : Cluster) (rows : List Row) (t : Taken) (b : Block) (l : Listed) (ready : Ready c l.place) → OnNode (length c.nodes) ready.row → Sound (record c { rows = rows }) (with_listed t b l)
-    → (s : State) → Sound (with_state (record c { rows = rows }) ready.row b.id s) (with_listed_state t b l s)
-state_sound c rows t b l ready node before state.Good = record {
+-- the storage of a row has this name
+abbrev pub IsNamed : Cluster → Row → Text → Type 0
+IsNamed c row name = (row.number - 1 < length c.storages) × (name_of c.storages row.number ≡ name)
+
+named : (c : Cluster) (l : Listed) (ready : Ready c l.place) → IsNamed c ready.row l.place.storage
+named c l ready =
+    let at : ready.row.number - 1 ≡ position_or_len (bytes_eq l.place.storage) c.storages = omega (arith, ready.number) in
+    let name : name_of c.storages ready.row.number ≡ l.place.storage = ap (λ n. slice_index_or c.storages n []) at ∙ name-at c.storages l.place.storage ready.known in
+    (omega (arith, ready.number, known_below (bytes_eq l.place.storage) c.storages ready.known), name)
+
+-- with a replica that is corrupt, if it is
+bad_sound : (c : Cluster) (t : Taken) (b : Block) (l : Listed) (row : Row) → IsNamed c row l.place.storage → Sound c t → (corrupt : Bool)
+    → Sound (with_bad c (record { storage = row.number; id = b.id }) corrupt) (with_one_bad t b l corrupt)
+bad_sound c t b l row is_named before corrupt = record {
+  blocks = before.blocks;
   numbers = before.numbers;
   apart = before.apart;
   stored = before.stored;
   names = before.names;
   once = before.once;
-  corrupted = subst (Corrupted c.storages c.bad) (sym (append-nil t.bad)) before.corrupted;
+  corrupted = by corrupt;
   nodes = before.nodes;
   on_nodes = before.on_nodes;
-  drained = subst (Drains c.nodes c.draining) (sym (append-nil t.addresses)) before.drained;
+  drained = before.drained;
 }
-state_sound c rows t b l ready node before state.Corrupt =
-    let name : name_of c.storages ready.row.number ≡ l.place.storage =
-    (let at : ready.row.number - 1 ≡ position_or_len (bytes_eq l.place.storage) c.storages = omega (arith, ready.number) in
-    ap (λ n. slice_index_or c.storages n []) at ∙ name-at c.storages l.place.storage ready.known) in
-    let within : ready.row.number - 1 < length c.storages = omega (arith, ready.number, known_below (bytes_eq l.place.storage) c.storages ready.known) in
-    record {
-      numbers = before.numbers;
-      apart = before.apart;
-      stored = before.stored;
-      names = before.names;
-      once = before.once;
-      corrupted = corrupted_more c.storages c.bad t.bad ready.row.number b.id l.place.storage within name before.corrupted;
-      nodes = before.nodes;
-      on_nodes = before.on_nodes;
-      drained = subst (Drains c.nodes c.draining) (sym (append-nil t.addresses)) before.drained;
-    }
-state_sound c rows t b l ready node before state.Drained = record {
+  where
+    by : (b' : Bool) → Corrupted c.storages (if b' then c.bad ++ record { storage = row.number; id = b.id } ∷ [] else c.bad) (t.bad ++ map (bad_name b) (cond b' (l ∷ []) []))
+    by true = corrupted_more c.storages c.bad t.bad row.number b.id l.place.storage is_named.0 is_named.1 before.corrupted
+    by false = subst (Corrupted c.storages c.bad) (sym (append-nil t.bad)) before.corrupted
+
+-- with the node of a replica, if it drains
+drained_sound : (c : Cluster) (t : Taken) (l : Listed) (node : ℕ) → (1 ≤ node) × (node ≤ length c.nodes) → name_of c.nodes node ≡ l.place.address → Sound c t → (drains : Bool)
+    → Sound (with_draining c node drains) (with_one_drained t l drains)
+drained_sound c t l node within name before drains = record {
+  blocks = before.blocks;
   numbers = before.numbers;
   apart = before.apart;
   stored = before.stored;
   names = before.names;
   once = before.once;
-  corrupted = subst (Corrupted c.storages c.bad) (sym (append-nil t.bad)) before.corrupted;
+  corrupted = before.corrupted;
   nodes = before.nodes;
   on_nodes = before.on_nodes;
-  drained = drains_more c.nodes c.draining t.addresses ready.row.node l.place.address node.0 node.1 ready.on before.drained;
+  drained = by drains;
 }
+  where
+    by : (b : Bool) → Drains c.nodes (if b then with_number c.draining node else c.draining) (t.addresses ++ map address_of (cond b (l ∷ []) []))
+    by true = drains_more c.nodes c.draining t.addresses node l.place.address within.0 within.1 name before.drained
+    by false = subst (Drains c.nodes c.draining) (sym (append-nil t.addresses)) before.drained
 
 -- a replica whose storage is known
 replica_sound : (c d : Cluster) (t : Taken) (b : Block) (l : Listed) → Ready c l.place → list_any (nat_eq b.id) t.numbers ≡ true → t.last ≡ b.id → after_replica c b l ≡ Ok d → Sound c t
@@ -124,12 +132,16 @@ replica_sound c d t b l ready known last e before =
     let e_at : option_map_or (on_row c b l at) (slice_get c.rows at) (Ok c) ≡ Ok d =
     ap (λ o. option_map_or (λ k. option_map_or (on_row c b l k) (slice_get c.rows k) (Ok c)) o (Ok c)) (sym (position-known (bytes_eq l.place.storage) c.storages ready.known)) ∙ e in
     let e_row : on_row c b l at ready.row ≡ Ok d = ap (λ o. option_map_or (on_row c b l at) o (Ok c)) (sym ready.here) ∙ e_at in
-    let after = with_state (with_replica c at b.id b.stamp) ready.row b.id (state_of l.mark b.is_corrupt) in
+    let after = with_listed c b l at ready.row in
     let parts = if_not (ends_with ready.row b.id) (Ok after) why.StorageTwice d e_row in
+    let held = with_replica c at b.id b.stamp in
     let more = held_sound c t b l ready known last parts.0 before in
     let node : OnNode (length c.nodes) ready.row = all-get (OnNode (length c.nodes)) c.rows at ready.row before.on_nodes ready.here in
+    let bad : Bad = record { storage = ready.row.number; id = b.id } in
+    let corrupt = is_corrupt b l in
+    let with_corrupt = bad_sound held (with_one t b l) b l ready.row (named c l ready) more corrupt in
     subst (λ x. Sound x (with_all t b (l ∷ []))) (same_ok after d parts.1)
-    (state_sound c (with_replica c at b.id b.stamp).rows t b l ready node more (state_of l.mark b.is_corrupt))
+    (drained_sound (with_bad held bad corrupt) (with_one_bad (with_one t b l) b l corrupt) l ready.row.node node ready.on with_corrupt (is_drained l))
 
 place_sound : (c d : Cluster) (t : Taken) (b : Block) (l : Listed) → list_any (nat_eq b.id) t.numbers ≡ true → t.last ≡ b.id → after_place c b l ≡ Ok d → Sound c t → Sound d (with_all t b (l ∷ []))
 place_sound c d t b l known last e before =
@@ -150,12 +162,12 @@ filter-head f p x xs = by (p x)
 
 with_all-cons : (t : Taken) (b : Block) (l : Listed) (ls : List Listed) → with_all (with_all t b (l ∷ [])) b ls ≡ with_all t b (l ∷ ls)
 with_all-cons t b l ls =
-    ap (λ x. record t { replicas = x; bad = (t.bad ++ map (bad_name b) (filter (is_corrupt b) (l ∷ []))) ++ map (bad_name b) (filter (is_corrupt b) ls); addresses = (t.addresses ++ map address_of (filter (is_drained b) (l ∷ []))) ++ map address_of (filter (is_drained b) ls) })
+    ap (λ x. record t { replicas = x; bad = (t.bad ++ map (bad_name b) (filter (is_corrupt b) (l ∷ []))) ++ map (bad_name b) (filter (is_corrupt b) ls); addresses = (t.addresses ++ map address_of (filter is_drained (l ∷ []))) ++ map address_of (filter is_drained ls) })
     (append_assoc t.replicas (replica_at b l ∷ []) (map (replica_at b) ls))
-    ∙ ap (λ x. record t { replicas = t.replicas ++ map (replica_at b) (l ∷ ls); bad = x; addresses = (t.addresses ++ map address_of (filter (is_drained b) (l ∷ []))) ++ map address_of (filter (is_drained b) ls) })
+    ∙ ap (λ x. record t { replicas = t.replicas ++ map (replica_at b) (l ∷ ls); bad = x; addresses = (t.addresses ++ map address_of (filter is_drained (l ∷ []))) ++ map address_of (filter is_drained ls) })
     (append_assoc t.bad (map (bad_name b) (filter (is_corrupt b) (l ∷ []))) (map (bad_name b) (filter (is_corrupt b) ls)) ∙ ap (λ x. t.bad ++ x) (filter-head (bad_name b) (is_corrupt b) l ls))
     ∙ ap (λ x. record t { replicas = t.replicas ++ map (replica_at b) (l ∷ ls); bad = t.bad ++ map (bad_name b) (filter (is_corrupt b) (l ∷ ls)); addresses = x })
-    (append_assoc t.addresses (map address_of (filter (is_drained b) (l ∷ []))) (map address_of (filter (is_drained b) ls)) ∙ ap (λ x. t.addresses ++ x) (filter-head address_of (is_drained b) l ls))
+    (append_assoc t.addresses (map address_of (filter is_drained (l ∷ []))) (map address_of (filter is_drained ls)) ∙ ap (λ x. t.addresses ++ x) (filter-head address_of is_drained l ls))
 
 with_all-nil : (t : Taken) (b : Block) → with_all t b [] ≡ t
 with_all-nil t b =

@@ -21,10 +21,10 @@ use Rattle.fsck_cluster.specs.declared.rows.Held.{Held}
 use Rattle.fsck_cluster.specs.declared.rows.Row.{Row}
 use Rattle.fsck_import.specs.CallsFor.{register, heartbeat, add, entry, received, reports, corrupt, drain, draining, calls_before, calls_after, calls_for}
 use Rattle.fsck_import.specs.Laws.{replica, replicas_by, replicas_reported, corrupt_by, called_corrupt, drained_by, drained}
-use Rattle.fsck_import.proofs.NameLemmas.{same_number, name_is_itself}
+use Rattle.fsck_import.proofs.NameLemmas.{same_number, same_name, name_is_itself}
 use Rattle.fsck_import.proofs.CallLemmas.{none-append, none-map, none-flat, none-nodes}
 use Rattle.fsck_import.proofs.StorageLemmas.{told_of, on_storage, on_row, on_rows, Fit}
-use Rattle.fsck_import.proofs.BadLemmas.{by_name, node_number}
+use Rattle.fsck_import.proofs.BadLemmas.{by_name, node_number, DrainsAs}
 
 -- what the calls after the adds say of a kind, if those before say nothing
 module _ {X : Type 0} (g : Call → List X) (c : Cluster) (remaining : ℕ) where
@@ -132,6 +132,27 @@ calls_drain c remaining names =
     after_parts (drained_by names) c remaining (λ x. refl) (λ x. refl) (λ x. refl)
     ∙ ap (λ t. (t ++ drained names (map corrupt c.bad)) ++ drained names (map drain (draining c))) (none-flat (drained_by names) reports (no_drain-reports names) c.rows)
     ∙ ap (λ t. t ++ drained names (map drain (draining c))) (none-map (drained_by names) corrupt (λ x. refl) c.bad)
+
+-- a node that the calls decommission drains
+pub drained_from : (names : List Text) (numbers : List ℕ) (rows : List NodeRow) (address : Text)
+    → list_any (bytes_eq address) (drained names (map drain (filter (λ node. has_number numbers node.number) rows))) ≡ true → DrainsAs names numbers address
+drained_from names numbers [] address h = absurd (true≢false (sym h))
+drained_from names numbers (row ∷ rows) address h = by (has_number numbers row.number) refl h (drained_from names numbers rows address)
+  where
+    rest : List NodeRow
+    rest = filter (λ node. has_number numbers node.number) rows
+
+    Others : Type 0
+    Others = list_any (bytes_eq address) (drained names (map drain rest)) ≡ true → DrainsAs names numbers address
+
+    here : (b : Bool) → bytes_eq address (name_of names row.number) ≡ b → has_number numbers row.number ≡ true
+        → (b || list_any (bytes_eq address) (drained names (map drain rest))) ≡ true → Others → DrainsAs names numbers address
+    here true same drains k others = record { number = row.number; drains = drains; name = same_name address (name_of names row.number) same }
+    here false same drains k others = others k
+
+    by : (b : Bool) → has_number numbers row.number ≡ b → list_any (bytes_eq address) (drained names (map drain (cond b (row ∷ rest) rest))) ≡ true → Others → DrainsAs names numbers address
+    by true drains k others = here (bytes_eq address (name_of names row.number)) refl drains k others
+    by false drains k others = others k
 
 or_known : (a b : Bool) → b ≡ true → (a || b) ≡ true
 or_known true b h = refl

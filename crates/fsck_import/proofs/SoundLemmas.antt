@@ -8,6 +8,7 @@ use Rattle.bm_base.specs.Entries.{count_up}
 use Rattle.bm_base.specs.Lists.{has_repeats}
 use Rattle.fsck_text.specs.Cuts.{Text}
 use Rattle.fsck_text.specs.declared.place.Place.{Place}
+use Rattle.fsck_cluster.specs.Blocks.{Named}
 use Rattle.fsck_cluster.specs.Clusters.{rack_name, is_on_rack, after_new_node, with_new_node, at_node, after_node, is_on_node, after_new_storage, at_storage, after_storage}
 use Rattle.fsck_cluster.specs.Names.{name_number, name_of, with_name}
 use Rattle.fsck_cluster.specs.Rows.{new_row}
@@ -28,9 +29,10 @@ numbers_of c = map (λ b. b.0) c.blocks
 abbrev pub OnNode : ℕ → Row → Type 0
 OnNode n row = (1 ≤ row.node) × (row.node ≤ n)
 
--- What a cluster took so far: the numbers of the blocks, of which the last is being taken; the
--- replicas; the corrupt ones; the nodes of the drained ones.
+-- What a cluster took so far: the blocks and their numbers, of which the last is being taken; the
+-- replicas; the corrupt ones; the nodes that drain.
 pub record Taken : Type 0 where
+  pub blocks : Named
   pub numbers : List ℕ
   pub last : ℕ
   pub replicas : List Replica
@@ -39,6 +41,7 @@ pub record Taken : Type 0 where
 
 -- the cluster holds what it took, and nothing else
 pub record Sound (c : Cluster) (t : Taken) : Type 0 where
+  pub blocks : c.blocks ≡ t.blocks
   pub numbers : numbers_of c ≡ t.numbers
   pub apart : has_repeats t.numbers ≡ false
   pub stored : Stored c.rows c.storages t.replicas
@@ -58,6 +61,7 @@ new_node c t p new before =
     let row : NodeRow = record { number = name_number c.nodes p.address; rack = name_number c.racks (rack_name p.rack); remaining = None } in
     let wider : (x : Row) → OnNode (length c.nodes) x → OnNode (length (c.nodes ++ p.address ∷ [])) x = λ x h. (h.0, omega (arith, h.1, length-append c.nodes (p.address ∷ []))) in
     record {
+      blocks = before.blocks;
       numbers = before.numbers;
       apart = before.apart;
       stored = before.stored;
@@ -121,6 +125,7 @@ new_storage c t p known new before =
     last_position p.storage c.storages new ∙ new_position (bytes_eq p.storage) c.storages new ∙ sym (fit_length 1 c.rows c.storages before.stored.fits) in
     let within : name_number c.nodes p.address ≤ length c.nodes = omega (arith, known_below (bytes_eq p.address) c.nodes known) in (
       record {
+        blocks = before.blocks;
         numbers = before.numbers;
         apart = before.apart;
         stored = stored_push c.rows c.storages t.replicas (name_number c.nodes p.address) p.storage new before.stored;

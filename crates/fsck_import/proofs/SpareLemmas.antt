@@ -1,17 +1,18 @@
 -- Storages for nodes that hold nothing.
-use Rattle.std.proofs.Common.{◌≡◌, ℕ, Bool, true, false, nat_lt, List, [], ◌∷◌, ◌++◌, Ok, Err, length, refl, sym, ap, subst, ◌∙◌, append_assoc, if◌then◌else◌}
+use Rattle.std.proofs.Common.{◌≡◌, ℕ, Bool, true, false, not, nat_lt, List, [], ◌∷◌, ◌++◌, Result, Ok, Err, length, refl, sym, ap, subst, ◌∙◌, append_assoc, if◌then◌else◌}
 use Rattle.std.specs.List.{list_any, AllByRecursion}
 use Rattle.std.specs.Str.{bytes_eq}
 use Rattle.std.proofs.lemmas.List.{append-nil}
 use Rattle.fsck_text.specs.Cuts.{Text}
 use Rattle.fsck_cluster.specs.Clusters.{with_spare, after_spare, after_spares, with_spares}
-use Rattle.fsck_cluster.specs.Names.{name_number, name_of}
+use Rattle.fsck_cluster.specs.Names.{is_new, name_number, name_of}
 use Rattle.fsck_cluster.specs.Rows.{new_row, has_storage}
 use Rattle.fsck_cluster.specs.declared.cluster.Cluster.{Cluster}
 use Rattle.fsck_cluster.specs.declared.cluster.NodeRow.{NodeRow}
+use Rattle.fsck_cluster.specs.declared.cluster.Why.{Why}
 use Rattle.fsck_cluster.specs.declared.cluster.Why.TheVariants as why
 use Rattle.fsck_cluster.specs.declared.rows.Row.{Row}
-use Rattle.fsck_import.proofs.NameLemmas.{same_ok, if_ok, came_of, with_known, with_new}
+use Rattle.fsck_import.proofs.NameLemmas.{same_ok, if_ok, if_not, came_of, with_new}
 
 -- the same cluster with more storages, which have no replicas
 pub record Spared (c d : Cluster) : Type 0 where
@@ -58,41 +59,36 @@ both_spared c d e first next = record {
   draining = next.draining ∙ first.draining;
 }
 
-one_spared : (c : Cluster) (node : ℕ) → Spared c (with_spare c node)
-one_spared c node = by (list_any (bytes_eq (name_of c.nodes node)) c.storages) refl
-  where
-    by : (b : Bool) → list_any (bytes_eq (name_of c.nodes node)) c.storages ≡ b → Spared c (with_spare c node)
-    by true known = record {
-      more_rows = new_row (name_number c.storages (name_of c.nodes node)) node ∷ [];
-      more_names = [];
-      rows = refl;
-      empty = (refl, tt);
-      storages = with_known c.storages (name_of c.nodes node) known ∙ sym (append-nil c.storages);
-      blocks = refl;
-      bad = refl;
-      nodes = refl;
-      node_rows = refl;
-      draining = refl;
-    }
-    by false new = record {
-      more_rows = new_row (name_number c.storages (name_of c.nodes node)) node ∷ [];
-      more_names = name_of c.nodes node ∷ [];
-      rows = refl;
-      empty = (refl, tt);
-      storages = with_new c.storages (name_of c.nodes node) new;
-      blocks = refl;
-      bad = refl;
-      nodes = refl;
-      node_rows = refl;
-      draining = refl;
-    }
+one_spared : (c : Cluster) (node : ℕ) → list_any (bytes_eq (name_of c.nodes node)) c.storages ≡ false → Spared c (with_spare c node)
+one_spared c node new = record {
+  more_rows = new_row (name_number c.storages (name_of c.nodes node)) node ∷ [];
+  more_names = name_of c.nodes node ∷ [];
+  rows = refl;
+  empty = (refl, tt);
+  storages = with_new c.storages (name_of c.nodes node) new;
+  blocks = refl;
+  bad = refl;
+  nodes = refl;
+  node_rows = refl;
+  draining = refl;
+}
+
+known_not : (b : Bool) → not (not b) ≡ false → b ≡ false
+known_not true e = e
+known_not false e = refl
 
 spare_spared : (c d : Cluster) (node : ℕ) → after_spare c node ≡ Ok d → Spared c d
 spare_spared c d node = by (has_storage c.rows node)
   where
-    by : (b : Bool) → (if b then Ok c else (if nat_lt (length c.storages) 4096 then Ok (with_spare c node) else Err why.TooManyStorages)) ≡ Ok d → Spared c d
+    room : Result Cluster Why
+    room = if nat_lt (length c.storages) 4096 then Ok (with_spare c node) else Err why.TooManyStorages
+
+    by : (b : Bool) → (if b then Ok c else (if not (is_new c.storages (name_of c.nodes node)) then Err why.Elsewhere else room)) ≡ Ok d → Spared c d
     by true e = subst (Spared c) (same_ok c d e) (none_spared c)
-    by false e = subst (Spared c) (same_ok (with_spare c node) d (if_ok (nat_lt (length c.storages) 4096) (Ok (with_spare c node)) why.TooManyStorages d e).1) (one_spared c node)
+    by false e =
+        let apart = if_not (not (is_new c.storages (name_of c.nodes node))) room why.Elsewhere d e in
+        let new = known_not (list_any (bytes_eq (name_of c.nodes node)) c.storages) apart.0 in
+        subst (Spared c) (same_ok (with_spare c node) d (if_ok (nat_lt (length c.storages) 4096) (Ok (with_spare c node)) why.TooManyStorages d apart.1).1) (one_spared c node new)
 
 spares_spared : (c d : Cluster) (rows : List NodeRow) → after_spares c rows ≡ Ok d → Spared c d
 spares_spared c d [] e = subst (Spared c) (same_ok c d e) (none_spared c)

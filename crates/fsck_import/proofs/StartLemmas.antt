@@ -1,5 +1,5 @@
 -- The clusters with which an import begins have no block and no storage, and number their nodes.
-use Rattle.std.proofs.Common.{◌≡◌, ℕ, ◌+◌, ◌==◌, Bool, true, false, not, nat_lt, List, [], ◌∷◌, ◌++◌, Option, Some, None, Result, Ok, Err, map, length, refl, sym, ap, subst, ◌∙◌, ◌||◌, true≢false, if◌then◌else◌}
+use Rattle.std.proofs.Common.{◌≡◌, ℕ, ◌+◌, ◌<◌, ◌≤◌, ◌==◌, Bool, true, false, not, nat_lt, List, [], ◌∷◌, ◌++◌, Option, Some, None, Result, Ok, Err, map, length, length-append, refl, sym, ap, subst, ◌∙◌, ◌||◌, arith, true≢false, if◌then◌else◌}
 use Rattle.std.specs.Prelude.{is_none, codes}
 use Rattle.std.specs.List.{list_any}
 use Rattle.std.specs.Option.{option_map_or}
@@ -11,7 +11,7 @@ use Rattle.fsck_text.specs.Nodes.{node_line_of}
 use Rattle.fsck_text.specs.declared.node.NodeLine.{NodeLine}
 use Rattle.fsck_text.specs.declared.node.NodeLine.TheVariants as node
 use Rattle.fsck_text.specs.declared.wrong.Wrong.{Wrong}
-use Rattle.fsck_files.specs.Numbers.{with_number}
+use Rattle.fsck_files.specs.Numbers.{has_number, with_number}
 use Rattle.fsck_cluster.specs.Clusters.{no_cluster}
 use Rattle.fsck_cluster.specs.Names.{is_new, name_number}
 use Rattle.fsck_cluster.specs.NodeLists.{no_list, with_row_on, with_row, after_row, ended_row, sectioned, named, with_node, on_rack, after_rack, after_drains, after_remaining, after_section, after_name, after_kind, read_as, after_line, at_end}
@@ -24,10 +24,19 @@ use Rattle.fsck_cluster.specs.declared.node_list.NodeWhy.TheVariants as why
 use Rattle.fsck_import.specs.Laws.{IsFresh}
 use Rattle.fsck_import.specs.Starts.{after_node_lines}
 use Rattle.fsck_import.proofs.NameLemmas.{same_ok, err_is_not_ok, if_ok, if_not, came_of, map-push, new_position, with_new}
-use Rattle.fsck_import.proofs.BadLemmas.{node_number, count_push-names}
+use Rattle.fsck_import.proofs.BadLemmas.{node_number, count_push-names, has-last, has-with_either, in-count_up}
 
 pub no_cluster_fresh : IsFresh no_cluster
-no_cluster_fresh = record { nodes = refl; storages = refl; rows = refl; blocks = refl; bad = refl }
+no_cluster_fresh = record { nodes = refl; storages = refl; rows = refl; blocks = refl; bad = refl; draining = λ n h. absurd (true≢false (sym h)) }
+
+-- each node that drains is one of the nodes
+abbrev pub DrainsWithin : Cluster → Type 0
+DrainsWithin c = (n : ℕ) → has_number c.draining n ≡ true → (1 ≤ n) × (n ≤ length c.nodes)
+
+drains_same : (c d : Cluster) → d.draining ≡ c.draining → d.nodes ≡ c.nodes → DrainsWithin c → DrainsWithin d
+drains_same c d draining nodes before n h =
+    let p = before n (ap (λ ns. has_number ns n) (sym draining) ∙ h) in
+    (p.0, subst (λ ns. n ≤ length ns) (sym nodes) p.1)
 
 -- the number of the node that is being read
 abbrev pub number_read : Option NodeRow → List ℕ
@@ -41,17 +50,19 @@ pub record Nodes (c : Cluster) (row : Option NodeRow) : Type 0 where
   pub rows : c.rows ≡ []
   pub blocks : c.blocks ≡ []
   pub bad : c.bad ≡ []
+  pub draining : DrainsWithin c
 
 -- the node that was being read ends
 row_ended : (s : NodeList) (row : NodeRow) → Nodes s.cluster (Some row) → (t : NodeList) → (row' : NodeRow) → row'.number ≡ row.number → t.cluster.node_rows ≡ s.cluster.node_rows ++ row' ∷ []
-    → t.cluster.nodes ≡ s.cluster.nodes → t.cluster.storages ≡ s.cluster.storages → t.cluster.rows ≡ s.cluster.rows → t.cluster.blocks ≡ s.cluster.blocks → t.cluster.bad ≡ s.cluster.bad → Nodes t.cluster None
-row_ended s row before t row' number rows nodes storages held blocks bad = record {
+    → t.cluster.nodes ≡ s.cluster.nodes → t.cluster.storages ≡ s.cluster.storages → t.cluster.rows ≡ s.cluster.rows → t.cluster.blocks ≡ s.cluster.blocks → t.cluster.bad ≡ s.cluster.bad → t.cluster.draining ≡ s.cluster.draining → Nodes t.cluster None
+row_ended s row before t row' number rows nodes storages held blocks bad draining = record {
   nodes = append-nil (map node_number t.cluster.node_rows) ∙ ap (map node_number) rows ∙ map-push node_number s.cluster.node_rows row' ∙ ap (λ n. map node_number s.cluster.node_rows ++ n ∷ []) number ∙ before.nodes
       ∙ ap (λ ns. count_up 1 (length ns)) (sym nodes);
   storages = storages ∙ before.storages;
   rows = held ∙ before.rows;
   blocks = blocks ∙ before.blocks;
   bad = bad ∙ before.bad;
+  draining = drains_same s.cluster t.cluster draining nodes before.draining;
 }
 
 row_done : (s t : NodeList) (row : NodeRow) (b : Bool) → ◌≡◌ {A = Result NodeList NodeRefusal} (Ok (if b then with_row_on s row (codes "/default-rack") else with_row s row)) (Ok t) → Nodes s.cluster (Some row)
@@ -59,13 +70,13 @@ row_done : (s t : NodeList) (row : NodeRow) (b : Bool) → ◌≡◌ {A = Result
 row_done s t row true e before =
     let after = with_row_on s row (codes "/default-rack") in
     let same : after ≡ t = same_ok after t e in (
-      subst (λ x. Nodes x.cluster None) same (row_ended s row before after (record row { rack = name_number s.cluster.racks (codes "/default-rack") }) refl refl refl refl refl refl refl),
+      subst (λ x. Nodes x.cluster None) same (row_ended s row before after (record row { rack = name_number s.cluster.racks (codes "/default-rack") }) refl refl refl refl refl refl refl refl),
       subst (λ x. x.row ≡ None) same refl,
     )
 row_done s t row false e before =
     let after = with_row s row in
     let same : after ≡ t = same_ok after t e in
-    (subst (λ x. Nodes x.cluster None) same (row_ended s row before after row refl refl refl refl refl refl refl), subst (λ x. x.row ≡ None) same refl)
+    (subst (λ x. Nodes x.cluster None) same (row_ended s row before after row refl refl refl refl refl refl refl refl), subst (λ x. x.row ≡ None) same refl)
 
 -- and none is being read then
 ended : (s t : NodeList) → ended_row s ≡ Ok t → Nodes s.cluster s.row → Nodes t.cluster None × (t.row ≡ None)
@@ -92,8 +103,12 @@ named_nodes s address new before =
       rows = before.rows;
       blocks = before.blocks;
       bad = before.bad;
+      draining = λ n h. ((before.draining n h).0, subst (λ ns. n ≤ length ns) (sym (with_new s.cluster.nodes address none)) (further n (before.draining n h).1));
     }
   where
+    further : (n : ℕ) → n ≤ length s.cluster.nodes → n ≤ length (s.cluster.nodes ++ address ∷ [])
+    further n h = omega (arith, h, length-append s.cluster.nodes (address ∷ []))
+
     is_false : (b : Bool) → not b ≡ true → b ≡ false
     is_false false e = refl
     is_false true e = absurd (true≢false (sym e))
@@ -119,13 +134,14 @@ section_nodes s t live e before =
     subst (λ x. Nodes x.cluster x.row) (same_ok (record first.0 { is_live = live; was_live = first.0.was_live || live }) t first.2) now
 
 -- the lines about a node
-with_same : (c d : Cluster) (o p : Option NodeRow) → Nodes c o → d.node_rows ≡ c.node_rows → d.nodes ≡ c.nodes → number_read p ≡ number_read o → d.storages ≡ c.storages → d.rows ≡ c.rows → d.blocks ≡ c.blocks → d.bad ≡ c.bad → Nodes d p
-with_same c d o p before rows nodes number storages held blocks bad = record {
+with_same : (c d : Cluster) (o p : Option NodeRow) → Nodes c o → d.node_rows ≡ c.node_rows → d.nodes ≡ c.nodes → number_read p ≡ number_read o → d.storages ≡ c.storages → d.rows ≡ c.rows → d.blocks ≡ c.blocks → d.bad ≡ c.bad → d.draining ≡ c.draining → Nodes d p
+with_same c d o p before rows nodes number storages held blocks bad draining = record {
   nodes = ap (λ r. map node_number r ++ number_read p) rows ∙ ap (λ n. map node_number c.node_rows ++ n) number ∙ before.nodes ∙ ap (λ ns. count_up 1 (length ns)) (sym nodes);
   storages = storages ∙ before.storages;
   rows = held ∙ before.rows;
   blocks = blocks ∙ before.blocks;
   bad = bad ∙ before.bad;
+  draining = drains_same c d draining nodes before.draining;
 }
 
 rack_nodes : (s : NodeList) (rack : Text) → Nodes s.cluster s.row → Nodes (after_rack s rack).cluster (after_rack s rack).row
@@ -133,16 +149,39 @@ rack_nodes s rack before = by s.row refl
   where
     by : (o : Option NodeRow) → s.row ≡ o → Nodes (option_map_or (on_rack s rack) o s).cluster (option_map_or (on_rack s rack) o s).row
     by None e = before
-    by (Some row) e = with_same s.cluster _ s.row _ before refl refl (ap number_read (sym e)) refl refl refl refl
+    by (Some row) e = with_same s.cluster _ s.row _ before refl refl (ap number_read (sym e)) refl refl refl refl refl
+
+-- the node that is being read is the last one
+one_drains : (c : Cluster) (row : NodeRow) → Nodes c (Some row) → (n : ℕ) → has_number (with_number c.draining row.number) n ≡ true → (1 ≤ n) × (n ≤ length c.nodes)
+one_drains c row before n h = by (has_number c.draining n) refl
+  where
+    known : has_number (map node_number c.node_rows ++ row.number ∷ []) row.number ≡ true
+    known = has-last (map node_number c.node_rows) row.number
+
+    counted : (1 ≤ row.number) × (row.number < 1 + length c.nodes)
+    counted = in-count_up 1 (length c.nodes) row.number (ap (λ ns. has_number ns row.number) (sym before.nodes) ∙ known)
+
+    by : (b : Bool) → has_number c.draining n ≡ b → (1 ≤ n) × (n ≤ length c.nodes)
+    by true k = before.draining n k
+    by false k =
+        let same : n ≡ row.number = has-with_either c.draining row.number n h k in
+        (omega (arith, same, counted.0), omega (arith, same, counted.1))
 
 drains_nodes : (s : NodeList) (drains : Bool) → Nodes s.cluster s.row → Nodes (after_drains s drains).cluster (after_drains s drains).row
-drains_nodes s drains before = by s.row drains
+drains_nodes s drains before = by s.row refl drains
   where
-    by : (o : Option NodeRow) (b : Bool) → Nodes (option_map_or (λ row. if b then record s { cluster = record s.cluster { draining = with_number s.cluster.draining row.number } } else s) o s).cluster
+    by : (o : Option NodeRow) → s.row ≡ o → (b : Bool) → Nodes (option_map_or (λ row. if b then record s { cluster = record s.cluster { draining = with_number s.cluster.draining row.number } } else s) o s).cluster
         (option_map_or (λ row. if b then record s { cluster = record s.cluster { draining = with_number s.cluster.draining row.number } } else s) o s).row
-    by None b = before
-    by (Some row) true = record { nodes = before.nodes; storages = before.storages; rows = before.rows; blocks = before.blocks; bad = before.bad }
-    by (Some row) false = before
+    by None e b = before
+    by (Some row) e true = record {
+      nodes = before.nodes;
+      storages = before.storages;
+      rows = before.rows;
+      blocks = before.blocks;
+      bad = before.bad;
+      draining = one_drains s.cluster row (subst (Nodes s.cluster) e before);
+    }
+    by (Some row) e false = before
 
 remaining_nodes : (s : NodeList) (bytes : ℕ) → Nodes s.cluster s.row → Nodes (after_remaining s bytes).cluster (after_remaining s bytes).row
 remaining_nodes s bytes before = by s.row refl
@@ -150,7 +189,7 @@ remaining_nodes s bytes before = by s.row refl
     by : (o : Option NodeRow) → s.row ≡ o → Nodes (option_map_or (λ row. record s { row = Some (record row { remaining = Some bytes }) }) o s).cluster
         (option_map_or (λ row. record s { row = Some (record row { remaining = Some bytes }) }) o s).row
     by None e = before
-    by (Some row) e = with_same s.cluster s.cluster s.row (Some (record row { remaining = Some bytes })) before refl refl (ap number_read (sym e)) refl refl refl refl
+    by (Some row) e = with_same s.cluster s.cluster s.row (Some (record row { remaining = Some bytes })) before refl refl (ap number_read (sym e)) refl refl refl refl refl
 
 at_ok : (s t : NodeList) → ◌≡◌ {A = Result NodeList NodeRefusal} (Ok s) (Ok t) → Nodes s.cluster s.row → Nodes t.cluster t.row
 at_ok s t e before = subst (λ x. Nodes x.cluster x.row) (same_ok s t e) before
@@ -186,7 +225,7 @@ lines_nodes s t (line ∷ lines) e before =
 
 pub nodes_fresh : (lines : List Text) (s : NodeList) (c : Cluster) → after_node_lines no_list lines ≡ Ok s → at_end s ≡ Ok c → IsFresh c
 nodes_fresh lines s c taken e =
-    let read = lines_nodes no_list s lines taken (record { nodes = refl; storages = refl; rows = refl; blocks = refl; bad = refl }) in
+    let read = lines_nodes no_list s lines taken (record { nodes = refl; storages = refl; rows = refl; blocks = refl; bad = refl; draining = λ n h. absurd (true≢false (sym h)) }) in
     let last = came_of (λ t. if t.was_live then Ok t.cluster else Err (refusal.Why why.NoLiveNodes)) (ended_row s) c e in
     let m = last.0 in
     let done = (ended s m last.1 read).0 in
@@ -197,4 +236,5 @@ nodes_fresh lines s c taken e =
       rows = done.rows;
       blocks = done.blocks;
       bad = done.bad;
+      draining = done.draining;
     })

@@ -1,5 +1,5 @@
 -- The calls for a cluster tell of the blocks that it took.
-use Rattle.std.proofs.Common.{◌≡◌, ℕ, true, List, [], ◌++◌, Ok, map, length, refl, sym, ap, subst, ◌∙◌, arith, true≢false}
+use Rattle.std.proofs.Common.{◌≡◌, ℕ, Bool, true, false, List, [], ◌∷◌, ◌++◌, Ok, map, length, refl, sym, ap, subst, ◌∙◌, arith}
 use Rattle.std.specs.List.{flat_map, list_any, AllByRecursion}
 use Rattle.std.specs.List.Sorted.{IsPermutation}
 use Rattle.std.specs.Str.{bytes_eq}
@@ -15,26 +15,27 @@ use Rattle.fsck_cluster.specs.Clusters.{with_spares}
 use Rattle.fsck_cluster.specs.Names.{name_of}
 use Rattle.fsck_cluster.specs.declared.cluster.Cluster.{Cluster}
 use Rattle.fsck_cluster.specs.declared.rows.Row.{Row}
-use Rattle.fsck_import.specs.CallsFor.{reports, calls_for}
-use Rattle.fsck_import.specs.Laws.{after_blocks, IsFresh, ids, replicas_of, replicas_by, replicas_reported, drained, EachOnce, TellsBlocks}
-use Rattle.fsck_import.proofs.CallLemmas.{numbers_added-calls, adds_first}
+use Rattle.fsck_import.specs.CallsFor.{add, reports, calls_for}
+use Rattle.fsck_import.specs.Laws.{after_blocks, IsFresh, ids, add_of, replicas_of, replicas_by, replicas_reported, drained, drained_before, drained_of, EachOnce, TellsBlocks}
+use Rattle.fsck_import.proofs.CallLemmas.{adds_in-calls, adds_first}
 use Rattle.fsck_import.proofs.StorageLemmas.{Fit, Stored, on_rows}
 use Rattle.fsck_import.proofs.OnceLemmas.{Once, has_twice, rows_once}
-use Rattle.fsck_import.proofs.BadLemmas.{by_name, HasName, Corrupted, bad-more, Drained, node_number, has-count_up}
+use Rattle.fsck_import.proofs.BadLemmas.{by_name, HasName, Corrupted, bad-more, Drained, Drains, drains_first, node_number, has-count_up}
 use Rattle.fsck_import.proofs.SoundLemmas.{OnNode, Taken, Sound}
-use Rattle.fsck_import.proofs.BlockLemmas.{with_blocks, blocks_sound, all_numbers, all_replicas, all_bad, all_addresses}
-use Rattle.fsck_import.proofs.ReportLemmas.{rows_reported, empty_reported, calls_report, calls_corrupt, calls_drain, node_drains}
+use Rattle.fsck_import.proofs.BlockLemmas.{numbered, with_blocks, blocks_sound, all_blocks, all_numbers, all_replicas, all_bad, all_addresses}
+use Rattle.fsck_import.proofs.ReportLemmas.{rows_reported, empty_reported, calls_report, calls_corrupt, calls_drain, drained_from, node_drains}
 use Rattle.fsck_import.proofs.SpareLemmas.{Spared, all_spared}
 
--- nothing was taken
-abbrev pub nothing_taken : Taken
-nothing_taken = record { numbers = []; last = 0; replicas = []; bad = []; addresses = [] }
+-- nothing was taken; these nodes drain
+abbrev pub nothing_taken : List Text → Taken
+nothing_taken addresses = record { blocks = []; numbers = []; last = 0; replicas = []; bad = []; addresses = addresses }
 
 fresh_stored : (rows : List Row) (names : List Text) → rows ≡ [] → names ≡ [] → Stored rows names []
 fresh_stored rows names e f = subst (λ rs. Stored rs names []) (sym e) (subst (λ ns. Stored [] ns []) (sym f) (record { fits = tt; all = IsPermutation-refl [] }))
 
-fresh_sound : (c : Cluster) → IsFresh c → Sound c nothing_taken
+fresh_sound : (c : Cluster) → IsFresh c → Sound c (nothing_taken (drained_before c))
 fresh_sound c fresh = record {
+  blocks = fresh.blocks;
   numbers = ap (map (λ b. b.0)) fresh.blocks;
   apart = refl;
   stored = fresh_stored c.rows c.storages fresh.rows fresh.storages;
@@ -43,7 +44,7 @@ fresh_sound c fresh = record {
   corrupted = subst (λ bad. Corrupted c.storages bad []) (sym fresh.bad) (record { named = refl; within = tt });
   nodes = fresh.nodes;
   on_nodes = subst (AllByRecursion (OnNode (length c.nodes))) (sym fresh.rows) tt;
-  drained = λ address e. absurd (true≢false (sym e));
+  drained = drains_first c.nodes c.draining fresh.draining;
 }
 
 -- the calls report the replicas on the storages of c
@@ -72,19 +73,41 @@ drained_is c d remaining address spared nodes node =
     ap (list_any (bytes_eq address)) (calls_drain d remaining d.nodes)
     ∙ node_drains d.nodes d.draining d.node_rows node.number address same drains (ap (λ ns. name_of ns node.number) spared.nodes ∙ node.name)
 
-pub tells_blocks : (start c d : Cluster) (blocks : List Block) (remaining : ℕ) → IsFresh start → after_blocks start blocks ≡ Ok c → with_spares c ≡ Ok d → TellsBlocks blocks d remaining
+-- a node that drains in d does in c
+drained_only : (c d : Cluster) (t : Taken) (remaining : ℕ) (address : Text) → Spared c d → Drains c.nodes c.draining t.addresses → list_any (bytes_eq address) (drained d.nodes (calls_for d remaining)) ≡ true
+    → list_any (bytes_eq address) t.addresses ≡ true
+drained_only c d t remaining address spared drains e =
+    let found = drained_from d.nodes d.draining d.node_rows address (sym (ap (list_any (bytes_eq address)) (calls_drain d remaining d.nodes)) ∙ e) in
+    let number = drains.only found.number (ap (λ ns. has_number ns found.number) (sym spared.draining) ∙ found.drains) in
+    let name : address ≡ name_of c.nodes found.number = found.name ∙ ap (λ ns. name_of ns found.number) spared.nodes in
+    ap (λ x. list_any (bytes_eq x) t.addresses) name ∙ number.among
+
+both_ways : (a b : Bool) → (a ≡ true → b ≡ true) → (b ≡ true → a ≡ true) → a ≡ b
+both_ways true b f g = sym (f refl)
+both_ways false true f g = g refl
+both_ways false false f g = refl
+
+add_numbered : (blocks : List Block) → map add (map numbered blocks) ≡ map add_of blocks
+add_numbered [] = refl
+add_numbered (b ∷ blocks) = ap (λ calls. add_of b ∷ calls) (add_numbered blocks)
+
+pub tells_blocks : (start c d : Cluster) (blocks : List Block) (remaining : ℕ) → IsFresh start → after_blocks start blocks ≡ Ok c → with_spares c ≡ Ok d → TellsBlocks start blocks d remaining
 tells_blocks start c d blocks remaining fresh taken spares =
-    let all = with_blocks nothing_taken blocks in
-    let sound = blocks_sound start c nothing_taken blocks taken (fresh_sound start fresh) in
+    let none = nothing_taken (drained_before start) in
+    let all = with_blocks none blocks in
+    let sound = blocks_sound start c none blocks taken (fresh_sound start fresh) in
     let spared = all_spared c d spares in
-    let numbers : all.numbers ≡ ids blocks = all_numbers nothing_taken blocks in
+    let numbers : all.numbers ≡ ids blocks = all_numbers none blocks in
+    let addresses : all.addresses ≡ drained_before start ++ flat_map drained_of blocks = all_addresses none blocks in
     let reported : replicas_reported d.storages (calls_for d remaining) ≡ on_rows c.rows c.storages = reported_are c d remaining spared sound.stored.fits in
     record {
-      added = numbers_added-calls d remaining ∙ ap (map (λ b. b.0)) spared.blocks ∙ sound.numbers ∙ numbers;
+      added = adds_in-calls d remaining ∙ ap (map add) (spared.blocks ∙ sound.blocks ∙ all_blocks none blocks) ∙ add_numbered blocks;
       once = ap has_repeats (sym numbers) ∙ sound.apart;
       adds_first = adds_first d remaining;
-      reported = subst (IsPermutation (flat_map replicas_of blocks)) (sym reported) (subst (λ t. IsPermutation t (on_rows c.rows c.storages)) (all_replicas nothing_taken blocks) sound.stored.all);
+      reported = subst (IsPermutation (flat_map replicas_of blocks)) (sym reported) (subst (λ t. IsPermutation t (on_rows c.rows c.storages)) (all_replicas none blocks) sound.stored.all);
       reported_once = subst EachOnce (sym reported) (rows_once 1 c.rows c.storages all.numbers all.last sound.stored.fits sound.names sound.once);
-      corrupt = calls_corrupt d remaining d.storages ∙ corrupt_are c d spared sound.corrupted.within ∙ sound.corrupted.named ∙ all_bad nothing_taken blocks;
-      drained = λ address e. drained_is c d remaining address spared sound.nodes (sound.drained address (ap (list_any (bytes_eq address)) (all_addresses nothing_taken blocks) ∙ e));
+      corrupt = calls_corrupt d remaining d.storages ∙ corrupt_are c d spared sound.corrupted.within ∙ sound.corrupted.named ∙ all_bad none blocks;
+      drained = λ address. both_ways (list_any (bytes_eq address) (drained d.nodes (calls_for d remaining))) (list_any (bytes_eq address) (drained_before start ++ flat_map drained_of blocks))
+          (λ e. ap (list_any (bytes_eq address)) (sym addresses) ∙ drained_only c d all remaining address spared sound.drained e)
+          (λ e. drained_is c d remaining address spared sound.nodes (sound.drained.each address (ap (list_any (bytes_eq address)) addresses ∙ e)));
     }

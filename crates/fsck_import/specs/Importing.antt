@@ -34,7 +34,7 @@ pub record TellsText (text : Text) (start : Reading) (remaining : ℕ) (old new 
   -- the line tool reads the calls for the cluster
   pub tells : Tells (calls_for read.cluster remaining) old new
   -- they are the calls of the blocks that are taken, if no block came before
-  pub blocks : IsFresh start.cluster → TellsBlocks (blocks_of start.files (lines_of text)) read.cluster remaining
+  pub blocks : IsFresh start.cluster → TellsBlocks start.cluster (blocks_of start.files (lines_of text)) read.cluster remaining
 
 -- what was written is the table of the names of a text
 pub record TellsNames (text : Text) (start : Reading) (old new : Option Text) : Type 0 where

@@ -1,4 +1,4 @@
--- What holds of the calls for the blocks of a text: each block is added once, before any replica; each replica of it is reported once, and nothing else is; the corrupt ones are called corrupt, and no other; and the nodes of the drained ones drain.
+-- What holds of the calls for the blocks of a text: each block is added once, before any replica; each replica of it is reported once, and nothing else is; the corrupt ones are called corrupt, and no other; and the nodes of the drained ones drain, with those that drained before, and no other.
 use Rattle.std.specs.Prelude.{◌≡◌, ◌≤◌, ◌&&◌, ℕ, Bool, true, false, nat_eq, List, [], ◌∷◌, ◌++◌, map, filter, length, count_by, Ok}
 use Rattle.std.specs.List.{flat_map, list_any}
 use Rattle.std.specs.List.Sorted.{IsPermutation}
@@ -11,10 +11,9 @@ use Rattle.bm_base.specs.declared.event.Event.TheVariants.{AddBlock, FullReport,
 use Rattle.fsck_text.specs.Cuts.{Text}
 use Rattle.fsck_text.specs.Wrongs.{after_ok}
 use Rattle.fsck_text.specs.declared.list.Listed.{Listed}
-use Rattle.fsck_files.specs.Replicas.{state_of}
+use Rattle.fsck_files.specs.Numbers.{has_number}
+use Rattle.fsck_files.specs.Replicas as replicas
 use Rattle.fsck_files.specs.declared.replicas.Block.{Block}
-use Rattle.fsck_files.specs.declared.replicas.State.{State}
-use Rattle.fsck_files.specs.declared.replicas.State.TheVariants as state
 use Rattle.fsck_cluster.specs.Clusters.{After, after_block}
 use Rattle.fsck_cluster.specs.Names.{name_of}
 use Rattle.fsck_cluster.specs.declared.cluster.Cluster.{Cluster}
@@ -32,6 +31,7 @@ pub record IsFresh (c : Cluster) : Type 0 where
   pub rows : c.rows ≡ []
   pub blocks : c.blocks ≡ []
   pub bad : c.bad ≡ []
+  pub draining : (number : ℕ) → has_number c.draining number ≡ true → (1 ≤ number) × (number ≤ length c.nodes)
 
 abbrev pub ids : List Block → List ℕ
 ids blocks = map (λ b. b.id) blocks
@@ -51,35 +51,36 @@ replica_at b l = replica l.place.storage (record { id = b.id; stamp = b.stamp })
 abbrev pub replicas_of : Block → List Replica
 replicas_of b = map (replica_at b) b.replicas
 
-abbrev pub is_bad : State → Bool
-is_bad state.Corrupt = true
-is_bad _ = false
-
 abbrev pub is_corrupt : Block → Listed → Bool
-is_corrupt b l = is_bad (state_of l.mark b.is_corrupt)
+is_corrupt b l = replicas.is_corrupt l.mark b.is_corrupt
 
 -- the corrupt replicas of a block: storage and block
 abbrev pub corrupt_of : Block → List (Text × ℕ)
 corrupt_of b = map (λ l. (l.place.storage, b.id)) (filter (is_corrupt b) b.replicas)
 
-abbrev pub drains : State → Bool
-drains state.Drained = true
-drains _ = false
-
-abbrev pub is_drained : Block → Listed → Bool
-is_drained b l = drains (state_of l.mark b.is_corrupt)
+-- whether the node of a replica drains, by the mark alone
+abbrev pub is_drained : Listed → Bool
+is_drained l = replicas.is_draining l.mark
 
 -- the nodes of the drained replicas of a block
 abbrev pub drained_of : Block → List Text
-drained_of b = map (λ l. l.place.address) (filter (is_drained b) b.replicas)
+drained_of b = map (λ l. l.place.address) (filter is_drained b.replicas)
 
--- the number of the block that a call adds, if it adds one
-abbrev pub number_added : Call → List ℕ
-number_added (call.Apply (AddBlock id stamp repl)) = id ∷ []
-number_added _ = []
+-- the nodes of a cluster that drain
+abbrev pub drained_before : Cluster → List Text
+drained_before c = map (name_of c.nodes) c.draining
 
-abbrev pub numbers_added : List Call → List ℕ
-numbers_added calls = flat_map number_added calls
+-- the call that adds a block
+abbrev pub add_of : Block → Call
+add_of b = call.Apply (AddBlock b.id b.stamp b.wanted)
+
+-- a call, if it adds a block
+abbrev pub add_in : Call → List Call
+add_in (call.Apply (AddBlock id stamp repl)) = call.Apply (AddBlock id stamp repl) ∷ []
+add_in _ = []
+
+abbrev pub adds_in : List Call → List Call
+adds_in calls = flat_map add_in calls
 
 -- the replicas that a call reports, by these names of storages
 abbrev pub replicas_by : List Text → Call → List Replica
@@ -119,7 +120,7 @@ pub record AddsFirst (calls : List Call) : Type 0 where
   pub behind : List Call
   pub parts : calls ≡ before ++ behind
   pub no_replica : list_any is_about_replicas before ≡ false
-  pub no_add : numbers_added behind ≡ []
+  pub no_add : adds_in behind ≡ []
 
 -- whether it is a replica of this block on this storage
 abbrev pub is_replica : Text → ℕ → Replica → Bool
@@ -129,10 +130,10 @@ is_replica storage id r = bytes_eq storage r.storage && nat_eq id r.told.id
 abbrev pub EachOnce : List Replica → Type 0
 EachOnce replicas = (storage : Text) (id : ℕ) → count_by (is_replica storage id) replicas ≤ 1
 
--- the calls for a cluster tell of these blocks
-pub record TellsBlocks (blocks : List Block) (c : Cluster) (remaining : ℕ) : Type 0 where
-  -- each is added, and once
-  pub added : numbers_added (calls_for c remaining) ≡ ids blocks
+-- the calls for a cluster tell of these blocks, which were taken one after another from a start on
+pub record TellsBlocks (start : Cluster) (blocks : List Block) (c : Cluster) (remaining : ℕ) : Type 0 where
+  -- each is added with its number, its stamp and its wanted replicas, in this order, and once
+  pub added : adds_in (calls_for c remaining) ≡ map add_of blocks
   pub once : has_repeats (ids blocks) ≡ false
   pub adds_first : AddsFirst (calls_for c remaining)
   -- the replicas that are reported are theirs, and none is reported twice
@@ -140,6 +141,6 @@ pub record TellsBlocks (blocks : List Block) (c : Cluster) (remaining : ℕ) : T
   pub reported_once : EachOnce (replicas_reported c.storages (calls_for c remaining))
   -- those that are called corrupt are the corrupt ones
   pub corrupt : called_corrupt c.storages (calls_for c remaining) ≡ flat_map corrupt_of blocks
-  -- the node of each drained replica drains
-  pub drained : (address : Text) → list_any (bytes_eq address) (flat_map drained_of blocks) ≡ true
-      → list_any (bytes_eq address) (drained c.nodes (calls_for c remaining)) ≡ true
+  -- a node is decommissioned just if it drained at the start, or has a drained replica
+  pub drained : (address : Text) → list_any (bytes_eq address) (drained c.nodes (calls_for c remaining))
+      ≡ list_any (bytes_eq address) (drained_before start ++ flat_map drained_of blocks)

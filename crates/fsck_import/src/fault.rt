@@ -6,7 +6,8 @@ use std::fmt;
 use std::marker::Model;
 use thiserror::Error;
 
-/// A word that is not understood, and the column in which it begins, in bytes from 1.
+/// A word that is not understood, and the column in which it begins, in bytes from 1; an empty word is
+/// the end of the line.
 #[derive(Debug, Drop)]
 pub struct Quoted {
     column: usize,
@@ -47,7 +48,11 @@ impl Quoted {
 impl fmt::Display for Quoted {
     fn fmt<W: fmt::Write>(&self, f: &mut fmt::Formatter<W>) -> fmt::Result {
         let Quoted { column, word, why } = self;
-        write!(f, "column {column}: '{word}' {why}")
+        if word.is_empty() {
+            write!(f, "column {column}: the end of the line {why}")
+        } else {
+            write!(f, "column {column}: '{word}' {why}")
+        }
     }
 }
 

@@ -1,6 +1,6 @@
-//! The import: reads what `hdfs fsck / -files -blocks -locations -replicaDetails` printed, and writes the
-//! lines that make the line tool know that cluster. The table of names and their numbers goes to standard
-//! error, or into a file.
+//! The import: reads what `hdfs fsck / -files -blocks -locations -replicaDetails -maintenance` printed,
+//! and writes the lines that make the line tool know that cluster. The table of names and their numbers
+//! goes to standard error, or into a file.
 #![tactic(auto)]
 
 mod destination;
@@ -132,14 +132,21 @@ fn said<R: Eprint>(rt: &R, asked: &Asked<'_>, ended: Result<Notes, Fault>) -> u8
 
 fn say_notes<R: Eprint>(rt: &R, asked: &Asked<'_>, notes: &Notes) {
     say_left_out(rt, &notes.left_out);
-    let unclear = match asked.values.unclear {
-        Unclear::Good => "blocks with more places than live replicas taken with each place as good",
-        Unclear::Omit | Unclear::Refuse => "blocks with more places than live replicas left out",
+    let (block, blocks) = match asked.values.unclear {
+        Unclear::Good => (
+            "block with more places than live replicas taken with each place as good",
+            "blocks with more places than live replicas taken with each place as good",
+        ),
+        Unclear::Omit | Unclear::Refuse => (
+            "block with more places than live replicas left out",
+            "blocks with more places than live replicas left out",
+        ),
     };
-    say_count(rt, notes.unclear_blocks, unclear);
+    say_count(rt, notes.unclear_blocks, block, blocks);
     say_count(
         rt,
         notes.maintained,
+        "replica on a node in maintenance taken as live",
         "replicas on nodes in maintenance taken as live",
     );
     if notes.lines > MOST_LINES {
@@ -152,22 +159,36 @@ fn say_notes<R: Eprint>(rt: &R, asked: &Asked<'_>, notes: &Notes) {
 }
 
 fn say_left_out<R: Eprint>(rt: &R, left_out: &LeftOut) {
-    say_count(rt, left_out.erasure_coded, "erasure coded files left out");
+    say_count(
+        rt,
+        left_out.erasure_coded,
+        "erasure coded file left out",
+        "erasure coded files left out",
+    );
     say_count(
         rt,
         left_out.over_replicated,
+        "file with more than 16 replicas left out",
         "files with more than 16 replicas left out",
     );
     say_count(
         rt,
         left_out.open_files,
+        "file that is being written left out",
         "files that are being written left out",
     );
-    say_count(rt, left_out.snapshots, "files in snapshots left out");
+    say_count(
+        rt,
+        left_out.snapshots,
+        "file in a snapshot left out",
+        "files in snapshots left out",
+    );
 }
 
-fn say_count<R: Eprint>(rt: &R, count: u64, what: &str) {
+/// Says how many there are, by the words for one and for several; nothing if there is none.
+fn say_count<R: Eprint>(rt: &R, count: u64, one: &str, several: &str) {
     if count > 0 {
+        let what = if count == 1 { one } else { several };
         let _ = rt.eprintln(format_args!("fsck_import: {count} {what}"));
     }
 }

@@ -3,7 +3,7 @@ use Rattle.std.specs.Prelude.{ℕ, Bool, Option, Some, None, is_some, option_map
 use Rattle.std.specs.Option.{option_map_or, option_or}
 use Rattle.std.specs.Str.{bytes_eq}
 use Rattle.fsck_text.specs.Cuts.{Text, is_empty, cut_at, after_prefix, after_first, before_last, word_and_rest, number_of, small_number_of}
-use Rattle.fsck_text.specs.Wrongs.{wrong, after_ok, or_wrong}
+use Rattle.fsck_text.specs.Wrongs.{wrong, shown, after_ok, or_wrong}
 use Rattle.fsck_text.specs.declared.block.BlockLine.{BlockLine}
 use Rattle.fsck_text.specs.declared.block.Named.{Named}
 use Rattle.fsck_text.specs.declared.block.Replicas.{Replicas}
@@ -26,19 +26,19 @@ numbers_of name = option_and_then (cut_at 95) (after_prefix (codes "blk_") (with
 abbrev pub stamped : Text → Text → ℕ → Result Named Wrong
 stamped name generation id = or_wrong reason.NotABlock name (option_map (λ g. record { id = id; generation = g }) (number_of generation))
 
--- the block of a name: a pool and a colon, or nothing, then blk_, its number and its generation stamp
-abbrev pub block_named : Text → Result Named Wrong
-block_named name =
-    option_map_or (λ p. after_ok (stamped name p.1) (id_of name p.0)) (numbers_of name) (Err (wrong reason.NotABlock name))
+-- the block of a name, with which a text begins: a pool and a colon, or nothing, then blk_, its number and its generation stamp
+abbrev pub block_named : Text → Text → Result Named Wrong
+block_named name text =
+    option_map_or (λ p. after_ok (stamped name p.1) (id_of name p.0)) (numbers_of name) (Err (wrong reason.NotABlock (shown name text)))
 
--- the length of a block in bytes
-abbrev pub length_of : Text → Result ℕ Wrong
-length_of word = or_wrong reason.NotALength word (option_and_then number_of (after_prefix (codes "len=") word))
+-- the length of a block in bytes, by the word with which a text begins
+abbrev pub length_of : Text → Text → Result ℕ Wrong
+length_of word text = or_wrong reason.NotALength (shown word text) (option_and_then number_of (after_prefix (codes "len=") word))
 
--- how many replicas are live
-abbrev pub live_of : Text → Result ℕ Wrong
-live_of word =
-    or_wrong reason.NotACount word
+-- how many replicas are live, by the word with which a text begins
+abbrev pub live_of : Text → Text → Result ℕ Wrong
+live_of word text =
+    or_wrong reason.NotACount (shown word text)
     (option_and_then small_number_of (option_or (after_prefix (codes "Live_repl=") word) (after_prefix (codes "repl=") word)))
 
 -- the text between the brackets of a list, 91 and 93
@@ -62,7 +62,7 @@ no_replicas rest = if is_empty rest then Ok (record { live = None; list = rest }
 abbrev pub replicas_of : Text → Result Replicas Wrong
 replicas_of text =
     let p = word_and_rest text in
-    if bytes_eq p.0 (codes "MISSING!") then no_replicas p.1 else after_ok (with_list p.1) (live_of p.0)
+    if bytes_eq p.0 (codes "MISSING!") then no_replicas p.1 else after_ok (with_list p.1) (live_of p.0 text)
 
 abbrev pub block_line : Named → ℕ → Replicas → BlockLine
 block_line named len told =
@@ -73,7 +73,7 @@ abbrev pub block_of : Text → Result BlockLine Wrong
 block_of text =
     let name = word_and_rest text in
     let len = word_and_rest name.1 in
-    after_ok (λ named. after_ok (λ n. after_ok (λ told. Ok (block_line named n told)) (replicas_of len.1)) (length_of len.0)) (block_named name.0)
+    after_ok (λ named. after_ok (λ n. after_ok (λ told. Ok (block_line named n told)) (replicas_of len.1)) (length_of len.0 name.1)) (block_named name.0 text)
 
 -- whether it says that no replica is known
 abbrev pub is_missing : Text → Bool
@@ -82,7 +82,8 @@ is_missing text = bytes_eq (word_and_rest (word_and_rest (word_and_rest text).1)
 -- the number of the block that fsck calls corrupt, by the text after CORRUPT blockpool: the pool, and the block
 abbrev pub corrupt_block : Text → Result ℕ Wrong
 corrupt_block text =
-    let p = word_and_rest (word_and_rest text).1 in
+    let rest = (word_and_rest text).1 in
+    let p = word_and_rest rest in
     if bytes_eq p.0 (codes "block")
     then option_map_or (id_of p.1) (after_prefix (codes "blk_") p.1) (Err (wrong reason.NotABlock p.1))
-    else Err (wrong reason.NotABlock p.0)
+    else Err (wrong reason.NotABlock (shown p.0 rest))

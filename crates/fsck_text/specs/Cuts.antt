@@ -1,5 +1,6 @@
 -- Cutting a text in two, and reading a number.
-use Rattle.std.specs.Prelude.{ℕ, ◌+◌, ◌-◌, ◌*◌, ◌^◌, ◌==◌, ◌&&◌, Bool, List, [], ◌∷◌, Option, Some, None, is_some, option_map, option_and_then, if◌then◌else◌, length, nat_lt, nat_le}
+use Rattle.std.specs.Prelude.{ℕ, ◌+◌, ◌-◌, ◌*◌, ◌^◌, ◌==◌, ◌&&◌, Bool, List, [], ◌∷◌, Option, Some, None, is_some, option_map, option_and_then, if◌then◌else◌, length, nat_eq, nat_lt, nat_le}
+use Rattle.std.specs.List.{ends_with}
 use Rattle.std.specs.Option.{option_map_or}
 
 -- bytes
@@ -51,8 +52,12 @@ abbrev pub bytes_before : Text → Text → ℕ
 bytes_before word [] = 0
 bytes_before word (b ∷ bs) = if is_some (after_prefix word (b ∷ bs)) then 0 else bytes_before word bs + 1
 
+abbrev pub first_column_of : Text → Text → ℕ
+first_column_of word line = bytes_before word line + 1
+
+-- the column at which a word begins: at the end of the line if that is the word, else where the word first occurs
 abbrev pub column_of : Text → Text → ℕ
-column_of word line = bytes_before word line + 1
+column_of word line = if ends_with nat_eq line word then length line - length word + 1 else first_column_of word line
 
 -- with one more digit; none past 64 bits
 abbrev pub with_digit : ℕ → ℕ → Option ℕ

@@ -4,7 +4,7 @@ use Rattle.std.specs.List.{list_any, slice_split}
 use Rattle.std.specs.Option.{option_map_or, option_or}
 use Rattle.std.specs.Str.{bytes_eq}
 use Rattle.fsck_text.specs.Cuts.{Text, cut_at, last_cut_at, after_prefix, after_first, word_and_rest, small_number_of}
-use Rattle.fsck_text.specs.Wrongs.{wrong, after_ok, or_wrong}
+use Rattle.fsck_text.specs.Wrongs.{wrong, shown, after_ok, or_wrong}
 use Rattle.fsck_text.specs.declared.heading.Layout.{Layout}
 use Rattle.fsck_text.specs.declared.heading.Layout.TheVariants as layout
 use Rattle.fsck_text.specs.declared.heading.Heading.{Heading}
@@ -36,13 +36,14 @@ ended layout replication rest blocks =
 -- the number of blocks, whether the file is open, and the problem after that
 abbrev pub counted : Layout → Option ℕ → Text → Result Begun Wrong
 counted layout replication text =
-    let p = word_and_rest (unwrap_or (after_first 32 text) text) in
-    after_ok (ended layout replication p.1) (or_wrong reason.NotAHeading p.0 (small_number_of p.0))
+    let words = unwrap_or (after_first 32 text) text in
+    let p = word_and_rest words in
+    after_ok (ended layout replication p.1) (or_wrong reason.NotAHeading (shown p.0 words) (small_number_of p.0))
 
 -- Hadoop 3, a replicated file: its replication and the number of its blocks
 abbrev pub replicated : Text → Result Begun Wrong
 replicated text =
-    option_map_or (λ p. after_ok (λ n. counted layout.Replicated (Some n) p.1) (or_wrong reason.NotATarget p.0 (small_number_of p.0)))
+    option_map_or (λ p. after_ok (λ n. counted layout.Replicated (Some n) p.1) (or_wrong reason.NotATarget (shown p.0 text) (small_number_of p.0)))
     (after_key (codes " replication=") text) (Err (wrong reason.NotAHeading text))
 
 -- Hadoop 3, an erasure coded file: its policy and the number of its blocks
@@ -58,7 +59,7 @@ last_word text = option_map_or (λ p. p.1) (last_cut_at 32 text) text
 abbrev pub old : Text → Text → Bool → Result Begun Wrong
 old front problem is_open =
     after_ok (λ blocks. Ok (begun layout.Replicated None blocks is_open problem))
-    (or_wrong reason.NotAHeading (last_word front) (small_number_of (last_word front)))
+    (or_wrong reason.NotAHeading (shown (last_word front) front) (small_number_of (last_word front)))
 
 -- Hadoop 2, an open file
 abbrev pub old_open : Text → Text → Result Begun Wrong
@@ -73,10 +74,10 @@ begun_of front last after =
     else (if bytes_eq last (codes "erasure-coded") then coded after
     else (if bytes_eq last (codes "block(s)") then old front after false
     else (if bytes_eq last (codes "OPENFORWRITE") then old_open front after
-    else Err (wrong reason.NotAHeading last))))
+    else Err (wrong reason.NotAHeading (shown last front)))))
 
 abbrev pub number_at : Text → Result ℕ Wrong
-number_at text = or_wrong reason.NotATarget (word_and_rest text).0 (small_number_of (word_and_rest text).0)
+number_at text = or_wrong reason.NotATarget (shown (word_and_rest text).0 text) (small_number_of (word_and_rest text).0)
 
 -- how many replicas are wanted of a block, by the text after Under replicated: the block, and the number
 abbrev pub target_of : Text → Result ℕ Wrong

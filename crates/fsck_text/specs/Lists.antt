@@ -4,7 +4,7 @@ use Rattle.std.specs.Option.{option_map_or}
 use Rattle.fsck_text.specs.Cuts.{Text, onto_cut, cut_at, is_empty}
 use Rattle.fsck_text.specs.Marks.{mark_of}
 use Rattle.fsck_text.specs.Places.{place_of}
-use Rattle.fsck_text.specs.Wrongs.{wrong}
+use Rattle.fsck_text.specs.Wrongs.{wrong, shown}
 use Rattle.fsck_text.specs.declared.mark.Mark.{Mark}
 use Rattle.fsck_text.specs.declared.mark.Mark.TheVariants as mark
 use Rattle.fsck_text.specs.declared.place.Place.{Place}
@@ -60,6 +60,14 @@ all_listed (item ∷ items) = onto_listed (listed_of item) (all_listed items)
 abbrev pub replicas_in : Text → Result (List Listed) Wrong
 replicas_in text = all_listed (items_of text)
 
+-- what is wrong with an item of a list; the whole list is quoted for an empty item
+abbrev pub within : Text → Wrong → Wrong
+within text w = wrong w.why (shown w.word text)
+
+abbrev pub all_within : Text → Result (List Listed) Wrong → Result (List Listed) Wrong
+all_within text (Ok listed) = Ok listed
+all_within text (Err w) = Err (within text w)
+
 -- the replicas of a list, in order; none from no text
 abbrev pub list_of : Text → Result (List Listed) Wrong
-list_of text = if is_empty text then Ok [] else replicas_in text
+list_of text = if is_empty text then Ok [] else all_within text (replicas_in text)

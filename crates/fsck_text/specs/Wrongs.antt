@@ -1,6 +1,6 @@
 -- Why a line is not understood.
-use Rattle.std.specs.Prelude.{◌≡◌, ⊤, Option, Some, None, Result, Ok, Err}
-use Rattle.fsck_text.specs.Cuts.{Text}
+use Rattle.std.specs.Prelude.{◌≡◌, ⊤, Option, Some, None, Result, Ok, Err, if◌then◌else◌}
+use Rattle.fsck_text.specs.Cuts.{Text, is_empty}
 use Rattle.fsck_text.specs.declared.wrong.Reason.{Reason}
 use Rattle.fsck_text.specs.declared.wrong.Wrong.{Wrong}
 use Rattle.fsck_text.specs.declared.wrong.Fault.{Fault}
@@ -8,6 +8,10 @@ use Rattle.fsck_text.specs.declared.wrong.Fault.TheVariants as fault
 
 abbrev pub wrong : Reason → Text → Wrong
 wrong why word = record { why = why; word = word }
+
+-- the word to quote: a text in place of an empty word at its beginning
+abbrev pub shown : Text → Text → Text
+shown word text = if is_empty word then text else word
 
 -- the value, or what is wrong with this word
 abbrev pub or_wrong : {A : Type 0} → Reason → Text → Option A → Result A Wrong

@@ -5,7 +5,7 @@ ghost use Rattle.fsck_text.specs.Blocks.{id_of, without_pool, block_named, lengt
 use crate::cuts::{
     after_first, after_prefix, before_last, cut_at, number_of, small_number_of, word_and_rest,
 };
-use crate::wrong::{Piece, Reason, Wrong};
+use crate::wrong::{Piece, Reason, Wrong, shown};
 use bm_base::{BlockId, Gen, Stamp};
 
 /// What the line of a block says.
@@ -39,8 +39,8 @@ pub fn block_of(text: &str) -> Result<BlockLine<'_>, Wrong<'_>>
 {
     let (name, rest) = word_and_rest(text);
     let (len, replicas) = word_and_rest(rest);
-    let named = block_named(name)?;
-    let len = length_of(len)?;
+    let named = block_named(name, text)?;
+    let len = length_of(len, rest)?;
     let told = replicas_of(replicas)?;
     Ok(BlockLine {
         id: named.id,
@@ -71,7 +71,7 @@ pub fn corrupt_block(text: &str) -> Result<BlockId, Wrong<'_>>
     let (_, rest) = word_and_rest(text);
     let (block, name) = word_and_rest(rest);
     if block != "block" {
-        return Err(Wrong::new(Reason::NotABlock, block));
+        return Err(Wrong::new(Reason::NotABlock, shown(block, rest)));
     }
     match after_prefix(name, "blk_") {
         Some(id) => id_of(name, id),
@@ -102,13 +102,14 @@ fn without_pool(name: &str) -> &str
     }
 }
 
-/// The block of a name: a pool and a colon, or nothing, then `blk_`, its number, `_` and its stamp.
-fn block_named(name: &str) -> Result<Named, Wrong<'_>>
-    ensures { result ≡ block_named name.now }
+/// The block of a name: a pool and a colon, or nothing, then `blk_`, its number, `_` and its stamp. The
+/// text begins with the name.
+fn block_named<'a>(name: &'a str, text: &'a str) -> Result<Named, Wrong<'a>>
+    ensures { result ≡ block_named name.entry.now text.entry.now }
 {
     let parts = after_prefix(without_pool(name), "blk_").and_then(|text| cut_at(text, '_'));
     let Some((id, generation)) = parts else {
-        return Err(Wrong::new(Reason::NotABlock, name));
+        return Err(Wrong::new(Reason::NotABlock, shown(name, text)));
     };
     let id = id_of(name, id)?;
     match number_of(generation) {
@@ -120,19 +121,19 @@ fn block_named(name: &str) -> Result<Named, Wrong<'_>>
     }
 }
 
-/// The length of the block in bytes.
-fn length_of(word: &str) -> Result<u64, Wrong<'_>>
-    ensures { result ≡ length_of word.now }
+/// The length of the block in bytes. The text begins with the word.
+fn length_of<'a>(word: &'a str, text: &'a str) -> Result<u64, Wrong<'a>>
+    ensures { result ≡ length_of word.entry.now text.entry.now }
 {
     match after_prefix(word, "len=").and_then(number_of) {
         Some(len) => Ok(len),
-        None => Err(Wrong::new(Reason::NotALength, word)),
+        None => Err(Wrong::new(Reason::NotALength, shown(word, text))),
     }
 }
 
-/// How many replicas are live.
-fn live_of(word: &str) -> Result<u32, Wrong<'_>>
-    ensures { result ≡ live_of word.now }
+/// How many replicas are live. The text begins with the word.
+fn live_of<'a>(word: &'a str, text: &'a str) -> Result<u32, Wrong<'a>>
+    ensures { result ≡ live_of word.entry.now text.entry.now }
 {
     let count = match after_prefix(word, "Live_repl=") {
         Some(count) => Some(count),
@@ -140,7 +141,7 @@ fn live_of(word: &str) -> Result<u32, Wrong<'_>>
     };
     match count.and_then(small_number_of) {
         Some(count) => Ok(count),
-        None => Err(Wrong::new(Reason::NotACount, word)),
+        None => Err(Wrong::new(Reason::NotACount, shown(word, text))),
     }
 }
 
@@ -165,7 +166,7 @@ fn replicas_of(text: &str) -> Result<Replicas<'_>, Wrong<'_>>
 {
     let (count, rest) = word_and_rest(text);
     if count != "MISSING!" {
-        let live = Some(live_of(count)?);
+        let live = Some(live_of(count, text)?);
         let list = list_text(rest)?;
         return Ok(Replicas { live, list });
     }

@@ -1,6 +1,8 @@
 // Cutting a text in two, and reading a number.
 ghost use Rattle.std.specs.Prelude.{◌≡◌, ◌<◌, option_map};
-ghost use Rattle.fsck_text.specs.Cuts.{cut_at, last_cut_at, after_prefix, after_first, before_last, word_and_rest, column_of, number_of, with_digit, small_number_of};
+ghost use Rattle.fsck_text.specs.Cuts.{cut_at, last_cut_at, after_prefix, after_first, before_last, word_and_rest, column_of, first_column_of, number_of, with_digit, small_number_of};
+
+use crate::line::ends;
 
 /// The text before the first `mark`, and the text after it.
 pub fn cut_at(text: &str, mark: char) -> Option<(&str, &str)>
@@ -57,9 +59,21 @@ pub fn word_and_rest(text: &str) -> (&str, &str)
     }
 }
 
-/// The column at which a word first occurs in a line, in bytes from 1; past the end if it does not occur.
+/// The column at which a word begins in a line, in bytes from 1: at the end of the line if that is the
+/// word, else where the word first occurs.
 pub fn column_of(line: &str, word: &str) -> usize
     ensures { result ≡ column_of word.now line.now }
+{
+    if ends(line, word) {
+        line.len().saturating_sub(word.len()) + 1
+    } else {
+        first_column_of(line, word)
+    }
+}
+
+/// The column at which a word first occurs in a line; past the end if it does not occur.
+fn first_column_of(line: &str, word: &str) -> usize
+    ensures { result ≡ first_column_of word.now line.now }
 {
     line.find(word).unwrap_or(line.len()) + 1
 }

@@ -1,9 +1,9 @@
 // The heading of a file.
 ghost use Rattle.std.specs.Prelude.{◌≡◌, option_map};
-ghost use Rattle.fsck_text.specs.Headings.{after_key, counted, replicated, coded, old, old_open, begun_of, target_of, problem_target, is_ending, is_in_snapshot, heading_of, differ};
+ghost use Rattle.fsck_text.specs.Headings.{after_key, counted, replicated, coded, old, old_open, begun_of, number_at, target_of, problem_target, is_ending, is_in_snapshot, heading_of, differ};
 
 use crate::cuts::{after_first, after_prefix, cut_at, last_cut_at, small_number_of, word_and_rest};
-use crate::wrong::{Piece, Reason, Wrong};
+use crate::wrong::{Piece, Reason, Wrong, shown};
 
 /// How a file is laid out.
 #[derive(Clone, Copy, Debug, PartialEq, Drop)]
@@ -89,7 +89,7 @@ fn begun_of<'a>(front: &'a str, last: &'a str, after: &'a str) -> Result<Begun<'
         "erasure-coded" => coded(after),
         "block(s)" => old(front, after, false),
         "OPENFORWRITE" => old_open(front, after),
-        _ => Err(Wrong::new(Reason::NotAHeading, last)),
+        _ => Err(Wrong::new(Reason::NotAHeading, shown(last, front))),
     }
 }
 
@@ -108,7 +108,7 @@ fn replicated(text: &str) -> Result<Begun<'_>, Wrong<'_>>
         return Err(Wrong::new(Reason::NotAHeading, text));
     };
     let Some(replication) = small_number_of(number) else {
-        return Err(Wrong::new(Reason::NotATarget, number));
+        return Err(Wrong::new(Reason::NotATarget, shown(number, text)));
     };
     counted(Layout::Replicated, Some(replication), rest)
 }
@@ -127,9 +127,10 @@ fn coded(text: &str) -> Result<Begun<'_>, Wrong<'_>>
 fn counted(layout: Layout, replication: Option<u32>, text: &str) -> Result<Begun<'_>, Wrong<'_>>
     ensures { result ≡ counted layout replication text.now }
 {
-    let (number, rest) = word_and_rest(after_first(text, ' ').unwrap_or(text));
+    let words = after_first(text, ' ').unwrap_or(text);
+    let (number, rest) = word_and_rest(words);
     let Some(blocks) = small_number_of(number) else {
-        return Err(Wrong::new(Reason::NotAHeading, number));
+        return Err(Wrong::new(Reason::NotAHeading, shown(number, words)));
     };
     let (is_open, problem) = match after_prefix(rest, "block(s):") {
         Some(problem) => (false, problem),
@@ -156,7 +157,7 @@ fn old<'a>(front: &'a str, problem: &'a str, is_open: bool) -> Result<Begun<'a>,
         None => front,
     };
     let Some(blocks) = small_number_of(number) else {
-        return Err(Wrong::new(Reason::NotAHeading, number));
+        return Err(Wrong::new(Reason::NotAHeading, shown(number, front)));
     };
     Ok(Begun {
         layout: Layout::Replicated,
@@ -192,13 +193,20 @@ pub fn target_of(text: &str) -> Result<u32, Wrong<'_>>
     ensures { result ≡ target_of text.now }
 {
     let (_, rest) = word_and_rest(text);
-    let Some(number) = after_prefix(rest, "Target Replicas is ") else {
-        return Err(Wrong::new(Reason::NotATarget, rest));
-    };
-    let (number, _) = word_and_rest(number);
+    match after_prefix(rest, "Target Replicas is ") {
+        Some(number) => number_at(number),
+        None => Err(Wrong::new(Reason::NotATarget, rest)),
+    }
+}
+
+/// The number of wanted replicas that a text begins with.
+fn number_at(text: &str) -> Result<u32, Wrong<'_>>
+    ensures { result ≡ number_at text.now }
+{
+    let (number, _) = word_and_rest(text);
     match small_number_of(number) {
         Some(target) => Ok(target),
-        None => Err(Wrong::new(Reason::NotATarget, number)),
+        None => Err(Wrong::new(Reason::NotATarget, shown(number, text))),
     }
 }
 

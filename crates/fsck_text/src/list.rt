@@ -1,12 +1,12 @@
 // The list of a block's replicas.
 ghost use Rattle.std.specs.Prelude.{◌≡◌, Ok, IfOk, OnOk, IfErr, option_map};
-ghost use Rattle.fsck_text.specs.Lists.{cut_item, pushed, listed_with, listed_of, replicas_in, list_of};
+ghost use Rattle.fsck_text.specs.Lists.{cut_item, pushed, listed_with, listed_of, replicas_in, within, list_of};
 ghost use Rattle.fsck_text.specs.Wrongs.{IsCause};
 
 use crate::cuts::cut_at;
 use crate::mark::{Mark, mark_of};
 use crate::place::{Place, place_of};
-use crate::wrong::{Fault, Reason, Wrong};
+use crate::wrong::{Fault, Reason, Wrong, shown};
 use bm_base::Items;
 use std::alloc::Global;
 
@@ -23,10 +23,20 @@ pub fn list_of<'a>(alloc: Global, text: &'a str) -> Result<Items<Listed<'a>>, Fa
     ensures wrong { IfErr result (λ f. IsCause f (list_of text.entry.now)) }
 {
     if text.is_empty() {
-        Ok(Items::from_vec(Vec::new(alloc)))
-    } else {
-        replicas_in(alloc, text)
+        return Ok(Items::from_vec(Vec::new(alloc)));
     }
+    match replicas_in(alloc, text) {
+        Ok(list) => Ok(list),
+        Err(Fault::Memory) => Err(Fault::Memory),
+        Err(Fault::Wrong(wrong)) => Err(Fault::Wrong(within(wrong, text))),
+    }
+}
+
+/// What is wrong with an item of a list; the whole list is quoted for an empty item.
+fn within<'a>(wrong: Wrong<'a>, text: &'a str) -> Wrong<'a>
+    ensures { result ≡ within text.entry.now wrong.entry }
+{
+    Wrong::new(wrong.why, shown(wrong.word.text(), text))
 }
 
 /// The replicas of one item or more.

@@ -1,4 +1,7 @@
 // Why a line is not understood.
+ghost use Rattle.std.specs.Prelude.{◌≡◌};
+ghost use Rattle.fsck_text.specs.Wrongs.{shown};
+
 use std::alloc::AllocError;
 use std::marker::Model;
 use thiserror::Error;
@@ -87,6 +90,13 @@ impl<'a> Wrong<'a> {
             word: Piece::new(word),
         }
     }
+}
+
+/// The word to quote: a text in place of an empty word at its beginning.
+pub fn shown<'a>(word: &'a str, text: &'a str) -> &'a str
+    ensures { result.now ≡ shown word.entry.now text.entry.now }
+{
+    if word.is_empty() { text } else { word }
 }
 
 /// Why a line has no value.
