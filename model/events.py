@@ -16,12 +16,12 @@ MAX_WANTED = 16
 
 
 def applied(state, event, fields):
-    """The state after an event, how many replicas are there only after it, how many only before."""
+    """The state after an event, and how many replicas are there only after it, and only before."""
     after = event(state, *fields)
     need(state.calls < LAST, "CallsSpent")
     added = len(after.replicas.keys() - state.replicas.keys())
     removed = len(state.replicas.keys() - after.replicas.keys())
-    return replace(after, calls=state.calls + 1), added, removed
+    return replace(after, calls=state.calls + 1), (added, removed)
 
 
 # Nodes and storages

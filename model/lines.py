@@ -199,20 +199,34 @@ def answered(state, line):
     """The state after a line, and its answer. What is refused changes nothing."""
     try:
         op, fields = call_of(line)
-        return answered_call(state, op, fields)
+        after, result = called(state, op, fields)
     except Refused as refused:
-        name = str(refused)
-        return state, f"refused {REFUSALS[name]} {name}"
+        return state, refusal_text(refused)
+    return after, text_of(op, fields, result)
 
 
-def answered_call(state, op, fields):
+def called(state, op, fields):
+    """The state after a call, and its result: two counts, a round, or the items of a query."""
+    call = CALLS[op][0]
     if op in EVENTS:
-        after, added, removed = events.applied(state, EVENTS[op][0], fields)
-        return after, f"ok {added} {removed}"
-    if op == "round":
-        after, done = whole_round(state)
-        return after, joined([("round", done.number), *commands(state, done)])
-    return state, joined([(FIRST_WORDS[op], *fields), *QUERIES[op][0](state, *fields)])
+        return events.applied(state, call, fields)
+    if op in QUERIES:
+        return state, call(state, *fields)
+    return call(state)
+
+
+def text_of(op, fields, result):
+    if op in EVENTS:
+        added, removed = result
+        return f"ok {added} {removed}"
+    if op in QUERIES:
+        return joined([(FIRST_WORDS[op], *fields), *result])
+    return joined([("round", result.number), *commands(result)])
+
+
+def refusal_text(refused):
+    name = str(refused)
+    return f"refused {REFUSALS[name]} {name}"
 
 
 def joined(items):

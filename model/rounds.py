@@ -145,8 +145,10 @@ def transfer_for(state, chosen, wish):
     if len(chosen) >= state.limits.work * len(state.nodes):
         return []
     source = least_source(state, chosen, wish)
+    if source is None:
+        return []
     target = least_target(state, chosen, wish)
-    if source is None or target is None:
+    if target is None:
         return []
     held = holders(state, chosen, wish.block)
     return [
@@ -255,9 +257,12 @@ def deletes(state):
         for (block, storage), replica in state.replicas.items()
         if is_deletable(state, block, replica)
     )
+    counts = Counter()
     commanded = []
-    for node in sorted(state.nodes):
-        commanded += [it for it in found if it[0] == node][: state.limits.invalidate]
+    for delete in found:
+        counts[delete[0]] += 1
+        if counts[delete[0]] <= state.limits.invalidate:
+            commanded.append(delete)
     return commanded
 
 
@@ -285,12 +290,10 @@ def ended(state, done):
     )
 
 
-def commands(state, done):
+def commands(done):
     """Step 7: for each node by number its copies in the order of T, then its deletes."""
-    for node in sorted(state.nodes):
-        for it in done.transfers:
-            if it.node == node:
-                yield ("copy", node, it.block, *it.stamp, it.source, it.target)
-        for delete in done.deletes:
-            if delete[0] == node:
-                yield ("delete", *delete)
+    copies = [
+        ("copy", it.node, it.block, *it.stamp, it.source, it.target) for it in done.transfers
+    ]
+    everything = copies + [("delete", *it) for it in done.deletes]
+    return sorted(everything, key=lambda command: command[1])
