@@ -23,7 +23,7 @@ OPTIONS = {
     "pend": [1, 2, 3, 5, 1_000_000],
 }
 
-# How often each call is drawn. `obey` does what a round commanded.
+# How often each call is drawn, or what takes several. `obey` does what a round commanded.
 WEIGHTS = {
     "obey": 24,
     "round": 12,
@@ -34,6 +34,7 @@ WEIGHTS = {
     "corrupt": 5,
     "drain": 3,
     "undrain": 3,
+    "drain_all_racks_but_one": 0.6,
     "dead": 1.5,
     "storage_failed": 1.5,
     "register": 3,
@@ -41,14 +42,11 @@ WEIGHTS = {
     "delete": 2.5,
     "set_replication": 5,
     "restamp": 2,
+    "add_again": 1,
     "level": 6,
     "list_places": 2,
     "list_storage": 1,
     "retired": 3,
-    "list_replicas": 1,
-    "list_corrupt": 1,
-    "list_excess": 2,
-    "list_missing": 1,
     "odd": 5,
 }
 
@@ -61,6 +59,8 @@ FREE_BYTES = [
     [0, 5, 20, 100, 1000],
     [2**63, GREATEST_NUMBER],
 ]
+
+LISTS = ["list_replicas", "list_corrupt", "list_excess", "list_excess", "list_missing"]
 
 # Texts of values, of which a reader of JSON takes some and refuses others.
 ODD_VALUES = [
@@ -83,9 +83,11 @@ ODD_VALUES = [
 ODD_LINES = [
     *[b"", b" ", b"\r", b"\t", b"{}", b"[]", b"null", b'"op"', b"7", b"{", b"}", b"\xff"],
     *[b'{"op":"fly"}', b'{"op":1}', b'{"op":null}', b'{"op":["round"]}', b'{"op":"Round"}'],
-    *[b'{"op":"round"', b'{"op":"round"}}', b'{"op":"round",}', b'["op","round"]', b'{"OP":"round"}'],
+    *[b'{"op":"round"', b'{"op":"round"}}', b'{"op":"round",}', b'["op","round"]'],
+    *[b'{"OP":"round"}', b'{"op":"round"}{"op":"round"}', b'"{\\"op\\":\\"round\\"}"'],
     *[b'{"op":"round"}\x00', b'\xef\xbb\xbf{"op":"round"}', b'{"op":"round","x":"\xc3\x28"}'],
-    *[b'{"op":"round","x":"\xed\xa0\x80"}', b'{"op":"round","x":"\xc0\xaf"}', b'{"op":"round"}\x0c'],
+    *[b'{"op":"round","x":"\xed\xa0\x80"}', b'{"op":"round","x":"\xc0\xaf"}'],
+    b'{"op":"round"}\x0c',
     b'{"op":"list_missing","x":"\xf0\x9f\x98\x80"}',
     b'{"op":"register","node":4294967296,"rack":1,"storages":[]}',
     b'{"op":"register","node":1,"rack":4294967296,"storages":[]}',
@@ -145,7 +147,7 @@ class Script:
         return {name: self.random.choice(of) for name, of in OPTIONS.items() if self.chance(0.7)}
 
     def draw_cluster(self):
-        """The numbers that the script uses: of nodes with their racks and storages, and of blocks."""
+        """The numbers that are used: of nodes with their racks and storages, and of blocks."""
         node_count = self.random.choice([1, 2, 3, 3, 4, 5, 6, 6, 8, 8, 12, 20, 40])
         numbers = self.random.sample(range(1, 10 * node_count + 10), node_count)
         if self.chance(0.1):
@@ -153,7 +155,11 @@ class Script:
         storages = iter(self.random.sample(range(1, 1000), 3 * node_count))
         rack_count = self.random.choice([1, 2, 2, 3, 4, 6])
         counts = self.random.choice([[1], [1, 2], [0, 1, 2, 3]])
-        self.racks = {node: self.random.randrange(rack_count) for node in numbers}
+        on_rack_0 = self.random.choice([0, 0, 0.6])
+        self.racks = {
+            node: 0 if self.chance(on_rack_0) else self.random.randrange(rack_count)
+            for node in numbers
+        }
         self.storages_of = {
             node: [next(storages) for _ in range(self.random.choice(counts))] for node in numbers
         }
@@ -161,7 +167,7 @@ class Script:
         block_count = self.random.choice([2, 5, 12, 25, 40])
         first = self.random.choice([0, 1, 100, 100, 2**32 - 3, GREATEST_NUMBER + 1 - block_count])
         self.block_numbers = range(first, first + block_count)
-        self.wanted = self.random.choice([[1, 2, 3], [3], [2, 3], [2, 3, 7, 8], [1, 3, 10, 16]])
+        self.wanted = self.random.choice([[1, 2, 3], [3], [2, 3], [2, 3, 6, 7], [1, 3, 9, 16]])
         self.lengths = self.random.choice(LENGTHS)
         self.free_bytes = self.random.choice(FREE_BYTES)
         self.stamp_is_kept = self.chance(0.7)
@@ -172,6 +178,8 @@ class Script:
         kinds["add"] += 15 * self.missing_part(self.block_numbers, self.state.blocks)
         kind = self.random.choices(list(kinds), kinds.values())[0]
         getattr(self, kind, lambda: self.ask(kind))()
+        if self.chance(0.1):
+            self.ask(self.random.choice(LISTS))
 
     def missing_part(self, numbers, known):
         return len([number for number in numbers if number not in known]) / len(numbers)
@@ -295,6 +303,18 @@ class Script:
     def drain(self):
         self.ask_of_node("drain", self.state.nodes)
 
+    def drain_all_racks_but_one(self):
+        """For a while, so that most rounds have nodes to copy to."""
+        racks = {node: it.rack for node, it in self.state.nodes.items()}
+        kept = self.random.choice(sorted(racks.values()) or [0])
+        nodes = [node for node in racks if racks[node] != kept]
+        for op in ("drain", "undrain"):
+            for node in nodes:
+                self.ask(op, node=node)
+            for block in self.block_numbers[:12]:
+                self.ask("level", id=block)
+            self.ask("round")
+
     def undrain(self):
         self.ask_of_node("undrain", self.draining() if self.chance(0.8) else self.state.nodes)
 
@@ -343,6 +363,19 @@ class Script:
         known = self.state.blocks.get(block)
         generation = known.stamp.generation + self.random.choice([1, 1, 1, 2, 0]) if known else 1
         self.ask("restamp", id=block, gen=generation, len=self.random.choice(self.lengths))
+
+    def add_again(self):
+        """A block, if it can be one with a pending transfer, is deleted, loses its replicas, and
+        is added again."""
+        awaited = {block for block, _ in self.state.pending} & self.state.blocks.keys()
+        block = self.known_or_not(awaited or self.state.blocks, self.block_numbers)
+        self.ask("delete", id=block)
+        for storage in sorted(self.state.replicas_of(block)):
+            self.ask("deleted", storage=storage, id=block)
+        self.ask("add", id=block, gen=1, len=self.length_of(block), repl=self.wanted[-1])
+        storage = self.known_or_not(self.state.storages, self.all_storages)
+        self.ask_of_replica(storage, block)
+        self.ask("round")
 
     def level(self):
         self.ask_of_block("level")
@@ -450,7 +483,8 @@ class Script:
 
     def drawn_storages(self, block):
         known = self.state.blocks.get(block)
-        count = max(0, (known.wanted if known else 1) + self.random.choice([-2, -1, -1, 0, 0, 1, 2]))
+        wanted = known.wanted if known else 1
+        count = max(0, wanted + self.random.choice([-2, -1, -1, 0, 0, 1, 2]))
         nodes = self.random.sample(list(self.racks), min(count, len(self.racks)))
         listed = [self.state.storages_of(node) for node in nodes]
         return [self.one_of(storages) for storages in listed if storages]
@@ -459,9 +493,9 @@ class Script:
         """All that can be seen of the state; rounds show which transfers are pending."""
         for block in self.block_numbers:
             self.ask("level", id=block)
-        for node in sorted(self.state.nodes):
+        for node in sorted(self.racks):
             self.ask("retired", node=node)
         for _ in range(3):
-            self.ask("round")
-            for op in ("list_replicas", "list_corrupt", "list_excess", "list_missing"):
+            for op in LISTS:
                 self.ask(op)
+            self.ask("round")

@@ -16,6 +16,7 @@ HAS_TO_REACH = [
     *[f"target of class {it}, two holders on two racks" for it in (0, 1)],
     *[f"target of class 0, {it}" for it in ("no holders", "holders on several racks")],
     *[f"delete of a {it} replica" for it in ("stray", "good", "stale", "bad")],
+    "level 3, and all nodes on other racks drain",
     "copy from a draining node",
     *[f"source of {limit} copies, its limit" for limit in (2, 4)],
     "as many copies as the round may have",
@@ -54,7 +55,10 @@ class Reached(Counter):
         self[f"{op} answered"] += 1
         if op in ("level", "retired"):
             self[f"{op} {result[0][0]}"] += 1
-        elif op == "register":
+        if op == "level" and result[0][0] == 3:
+            racks = {node.rack for node in before.nodes.values() if not node.drains}
+            self["level 3, and all nodes on other racks drain"] += len(racks) == 1
+        if op == "register":
             self["node registered again"] += fields[0] in self.were_alive
             self.were_alive.add(fields[0])
         elif op == "round":
