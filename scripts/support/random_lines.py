@@ -108,6 +108,7 @@ ODD_LINES = [
     b'{"op":"report","storage":4294967296,"blocks":[]}',
 ]
 
+
 class Script:
     """A script, its options, and the answers of the model.
 
@@ -255,6 +256,7 @@ class Script:
         return line[:at] + bytes([byte]) + line[at:]
 
     def too_many(self):
+        """A call past a limit."""
         kind = self.random.randrange(12)
         storage = self.known_or_not(self.state.storages, self.all_storages)
         if kind == 0:
@@ -304,7 +306,7 @@ class Script:
         self.ask_of_node("drain", self.state.nodes)
 
     def drain_all_racks_but_one(self):
-        """For a while, so that most rounds have nodes to copy to."""
+        """And undrain after a round, so that most rounds have nodes to copy to."""
         racks = {node: it.rack for node, it in self.state.nodes.items()}
         kept = self.random.choice(sorted(racks.values()) or [0])
         nodes = [node for node in racks if racks[node] != kept]
