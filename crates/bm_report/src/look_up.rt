@@ -52,7 +52,8 @@ fn look_up_one(
     let slot = slot_for(arena, id)?;
     named.push_reserved(Named { id, slot, stamp });
     arena.lawful();
-    make_room(arena, slot, storage)
+    make_room(arena, slot, storage)?;
+    Ok(())
 }
 
 /// Looks up the numbers of an entry that are of the part, and makes room: from one to the next, so that numbers of other shards cost

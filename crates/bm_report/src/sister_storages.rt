@@ -4,7 +4,7 @@ ghost use Rattle.bm_base.specs.Replicas as replicas;
 ghost use Rattle.bm_arena.specs.Contents.{marks_at};
 
 use bm_arena::{Arena, Slot};
-use bm_base::{NodeId, StorageId};
+use bm_base::StorageId;
 use bm_topo::Topology;
 
 /// Another storage of the node on which the block in `slot` has a replica.
@@ -20,33 +20,12 @@ pub(crate) fn sister_of(
         → replicas.are_sisters topology.now.cluster storage t ≡ true
         → marks_at arena.now slot t ≡ None) }
 {
-    let node = topology.node_of(storage);
     for place in 0..arena.triplet_count(slot) {
         if let Some((other, _)) = arena.triplet_at(slot, place) {
-            if is_sister(topology, node, storage, other) {
+            if topology.are_sisters(storage, other) {
                 return Some(other);
             }
         }
     }
     None
-}
-
-/// Whether another storage is a different one of the same node, for a storage of this node.
-#[tactic(auto, unfolding(bm_base::specs::Replicas::are_sisters))]
-fn is_sister(
-    topology: &Topology,
-    node: Option<NodeId>,
-    storage: StorageId,
-    other: StorageId,
-) -> bool
-    requires { node ≡ replicas.node_of topology.now.cluster storage }
-    ensures { result ≡ replicas.are_sisters topology.now.cluster storage other }
-{
-    if other == storage {
-        return false;
-    }
-    match node {
-        Some(node) => topology.has_storage(node, other),
-        None => false,
-    }
 }

@@ -22,4 +22,4 @@ returns-clause-room c =
     subst P (sym (c.push_reserved.ensures.items ∙ ap (λ l. l ++ one ∷ []) c.reserve.ensures.items))
     (room-push c.make_room.new.arena c.args.storage c.args.named.now.items one
     (room-prepared c.args.storage c.args.arena.now c.make_room.new.arena c.args.named.now.items c.lawful.ensures kept c.requires.here c.requires.room)
-    c.make_room.ensures.room)
+    c.in_ok-make_room.ensures.room)

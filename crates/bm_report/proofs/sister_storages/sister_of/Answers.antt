@@ -4,9 +4,9 @@ use Rattle.bm_arena.specs.Contents.{block_at}
 use Rattle.bm_report.proofs.Listing.{found-place, none-tried}
 use Rattle.bm_report.proofs.sister_storages.sister_of.Goals as goal
 
-pub returns-then-is_sister-clause-found : goal.returns-then-is_sister-clause-found
-returns-then-is_sister-clause-found c =
-    (found-place (block_at c.args.arena.now c.args.slot) c.loop-place.place _ (sym c.in-Some.ensures), sym c.is_sister.ensures ∙ c.if-is_sister.true)
+pub returns-then-are_sisters-clause-found : goal.returns-then-are_sisters-clause-found
+returns-then-are_sisters-clause-found c =
+    (found-place (block_at c.args.arena.now c.args.slot) c.loop-place.place _ (sym c.in-Some.ensures), sym c.are_sisters.ensures ∙ c.if-are_sisters.true)
 
 pub returns-clause-none : goal.returns-clause-none
 returns-clause-none c =
