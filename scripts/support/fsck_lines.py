@@ -259,7 +259,7 @@ def names(cluster: Cluster, call: Fsck, options: Import = Import()) -> list[str]
     return lines
 
 
-# What the import says of each kind of file that is left out, in this order: of one file and of several.
+# What the import says of each kind of file that is left out, in this order, of one and of several.
 KIND_NOTES = {
     SKIP_ERASURE_CODED: ("erasure coded file left out", "erasure coded files left out"),
     SKIP_REPLICATION: (

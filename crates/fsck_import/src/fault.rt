@@ -6,8 +6,8 @@ use std::fmt;
 use std::marker::Model;
 use thiserror::Error;
 
-/// A word that is not understood, and the column in which it begins, in bytes from 1; an empty word is
-/// the end of the line.
+/// A word that is not understood, and the column in which it begins, in bytes from 1; an empty word
+/// is the end of the line.
 #[derive(Debug, Drop)]
 pub struct Quoted {
     column: usize,

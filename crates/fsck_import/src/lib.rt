@@ -1,6 +1,6 @@
-//! The import: reads what `hdfs fsck / -files -blocks -locations -replicaDetails -maintenance` printed,
-//! and writes the lines that make the line tool know that cluster. The table of names and their numbers
-//! goes to standard error, or into a file.
+//! The import: reads what `hdfs fsck / -files -blocks -locations -replicaDetails -maintenance`
+//! printed, and writes the lines that make the line tool know that cluster. The table of names and
+//! their numbers goes to standard error, or into a file.
 #![tactic(auto)]
 
 mod destination;
