@@ -5,7 +5,7 @@ of them.
 Both come from the cluster alone: no line is computed from a text.
 
 What Hadoop counts is written from memory of its sources (NamenodeFsck, BlockManager and
-BlockPlacementPolicyDefault of 2.7, 2.10, 3.3 and 3.4). It was never compared with a running
+BlockPlacementPolicyDefault of 2.6, 2.7, 2.10, 3.3 and 3.4). It was never compared with a running
 cluster. A function whose form is uncertain says so.
 """
 
@@ -206,6 +206,16 @@ def places(block: Block, file: File, version: Version) -> list[Replica]:
     if is_missing(block, file, version) and not file.policy:
         return []
     return list(block.replicas)
+
+
+def printed_count(block: Block, file: File, version: Version) -> int:
+    """The number of the block's line: that of its places in 2.6, of its live replicas since then."""
+    return len(places(block, file, version)) if version < (2, 7) else live(block)
+
+
+def names_storages(call: Fsck) -> bool:
+    """Whether a place has the name of its storage; 2.6 names the node alone."""
+    return call.version >= (2, 7) and not call.racks
 
 
 def racks_of(cluster: Cluster) -> set[str]:

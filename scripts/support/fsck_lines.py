@@ -25,7 +25,9 @@ from fsck_cluster import (
     is_under_replicated,
     live,
     mark_of,
+    names_storages,
     places,
+    printed_count,
     shown_files,
 )
 
@@ -67,25 +69,29 @@ class Taken:
 
 
 def wanted(block: Block, file: File, version: Version) -> int:
-    """The file's replication where the text prints it, else the live replicas and at least 1."""
+    """The file's replication where the text prints it, else the number of the block's line and at
+    least 1."""
     prints_target = any(
         is_under_replicated(it, file, version) for it in file.blocks if it.is_complete
     )
     if version >= (3, 0) or prints_target:
         return file.replication
-    return max(1, live(block))
+    return max(1, printed_count(block, file, version))
 
 
-def claims_live(replica: Replica, call: Fsck) -> bool:
-    """Whether the text may count the replica as live: by its mark, or because it has none."""
-    return not call.details or mark_of(replica, call) in LIVE_MARKS
+def claims_live(replica: Replica, block: Block, file: File, call: Fsck) -> bool:
+    """Whether the text may count the replica as live: by its mark, or because it has none and fsck
+    does not call the block corrupt."""
+    if call.details:
+        return mark_of(replica, call) in LIVE_MARKS
+    return not is_corrupt(block, file, call.version)
 
 
 def is_unclear(block: Block, file: File, call: Fsck) -> bool:
     """Whether more replicas claim to be live than are. Without -maintenance, -replicaDetails marks
     a replica in maintenance as live, and fsck does not count it."""
     listed = places(block, file, call.version)
-    return sum(claims_live(replica, call) for replica in listed) > live(block)
+    return sum(claims_live(replica, block, file, call) for replica in listed) > live(block)
 
 
 def kind_of(file: File, call: Fsck) -> str:
@@ -116,7 +122,7 @@ def taken_block(block: Block, file: File, call: Fsck) -> Taken:
     bad = [
         replica
         for replica in listed
-        if call.details and (all_are or mark_of(replica, call) == CORRUPT)
+        if all_are or (call.details and mark_of(replica, call) == CORRUPT)
     ]
     return Taken(block, wanted(block, file, call.version), listed, bad)
 
@@ -141,7 +147,7 @@ class Numbering:
     """Racks, nodes and storages with their numbers from 1, in dictionaries by their names."""
 
     def __init__(self, cluster: Cluster, call: Fsck, options: Import):
-        self.with_racks = call.racks
+        self.has_storages = names_storages(call)
         self.knows_racks = call.racks or options.nodes
         self.racks: dict[str, int] = {}
         self.nodes: dict[str, tuple[int, Node]] = {}
@@ -161,7 +167,7 @@ class Numbering:
 
     def storage_name(self, replica: Replica) -> str:
         storage = replica.storage
-        return storage.node.address if self.with_racks else storage.name
+        return storage.name if self.has_storages else storage.node.address
 
     def storage(self, replica: Replica) -> int:
         return self.storages[self.storage_name(replica)][0]

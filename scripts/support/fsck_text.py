@@ -1,6 +1,6 @@
 """Prints a cluster as `hdfs fsck PATH -files -blocks -locations` does.
 
-The forms are written from memory of Hadoop's NamenodeFsck in 2.7, 2.10, 3.3 and 3.4, where no
+The forms are written from memory of Hadoop's NamenodeFsck in 2.6, 2.7, 2.10, 3.3 and 3.4, where no
 difference between 3.3 and 3.4 is known. They were never compared with a running cluster. A function
 whose form is uncertain says so.
 """
@@ -35,7 +35,9 @@ from fsck_cluster import (
     live,
     mark_of,
     minimum,
+    names_storages,
     places,
+    printed_count,
     racks_of,
     target,
     total,
@@ -76,6 +78,8 @@ def place_words(replica: Replica, call: Fsck) -> str:
     storage, node = replica.storage, replica.storage.node
     if call.racks:
         place = f"{node.rack}/{node.address}"
+    elif not names_storages(call):
+        place = node.address
     else:
         place = f"DatanodeInfoWithStorage[{node.address},{storage.name},{storage.kind}]"
     mark = f"({mark_of(replica, call)})" if call.details else ""
@@ -95,14 +99,15 @@ def list_words(block: Block, file: File, call: Fsck) -> str:
 
 
 def block_words(block: Block, file: File, call: Fsck) -> str:
-    """The rest of a block's line after its length; `repl=` of 2.7 counts live replicas."""
+    """The rest of a block's line after its length; `repl=` of 2.6 counts the places, that of 2.7 the
+    live replicas."""
     is_lost = is_missing(block, file, call.version)
     missing = " MISSING!" if is_lost else ""
     if is_lost and not file.policy:
         return missing
     listed = list_words(block, file, call)
     if call.version < (2, 8):
-        return f" repl={live(block)} {listed}"
+        return f" repl={printed_count(block, file, call.version)} {listed}"
     return f"{missing} Live_repl={live(block)}  {listed}"
 
 
@@ -192,7 +197,7 @@ class FsckWriter:
 
     def __init__(self, cluster: Cluster, call: Fsck):
         if call.version < (2, 8) and (call.details or call.domains or call.maintenance):
-            raise ValueError("2.7 has no such option")
+            raise ValueError("2.6 and 2.7 have no such option")
         self.cluster = cluster
         self.call = call
         self.out: list[str] = []

@@ -19,7 +19,7 @@ use Rattle.fsck_text.specs.declared.wrong.Fault.TheVariants as text_fault
 use Rattle.fsck_text.specs.declared.wrong.Wrong.{Wrong}
 use Rattle.fsck_files.specs.Counts.{no_counts, no_sums, with_blocks, with_missing, with_corrupt, is_healthy, with_sum, mismatch}
 use Rattle.fsck_files.specs.Numbers.{has_number, with_number}
-use Rattle.fsck_files.specs.Replicas.{claims, maintained}
+use Rattle.fsck_files.specs.Replicas.{claims, are_unmarked, maintained}
 use Rattle.fsck_files.specs.Skips.{kind_of, skips, left_out_with, over_replicated, plus}
 use Rattle.fsck_files.specs.declared.files.File.{File}
 use Rattle.fsck_files.specs.declared.files.Files.{Files}
@@ -204,17 +204,23 @@ abbrev pub one_unclear : Files → Files
 one_unclear s = record s { unclear_blocks = plus s.unclear_blocks 1 }
 
 -- a block with more places that may be live than live replicas is refused, left out, or taken with each place as a good replica
-abbrev pub unclear_by : Unclear → Files → BlockLine → ℕ → List Listed → ℕ → Taken
-unclear_by unclear.Refuse s b repl listed live = refused (why.MoreThanLive (claims listed) live)
-unclear_by unclear.Omit s b repl listed live = Ok (one_unclear s, None)
-unclear_by unclear.Good s b repl listed live = emitted (one_unclear s) b repl listed
+abbrev pub unclear_by : Unclear → Files → BlockLine → ℕ → List Listed → ℕ → ℕ → Taken
+unclear_by unclear.Refuse s b repl listed places live = refused (why.MoreThanLive places live)
+unclear_by unclear.Omit s b repl listed places live = Ok (one_unclear s, None)
+unclear_by unclear.Good s b repl listed places live = emitted (one_unclear s) b repl listed
 
--- by how many replicas are live, as fsck counts them
+-- by how many places may be live, and how many replicas are
+abbrev pub by_places : Files → BlockLine → ℕ → List Listed → ℕ → ℕ → Taken
+by_places s b repl listed places live =
+    if nat_lt places live then refused (why.FewerThanLive places live)
+    else (if nat_lt live places then unclear_by s.unclear s b repl listed places live else emitted s b repl listed)
+
+-- by how many replicas are live, as fsck counts them. If each known replica of a block is corrupt, and the places have no marks, the number is not compared: Hadoop 2.6 writes that of the places there, later versions 0
 abbrev pub by_live : Files → BlockLine → ℕ → List Listed → Option ℕ → Taken
 by_live s b repl listed None = emitted (record s { counts = with_missing s.counts false }) b repl listed
 by_live s b repl listed (Some live) =
-    if nat_lt (claims listed) live then refused (why.FewerThanLive (claims listed) live)
-    else (if nat_lt live (claims listed) then unclear_by s.unclear s b repl listed live else emitted s b repl listed)
+    if has_number s.corrupt b.id && are_unmarked listed then emitted s b repl listed
+    else by_places s b repl listed (claims (has_number s.corrupt b.id) listed) live
 
 -- with one more block
 abbrev pub with_one_read : File → File

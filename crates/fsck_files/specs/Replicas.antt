@@ -1,12 +1,13 @@
 -- The replicas of a block that is taken.
-use Rattle.std.specs.Prelude.{ℕ, Bool, true, false, List, if◌then◌else◌, count_by}
+use Rattle.std.specs.Prelude.{ℕ, ◌==◌, ◌&&◌, Bool, true, false, not, List, if◌then◌else◌, count_by, length, nat_lt}
 use Rattle.fsck_text.specs.declared.mark.Mark.{Mark}
 use Rattle.fsck_text.specs.declared.mark.Mark.TheVariants as mark
 use Rattle.fsck_text.specs.declared.list.Listed.{Listed}
 
--- whether a replica with a mark is corrupt, by whether fsck says that each known replica of its block is: if the node is decommissioned or in maintenance, the mark says that alone, also of a corrupt replica
+-- whether a replica with a mark is corrupt, by whether fsck says that each known replica of its block is: without a mark it is then corrupt, and if the node is decommissioned or in maintenance, the mark says that alone, also of a corrupt replica
 abbrev pub is_corrupt : Mark → Bool → Bool
 is_corrupt mark.Corrupt block_is_corrupt = true
+is_corrupt mark.Absent block_is_corrupt = block_is_corrupt
 is_corrupt mark.Decommissioned block_is_corrupt = block_is_corrupt
 is_corrupt mark.Decommissioning block_is_corrupt = block_is_corrupt
 is_corrupt mark.EnteringMaintenance block_is_corrupt = block_is_corrupt
@@ -19,13 +20,13 @@ is_draining mark.Decommissioned = true
 is_draining mark.Decommissioning = true
 is_draining _ = false
 
--- fsck counts a replica with this mark as live; without a mark it may
-abbrev pub claims_live : Mark → Bool
-claims_live mark.Absent = true
-claims_live mark.Live = true
-claims_live mark.StaleNode = true
-claims_live mark.StaleContent = true
-claims_live _ = false
+-- fsck counts a replica with this mark as live; without a mark it may, unless it says that each known replica of the block is corrupt
+abbrev pub claims_live : Bool → Mark → Bool
+claims_live block_is_corrupt mark.Absent = not block_is_corrupt
+claims_live block_is_corrupt mark.Live = true
+claims_live block_is_corrupt mark.StaleNode = true
+claims_live block_is_corrupt mark.StaleContent = true
+claims_live block_is_corrupt _ = false
 
 abbrev pub is_maintained : Mark → Bool
 is_maintained mark.EnteringMaintenance = true
@@ -33,8 +34,16 @@ is_maintained mark.InMaintenance = true
 is_maintained _ = false
 
 -- how many replicas are live by their marks, or may be without a mark
-abbrev pub claims : List Listed → ℕ
-claims listed = count_by (λ one. claims_live one.mark) listed
+abbrev pub claims : Bool → List Listed → ℕ
+claims block_is_corrupt listed = count_by (λ one. claims_live block_is_corrupt one.mark) listed
+
+abbrev pub is_marked : Mark → Bool
+is_marked mark.Absent = false
+is_marked _ = true
+
+-- whether there are replicas, and none has a mark
+abbrev pub are_unmarked : List Listed → Bool
+are_unmarked listed = nat_lt 0 (length listed) && (count_by (λ one. is_marked one.mark) listed == 0)
 
 -- how many replicas on nodes in maintenance count as good: none of a corrupt block
 abbrev pub maintained : Bool → List Listed → ℕ

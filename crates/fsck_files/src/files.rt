@@ -5,7 +5,7 @@ ghost use Rattle.fsck_files.specs.Files.{no_files, is_open, unended, is_next, is
 use crate::counts::{Counts, Sums};
 use crate::numbers::Numbers;
 use crate::refusal::{Refusal, Why};
-use crate::replicas::{Block, claims, maintained};
+use crate::replicas::{Block, are_unmarked, claims, maintained};
 use crate::skips::{Kind, LeftOut, Skips, Unclear, kind_of, over_replicated, plus};
 use bm_base::Items;
 use fsck_text::{
@@ -410,7 +410,8 @@ impl Files {
         Ok(None)
     }
 
-    /// Takes a block with its list of replicas.
+    /// Takes a block with its list of replicas. If the block is corrupt and the places have no marks,
+    /// the number of live replicas is not compared: Hadoop 2.6 writes that of the places.
     fn take_listed<'a>(
         &mut self,
         block: BlockLine<'a>,
@@ -424,7 +425,11 @@ impl Files {
             self.counts = self.counts.with_missing(false);
             return Ok(Some(self.emit(block, repl, listed)));
         };
-        let places = claims(listed.as_slice());
+        let is_corrupt = self.corrupt.has(block.id.0);
+        if is_corrupt && are_unmarked(listed.as_slice()) {
+            return Ok(Some(self.emit(block, repl, listed)));
+        }
+        let places = claims(is_corrupt, listed.as_slice());
         if places < live as usize {
             drop(listed);
             return Err(LineFault::from(Why::FewerThanLive { places, live }));

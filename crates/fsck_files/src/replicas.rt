@@ -1,6 +1,6 @@
 // The replicas of a block that is taken.
 ghost use Rattle.std.specs.Prelude.{◌≡◌};
-ghost use Rattle.fsck_files.specs.Replicas.{is_corrupt, is_draining, claims_live, is_maintained, claims, maintained};
+ghost use Rattle.fsck_files.specs.Replicas.{is_corrupt, is_draining, claims_live, is_maintained, claims, is_marked, are_unmarked, maintained};
 
 use bm_base::{BlockId, Items, Stamp};
 use fsck_text::{Listed, Mark};
@@ -18,18 +18,20 @@ pub struct Block<'a> {
     pub replicas: Items<Listed<'a>>,
 }
 
-/// Whether a replica with a mark is corrupt, by whether fsck calls its block corrupt: if the node is
-/// decommissioned or in maintenance, the mark says that alone, also of a corrupt replica.
+/// Whether a replica with a mark is corrupt, by whether fsck calls its block corrupt: then one without
+/// a mark is. If the node is decommissioned or in maintenance, the mark says that alone, also of a
+/// corrupt replica.
 pub fn is_corrupt(mark: Mark, block_is_corrupt: bool) -> bool
     ensures { result ≡ is_corrupt mark block_is_corrupt }
 {
     match mark {
         Mark::Corrupt => true,
-        Mark::Decommissioned
+        Mark::Absent
+        | Mark::Decommissioned
         | Mark::Decommissioning
         | Mark::EnteringMaintenance
         | Mark::InMaintenance => block_is_corrupt,
-        Mark::Absent | Mark::Live | Mark::Excess | Mark::StaleNode | Mark::StaleContent => false,
+        Mark::Live | Mark::Excess | Mark::StaleNode | Mark::StaleContent => false,
     }
 }
 
@@ -40,14 +42,16 @@ pub fn is_draining(mark: Mark) -> bool
     matches!(mark, Mark::Decommissioned | Mark::Decommissioning)
 }
 
-/// Whether fsck counts a replica with this mark as live; without a mark it may.
-fn claims_live(mark: Mark) -> bool
-    ensures { result ≡ claims_live mark }
+/// Whether fsck counts a replica with this mark as live; without a mark it may, unless it calls the
+/// block corrupt.
+fn claims_live(block_is_corrupt: bool, mark: Mark) -> bool
+    ensures { result ≡ claims_live block_is_corrupt mark }
 {
-    matches!(
-        mark,
-        Mark::Absent | Mark::Live | Mark::StaleNode | Mark::StaleContent
-    )
+    match mark {
+        Mark::Absent => !block_is_corrupt,
+        Mark::Live | Mark::StaleNode | Mark::StaleContent => true,
+        _ => false,
+    }
 }
 
 fn is_maintained(mark: Mark) -> bool
@@ -57,10 +61,27 @@ fn is_maintained(mark: Mark) -> bool
 }
 
 /// How many replicas are live by their marks, or may be without a mark.
-pub fn claims(listed: &[Listed]) -> usize
-    ensures { result ≡ claims listed.now }
+pub fn claims(block_is_corrupt: bool, listed: &[Listed]) -> usize
+    ensures { result ≡ claims block_is_corrupt listed.now }
 {
-    listed.iter().filter(|one| claims_live(one.mark)).count()
+    listed
+        .iter()
+        .filter(|one| claims_live(block_is_corrupt, one.mark))
+        .count()
+}
+
+fn is_marked(mark: Mark) -> bool
+    ensures { result ≡ is_marked mark }
+{
+    !matches!(mark, Mark::Absent)
+}
+
+/// Whether there are replicas, and none has a mark.
+pub fn are_unmarked(listed: &[Listed]) -> bool
+    ensures { result ≡ are_unmarked listed.now }
+{
+    let marked = listed.iter().filter(|one| is_marked(one.mark)).count();
+    listed.len() > 0 && marked == 0
 }
 
 /// How many replicas on nodes in maintenance count as good: none of a corrupt block.
