@@ -298,6 +298,12 @@ def shown_files(cluster: Cluster, call: Fsck) -> list[File]:
     return [file for file in found if is_shown(file, call)]
 
 
+def unlisted_files(cluster: Cluster, call: Fsck) -> list[File]:
+    """The files that fsck counts and does not list."""
+    found = [entry for _, entry in entries(cluster, call) if isinstance(entry, File)]
+    return [file for file in found if not is_shown(file, call)]
+
+
 def announced(file: File) -> list[Block]:
     """The blocks that the heading counts: not a last one of length 0 that is being written."""
     return [block for block in file.blocks if block.is_complete or block.length > 0]

@@ -29,6 +29,7 @@ from fsck_cluster import (
     places,
     printed_count,
     shown_files,
+    unlisted_files,
 )
 
 # The marks of replicas that fsck counts as live.
@@ -305,4 +306,11 @@ def notes(cluster: Cluster, call: Fsck, options: Import = Import()) -> list[str]
     ]
     maintained = marks.count(ENTERING) + marks.count(IN_MAINTENANCE)
     counts.append((maintained, MAINTAINED))
-    return [f"{count} {several if count > 1 else one}" for count, (one, several) in counts if count]
+    found = [f"{count} {several if count > 1 else one}" for count, (one, several) in counts if count]
+    unlisted = len(unlisted_files(cluster, call))
+    if unlisted:
+        files = "1 file being written is" if unlisted == 1 else f"{unlisted} files being written are"
+        found.append(f"{files} not in the text")
+    if call.path != "/":
+        found.append("the text is of one path alone, and not of /")
+    return found

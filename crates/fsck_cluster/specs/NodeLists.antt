@@ -21,7 +21,7 @@ use Rattle.fsck_cluster.specs.declared.node_list.NodeWhy.TheVariants as why
 
 -- nothing was read
 abbrev pub no_list : NodeList
-no_list = record { cluster = record no_cluster { knows_nodes = true }; is_live = false; was_live = false; row = None }
+no_list = record { cluster = record no_cluster { knows_nodes = true }; is_live = false; announced = 0; was_live = false; row = None; has_status = false }
 
 -- what a line makes of the list, or why it is refused
 abbrev pub After : Type 0
@@ -37,27 +37,42 @@ with_row_on s row rack = record s {
 abbrev pub with_row : NodeList → NodeRow → NodeList
 with_row s row = record s { cluster = record s.cluster { node_rows = s.cluster.node_rows ++ row ∷ [] }; row = None }
 
--- the node that was being read ends: it has a line on its free bytes, and is on the default rack if no line says another
+-- the node that was being read ends: it has a line on its free bytes and one on its state, and is on the default rack if no line says another
 abbrev pub after_row : NodeList → Option NodeRow → After
 after_row s None = Ok s
 after_row s (Some row) =
     if is_none row.remaining then Err (refusal.Why why.NoRemaining)
-    else Ok (if row.rack == 0 then with_row_on s row (codes "/default-rack") else with_row s row)
+    else (if not s.has_status then Err (refusal.Why why.NoStatus)
+    else Ok (if row.rack == 0 then with_row_on s row (codes "/default-rack") else with_row s row))
 
 abbrev pub ended_row : NodeList → After
 ended_row s = after_row s s.row
 
-abbrev pub sectioned : Bool → NodeList → After
-sectioned live s = Ok (record s { is_live = live; was_live = s.was_live || live })
+-- as many live nodes were read as the heading of their section says
+abbrev pub compared : NodeList → After
+compared s =
+    if length s.cluster.nodes == s.announced then Ok s
+    else Err (refusal.Why (why.OtherNumber s.announced (length s.cluster.nodes)))
 
--- a section begins
-abbrev pub after_section : NodeList → Bool → After
-after_section s live = after_ok (sectioned live) (ended_row s)
+abbrev pub counted : NodeList → After
+counted s = if s.is_live then compared s else Ok s
+
+-- the section that was being read ends
+abbrev pub ended_section : NodeList → After
+ended_section s = after_ok counted (ended_row s)
+
+abbrev pub sectioned : Bool → ℕ → NodeList → After
+sectioned live count s = Ok (record s { is_live = live; announced = count; was_live = s.was_live || live })
+
+-- a section begins, of so many nodes if they are live
+abbrev pub after_section : NodeList → Bool → ℕ → After
+after_section s live count = after_ok (sectioned live count) (ended_section s)
 
 abbrev pub named : NodeList → Text → NodeList
 named s address = record s {
   cluster = record s.cluster { nodes = with_name s.cluster.nodes address };
   row = Some (record { number = name_number s.cluster.nodes address; rack = 0; remaining = None });
+  has_status = false;
 }
 
 abbrev pub with_node : Text → NodeList → After
@@ -79,10 +94,14 @@ on_rack s rack row = record s {
 abbrev pub after_rack : NodeList → Text → NodeList
 after_rack s rack = option_map_or (on_rack s rack) s.row s
 
+-- the state of the node is known
+abbrev pub with_status : NodeList → NodeList
+with_status s = record s { has_status = true }
+
 -- whether the node drains
 abbrev pub after_drains : NodeList → Bool → NodeList
 after_drains s drains =
-    option_map_or (λ row. if drains then record s { cluster = record s.cluster { draining = with_number s.cluster.draining row.number } } else s) s.row s
+    option_map_or (λ row. if drains then with_status (record s { cluster = record s.cluster { draining = with_number s.cluster.draining row.number } }) else with_status s) s.row s
 
 -- the free bytes of the node
 abbrev pub after_remaining : NodeList → ℕ → NodeList
@@ -93,7 +112,8 @@ abbrev pub when_live : NodeList → After → After
 when_live s after = if s.is_live then after else Ok s
 
 abbrev pub after_kind : NodeList → NodeLine → After
-after_kind s (node.Section live) = after_section s live
+after_kind s (node.Live count) = after_section s true count
+after_kind s node.NotLive = after_section s false 0
 after_kind s node.Other = Ok s
 after_kind s (node.Node address) = when_live s (after_name s address)
 after_kind s (node.Rack rack) = when_live s (Ok (after_rack s rack))
@@ -110,7 +130,7 @@ after_line s line = read_as (after_kind s) (node_line_of line)
 
 -- at the end of the report, which has a section of live nodes
 abbrev pub at_end : NodeList → Result Cluster NodeRefusal
-at_end s = after_ok (λ t. if t.was_live then Ok t.cluster else Err (refusal.Why why.NoLiveNodes)) (ended_row s)
+at_end s = after_ok (λ t. if t.was_live then Ok t.cluster else Err (refusal.Why why.NoLiveNodes)) (ended_section s)
 
 -- the fault is this refusal, or memory that was refused
 abbrev pub IsCause : {A : Type 0} → NodeFault → Result A NodeRefusal → Type 0

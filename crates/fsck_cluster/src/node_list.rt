@@ -1,6 +1,7 @@
 // The DataNodes, by the report on them.
 ghost use Rattle.std.specs.Prelude.{◌≡◌, Ok, Err, Some, OnOk, IfOk, IfErr};
-ghost use Rattle.fsck_cluster.specs.NodeLists.{no_list, ended_row, after_row, after_name, after_rack, after_drains, after_remaining, after_section, after_line, at_end, IsCause};
+ghost use Rattle.fsck_cluster.specs.declared.node_list.NodeRefusal.TheVariants as refusal;
+ghost use Rattle.fsck_cluster.specs.NodeLists.{no_list, ended_row, after_row, counted, ended_section, after_name, after_rack, after_drains, after_remaining, after_section, after_line, at_end, IsCause};
 
 use crate::cluster::{Cluster, DEFAULT_RACK, NodeRow};
 use bm_base::MAX_NODES;
@@ -14,10 +15,14 @@ pub struct NodeList {
     pub cluster: Cluster,
     /// The section of the live nodes is being read.
     pub is_live: bool,
+    /// How many these are by its heading.
+    pub announced: u64,
     /// That section was begun.
     pub was_live: bool,
     /// The node that is being read; its rack is 0 as long as no line says it.
     pub row: Option<NodeRow>,
+    /// A line said the state of this node.
+    pub has_status: bool,
 }
 
 /// Why a line of the report is not taken whose words are understood.
@@ -29,6 +34,10 @@ pub enum NodeWhy {
     TooManyNodes,
     #[error("the node before has no line 'DFS Remaining'")]
     NoRemaining,
+    #[error("the node before has no line 'Decommission Status'")]
+    NoStatus,
+    #[error("the report says {live} live DataNodes, and {read} were read")]
+    OtherNumber { live: u64, read: usize },
     #[error("the report has no live DataNodes")]
     NoLiveNodes,
 }
@@ -80,8 +89,10 @@ impl NodeList {
         NodeList {
             cluster,
             is_live: false,
+            announced: 0,
             was_live: false,
             row: None,
+            has_status: false,
         }
     }
 
@@ -91,7 +102,8 @@ impl NodeList {
         ensures refused { IfErr result (λ f. IsCause f (after_line self.old line.entry.now)) }
     {
         match node_line_of(line)? {
-            NodeLine::Section(is_live) => self.take_section(alloc, is_live),
+            NodeLine::Live(count) => self.take_section(alloc, true, count),
+            NodeLine::NotLive => self.take_section(alloc, false, 0),
             NodeLine::Other => Ok(()),
             _ if !self.is_live => Ok(()),
             NodeLine::Node(address) => self.take_name(alloc, address.text()),
@@ -109,7 +121,7 @@ impl NodeList {
         ensures ok { IfOk result (λ c. at_end self ≡ Ok c) }
         ensures refused { IfErr result (λ f. IsCause f (at_end self)) }
     {
-        self.end_row(alloc)?;
+        self.end_section(alloc)?;
         if !self.was_live {
             return Err(NodeFault::Refused(NodeRefusal::Why(NodeWhy::NoLiveNodes)));
         }
@@ -128,6 +140,9 @@ impl NodeList {
         if row.remaining.is_none() {
             return Err(NodeFault::Refused(NodeRefusal::Why(NodeWhy::NoRemaining)));
         }
+        if !self.has_status {
+            return Err(NodeFault::Refused(NodeRefusal::Why(NodeWhy::NoStatus)));
+        }
         let rack = if row.rack == 0 {
             self.cluster.racks.number_of(alloc, DEFAULT_RACK)?.number
         } else {
@@ -138,12 +153,46 @@ impl NodeList {
         Ok(())
     }
 
-    fn take_section<'a>(&mut self, alloc: Global, is_live: bool) -> Result<(), NodeFault<'a>>
-        ensures ok { OnOk result (after_section self.old is_live ≡ Ok self.new) }
-        ensures refused { IfErr result (λ f. IsCause f (after_section self.old is_live)) }
+    /// Ends the section that was being read: it has as many nodes as its heading says.
+    fn end_section<'a>(&mut self, alloc: Global) -> Result<(), NodeFault<'a>>
+        ensures ok { OnOk result (ended_section self.old ≡ Ok self.new) }
+        ensures refused { IfErr result (λ f. IsCause f (ended_section self.old)) }
     {
         self.end_row(alloc)?;
+        match self.counted() {
+            Ok(()) => Ok(()),
+            Err(why) => Err(NodeFault::Refused(NodeRefusal::Why(why))),
+        }
+    }
+
+    /// As many live nodes were read as the heading of their section says.
+    fn counted(&self) -> Result<(), NodeWhy>
+        ensures ok { OnOk result (counted self.now ≡ Ok self.now) }
+        ensures refused { IfErr result (λ why. counted self.now ≡ Err (refusal.Why why)) }
+    {
+        if !self.is_live {
+            return Ok(());
+        }
+        let (live, read) = (self.announced, self.cluster.nodes.len());
+        if read as u64 == live {
+            Ok(())
+        } else {
+            Err(NodeWhy::OtherNumber { live, read })
+        }
+    }
+
+    fn take_section<'a>(
+        &mut self,
+        alloc: Global,
+        is_live: bool,
+        announced: u64,
+    ) -> Result<(), NodeFault<'a>>
+        ensures ok { OnOk result (after_section self.old is_live announced ≡ Ok self.new) }
+        ensures refused { IfErr result (λ f. IsCause f (after_section self.old is_live announced)) }
+    {
+        self.end_section(alloc)?;
         self.is_live = is_live;
+        self.announced = announced;
         self.was_live = self.was_live || is_live;
         Ok(())
     }
@@ -165,6 +214,7 @@ impl NodeList {
             rack: 0,
             remaining: None,
         });
+        self.has_status = false;
         Ok(())
     }
 
@@ -181,10 +231,14 @@ impl NodeList {
     fn take_drains(&mut self, drains: bool) -> Result<(), AllocError>
         ensures { OnOk result (self.new ≡ after_drains self.old drains) }
     {
-        match self.row {
-            Some(row) if drains => self.cluster.draining.add(u64::from(row.number)),
-            _ => Ok(()),
+        let Some(row) = self.row else {
+            return Ok(());
+        };
+        if drains {
+            self.cluster.draining.add(u64::from(row.number))?;
         }
+        self.has_status = true;
+        Ok(())
     }
 
     fn take_remaining(&mut self, bytes: u64)

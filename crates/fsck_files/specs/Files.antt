@@ -1,8 +1,8 @@
 -- The files of a text, line by line.
-use Rattle.std.specs.Prelude.{◌≡◌, ⊤, ℕ, ◌+◌, ◌==◌, ◌&&◌, ◌||◌, Bool, true, false, not, max, nat_lt, List, [], Option, Some, None, unwrap_or, Result, Ok, Err, if◌then◌else◌}
+use Rattle.std.specs.Prelude.{◌≡◌, ⊤, ℕ, ◌+◌, ◌==◌, ◌&&◌, Bool, true, false, not, max, nat_lt, length, List, [], Option, Some, None, unwrap_or, Result, Ok, Err, if◌then◌else◌}
 use Rattle.std.specs.Option.{option_map_or}
 use Rattle.fsck_text.specs.Cuts.{Text}
-use Rattle.fsck_text.specs.Blocks.{block_of, corrupt_block, is_missing}
+use Rattle.fsck_text.specs.Blocks.{block_of, corrupt_block, is_missing, is_being_written}
 use Rattle.fsck_text.specs.Headings.{differ}
 use Rattle.fsck_text.specs.Lines.{line_of}
 use Rattle.fsck_text.specs.Lists.{list_of}
@@ -17,7 +17,7 @@ use Rattle.fsck_text.specs.declared.summary.Count.{Count}
 use Rattle.fsck_text.specs.declared.wrong.Fault.{Fault}
 use Rattle.fsck_text.specs.declared.wrong.Fault.TheVariants as text_fault
 use Rattle.fsck_text.specs.declared.wrong.Wrong.{Wrong}
-use Rattle.fsck_files.specs.Counts.{no_counts, no_sums, with_blocks, with_missing, with_corrupt, is_healthy, with_sum, mismatch}
+use Rattle.fsck_files.specs.Counts.{no_counts, none_summed, with_blocks, with_missing, with_corrupt, is_healthy, number_of, with_sum}
 use Rattle.fsck_files.specs.Numbers.{has_number, with_number}
 use Rattle.fsck_files.specs.Replicas.{claims, are_unmarked, maintained}
 use Rattle.fsck_files.specs.Skips.{kind_of, skips, left_out_with, over_replicated, plus}
@@ -40,7 +40,7 @@ use Rattle.fsck_files.specs.declared.skips.Unclear.TheVariants as unclear
 
 -- no file is being read
 abbrev pub no_file : File
-no_file = record { target = None; announced = 0; read = 0; is_coded = false; is_left_out = false }
+no_file = record { target = None; announced = 0; read = 0; corrupt_read = 0; is_coded = false; is_left_out = false }
 
 -- nothing was read
 abbrev pub no_files : Skips → Unclear → Files
@@ -51,8 +51,10 @@ no_files skips unclear = record {
   file = no_file;
   corrupt = [];
   counts = no_counts;
-  sums = no_sums;
+  summed = none_summed;
   is_healthy = false;
+  is_of_all = false;
+  unlisted = 0;
   left_out = record { erasure_coded = 0; open_files = 0; snapshots = 0; over_replicated = 0 };
   unclear_blocks = 0;
   maintained = 0;
@@ -71,7 +73,7 @@ after_first s _ = Err why.OutOfPlace
 abbrev pub left_out : Files → Kind → After
 left_out s kind =
     if skips s.skips kind
-    then Ok (record s { file = record s.file { read = s.file.announced; is_left_out = true }; left_out = left_out_with s.left_out kind })
+    then Ok (record s { file = record s.file { is_left_out = true }; left_out = left_out_with s.left_out kind })
     else Err (why.Unsupported kind)
 
 abbrev pub is_coded : Layout → Bool
@@ -87,7 +89,8 @@ may_head _ = true
 abbrev pub headed : Files → Heading → Files
 headed s h = record s {
   part = part.Files;
-  file = record { target = h.target; announced = h.blocks; read = 0; is_coded = is_coded h.layout; is_left_out = false };
+  file = record { target = h.target; announced = h.blocks; read = 0; corrupt_read = 0; is_coded = is_coded h.layout; is_left_out = false };
+  corrupt = [];
   counts = with_blocks s.counts (is_coded h.layout) h.blocks;
 }
 
@@ -95,11 +98,16 @@ headed s h = record s {
 abbrev pub lacks_blocks : File → Bool
 lacks_blocks f = nat_lt f.read f.announced
 
+-- of the blocks that fsck calls corrupt under the heading of the file, fewer were read; those of a file that is left out are not known
+abbrev pub lacks_corrupt : Files → Bool
+lacks_corrupt s = not s.file.is_left_out && nat_lt s.file.corrupt_read (length s.corrupt)
+
 -- why neither the heading of the next file nor the summary may come here
 abbrev pub unended : Files → Option Why
 unended s =
     if not (may_head s.part) then Some why.OutOfPlace
-    else (if lacks_blocks s.file then Some why.BlockLeftOut else None)
+    else (if lacks_blocks s.file then Some why.BlockLeftOut
+    else (if lacks_corrupt s then Some why.CorruptElsewhere else None))
 
 -- the heading of the next file, after all blocks of the file before
 abbrev pub after_heading : Files → Heading → After
@@ -112,7 +120,7 @@ is_files _ = false
 
 -- a line about a file comes after its heading, and before its blocks
 abbrev pub is_open : Files → Bool
-is_open s = is_files s.part && (s.file.is_left_out || s.file.read == 0)
+is_open s = is_files s.part && (s.file.read == 0)
 
 -- a number of a block, or why it cannot be read
 abbrev pub read_as : {A B : Type 0} → (A → Result B Refusal) → Result A Wrong → Result B Refusal
@@ -150,26 +158,37 @@ abbrev pub is_summary : Part → Bool
 is_summary part.Summary = true
 is_summary _ = false
 
--- a number of the summary
-abbrev pub after_sum : Files → Count → ℕ → Files
-after_sum s count sum = if is_summary s.part then record s { sums = with_sum s.sums count sum } else s
+-- a number of the summary is that of what was read
+abbrev pub compared : Files → Count → ℕ → After
+compared s count sum =
+    if sum == number_of s.counts count then Ok (record s { summed = with_sum s.summed count })
+    else Err (why.Mismatch (record { count = count; sum = sum; read = number_of s.counts count }))
+
+-- a number of the summary, or of another part of the text, which says nothing
+abbrev pub after_sum : Files → Count → ℕ → After
+after_sum s count sum = if is_summary s.part then compared s count sum else Ok s
+
+-- the summary counts files that are not in the text
+abbrev pub after_unlisted : Files → ℕ → Files
+after_unlisted s files = if is_summary s.part then record s { unlisted = plus s.unlisted files } else s
 
 -- the summary and the last line call all files healthy, or neither does
 abbrev pub agrees : Bool → Bool → Bool
 agrees first second = if first then second else not second
 
 -- both say of the health what was read
-abbrev pub ended : Files → Bool → After
-ended s healthy =
+abbrev pub ended : Files → Bool → Bool → After
+ended s healthy of_all =
     if agrees (is_healthy s.counts) healthy && agrees s.is_healthy healthy
-    then Ok (record s { part = part.Behind }) else Err why.OtherHealth
+    then Ok (record s { part = part.Behind; is_of_all = of_all }) else Err why.OtherHealth
 
--- the last line of fsck: the summary has the number of blocks, and its numbers are those of what was read
-abbrev pub after_last : Files → Bool → After
-after_last s healthy =
+-- the last line of fsck: the summary has the numbers of blocks and of corrupt blocks
+abbrev pub after_last : Files → Bool → Bool → After
+after_last s healthy of_all =
     if not (is_summary s.part) then Err why.OutOfPlace
-    else option_map_or (λ _. option_map_or (λ m. Err (why.Mismatch m)) (mismatch s.sums s.counts) (ended s healthy))
-    s.sums.blocks (Err why.NoSum)
+    else (if not s.summed.blocks then Err why.NoSum
+    else (if not s.summed.corrupt then Err why.NoCorruptSum
+    else ended s healthy of_all))
 
 -- how many replicas are wanted of a block: what was said of its file, else as many as are live, and at least one
 abbrev pub wanted : Option ℕ → Option ℕ → ℕ
@@ -215,28 +234,32 @@ by_places s b repl listed places live =
     if nat_lt places live then refused (why.FewerThanLive places live)
     else (if nat_lt live places then unclear_by s.unclear s b repl listed places live else emitted s b repl listed)
 
--- by how many replicas are live, as fsck counts them. If each known replica of a block is corrupt, and the places have no marks, the number is not compared: Hadoop 2.6 writes that of the places there, later versions 0
-abbrev pub by_live : Files → BlockLine → ℕ → List Listed → Option ℕ → Taken
-by_live s b repl listed None = emitted (record s { counts = with_missing s.counts false }) b repl listed
-by_live s b repl listed (Some live) =
-    if has_number s.corrupt b.id && are_unmarked listed then emitted s b repl listed
+-- by how many replicas fsck counts as live. If each known replica of a block is corrupt, and the places have no marks, the number is not compared: Hadoop 2.6 writes that of the places there, later versions 0
+abbrev pub by_count : Files → BlockLine → ℕ → List Listed → ℕ → Taken
+by_count s b repl listed live =
+    if are_unmarked (has_number s.corrupt b.id) listed then emitted s b repl listed
     else by_places s b repl listed (claims (has_number s.corrupt b.id) listed) live
 
--- with one more block
-abbrev pub with_one_read : File → File
-with_one_read f = record f { read = f.read + 1 }
+-- the same, if fsck counts them
+abbrev pub by_live : Files → BlockLine → ℕ → List Listed → Option ℕ → Taken
+by_live s b repl listed None = emitted (record s { counts = with_missing s.counts false }) b repl listed
+by_live s b repl listed (Some live) = by_count s b repl listed live
 
-abbrev pub one_read : Files → Files
-one_read s = record s { file = with_one_read s.file }
+-- with one more block, which fsck calls corrupt or not
+abbrev pub with_one_read : File → Bool → File
+with_one_read f corrupt = record f { read = f.read + 1; corrupt_read = if corrupt then plus f.corrupt_read 1 else f.corrupt_read }
+
+abbrev pub one_read : Files → Bool → Files
+one_read s corrupt = record s { file = with_one_read s.file corrupt }
 
 abbrev pub after_listed : Files → BlockLine → ℕ → Result (List Listed) Wrong → Taken
-after_listed s b repl (Ok listed) = by_live (one_read s) b repl listed b.live
+after_listed s b repl (Ok listed) = by_live (one_read s (has_number s.corrupt b.id)) b repl listed b.live
 after_listed s b repl (Err w) = Err (refusal.Wrong w)
 
 -- more than 16 replicas are wanted of a block: its file is left out, if that shows at its first block
 abbrev pub after_over : Files → Taken
 after_over s =
-    if s.file.read == 0 then without (left_out s kind.OverReplicated) else refused (why.Unsupported kind.OverReplicated)
+    if s.file.read == 0 then without (left_out (one_read s false) kind.OverReplicated) else refused (why.Unsupported kind.OverReplicated)
 
 -- a block whose line is understood. Hadoop 2 says nothing of the replication of a file whose blocks all have enough replicas, so that one with more than 16 shows at its first block
 abbrev pub after_block : Files → BlockLine → Taken
@@ -254,10 +277,20 @@ passed s text = if is_missing text then record s { counts = with_missing s.count
 abbrev pub is_next : File → ℕ → Bool
 is_next f index = (index == f.read) && nat_lt f.read f.announced
 
+-- a block that is being written and has no bytes yet comes behind those that the heading counts
+abbrev pub is_begun : File → ℕ → Text → Bool
+is_begun f index text = (index == f.read) && is_being_written text
+
+-- a block of a file that is left out
+abbrev pub after_passed : Files → ℕ → Text → Taken
+after_passed s index text =
+    if is_next s.file index then Ok (passed (one_read s false) text, None)
+    else (if is_begun s.file index text then Ok (s, None) else refused why.NotNext)
+
 -- the line of a block of this index
 abbrev pub after_indexed : Files → ℕ → Text → Taken
 after_indexed s index text =
-    if s.file.is_left_out then Ok (passed s text, None)
+    if s.file.is_left_out then after_passed s index text
     else (if is_next s.file index then read_as (after_block s) (block_of text) else refused why.NotNext)
 
 -- a block comes after the heading of its file, and before the summary
@@ -275,8 +308,9 @@ after_kind s (line.Corrupt text) = without_block (after_corrupt s text)
 after_kind s (line.Target target) = without (after_target s target)
 after_kind s (line.Block index text) = after_placed s.part s index text
 after_kind s (line.Status healthy) = without (after_status s healthy)
-after_kind s (line.Sum count sum) = Ok (after_sum s count sum, None)
-after_kind s (line.Last healthy) = without (after_last s healthy)
+after_kind s (line.Sum count sum) = without (after_sum s count sum)
+after_kind s (line.Unlisted files) = Ok (after_unlisted s files, None)
+after_kind s (line.Last healthy of_all) = without (after_last s healthy of_all)
 after_kind s line.Other = Ok (s, None)
 
 -- after one more line

@@ -41,9 +41,9 @@ abbrev pub is_marked : Mark → Bool
 is_marked mark.Absent = false
 is_marked _ = true
 
--- whether there are replicas, and none has a mark
-abbrev pub are_unmarked : List Listed → Bool
-are_unmarked listed = nat_lt 0 (length listed) && (count_by (λ one. is_marked one.mark) listed == 0)
+-- whether fsck says that each known replica of a block is corrupt, and none of the replicas there has a mark
+abbrev pub are_unmarked : Bool → List Listed → Bool
+are_unmarked block_is_corrupt listed = block_is_corrupt && nat_lt 0 (length listed) && (count_by (λ one. is_marked one.mark) listed == 0)
 
 -- how many replicas on nodes in maintenance count as good: none of a corrupt block
 abbrev pub maintained : Bool → List Listed → ℕ

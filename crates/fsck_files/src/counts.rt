@@ -1,8 +1,7 @@
-// The numbers of the summary: what it says, and what was read.
+// The numbers of the summary, and what was read.
 ghost use Rattle.std.specs.Prelude.{◌≡◌};
-ghost use Rattle.fsck_files.specs.Counts.{no_counts, no_sums, with_blocks, with_missing, with_corrupt, is_healthy, with_sum, differs, mismatch};
+ghost use Rattle.fsck_files.specs.Counts.{no_counts, none_summed, with_blocks, with_missing, with_corrupt, is_healthy, number_of, with_sum};
 
-use crate::refusal::Mismatch;
 use crate::skips::plus;
 use fsck_text::Count;
 
@@ -92,94 +91,53 @@ impl Counts {
             && self.missing_groups == 0
             && self.corrupt_groups == 0
     }
-}
 
-/// What the summary says, as far as it was read.
-#[derive(Clone, Copy, Drop)]
-pub struct Sums {
-    pub blocks: Option<u64>,
-    pub missing: Option<u64>,
-    pub corrupt: Option<u64>,
-    pub groups: Option<u64>,
-    pub missing_groups: Option<u64>,
-    pub corrupt_groups: Option<u64>,
-}
-
-impl Sums {
-    pub fn new() -> Sums
-        ensures { result ≡ no_sums }
+    /// How many were read of what the summary counts.
+    pub fn number_of(self, count: Count) -> u64
+        ensures { result ≡ number_of self count }
     {
-        Sums {
-            blocks: None,
-            missing: None,
-            corrupt: None,
-            groups: None,
-            missing_groups: None,
-            corrupt_groups: None,
-        }
-    }
-
-    /// With a number of the summary. It may be there twice, as `MISSING BLOCKS` and as `Missing blocks`:
-    /// the last one counts, and `check` compares it.
-    pub fn with(self, count: Count, sum: u64) -> Sums
-        ensures { result ≡ with_sum self count sum }
-    {
-        let sum = Some(sum);
         match count {
-            Count::Blocks => Sums {
-                blocks: sum,
-                ..self
-            },
-            Count::Missing => Sums {
-                missing: sum,
-                ..self
-            },
-            Count::Corrupt => Sums {
-                corrupt: sum,
-                ..self
-            },
-            Count::Groups => Sums {
-                groups: sum,
-                ..self
-            },
-            Count::MissingGroups => Sums {
-                missing_groups: sum,
-                ..self
-            },
-            Count::CorruptGroups => Sums {
-                corrupt_groups: sum,
-                ..self
-            },
+            Count::Blocks => self.blocks,
+            Count::Missing => self.missing,
+            Count::Corrupt => self.corrupt,
+            Count::Groups => self.groups,
+            Count::MissingGroups => self.missing_groups,
+            Count::CorruptGroups => self.corrupt_groups,
         }
-    }
-
-    /// The first number that is not the one that was read.
-    pub fn mismatch(self, read: Counts) -> Option<Mismatch>
-        ensures { result ≡ mismatch self read }
-    {
-        differs(Count::Blocks, self.blocks, read.blocks)
-            .or(differs(Count::Missing, self.missing, read.missing))
-            .or(differs(Count::Corrupt, self.corrupt, read.corrupt))
-            .or(differs(Count::Groups, self.groups, read.groups))
-            .or(differs(
-                Count::MissingGroups,
-                self.missing_groups,
-                read.missing_groups,
-            ))
-            .or(differs(
-                Count::CorruptGroups,
-                self.corrupt_groups,
-                read.corrupt_groups,
-            ))
     }
 }
 
-/// A number of the summary that is not the one that was read, if it is there.
-fn differs(count: Count, sum: Option<u64>, read: u64) -> Option<Mismatch>
-    ensures { result ≡ differs count sum read }
-{
-    match sum {
-        Some(sum) if sum != read => Some(Mismatch { count, sum, read }),
-        _ => None,
+/// Which of the numbers were read that each summary has.
+#[derive(Clone, Copy, Drop)]
+pub struct Summed {
+    pub blocks: bool,
+    pub corrupt: bool,
+}
+
+impl Summed {
+    pub fn new() -> Summed
+        ensures { result ≡ none_summed }
+    {
+        Summed {
+            blocks: false,
+            corrupt: false,
+        }
+    }
+
+    /// With a number of the summary.
+    pub fn with(self, count: Count) -> Summed
+        ensures { result ≡ with_sum self count }
+    {
+        match count {
+            Count::Blocks => Summed {
+                blocks: true,
+                ..self
+            },
+            Count::Corrupt => Summed {
+                corrupt: true,
+                ..self
+            },
+            _ => self,
+        }
     }
 }

@@ -1,16 +1,16 @@
 // The files of a text, line by line.
-ghost use Rattle.std.specs.Prelude.{◌≡◌, ◌<◌, Ok, Err, Some, IfOk, OnOk, IfErr};
-ghost use Rattle.fsck_files.specs.Files.{no_files, is_open, unended, is_next, is_whole, wanted, after_first, left_out, after_heading, after_corrupt, after_target, after_status, after_sum, after_last, after_placed, after_indexed, after_block, after_over, by_live, emitted, after_line, IsCause};
+ghost use Rattle.std.specs.Prelude.{◌≡◌, ◌<◌, Ok, Err, Some, None, IfOk, OnOk, IfErr};
+ghost use Rattle.fsck_files.specs.Files.{no_files, is_open, unended, is_next, is_whole, wanted, after_first, left_out, after_heading, after_corrupt, after_target, after_status, after_sum, after_unlisted, after_last, after_placed, after_indexed, after_passed, after_block, after_over, by_live, by_count, by_places, emitted, after_line, refused, IsCause};
 
-use crate::counts::{Counts, Sums};
+use crate::counts::{Counts, Summed};
 use crate::numbers::Numbers;
-use crate::refusal::{Refusal, Why};
+use crate::refusal::{Mismatch, Refusal, Why};
 use crate::replicas::{Block, are_unmarked, claims, maintained};
 use crate::skips::{Kind, LeftOut, Skips, Unclear, kind_of, over_replicated, plus};
 use bm_base::Items;
 use fsck_text::{
     BlockLine, Count, Fault, Heading, Layout, Line, Listed, Wrong, block_of, corrupt_block,
-    is_missing, line_of, list_of,
+    is_being_written, is_missing, line_of, list_of,
 };
 use std::alloc::{AllocError, Global};
 
@@ -34,8 +34,10 @@ pub struct File {
     pub target: Option<u32>,
     /// How many blocks it has.
     pub announced: u32,
-    /// How many of them were read; all of a file that is left out.
+    /// How many of them were read.
     pub read: u32,
+    /// How many of these fsck calls corrupt; those of a file that is left out are not counted.
+    pub corrupt_read: u64,
     pub is_coded: bool,
     pub is_left_out: bool,
 }
@@ -44,13 +46,19 @@ impl File {
     ghost use Rattle.std.specs.Prelude.{◌≡◌, ◌<◌};
     ghost use Rattle.fsck_files.specs.Files.{with_one_read};
 
-    /// With one more block.
-    fn with_one_read(self) -> File
+    /// With one more block, which fsck calls corrupt or not.
+    fn with_one_read(self, is_corrupt: bool) -> File
         requires { self.read < self.announced }
-        ensures { result ≡ with_one_read self }
+        ensures { result ≡ with_one_read self is_corrupt }
     {
+        let corrupt_read = if is_corrupt {
+            plus(self.corrupt_read, 1)
+        } else {
+            self.corrupt_read
+        };
         File {
             read: self.read + 1,
+            corrupt_read,
             ..self
         }
     }
@@ -63,12 +71,16 @@ pub struct Files {
     pub unclear: Unclear,
     pub part: Part,
     pub file: File,
-    /// The blocks that fsck calls corrupt.
+    /// The blocks that fsck calls corrupt under the heading of the file.
     pub corrupt: Numbers,
     pub counts: Counts,
-    pub sums: Sums,
+    pub summed: Summed,
     /// The summary begins by calling all files healthy.
     pub is_healthy: bool,
+    /// The last line was read, and is about the path `/`.
+    pub is_of_all: bool,
+    /// How many files are being written and are not in the text, by the summary.
+    pub unlisted: u64,
     pub left_out: LeftOut,
     /// How many blocks had more places without a mark than live replicas.
     pub unclear_blocks: u64,
@@ -145,13 +157,16 @@ impl Files {
                 target: None,
                 announced: 0,
                 read: 0,
+                corrupt_read: 0,
                 is_coded: false,
                 is_left_out: false,
             },
             corrupt: Numbers::new(alloc),
             counts: Counts::new(),
-            sums: Sums::new(),
+            summed: Summed::new(),
             is_healthy: false,
+            is_of_all: false,
+            unlisted: 0,
             left_out: LeftOut {
                 erasure_coded: 0,
                 open_files: 0,
@@ -179,8 +194,9 @@ impl Files {
             Line::Corrupt(text) => self.take_corrupt(text.text())?,
             Line::Target(target) => self.take_target(target)?,
             Line::Status(is_healthy) => self.take_status(is_healthy)?,
-            Line::Sum(count, sum) => self.take_sum(count, sum),
-            Line::Last(is_healthy) => self.take_last(is_healthy)?,
+            Line::Sum(count, sum) => self.take_sum(count, sum)?,
+            Line::Unlisted(files) => self.take_unlisted(files),
+            Line::Last(is_healthy, is_of_all) => self.take_last(is_healthy, is_of_all)?,
             Line::Other => {}
         }
         Ok(None)
@@ -205,7 +221,6 @@ impl Files {
         if !self.skips.has(kind) {
             return Err(Why::Unsupported(kind));
         }
-        self.file.read = self.file.announced;
         self.file.is_left_out = true;
         self.left_out = self.left_out.with(kind);
         Ok(())
@@ -219,6 +234,8 @@ impl Files {
             Some(Why::OutOfPlace)
         } else if self.file.read < self.file.announced {
             Some(Why::BlockLeftOut)
+        } else if !self.file.is_left_out && self.file.corrupt_read < self.corrupt.len() as u64 {
+            Some(Why::CorruptElsewhere)
         } else {
             None
         }
@@ -237,9 +254,11 @@ impl Files {
             target: heading.target,
             announced: heading.blocks,
             read: 0,
+            corrupt_read: 0,
             is_coded,
             is_left_out: false,
         };
+        self.corrupt.clear();
         self.counts = self.counts.with_blocks(is_coded, heading.blocks);
         match kind_of(heading) {
             Some(kind) => self.leave_out(kind),
@@ -251,7 +270,7 @@ impl Files {
     fn is_open(&self) -> bool
         ensures { result ≡ is_open self.now }
     {
-        matches!(self.part, Part::Files) && (self.file.is_left_out || self.file.read == 0)
+        matches!(self.part, Part::Files) && self.file.read == 0
     }
 
     fn take_corrupt<'a>(&mut self, text: &'a str) -> Result<(), LineFault<'a>>
@@ -302,31 +321,48 @@ impl Files {
         Ok(())
     }
 
-    fn take_sum(&mut self, count: Count, sum: u64)
-        ensures { self.new ≡ after_sum self.old count sum }
+    /// Compares a number of the summary with what was read.
+    fn take_sum(&mut self, count: Count, sum: u64) -> Result<(), Why>
+        ensures ok { OnOk result (after_sum self.old count sum ≡ Ok self.new) }
+        ensures refused { IfErr result (λ why. after_sum self.old count sum ≡ Err why) }
+    {
+        if !matches!(self.part, Part::Summary) {
+            return Ok(());
+        }
+        let read = self.counts.number_of(count);
+        if sum != read {
+            return Err(Why::Mismatch(Mismatch { count, sum, read }));
+        }
+        self.summed = self.summed.with(count);
+        Ok(())
+    }
+
+    fn take_unlisted(&mut self, files: u64)
+        ensures { self.new ≡ after_unlisted self.old files }
     {
         if matches!(self.part, Part::Summary) {
-            self.sums = self.sums.with(count, sum);
+            self.unlisted = plus(self.unlisted, files);
         }
     }
 
-    fn take_last(&mut self, is_healthy: bool) -> Result<(), Why>
-        ensures ok { OnOk result (after_last self.old is_healthy ≡ Ok self.new) }
-        ensures refused { IfErr result (λ why. after_last self.old is_healthy ≡ Err why) }
+    fn take_last(&mut self, is_healthy: bool, is_of_all: bool) -> Result<(), Why>
+        ensures ok { OnOk result (after_last self.old is_healthy is_of_all ≡ Ok self.new) }
+        ensures refused { IfErr result (λ why. after_last self.old is_healthy is_of_all ≡ Err why) }
     {
         if !matches!(self.part, Part::Summary) {
             return Err(Why::OutOfPlace);
         }
-        if self.sums.blocks.is_none() {
+        if !self.summed.blocks {
             return Err(Why::NoSum);
         }
-        if let Some(mismatch) = self.sums.mismatch(self.counts) {
-            return Err(Why::Mismatch(mismatch));
+        if !self.summed.corrupt {
+            return Err(Why::NoCorruptSum);
         }
         if self.counts.is_healthy() != is_healthy || self.is_healthy != is_healthy {
             return Err(Why::OtherHealth);
         }
         self.part = Part::Behind;
+        self.is_of_all = is_of_all;
         Ok(())
     }
 
@@ -357,9 +393,7 @@ impl Files {
         ensures refused { IfErr result (λ f. IsCause f (after_indexed self.old index text.entry.now)) }
     {
         if self.file.is_left_out {
-            if is_missing(text) {
-                self.counts = self.counts.with_missing(self.file.is_coded);
-            }
+            self.take_passed(index, text)?;
             return Ok(None);
         }
         if !self.is_next(index) {
@@ -367,6 +401,26 @@ impl Files {
         }
         let block = block_of(text)?;
         self.take_block(alloc, block)
+    }
+
+    /// Passes over a block of a file that is left out. A block that is being written and has no bytes
+    /// yet comes behind those that the heading counts.
+    fn take_passed(&mut self, index: u64, text: &str) -> Result<(), Why>
+        ensures ok { OnOk result (after_passed self.old index text.now ≡ Ok (self.new, None)) }
+        ensures refused { IfErr result (λ why. after_passed self.old index text.now ≡ refused why) }
+    {
+        if self.is_next(index) {
+            self.file = self.file.with_one_read(false);
+            if is_missing(text) {
+                self.counts = self.counts.with_missing(self.file.is_coded);
+            }
+            return Ok(());
+        }
+        if index == u64::from(self.file.read) && is_being_written(text) {
+            Ok(())
+        } else {
+            Err(Why::NotNext)
+        }
     }
 
     /// Whether a block of this index is the next of the file.
@@ -394,24 +448,26 @@ impl Files {
             return self.take_over_replicated();
         }
         let listed = list_of(alloc, block.list.text())?;
-        self.file = self.file.with_one_read();
+        let is_corrupt = self.corrupt.has(block.id.0);
+        self.file = self.file.with_one_read(is_corrupt);
         self.take_listed(block, repl, listed)
     }
 
     /// The file of a block of which too many replicas are wanted is left out, if that shows at its first.
     fn take_over_replicated<'a>(&mut self) -> Result<Option<Block<'a>>, LineFault<'a>>
+        requires { self.old.file.read < self.old.file.announced }
         ensures ok { IfOk result (λ taken. after_over self.old ≡ Ok (self.new, taken)) }
         ensures refused { IfErr result (λ f. IsCause f (after_over self.old)) }
     {
         if self.file.read != 0 {
             return Err(LineFault::from(Why::Unsupported(Kind::OverReplicated)));
         }
+        self.file = self.file.with_one_read(false);
         self.leave_out(Kind::OverReplicated)?;
         Ok(None)
     }
 
-    /// Takes a block with its list of replicas. If the block is corrupt and the places have no marks,
-    /// the number of live replicas is not compared: Hadoop 2.6 writes that of the places.
+    /// Takes a block with its list of replicas.
     fn take_listed<'a>(
         &mut self,
         block: BlockLine<'a>,
@@ -425,11 +481,41 @@ impl Files {
             self.counts = self.counts.with_missing(false);
             return Ok(Some(self.emit(block, repl, listed)));
         };
+        self.take_counted(block, repl, listed, live)
+    }
+
+    /// Takes a block of which fsck counts the live replicas. If the block is corrupt and the places have
+    /// no marks, the number is not compared: Hadoop 2.6 writes that of the places.
+    fn take_counted<'a>(
+        &mut self,
+        block: BlockLine<'a>,
+        repl: u32,
+        listed: Items<Listed<'a>>,
+        live: u32,
+    ) -> Result<Option<Block<'a>>, LineFault<'a>>
+        ensures ok { IfOk result (λ taken. by_count self.old block.entry repl listed.entry live ≡ Ok (self.new, taken)) }
+        ensures refused { IfErr result (λ f. IsCause f (by_count self.old block.entry repl listed.entry live)) }
+    {
         let is_corrupt = self.corrupt.has(block.id.0);
-        if is_corrupt && are_unmarked(listed.as_slice()) {
+        if are_unmarked(is_corrupt, listed.as_slice()) {
             return Ok(Some(self.emit(block, repl, listed)));
         }
         let places = claims(is_corrupt, listed.as_slice());
+        self.take_places(block, repl, listed, places, live)
+    }
+
+    /// Takes a block with places that may be live, by how many replicas are.
+    fn take_places<'a>(
+        &mut self,
+        block: BlockLine<'a>,
+        repl: u32,
+        listed: Items<Listed<'a>>,
+        places: usize,
+        live: u32,
+    ) -> Result<Option<Block<'a>>, LineFault<'a>>
+        ensures ok { IfOk result (λ taken. by_places self.old block.entry repl listed.entry places live ≡ Ok (self.new, taken)) }
+        ensures refused { IfErr result (λ f. IsCause f (by_places self.old block.entry repl listed.entry places live)) }
+    {
         if places < live as usize {
             drop(listed);
             return Err(LineFault::from(Why::FewerThanLive { places, live }));

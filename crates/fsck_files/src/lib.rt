@@ -12,7 +12,7 @@ mod refusal;
 mod replicas;
 mod skips;
 
-pub use counts::{Counts, Sums};
+pub use counts::{Counts, Summed};
 pub use files::{File, Files, LineFault, Part};
 pub use numbers::Numbers;
 pub use refusal::{Mismatch, Refusal, Why};

@@ -35,6 +35,12 @@ impl Numbers {
         self.set.len()
     }
 
+    pub fn clear(&mut self)
+        ensures { self.new ≡ [] }
+    {
+        self.set.clear();
+    }
+
     pub fn has(&self, number: u64) -> bool
         ensures { result ≡ has_number self.now number }
     {

@@ -25,6 +25,8 @@ pub enum Why {
     NotNext,
     #[error("the file before has fewer blocks than its heading says")]
     BlockLeftOut,
+    #[error("fsck calls a block of the file before corrupt that the file does not have")]
+    CorruptElsewhere,
     /// A file of a kind that the line tool has no call for.
     #[error("{0}")]
     Unsupported(Kind),
@@ -41,6 +43,8 @@ pub enum Why {
     Mismatch(Mismatch),
     #[error("the summary has no line 'Total blocks (validated)'")]
     NoSum,
+    #[error("the summary has no line 'Corrupt blocks'")]
+    NoCorruptSum,
     #[error("the summary or the last line says of the health what was not read")]
     OtherHealth,
     #[error("the text ends before the last line of fsck")]

@@ -76,12 +76,12 @@ fn is_marked(mark: Mark) -> bool
     !matches!(mark, Mark::Absent)
 }
 
-/// Whether there are replicas, and none has a mark.
-pub fn are_unmarked(listed: &[Listed]) -> bool
-    ensures { result ≡ are_unmarked listed.now }
+/// Whether a block is corrupt, and none of the replicas there has a mark.
+pub fn are_unmarked(block_is_corrupt: bool, listed: &[Listed]) -> bool
+    ensures { result ≡ are_unmarked block_is_corrupt listed.now }
 {
     let marked = listed.iter().filter(|one| is_marked(one.mark)).count();
-    listed.len() > 0 && marked == 0
+    block_is_corrupt && listed.len() > 0 && marked == 0
 }
 
 /// How many replicas on nodes in maintenance count as good: none of a corrupt block.

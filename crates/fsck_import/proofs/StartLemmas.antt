@@ -14,7 +14,7 @@ use Rattle.fsck_text.specs.declared.wrong.Wrong.{Wrong}
 use Rattle.fsck_files.specs.Numbers.{has_number, with_number}
 use Rattle.fsck_cluster.specs.Clusters.{no_cluster}
 use Rattle.fsck_cluster.specs.Names.{is_new, name_number}
-use Rattle.fsck_cluster.specs.NodeLists.{no_list, with_row_on, with_row, after_row, ended_row, sectioned, named, with_node, on_rack, after_rack, after_drains, after_remaining, after_section, after_name, after_kind, read_as, after_line, at_end}
+use Rattle.fsck_cluster.specs.NodeLists.{no_list, with_row_on, with_row, after_row, ended_row, compared, counted, ended_section, sectioned, with_status, named, with_node, on_rack, after_rack, after_drains, after_remaining, after_section, after_name, after_kind, read_as, after_line, at_end}
 use Rattle.fsck_cluster.specs.declared.cluster.Cluster.{Cluster}
 use Rattle.fsck_cluster.specs.declared.cluster.NodeRow.{NodeRow}
 use Rattle.fsck_cluster.specs.declared.node_list.NodeList.{NodeList}
@@ -87,7 +87,24 @@ ended s t = by s.row refl
         let same : s ≡ t = same_ok s t e in
         (subst (λ x. Nodes x.cluster None) same before, subst (λ x. x.row ≡ None) same none)
     by (Some row) some e before =
-        row_done s t row (row.rack == 0) (if_not (is_none row.remaining) (Ok (if row.rack == 0 then with_row_on s row (codes "/default-rack") else with_row s row)) (refusal.Why why.NoRemaining) t e).1 before
+        let done : Result NodeList NodeRefusal = Ok (if row.rack == 0 then with_row_on s row (codes "/default-rack") else with_row s row) in
+        let known = if_not (is_none row.remaining) (if not s.has_status then Err (refusal.Why why.NoStatus) else done) (refusal.Why why.NoRemaining) t e in
+        row_done s t row (row.rack == 0) (if_not (not s.has_status) done (refusal.Why why.NoStatus) t known.1).1 before
+
+-- as many were read as are announced
+counted_same : (s t : NodeList) → counted s ≡ Ok t → s ≡ t
+counted_same s t = by s.is_live
+  where
+    by : (b : Bool) → (if b then compared s else Ok s) ≡ Ok t → s ≡ t
+    by true e = same_ok s t (if_ok (length s.cluster.nodes == s.announced) (Ok s) (refusal.Why (why.OtherNumber s.announced (length s.cluster.nodes))) t e).1
+    by false e = same_ok s t e
+
+ended_all : (s t : NodeList) → ended_section s ≡ Ok t → Nodes s.cluster s.row → Nodes t.cluster None × (t.row ≡ None)
+ended_all s t e before =
+    let first = came_of counted (ended_row s) t e in
+    let same = counted_same first.0 t first.2 in
+    let done = ended s first.0 first.1 before in
+    (subst (λ x. Nodes x.cluster None) same done.0, subst (λ x. x.row ≡ None) same done.1)
 
 -- a node begins
 named_nodes : (s : NodeList) (address : Text) → is_new s.cluster.nodes address ≡ true → Nodes s.cluster None → Nodes (named s address).cluster (named s address).row
@@ -126,12 +143,12 @@ node_nodes s t address e before =
     not_not true e = refl
     not_not false e = absurd (true≢false e)
 
-section_nodes : (s t : NodeList) (live : Bool) → after_section s live ≡ Ok t → Nodes s.cluster s.row → Nodes t.cluster t.row
-section_nodes s t live e before =
-    let first = came_of (sectioned live) (ended_row s) t e in
-    let done = ended s first.0 first.1 before in
+section_nodes : (s t : NodeList) (live : Bool) (count : ℕ) → after_section s live count ≡ Ok t → Nodes s.cluster s.row → Nodes t.cluster t.row
+section_nodes s t live count e before =
+    let first = came_of (sectioned live count) (ended_section s) t e in
+    let done = ended_all s first.0 first.1 before in
     let now : Nodes first.0.cluster first.0.row = subst (Nodes first.0.cluster) (sym done.1) done.0 in
-    subst (λ x. Nodes x.cluster x.row) (same_ok (record first.0 { is_live = live; was_live = first.0.was_live || live }) t first.2) now
+    subst (λ x. Nodes x.cluster x.row) (same_ok (record first.0 { is_live = live; announced = count; was_live = first.0.was_live || live }) t first.2) now
 
 -- the lines about a node
 with_same : (c d : Cluster) (o p : Option NodeRow) → Nodes c o → d.node_rows ≡ c.node_rows → d.nodes ≡ c.nodes → number_read p ≡ number_read o → d.storages ≡ c.storages → d.rows ≡ c.rows → d.blocks ≡ c.blocks → d.bad ≡ c.bad → d.draining ≡ c.draining → Nodes d p
@@ -170,8 +187,8 @@ one_drains c row before n h = by (has_number c.draining n) refl
 drains_nodes : (s : NodeList) (drains : Bool) → Nodes s.cluster s.row → Nodes (after_drains s drains).cluster (after_drains s drains).row
 drains_nodes s drains before = by s.row refl drains
   where
-    by : (o : Option NodeRow) → s.row ≡ o → (b : Bool) → Nodes (option_map_or (λ row. if b then record s { cluster = record s.cluster { draining = with_number s.cluster.draining row.number } } else s) o s).cluster
-        (option_map_or (λ row. if b then record s { cluster = record s.cluster { draining = with_number s.cluster.draining row.number } } else s) o s).row
+    by : (o : Option NodeRow) → s.row ≡ o → (b : Bool) → Nodes (option_map_or (λ row. if b then with_status (record s { cluster = record s.cluster { draining = with_number s.cluster.draining row.number } }) else with_status s) o s).cluster
+        (option_map_or (λ row. if b then with_status (record s { cluster = record s.cluster { draining = with_number s.cluster.draining row.number } }) else with_status s) o s).row
     by None e b = before
     by (Some row) e true = record {
       nodes = before.nodes;
@@ -181,7 +198,14 @@ drains_nodes s drains before = by s.row refl drains
       bad = before.bad;
       draining = one_drains s.cluster row (subst (Nodes s.cluster) e before);
     }
-    by (Some row) e false = before
+    by (Some row) e false = record {
+      nodes = before.nodes;
+      storages = before.storages;
+      rows = before.rows;
+      blocks = before.blocks;
+      bad = before.bad;
+      draining = before.draining;
+    }
 
 remaining_nodes : (s : NodeList) (bytes : ℕ) → Nodes s.cluster s.row → Nodes (after_remaining s bytes).cluster (after_remaining s bytes).row
 remaining_nodes s bytes before = by s.row refl
@@ -203,7 +227,8 @@ live_nodes s t after e before then_nodes = by s.is_live e
     by false e = at_ok s t e before
 
 kind_nodes : (s t : NodeList) (kind : NodeLine) → after_kind s kind ≡ Ok t → Nodes s.cluster s.row → Nodes t.cluster t.row
-kind_nodes s t (node.Section live) e before = section_nodes s t live e before
+kind_nodes s t (node.Live count) e before = section_nodes s t true count e before
+kind_nodes s t node.NotLive e before = section_nodes s t false 0 e before
 kind_nodes s t node.Other e before = at_ok s t e before
 kind_nodes s t (node.Node address) e before = live_nodes s t (after_name s address) e before (λ h. node_nodes s t address h before)
 kind_nodes s t (node.Rack rack) e before = live_nodes s t (Ok (after_rack s rack)) e before (λ h. at_ok (after_rack s rack) t h (rack_nodes s rack before))
@@ -226,9 +251,9 @@ lines_nodes s t (line ∷ lines) e before =
 pub nodes_fresh : (lines : List Text) (s : NodeList) (c : Cluster) → after_node_lines no_list lines ≡ Ok s → at_end s ≡ Ok c → IsFresh c
 nodes_fresh lines s c taken e =
     let read = lines_nodes no_list s lines taken (record { nodes = refl; storages = refl; rows = refl; blocks = refl; bad = refl; draining = λ n h. absurd (true≢false (sym h)) }) in
-    let last = came_of (λ t. if t.was_live then Ok t.cluster else Err (refusal.Why why.NoLiveNodes)) (ended_row s) c e in
+    let last = came_of (λ t. if t.was_live then Ok t.cluster else Err (refusal.Why why.NoLiveNodes)) (ended_section s) c e in
     let m = last.0 in
-    let done = (ended s m last.1 read).0 in
+    let done = (ended_all s m last.1 read).0 in
     let same : m.cluster ≡ c = same_ok m.cluster c (if_ok m.was_live (Ok m.cluster) (refusal.Why why.NoLiveNodes) c last.2).1 in
     subst IsFresh same (record {
       nodes = sym (append-nil (map node_number m.cluster.node_rows)) ∙ done.nodes;

@@ -75,9 +75,17 @@ block_of text =
     let len = word_and_rest name.1 in
     after_ok (λ named. after_ok (λ n. after_ok (λ told. Ok (block_line named n told)) (replicas_of len.1)) (length_of len.0 name.1)) (block_named name.0 text)
 
+-- the word after a block's length
+abbrev pub after_length : Text → Text
+after_length text = (word_and_rest (word_and_rest (word_and_rest text).1).1).0
+
 -- whether it says that no replica is known
 abbrev pub is_missing : Text → Bool
-is_missing text = bytes_eq (word_and_rest (word_and_rest (word_and_rest text).1).1).0 (codes "MISSING!")
+is_missing text = bytes_eq (after_length text) (codes "MISSING!")
+
+-- whether the block is being written: then fsck counts the places at which replicas are expected
+abbrev pub is_being_written : Text → Bool
+is_being_written text = is_some (after_prefix (codes "Expected_repl=") (after_length text))
 
 -- the number of the block that fsck calls corrupt, by the text after CORRUPT blockpool: the pool, and the block
 abbrev pub corrupt_block : Text → Result ℕ Wrong

@@ -3,7 +3,7 @@ use Rattle.std.specs.Prelude.{ℕ, Bool, true, false, nat_eq, Option, Some, None
 use Rattle.std.specs.List.{starts_with, ends_with}
 use Rattle.std.specs.Option.{option_map_or}
 use Rattle.std.specs.Str.{bytes_eq}
-use Rattle.fsck_text.specs.Cuts.{Text, cut_at, after_prefix, number_of}
+use Rattle.fsck_text.specs.Cuts.{Text, cut_at, last_cut_at, after_prefix, before_last, number_of}
 use Rattle.fsck_text.specs.Wrongs.{after_ok}
 use Rattle.fsck_text.specs.Headings.{heading_of, target_of}
 use Rattle.fsck_text.specs.Summaries.{sum_of}
@@ -43,6 +43,15 @@ last_of text =
     then (if ends text (codes "' is HEALTHY") then Some true else (if ends text (codes "' is CORRUPT") then Some false else None))
     else None
 
+-- whether the last line is about the path /, and so about all files
+abbrev pub is_of_all : Text → Bool
+is_of_all text = begins text (codes "The filesystem under path '/' is ")
+
+-- the number of files that are being written and are not in the text, between the last parentheses, 40 and 41, of a line
+abbrev pub unlisted_of : Text → Option ℕ
+unlisted_of text =
+    option_and_then (λ p. option_and_then (λ rest. option_and_then number_of (before_last 41 rest)) (after_prefix (codes "Files currently being written: ") p.1)) (last_cut_at 40 text)
+
 abbrev pub sum_line : Option (Count × ℕ) → Line
 sum_line (Some p) = line.Sum p.0 p.1
 sum_line None = line.Other
@@ -52,8 +61,9 @@ abbrev pub summary_line : Text → Result Line Wrong
 summary_line text =
     if begins text (codes "FSCK started by ") then Ok line.First
     else option_map_or (λ healthy. Ok (line.Status healthy)) (health_of text)
-    (option_map_or (λ healthy. Ok (line.Last healthy)) (last_of text)
-    (after_ok (λ sum. Ok (sum_line sum)) (sum_of text)))
+    (option_map_or (λ healthy. Ok (line.Last healthy (is_of_all text))) (last_of text)
+    (option_map_or (λ files. Ok (line.Unlisted files)) (unlisted_of text)
+    (after_ok (λ sum. Ok (sum_line sum)) (sum_of text))))
 
 -- what a line is
 abbrev pub line_of : Text → Result Line Wrong

@@ -1,8 +1,8 @@
 -- A line of hdfs dfsadmin -report.
-use Rattle.std.specs.Prelude.{◌||◌, Bool, true, false, unwrap_or, Result, Ok, Err, if◌then◌else◌, codes}
+use Rattle.std.specs.Prelude.{◌||◌, Bool, true, false, unwrap_or, Option, Some, None, option_and_then, Result, Ok, Err, if◌then◌else◌, codes}
 use Rattle.std.specs.Option.{option_map_or}
 use Rattle.std.specs.Str.{bytes_eq}
-use Rattle.fsck_text.specs.Cuts.{Text, cut_at, after_prefix, word_and_rest, number_of}
+use Rattle.fsck_text.specs.Cuts.{Text, cut_at, after_prefix, before_last, word_and_rest, number_of}
 use Rattle.fsck_text.specs.Wrongs.{wrong, after_ok, or_wrong}
 use Rattle.fsck_text.specs.Places.{is_address, is_rack}
 use Rattle.fsck_text.specs.Lines.{ends}
@@ -25,29 +25,42 @@ rack_line value =
     option_map_or (λ rack. if is_rack rack then Ok (node.Rack rack) else Err (wrong reason.NotANode value))
     (after_prefix (codes " ") value) (Err (wrong reason.NotANode value))
 
-abbrev pub drains : Text → Bool
-drains value = bytes_eq value (codes " Decommission in progress") || bytes_eq value (codes " Decommissioned")
+-- the states that a node which does not drain may have; maintenance in both spellings of its words
+abbrev pub stays : Text → Bool
+stays value =
+    bytes_eq value (codes " Normal") || bytes_eq value (codes " Entering maintenance") || bytes_eq value (codes " Entering Maintenance")
+    || bytes_eq value (codes " In maintenance") || bytes_eq value (codes " In Maintenance")
+
+-- whether a node of this state drains
+abbrev pub status_line : Text → Result NodeLine Wrong
+status_line value =
+    if bytes_eq value (codes " Decommission in progress") || bytes_eq value (codes " Decommissioned") then Ok (node.Drains true)
+    else (if stays value then Ok (node.Drains false) else Err (wrong reason.NotANode value))
 
 abbrev pub remaining_line : Text → Result NodeLine Wrong
 remaining_line value = after_ok (λ bytes. Ok (node.Remaining bytes)) (or_wrong reason.NotANode value (number_of (value_word value)))
 
--- a section, if its heading is one: of the live nodes, or of those in another state
-abbrev pub section_with : Text → NodeLine
-section_with name =
-    if bytes_eq name (codes "Live datanodes ") then node.Section true
-    else (if ends name (codes " datanodes ") then node.Section false else node.Other)
+-- the number of live nodes, up to a closing parenthesis, 41
+abbrev pub live_section : Text → Result NodeLine Wrong
+live_section count = after_ok (λ n. Ok (node.Live n)) (or_wrong reason.NotANode count (option_and_then number_of (before_last 41 count)))
 
-abbrev pub section_of : Text → NodeLine
-section_of key = option_map_or (λ p. section_with p.0) (cut_at 40 key) node.Other
+-- a section, if its heading is one: of the live nodes, or of those in another state
+abbrev pub section_with : Text → Text → Result NodeLine Wrong
+section_with name count =
+    if bytes_eq name (codes "Live datanodes ") then live_section count
+    else (if ends name (codes " datanodes ") then Ok node.NotLive else Ok node.Other)
+
+abbrev pub section_of : Text → Result NodeLine Wrong
+section_of key = option_map_or (λ p. section_with p.0 p.1) (cut_at 40 key) (Ok node.Other)
 
 -- by the text before the first colon and after it
 abbrev pub keyed_line : Text → Text → Result NodeLine Wrong
 keyed_line key value =
     if bytes_eq key (codes "Name") then address_line value
     else (if bytes_eq key (codes "Rack") then rack_line value
-    else (if bytes_eq key (codes "Decommission Status ") then Ok (node.Drains (drains value))
+    else (if bytes_eq key (codes "Decommission Status ") then status_line value
     else (if bytes_eq key (codes "DFS Remaining") then remaining_line value
-    else Ok (section_of key))))
+    else section_of key)))
 
 -- what a line of the report says
 abbrev pub node_line_of : Text → Result NodeLine Wrong

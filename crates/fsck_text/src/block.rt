@@ -1,6 +1,6 @@
 // The line of a block, after its index.
 ghost use Rattle.std.specs.Prelude.{◌≡◌};
-ghost use Rattle.fsck_text.specs.Blocks.{id_of, without_pool, block_named, length_of, live_of, list_text, replicas_of, block_of, is_missing, corrupt_block};
+ghost use Rattle.fsck_text.specs.Blocks.{id_of, without_pool, block_named, length_of, live_of, list_text, replicas_of, block_of, after_length, is_missing, is_being_written, corrupt_block};
 
 use crate::cuts::{
     after_first, after_prefix, before_last, cut_at, number_of, small_number_of, word_and_rest,
@@ -58,10 +58,24 @@ pub fn block_of(text: &str) -> Result<BlockLine<'_>, Wrong<'_>>
 pub fn is_missing(text: &str) -> bool
     ensures { result ≡ is_missing text.now }
 {
+    after_length(text) == "MISSING!"
+}
+
+/// Whether a block's line, after its index, is of a block that is being written.
+pub fn is_being_written(text: &str) -> bool
+    ensures { result ≡ is_being_written text.now }
+{
+    after_prefix(after_length(text), "Expected_repl=").is_some()
+}
+
+/// The word after a block's length.
+fn after_length(text: &str) -> &str
+    ensures { result.now ≡ after_length text.now }
+{
     let (_, rest) = word_and_rest(text);
     let (_, rest) = word_and_rest(rest);
     let (word, _) = word_and_rest(rest);
-    word == "MISSING!"
+    word
 }
 
 /// The number of the block that fsck calls corrupt, by the text after `CORRUPT blockpool`.

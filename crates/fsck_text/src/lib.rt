@@ -15,7 +15,7 @@ mod place;
 mod summary;
 mod wrong;
 
-pub use block::{BlockLine, block_of, corrupt_block, is_missing};
+pub use block::{BlockLine, block_of, corrupt_block, is_being_written, is_missing};
 pub use cuts::{column_of, number_of};
 pub use heading::{Heading, Layout};
 pub use line::{Line, line_of};

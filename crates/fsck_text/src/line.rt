@@ -1,8 +1,8 @@
 // A line of fsck.
 ghost use Rattle.std.specs.Prelude.{◌≡◌, option_map};
-ghost use Rattle.fsck_text.specs.Lines.{begins, ends, health_of, last_of, path_line, summary_line, block_line, line_of};
+ghost use Rattle.fsck_text.specs.Lines.{begins, ends, health_of, last_of, is_of_all, unlisted_of, path_line, summary_line, block_line, line_of};
 
-use crate::cuts::{after_prefix, cut_at, number_of};
+use crate::cuts::{after_prefix, before_last, cut_at, last_cut_at, number_of};
 use crate::heading::{Heading, heading_of, target_of};
 use crate::summary::{Count, sum_of};
 use crate::wrong::{Piece, Wrong};
@@ -24,8 +24,10 @@ pub enum Line<'a> {
     Status(bool),
     /// A number of the summary.
     Sum(Count, u64),
-    /// The last line; whether fsck calls all files healthy.
-    Last(bool),
+    /// The number of files that are being written and are not in the text.
+    Unlisted(u64),
+    /// The last line; whether fsck calls all files healthy, and whether it is about the path `/`.
+    Last(bool, bool),
     /// Any other line.
     Other,
 }
@@ -105,6 +107,22 @@ fn last_of(line: &str) -> Option<bool>
     }
 }
 
+/// Whether the last line is about the path `/`, and so about all files.
+fn is_of_all(line: &str) -> bool
+    ensures { result ≡ is_of_all line.now }
+{
+    begins(line, "The filesystem under path '/' is ")
+}
+
+/// The number of files that are being written and are not in the text, at the end of a line.
+fn unlisted_of(line: &str) -> Option<u64>
+    ensures { result ≡ unlisted_of line.now }
+{
+    let (_, text) = last_cut_at(line, '(')?;
+    let number = after_prefix(text, "Files currently being written: ")?;
+    number_of(before_last(number, ')')?)
+}
+
 /// A line that is none of a file.
 fn summary_line(line: &str) -> Result<Line<'_>, Wrong<'_>>
     ensures { result ≡ summary_line line.now }
@@ -116,7 +134,10 @@ fn summary_line(line: &str) -> Result<Line<'_>, Wrong<'_>>
         return Ok(Line::Status(is_healthy));
     }
     if let Some(is_healthy) = last_of(line) {
-        return Ok(Line::Last(is_healthy));
+        return Ok(Line::Last(is_healthy, is_of_all(line)));
+    }
+    if let Some(files) = unlisted_of(line) {
+        return Ok(Line::Unlisted(files));
     }
     match sum_of(line)? {
         Some((count, sum)) => Ok(Line::Sum(count, sum)),

@@ -1,8 +1,8 @@
 // A line of `hdfs dfsadmin -report`.
 ghost use Rattle.std.specs.Prelude.{◌≡◌};
-ghost use Rattle.fsck_text.specs.Nodes.{section_of, address_line, rack_line, drains, remaining_line, node_line_of, keyed_line};
+ghost use Rattle.fsck_text.specs.Nodes.{live_section, section_of, address_line, rack_line, status_line, remaining_line, node_line_of, keyed_line};
 
-use crate::cuts::{after_prefix, cut_at, number_of, word_and_rest};
+use crate::cuts::{after_prefix, before_last, cut_at, number_of, word_and_rest};
 use crate::line::ends;
 use crate::place::{is_address, is_rack};
 use crate::wrong::{Piece, Reason, Wrong};
@@ -10,8 +10,10 @@ use crate::wrong::{Piece, Reason, Wrong};
 /// What a line of the report says of a DataNode.
 #[derive(Drop)]
 pub enum NodeLine<'a> {
-    /// A section begins: of the live nodes, or of others.
-    Section(bool),
+    /// The section of the live nodes begins, with their number.
+    Live(u64),
+    /// The section of other nodes begins.
+    NotLive,
     /// A node begins, by its host and port.
     Node(Piece<'a>),
     Rack(Piece<'a>),
@@ -39,20 +41,30 @@ fn keyed_line<'a>(key: &'a str, value: &'a str) -> Result<NodeLine<'a>, Wrong<'a
     match key {
         "Name" => address_line(value),
         "Rack" => rack_line(value),
-        "Decommission Status " => Ok(NodeLine::Drains(drains(value))),
+        "Decommission Status " => status_line(value),
         "DFS Remaining" => remaining_line(value),
-        _ => Ok(section_of(key)),
+        _ => section_of(key),
     }
 }
 
 /// A section, if its heading is one: `Live datanodes (N)`, or of nodes in another state.
-fn section_of(key: &str) -> NodeLine<'_>
+fn section_of(key: &str) -> Result<NodeLine<'_>, Wrong<'_>>
     ensures { result ≡ section_of key.now }
 {
     match cut_at(key, '(') {
-        Some((name, _)) if name == "Live datanodes " => NodeLine::Section(true),
-        Some((name, _)) if ends(name, " datanodes ") => NodeLine::Section(false),
-        _ => NodeLine::Other,
+        Some((name, count)) if name == "Live datanodes " => live_section(count),
+        Some((name, _)) if ends(name, " datanodes ") => Ok(NodeLine::NotLive),
+        _ => Ok(NodeLine::Other),
+    }
+}
+
+/// The section of the live nodes, by their number up to a closing parenthesis.
+fn live_section(count: &str) -> Result<NodeLine<'_>, Wrong<'_>>
+    ensures { result ≡ live_section count.now }
+{
+    match before_last(count, ')').and_then(number_of) {
+        Some(number) => Ok(NodeLine::Live(number)),
+        None => Err(Wrong::new(Reason::NotANode, count)),
     }
 }
 
@@ -77,10 +89,19 @@ fn rack_line(value: &str) -> Result<NodeLine<'_>, Wrong<'_>>
     }
 }
 
-fn drains(value: &str) -> bool
-    ensures { result ≡ drains value.now }
+/// Whether a node of this state drains. The words for maintenance are read in both spellings.
+fn status_line(value: &str) -> Result<NodeLine<'_>, Wrong<'_>>
+    ensures { result ≡ status_line value.now }
 {
-    matches!(value, " Decommission in progress" | " Decommissioned")
+    match value {
+        " Decommission in progress" | " Decommissioned" => Ok(NodeLine::Drains(true)),
+        " Normal"
+        | " Entering maintenance"
+        | " Entering Maintenance"
+        | " In maintenance"
+        | " In Maintenance" => Ok(NodeLine::Drains(false)),
+        _ => Err(Wrong::new(Reason::NotANode, value)),
+    }
 }
 
 fn remaining_line(value: &str) -> Result<NodeLine<'_>, Wrong<'_>>
