@@ -1,12 +1,15 @@
 -- A whole run.
-use Rattle.std.proofs.Common.{◌≡◌, ℕ, Option, Some, None, IfSome, Ok}
+use Rattle.std.proofs.Common.{◌≡◌, ℕ, Option, Some, None, IfSome, Result, Ok, Err, refl, sym, subst}
+use Rattle.std.specs.Prelude.{IsOk}
 use Rattle.fsck_text.specs.Cuts.{Text}
 use Rattle.std.specs.Io.KnownBytes.{Appends}
 use Rattle.fsck_import.specs.CallsFor.{calls_for}
-use Rattle.fsck_import.specs.Importing.{IsFaultOfRun, TellsNames, TellsText, WritesNothing}
+use Rattle.fsck_import.specs.Importing.{IsFaultOfRun, IsRunFault, TellsNames, TellsText, WritesNoLine, WritesNothing}
 use Rattle.fsck_import.specs.NameTable.{table_of}
-use Rattle.fsck_import.specs.Reading.{reading_of}
+use Rattle.fsck_import.specs.Lines.{IsReadFault}
+use Rattle.fsck_import.specs.Reading.{reading_of, IsFaultOfReading}
 use Rattle.fsck_import.specs.Writing.{IsOutputFault, IsTableFault, IsWriteFault, Tells}
+use Rattle.fsck_import.specs.declared.fault.Unread.{Unread}
 use Rattle.fsck_import.specs.declared.fault.Fault.{Fault}
 use Rattle.fsck_import.specs.declared.fault.Fault.TheVariants as fault
 use Rattle.fsck_import.specs.declared.reading.Reading.{Reading}
@@ -28,17 +31,53 @@ write_output fault.Table h = tt
 write_output fault.Memory h = tt
 write_output fault.LongReport h = tt
 
-nothing_known : {P : Text → Type 0} (known : Option Text) → ((text : Text) → P text) → IfSome known P
-nothing_known None h = tt
-nothing_known (Some text) h = h text
+each_known : {P Q : Text → Type 0} (known : Option Text) → ((text : Text) → P text → Q text) → IfSome known P → IfSome known Q
+each_known None h p = tt
+each_known (Some text) h p = h text p
 
-pub output_refuses : (f : Fault) (start : Reading) (known : Option Text) → IsOutputFault f → IsFaultOfRun start f known
-output_refuses (fault.Refused unread) start known h = absurd h
-output_refuses fault.Read start known h = absurd h
-output_refuses fault.Write start known h = nothing_known known (λ text. tt)
-output_refuses fault.Table start known h = nothing_known known (λ text. tt)
-output_refuses fault.Memory start known h = nothing_known known (λ text. tt)
-output_refuses fault.LongReport start known h = nothing_known known (λ text. tt)
+-- a fault of reading is one of the run
+read_run : (f : Fault) (told : Result Reading Unread) → IsReadFault f told → IsRunFault f told
+read_run (fault.Refused unread) told h = h
+read_run fault.Memory told h = tt
+read_run fault.Read told h = tt
+read_run fault.Write told h = absurd h
+read_run fault.Table told h = absurd h
+read_run fault.LongReport told h = absurd h
+
+pub reading_refuses : (f : Fault) (start : Reading) (known : Option Text) → IsFaultOfReading start f known → IsFaultOfRun start f known
+reading_refuses f start known = each_known known (λ text h. read_run f (reading_of start text) h)
+
+-- a fault of writing is one of a run on a text that is taken
+output_run : (f : Fault) (told : Result Reading Unread) → IsOk told → IsOutputFault f → IsRunFault f told
+output_run (fault.Refused unread) told taken h = absurd h
+output_run fault.Read told taken h = absurd h
+output_run fault.Memory told taken h = tt
+output_run fault.Write told taken h = taken
+output_run fault.Table told taken h = taken
+output_run fault.LongReport told taken h = taken
+
+is_taken : (told : Result Reading Unread) (read : Reading) → told ≡ Ok read → IsOk told
+is_taken told read e = subst IsOk (sym e) tt
+
+pub output_refuses : (f : Fault) (start read : Reading) (known : Option Text) → IfSome known (λ text. reading_of start text ≡ Ok read) → IsOutputFault f → IsFaultOfRun start f known
+output_refuses f start read known told h = each_known known (λ text e. output_run f (reading_of start text) (is_taken (reading_of start text) read e) h) told
+
+-- nothing is written by what is left alone
+pub unwritten : {W : Type 0} (f : Fault) (w : W) → WritesNoLine f w w
+unwritten (fault.Refused unread) w = refl
+unwritten fault.Read w = refl
+unwritten fault.Table w = refl
+unwritten fault.Write w = tt
+unwritten fault.Memory w = tt
+unwritten fault.LongReport w = tt
+
+pub write_lines : {W : Type 0} (f : Fault) (old new : W) → IsWriteFault f → WritesNoLine f old new
+write_lines (fault.Refused unread) old new h = absurd h
+write_lines fault.Read old new h = absurd h
+write_lines fault.Table old new h = absurd h
+write_lines fault.Write old new h = tt
+write_lines fault.Memory old new h = tt
+write_lines fault.LongReport old new h = tt
 
 pub output_writes : {W : Type 0} (f : Fault) (old new : W) → IsOutputFault f → WritesNothing f old new
 output_writes (fault.Refused unread) old new h = absurd h
@@ -47,10 +86,6 @@ output_writes fault.Write old new h = tt
 output_writes fault.Table old new h = tt
 output_writes fault.Memory old new h = tt
 output_writes fault.LongReport old new h = tt
-
-each_known : {P Q : Text → Type 0} (known : Option Text) → ((text : Text) → P text → Q text) → IfSome known P → IfSome known Q
-each_known None h p = tt
-each_known (Some text) h p = h text p
 
 -- what a run that ends well wrote
 pub whole_text : (known : Option Text) (start read : Reading) (remaining : ℕ) (old new : Option Text) → IfSome known (λ text. reading_of start text ≡ Ok read)

@@ -1,5 +1,5 @@
 -- What a whole run writes, and why it ends without.
-use Rattle.std.specs.Prelude.{◌≡◌, ⊤, ℕ, List, [], ◌∷◌, ◌++◌, option_to_list, Option, IfSome, Result, Ok, Err}
+use Rattle.std.specs.Prelude.{◌≡◌, ⊤, ℕ, List, [], ◌∷◌, ◌++◌, option_to_list, Option, IfSome, Result, Ok, Err, IsOk}
 use Rattle.std.specs.Io.KnownBytes.{Appends}
 use Rattle.bm_lines.specs.Lines.{lines_of}
 use Rattle.fsck_text.specs.Cuts.{Text}
@@ -42,17 +42,27 @@ pub record TellsNames (text : Text) (start : Reading) (old new : Option Text) : 
   pub told : reading_of start text ≡ Ok read
   pub written : Appends old new (table_of read.cluster)
 
--- a refusal is that of the first line that is refused
+-- a refusal is that of the first line that is refused, and a fault of writing comes of a text that is taken
 abbrev pub IsRunFault : Fault → Result Reading Unread → Type 0
 IsRunFault (fault.Refused unread) told = told ≡ Err unread
+IsRunFault fault.Write told = IsOk told
+IsRunFault fault.Table told = IsOk told
+IsRunFault fault.LongReport told = IsOk told
 IsRunFault _ told = ⊤
 
 -- a fault of a run on a text, if it is known
 abbrev pub IsFaultOfRun : Reading → Fault → Option Text → Type 0
 IsFaultOfRun start f known = IfSome known (λ text. IsRunFault f (reading_of start text))
 
--- a run that ends before it writes leaves the writer as it was
+-- a run that ends before it writes leaves what takes the names as it was
 abbrev pub WritesNothing : {W : Type 0} → Fault → W → W → Type 0
 WritesNothing (fault.Refused unread) old new = new ≡ old
 WritesNothing fault.Read old new = new ≡ old
 WritesNothing _ old new = ⊤
+
+-- and the writer of lines, also if the table of names cannot be written
+abbrev pub WritesNoLine : {W : Type 0} → Fault → W → W → Type 0
+WritesNoLine (fault.Refused unread) old new = new ≡ old
+WritesNoLine fault.Read old new = new ≡ old
+WritesNoLine fault.Table old new = new ≡ old
+WritesNoLine _ old new = ⊤

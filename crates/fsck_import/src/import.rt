@@ -4,7 +4,7 @@ ghost use Rattle.std.specs.Io.KnownBytes.{Appends};
 ghost use Rattle.fsck_import.specs.NameTable.{table_of};
 ghost use Rattle.fsck_import.specs.CallsFor.{calls_for};
 ghost use Rattle.fsck_import.specs.Writing.{Tells, IsOutputFault};
-ghost use Rattle.fsck_import.specs.Importing.{TellsText, TellsNames, IsFaultOfRun, WritesNothing};
+ghost use Rattle.fsck_import.specs.Importing.{TellsText, TellsNames, IsFaultOfRun, WritesNoLine, WritesNothing};
 
 use crate::destination::Destination;
 use crate::fault::Fault;
@@ -25,6 +25,10 @@ pub struct Notes {
     pub unclear_blocks: u64,
     /// How many replicas on nodes in maintenance were taken as live.
     pub maintained: u64,
+    /// How many files are being written and are not in the text.
+    pub unlisted: u64,
+    /// The text is of the path `/`.
+    pub is_of_all: bool,
     /// How many lines were written.
     pub lines: u64,
 }
@@ -32,7 +36,7 @@ pub struct Notes {
 /// Reads a whole text of fsck, and then writes a table of names and the lines for its cluster.
 /// `remaining` is the number of free bytes on each storage whose node's are not known. Nothing is
 /// written before all of the text was read, and no line before the whole table.
-#[tactic(auto, using(crate::proofs::ImportLemmas::output_refuses, crate::proofs::ImportLemmas::output_writes, crate::proofs::ImportLemmas::whole_text, crate::proofs::ImportLemmas::whole_names))]
+#[tactic(auto, using(crate::proofs::ImportLemmas::reading_refuses, crate::proofs::ImportLemmas::output_refuses, crate::proofs::ImportLemmas::output_writes, crate::proofs::ImportLemmas::unwritten, crate::proofs::ImportLemmas::whole_text, crate::proofs::ImportLemmas::whole_names))]
 pub fn import<R: BufRead, W: Write, N: Destination>(
     alloc: Global,
     start: Reading,
@@ -46,8 +50,9 @@ pub fn import<R: BufRead, W: Write, N: Destination>(
     ensures named { OnOk result (IfSome (R.remaining reader.old) (λ text.
         TellsNames text start (N.contents names.old) (N.contents names.new))) }
     ensures refused { IfErr result (λ f. IsFaultOfRun start f (R.remaining reader.old)) }
-    // If a line is refused or a read fails, the writer is as it was, and so is what takes the names.
-    ensures nothing_written { IfErr result (λ f. WritesNothing f writer.old writer.new) }
+    // If a line is refused or a read fails, the writer is as it was, and so is what takes the names. The
+    // writer is so too if the table of names cannot be written.
+    ensures nothing_written { IfErr result (λ f. WritesNoLine f writer.old writer.new) }
     ensures nothing_named { IfErr result (λ f. WritesNothing f names.old names.new) }
 {
     let read = read_cluster(alloc, reader, start)?;
@@ -61,7 +66,7 @@ pub fn import<R: BufRead, W: Write, N: Destination>(
 }
 
 /// Writes the table of names, and then the lines.
-#[tactic(auto, using(crate::proofs::ImportLemmas::write_output))]
+#[tactic(auto, using(crate::proofs::ImportLemmas::write_output, crate::proofs::ImportLemmas::unwritten, crate::proofs::ImportLemmas::write_lines))]
 fn write_all<W: Write, N: Destination>(
     alloc: Global,
     read: &Reading,
@@ -74,6 +79,7 @@ fn write_all<W: Write, N: Destination>(
     ensures named { OnOk result
         (Appends (N.contents names.old) (N.contents names.new) (table_of read.now.cluster)) }
     ensures faults { IfErr result IsOutputFault }
+    ensures no_line { IfErr result (λ f. WritesNoLine f writer.old writer.new) }
 {
     put_names(alloc, &read.cluster, names)?;
     write_flushed(alloc, writer, &read.cluster, remaining)
@@ -95,6 +101,8 @@ fn notes_of(read: &Reading) -> Notes {
         left_out: read.files.left_out,
         unclear_blocks: read.files.unclear_blocks,
         maintained: read.files.maintained,
+        unlisted: read.files.unlisted,
+        is_of_all: read.files.is_of_all,
         lines: count_lines(&read.cluster),
     }
 }

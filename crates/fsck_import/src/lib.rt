@@ -149,11 +149,30 @@ fn say_notes<R: Eprint>(rt: &R, asked: &Asked<'_>, notes: &Notes) {
         "replica on a node in maintenance taken as live",
         "replicas on nodes in maintenance taken as live",
     );
+    say_not_in_text(rt, notes);
     if notes.lines > MOST_LINES {
         let lines = notes.lines;
         let _ = rt.eprintln(format_args!(
             "fsck_import: warning: {lines} lines are more than the line tool reads in a run \
              ({MOST_LINES}); ./puljemrod report has no such limit"
+        ));
+    }
+}
+
+/// Says what the text lacks: blocks of other files make stray replicas.
+fn say_not_in_text<R: Eprint>(rt: &R, notes: &Notes) {
+    let files = notes.unlisted;
+    if files > 0 {
+        let are = if files == 1 {
+            "file being written is"
+        } else {
+            "files being written are"
+        };
+        let _ = rt.eprintln(format_args!("fsck_import: {files} {are} not in the text"));
+    }
+    if !notes.is_of_all {
+        let _ = rt.eprintln(format_args!(
+            "fsck_import: the text is of one path alone, and not of /"
         ));
     }
 }
