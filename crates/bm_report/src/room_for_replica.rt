@@ -8,11 +8,7 @@ use bm_arena::{Arena, Slot};
 use bm_base::{Refusal, StorageId};
 
 /// Makes room for a replica on the storage, unless the block has one there.
-pub(crate) fn make_room(
-    arena: &mut Arena,
-    slot: Slot,
-    storage: StorageId,
-) -> Result<(), Refusal>
+pub(crate) fn make_room(arena: &mut Arena, slot: Slot, storage: StorageId) -> Result<(), Refusal>
     requires held { IsSome (block_at arena.old slot) }
     ensures kept { IsPrepared arena.old arena.new }
     ensures room { OnOk result (marks_at arena.new slot storage ≡ None → HasRoom arena.new slot) }
