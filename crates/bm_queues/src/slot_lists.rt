@@ -1,4 +1,4 @@
-// Doubly linked lists over slots, as many as there are heads: the ground of both public types.
+// Doubly linked lists over slots, as many as there are heads: `SlotSet` is built on one.
 ghost use Rattle.std.specs.Prelude.{◌≡◌, ◌<◌, ◌≤◌, ℕ, ◌∷◌, ◌==◌, ◌+◌, ◌↔◌, if◌then◌else◌, length, nat_lt, IfOk, OnOk, OnErr, IsOk, IsTrue, Some, None};
 ghost use Rattle.bm_base.specs.SlotLinks.{end_of_links};
 ghost use Rattle.bm_base.specs.SlotLists.{Among, without, first_of, slot_after};
