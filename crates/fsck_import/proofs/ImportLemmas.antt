@@ -57,7 +57,7 @@ output_run fault.Table told taken h = taken
 output_run fault.LongReport told taken h = taken
 
 is_taken : (told : Result Reading Unread) (read : Reading) → told ≡ Ok read → IsOk told
-is_taken told read e = subst IsOk (sym e) tt
+is_taken told read e = subst IsOk (sym e) refl
 
 pub output_refuses : (f : Fault) (start read : Reading) (known : Option Text) → IfSome known (λ text. reading_of start text ≡ Ok read) → IsOutputFault f → IsFaultOfRun start f known
 output_refuses f start read known told h = each_known known (λ text e. output_run f (reading_of start text) (is_taken (reading_of start text) read e) h) told

@@ -1,5 +1,5 @@
 -- A line of hdfs dfsadmin -report.
-use Rattle.std.specs.Prelude.{◌||◌, Bool, true, false, unwrap_or, Option, Some, None, option_and_then, Result, Ok, Err, if◌then◌else◌, codes}
+use Rattle.std.specs.Prelude.{◌||◌, Bool, true, false, unwrap_or, option_and_then, Result, Ok, Err, if◌then◌else◌, codes}
 use Rattle.std.specs.Option.{option_map_or}
 use Rattle.std.specs.Str.{bytes_eq}
 use Rattle.fsck_text.specs.Cuts.{Text, cut_at, after_prefix, before_last, word_and_rest, number_of}
