@@ -23,7 +23,6 @@ from fsck_cluster import (
     Version,
     is_corrupt,
     is_under_replicated,
-    live,
     mark_of,
     names_storages,
     places,
@@ -92,7 +91,8 @@ def is_unclear(block: Block, file: File, call: Fsck) -> bool:
     """Whether more replicas claim to be live than are. Without -maintenance, -replicaDetails marks
     a replica in maintenance as live, and fsck does not count it."""
     listed = places(block, file, call.version)
-    return sum(claims_live(replica, block, file, call) for replica in listed) > live(block)
+    number = printed_count(block, file, call.version)
+    return sum(claims_live(replica, block, file, call) for replica in listed) > number
 
 
 def kind_of(file: File, call: Fsck) -> str:
