@@ -4,9 +4,9 @@ pub mod Counting
 pub mod Spreading
 pub mod Others
 pub mod Lengths
+pub mod SpotTable
 pub mod Sounding
 pub mod RackCount
 pub mod Capacity
 pub mod OwnStorages
 pub mod Repeats
-pub mod Undrained

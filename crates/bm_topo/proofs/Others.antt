@@ -1,6 +1,6 @@
 -- The other nodes than one: the rack of the first of them, and where a node stands that is put in.
 use Rattle.std.proofs.Common.{◌≡◌, ℕ, Bool, true, false, cond, ◌||◌, List, [], ◌∷◌, map, Option, Some, None, refl, ap, ◌∙◌, Less, Equal, Greater}
-use Rattle.std.specs.Prelude.{◌==◌, slice_get, option_map}
+use Rattle.std.specs.Prelude.{◌==◌}
 use Rattle.std.specs.List.{list_any}
 use Rattle.std.specs.Ordering.{nat_cmp, eq_by_cmp}
 use Rattle.std.specs.FinMap.{put}
@@ -63,17 +63,3 @@ put-among k v (e ∷ es) =
 pub inserted_there : (nodes : Map by_number ℕ) (n v : ℕ) → has (racks_of (insert nodes n v)) v ≡ true
 unfolding entries insert
 inserted_there nodes n v = put-among n v nodes.list
-
-pub first_there : (nodes : Map by_number ℕ) (r : ℕ) → option_map (λ e. e.1) (slice_get (entries nodes) 0) ≡ Some r → has (racks_of nodes) r ≡ true
-first_there nodes r h = go (entries nodes) h
-  where
-    go : (es : List (ℕ × ℕ)) → option_map (λ e. e.1) (slice_get es 0) ≡ Some r → list_any (λ y. y == r) (map (λ e. e.1) es) ≡ true
-    go [] h = cc
-    go (x ∷ es) h = head_there r x.1 (map (λ e. e.1) es) (inside x.1 r h)
-
-pub none_first : (nodes : Map by_number ℕ) → option_map (λ e. e.1) (slice_get (entries nodes) 0) ≡ None → entries nodes ≡ []
-none_first nodes h = go (entries nodes) h
-  where
-    go : (es : List (ℕ × ℕ)) → option_map (λ e. e.1) (slice_get es 0) ≡ None → es ≡ []
-    go [] h = refl
-    go (x ∷ es) h = cc

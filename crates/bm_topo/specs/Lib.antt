@@ -3,3 +3,4 @@ pub mod Racks
 pub mod Keys
 pub mod Sound
 pub mod Named
+pub mod Spots

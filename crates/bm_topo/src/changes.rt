@@ -112,6 +112,7 @@ impl Topology {
         ensures no_growth { IsSameCapacity self.old self.new }
     {
         let count = self.count_on(rack);
+        self.spot_count = 0;
         self.racks.insert_reserved(u64::from(rack.0), count + 1);
         self.nodes.insert_reserved(u64::from(node.0), rack);
         self.draining.remove(u64::from(node.0));
@@ -123,6 +124,7 @@ impl Topology {
         ensures no_growth { IsSameCapacity self.old self.new }
         ensures kept { IsNoLess self.old.room self.new.room }
     {
+        self.spot_count = 0;
         drop_storages(&mut self.storages, node);
         self.draining.remove(u64::from(node.0));
         self.forget_node(node);
@@ -142,6 +144,7 @@ impl Topology {
             return;
         };
         let count = self.count_on(rack);
+        self.spot_count = 0;
         leave_rack(&mut self.racks, rack, count);
         self.nodes.remove(u64::from(node.0));
     }
@@ -152,6 +155,7 @@ impl Topology {
         ensures after { self.new.cluster ≡ events.drain self.old.cluster node }
         ensures no_growth { IsSameCapacity self.old self.new }
     {
+        self.spot_count = 0;
         self.draining.insert_reserved(u64::from(node.0), ());
     }
 
@@ -160,6 +164,7 @@ impl Topology {
         ensures no_growth { IsSameCapacity self.old self.new }
         ensures kept { IsNoLess self.old.room self.new.room }
     {
+        self.spot_count = 0;
         self.draining.remove(u64::from(node.0));
     }
 
@@ -168,6 +173,7 @@ impl Topology {
         ensures no_growth { IsSameCapacity self.old self.new }
         ensures kept { IsNoLess self.old.room self.new.room }
     {
+        self.spot_count = 0;
         self.storages.remove(u64::from(storage.0));
     }
 

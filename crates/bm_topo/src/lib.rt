@@ -5,7 +5,9 @@ mod changes;
 mod checks;
 mod likely_places;
 mod racks;
+mod spots;
 mod tables;
 mod topology;
 
+pub use spots::Spot;
 pub use topology::{Location, Topology};

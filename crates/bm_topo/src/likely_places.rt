@@ -1,10 +1,10 @@
 // About where in the tables of the cluster a storage and a node stand: so a look-up is direct, however the numbers lie. Only guesses.
 use bm_base::{Rack, StorageInfo};
 
-/// How many notes there are for storages, and for nodes: four for each that there can be. Those of the same hash share a note.
-const STORAGE_NOTES: usize = 16_384;
+/// The most notes for storages, and for nodes: two for each that there can be. Numbers of the same hash share a note.
+const STORAGE_NOTES: usize = 8_192;
 
-const NODE_NOTES: usize = 1_024;
+const NODE_NOTES: usize = 512;
 
 /// A number is hashed by one of these factors: 2^64 divided by the golden ratio, and the first odd ones of the round constants of SHA-512.
 const FACTORS: [u64; 16] = [
@@ -26,11 +26,19 @@ const FACTORS: [u64; 16] = [
     0xB003_27C8_98FB_213F,
 ];
 
+/// Which note is that of a number: the first bits of its product with the factor.
+#[derive(Clone, Copy)]
+struct Hash {
+    factor: u64,
+    /// 64 less the number of these bits.
+    shift: u32,
+}
+
 /// Where storages, nodes and nodes that drain are likely to stand among theirs.
 #[derive(Clone, Copy)]
 pub(crate) struct LikelyPlaces {
-    storage_factor: u64,
-    node_factor: u64,
+    storage_hash: Hash,
+    node_hash: Hash,
     storages: [u16; STORAGE_NOTES],
     nodes: [u16; NODE_NOTES],
     // For each alive node, among those that drain.
@@ -41,8 +49,8 @@ impl LikelyPlaces {
     /// Of no storage and no node.
     pub(crate) fn new() -> LikelyPlaces {
         LikelyPlaces {
-            storage_factor: FACTORS[0],
-            node_factor: FACTORS[0],
+            storage_hash: hash_for(0, FACTORS[0]),
+            node_hash: hash_for(0, FACTORS[0]),
             storages: [0; STORAGE_NOTES],
             nodes: [0; NODE_NOTES],
             draining: [0; NODE_NOTES],
@@ -56,41 +64,52 @@ impl LikelyPlaces {
         nodes: &[(u64, Rack)],
         draining: &[(u64, ())],
     ) {
-        self.storage_factor = note_evenly(&mut self.storages, storages);
-        self.node_factor = note_evenly(&mut self.nodes, nodes);
-        note_places(&mut self.draining, self.node_factor, nodes, draining);
+        self.storage_hash = note_evenly(&mut self.storages, storages);
+        self.node_hash = note_evenly(&mut self.nodes, nodes);
+        note_places(&mut self.draining, self.node_hash, nodes, draining);
     }
 
     /// Where a storage is likely to stand among the storages.
+    #[inline]
     pub(crate) fn of_storage(&self, number: u64) -> usize {
-        noted_place(&self.storages, self.storage_factor, number)
+        noted_place(&self.storages, self.storage_hash, number)
     }
 
     /// Where a node is likely to stand among the nodes.
     pub(crate) fn of_node(&self, number: u64) -> usize {
-        noted_place(&self.nodes, self.node_factor, number)
+        noted_place(&self.nodes, self.node_hash, number)
     }
 
     /// Where a node is likely to stand, or would stand, among those that drain.
     pub(crate) fn of_draining(&self, number: u64) -> usize {
-        noted_place(&self.draining, self.node_factor, number)
+        noted_place(&self.draining, self.node_hash, number)
+    }
+}
+
+/// The hash of n numbers by this factor: from two to four notes for each, so that few notes mean few cache lines.
+fn hash_for(count: usize, factor: u64) -> Hash {
+    let above = (count as u64).wrapping_sub(1).leading_zeros();
+    Hash {
+        factor,
+        shift: above.wrapping_sub(1),
     }
 }
 
 /// Notes the places by the first of the factors by which three quarters find their own note, and else by the one by which most do.
-/// Answers the factor.
-fn note_evenly<V: Copy>(notes: &mut [u16], entries: &[(u64, V)]) -> u64 {
-    let mut best = FACTORS[0];
+/// Answers the hash.
+fn note_evenly<V: Copy>(notes: &mut [u16], entries: &[(u64, V)]) -> Hash {
+    let mut best = hash_for(entries.len(), FACTORS[0]);
     let mut most = 0;
     for factor in FACTORS {
-        note_places(notes, factor, entries, entries);
-        let count = count_found(notes, factor, entries);
+        let hash = hash_for(entries.len(), factor);
+        note_places(notes, hash, entries, entries);
+        let count = count_found(notes, hash, entries);
         if count >= entries.len() / 4 * 3 {
-            return factor;
+            return hash;
         }
         if count > most {
             most = count;
-            best = factor;
+            best = hash;
         }
     }
     note_places(notes, best, entries, entries);
@@ -101,7 +120,7 @@ fn note_evenly<V: Copy>(notes: &mut [u16], entries: &[(u64, V)]) -> u64 {
 /// share a note the later one stands there.
 fn note_places<V: Copy, W: Copy>(
     notes: &mut [u16],
-    factor: u64,
+    hash: Hash,
     numbers: &[(u64, V)],
     table: &[(u64, W)],
 ) {
@@ -112,17 +131,17 @@ fn note_places<V: Copy, W: Copy>(
                 place = place.wrapping_add(1);
             }
         }
-        if let Some(note) = notes.get_mut(note_of(notes.len(), factor, *number)) {
+        if let Some(note) = notes.get_mut(hash.note_of(*number)) {
             *note = place;
         }
     }
 }
 
 /// How many of these stand where their note says.
-fn count_found<V: Copy>(notes: &[u16], factor: u64, entries: &[(u64, V)]) -> usize {
+fn count_found<V: Copy>(notes: &[u16], hash: Hash, entries: &[(u64, V)]) -> usize {
     let mut count = 0usize;
     for (number, _) in entries {
-        if let Some((other, _)) = entries.get(noted_place(notes, factor, *number)) {
+        if let Some((other, _)) = entries.get(noted_place(notes, hash, *number)) {
             if *other == *number {
                 count = count.wrapping_add(1);
             }
@@ -132,15 +151,18 @@ fn count_found<V: Copy>(notes: &[u16], factor: u64, entries: &[(u64, V)]) -> usi
 }
 
 /// The place that is noted for a number.
-fn noted_place(notes: &[u16], factor: u64, number: u64) -> usize {
-    match notes.get(note_of(notes.len(), factor, number)) {
+#[inline]
+fn noted_place(notes: &[u16], hash: Hash, number: u64) -> usize {
+    match notes.get(hash.note_of(number)) {
         Some(place) => *place as usize,
         None => 0,
     }
 }
 
-/// Which of so many notes is that of a number.
-fn note_of(count: usize, factor: u64, number: u64) -> usize {
-    let hash = number.wrapping_mul(factor) >> 32;
-    (hash.wrapping_mul(count as u64) >> 32) as usize
+impl Hash {
+    /// Which note is that of a number.
+    #[inline]
+    fn note_of(self, number: u64) -> usize {
+        number.wrapping_mul(self.factor).wrapping_shr(self.shift) as usize
+    }
 }

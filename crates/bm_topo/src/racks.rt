@@ -1,5 +1,5 @@
 // How the nodes stand on racks. The racks are counted as nodes come and go, so nothing here goes over the nodes.
-ghost use Rattle.std.specs.Prelude.{◌≡◌, option_map, slice_get};
+ghost use Rattle.std.specs.Prelude.{◌≡◌};
 ghost use Rattle.bm_base.specs.Map as map;
 ghost use Rattle.bm_base.specs.Replicas as replicas;
 ghost use Rattle.bm_base.specs.Events.{change_cluster};
@@ -10,13 +10,11 @@ use bm_base::{Event, NodeId, Rack};
 
 impl Topology {
     /// Whether the alive nodes stand on two racks or more. Takes no memory.
+    #[tactic(auto, unfolding(bm_base::specs::Replicas::is_multi_rack))]
     pub fn multi_rack(&self) -> bool
         ensures { result ≡ replicas.is_multi_rack self.now.cluster }
     {
-        match self.first_rack() {
-            Some(rack) => self.count_on(rack) < self.alive_nodes(),
-            None => false,
-        }
+        self.racks.len() > 1
     }
 
     /// Whether the alive nodes will stand on two racks or more once the event is committed. Takes no memory.
@@ -88,17 +86,6 @@ impl Topology {
         match self.rack_of_node(node) {
             Some(_) => nodes - 1,
             None => nodes,
-        }
-    }
-
-    /// The rack of the first node.
-    fn first_rack(&self) -> Option<Rack>
-        ensures { result ≡ option_map
-            (λ e. e.1) (slice_get (map.entries self.now.cluster.nodes) 0) }
-    {
-        match self.nodes.entries().get(0) {
-            Some((_, rack)) => Some(*rack),
-            None => None,
         }
     }
 

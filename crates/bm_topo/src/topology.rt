@@ -1,5 +1,6 @@
 // The tables of the cluster, and what they answer.
-ghost use Rattle.std.specs.Prelude.{◌≡◌, ◌≤◌, IfOk, IsOk, Some, None, option_map, slice_get, if◌then◌else◌};
+ghost use Rattle.std.specs.Prelude.{◌≡◌, ◌≤◌, IfOk, IsOk, Some, None, false, option_map, slice_get, if◌then◌else◌};
+ghost use Rattle.std.specs.Option.{option_map_or};
 ghost use Rattle.bm_base.specs.Map as map;
 ghost use Rattle.bm_base.specs.State as state;
 ghost use Rattle.bm_base.specs.Replicas as replicas;
@@ -10,7 +11,8 @@ ghost use Rattle.bm_base.specs.declared.limits.TheConstants.{MAX_NODES, MAX_STOR
 ghost use Rattle.bm_topo.specs.Seen.{no_room};
 
 use crate::likely_places::LikelyPlaces;
-use bm_base::{NodeId, NumberMap, Rack, Refusal, StorageId, StorageInfo};
+use crate::spots::{Spot, no_spots, set_spots, spot_on};
+use bm_base::{MAX_STORAGES, NodeId, NumberMap, Rack, Refusal, StorageId, StorageInfo};
 use std::alloc::Global;
 use std::marker::Model;
 
@@ -30,8 +32,8 @@ pub struct Location {
 /// The alive DataNodes with their racks, those of them that drain, and their storages with what is free there.
 ///
 /// A contract sees the cluster of the definitions, and for how many further nodes, racks, storages and nodes that drain there is
-/// room. Look-ups are by place, of a storage most often where it was noted to stand, else by binary search, in at most `MAX_NODES` nodes
-/// and `MAX_STORAGES` storages; none takes memory.
+/// room. Where a storage is takes one look at its spot most often, else a binary search, in at most `MAX_NODES` nodes and
+/// `MAX_STORAGES` storages; no look-up takes memory.
 #[derive(Drop)]
 pub struct Topology {
     pub(crate) nodes: NumberMap<Rack>,
@@ -42,11 +44,16 @@ pub struct Topology {
     pub(crate) storages: NumberMap<StorageInfo>,
     // About where in these tables each number stands.
     pub(crate) places: LikelyPlaces,
+    // Where the storages are, each at its place in their table.
+    pub(crate) spots: [Spot; MAX_STORAGES],
+    // How many spots are set: 0 while the cluster changes.
+    pub(crate) spot_count: usize,
 }
 
 impl Model for Topology {
     ghost use Rattle.bm_topo.specs.Seen.{Seen, coded_seen};
-    ghost use Rattle.bm_topo.specs.Sound.{IsSound};
+    ghost use Rattle.bm_topo.specs.Sound.{IsSound, cluster_of};
+    ghost use Rattle.bm_topo.specs.Spots.{HasSpots};
 
     ghost Value = { Seen };
 
@@ -66,7 +73,8 @@ impl Model for Topology {
       };
     } };
 
-    ghost invariant = { λ t. IsSound t.nodes.map t.racks.map t.draining.map t.storages.map };
+    ghost invariant = { λ t. (IsSound t.nodes.map t.racks.map t.draining.map t.storages.map)
+        × (HasSpots (cluster_of t.nodes.map t.draining.map t.storages.map) t.spots t.spot_count) };
 }
 
 impl Topology {
@@ -83,6 +91,8 @@ impl Topology {
             racks: NumberMap::new(alloc),
             storages: NumberMap::new(alloc),
             places: LikelyPlaces::new(),
+            spots: no_spots(),
+            spot_count: 0,
         })
     }
 
@@ -108,7 +118,7 @@ impl Topology {
         self.storages.get(number)
     }
 
-    /// Notes where the storages and the nodes stand. Takes no memory.
+    /// Notes where the storages and the nodes stand, and sets the spots. Takes no memory.
     pub(crate) fn note_places(&mut self)
         ensures { self.new ≡ self.old }
     {
@@ -117,6 +127,14 @@ impl Topology {
             self.nodes.entries(),
             self.draining.entries(),
         );
+        set_spots(
+            &mut self.spots,
+            &self.storages,
+            &self.nodes,
+            &self.draining,
+            &self.places,
+        );
+        self.spot_count = self.storages.len();
     }
 
     /// The rack of a node, if it is alive: two looks where it is likely to stand, and else a look-up.
@@ -137,23 +155,58 @@ impl Topology {
         self.draining.get_near(number, place).is_some()
     }
 
-    /// The node of a storage; `None` where the storage is not known.
+    /// Where a storage is; `None` where it is not known.
+    #[inline]
     #[tactic(auto, unfolding(bm_base::specs::Replicas::node_of))]
+    pub fn spot_of(&self, storage: StorageId) -> Option<Spot>
+        ensures node { option_map (λ p. p.node) result ≡ replicas.node_of self.now.cluster storage }
+        ensures rack { option_map (λ p. p.rack) result ≡ replicas.rack_of self.now.cluster storage }
+        ensures drains { option_map_or (λ p. p.drains) result false
+            ≡ replicas.is_draining self.now.cluster storage }
+    {
+        let place = self.places.of_storage(u64::from(storage.0));
+        if place < self.spot_count && self.spots[place].storage == storage {
+            return Some(self.spots[place]);
+        }
+        self.find_spot(storage)
+    }
+
+    /// The same by look-ups, where the storage does not stand where it is likely to.
+    #[inline(never)]
+    fn find_spot(&self, storage: StorageId) -> Option<Spot>
+        ensures node { option_map (λ p. p.node) result ≡ replicas.node_of self.now.cluster storage }
+        ensures rack { option_map (λ p. p.rack) result ≡ replicas.rack_of self.now.cluster storage }
+        ensures drains { option_map_or (λ p. p.drains) result false
+            ≡ replicas.is_draining self.now.cluster storage }
+    {
+        match self.storages.get(u64::from(storage.0)) {
+            Some(info) => Some(spot_on(
+                storage,
+                info.node,
+                &self.nodes,
+                &self.draining,
+                &self.places,
+            )),
+            None => None,
+        }
+    }
+
+    /// The node of a storage; `None` where the storage is not known.
     pub fn node_of(&self, storage: StorageId) -> Option<NodeId>
         ensures { result ≡ replicas.node_of self.now.cluster storage }
     {
-        match self.info_of(storage) {
-            Some(info) => Some(info.node),
+        match self.spot_of(storage) {
+            Some(spot) => Some(spot.node),
             None => None,
         }
     }
 
     /// Whether a storage is known.
-    #[tactic(auto, unfolding(bm_base::specs::Refusals::knows_storage))]
+    #[tactic(auto, unfolding(bm_base::specs::Refusals::knows_storage, bm_base::specs::Replicas::node_of))]
     pub fn knows_storage(&self, storage: StorageId) -> bool
         ensures { result ≡ knows_storage self.now.cluster storage }
     {
-        self.info_of(storage).is_some()
+        self.spot_of(storage).is_some()
     }
 
     /// Whether a storage is one of a node; not where it is not known.
@@ -181,53 +234,48 @@ impl Topology {
         }
     }
 
-    /// The rack on which the node of a storage stands; `None` where the storage is not known (or its node is not alive, which
-    /// no event leads to).
-    #[tactic(auto, unfolding(bm_base::specs::Replicas::rack_of))]
+    /// The rack on which the node of a storage stands; `None` where the storage is not known.
     pub fn rack_of(&self, storage: StorageId) -> Option<Rack>
         ensures { result ≡ replicas.rack_of self.now.cluster storage }
     {
-        match self.node_of(storage) {
-            Some(node) => self.rack_of_node(node),
+        match self.spot_of(storage) {
+            Some(spot) => Some(spot.rack),
             None => None,
         }
     }
 
     /// Whether a storage stands on a node that drains; not where the storage is not known.
-    #[tactic(auto, unfolding(bm_base::specs::Replicas::is_draining, bm_base::specs::Replicas::drains))]
     pub fn is_draining(&self, storage: StorageId) -> bool
         ensures { result ≡ replicas.is_draining self.now.cluster storage }
     {
-        if self.draining.len() == 0 {
-            return false;
-        }
-        match self.node_of(storage) {
-            Some(node) => self.drains(node),
+        match self.spot_of(storage) {
+            Some(spot) => spot.drains,
             None => false,
         }
     }
 
-    /// Where a storage is and what remains on it, with one look-up of the storage.
-    #[tactic(auto, unfolding(bm_base::specs::Replicas::node_of, bm_base::specs::Replicas::rack_of, bm_base::specs::Replicas::is_draining, bm_base::specs::Replicas::drains, bm_base::specs::Excess::remaining))]
+    /// Where a storage is and what remains on it.
+    #[tactic(auto, unfolding(bm_base::specs::Excess::remaining))]
     pub fn location_of(&self, storage: StorageId) -> Location
         ensures node { result.node ≡ replicas.node_of self.now.cluster storage }
         ensures rack { result.rack ≡ replicas.rack_of self.now.cluster storage }
         ensures drains { result.drains ≡ replicas.is_draining self.now.cluster storage }
         ensures remaining { result.remaining ≡ excess.remaining self.now.cluster storage }
     {
-        let Some(info) = self.info_of(storage) else {
-            return Location {
+        let remaining = self.remaining(storage).unwrap_or(0);
+        match self.spot_of(storage) {
+            Some(spot) => Location {
+                node: Some(spot.node),
+                rack: Some(spot.rack),
+                drains: spot.drains,
+                remaining,
+            },
+            None => Location {
                 node: None,
                 rack: None,
                 drains: false,
-                remaining: 0,
-            };
-        };
-        Location {
-            node: Some(info.node),
-            rack: self.rack_of_node(info.node),
-            drains: self.drains(info.node),
-            remaining: info.remaining,
+                remaining,
+            },
         }
     }
 

@@ -7,6 +7,7 @@ use Rattle.bm_topo.specs.Named.{named}
 use Rattle.bm_topo.specs.Racks.{on_rack}
 use Rattle.bm_topo.proofs.Counting.{on_rack-le}
 use Rattle.bm_topo.proofs.Capacity.{same_capacity}
+use Rattle.bm_topo.proofs.SpotTable.{none_set}
 use Rattle.bm_topo.proofs.Sounding.{sound-joined}
 use Rattle.bm_topo.proofs.topology.Topology.add_node.Goals as goal
 
@@ -14,7 +15,7 @@ pub overflow_add-count : goal.overflow_add-count
 overflow_add-count c =
     let few = on_rack-le c.args.self.now.cluster.nodes c.args.rack in
     let same = ap (λ t. len t.cluster.nodes) c.self.view_is in
-    omega (arith, few, same, c.count_on-count.ensures, c.self.invariant.lawful.few_nodes)
+    omega (arith, few, same, c.count_on-count.ensures, c.self.invariant.0.lawful.few_nodes)
 
 pub invariant_of-self : goal.invariant_of-self
 invariant_of-self c =
@@ -22,9 +23,11 @@ invariant_of-self c =
     let count = c.count_on-count.ensures ∙ sym (ap (λ t. on_rack t.cluster.nodes c.args.rack) c.self.view_is) in
     let nodes = c.insert_reserved-2.ensures.after ∙ ap (λ k. insert c.self.inside.nodes.map k c.args.rack) (c.from-2.ensures ∙ c.node.view_is) in
     let racks = c.insert_reserved.ensures.after ∙ ap (λ k. insert c.self.inside.racks.map k (c.count_on-count.result + 1)) (c.from.ensures ∙ c.rack.view_is) in
-    let draining = c.remove.ensures.after ∙ ap (remove c.self.inside.draining.map) (c.from-3.ensures ∙ c.node.view_is) in
-    sound-joined c.self.inside.nodes.map c.self.inside.racks.map _ _ c.self.inside.draining.map _ c.self.inside.storages.map _ c.args.node c.args.rack c.count_on-count.result c.args.storages.now (omega arith) accepted count nodes racks draining
-    c.add_storages.ensures.after c.add_storages.ensures.small c.self.invariant
+    let draining = c.remove.ensures.after ∙ ap (remove c.self.inside.draining.map) (c.from-3.ensures ∙ c.node.view_is) in (
+      sound-joined c.self.inside.nodes.map c.self.inside.racks.map _ _ c.self.inside.draining.map _ c.self.inside.storages.map _ c.args.node c.args.rack c.count_on-count.result c.args.storages.now (omega arith) accepted count nodes racks draining
+          c.add_storages.ensures.after c.add_storages.ensures.small c.self.invariant.0,
+      none_set _ c.self.inside.spots c.self.invariant.1.whole,
+    )
 
 pub returns-clause-after : goal.returns-clause-after
 unfolding register
@@ -38,8 +41,8 @@ returns-clause-after c =
 
 pub returns-clause-no_growth : goal.returns-clause-no_growth
 returns-clause-no_growth c =
-    same_capacity c.self.inside.nodes c.insert_reserved-2.new.self c.self.inside.racks c.insert_reserved.new.self c.self.inside.draining c.remove.new.self c.self.inside.storages c.add_storages.new.storages c.args.self.now c.self.view_is c.self.invariant
-    (invariant_of-self c) (record {
+    same_capacity c.self.inside.nodes c.insert_reserved-2.new.self c.self.inside.racks c.insert_reserved.new.self c.self.inside.draining c.remove.new.self c.self.inside.storages c.add_storages.new.storages c.args.self.now c.self.view_is c.self.invariant.0
+    (invariant_of-self c).0 (record {
       nodes_same = c.insert_reserved-2.ensures.no_growth;
       draining_same = c.remove.ensures.no_growth;
       racks_same = c.insert_reserved.ensures.no_growth;

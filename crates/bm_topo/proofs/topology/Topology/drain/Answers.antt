@@ -2,13 +2,16 @@ use Rattle.std.proofs.Common.{refl, ap, ◌∙◌}
 use Rattle.bm_base.specs.Map.{contains_key, insert}
 use Rattle.bm_base.specs.Events.{drain}
 use Rattle.bm_topo.proofs.Capacity.{same_capacity}
+use Rattle.bm_topo.proofs.SpotTable.{none_set}
 use Rattle.bm_topo.proofs.Sounding.{sound-drained}
 use Rattle.bm_topo.proofs.topology.Topology.drain.Goals as goal
 
 pub invariant_of-self : goal.invariant_of-self
-invariant_of-self c =
-    sound-drained _ _ c.self.inside.draining.map _ _ c.args.node (ap (λ t. contains_key t.cluster.nodes c.args.node) c.self.view_is ∙ c.requires.alive)
-    (c.insert_reserved.ensures.after ∙ ap (λ k. insert c.self.inside.draining.map k tt) (c.from.ensures ∙ c.node.view_is)) c.self.invariant
+invariant_of-self c = (
+  sound-drained _ _ c.self.inside.draining.map _ _ c.args.node (ap (λ t. contains_key t.cluster.nodes c.args.node) c.self.view_is ∙ c.requires.alive)
+      (c.insert_reserved.ensures.after ∙ ap (λ k. insert c.self.inside.draining.map k tt) (c.from.ensures ∙ c.node.view_is)) c.self.invariant.0,
+  none_set _ c.self.inside.spots c.self.invariant.1.whole,
+)
 
 pub returns-clause-after : goal.returns-clause-after
 unfolding drain
@@ -20,5 +23,5 @@ returns-clause-after c =
 
 pub returns-clause-no_growth : goal.returns-clause-no_growth
 returns-clause-no_growth c =
-    same_capacity c.self.inside.nodes c.self.inside.nodes c.self.inside.racks c.self.inside.racks c.self.inside.draining c.insert_reserved.new.self c.self.inside.storages c.self.inside.storages c.args.self.now c.self.view_is c.self.invariant
-    (invariant_of-self c) (record { nodes_same = refl; draining_same = c.insert_reserved.ensures.no_growth; racks_same = refl; storages_same = refl })
+    same_capacity c.self.inside.nodes c.self.inside.nodes c.self.inside.racks c.self.inside.racks c.self.inside.draining c.insert_reserved.new.self c.self.inside.storages c.self.inside.storages c.args.self.now c.self.view_is c.self.invariant.0
+    (invariant_of-self c).0 (record { nodes_same = refl; draining_same = c.insert_reserved.ensures.no_growth; racks_same = refl; storages_same = refl })

@@ -5,13 +5,16 @@ use Rattle.bm_base.proofs.Differences.{len-keep-le}
 use Rattle.bm_base.specs.Events.{without_node}
 use Rattle.bm_topo.proofs.Capacity.{seen_of, no_less, no_less-then}
 use Rattle.bm_topo.proofs.Lengths.{len-remove}
+use Rattle.bm_topo.proofs.SpotTable.{none_set}
 use Rattle.bm_topo.proofs.Sounding.{sound-kept, others_kept, none_left, not_left}
 use Rattle.bm_topo.proofs.topology.Topology.drop_node.Goals as goal
 
 pub invariant_of-self : goal.invariant_of-self
 invariant_of-self c =
-    let left = c.remove.ensures.after ∙ ap (remove c.self.inside.draining.map) (c.from.ensures ∙ c.node.view_is) in
-    sound-kept _ _ c.self.inside.draining.map _ c.self.inside.storages.map _ c.args.node c.drop_storages.ensures.after left c.self.invariant
+    let left = c.remove.ensures.after ∙ ap (remove c.self.inside.draining.map) (c.from.ensures ∙ c.node.view_is) in (
+      sound-kept _ _ c.self.inside.draining.map _ c.self.inside.storages.map _ c.args.node c.drop_storages.ensures.after left c.self.invariant.0,
+      none_set _ c.self.inside.spots c.self.invariant.1.whole,
+    )
 
 pub forget_node-requires-clause-storages : goal.forget_node-requires-clause-storages
 forget_node-requires-clause-storages c s i e here = none_left c.self.inside.storages.map _ c.args.node s i c.drop_storages.ensures.after e here

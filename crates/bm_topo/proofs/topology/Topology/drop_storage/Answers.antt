@@ -3,11 +3,12 @@ use Rattle.bm_base.specs.Map.{len, remove}
 use Rattle.bm_base.specs.Events.{without_storage}
 use Rattle.bm_topo.proofs.Capacity.{no_less_storages}
 use Rattle.bm_topo.proofs.Lengths.{len-remove}
+use Rattle.bm_topo.proofs.SpotTable.{none_set}
 use Rattle.bm_topo.proofs.Sounding.{sound-removed}
 use Rattle.bm_topo.proofs.topology.Topology.drop_storage.Goals as goal
 
 pub invariant_of-self : goal.invariant_of-self
-invariant_of-self c = sound-removed _ _ _ c.self.inside.storages.map _ c.from.result c.remove.ensures.after c.self.invariant
+invariant_of-self c = (sound-removed _ _ _ c.self.inside.storages.map _ c.from.result c.remove.ensures.after c.self.invariant.0, none_set _ c.self.inside.spots c.self.invariant.1.whole)
 
 pub returns-clause-after : goal.returns-clause-after
 unfolding without_storage

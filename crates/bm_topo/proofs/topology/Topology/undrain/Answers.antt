@@ -2,13 +2,16 @@ use Rattle.std.proofs.Common.{arith, refl, ap, ◌∙◌}
 use Rattle.bm_base.specs.Map.{len, remove}
 use Rattle.bm_base.specs.Events.{undrain}
 use Rattle.bm_topo.proofs.Capacity.{same_capacity, no_less_draining}
+use Rattle.bm_topo.proofs.SpotTable.{none_set}
 use Rattle.bm_topo.proofs.Sounding.{sound-undrained}
 use Rattle.bm_topo.proofs.Lengths.{len-remove}
 use Rattle.bm_topo.proofs.topology.Topology.undrain.Goals as goal
 
 pub invariant_of-self : goal.invariant_of-self
-invariant_of-self c =
-    sound-undrained _ _ c.self.inside.draining.map _ _ c.args.node (c.remove.ensures.after ∙ ap (remove c.self.inside.draining.map) (c.from.ensures ∙ c.node.view_is)) c.self.invariant
+invariant_of-self c = (
+  sound-undrained _ _ c.self.inside.draining.map _ _ c.args.node (c.remove.ensures.after ∙ ap (remove c.self.inside.draining.map) (c.from.ensures ∙ c.node.view_is)) c.self.invariant.0,
+  none_set _ c.self.inside.spots c.self.invariant.1.whole,
+)
 
 pub returns-clause-after : goal.returns-clause-after
 unfolding undrain
@@ -20,8 +23,8 @@ returns-clause-after c =
 
 pub returns-clause-no_growth : goal.returns-clause-no_growth
 returns-clause-no_growth c =
-    same_capacity c.self.inside.nodes c.self.inside.nodes c.self.inside.racks c.self.inside.racks c.self.inside.draining c.remove.new.self c.self.inside.storages c.self.inside.storages c.args.self.now c.self.view_is c.self.invariant
-    (invariant_of-self c) (record { nodes_same = refl; draining_same = c.remove.ensures.no_growth; racks_same = refl; storages_same = refl })
+    same_capacity c.self.inside.nodes c.self.inside.nodes c.self.inside.racks c.self.inside.racks c.self.inside.draining c.remove.new.self c.self.inside.storages c.self.inside.storages c.args.self.now c.self.view_is c.self.invariant.0
+    (invariant_of-self c).0 (record { nodes_same = refl; draining_same = c.remove.ensures.no_growth; racks_same = refl; storages_same = refl })
 
 pub returns-clause-kept : goal.returns-clause-kept
 returns-clause-kept c =

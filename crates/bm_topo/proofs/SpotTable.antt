@@ -1,0 +1,81 @@
+-- The spots of a topology: they stay right where a heartbeat is told, and each is right once it is set.
+use Rattle.std.proofs.Common.{◌≡◌, ℕ, ◌<◌, ◌+◌, false, List, length, Some, None, inl, inr, refl, sym, ap, subst, ◌∙◌, arith, get_or, get_or-set_same}
+use Rattle.std.specs.Prelude.{slice_get, slice_set, option_map, option_and_then}
+use Rattle.std.specs.Option.{option_map_or}
+use Rattle.std.proofs.lemmas.Bool.{cases_eq}
+use Rattle.std.proofs.lemmas.List.{get_or-set_other}
+use Rattle.std.proofs.lemmas.Option.{get_or_from_slice_get, slice_get-get_or, slice_get_within, slice_get_read}
+use Rattle.bm_base.specs.declared.storage.StorageInfo.{StorageInfo}
+use Rattle.bm_base.specs.declared.event.Remaining.{Remaining}
+use Rattle.bm_base.specs.declared.limits.TheConstants.{MAX_STORAGES}
+use Rattle.bm_base.specs.Map.{Map, Set, by_number, entries, len, get, contains_key}
+use Rattle.bm_base.specs.State.{Cluster}
+use Rattle.bm_base.specs.Replicas.{node_of, rack_of, is_draining, drains}
+use Rattle.bm_base.specs.Events.{set_remaining}
+use Rattle.bm_base.proofs.ClusterEvents.{same_nodes}
+use Rattle.bm_topo.specs.declared.spots.Spot.{Spot}
+use Rattle.bm_topo.specs.Sound.{cluster_of}
+use Rattle.bm_topo.proofs.Placed.{get_at}
+use Rattle.bm_topo.specs.Spots.{IsSpot, AreSpots, HasSpots}
+
+pub none_set : (C : Cluster) (spots : List Spot) → length spots ≡ MAX_STORAGES → HasSpots C spots 0
+none_set C spots whole = record { whole = whole; few = omega arith; each = λ k p below is. absurd (omega (arith, below)) }
+
+-- where storages stay on their nodes
+spot_stays : (nodes : Map by_number ℕ) (draining : Set by_number) (old new : Map by_number StorageInfo) (p : Spot)
+    → option_map (λ (i : StorageInfo). i.node) (get new p.storage) ≡ option_map (λ (i : StorageInfo). i.node) (get old p.storage)
+    → IsSpot (cluster_of nodes draining old) p → IsSpot (cluster_of nodes draining new) p
+unfolding node_of rack_of is_draining drains
+spot_stays nodes draining old new p same h = record {
+  node = same ∙ h.node;
+  rack = ap (λ o. option_and_then (λ n. get nodes n) o) same ∙ h.rack;
+  drains = h.drains ∙ sym (ap (λ o. option_map_or (λ n. contains_key draining n) o false) same);
+}
+
+pub spots_told : (nodes : Map by_number ℕ) (draining : Set by_number) (old new : Map by_number StorageInfo) (rs : List Remaining) → new ≡ set_remaining old rs
+    → (spots : List Spot) (n : ℕ) → HasSpots (cluster_of nodes draining old) spots n → HasSpots (cluster_of nodes draining new) spots n
+spots_told nodes draining old new rs is spots n h = record {
+  whole = h.whole;
+  few = h.few;
+  each = λ k p below at. spot_stays nodes draining old new p (ap (λ m. option_map (λ (i : StorageInfo). i.node) (get m p.storage)) is ∙ same_nodes old rs p.storage) (h.each k p below at);
+}
+
+-- a spot with what the tables have of its storage and node
+pub spot_is : (nodes : Map by_number ℕ) (draining : Set by_number) (storages : Map by_number StorageInfo) (p : Spot) (i : StorageInfo) → get storages p.storage ≡ Some i → p.node ≡ i.node
+    → get nodes p.node ≡ Some p.rack → p.drains ≡ contains_key draining p.node → IsSpot (cluster_of nodes draining storages) p
+unfolding node_of rack_of is_draining drains
+spot_is nodes draining storages p i there node rack drains_is =
+    let its : option_map (λ (j : StorageInfo). j.node) (get storages p.storage) ≡ Some p.node = ap (option_map (λ (j : StorageInfo). j.node)) there ∙ ap Some (sym node) in
+    record {
+      node = its;
+      rack = ap (λ o. option_and_then (λ n. get nodes n) o) its ∙ rack;
+      drains = drains_is ∙ sym (ap (λ o. option_map_or (λ n. contains_key draining n) o false) its);
+    }
+
+-- one spot more is set
+pub set_next : (C : Cluster) (spots : List Spot) (i : ℕ) (p : Spot) → i < length spots → AreSpots C spots i → IsSpot C p → AreSpots C (slice_set spots i p) (i + 1)
+set_next C spots i p room before here k q below at =
+    let read = slice_get-get_or (slice_set spots i p) k q (slice_get_within (slice_set spots i p) k q at) in
+    elim (cases_eq k i) [
+      | inl is ↦ subst (IsSpot C) (sym (get_or-set_same spots i p q room) ∙ get_or_from_slice_get (slice_set spots i p) i q q (ap (λ z. slice_get (slice_set spots i p) z) (sym is) ∙ at)) here
+      | inr differs ↦
+          let less : k < i = omega arith in
+          let same = sym (get_or-set_other spots i k p q differs) ∙ get_or_from_slice_get (slice_set spots i p) k q q at in
+          let inside : k < length spots = omega (arith, less, room) in
+          before k q less (slice_get-get_or spots k q inside ∙ ap Some same)
+    ]
+
+-- what is read at a place of the entries is in the map
+pub entry_there : {X : Type 0} (m : Map by_number X) (es : List (ℕ × X)) (i : ℕ) (e : ℕ × X) → es ≡ entries m → i < length es → e ≡ get_or es i e → get m e.0 ≡ Some e.1
+entry_there m es i e is below read = get_at m i e (ap (λ xs. slice_get xs i) (sym is) ∙ slice_get_read es (length es) i e refl below read)
+
+pub same_count : {X : Type 0} (m : Map by_number X) (es : List (ℕ × X)) → es ≡ entries m → length es ≡ len m
+unfolding len
+same_count m es is = ap length is
+
+-- a storage that is not known has no node, no rack and does not drain
+pub spot_none : (C : Cluster) (s : ℕ) → get C.storages s ≡ None → (node_of C s ≡ None) × (rack_of C s ≡ None) × (is_draining C s ≡ false)
+unfolding node_of rack_of is_draining
+spot_none C s is =
+    let its = ap (option_map (λ (i : StorageInfo). i.node)) is in
+    (its, ap (λ o. option_and_then (λ n. get C.nodes n) o) its, ap (λ o. option_map_or (drains C) o false) its)

@@ -1,0 +1,89 @@
+// Where each storage is, in one table beside that of the storages and at the same places: its node, the rack and whether the node
+// drains. So one look answers all that a replica is judged by.
+ghost use Rattle.std.specs.Prelude.{◌≡◌, ◌≤◌, ◌<◌, true, length, Some};
+ghost use Rattle.bm_base.specs.Map as map;
+ghost use Rattle.bm_base.specs.Lawful.{IsLawfulCluster};
+ghost use Rattle.bm_topo.specs.Keys.{HasSmallKeys};
+ghost use Rattle.bm_topo.specs.Sound.{cluster_of};
+ghost use Rattle.bm_topo.specs.Spots.{IsSpot, AreSpots};
+
+use crate::likely_places::LikelyPlaces;
+use bm_base::{MAX_STORAGES, NodeId, NumberMap, Rack, StorageId, StorageInfo};
+
+/// Where a known storage is: what only a change of the cluster changes, and no heartbeat.
+#[derive(Clone, Copy)]
+pub struct Spot {
+    pub storage: StorageId,
+    /// Its node.
+    pub node: NodeId,
+    /// The rack on which its node stands.
+    pub rack: Rack,
+    /// Whether its node drains.
+    pub drains: bool,
+}
+
+/// What fills the places behind the last storage.
+const NO_SPOT: Spot = Spot {
+    storage: StorageId(0),
+    node: NodeId(0),
+    rack: Rack(0),
+    drains: false,
+};
+
+/// As many spots as there can be storages, so that a change of the cluster takes no memory for them.
+pub(crate) fn no_spots() -> [Spot; MAX_STORAGES]
+    ensures { length result ≡ 4096 }
+{
+    [NO_SPOT; MAX_STORAGES]
+}
+
+/// The spot of a storage on an alive node.
+pub(crate) fn spot_on(
+    storage: StorageId,
+    node: NodeId,
+    nodes: &NumberMap<Rack>,
+    draining: &NumberMap<()>,
+    places: &LikelyPlaces,
+) -> Spot
+    requires { map.contains_key nodes.now.map node ≡ true }
+    ensures storage { result.storage ≡ storage }
+    ensures node { result.node ≡ node }
+    ensures rack { map.get nodes.now.map node ≡ Some result.rack }
+    ensures drains { result.drains ≡ map.contains_key draining.now.map node }
+{
+    let number = u64::from(node.0);
+    let rack = match nodes.get_near(number, places.of_node(number)) {
+        Some(rack) => rack,
+        None => unreachable!(),
+    };
+    Spot {
+        storage,
+        node,
+        rack,
+        drains: draining
+            .get_near(number, places.of_draining(number))
+            .is_some(),
+    }
+}
+
+/// Sets the spot of each storage, at the place at which the table of the storages has it.
+pub(crate) fn set_spots(
+    spots: &mut [Spot],
+    storages: &NumberMap<StorageInfo>,
+    nodes: &NumberMap<Rack>,
+    draining: &NumberMap<()>,
+    places: &LikelyPlaces,
+)
+    requires enough { map.len storages.now.map ≤ length spots.old }
+    requires small { HasSmallKeys storages.now.map }
+    requires lawful { IsLawfulCluster
+        (cluster_of nodes.now.map draining.now.map storages.now.map) }
+    ensures each { AreSpots (cluster_of nodes.now.map draining.now.map storages.now.map)
+        spots.new (map.len storages.now.map) }
+    ensures len { length spots.new ≡ length spots.old }
+{
+    for (place, entry) in storages.entries().iter().enumerate() {
+        let storage = StorageId(entry.0 as u32);
+        spots[place] = spot_on(storage, entry.1.node, nodes, draining, places);
+    }
+}
