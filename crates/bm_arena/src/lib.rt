@@ -18,4 +18,5 @@ mod walk;
 
 pub use arena::{Arena, Slot};
 pub use bm_base::{BlockInfo, Marks};
+pub use types::Triplet;
 pub use walk::Walk;

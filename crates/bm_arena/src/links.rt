@@ -337,8 +337,7 @@ fn replica_in(triplets: &[Triplet], i: usize) -> Option<(StorageId, Marks)>
     ensures { result ≡ option_map seen_triplet (slice_get triplets.now i) }
 {
     if i < triplets.len() {
-        let triplet = triplets[i];
-        Some((StorageId(triplet.storage), triplet.marks))
+        Some(triplets[i].replica())
     } else {
         None
     }

@@ -1,11 +1,12 @@
 // What can be asked of an arena. No question changes anything, and none takes memory.
-ghost use Rattle.std.specs.Prelude.{◌≡◌, ◌<◌, ℕ, IsTrue, ◌↔◌, is_some, length, slice_get, IsSome, IfSome, IsSomeAnd, Some, []};
+ghost use Rattle.std.specs.Prelude.{◌≡◌, ◌<◌, ℕ, IsTrue, ◌↔◌, is_some, length, map, slice_get, IsSome, IfSome, IsSomeAnd, Some, []};
 ghost use Rattle.std.specs.Option.{option_map, option_map_or, option_and_then};
-ghost use Rattle.bm_arena.specs.Triplets.{Block};
+ghost use Rattle.bm_arena.specs.Triplets.{Block, seen_triplet};
 ghost use Rattle.bm_arena.specs.Contents.{block_at, slot_of, HasHead, HasRoom, marks_at, list_of};
 
 use crate::arena::{Arena, Slot};
 use crate::links;
+use crate::types::Triplet;
 use bm_base::{BlockId, BlockInfo, Marks, StorageId};
 
 impl Arena {
@@ -64,6 +65,20 @@ impl Arena {
     {
         match self.slots.get(slot) {
             Some(entry) => entry.info,
+            None => None,
+        }
+    }
+
+    /// What is known of the block in `slot`, and its replicas: the slot is looked at once for all. None where the slot is not held.
+    #[inline]
+    pub fn block(&self, slot: Slot) -> Option<(Option<BlockInfo>, &[Triplet])>
+        ensures info { option_map (λ p. p.0) result
+            ≡ option_map (λ b. b.info) (block_at self.now slot) }
+        ensures replicas { option_map (λ p. map seen_triplet p.1.now) result
+            ≡ option_map (λ b. b.replicas) (block_at self.now slot) }
+    {
+        match self.slots.get(slot) {
+            Some(entry) => Some((entry.info, entry.triplets.as_slice())),
             None => None,
         }
     }

@@ -1,14 +1,27 @@
 // What stands in a slot: a block's entry with its triplets.
-use bm_base::{BlockInfo, Marks, NO_LINK, SlotLink, Tag};
+ghost use Rattle.std.specs.Prelude.{◌≡◌};
+ghost use Rattle.bm_arena.specs.Triplets.{seen_triplet};
+
+use bm_base::{BlockInfo, Marks, NO_LINK, SlotLink, StorageId, Tag};
 use smallvec::SmallVec;
 
 /// A replica of a block: its storage, the neighbours of the block in that storage's list, and its marks.
 #[derive(Clone, Copy)]
-pub(crate) struct Triplet {
+pub struct Triplet {
     pub(crate) storage: u32,
     pub(crate) previous: SlotLink,
     pub(crate) next: SlotLink,
     pub(crate) marks: Marks,
+}
+
+impl Triplet {
+    /// Its storage and its marks.
+    #[inline]
+    pub fn replica(&self) -> (StorageId, Marks)
+        ensures { result ≡ seen_triplet self.now }
+    {
+        (StorageId(self.storage), self.marks)
+    }
 }
 
 // What fills the unused inline places of an entry.
