@@ -16,7 +16,7 @@ use Rattle.bm_arena.proofs.Held.{info_in, replica_in, get-replicas_of, get-block
 use Rattle.bm_report.specs.Expanded.{IsPrepared}
 use Rattle.bm_report.specs.Aborted.{is_bare_block, is_bare_number}
 use Rattle.bm_levels.specs.Judged.{level_in, level_by, is_settled_at}
-use Rattle.bm_levels.specs.Kept.{Kept, HasRoomFor, IsSameAt}
+use Rattle.bm_levels.specs.Kept.{Kept, HasRoomFor, KeepsRoom, IsSameAt}
 use Rattle.bm_levels.specs.Leveled.{Leveled, IsLeveled, AreLevels}
 use Rattle.bm_levels.proofs.Judgement.{level_unknown}
 use Rattle.bm_levels.proofs.ManySlots.{no_replicas, marker_settled}
@@ -208,6 +208,14 @@ module _ (a c : Contents) (lawful_a : IsLawful a) (lawful_c : IsLawful c) (prepa
         by : slot ≢ d.delimiter → (o : Option Block) → block_at d slot ≡ o → IsSome (block_at d slot) → IsSome (block_at a slot)
         by differs (Some k) e there = was k.id k (lawful_d.known slot k e differs) (slot_of a k.id) refl
         by differs None e there = absurd (false≢true (sym (ap is_some e) ∙ there))
+
+    -- so what holds of the levels holds again, where more slots may have room
+    module _ (k K : Kept) (same : (slot : ℕ) → IsSameAt k K slot) where
+      pub leveled_again : KeepsRoom k K → IsLeveled (record { arena = a; kept = k }) → IsLeveled (record { arena = d; kept = K })
+      leveled_again room h = leveled_alike (record { arena = a; kept = k }) d K alike_again (delimiter ∙ prepared.delimiter) same h (λ z there. room (z + 1) (h.room z (held_before z there)))
+
+      pub levels_again : (C : Cluster) → AreLevels C (record { arena = a; kept = k }) → AreLevels C (record { arena = d; kept = K })
+      levels_again = levels_alike (record { arena = a; kept = k }) d K alike_again (delimiter ∙ prepared.delimiter) same
 
 -- an arena has no number that it has not
 pub none_fresh : (a : Contents) (named : ℕ → Bool) (b : ℕ) → slot_of a b ≡ None → IsSome (slot_of a b) → IsTrue (named b)

@@ -1,6 +1,7 @@
 // Full reports and notices of received replicas: made ready or given up, and made, with the levels of the blocks that they change.
-ghost use Rattle.std.specs.Prelude.{◌≡◌, ◌<◌, ◌^◌, ◌∷◌, [], IfErr, OnOk, OnErr};
+ghost use Rattle.std.specs.Prelude.{◌≡◌, ◌==◌, ◌<◌, ◌≤◌, ◌^◌, ◌∷◌, [], ℕ, length, take, IfErr, OnOk, OnErr};
 ghost use Rattle.bm_base.specs.declared.refusal.Refusal.TheVariants.{Memory};
+ghost use Rattle.bm_base.specs.SlotLists.{Among};
 ghost use Rattle.bm_base.specs.State.{Cluster};
 ghost use Rattle.bm_base.specs.Events as events;
 ghost use Rattle.bm_base.specs.Calls as calls;
@@ -8,7 +9,7 @@ ghost use Rattle.bm_arena.specs.Contents.{KeepsEntries};
 ghost use Rattle.bm_arena.specs.Holding.{replicas_of, blocks_of, holdings_of};
 ghost use Rattle.bm_report.specs.Expanded.{told_to};
 ghost use Rattle.bm_report.specs.Midway.{IsOncePerNode};
-ghost use Rattle.bm_report.specs.Ready.{told, IsReady, HasGoodExcess};
+ghost use Rattle.bm_report.specs.Ready.{told, IsLookedUp, IsReady, IsToldAt, HasGoodExcess};
 ghost use Rattle.bm_report.specs.Received.{HasReceived};
 ghost use Rattle.bm_levels.specs.Bare.{HasNoneBareOf, MakesNoneBare, MakesBareOnly, IsSameBeside};
 ghost use Rattle.bm_levels.specs.Leveled.{KeepsLevels};
@@ -43,12 +44,38 @@ impl LeveledBlocks {
         self.arena.lawful();
         let found = report.ready(&mut self.arena, storage, entries, part);
         self.arena.lawful();
-        if found.is_err() {
+        let grown = self.kept.grow_to(self.arena.slot_bound());
+        if found.is_err() || grown.is_err() {
             report.abort(&mut self.arena);
             self.arena.lawful();
             return Err(Refusal::Memory);
         }
-        if self.kept.grow_to(self.arena.slot_bound()).is_err() {
+        Ok(())
+    }
+
+    /// Finds the slot of one number, gives it an entry if it has none, and reserves what `receive`
+    /// needs. Nothing that is held changes. `Memory`: then no new entry stays.
+    pub fn ready_notice(
+        &mut self,
+        report: &mut Report,
+        storage: StorageId,
+        id: BlockId,
+        stamp: Stamp,
+    ) -> Result<(), Refusal>
+        ensures told { OnOk result (told report.new ≡ record { id = id; stamp = stamp } ∷ []) }
+        ensures looked_up { OnOk result (IsLookedUp report.new self.new.arena storage) }
+        ensures blocks { blocks_of self.new.arena ≡ blocks_of self.old.arena }
+        ensures replicas { replicas_of self.new.arena ≡ replicas_of self.old.arena }
+        ensures bare { MakesBareOnly (λ b. id == b) self.old.arena self.new.arena }
+        ensures given_up { OnErr result (MakesNoneBare self.old.arena self.new.arena) }
+        ensures levels { (C : Cluster) → KeepsLevels C self.old self.new }
+        ensures refused { IfErr result (λ e. e ≡ Memory) }
+    {
+        self.arena.lawful();
+        let found = report.ready_one(&mut self.arena, storage, id, stamp);
+        self.arena.lawful();
+        let grown = self.kept.grow_to(self.arena.slot_bound());
+        if found.is_err() || grown.is_err() {
             report.abort(&mut self.arena);
             self.arena.lawful();
             return Err(Refusal::Memory);
@@ -71,8 +98,8 @@ impl LeveledBlocks {
         self.arena.lawful();
     }
 
-    /// A replica of a block was received on a storage, for which the report was made ready by its one entry: it is there, and leaves
-    /// the other storages of the node. Takes no memory.
+    /// A replica of a block was received on a storage, for which its number was looked up: it is
+    /// there, and leaves the other storages of the node. Takes no memory.
     pub fn receive(
         &mut self,
         report: &Report,
@@ -82,16 +109,14 @@ impl LeveledBlocks {
         stamp: Stamp,
     ) -> Applied
         requires told { told report.now ≡ record { id = id; stamp = stamp } ∷ [] }
-        requires ready { IsReady report.now self.old.arena storage }
+        requires looked_up { IsLookedUp report.now self.old.arena storage }
         requires once { IsOncePerNode topology.now.cluster (replicas_of self.old.arena) }
         ensures received { HasReceived topology.now.cluster storage id stamp
             self.old.arena self.new.arena result }
         ensures levels { KeepsLevels topology.now.cluster self.old self.new }
     {
         self.arena.lawful();
-        let Some(slot) = self.arena.find(id) else {
-            unreachable!();
-        };
+        let slot = report.slot_of_one();
         let was = self.kept.kept_at(slot);
         let applied = report.apply_received(&mut self.arena, topology, storage, id, stamp);
         self.kept.judge_from_in(topology, &self.arena, slot, was);
@@ -118,6 +143,9 @@ impl LeveledBlocks {
         ensures once { IsOncePerNode topology.now.cluster (replicas_of self.new.arena) }
         ensures good { HasGoodExcess (replicas_of self.new.arena) }
         ensures changed { IsSameBeside report.new.changed self.old.arena self.new.arena }
+        ensures split { report.new.came ≤ length report.new.changed }
+        ensures came { (slot : ℕ) → Among slot (take report.new.came report.new.changed)
+            → IsToldAt self.old.arena (told report.old) slot }
         ensures told { told report.new ≡ told report.old }
         ensures added { result.added
             ≡ calls.new_replicas (replicas_of self.old.arena) (replicas_of self.new.arena) }

@@ -45,7 +45,7 @@ pub first_named : (t : Told) (ts : List Told) → IsTrue (is_named (t ∷ ts) t.
 unfolding is_named
 first_named t ts = ap (λ b. b || is_named ts t.id) (eq-eqb t.id t.id refl)
 
-then_named : (t : Told) (ts : List Told) (b : ℕ) → IsTrue (is_named ts b) → IsTrue (is_named (t ∷ ts) b)
+pub then_named : (t : Told) (ts : List Told) (b : ℕ) → IsTrue (is_named ts b) → IsTrue (is_named (t ∷ ts) b)
 unfolding is_named
 then_named t ts b h = by (eqb t.id b) (is_named ts b) h
   where

@@ -209,8 +209,10 @@ module _ (s x : ℕ) (a b : Contents) (lawful : IsLawful a) (next : slot_after a
 pub sweeping-first : (s : ℕ) (a : Contents) (t : Tally) (ls : List ℕ) → IsSome (marks_at a a.delimiter s) → t.removed + length (behind a s) < 2 ^ 127 → t.steps + length (behind a s) < 2 ^ 127 → IsSweeping s a a t t ls ls
 sweeping-first s a t ls put removed steps = record { put = put; swept = λ c w g. g; listed = listed-none a ls; removed = removed; steps = steps }
 
+pub nothing-behind : (s : ℕ) (a : Contents) → slot_after a.delimiter (list_of a s) ≡ None → behind a s ≡ []
+nothing-behind s a none = empty_first (behind a s) (sym (first-after a.delimiter (list_of a s)) ∙ none)
+
 pub sweeping-last : (s : ℕ) (first a : Contents) (t u : Tally) (ls ms : List ℕ) → slot_after a.delimiter (list_of a s) ≡ None → IsSweeping s first a t u ls ms → IsSwept s (behind first s) first a t u
 sweeping-last s first a t u ls ms none f =
     let P : List ℕ → Type 0 = λ l. IsSwept s l a a u u in
-    let empty : behind a s ≡ [] = empty_first (behind a s) (sym (first-after a.delimiter (list_of a s)) ∙ none) in
-    f.swept a u (subst P (sym empty) (swept-none s a u))
+    f.swept a u (subst P (sym (nothing-behind s a none)) (swept-none s a u))

@@ -20,6 +20,8 @@ pub record Looked : Type 0 where
   pub named : List Named
   -- the slots whose blocks changed
   pub changed : List ℕ
+  -- how many of them were listed before the sweep
+  pub came : ℕ
   -- how many slots can be listed in all with no memory taken
   pub room : ℕ
 
@@ -27,13 +29,21 @@ pub record Looked : Type 0 where
 abbrev pub told : Looked → List Told
 told r = map told_of r.named
 
--- The report was looked up in this arena, for storage s: its slots are those of its numbers, each block has room for a replica
--- on s, s has a head, and all slots that may change can be listed.
-pub record IsReady (r : Looked) (a : Contents) (s : ℕ) : Type 0 where
+-- The numbers were looked up in this arena, for storage s: the slots are theirs, each block has room
+-- for a replica on s, and s has a head. A notice needs no more.
+pub record IsLookedUp (r : Looked) (a : Contents) (s : ℕ) : Type 0 where
   pub here : AreHere a r.named
   pub room : HaveRoom a s r.named
   pub head : HasHead a s
+
+-- For a full report, all slots that may change can be listed besides.
+pub record IsReady (r : Looked) (a : Contents) (s : ℕ) : Type 0 where
+  pub looked_up : IsLookedUp r a s
   pub space : length r.changed + length r.named + length (list_of a s) ≤ r.room
+
+-- the slot is that of a number that is told
+abbrev pub IsToldAt : Contents → List Told → ℕ → Type 0
+IsToldAt a ts slot = (b : ℕ) × IsTrue (is_named ts b) × (slot_of a b ≡ Some slot)
 
 -- a number has an entry, which has a replica on s or room for one
 abbrev pub HasPlace : Contents → ℕ → ℕ → Type 0

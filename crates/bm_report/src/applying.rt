@@ -1,11 +1,11 @@
 // A full report is applied by the delimiter.
-ghost use Rattle.std.specs.Prelude.{◌≡◌, ◌≢◌, ◌≤◌, ◌<◌, ◌+◌, ◌^◌, ℕ, length, map, vec_len, vec_capacity, None, ◌⊎◌};
+ghost use Rattle.std.specs.Prelude.{◌≡◌, ◌≢◌, ◌≤◌, ◌<◌, ◌+◌, ◌^◌, ℕ, length, map, take, vec_len, vec_capacity, None, ◌⊎◌};
 ghost use Rattle.bm_base.specs.Events as events;
 ghost use Rattle.bm_base.specs.Calls as calls;
 ghost use Rattle.bm_base.specs.SlotLists.{Among};
 ghost use Rattle.bm_arena.specs.Contents.{block_at, marks_at, list_of, HasHead, IsEntry, KeepsEntries};
 ghost use Rattle.bm_arena.specs.Holding.{replicas_of, blocks_of, holdings_of};
-ghost use Rattle.bm_report.specs.Midway.{AreHere, HaveRoom, IsOncePerNode, IsExcessGood, told_of, count_ups, AllStand};
+ghost use Rattle.bm_report.specs.Midway.{AreHere, HaveRoom, IsOncePerNode, IsExcessGood, told_of, slot_in, count_ups, AllStand};
 
 use crate::entering_chunks::enter_all;
 use crate::sweeping::{drop_lost_excess, sweep};
@@ -15,13 +15,15 @@ use bm_arena::{Arena, Slot};
 use bm_base::StorageId;
 use bm_topo::Topology;
 
-/// Makes the replicas on a storage those of a full report.
+/// Makes the replicas on a storage those of a full report, and counts the slots that are listed
+/// before the sweep.
 pub(crate) fn apply(
     arena: &mut Arena,
     topology: &Topology,
     storage: StorageId,
     named: &[Named],
     changed: &mut Vec<Slot>,
+    came: &mut usize,
 ) -> Applied
     requires here { AreHere arena.old named.now }
     requires room { HaveRoom arena.old storage named.now }
@@ -42,6 +44,9 @@ pub(crate) fn apply(
         → Among slot changed.old.items ⊎ IsEntry arena.old slot }
     ensures changed { (slot : ℕ) → slot ≢ arena.old.delimiter → (Among slot changed.new.items → ⊥)
         → block_at arena.new slot ≡ block_at arena.old slot }
+    ensures split { came.new ≤ length changed.new.items }
+    ensures came { (slot : ℕ) → Among slot (take came.new changed.new.items)
+        → Among slot changed.old.items ⊎ Among slot (map slot_in named.now) }
     ensures quiet { AllStand arena.old storage named.now → result.removed ≡ 0
         → changed.new.items ≡ changed.old.items }
     ensures added { result.added
@@ -62,6 +67,7 @@ pub(crate) fn apply(
     arena.put_delimiter(storage);
     enter_all(arena, topology, storage, named, &mut tally, changed);
     arena.lawful();
+    *came = changed.len();
     sweep(arena, storage, &mut tally, changed);
     arena.lawful();
     arena.take_delimiter(storage);

@@ -2,11 +2,12 @@
 //
 // The cost of a report is waiting for memory: so the marks of a chunk's blocks are read first, in reads that do not wait for one
 // another, and the moves and links that follow find the blocks' entries near.
-ghost use Rattle.std.specs.Prelude.{◌≡◌, ◌≤◌, ◌<◌, ◌+◌, ◌≢◌, ◌∷◌, [], ℕ, length, slice_get, slice_index_or, vec_len, vec_capacity, true, false, None, Some};
+ghost use Rattle.std.specs.Prelude.{◌≡◌, ◌≤◌, ◌<◌, ◌+◌, ◌≢◌, ◌∷◌, [], ℕ, ◌⊎◌, length, map, slice_get, slice_index_or, vec_len, vec_capacity, true, false, None, Some};
+ghost use Rattle.bm_base.specs.SlotLists.{Among};
 ghost use Rattle.bm_arena.specs.Contents.{block_at, slot_of, marks_at, HasHead, HasRoom};
 ghost use Rattle.bm_report.specs.declared.types.Named.{Named};
 ghost use Rattle.bm_arena.specs.Holding.{replicas_of};
-ghost use Rattle.bm_report.specs.Midway.{AreHere, HaveRoom, IsOncePerNode, IsEntered, IsCounted, IsListed, IsSmall, Stands, AllStand};
+ghost use Rattle.bm_report.specs.Midway.{AreHere, HaveRoom, IsOncePerNode, IsEntered, IsCounted, IsListed, IsSmall, Stands, AllStand, slot_in};
 ghost use Rattle.bm_report.specs.declared.entering_chunks.TheConstants.{CHUNK};
 
 use crate::entering::enter;
@@ -75,6 +76,8 @@ fn enter_listed(
     ensures quiet { Stands arena.old storage named.now
         → (result ≡ false) × (changed.new.items ≡ changed.old.items) }
     ensures listed { IsListed arena.old arena.new changed.old.items changed.new.items }
+    ensures came { (slot : ℕ) → Among slot changed.new.items
+        → Among slot changed.old.items ⊎ (slot ≡ named.now.slot) }
     ensures grown { vec_len changed.new ≤ vec_len changed.old + 1 }
     ensures capacity { vec_capacity changed.new ≡ vec_capacity changed.old }
 {
@@ -107,6 +110,8 @@ fn enter_chunk(
     ensures quiet { AllStand arena.old storage chunk.now
         → (arena.new.blocks ≡ arena.old.blocks) × (changed.new.items ≡ changed.old.items) }
     ensures listed { IsListed arena.old arena.new changed.old.items changed.new.items }
+    ensures came { (slot : ℕ) → Among slot changed.new.items
+        → Among slot changed.old.items ⊎ Among slot (map slot_in chunk.now) }
     ensures grown { vec_len changed.new ≤ vec_len changed.old + length chunk.now }
     ensures capacity { vec_capacity changed.new ≡ vec_capacity changed.old }
 {
@@ -140,6 +145,8 @@ pub(crate) fn enter_all(
     ensures quiet { AllStand arena.old storage named.now
         → (arena.new.blocks ≡ arena.old.blocks) × (changed.new.items ≡ changed.old.items) }
     ensures listed { IsListed arena.old arena.new changed.old.items changed.new.items }
+    ensures came { (slot : ℕ) → Among slot changed.new.items
+        → Among slot changed.old.items ⊎ Among slot (map slot_in named.now) }
     ensures grown { vec_len changed.new ≤ vec_len changed.old + length named.now }
     ensures capacity { vec_capacity changed.new ≡ vec_capacity changed.old }
 {

@@ -145,6 +145,30 @@ pub(crate) fn look_up(
     look_up_all(arena, storage, entries, part, named)
 }
 
+/// Looks up one number alone, and reserves what a notice of it needs. Nothing that is held changes. `Memory`.
+pub(crate) fn look_up_alone(
+    arena: &mut Arena,
+    storage: StorageId,
+    id: BlockId,
+    stamp: Stamp,
+    named: &mut Vec<Named>,
+) -> Result<(), Refusal>
+    ensures kept { IsPrepared arena.old arena.new }
+    ensures others { (b : ℕ) → b ≢ id → slot_of arena.new b ≡ slot_of arena.old b }
+    ensures head { OnOk result (HasHead arena.new storage) }
+    ensures here { OnOk result (AreHere arena.new named.new.items) }
+    ensures room { OnOk result (HaveRoom arena.new storage named.new.items) }
+    ensures named { OnOk result (map told_of named.new.items
+        ≡ record { id = id; stamp = stamp } ∷ []) }
+    ensures fresh { NamesNew arena.old arena.new [] named.new.items }
+    ensures refused { IfErr result (λ e. e ≡ Memory) }
+{
+    named.clear();
+    reserve_head(arena, storage)?;
+    arena.lawful();
+    look_up_one(arena, storage, id, stamp, named)
+}
+
 fn reserve_head(arena: &mut Arena, storage: StorageId) -> Result<(), Refusal>
     ensures kept { IsPrepared arena.old arena.new }
     ensures head { OnOk result (HasHead arena.new storage) }

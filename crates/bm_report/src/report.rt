@@ -1,20 +1,20 @@
 // A full report, and a notice of a received replica, from the look-up of its numbers to its end.
-ghost use Rattle.std.specs.Prelude.{◌≡◌, ◌≢◌, ◌<◌, ◌+◌, ◌^◌, ◌∷◌, ◌&&◌, [], ℕ, if◌then◌else◌, length, None, Some, IsSome, IsTrue, OnOk, IsOk, IfOk, IfErr, ◌⊎◌, ◌↔◌, false};
+ghost use Rattle.std.specs.Prelude.{◌≡◌, ◌≢◌, ◌<◌, ◌≤◌, ◌+◌, ◌^◌, ◌∷◌, ◌&&◌, [], ℕ, if◌then◌else◌, length, take, drop, map, None, Some, IsSome, IsTrue, OnOk, IsOk, IfOk, IfErr, ◌⊎◌, ◌↔◌, false};
 ghost use Rattle.bm_base.specs.declared.refusal.Refusal.TheVariants.{Memory};
 ghost use Rattle.bm_base.specs.Events as events;
 ghost use Rattle.bm_base.specs.Calls as calls;
 ghost use Rattle.bm_base.specs.SlotLists.{Among};
 ghost use Rattle.bm_arena.specs.Contents.{block_at, slot_of, marks_at, IsEntry, KeepsEntries};
 ghost use Rattle.bm_arena.specs.Holding.{replicas_of, blocks_of, holdings_of};
-ghost use Rattle.bm_report.specs.Midway.{IsOncePerNode, count_ups};
+ghost use Rattle.bm_report.specs.Midway.{IsOncePerNode, count_ups, slot_in};
 ghost use Rattle.bm_report.specs.Expanded.{IsPrepared, told_to};
 ghost use Rattle.bm_report.specs.Aborted.{is_bare_number};
 ghost use Rattle.bm_report.specs.Received.{HasReceived};
-ghost use Rattle.bm_report.specs.Ready.{told, IsReady, HasGoodExcess, StandAlready};
+ghost use Rattle.bm_report.specs.Ready.{told, IsLookedUp, IsReady, IsToldAt, HasGoodExcess, StandAlready};
 
 use crate::aborting::abort_named;
 use crate::applying::apply;
-use crate::look_up::look_up;
+use crate::look_up::{look_up, look_up_alone};
 use crate::notices::receive;
 use crate::types::{Applied, Named};
 use bm_arena::{Arena, Slot};
@@ -30,6 +30,8 @@ use std::marker::Model;
 pub struct Report {
     named: Vec<Named>,
     changed: Vec<Slot>,
+    /// How many of the changed slots were listed before the sweep: their blocks have a replica.
+    came: usize,
 }
 
 impl Model for Report {
@@ -43,6 +45,7 @@ impl Model for Report {
     ghost view = { λ r. record {
       named = r.named.items;
       changed = r.changed.items;
+      came = r.came;
       room = vec_capacity r.changed;
     } };
 }
@@ -56,6 +59,7 @@ impl Report {
         Report {
             named: Vec::new(alloc),
             changed: Vec::new(alloc),
+            came: 0,
         }
     }
 
@@ -89,6 +93,35 @@ impl Report {
         Ok(())
     }
 
+    /// Finds the slot of one number, gives it an entry if it has none, and reserves what
+    /// `apply_received` needs, but no list of slots. Nothing that is held changes, and what was
+    /// looked up before is forgotten. `Memory`: then `abort` drops an entry that is new.
+    pub fn ready_one(
+        &mut self,
+        arena: &mut Arena,
+        storage: StorageId,
+        id: BlockId,
+        stamp: Stamp,
+    ) -> Result<(), Refusal>
+        ensures told { OnOk result (told self.new ≡ record { id = id; stamp = stamp } ∷ []) }
+        ensures looked_up { OnOk result (IsLookedUp self.new arena.new storage) }
+        ensures kept { IsPrepared arena.old arena.new }
+        ensures others { (b : ℕ) → b ≢ id → slot_of arena.new b ≡ slot_of arena.old b }
+        ensures fresh { (b : ℕ) → slot_of arena.old b ≡ None → IsSome (slot_of arena.new b)
+            → IsTrue (events.is_named (told self.new) b) }
+        ensures refused { IfErr result (λ e. e ≡ Memory) }
+    {
+        look_up_alone(arena, storage, id, stamp, &mut self.named)
+    }
+
+    /// The slot of the one number that was looked up.
+    pub fn slot_of_one(&self) -> Slot
+        requires { length self.now.named ≡ 1 }
+        ensures { map slot_in self.now.named ≡ result ∷ [] }
+    {
+        self.named[0].slot
+    }
+
     /// Makes the replicas on a storage those of the report that was made ready, and lists the slots whose replicas or marks
     /// changed: none where all that is named stands already and nothing leaves. Takes no memory.
     ///
@@ -119,6 +152,9 @@ impl Report {
             → block_at arena.new slot ≡ block_at arena.old slot }
         ensures unchanged { StandAlready (holdings_of arena.old) storage (told self.old)
             → result.removed ≡ 0 → self.new.changed ≡ self.old.changed }
+        ensures split { self.new.came ≤ length self.new.changed }
+        ensures came { (slot : ℕ) → Among slot (take self.new.came self.new.changed)
+            → Among slot self.old.changed ⊎ IsToldAt arena.old (told self.old) slot }
         ensures told { told self.new ≡ told self.old }
         ensures added { result.added
             ≡ calls.new_replicas (replicas_of arena.old) (replicas_of arena.new) }
@@ -134,11 +170,13 @@ impl Report {
             storage,
             self.named.as_slice(),
             &mut self.changed,
+            &mut self.came,
         )
     }
 
-    /// A replica of the block `id` was received on a storage, for which the report was made ready by its one entry: it is there,
-    /// and leaves the other storages of the node. Only that block changes. Takes no memory.
+    /// A replica of the block `id` was received on a storage, for which its number was looked up:
+    /// it is there, and leaves the other storages of the node. Only that block changes. Takes no
+    /// memory.
     pub fn apply_received(
         &self,
         arena: &mut Arena,
@@ -148,7 +186,7 @@ impl Report {
         stamp: Stamp,
     ) -> Applied
         requires told { told self.now ≡ record { id = id; stamp = stamp } ∷ [] }
-        requires ready { IsReady self.now arena.old storage }
+        requires looked_up { IsLookedUp self.now arena.old storage }
         requires once { IsOncePerNode topology.now.cluster (replicas_of arena.old) }
         ensures { HasReceived topology.now.cluster storage id stamp arena.old arena.new result }
     {
@@ -184,6 +222,14 @@ impl Report {
         ensures { result.now ≡ self.now.changed }
     {
         self.changed.as_slice()
+    }
+
+    /// The slots that `apply_full` listed when it took out what was not reported.
+    pub fn swept_slots(&self) -> &[Slot]
+        requires { self.now.came ≤ length self.now.changed }
+        ensures { result.now ≡ drop self.now.came self.now.changed }
+    {
+        &self.changed[self.came..]
     }
 }
 

@@ -1,9 +1,11 @@
-use Rattle.std.proofs.Common.{◌∷◌, true, ◌≡◌, ◌++◌, length, [], List, refl, subst, sym, ◌∙◌, arith}
+use Rattle.std.proofs.Common.{◌∷◌, true, ◌≡◌, ◌++◌, ℕ, length, map, [], List, inl, inr, refl, subst, sym, ◌∙◌, arith}
 use Rattle.std.specs.Prelude.{◌==◌}
 use Rattle.std.proofs.lemmas.Bool.{eqb-true}
 use Rattle.bm_report.specs.declared.types.Named.{Named}
-use Rattle.bm_report.specs.Midway.{AllStand}
+use Rattle.bm_base.specs.SlotLists.{Among}
+use Rattle.bm_report.specs.Midway.{AllStand, slot_in}
 use Rattle.std.proofs.lemmas.List.{take-append-drop}
+use Rattle.bm_report.proofs.Came.{slots-front, slots-back}
 use Rattle.bm_report.proofs.Quiet.{all_same, front_of, back_of}
 use Rattle.bm_report.proofs.Underway.{IsUnderway, listed-chain, underway-next, underway-last, underway-split, here-part, room-part}
 use Rattle.bm_report.proofs.entering_chunks.enter_all.Goals as goal
@@ -24,6 +26,12 @@ enter_chunk-requires-clause-here c = here-part c.loop-rest.arena c.split_at.resu
 pub enter_chunk-requires-clause-room : goal.enter_chunk-requires-clause-room
 enter_chunk-requires-clause-room c = room-part c.loop-rest.arena c.args.storage c.split_at.result.0.now c.split_at.result.1.now (split c).room
 
+whole : (c : goal.After-enter_chunk) → c.split_at.result.0.now ++ c.split_at.result.1.now ≡ c.loop-rest.rest.now
+whole c = (λ i. c.split_at.ensures.front i ++ c.split_at.ensures.back i) ∙ take-append-drop c.min.result c.loop-rest.rest.now
+
+in_all : (c : goal.After-enter_chunk) → (slot : ℕ) → Among slot (map slot_in (c.split_at.result.0.now ++ c.split_at.result.1.now)) → Among slot (map slot_in c.args.named.now)
+in_all c slot m = let P : List Named → Type 0 = λ l. Among slot (map slot_in l) in c.loop-rest.invariant.rest slot (subst P (whole c) m)
+
 pub loop-rest-preserved : goal.loop-rest-preserved
 loop-rest-preserved c = record {
   underway =
@@ -34,11 +42,16 @@ loop-rest-preserved c = record {
   quiet = λ all.
       let so_far = c.loop-rest.invariant.quiet all in
       let P : List Named → Type 0 = λ l. AllStand c.args.arena.now c.args.storage l in
-      let whole : c.split_at.result.0.now ++ c.split_at.result.1.now ≡ c.loop-rest.rest.now = (λ i. c.split_at.ensures.front i ++ c.split_at.ensures.back i) ∙ take-append-drop c.min.result c.loop-rest.rest.now in
-      let both = subst P (sym whole) so_far.2 in
+      let both = subst P (sym (whole c)) so_far.2 in
       let q = c.enter_chunk.ensures.quiet (all_same c.args.arena.now c.loop-rest.arena c.args.storage c.split_at.result.0.now so_far.0 (front_of c.args.arena.now c.args.storage c.split_at.result.0.now c.split_at.result.1.now both)) in
       (q.0 ∙ so_far.0, q.1 ∙ so_far.1, back_of c.args.arena.now c.args.storage c.split_at.result.0.now c.split_at.result.1.now both);
   listed = listed-chain c.args.arena.now c.loop-rest.arena c.enter_chunk.new.arena c.args.changed.now.items c.loop-rest.changed.items c.enter_chunk.new.changed.items c.loop-rest.invariant.listed c.enter_chunk.ensures.listed;
+  came = λ slot m.
+      elim (c.enter_chunk.ensures.came slot m) [
+        | inl was ↦ c.loop-rest.invariant.came slot was
+        | inr here ↦ inr (in_all c slot (slots-front c.split_at.result.0.now c.split_at.result.1.now slot here))
+      ];
+  rest = λ slot m. in_all c slot (slots-back c.split_at.result.0.now c.split_at.result.1.now slot m);
   capacity = c.enter_chunk.ensures.capacity ∙ c.loop-rest.invariant.capacity;
 }
 

@@ -1,6 +1,8 @@
-use Rattle.std.proofs.Common.{◌≡◌, ◌+◌, ◌≤◌, length, vec_len}
+use Rattle.std.proofs.Common.{◌≡◌, ◌+◌, ◌≤◌, ℕ, length, map, vec_len}
 use Rattle.std.specs.Prelude.{vec_capacity}
-use Rattle.bm_report.specs.Midway.{IsListed, AllStand}
+use Rattle.bm_base.specs.SlotLists.{Among}
+use Rattle.bm_report.specs.Midway.{IsListed, AllStand, slot_in}
+use Rattle.bm_report.proofs.Came.{Came}
 use Rattle.bm_report.proofs.Underway.{IsUnderway}
 use Rattle.bm_report.proofs.entering_chunks.enter_all.Given as goal
 
@@ -14,5 +16,7 @@ invariant-loop-rest l =
       quiet : AllStand l.initial.arena l.storage l.named → (l.arena.blocks ≡ l.initial.arena.blocks) × (l.changed.items ≡ l.initial.changed.items) × AllStand l.initial.arena l.storage l.rest;
       listed : IsListed l.initial.arena l.arena l.initial.changed.items l.changed.items;
       space : vec_len l.changed + length l.rest ≤ vec_len l.initial.changed + length l.named;
+      came : Came l.named l.initial.changed.items l.changed.items;
+      rest : (slot : ℕ) → Among slot (map slot_in l.rest) → Among slot (map slot_in l.named);
       capacity : vec_capacity l.changed ≡ vec_capacity l.initial.changed;
     }

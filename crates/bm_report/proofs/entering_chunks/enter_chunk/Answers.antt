@@ -1,7 +1,10 @@
 use Rattle.std.proofs.Common.{◌≡◌, suc, length, drop, ◌∷◌, [], false, refl, subst, ◌∙◌, arith, add-one}
-use Rattle.std.proofs.Common.{Bool, true, ◌||◌, List}
+use Rattle.std.proofs.Common.{Bool, true, ◌||◌, List, ℕ, map, inl, inr, sym}
 use Rattle.std.proofs.lemmas.Option.{slice_get_read}
 use Rattle.bm_report.specs.declared.types.Named.{Named}
+use Rattle.bm_base.specs.SlotLists.{Among}
+use Rattle.bm_report.specs.Midway.{slot_in}
+use Rattle.bm_report.proofs.Came.{slot-listed}
 use Rattle.bm_report.proofs.Quiet.{stands_same, one_of}
 use Rattle.bm_report.proofs.Underway.{IsUnderway, listed-chain, underway-next, underway-last, drop_next, drop_all}
 use Rattle.bm_report.proofs.entering_chunks.enter_chunk.Goals as goal
@@ -36,6 +39,13 @@ loop-place-preserved c = record {
       let q = c.enter_listed-now_changed.ensures.quiet stands in
       (c.enter_listed-now_changed.ensures.same q.0 ∙ so_far.0, q.1 ∙ so_far.1);
   listed = listed-chain c.args.arena.now c.loop-place.arena c.enter_listed-now_changed.new.arena c.args.changed.now.items c.loop-place.changed.items c.enter_listed-now_changed.new.changed.items c.loop-place.invariant.listed c.enter_listed-now_changed.ensures.listed;
+  came = λ slot m.
+      let at = slice_get_read c.args.chunk.now (length c.args.chunk.now) c.loop-place.place c.index-chunk-place.result refl c.loop-place-test.true c.index-chunk-place.is in
+      let P : ℕ → Type 0 = λ k. Among k (map slot_in c.args.chunk.now) in
+      elim (c.enter_listed-now_changed.ensures.came slot m) [
+        | inl was ↦ c.loop-place.invariant.came slot was
+        | inr same ↦ inr (subst P (sym same) (slot-listed c.args.chunk.now c.loop-place.place c.index-chunk-place.result at))
+      ];
   capacity = c.enter_listed-now_changed.ensures.capacity ∙ c.loop-place.invariant.capacity;
 }
 

@@ -1,6 +1,7 @@
 use Rattle.std.proofs.Common.{◌≡◌, ◌+◌, ◌≤◌, drop, false, vec_len}
 use Rattle.std.specs.Prelude.{vec_capacity}
 use Rattle.bm_report.specs.Midway.{IsListed, AllStand}
+use Rattle.bm_report.proofs.Came.{Came}
 use Rattle.bm_report.proofs.Underway.{IsUnderway}
 use Rattle.bm_report.proofs.entering_chunks.enter_chunk.Given as goal
 
@@ -12,5 +13,6 @@ invariant-loop-place l =
       listed : IsListed l.initial.arena l.arena l.initial.changed.items l.changed.items;
       same : l.is_changed ≡ false → l.arena.blocks ≡ l.initial.arena.blocks;
       space : vec_len l.changed ≤ vec_len l.initial.changed + l.place;
+      came : Came l.chunk l.initial.changed.items l.changed.items;
       capacity : vec_capacity l.changed ≡ vec_capacity l.initial.changed;
     }

@@ -6,6 +6,7 @@ use Rattle.bm_base.specs.Replicas.{rack_of, is_draining, is_multi_rack}
 use Rattle.bm_arena.specs.Contents.{block_at}
 use Rattle.bm_levels.specs.Kept.{IsJudged, IsSameAt}
 use Rattle.bm_levels.specs.Leveled.{Leveled, AreLevels}
+use Rattle.bm_report.specs.Ready.{IsToldAt, told as told_by}
 use Rattle.bm_levels.proofs.OneSlot.{held_by}
 use Rattle.bm_levels.proofs.ManySlots.{leveled_reported, levels_reported}
 use Rattle.bm_levels.proofs.leveled.LeveledBlocks.apply_report.Goals as goal
@@ -55,3 +56,10 @@ returns-clause-levels c =
     let P : Leveled → Type 0 = λ v. AreLevels c.args.topology.now.cluster v → AreLevels c.args.topology.now.cluster (record { arena = c.apply_full-applied.new.arena; kept = c.judge_all_in.new.self }) in
     subst P c.self.view_is
     (levels_reported c.args.topology.now.cluster (before c) c.apply_full-applied.new.arena c.judge_all_in.new.self r.entries.delimiter r.free r.entries.known (each c) (mark c) c.self.invariant)
+
+pub returns-clause-came : goal.returns-clause-came
+returns-clause-came c slot m =
+    elim (c.apply_full-applied.ensures.came slot m) [
+      | inl old ↦ let P : List ℕ → Type 0 = λ l. Among slot l in absurd (subst P c.requires.fresh old)
+      | inr told ↦ let P : Leveled → Type 0 = λ v. IsToldAt v.arena (told_by c.args.report.now) slot in subst P c.self.view_is told
+    ]

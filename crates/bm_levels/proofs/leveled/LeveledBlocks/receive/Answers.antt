@@ -1,43 +1,65 @@
-use Rattle.std.proofs.Common.{◌≡◌, ℕ, List, [], ◌∷◌, map, Some, subst, sym, ap, ◌∙◌}
+use Rattle.std.proofs.Common.{◌≡◌, ℕ, ◌+◌, List, [], ◌∷◌, length, map, Some, subst, sym, ap, ◌∙◌, arith}
+use Rattle.std.proofs.lemmas.List.{length-map}
 use Rattle.std.proofs.lemmas.Option.{same_Some}
 use Rattle.bm_base.specs.Entries.{Told}
-use Rattle.bm_arena.specs.Contents.{Contents, slot_of}
+use Rattle.bm_arena.specs.Contents.{Contents, slot_of, IsLawful}
 use Rattle.bm_report.specs.declared.types.Named.{Named}
-use Rattle.bm_report.specs.Midway.{AreHere, told_of}
-use Rattle.bm_levels.specs.Leveled.{Leveled, AreLevels}
+use Rattle.bm_report.specs.Midway.{AreHere, slot_in, told_of}
+use Rattle.bm_base.specs.declared.replica.Stamp.{Stamp}
+use Rattle.bm_report.specs.Ready.{Looked, told}
+use Rattle.bm_levels.specs.Kept.{HasRoomAt}
+use Rattle.bm_levels.specs.Leveled.{Leveled, IsLeveled, AreLevels}
 use Rattle.bm_levels.proofs.OneSlot.{IsChangedAt, held_by, leveled_after, levels_after}
 use Rattle.bm_levels.proofs.leveled.LeveledBlocks.receive.Goals as goal
 
--- the one number that is told has its slot
-led : (a : Contents) (ns : List Named) (t : Told) → map told_of ns ≡ t ∷ [] → AreHere a ns → (slot : ℕ) × (slot_of a t.id ≡ Some slot)
-led a [] t e h = cc
-led a (n ∷ ns) t e h = let same : told_of n ≡ t = cc in (n.slot, ap (λ (x : Told). slot_of a x.id) (sym same) ∙ h.0)
+-- the one number that is told has this slot
+led : (a : Contents) (ns : List Named) (t : Told) (slot : ℕ) → map told_of ns ≡ t ∷ [] → map slot_in ns ≡ slot ∷ [] → AreHere a ns → slot_of a t.id ≡ Some slot
+led a [] t slot e at h = cc
+led a (n ∷ ns) t slot e at h =
+    let same : told_of n ≡ t = cc in
+    let here : n.slot ≡ slot = cc in
+    ap (λ (x : Told). slot_of a x.id) (sym same) ∙ h.0 ∙ ap (λ x. Some x) here
 
-pub unreachable-requires : goal.unreachable-requires
-unreachable-requires c =
-    let there = led c.args.self.now.arena c.args.report.now.named (record { id = c.args.id; stamp = c.args.stamp }) c.requires.told c.requires.ready.here in
-    let P : Leveled → Type 0 = λ v. slot_of v.arena c.args.id ≡ Some there.0 in
-    c.in_default.not-Some there.0 (c.find.ensures ∙ subst P (sym c.self.view_is) there.1)
+pub slot_of_one-slot-requires : goal.slot_of_one-slot-requires
+slot_of_one-slot-requires c = one c.args.report.now.named c.requires.told
+  where
+    one : (ns : List Named) {t : Told} → map told_of ns ≡ t ∷ [] → length ns ≡ 1
+    one ns e = sym (length-map ns told_of) ∙ ap length e
 
-changed : (c : goal.After-judge_from_in) → IsChangedAt c.self.inside.arena c.apply_received-applied.new.arena c.in-Some.slot
+-- and so it is seen of the fields
+found : (v w : Leveled) (r : Looked) (id slot : ℕ) (stamp : Stamp) → v ≡ w → told r ≡ record { id = id; stamp = stamp } ∷ [] → map slot_in r.named ≡ slot ∷ [] → AreHere w.arena r.named → slot_of v.arena id ≡ Some slot
+found v w r id slot stamp same is at here = ap (λ (x : Leveled). slot_of x.arena id) same ∙ led w.arena r.named (record { id = id; stamp = stamp }) slot is at here
+
+-- and has room for what is kept of it
+room_at : (v w : Leveled) (r : Looked) (id slot : ℕ) (stamp : Stamp) → v ≡ w → told r ≡ record { id = id; stamp = stamp } ∷ [] → map slot_in r.named ≡ slot ∷ [] → AreHere w.arena r.named → IsLawful v.arena → IsLeveled v → HasRoomAt v.kept slot
+room_at v w r id slot stamp same is at here lawful h = (slot + 1, omega arith, h.room slot (held_by v.arena slot (lawful.found id slot (found v w r id slot stamp same is at here))))
+
+pub kept_at-was-requires : goal.kept_at-was-requires
+kept_at-was-requires c = record { room = room_at (record { arena = c.self.inside.arena; kept = c.self.inside.kept }) c.args.self.now c.args.report.now c.args.id c.slot_of_one-slot.result c.args.stamp c.self.view_is c.requires.told c.slot_of_one-slot.ensures c.requires.looked_up.here c.lawful.ensures c.self.invariant }
+
+pub judge_from_in-requires-clause-room : goal.judge_from_in-requires-clause-room
+judge_from_in-requires-clause-room c = room_at (record { arena = c.self.inside.arena; kept = c.self.inside.kept }) c.args.self.now c.args.report.now c.args.id c.slot_of_one-slot.result c.args.stamp c.self.view_is c.requires.told c.slot_of_one-slot.ensures c.requires.looked_up.here c.lawful.ensures c.self.invariant
+
+changed : (c : goal.After-judge_from_in) → IsChangedAt c.self.inside.arena c.apply_received-applied.new.arena c.slot_of_one-slot.result
 changed c =
     let r = c.apply_received-applied.ensures in
-    let found = c.lawful.ensures.found c.args.id c.in-Some.slot (sym c.in-Some.ensures) in
+    let at = found (record { arena = c.self.inside.arena; kept = c.self.inside.kept }) c.args.self.now c.args.report.now c.args.id c.slot_of_one-slot.result c.args.stamp c.self.view_is c.requires.told c.slot_of_one-slot.ensures c.requires.looked_up.here in
+    let entry = c.lawful.ensures.found c.args.id c.slot_of_one-slot.result at in
     record {
-      blocks = λ other ne. r.others other (λ e. ne (same_Some _ _ (sym e ∙ sym c.in-Some.ensures)));
+      blocks = λ other ne. r.others other (λ e. ne (same_Some _ _ (sym e ∙ at)));
       delimiter = r.entries.delimiter;
-      apart = found.0;
-      held = held_by c.self.inside.arena c.in-Some.slot found;
+      apart = entry.0;
+      held = held_by c.self.inside.arena c.slot_of_one-slot.result entry;
     }
 
 pub invariant_of-self : goal.invariant_of-self
 invariant_of-self c =
-    leveled_after c.args.topology.now.cluster (record { arena = c.self.inside.arena; kept = c.self.inside.kept }) c.apply_received-applied.new.arena c.judge_from_in.new.self c.in-Some.slot (changed c)
+    leveled_after c.args.topology.now.cluster (record { arena = c.self.inside.arena; kept = c.self.inside.kept }) c.apply_received-applied.new.arena c.judge_from_in.new.self c.slot_of_one-slot.result (changed c)
     c.judge_from_in.ensures.judged c.judge_from_in.ensures.others c.self.invariant c.judge_from_in.ensures.room
 
 pub returns-clause-levels : goal.returns-clause-levels
 returns-clause-levels c =
     let P : Leveled → Type 0 = λ v. AreLevels c.args.topology.now.cluster v → AreLevels c.args.topology.now.cluster (record { arena = c.apply_received-applied.new.arena; kept = c.judge_from_in.new.self }) in
     subst P c.self.view_is
-    (levels_after c.args.topology.now.cluster (record { arena = c.self.inside.arena; kept = c.self.inside.kept }) c.apply_received-applied.new.arena c.judge_from_in.new.self c.in-Some.slot (changed c)
+    (levels_after c.args.topology.now.cluster (record { arena = c.self.inside.arena; kept = c.self.inside.kept }) c.apply_received-applied.new.arena c.judge_from_in.new.self c.slot_of_one-slot.result (changed c)
     c.judge_from_in.ensures.judged c.judge_from_in.ensures.others)

@@ -5,9 +5,7 @@ use Rattle.bm_report.proofs.report.Report.ready.Goals as goal
 
 pub returns-clause-ready : goal.returns-clause-ready
 returns-clause-ready c = record {
-  here = c.in_ok-look_up.ensures.here;
-  room = c.in_ok-look_up.ensures.room;
-  head = c.in_ok-look_up.ensures.head;
+  looked_up = record { here = c.in_ok-look_up.ensures.here; room = c.in_ok-look_up.ensures.room; head = c.in_ok-look_up.ensures.head };
   space =
       let none : length c.reserve.new.self.items ≡ 0 = ap length (c.reserve.ensures.items ∙ c.clear.ensures.items) in
       let within = list_within c.look_up.new.arena c.args.storage c.lawful.ensures in
