@@ -1,5 +1,6 @@
 // The targets of a block that a round leaves on their way.
-ghost use Rattle.std.specs.Prelude.{◌≡◌, IfOk};
+ghost use Rattle.std.specs.Prelude.{◌≡◌, count_by, not, IfOk};
+ghost use Rattle.bm_base.specs.Excess.{is_expired};
 ghost use Rattle.bm_pending.specs.Inside.{storages_left};
 
 use crate::targets::is_expired;
@@ -22,4 +23,14 @@ pub(crate) fn left_among(
         }
     }
     Ok(left)
+}
+
+/// How many there are of these.
+pub(crate) fn count_left_among(targets: &[(u32, u64)], pend: u32, round: u64) -> usize
+    ensures { result ≡ count_by (λ t. not (is_expired pend round t.1)) targets.now }
+{
+    targets
+        .iter()
+        .filter(|target| !is_expired(target.1, pend, round))
+        .count()
 }

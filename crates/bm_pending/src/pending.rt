@@ -14,7 +14,7 @@ use crate::by_block::{
     Blocks, drop_block, drop_empty_rooms, drop_expired_in, drop_in, drop_storages_in, find_in,
     put_in, reserve_in, targets_in,
 };
-use crate::left::left_among;
+use crate::left::{count_left_among, left_among};
 use crate::listing::{entries_in, expired_in, push_storages};
 use bm_base::{BlockId, HashSecret, Refusal, ReplicaId, StorageId, StorageIds};
 use indexmap::IndexMap;
@@ -200,6 +200,13 @@ impl PendingTransfers {
     {
         let left = left_among(alloc, targets_in(&self.by_block, block.0), pend, round)?;
         Ok(left)
+    }
+
+    /// How many of a block's transfers `drop_expired` leaves. Takes no memory.
+    pub fn count_left(&self, block: BlockId, pend: u32, round: u64) -> usize
+        ensures { result ≡ length (remaining.targets_left pend round self.now block) }
+    {
+        count_left_among(targets_in(&self.by_block, block.0), pend, round)
     }
 
     /// The transfers with their rounds, by block and then by target. May answer `Memory`.
