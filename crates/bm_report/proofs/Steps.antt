@@ -80,20 +80,17 @@ module _ (C : Cluster) (a c : Contents) (s b slot : ℕ) (m : Marks) (lawful : I
   linked-length : len (replicas_of c) ≡ len (replicas_of a) + 1
   linked-length = ap len linked-map ∙ len-put_new (replicas_of a) (replica_at b s) m (get-here a b slot s here ∙ absent)
 
-  before_link : (t : ℕ) → are_sisters C s t ≡ true → get (replicas_of a) (replica_at b t) ≡ marks_at c slot t
-  before_link t sisters = get-here a b slot t here ∙ sym (others.marks t (sisters_apart C s t sisters))
-
-  pub alone-replicas : ((t : ℕ) → are_sisters C s t ≡ true → marks_at c slot t ≡ None) → replicas_of c ≡ entered_at C (replicas_of a) (replica_at b s) m
+  pub alone-replicas : ((t : ℕ) → are_sisters C s t ≡ true → marks_at a slot t ≡ None) → replicas_of c ≡ entered_at C (replicas_of a) (replica_at b s) m
   alone-replicas none =
       linked-map
       ∙ put-alone C (replicas_of a) (replica_at b s) m (λ q r.
       let is = is_replaced C (replica_at b s) q r in
-      ap (λ (k : ℕ). get (replicas_of a) (replica_at k q.storage)) is.0 ∙ before_link q.storage is.1 ∙ none q.storage is.1)
+      ap (λ (k : ℕ). get (replicas_of a) (replica_at k q.storage)) is.0 ∙ get-here a b slot q.storage here ∙ none q.storage is.1)
 
   pub alone-length : 0 + len (replicas_of c) ≡ len (replicas_of a) + 1
   alone-length = let e = linked-length in omega arith
 
-  module _ (d : Contents) (t : ℕ) (lawful_c : IsLawful c) (there : IsSome (marks_at c slot t)) (sisters : are_sisters C s t ≡ true)
+  module _ (d : Contents) (t : ℕ) (lawful_c : IsLawful c) (there : IsSome (marks_at a slot t)) (sisters : are_sisters C s t ≡ true)
       (others_d : KeepsOthers c d slot t) (gone : marks_at d slot t ≡ None) where
     apart_t : t ≢ s
     apart_t = sisters_apart C s t sisters
@@ -102,7 +99,7 @@ module _ (C : Cluster) (a c : Contents) (s b slot : ℕ) (m : Marks) (lawful : I
     here_linked = ap (λ l. lookup (nat_eq b) l) others.ids ∙ here
 
     there_a : IsSome (get (replicas_of a) (replica_at b t))
-    there_a = let P : Option Marks → Type 0 = λ o. IsSome o in subst P (sym (before_link t sisters)) there
+    there_a = let P : Option Marks → Type 0 = λ o. IsSome o in subst P (sym (get-here a b slot t here)) there
 
     moved-map : replicas_of d ≡ remove (replicas_of c) (replica_at b t)
     moved-map = replicas-out c d lawful_c slot t b here_linked others_d.ids others_d.blocks others_d.marks gone
@@ -114,7 +111,7 @@ module _ (C : Cluster) (a c : Contents) (s b slot : ℕ) (m : Marks) (lawful : I
     moved-length =
         let P : Option Marks → Type 0 = λ o. IsSome o in
         let out = ap len moved-map in
-        let fewer = len-out (replicas_of c) (replica_at b t) (subst P (sym (get-here c b slot t here_linked)) there) in
+        let fewer = len-out (replicas_of c) (replica_at b t) (subst P (sym (get-here c b slot t here_linked ∙ others.marks t apart_t)) there) in
         let e = linked-length in
         omega (arith, out, fewer, e)
 

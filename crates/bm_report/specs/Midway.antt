@@ -12,7 +12,6 @@ use Rattle.bm_base.specs.Map.{Map, by_number, get, insert, keep, remove, contain
 use Rattle.bm_base.specs.State.{Cluster, by_replica, replica_at}
 use Rattle.bm_base.specs.Replicas.{is_good, is_bad, are_sisters}
 use Rattle.bm_base.specs.Events.{same_stamp, replaces}
-use Rattle.bm_arena.specs.Triplets.{Block}
 use Rattle.bm_base.specs.SlotLists.{Among, without}
 use Rattle.bm_arena.specs.Contents.{Contents, block_at, slot_of, marks_at, list_of, HasHead, HasRoom, count_up, known_of, IsEntry, KeepsEntries}
 use Rattle.bm_report.specs.declared.types.Named.{Named}

@@ -108,8 +108,9 @@ pub(crate) fn link_new(
     ensures steps { arena.new.steps ≡ count_ups (if result then 2 else 1) arena.old.steps }
 {
     arena.lawful();
+    let sister = sister_of(arena, topology, named.slot, storage);
     arena.link_front(named.slot, storage, marks);
-    match sister_of(arena, topology, named.slot, storage) {
+    match sister {
         Some(sister) => {
             arena.unlink(named.slot, sister);
             true
