@@ -34,25 +34,32 @@ use Rattle.bm_parts.specs.Found.{IsGathered, IsExpired, IsTooMany, IsWished, IsT
 use Rattle.bm_parts.proofs.Settling.{settled_is_left, settled_is_kept}
 use Rattle.bm_parts.proofs.Finding.{one_wish, round_part_is_found, found_is_round_part}
 use Rattle.bm_parts.proofs.Gathered.{gathered_alike}
-use Rattle.bm_pending.specs.OnTheWay.{expired_of}
+use Rattle.bm_pending.specs.OnTheWay.{OnTheWay, expired_of}
 use Rattle.bm_levels.specs.Judged.{is_settled_at, level_in}
 use Rattle.bm_levels.specs.Held.{holdings_with}
 use Rattle.bm_levels.specs.Kept.{level_of_slot}
 use Rattle.bm_levels.specs.Leveled.{Leveled, IsLeveled, AreLevels}
 use Rattle.bm_levels.proofs.Levels.{level_is_at_slot}
-use Rattle.bm_levels.proofs.Settled.{all_plain_at, few_at}
 use Rattle.bm_finding.specs.declared.visiting.Found.{Found}
-use Rattle.bm_finding.specs.Visits.{visits, key_at, keyed_at}
+use Rattle.bm_finding.specs.Visits.{visits, key_at, keyed_at, has_enough_pending}
 use Rattle.bm_finding.specs.Gathering.{wishes_at, HasFound, IsInOrder}
 use Rattle.bm_finding.proofs.Collecting.{gathered_of}
+use Rattle.bm_finding.proofs.EnoughPending.{none_wished}
+use Rattle.bm_finding.proofs.SettledBlocks.{settled_there}
 use Rattle.bm_finding.proofs.Listing.{excess_listed, wishes_listed, deletes_listed, wish_level}
 use Rattle.bm_finding.proofs.Passing.{Passing, passing_listed, passing_gathered}
 use Rattle.bm_finding.proofs.Permuted.{among_moved, among_before, distinct_moved}
 use Rattle.bm_finding.proofs.Visited.{AreListed, mapped_among, visit_known, ids_once, unsettled_visited, level_visited}
 
-module _ (v : Leveled) (lawful : IsLawful v.arena) (leveled : IsLeveled v) (is : AreListed v.kept) (C : Cluster) (levels : AreLevels C v) (pend r : ℕ) (pending : Map by_replica ℕ) where
+module _ (v : Leveled) (lawful : IsLawful v.arena) (leveled : IsLeveled v) (is : AreListed v.kept) (C : Cluster) (levels : AreLevels C v) (pend r : ℕ) (way : OnTheWay) where
   abbrev a : Contents
   a = v.arena
+
+  abbrev pending : Map by_replica ℕ
+  pending = way.map
+
+  abbrev has_enough : ℕ → Bool
+  has_enough = has_enough_pending C pend r a way
 
   abbrev H : Holdings
   H = holdings_with a pending
@@ -62,17 +69,6 @@ module _ (v : Leveled) (lawful : IsLawful v.arena) (leveled : IsLeveled v) (is :
 
   abbrev G : Holdings
   G = started_holdings C pend r H
-
-  -- a block that is settled at its slot is settled
-  settled_there : (b slot : ℕ) → slot_of a b ≡ Some slot → is_settled_at (block_at a slot) ≡ true → IsSettled H b
-  settled_there b slot here settled =
-      let found = lawful.found b slot here in
-      let k : Block = found.1 in
-      let at : is_settled_at (Some k) ≡ true = ap is_settled_at (sym found.2) ∙ settled in
-      record {
-        all_plain = λ q m same e. all_plain_at a pending lawful b slot k here found.2 at q.storage m (ap (λ c. get H.replicas (replica_at c q.storage)) (sym same) ∙ e);
-        few = few_at a pending lawful b slot k here found.2 at;
-      }
 
   own_id : (b slot : ℕ) → slot_of a b ≡ Some slot → id_at a slot ≡ b
   own_id b slot here = let found = lawful.found b slot here in ap (λ o. option_map_or (λ (k : Block). k.id) o 0) found.2 ∙ found.3
@@ -110,6 +106,14 @@ module _ (v : Leveled) (lawful : IsLawful v.arena) (leveled : IsLeveled v) (is :
   wish_usable : (l : Level) (b : ℕ) (w : Wish) → wish_at C G l b ≡ Some w → l ≢ NoUsableReplica
   wish_usable l b w e same = none_unusable b w (ap (λ k. wish_at C G k b) (sym same) ∙ e)
 
+  -- a settled block with a wish lacks pending transfers
+  wish_lacks : (w : Wish) (slot : ℕ) → slot_of a w.block ≡ Some slot → IsSettled H w.block → IsWished C G w → has_enough slot ≡ false
+  wish_lacks w slot here settled wished =
+      elim (cases_Bool (has_enough slot)) [
+        | inl enough ↦ absurd (none_wished C pend r a way lawful w.block slot here settled enough w.level w wished)
+        | inr lacks ↦ lacks
+      ]
+
   known_storage : ((q : ReplicaId) → IsSome (get (replicas_of a) q) → IsTrue (contains_key C.storages q.storage)) → (q : ReplicaId) (m : Marks) → get G.replicas q ≡ Some m → contains_key C.storages q.storage ≡ true
   unfolding holdings_with
   known_storage stored q m e = let k = was_marked q m e in stored q (is_there (get H.replicas q) k.0 k.1)
@@ -120,9 +124,9 @@ module _ (v : Leveled) (lawful : IsLawful v.arena) (leveled : IsLeveled v) (is :
 
   -- Where a round looks at some of the slots, in any order.
 
-  module _ (bound : Option (ℕ × ℕ)) (keyed : List ((ℕ × ℕ) × ℕ)) (moved : IsPermutation (map (keyed_at v.kept v.arena) (visits v.kept v.arena bound)) keyed) where
+  module _ (bound : Option (ℕ × ℕ)) (keyed : List ((ℕ × ℕ) × ℕ)) (moved : IsPermutation (map (keyed_at v.kept v.arena) (visits v.kept v.arena bound has_enough)) keyed) where
     abbrev told : List ℕ
-    told = visits v.kept a bound
+    told = visits v.kept a bound has_enough
 
     abbrev ids : List ℕ
     ids = map (λ (e : (ℕ × ℕ) × ℕ). id_at a e.1) keyed
@@ -143,10 +147,10 @@ module _ (v : Leveled) (lawful : IsLawful v.arena) (leveled : IsLeveled v) (is :
 
     -- each of these slots is that of its block's number
     pub told_known : (slot : ℕ) → Among slot (map (λ (e : (ℕ × ℕ) × ℕ). e.1) keyed) → slot_of a (id_at a slot) ≡ Some slot
-    told_known slot h = visit_known v lawful leveled is bound slot (among_before told (map (λ (e : (ℕ × ℕ) × ℕ). e.1) keyed) slots_moved slot h)
+    told_known slot h = visit_known v lawful leveled is bound has_enough slot (among_before told (map (λ (e : (ℕ × ℕ) × ℕ). e.1) keyed) slots_moved slot h)
 
     once : Distinct ids
-    once = distinct_moved (map (id_at a) told) ids ids_moved (ids_once v lawful leveled is bound)
+    once = distinct_moved (map (id_at a) told) ids ids_moved (ids_once v lawful leveled is bound has_enough)
 
     visited_id : (b slot : ℕ) → slot_of a b ≡ Some slot → Among slot told → Among b ids
     visited_id b slot here h =
@@ -157,9 +161,9 @@ module _ (v : Leveled) (lawful : IsLawful v.arena) (leveled : IsLeveled v) (is :
     settled_or : (b slot : ℕ) → slot_of a b ≡ Some slot → IsSettled H b ⊎ Among b ids
     settled_or b slot here =
         elim (cases_Bool (is_settled_at (block_at a slot))) [
-          | inl settled ↦ inl (settled_there b slot here settled)
+          | inl settled ↦ inl (settled_there a pending lawful b slot here settled)
           | inr loose ↦ (let there = (leveled.unsettled slot).1 loose in
-              inr (visited_id b slot here (unsettled_visited v.kept is a bound slot there)))
+              inr (visited_id b slot here (unsettled_visited v.kept is a bound has_enough slot there)))
         ]
 
     covers_excess : (q : ReplicaId) → IsTooMany C U q → Among q.block ids
@@ -191,7 +195,7 @@ module _ (v : Leveled) (lawful : IsLawful v.arena) (leveled : IsLeveled v) (is :
               let at : level_of_slot v.kept slot.0 ≡ Some w.level =
               levels slot.0 ∙ sym (ap (option_and_then (λ s. level_in C (block_at a s))) slot.1) ∙ sym (level_is_at_slot C a pending w.block lawful) ∙ sym (settled_is_left C pend r H w.block settled).3 ∙ wish_level C pend r H w.level w.block w wished in
               let key : key_at v.kept a slot.0 ≡ wish_key w = (λ j. (option_map_or level_number (at j) 5, own_id w.block slot.0 slot.1 j)) in
-              visited_id w.block slot.0 slot.1 (level_visited v.kept is a bound w.level slot.0 (wish_usable w.level w.block w wished) at (ap (is_before bound) key ∙ early)))
+              visited_id w.block slot.0 slot.1 (level_visited v.kept is a bound has_enough w.level slot.0 (wish_usable w.level w.block w wished) at (ap (is_before bound) key ∙ early) (wish_lacks w slot.0 slot.1 settled wished)))
           | inr visited ↦ visited
         ]
 

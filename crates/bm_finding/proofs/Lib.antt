@@ -12,6 +12,10 @@ pub mod Passing
 pub mod Permuted
 pub mod Further
 pub mod Visited
+pub mod Rising
+pub mod SettledBlocks
+pub mod Counting
+pub mod EnoughPending
 pub mod Covering
 pub mod Missing
 pub mod TwoSorts

@@ -20,7 +20,7 @@ others : (x : ℕ) (ys : List ℕ) → (Among x ys → ⊥) → AllByRecursion (
 others x [] none = tt
 others x (y ∷ ys) none = (ne_eqb x y (λ same. none (inl same)), others x ys (λ h. none (inr h)))
 
-as_ties : (xs : List ℕ) → Distinct xs → IsDistinct (λ (x y : ℕ). x == y) xs
+pub as_ties : (xs : List ℕ) → Distinct xs → IsDistinct (λ (x y : ℕ). x == y) xs
 unfolding IsDistinct
 as_ties [] d = tt
 as_ties (x ∷ xs) d = (others x xs d.0, as_ties xs d.1)

@@ -98,6 +98,10 @@ latter : (s t : Bool) → (s && t) ≡ true → t ≡ true
 latter true t e = e
 latter false t e = absurd (true≢false (sym e))
 
+former : (s t : Bool) → (s && t) ≡ true → s ≡ true
+former true t e = refl
+former false t e = absurd (true≢false (sym e))
+
 -- what is known of the sets of slots
 pub record AreListed (K : Kept) : Type 0 where
   pub unsettled : Distinct K.unsettled.slots
@@ -108,41 +112,47 @@ module _ (K : Kept) (is : AreListed K) where
   abbrev u : List ℕ
   u = K.unsettled.slots
 
-  module _ (a : Contents) (bound : Option (ℕ × ℕ)) where
+  module _ (a : Contents) (bound : Option (ℕ × ℕ)) (has_enough : ℕ → Bool) where
+    abbrev told : ℕ → Bool
+    told = is_told K a bound has_enough
+
+    abbrev slots : List ℕ
+    slots = visits K a bound has_enough
+
     abbrev settled : List ℕ
-    settled = filter (is_told K a bound) (wishing_slots K)
+    settled = filter told (wishing_slots K)
 
     settled_apart : AreApart u settled
-    settled_apart z here there = true≢false (sym (among_has u z here) ∙ by (has u z) (latter (is_before bound (key_at K a z)) (not (has u z)) (among_filtered (is_told K a bound) z (wishing_slots K) there).1))
+    settled_apart z here there = true≢false (sym (among_has u z here) ∙ by (has u z) (former (not (has u z)) (not (has_enough z)) (latter (is_before bound (key_at K a z)) (not (has u z) && not (has_enough z)) (among_filtered told z (wishing_slots K) there).1)))
       where
         by : (t : Bool) → not t ≡ true → t ≡ false
         by true e = absurd (true≢false (sym e))
         by false e = refl
 
-    pub visits_once : Distinct (visits K a bound)
-    visits_once = distinct_appended u settled is.unsettled (distinct_filtered (is_told K a bound) (wishing_slots K) is.once) settled_apart
+    pub visits_once : Distinct slots
+    visits_once = distinct_appended u settled is.unsettled (distinct_filtered told (wishing_slots K) is.once) settled_apart
 
-    pub unsettled_visited : (slot : ℕ) → IsUnsettled K slot → Among slot (visits K a bound)
+    pub unsettled_visited : (slot : ℕ) → IsUnsettled K slot → Among slot slots
     unsettled_visited slot h = Among-left slot u settled h
 
-    pub level_visited : (l : Level) (slot : ℕ) → l ≢ NoUsableReplica → level_of_slot K slot ≡ Some l → is_before bound (key_at K a slot) ≡ true → Among slot (visits K a bound)
-    level_visited l slot wanted at early =
+    pub level_visited : (l : Level) (slot : ℕ) → l ≢ NoUsableReplica → level_of_slot K slot ≡ Some l → is_before bound (key_at K a slot) ≡ true → has_enough slot ≡ false → Among slot slots
+    level_visited l slot wanted at early lacks =
         elim (cases_Bool (has u slot)) [
           | inl there ↦ unsettled_visited slot (has_among u slot there)
           | inr none ↦
-              among_right slot u settled (among_passing (is_told K a bound) slot (wishing_slots K) ((is.wishing slot).1 (ap wishes_copies at ∙ wishing_at l wanted))
-              (and_from (is_before bound (key_at K a slot)) (not (has u slot)) early (ap not none)))
+              among_right slot u settled (among_passing told slot (wishing_slots K) ((is.wishing slot).1 (ap wishes_copies at ∙ wishing_at l wanted))
+              (and_from (is_before bound (key_at K a slot)) (not (has u slot) && not (has_enough slot)) early (and_from (not (has u slot)) (not (has_enough slot)) (ap not none) (ap not lacks))))
         ]
 
     -- each is unsettled, or has a level
-    visit_is : (slot : ℕ) → Among slot (visits K a bound) → IsUnsettled K slot ⊎ ((l : Level) × (level_of_slot K slot ≡ Some l))
+    visit_is : (slot : ℕ) → Among slot slots → IsUnsettled K slot ⊎ ((l : Level) × (level_of_slot K slot ≡ Some l))
     visit_is slot h =
         elim (Among-append slot u settled h) [
           | inl loose ↦ inl loose
-          | inr wishing ↦ inr (level_wishing (level_of_slot K slot) ((is.wishing slot).0 (among_filtered (is_told K a bound) slot (wishing_slots K) wishing).0))
+          | inr wishing ↦ inr (level_wishing (level_of_slot K slot) ((is.wishing slot).0 (among_filtered told slot (wishing_slots K) wishing).0))
         ]
 
-module _ (v : Leveled) (lawful : IsLawful v.arena) (leveled : IsLeveled v) (is : AreListed v.kept) (bound : Option (ℕ × ℕ)) where
+module _ (v : Leveled) (lawful : IsLawful v.arena) (leveled : IsLeveled v) (is : AreListed v.kept) (bound : Option (ℕ × ℕ)) (has_enough : ℕ → Bool) where
   abbrev a : Contents
   a = v.arena
 
@@ -165,17 +175,17 @@ module _ (v : Leveled) (lawful : IsLawful v.arena) (leveled : IsLeveled v) (is :
       never e = cc
 
   -- a slot at which a round looks is that of its block's number
-  pub visit_known : (slot : ℕ) → Among slot (visits v.kept a bound) → slot_of a (id_at a slot) ≡ Some slot
+  pub visit_known : (slot : ℕ) → Among slot (visits v.kept a bound has_enough) → slot_of a (id_at a slot) ≡ Some slot
   visit_known slot h =
-      elim (visit_is v.kept is a bound slot h) [
+      elim (visit_is v.kept is a bound has_enough slot h) [
         | inl loose ↦ let e = (leveled.unsettled slot).0 loose in known_at slot (unsettled_known slot e) (block_at a slot) refl (unsettled_held slot e)
         | inr at ↦
             known_at slot (λ same. level_info slot at.0 at.1 (ap (info_at a) same ∙ leveled.blank)) (block_at a slot) refl
             (λ none. level_info slot at.0 at.1 (ap (λ (o : Option Block). option_and_then (λ (b : Block). b.info) o) none))
       ]
 
-  pub ids_once : Distinct (map (id_at a) (visits v.kept a bound))
-  ids_once = distinct_mapped (id_at a) (slot_of a) (visits v.kept a bound) (visits_once v.kept is a bound) visit_known
+  pub ids_once : Distinct (map (id_at a) (visits v.kept a bound has_enough))
+  ids_once = distinct_mapped (id_at a) (slot_of a) (visits v.kept a bound has_enough) (visits_once v.kept is a bound has_enough) visit_known
 
 -- the slots of each of the four levels put behind those that are there come to all
 pub told_by_level : {Y : Type 0} (f : ℕ → Y) (p : ℕ → Bool) (u w x y z : List ℕ)

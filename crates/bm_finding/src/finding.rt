@@ -23,11 +23,14 @@ use std::alloc::Global;
 /// cluster by which the levels are kept and in which each replica's storage is known. Of the wishes those before the bound are told, if
 /// there is one. An `Err` is want of memory.
 ///
-/// It looks at the blocks that are not settled, and at those before the bound at a level at which copies are wished for, and goes over
-/// the transfers on their way once; so its cost does not grow with the number of the other blocks, but for one step of dense memory, and
-/// a look at the level and the number, for each that is at such a level. Each block that it looks at costs a few looks at each of its
-/// replicas; one with n of them, more than eight, costs O(n log n) steps besides: they are put in order, and each is looked for among
-/// those that are too many. What is found is sorted.
+/// It scans the blocks that are not settled, and those before the bound at a level at which copies
+/// are wished for, and iterates over the pending transfers once. So its cost does not grow with the
+/// number of the other blocks, but for one step of dense memory, and the comparison of a level and
+/// a number, for each that is at such a level. Of a settled block with a pending transfer the live
+/// replicas are counted first: it is left out where they and the pending transfers are as many as
+/// wanted. Each block that is scanned costs a few steps for each of its replicas; one with n of
+/// them, more than eight, costs O(n log n) steps besides: they are sorted, and each is searched for
+/// among those in excess. What is found is sorted.
 pub fn find_round(
     alloc: Global,
     blocks: &LeveledBlocks,
@@ -51,14 +54,15 @@ pub fn find_round(
     blocks.kept_levels().lawful();
     let start = Start {
         arena: blocks.arena(),
+        kept: blocks.kept_levels(),
         pending,
         topology,
         pend,
         round,
         bound,
     };
-    let mut slots = slots_to_visit(alloc, blocks.kept_levels(), blocks.arena(), bound)?;
-    sort_slots(&mut slots)?;
+    let mut slots = slots_to_visit(alloc, &start)?;
+    sort_slots(&mut slots);
     let mut found = start.visit_all(alloc, &slots)?;
     sort_excess(&mut found.excess)?;
     sort_wishes(&mut found.wishes)?;

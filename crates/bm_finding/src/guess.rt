@@ -11,11 +11,14 @@ use std::alloc::{AllocError, Global};
 /// So many slots at a level at which copies are wished for are to be there for each unsettled one, that a bound is worth while.
 const WISHING_FOR_UNSETTLED: usize = 4;
 
-/// A bound before which about so many blocks wish for copies: a block for which a transfer is on its way counts as one that wishes for
-/// none. `None` where not so many do, and where unsettled blocks are more than a quarter of those at a level at which copies are wished
-/// for: a round looks at all unsettled ones, bound or no bound, and at them twice where the wishes before a bound do not fill it. Only a
-/// guess, by about so many samples as are asked for, evenly spread over the slots at such a level: nothing but the time of a round may
-/// depend on it. It costs the same however many blocks there are.
+/// A bound before which about so many blocks wish for copies: a block for which a transfer is on
+/// its way counts as one that wishes for none. `None` where not so many do, and where unsettled
+/// blocks are more than a quarter of those at a level at which copies are wished for: a round looks
+/// at all unsettled ones, bound or no bound, and at them twice where the wishes before a bound do
+/// not fill it. Only a guess, by about so many samples as are asked for, evenly spread over the
+/// slots at such a level: nothing but the time of a round may depend on it. It costs the same
+/// however many blocks there are, and takes no samples where no more than `most` are at such a
+/// level.
 pub fn likely_bound(
     alloc: Global,
     blocks: &LeveledBlocks,
@@ -24,6 +27,9 @@ pub fn likely_bound(
     samples: usize,
 ) -> Result<Option<Key>, AllocError> {
     let count = blocks.kept_levels().wishing_count();
+    if count <= most {
+        return Ok(None);
+    }
     if blocks.kept_levels().unsettled_count() > count / WISHING_FOR_UNSETTLED {
         return Ok(None);
     }

@@ -1,16 +1,19 @@
 //! What a round finds in the blocks of a shard: transfers that are given up, replicas in excess, copies that are wished for, and
 //! replicas that are to be deleted.
 //!
-//! A round looks at the blocks that are not settled and at those at a level at which copies are wished for, never at all blocks. Each of
-//! them is looked at once: its replicas are marked anew, and what is found of it is put behind what was found of the others. At last
-//! each list is put in order.
+//! A round scans the blocks that are not settled and those at a level at which copies are wished
+//! for, never all blocks. Of a settled block it finds no more than a wish, and none where enough
+//! transfers are pending. Of any other one the replicas are marked again. What is found of a block
+//! is appended to what was found of the others. At last each list is sorted.
 #![tactic(auto)]
 
+mod enough_pending;
 mod finding;
 mod guess;
 mod keys;
 mod look;
 mod replicas;
+mod settled;
 mod slots;
 mod sorting;
 mod visiting;

@@ -30,6 +30,8 @@ pub(crate) struct Look {
     pub excess: Vec<StorageId>,
     /// All its replicas as the round chooses, those that are too many marked.
     pub replicas: ReplicaMap<Marks>,
+    /// A scratch buffer for its storages where it is settled.
+    pub storages: Vec<StorageId>,
     /// Room for its replicas where it has more than a few: to put them in order.
     triplets: Vec<(StorageId, Marks)>,
     /// Room for the choice of those that are too many.
@@ -46,6 +48,7 @@ impl Look {
             info: None,
             excess: Vec::new(alloc),
             replicas: ReplicaMap::new(alloc),
+            storages: Vec::new(alloc),
             triplets: Vec::new(alloc),
             room: ExcessRoom::new(alloc),
         }

@@ -8,14 +8,21 @@ ghost use Rattle.bm_arena.specs.Contents.{slot_of};
 ghost use Rattle.bm_arena.specs.Holding.{id_at};
 ghost use Rattle.bm_levels.specs.Held.{holdings_with};
 ghost use Rattle.bm_finding.specs.Gathering.{HasFound};
+ghost use Rattle.bm_finding.specs.Visits.{AreMarked};
 
 use crate::look::Look;
+use crate::replicas::storages_of;
 use bm_arena::{Arena, Slot};
 use bm_base::{BlockInfo, Delete, Refusal, ReplicaId, Wish};
+use bm_levels::KeptLevels;
 use bm_parts::merge::Key;
 use bm_pending::PendingTransfers;
 use bm_topo::Topology;
 use std::alloc::Global;
+
+/// The greatest capacity for wishes before any is found. A wish is large, and is copied whenever
+/// their list grows.
+const WISHES_AT_FIRST: usize = 4096;
 
 /// What was found so far, in the order in which it was come upon.
 #[derive(Drop)]
@@ -29,6 +36,8 @@ pub(crate) struct Found {
 #[derive(Clone, Copy)]
 pub(crate) struct Start<'a> {
     pub arena: &'a Arena,
+    /// Which of its slots are unsettled, and the levels of all.
+    pub kept: &'a KeptLevels,
     pub pending: &'a PendingTransfers,
     pub topology: &'a Topology,
     pub pend: u32,
@@ -38,10 +47,11 @@ pub(crate) struct Start<'a> {
 }
 
 impl<'a> Start<'a> {
-    /// Looks at the blocks at these slots, each beside its key.
+    /// Scans the blocks at these slots, each beside its key.
     pub(crate) fn visit_all(&self, alloc: Global, slots: &[(Key, Slot)]) -> Result<Found, Refusal>
-        requires { (slot : ℕ) → Among slot (values slots.now)
+        requires known { (slot : ℕ) → Among slot (values slots.now)
             → (id : ℕ) × (slot_of self.now.arena.now id ≡ Some slot) }
+        requires settled { AreMarked self.now.kept.now self.now.arena.now }
         ensures found { IfOk result
             (HasFound self.now.topology.now.cluster self.now.pend self.now.round
             (holdings_with self.now.arena.now self.now.pending.now.map) self.now.bound
@@ -50,7 +60,7 @@ impl<'a> Start<'a> {
     {
         let mut found = Found {
             excess: Vec::new(alloc),
-            wishes: Vec::new(alloc),
+            wishes: Vec::with_capacity(alloc, slots.len().min(WISHES_AT_FIRST))?,
             deletes: Vec::new(alloc),
         };
         let mut look = Look::new(alloc);
@@ -60,7 +70,7 @@ impl<'a> Start<'a> {
         Ok(found)
     }
 
-    /// Looks at the block at a slot, and puts what is found of it behind what was found.
+    /// Scans the block at a slot, and appends what is found of it.
     fn visit(
         &self,
         alloc: Global,
@@ -68,7 +78,8 @@ impl<'a> Start<'a> {
         look: &mut Look,
         found: &mut Found,
     ) -> Result<(), Refusal>
-        requires { (id : ℕ) × (slot_of self.now.arena.now id ≡ Some slot) }
+        requires known { (id : ℕ) × (slot_of self.now.arena.now id ≡ Some slot) }
+        requires settled { AreMarked self.now.kept.now self.now.arena.now }
         ensures more { (bs : List ℕ)
             → HasFound self.now.topology.now.cluster self.now.pend self.now.round
             (holdings_with self.now.arena.now self.now.pending.now.map) self.now.bound bs found.old
@@ -79,11 +90,18 @@ impl<'a> Start<'a> {
     {
         self.arena.lawful();
         let id = self.arena.id_of(slot);
+        if !self.kept.is_unsettled(slot) {
+            let wishes = &mut found.wishes;
+            return self.push_settled_wish(alloc, slot, id, &mut look.storages, wishes);
+        }
         let usable = look.look_at(alloc, self.arena, self.topology, slot, id)?;
         let enough = has_enough(look.info, usable.live.as_slice().len());
         look.push_excess(&mut found.excess)?;
         look.push_deletes(enough, &mut found.deletes)?;
-        self.push_wish(alloc, look, usable, &mut found.wishes)?;
+        let storages = storages_of(alloc, look.replicas.entries())?;
+        let storages = storages.as_slice();
+        let wishes = &mut found.wishes;
+        self.push_wish(alloc, look.id, look.info, usable, storages, wishes)?;
         Ok(())
     }
 }

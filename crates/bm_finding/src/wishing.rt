@@ -1,42 +1,40 @@
 // What one block wishes for.
 ghost use Rattle.std.specs.Prelude.{◌≡◌, length, ◌++◌, option_and_then, option_to_list, OnOk, IfOk, IfErr};
 ghost use Rattle.bm_base.specs.declared.refusal.Refusal.TheVariants.{Memory};
-ghost use Rattle.bm_base.specs.Map.{entries};
 ghost use Rattle.bm_base.specs.Replicas as replicas;
 ghost use Rattle.bm_base.specs.Levels as levels;
 ghost use Rattle.bm_parts.specs.Before.{wishes_before};
 ghost use Rattle.bm_pending.specs.Remaining.{targets_left};
-ghost use Rattle.bm_finding.specs.Marking.{all_storages};
 ghost use Rattle.bm_finding.specs.Wanting.{count_at, wish_by};
 
 use crate::keys::is_before;
-use crate::look::Look;
-use crate::replicas::{Usable, spread_of, storages_of};
+use crate::replicas::{Usable, spread_of};
 use crate::visiting::Start;
-use bm_base::{BlockId, Level, Refusal, StorageId, StorageIds, Wish, level_of};
+use bm_base::{BlockId, BlockInfo, Level, Refusal, StorageId, StorageIds, Wish, level_of};
 use bm_topo::Topology;
-use std::alloc::Global;
+use std::alloc::{AllocError, Global};
 
 impl<'a> Start<'a> {
-    /// Puts what a block wishes for behind what is there, which has these usable replicas: so many copies at its level, if it has one and
-    /// wants any, and only where that comes before the bound. The transfers on their way count only where it does.
+    /// Appends the wish of a block with these usable replicas, and replicas on these storages in
+    /// all: some copies at its level, if it has one and wants any, and only where that comes before
+    /// the bound. The pending transfers are counted only where it does.
     pub(crate) fn push_wish(
         &self,
         alloc: Global,
-        look: &Look,
+        id: BlockId,
+        info: Option<BlockInfo>,
         usable: Usable,
+        storages: &[StorageId],
         into: &mut Vec<Wish>,
     ) -> Result<(), Refusal>
         ensures wish { OnOk result (into.new.items ≡ into.old.items
             ++ wishes_before self.now.bound
             (option_to_list (option_and_then
-            (λ i. wish_by self.now.topology.now.cluster look.now.id i usable.live usable.drained
-            (all_storages (entries look.now.replicas))
-            (targets_left self.now.pend self.now.round self.now.pending.now look.now.id))
-            look.now.info))) }
+            (λ i. wish_by self.now.topology.now.cluster id i usable.live usable.drained storages.now
+            (targets_left self.now.pend self.now.round self.now.pending.now id))
+            info))) }
         ensures refused { IfErr result (λ e. e ≡ Memory) }
     {
-        let info = look.info;
         let Some(info) = info else {
             return Ok(());
         };
@@ -46,20 +44,20 @@ impl<'a> Start<'a> {
         let Some(level) = level_among(self.topology, repl, live.as_slice(), drained_count) else {
             return Ok(());
         };
-        if !is_before(self.bound, (level.number() as u64, look.id.0)) {
+        if !is_before(self.bound, (level.number() as u64, id.0)) {
             return Ok(());
         }
         let live_count = live.as_slice().len();
-        let pending = self.targets_left(alloc, look.id)?;
+        let pending = self.targets_left(alloc, id)?;
         let pending_count = pending.as_slice().len();
         let count = count_at(level, repl, live_count, pending_count);
         if count == 0 {
             return Ok(());
         }
-        let pairs = storages_of(alloc, look.replicas.entries())?;
+        let pairs = copy_of(alloc, storages)?;
         into.push(Wish {
             level,
-            block: look.id,
+            block: id,
             stamp: info.stamp,
             count,
             live,
@@ -82,6 +80,17 @@ impl<'a> Start<'a> {
         }
         self.pending.targets_left(alloc, id, self.pend, self.round)
     }
+}
+
+/// The same storages.
+fn copy_of(alloc: Global, storages: &[StorageId]) -> Result<StorageIds, AllocError>
+    ensures { IfOk result (λ v. v ≡ storages.now) }
+{
+    let mut copy = StorageIds::new(alloc);
+    for storage in storages {
+        copy.push(*storage)?;
+    }
+    Ok(copy)
 }
 
 /// The level of a block with live replicas on these storages. Only where enough are live their racks are looked up.

@@ -3,16 +3,17 @@ use Rattle.std.proofs.lemmas.Grind.{common_steps}
 use Rattle.std.proofs.lemmas.List.{append-nil}
 use Rattle.bm_base.specs.declared.level.Level.TheVariants.{Highest, VeryUnderReplicated, UnderReplicated, BadlyDistributed}
 use Rattle.bm_levels.specs.Kept.{slots_at}
-use Rattle.bm_finding.specs.Visits.{keyed_at, is_told}
+use Rattle.bm_finding.specs.Visits.{keyed_at, is_told, has_enough_pending}
 use Rattle.bm_finding.proofs.Visited.{told_by_level}
 use Rattle.bm_finding.proofs.slots.slots_to_visit.Goals as goal
 
 pub returns : goal.returns
 returns c =
-    let K = c.args.kept.now in
-    let f = keyed_at K c.args.arena.now in
-    let p = is_told K c.args.arena.now c.args.bound in
-    let start : c.loop-slot.keyed.items ≡ map (keyed_at c.args.kept.now c.args.arena.now) c.args.kept.now.unsettled.slots = grind (arith, common_steps, append-nil) in
+    let s = c.args.start.now in
+    let K = s.kept.now in
+    let f = keyed_at K s.arena.now in
+    let p = is_told K s.arena.now s.bound (has_enough_pending s.topology.now.cluster s.pend s.round s.arena.now s.pending.now) in
+    let start : c.loop-slot.keyed.items ≡ map (keyed_at c.args.start.now.kept.now c.args.start.now.arena.now) c.args.start.now.kept.now.unsettled.slots = grind (arith, common_steps, append-nil) in
     c.in_ok-push_settled-4.ensures
     ∙ ap (λ xs. xs ++ map f (filter p (slots_at K BadlyDistributed))) (c.in_ok-push_settled-3.ensures
     ∙ ap (λ xs. xs ++ map f (filter p (slots_at K UnderReplicated))) (c.in_ok-push_settled-2.ensures

@@ -19,7 +19,7 @@ returns-clause-look c pend r pending =
     let m = c.fill_counted.new.into in
     let chosen = c.fill_surplus.new.into in
     let many = c.sort_storages.new.storages in
-    let l : Look = record { id = c.args.id; info = c.info-self.result; excess = many; replicas = revise m (λ q x. marked_if (has many.items q.storage) x); triplets = c.fill_counted.new.triplets; room = c.fill_surplus.new.room } in
+    let l : Look = record { id = c.args.id; info = c.info-self.result; excess = many; replicas = revise m (λ q x. marked_if (has many.items q.storage) x); storages = c.args.self.now.storages; triplets = c.fill_counted.new.triplets; room = c.fill_surplus.new.room } in
     subst (λ k. IsLook C pend r (holdings_with c.args.arena.now pending) k) (sym c.in_ok-mark.ensures.marked)
     (look_is c.args.arena.now C l c.args.slot m c.lawful.ensures c.requires c.in_ok-fill_counted.ensures c.info-self.ensures
     (λ s. sym (list_any-IsPermutation (λ t. t == s) chosen.items many.items c.sort_storages.ensures.moved)

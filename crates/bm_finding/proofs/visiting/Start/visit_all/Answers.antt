@@ -8,5 +8,5 @@ slot_at [] i d below = absurd (omega (arith, below))
 slot_at (x ∷ xs) zero d below = inl refl
 slot_at (x ∷ xs) (suc i) d below = inr (slot_at xs i d (omega (arith, below)))
 
-pub visit-requires : goal.visit-requires
-visit-requires c = c.requires _ (slot_at c.args.slots.now c.loop-keyed.keyed-index ((0, 0), 0) c.loop-keyed-test.true)
+pub visit-requires-clause-known : goal.visit-requires-clause-known
+visit-requires-clause-known c = c.requires.known _ (slot_at c.args.slots.now c.loop-keyed.keyed-index ((0, 0), 0) c.loop-keyed-test.true)

@@ -1,0 +1,73 @@
+// Whether the transfers on their way to a settled block make up for the replicas that it lacks.
+ghost use Rattle.std.specs.Prelude.{◌≡◌, length};
+ghost use Rattle.bm_base.specs.Replicas as replicas;
+ghost use Rattle.bm_arena.specs.Holding.{id_at, replicas_at};
+ghost use Rattle.bm_levels.specs.Judged.{storages_at};
+ghost use Rattle.bm_pending.specs.Remaining.{targets_left};
+ghost use Rattle.bm_finding.specs.Visits as visits;
+
+use crate::visiting::Start;
+use bm_arena::{Arena, Slot};
+use bm_base::{BlockId, Marks, StorageId};
+use bm_topo::Topology;
+
+impl<'a> Start<'a> {
+    /// Whether a transfer to the block at a slot stays on its way, and with those on their way as
+    /// many replicas are live as are wanted: if the block is settled, it wishes for no copy then,
+    /// at whichever level. Its replicas are scanned only where a transfer is on its way. Takes no
+    /// memory.
+    pub(crate) fn has_enough_pending(&self, slot: Slot, id: BlockId) -> bool
+        requires { id ≡ id_at self.now.arena.now slot }
+        ensures { result
+            ≡ visits.has_enough_pending self.now.topology.now.cluster self.now.pend
+            self.now.round self.now.arena.now self.now.pending.now slot }
+    {
+        let pending = self.count_left(id);
+        if pending == 0 {
+            return false;
+        }
+        match self.arena.info(slot) {
+            Some(info) => {
+                let live = live_count(self.topology, self.arena, slot);
+                (info.repl as usize).saturating_sub(live) <= pending
+            }
+            None => false,
+        }
+    }
+
+    /// How many of a block's transfers the round leaves on their way. The block is not looked up
+    /// where no transfer is.
+    fn count_left(&self, id: BlockId) -> usize
+        ensures { result
+            ≡ length (targets_left self.now.pend self.now.round self.now.pending.now id) }
+    {
+        self.pending.lawful();
+        if self.pending.count() == 0 {
+            return 0;
+        }
+        self.pending.count_left(id, self.pend, self.round)
+    }
+}
+
+fn is_live_on(topology: &Topology, storage: StorageId, marks: Marks) -> bool
+    ensures { result ≡ replicas.is_live_on topology.now.cluster storage marks }
+{
+    let is_usable = marks.is_usable();
+    is_usable && !topology.is_draining(storage)
+}
+
+/// How many replicas at a slot are live.
+fn live_count(topology: &Topology, arena: &Arena, slot: Slot) -> usize
+    ensures { result ≡ length
+        (storages_at (replicas.is_live_on topology.now.cluster) (replicas_at arena.now slot)) }
+{
+    let mut count = 0;
+    for place in 0..arena.triplet_count(slot) {
+        if let Some((storage, marks)) = arena.triplet_at(slot, place) {
+            if is_live_on(topology, storage, marks) {
+                count += 1;
+            }
+        }
+    }
+    count
+}

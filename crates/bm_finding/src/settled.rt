@@ -1,0 +1,83 @@
+// The wish of a settled block: none of its replicas is in excess, and none is to be deleted.
+ghost use Rattle.std.specs.Prelude.{◌≡◌, ◌++◌, true, not, filter, Some, IfOk, IfErr, OnOk};
+ghost use Rattle.bm_base.specs.declared.refusal.Refusal.TheVariants.{Memory};
+ghost use Rattle.bm_base.specs.Replicas as replicas;
+ghost use Rattle.bm_parts.specs.Before.{wishes_before};
+ghost use Rattle.bm_arena.specs.Contents.{block_at, slot_of};
+ghost use Rattle.bm_arena.specs.Holding.{replicas_at};
+ghost use Rattle.bm_levels.specs.Held.{holdings_with};
+ghost use Rattle.bm_levels.specs.Judged.{is_settled_at, storages_at};
+ghost use Rattle.bm_finding.specs.Gathering.{wishes_at};
+
+use crate::replicas::Usable;
+use crate::visiting::Start;
+use bm_arena::{Arena, Slot};
+use bm_base::{BlockId, Refusal, StorageId, StorageIds, Wish};
+use bm_topo::Topology;
+use std::alloc::{AllocError, Global};
+
+impl<'a> Start<'a> {
+    /// Appends the wish of the settled block at a slot, if it has one. `storages` is a scratch
+    /// buffer.
+    pub(crate) fn push_settled_wish(
+        &self,
+        alloc: Global,
+        slot: Slot,
+        id: BlockId,
+        storages: &mut Vec<StorageId>,
+        into: &mut Vec<Wish>,
+    ) -> Result<(), Refusal>
+        requires slot { slot_of self.now.arena.now id ≡ Some slot }
+        requires settled { is_settled_at (block_at self.now.arena.now slot) ≡ true }
+        ensures wish { OnOk result (into.new.items ≡ into.old.items
+            ++ wishes_before self.now.bound
+            (wishes_at self.now.topology.now.cluster self.now.pend self.now.round
+            (holdings_with self.now.arena.now self.now.pending.now.map) id)) }
+        ensures refused { IfErr result (λ e. e ≡ Memory) }
+    {
+        self.arena.lawful();
+        fill_storages(storages, self.arena, slot)?;
+        storages.sort_unstable();
+        let usable = split_by_draining(alloc, self.topology, storages)?;
+        let info = self.arena.info(slot);
+        self.push_wish(alloc, id, info, usable, storages, into)
+    }
+}
+
+/// Replaces the storages in `into` with those of the replicas at a slot.
+fn fill_storages(into: &mut Vec<StorageId>, arena: &Arena, slot: Slot) -> Result<(), AllocError>
+    ensures { OnOk result (into.new.items
+        ≡ storages_at (λ _ _. true) (replicas_at arena.now slot)) }
+{
+    into.clear();
+    for place in 0..arena.triplet_count(slot) {
+        if let Some((storage, _)) = arena.triplet_at(slot, place) {
+            into.push(storage)?;
+        }
+    }
+    Ok(())
+}
+
+/// Which of these storages stand on nodes that drain, and which do not.
+fn split_by_draining(
+    alloc: Global,
+    topology: &Topology,
+    storages: &[StorageId],
+) -> Result<Usable, AllocError>
+    ensures live { IfOk result
+        (λ u. u.live
+        ≡ filter (λ s. not (replicas.is_draining topology.now.cluster s)) storages.now) }
+    ensures drained { IfOk result
+        (λ u. u.drained ≡ filter (replicas.is_draining topology.now.cluster) storages.now) }
+{
+    let mut live = StorageIds::new(alloc);
+    let mut drained = StorageIds::new(alloc);
+    for storage in storages {
+        if topology.is_draining(*storage) {
+            drained.push(*storage)?;
+        } else {
+            live.push(*storage)?;
+        }
+    }
+    Ok(Usable { live, drained })
+}
