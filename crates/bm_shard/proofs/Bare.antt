@@ -1,5 +1,5 @@
 -- Numbers with neither a block nor a replica that have an entry: what is seen of them, and where none are left.
-use Rattle.std.proofs.Common.{◌≡◌, ℕ, Bool, true, false, cond, List, [], ◌∷◌, map, Option, Some, None, Result, Ok, Err, is_some, refl, sym, ap, subst, inl, inr, ◌∙◌}
+use Rattle.std.proofs.Common.{◌≡◌, ℕ, Bool, true, false, cond, List, [], ◌∷◌, map, take, drop, Option, Some, None, Result, Ok, Err, is_some, refl, sym, ap, subst, inl, inr, ◌∙◌}
 use Rattle.std.specs.Prelude.{◌≢◌, ◌==◌, ◌||◌, IsTrue, OnErr, option_map}
 use Rattle.std.proofs.lemmas.Bool.{cases_eq, eqb-true, eq-eqb, false≢true}
 use Rattle.bm_base.specs.declared.ids.Part.{Part}
@@ -21,16 +21,19 @@ use Rattle.bm_base.proofs.Ties.{number_tie}
 use Rattle.bm_arena.specs.Contents.{Contents, block_at, slot_of, IsLawful}
 use Rattle.bm_arena.specs.Holding.{replicas_of, blocks_of}
 use Rattle.bm_arena.proofs.Held.{one_number}
+use Rattle.bm_arena.proofs.Replicas.{Among-append}
+use Rattle.bm_base.specs.SlotLists.{Among}
+use Rattle.std.proofs.lemmas.List.{take-append-drop}
 use Rattle.bm_report.specs.declared.types.Named.{Named}
 use Rattle.bm_report.specs.Midway.{told_of}
-use Rattle.bm_report.specs.Ready.{Looked, told}
+use Rattle.bm_report.specs.Ready.{Looked, told, IsToldAt}
 use Rattle.bm_levels.specs.Bare as levels
 use Rattle.bm_levels.specs.Held.{holdings_with}
 use Rattle.bm_levels.specs.Leveled.{Leveled}
 use Rattle.bm_levels.proofs.Bare.{bare_before, bare_elsewhere, same_numbers, some_before}
 use Rattle.bm_shard.specs.declared.shard.Prepared.{Prepared}
 use Rattle.bm_shard.specs.declared.shard.Prepared.TheVariants as prepared
-use Rattle.bm_shard.specs.Seen.{Seen}
+use Rattle.bm_shard.specs.Seen.{Seen, LookUp}
 use Rattle.bm_shard.specs.Bare.{IsBare, HasNoneBare, HasBareOnly, may_enter}
 use Rattle.bm_shard.specs.Inside.{numbers_of, heads_of, is_prepared}
 use Rattle.bm_shard.proofs.Arrivals.{named_there}
@@ -39,7 +42,7 @@ use Rattle.bm_base.specs.Excess.{marked, without_unordered_excess}
 use Rattle.bm_shard.proofs.Same.{seen_of}
 
 -- What is seen of these fields.
-module _ (v : Leveled) (P : Map by_replica ℕ) (part : Part) (round pend : ℕ) (report : Option (ℕ × List Told)) (transfers : List (ℕ × ℕ)) where
+module _ (v : Leveled) (P : Map by_replica ℕ) (part : Part) (round pend : ℕ) (report : Option LookUp) (transfers : List (ℕ × ℕ)) where
   abbrev seen : Seen
   seen = seen_of v P part round pend (record { entries = numbers_of v.arena; lists = heads_of v.arena; report = report; transfers = transfers })
 
@@ -127,22 +130,37 @@ none_received C H a c s b stamp lawful ids others is only n bare =
           differs (sym (only n (bare_elsewhere a c n led.0 here led.1 (others led.0 apart) bare)))
     ]
 
--- Where none but the numbers of a report were bare, and the slots that it changed have no bare entry any more, none is.
-pub none_reported : (C : Cluster) (H : Holdings) (s : ℕ) (ns : List Named) (a m c : Contents) (changed : List ℕ) → IsLawful a → m.ids ≡ a.ids
-    → levels.IsSameBeside changed a m → replicas_of m ≡ (report C H s (map told_of ns)).replicas
+-- Where none but the numbers of a report were bare, and the slots that it swept have no bare entry any more, none is: the other slots that
+-- it changed are those of its numbers.
+pub none_reported : (C : Cluster) (H : Holdings) (s : ℕ) (ns : List Named) (a m c : Contents) (changed : List ℕ) (came : ℕ) → IsLawful a → m.ids ≡ a.ids
+    → levels.IsSameBeside changed a m → ((slot : ℕ) → Among slot (take came changed) → IsToldAt a (map told_of ns) slot) → replicas_of m ≡ (report C H s (map told_of ns)).replicas
     → ((n : ℕ) → levels.IsBare a n → IsTrue (is_named (map told_of ns) n)) → levels.MakesNoneBare m c
-    → levels.HasNoneBareAt changed m c → levels.HasNoneBare c
-none_reported C H s ns a m c changed lawful ids others is only keeps left n bare =
+    → levels.HasNoneBareAt (drop came changed) m c → levels.HasNoneBare c
+none_reported C H s ns a m c changed came lawful ids others told is only keeps left n bare =
     let mid = keeps n bare in
     let led = there (slot_of m n) mid.entry in
     let here : slot_of a n ≡ Some led.0 = sym (same_numbers a m ids n) ∙ led.1 in
-    elim (dec_among led.0 changed) [
-      | inl listed ↦ left n led.0 listed led.1 bare
-      | inr absent ↦
-          let was = bare_elsewhere a m n led.0 here led.1 (others led.0 (lawful.found n led.0 here).0 absent) mid in
-          let stands : contains_key (replicas_of m) (replica_at n s) ≡ true = named_there C H s ns m is (replica_at n s) (eq-eqb s s refl) ∙ only n was in
-          false≢true (sym (ap is_some (mid.empty s)) ∙ stands)
+    let not_told : IsTrue (is_named (map told_of ns) n) → ⊥ = λ h.
+    let stands : contains_key (replicas_of m) (replica_at n s) ≡ true = named_there C H s ns m is (replica_at n s) (eq-eqb s s refl) ∙ h in
+    false≢true (sym (ap is_some (mid.empty s)) ∙ stands) in
+    elim (dec_among led.0 (drop came changed)) [
+      | inl swept ↦ left n led.0 swept led.1 bare
+      | inr unswept ↦
+          elim (dec_among led.0 (take came changed)) [
+            | inl first ↦
+                let t = told led.0 first in
+                let P : ℕ → Type 0 = λ b. IsTrue (is_named (map told_of ns) b) in
+                not_told (subst P (one_number a lawful t.0 n led.0 t.2 here) t.1)
+            | inr unlisted ↦
+                let absent : Among led.0 changed → ⊥ = λ h. in_neither led.0 unlisted unswept h in
+                not_told (only n (bare_elsewhere a m n led.0 here led.1 (others led.0 (lawful.found n led.0 here).0 absent) mid))
+          ]
     ]
+  where
+    in_neither : (slot : ℕ) → (Among slot (take came changed) → ⊥) → (Among slot (drop came changed) → ⊥) → Among slot changed → ⊥
+    in_neither slot front back h =
+        let P : List ℕ → Type 0 = λ l. Among slot l in
+        elim (Among-append slot (take came changed) (drop came changed) (subst P (sym (take-append-drop came changed)) h)) [ inl x ↦ front x | inr y ↦ back y ]
 
 -- What was prepared.
 
@@ -152,15 +170,21 @@ prepared_report p r s b is h = let P : Prepared → Type 0 = λ x. IsTrue (is_pr
 pub prepared_entry : (p : Prepared) (r : Looked) (n b : ℕ) → p ≡ prepared.Entry n → IsTrue (is_prepared p r b) → n ≡ b
 prepared_entry p r n b is h = let P : Prepared → Type 0 = λ x. IsTrue (is_prepared x r b) in eqb-true n b (subst P is h)
 
-pub prepared_one : (p : Prepared) (r : Looked) (s b : ℕ) (stamp : Stamp) (n : ℕ) → p ≡ prepared.Report s → told r ≡ record { id = b; stamp = stamp } ∷ [] → IsTrue (is_prepared p r n) → b ≡ n
+pub prepared_one : (p : Prepared) (r : Looked) (s b : ℕ) (stamp : Stamp) (n : ℕ) → p ≡ prepared.Notice s → told r ≡ record { id = b; stamp = stamp } ∷ [] → IsTrue (is_prepared p r n) → b ≡ n
 unfolding is_named
 prepared_one p r s b stamp n is named h =
     let P : List Told → Type 0 = λ ts. IsTrue (is_named ts n) in
-    eqb-true b n (one (b == n) (subst P named (prepared_report p r s n is h)))
+    let Q : Prepared → Type 0 = λ x. IsTrue (is_prepared x r n) in
+    eqb-true b n (one (b == n) (subst P named (subst Q is h)))
   where
     one : (t : Bool) → (t || false) ≡ true → t ≡ true
     one true e = refl
     one false e = e
+
+-- the one number that is told is named
+pub named_alone : (r : Looked) (b : ℕ) (stamp : Stamp) (n : ℕ) → told r ≡ record { id = b; stamp = stamp } ∷ [] → IsTrue (b == n) → IsTrue (is_named (told r) n)
+unfolding is_named
+named_alone r b stamp n is h = let P : List Told → Type 0 = λ ts. IsTrue (is_named ts n) in subst P (sym is) (ap (λ t. t || false) h)
 
 pub none_prepared : (S : Seen) (these : ℕ → Bool) → HasNoneBare S → HasBareOnly these S
 none_prepared S these none b bare = absurd (none b bare)
@@ -170,17 +194,8 @@ none_prepared S these none b bare = absurd (none b bare)
 pub may_add : (part : Part) (e : Event) (S : Seen) (b : ℕ) (stamp : Stamp) (repl : ℕ) → e ≡ AddBlock b stamp repl → HasBareOnly (λ n. b == n) S → HasBareOnly (may_enter part e) S
 may_add part e S b stamp repl is h = let P : Event → Type 0 = λ x. HasBareOnly (may_enter part x) S in subst P (sym is) h
 
-pub may_receive : (part : Part) (e : Event) (S : Seen) (s b : ℕ) (stamp : Stamp) (ts : List Told) → e ≡ Received s b stamp → ts ≡ record { id = b; stamp = stamp } ∷ [] → HasBareOnly (is_named ts) S
-    → HasBareOnly (may_enter part e) S
-unfolding is_named
-may_receive part e S s b stamp ts is named h =
-    let P : Event → Type 0 = λ x. HasBareOnly (may_enter part x) S in
-    let Q : List Told → Type 0 = λ l. HasBareOnly (is_named l) S in
-    subst P (sym is) (λ n bare. one (b == n) (subst Q named h n bare))
-  where
-    one : (t : Bool) → (t || false) ≡ true → t ≡ true
-    one true e = refl
-    one false e = e
+pub may_receive : (part : Part) (e : Event) (S : Seen) (s b : ℕ) (stamp : Stamp) → e ≡ Received s b stamp → HasBareOnly (λ n. b == n) S → HasBareOnly (may_enter part e) S
+may_receive part e S s b stamp is h = let P : Event → Type 0 = λ x. HasBareOnly (may_enter part x) S in subst P (sym is) h
 
 -- marks of excess take no replica out
 pub none_marked : (C : Cluster) (H : Holdings) (n : Map by_replica Marks) → n ≡ (marked C (without_unordered_excess H)).replicas → (q : ReplicaId) → get n q ≡ None → get H.replicas q ≡ None

@@ -1,6 +1,7 @@
 -- Codes, by which proofs tell what is seen of a shard apart.
-use Rattle.std.specs.Prelude.{ℕ, refl, List, Option}
-use Rattle.std.specs.Coded.{Coded, code_by, coded×, coded_ℕ, coded_list, coded_option}
+use Rattle.std.specs.Prelude.{◌≡◌, ◌⊎◌, ℕ, refl, List, Option}
+use Rattle.std.proofs.Common.{inl, inr}
+use Rattle.std.specs.Coded.{Coded, code_by, coded×, coded⊎, coded_ℕ, coded_list, coded_option}
 use Rattle.bm_base.specs.declared.level.Level.{Level}
 use Rattle.bm_base.specs.declared.ids.Part.{Part}
 use Rattle.bm_base.specs.declared.replica.Stamp.{Stamp}
@@ -11,7 +12,7 @@ use Rattle.bm_base.specs.Codes.{coded_holdings, coded_stamp}
 use Rattle.bm_base.specs.Entries.{Told}
 use Rattle.bm_base.specs.Levels.{level_number}
 use Rattle.bm_base.specs.LevelNumbers.{level_of_number, level_again}
-use Rattle.bm_shard.specs.Seen.{Seen, Room}
+use Rattle.bm_shard.specs.Seen.{Seen, Room, LookUp, NoticeOf, ReportOf}
 
 abbrev pub coded_level : Coded Level
 coded_level = code_by ℕ coded_ℕ level_number level_of_number level_again
@@ -22,10 +23,25 @@ coded_part = code_by (ℕ × ℕ) (coded× coded_ℕ coded_ℕ) (λ p. (p.index,
 abbrev pub coded_told : Coded Told
 coded_told = code_by (ℕ × Stamp) (coded× coded_ℕ coded_stamp) (λ t. (t.id, t.stamp)) (λ t. record { id = t.0; stamp = t.1 }) (λ _. refl)
 
+abbrev cases : LookUp → (ℕ × List Told) ⊎ (ℕ × List Told)
+cases (NoticeOf s ts) = inl (s, ts)
+cases (ReportOf s ts) = inr (s, ts)
+
+abbrev look_up : (ℕ × List Told) ⊎ (ℕ × List Told) → LookUp
+look_up (inl t) = NoticeOf t.0 t.1
+look_up (inr t) = ReportOf t.0 t.1
+
+pub look_up_again : (l : LookUp) → look_up (cases l) ≡ l
+look_up_again (NoticeOf s ts) = refl
+look_up_again (ReportOf s ts) = refl
+
+abbrev pub coded_look_up : Coded LookUp
+coded_look_up = code_by ((ℕ × List Told) ⊎ (ℕ × List Told)) (coded⊎ (coded× coded_ℕ (coded_list coded_told)) (coded× coded_ℕ (coded_list coded_told))) cases look_up look_up_again
+
 abbrev pub coded_room : Coded Room
 coded_room =
-    code_by ((List ℕ × List ℕ) × (Option (ℕ × List Told) × List (ℕ × ℕ)))
-    (coded× (coded× (coded_list coded_ℕ) (coded_list coded_ℕ)) (coded× (coded_option (coded× coded_ℕ (coded_list coded_told))) (coded_list (coded× coded_ℕ coded_ℕ))))
+    code_by ((List ℕ × List ℕ) × (Option LookUp × List (ℕ × ℕ)))
+    (coded× (coded× (coded_list coded_ℕ) (coded_list coded_ℕ)) (coded× (coded_option coded_look_up) (coded_list (coded× coded_ℕ coded_ℕ))))
     (λ r. ((r.entries, r.lists), (r.report, r.transfers))) (λ t. record { entries = t.0.0; lists = t.0.1; report = t.1.0; transfers = t.1.1 }) (λ _. refl)
 
 abbrev pub coded_seen : Coded Seen

@@ -4,13 +4,13 @@ use Rattle.std.specs.Option.{option_map_or}
 use Rattle.bm_base.specs.declared.level.Level.{Level}
 use Rattle.bm_base.specs.declared.ids.Part.{Part}
 use Rattle.bm_base.specs.Map.{Map, by_number, empty, insert, remove}
-use Rattle.bm_base.specs.Entries.{Told}
 use Rattle.bm_base.specs.Events.{is_named}
 use Rattle.bm_arena.specs.Contents.{Contents}
-use Rattle.bm_report.specs.Ready.{Looked, IsReady, told}
+use Rattle.bm_report.specs.Ready.{Looked, IsLookedUp, IsReady, told}
 use Rattle.bm_levels.specs.Bare.{IsBare}
 use Rattle.bm_levels.specs.Kept.{Kept, level_of_slot}
 use Rattle.bm_levels.specs.Leveled.{Leveled}
+use Rattle.bm_shard.specs.Seen.{LookUp, NoticeOf, ReportOf}
 use Rattle.bm_shard.specs.declared.shard.Prepared.{Prepared}
 use Rattle.bm_shard.specs.declared.shard.Prepared.TheVariants as prepared
 
@@ -35,21 +35,27 @@ numbers_of a = map (λ (p : ℕ × ℕ). p.0) a.ids
 abbrev pub heads_of : Contents → List ℕ
 heads_of a = map (λ (p : ℕ × List ℕ). p.0) a.lists
 
--- the report that was looked up
-abbrev pub report_of : Looked → Prepared → Option (ℕ × List Told)
-report_of r (prepared.Report s) = Some (s, told r)
+-- the notice or report that was looked up
+abbrev pub report_of : Looked → Prepared → Option LookUp
+report_of r (prepared.Notice s) = Some (NoticeOf s (told r))
+report_of r (prepared.Report s) = Some (ReportOf s (told r))
 report_of r _ = None
 
 -- whether a number got its entry by what was prepared
 abbrev pub is_prepared : Prepared → Looked → ℕ → Bool
 is_prepared prepared.Nothing r b = false
 is_prepared (prepared.Entry n) r b = n == b
+is_prepared (prepared.Notice s) r b = is_named (told r) b
 is_prepared (prepared.Report s) r b = is_named (told r) b
 
--- What holds between calls: where a report was looked up, all that its end needs is there; and only for what was prepared does a number
--- have an entry with neither a block nor a replica.
+-- all that the end of what was prepared needs is there
+abbrev pub HasPrepared : Prepared → Looked → Contents → Type 0
+HasPrepared (prepared.Notice s) r a = IsLookedUp r a s
+HasPrepared (prepared.Report s) r a = IsReady r a s × (r.changed ≡ [])
+HasPrepared _ r a = Unit {0}
+
+-- What holds between calls: only for what was prepared does a number have an entry with neither a block nor a replica.
 pub record IsShard (part : Part) (v : Leveled) (r : Looked) (p : Prepared) : Type 0 where
   pub index : part.index < part.shards
-  pub ready : (s : ℕ) → p ≡ prepared.Report s → IsReady r v.arena s
-  pub fresh : (s : ℕ) → p ≡ prepared.Report s → r.changed ≡ []
+  pub ready : HasPrepared p r v.arena
   pub bare : (b : ℕ) → IsBare v.arena b → IsTrue (is_prepared p r b)

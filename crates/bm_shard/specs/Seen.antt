@@ -14,14 +14,19 @@ use Rattle.bm_base.specs.SlotLists.{Among}
 use Rattle.bm_base.specs.RoundParts.{own_transfers}
 use Rattle.bm_parts.specs.Parts.{told_of}
 
+-- What was looked up, of a storage: what is told of the one number of a notice, or of the numbers of a full report.
+pub data LookUp : Type 0 where
+  NoticeOf : (storage : ℕ) → (told : List Told) → LookUp
+  ReportOf : (storage : ℕ) → (told : List Told) → LookUp
+
 -- What was made ready. Only the calls that make it and the calls that need it read it.
 pub record Room : Type 0 where
   -- the numbers that have an entry
   pub entries : List ℕ
   -- the storages that have a list
   pub lists : List ℕ
-  -- the storage, and what is told of it, where a report was looked up
-  pub report : Option (ℕ × List Told)
+  -- the notice or report that was looked up
+  pub report : Option LookUp
   -- blocks with how many more of their transfers there is room for
   pub transfers : List (ℕ × ℕ)
 
@@ -39,8 +44,8 @@ pub record Seen : Type 0 where
 -- what was made ready suffices for an event; what other events change takes no memory
 unfoldable pub IsReadyFor : Event → Seen → Type 0
 IsReadyFor (AddBlock b stamp repl) S = Among b S.room.entries
-IsReadyFor (Received s b stamp) S = S.room.report ≡ Some (s, record { id = b; stamp = stamp } ∷ [])
-IsReadyFor (FullReport s es) S = S.room.report ≡ Some (s, told_of S.part.index S.part.shards (expanded es))
+IsReadyFor (Received s b stamp) S = S.room.report ≡ Some (NoticeOf s (record { id = b; stamp = stamp } ∷ []))
+IsReadyFor (FullReport s es) S = S.room.report ≡ Some (ReportOf s (told_of S.part.index S.part.shards (expanded es)))
 IsReadyFor _ S = Unit {0}
 
 -- whether an event needs something made ready, so that its preparation may be refused memory

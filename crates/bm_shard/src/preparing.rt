@@ -1,5 +1,5 @@
 // The memory of an event, and giving it up.
-ghost use Rattle.std.specs.Prelude.{◌≡◌, ◌==◌, ◌<◌, ℕ, None, Some, IfErr, OnOk, OnErr};
+ghost use Rattle.std.specs.Prelude.{◌≡◌, ◌==◌, ◌<◌, ◌∷◌, [], ℕ, None, Some, IfErr, OnOk, OnErr};
 ghost use Rattle.bm_base.specs.declared.refusal.Refusal.TheVariants.{Memory};
 ghost use Rattle.bm_base.specs.Answering.{Refuses};
 ghost use Rattle.bm_base.specs.State.{Cluster};
@@ -9,22 +9,16 @@ ghost use Rattle.bm_arena.specs.Holding.{replicas_of, blocks_of};
 ghost use Rattle.bm_report.specs.Expanded.{told_to};
 ghost use Rattle.bm_levels.specs.Bare.{HasNoneBareOf, MakesNoneBare};
 ghost use Rattle.bm_levels.specs.Leveled.{AreLevels};
-ghost use Rattle.bm_shard.specs.Seen.{IsReadyFor, takes_room};
+ghost use Rattle.bm_shard.specs.Seen.{NoticeOf, ReportOf, IsReadyFor, takes_room};
 ghost use Rattle.bm_shard.specs.Bare.{HasNoneBare, HasBareOnly, may_enter};
 ghost use Rattle.bm_shard.specs.Inside.{is_prepared};
 ghost use Rattle.bm_shard.specs.Standing.{IsSameButRoom};
 
 use crate::shard::{Prepared, Shard};
-use bm_base::{BlockId, Entry, Event, Part, Refusal, StorageId};
+use bm_base::{BlockId, Entry, Event, Part, Refusal, Stamp, StorageId};
 use bm_levels::LeveledBlocks;
 use bm_report::Report;
 use bm_topo::Topology;
-
-/// All numbers: a notice is handed to the shard of its number alone.
-const EVERY_NUMBER: Part = Part {
-    index: 0,
-    shards: 1,
-};
 
 impl Shard {
     /// Takes the memory that [`Shard::commit`] of the event needs. Nothing else that is seen changes, whether it is refused or
@@ -42,10 +36,7 @@ impl Shard {
         self.abort();
         match event {
             Event::AddBlock { id, .. } => self.ready_entry(*id),
-            Event::Received { storage, id, stamp } => {
-                let entries = [Entry::one(*id, *stamp)];
-                self.ready_report(*storage, entries.as_slice(), EVERY_NUMBER)
-            }
+            Event::Received { storage, id, stamp } => self.ready_notice(*storage, *id, *stamp),
             Event::FullReport { storage, entries } => {
                 let part = self.part;
                 self.ready_report(*storage, entries.as_slice(), part)
@@ -84,6 +75,29 @@ impl Shard {
         Ok(())
     }
 
+    /// Looks up the number of a notice.
+    fn ready_notice(&mut self, storage: StorageId, id: BlockId, stamp: Stamp) -> Result<(), Refusal>
+        requires none { HasNoneBare self.old }
+        ensures ready { OnOk result (self.new.room.report
+            ≡ Some (NoticeOf storage (record { id = id; stamp = stamp } ∷ []))) }
+        ensures same { IsSameButRoom self.old self.new }
+        ensures bare { HasBareOnly (λ b. id == b) self.new }
+        ensures given_up { OnErr result (HasNoneBare self.new) }
+        ensures refused { IfErr result (λ e. e ≡ Memory) }
+    {
+        self.prepared = Prepared::Nothing;
+        self.blocks.lawful();
+        self.blocks.arena().lawful();
+        let made = self
+            .blocks
+            .ready_notice(&mut self.report, storage, id, stamp);
+        self.blocks.lawful();
+        self.blocks.arena().lawful();
+        made?;
+        self.prepared = Prepared::Notice(storage);
+        Ok(())
+    }
+
     /// Looks up what a report tells of a part.
     fn ready_report(
         &mut self,
@@ -94,7 +108,7 @@ impl Shard {
         requires part { part.index < part.shards }
         requires none { HasNoneBare self.old }
         ensures ready { OnOk result (self.new.room.report
-            ≡ Some (storage, told_to part entries.now)) }
+            ≡ Some (ReportOf storage (told_to part entries.now))) }
         ensures same { IsSameButRoom self.old self.new }
         ensures bare { HasBareOnly (is_named (told_to part entries.now)) self.new }
         ensures given_up { OnErr result (HasNoneBare self.new) }
@@ -146,6 +160,6 @@ pub(crate) fn drop_prepared(blocks: &mut LeveledBlocks, report: &mut Report, pre
                 blocks.drop_if_bare(slot);
             }
         }
-        Prepared::Report(_) => blocks.abort_report(report),
+        Prepared::Notice(_) | Prepared::Report(_) => blocks.abort_report(report),
     }
 }

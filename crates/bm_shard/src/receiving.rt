@@ -6,6 +6,7 @@ ghost use Rattle.bm_base.specs.State.{replica_at};
 ghost use Rattle.bm_parts.specs.PlacedLaws.{IsPlaced};
 ghost use Rattle.bm_shard.specs.Bare.{HasNoneBare};
 ghost use Rattle.bm_shard.specs.Changed.{HasChanged};
+ghost use Rattle.bm_shard.specs.Seen.{NoticeOf, ReportOf};
 
 use crate::arriving::drop_arrived;
 use crate::shard::{Prepared, Shard};
@@ -34,7 +35,7 @@ impl Shard {
         stamp: Stamp,
     ) -> Done
         requires ready { self.old.room.report
-            ≡ Some (storage, record { id = id; stamp = stamp } ∷ []) }
+            ≡ Some (NoticeOf storage (record { id = id; stamp = stamp } ∷ [])) }
         requires placed { IsPlaced topology.now.cluster self.old.holdings }
         ensures changed { HasChanged topology.now.cluster topology.now.cluster self.old self.new
             (events.enter topology.now.cluster self.old.holdings (replica_at id storage) stamp)
@@ -55,9 +56,9 @@ impl Shard {
     /// A storage reported all its replicas, as was looked up: they are there, others on it leave, and the transfers of those that
     /// came have arrived. One step for each number that is named and each replica that leaves, and a look at each block with transfers.
     pub(crate) fn report(&mut self, topology: &Topology, storage: StorageId) -> Done
-        requires ready { (ts : List Told) × (self.old.room.report ≡ Some (storage, ts)) }
+        requires ready { (ts : List Told) × (self.old.room.report ≡ Some (ReportOf storage ts)) }
         requires placed { IsPlaced topology.now.cluster self.old.holdings }
-        ensures changed { (ts : List Told) → self.old.room.report ≡ Some (storage, ts)
+        ensures changed { (ts : List Told) → self.old.room.report ≡ Some (ReportOf storage ts)
             → HasChanged topology.now.cluster topology.now.cluster self.old self.new
             (events.report topology.now.cluster self.old.holdings storage ts) result }
         ensures few { (result.added < 2 ^ 100) × (result.removed < 2 ^ 100) }
@@ -70,7 +71,7 @@ impl Shard {
             .blocks
             .apply_report(&mut self.report, topology, storage);
         drop_arrived(&mut self.pending, self.blocks.arena(), storage);
-        self.blocks.drop_bare(self.report.changed_slots());
+        self.blocks.drop_bare(self.report.swept_slots());
         self.blocks.arena().lawful();
         done_of(applied)
     }

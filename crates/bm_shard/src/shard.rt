@@ -18,7 +18,9 @@ pub(crate) enum Prepared {
     Nothing,
     /// An entry of a number.
     Entry(BlockId),
-    /// What was looked up in `report` is of a report of this storage.
+    /// What was looked up in `report` is of a notice of this storage.
+    Notice(StorageId),
+    /// What was looked up in `report` is of a full report of this storage.
     Report(StorageId),
 }
 

@@ -2,7 +2,6 @@ use Rattle.std.proofs.Common.{subst}
 use Rattle.bm_arena.specs.Contents.{IsLawful}
 use Rattle.bm_levels.specs.Bare.{HasNoneBare}
 use Rattle.bm_shard.proofs.Bare.{none_outside}
-use Rattle.bm_shard.proofs.LookedUp.{none_looked_up}
 use Rattle.bm_shard.proofs.Same.{same_seen}
 use Rattle.bm_shard.proofs.shard.Shard.abort.Goals as goal
 
@@ -10,7 +9,7 @@ pub invariant_of-self : goal.invariant_of-self
 invariant_of-self c =
     let dropped = c.drop_prepared.ensures in
     let none : HasNoneBare c.drop_prepared.new.blocks.arena = λ b bare. dropped.left b (c.self.invariant.bare b (dropped.bare b bare)) bare in
-    record { index = c.self.invariant.index; ready = λ s e. absurd (none_looked_up s e); fresh = λ s e. absurd (none_looked_up s e); bare = λ b h. absurd (none b h) }
+    record { index = c.self.invariant.index; ready = tt; bare = λ b h. absurd (none b h) }
 
 pub returns-clause-same : goal.returns-clause-same
 returns-clause-same c =

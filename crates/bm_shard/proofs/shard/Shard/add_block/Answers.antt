@@ -10,7 +10,6 @@ use Rattle.bm_shard.proofs.Counts.{same_replicas}
 use Rattle.bm_shard.proofs.Numbers.{has_entry}
 use Rattle.bm_levels.specs.Bare.{HasNoneBare}
 use Rattle.bm_shard.proofs.Bare.{none_outside, bare_by, none_put, same_none}
-use Rattle.bm_shard.proofs.LookedUp.{none_looked_up}
 use Rattle.bm_shard.proofs.shard.Shard.add_block.Goals as goal
 
 pub add_block-requires : goal.add_block-requires
@@ -37,7 +36,7 @@ none : (c : goal.After-lawful-3) → HasNoneBare c.drop_prepared.new.blocks.aren
 none c = λ b bare. c.drop_prepared.ensures.left b (c.self.invariant.bare b (bare_by c.self.inside.blocks.arena c.add_block.new.self.arena c.add_block.ensures.numbers (none_put _ _ c.args.id _ c.add_block.ensures.blocks) (same_none _ _ c.add_block.ensures.replicas) b (c.drop_prepared.ensures.bare b bare))) bare
 
 pub invariant_of-self : goal.invariant_of-self
-invariant_of-self c = record { index = c.self.invariant.index; ready = λ s e. absurd (none_looked_up s e); fresh = λ s e. absurd (none_looked_up s e); bare = λ b h. absurd (none c b h) }
+invariant_of-self c = record { index = c.self.invariant.index; ready = tt; bare = λ b h. absurd (none c b h) }
 
 pub returns-clause-bare : goal.returns-clause-bare
 returns-clause-bare c = none_outside c.drop_prepared.new.blocks c.self.inside.pending.map c.self.inside.part c.self.inside.round c.self.inside.pend _ _ (none c)

@@ -7,7 +7,6 @@ use Rattle.bm_shard.proofs.Changing.{changed_seen}
 use Rattle.bm_shard.proofs.Counts.{none_by_revise}
 use Rattle.bm_levels.specs.Bare.{HasNoneBare}
 use Rattle.bm_shard.proofs.Bare.{none_kept, none_outside}
-use Rattle.bm_shard.proofs.LookedUp.{none_looked_up}
 use Rattle.bm_shard.proofs.shard.Shard.delete_block.Goals as goal
 
 pub returns-clause-changed : goal.returns-clause-changed
@@ -27,7 +26,7 @@ none : (c : goal.After-lawful-3) → HasNoneBare c.delete_block.new.self.arena
 none c = none_kept c.self.inside.blocks c.self.inside.pending.map c.self.inside.part c.self.inside.round c.self.inside.pend _ _ c.delete_block.new.self c.args.self.now c.self.view_is c.requires.none (c.delete_block.ensures.bare)
 
 pub invariant_of-self : goal.invariant_of-self
-invariant_of-self c = record { index = c.self.invariant.index; ready = λ s e. absurd (none_looked_up s e); fresh = λ s e. absurd (none_looked_up s e); bare = λ b h. absurd (none c b h) }
+invariant_of-self c = record { index = c.self.invariant.index; ready = tt; bare = λ b h. absurd (none c b h) }
 
 pub returns-clause-bare : goal.returns-clause-bare
 returns-clause-bare c = none_outside c.delete_block.new.self c.remove_block.new.self.map c.self.inside.part c.self.inside.round c.self.inside.pend _ _ (none c)

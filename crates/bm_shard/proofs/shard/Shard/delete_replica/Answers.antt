@@ -9,7 +9,6 @@ use Rattle.bm_shard.proofs.Counts.{gone_by_remove}
 use Rattle.bm_shard.proofs.OneGone.{one_gone}
 use Rattle.bm_levels.specs.Bare.{HasNoneBare}
 use Rattle.bm_shard.proofs.Bare.{none_kept, none_outside}
-use Rattle.bm_shard.proofs.LookedUp.{none_looked_up}
 use Rattle.bm_shard.proofs.shard.Shard.delete_replica.Goals as goal
 
 pub returns-clause-changed : goal.returns-clause-changed
@@ -30,7 +29,7 @@ none : (c : goal.After-one_if) → HasNoneBare c.remove_replica-is_removed.new.s
 none c = none_kept c.self.inside.blocks c.self.inside.pending.map c.self.inside.part c.self.inside.round c.self.inside.pend _ _ c.remove_replica-is_removed.new.self c.args.self.now c.self.view_is c.requires.none (c.remove_replica-is_removed.ensures.bare)
 
 pub invariant_of-self : goal.invariant_of-self
-invariant_of-self c = record { index = c.self.invariant.index; ready = λ s e. absurd (none_looked_up s e); fresh = λ s e. absurd (none_looked_up s e); bare = λ b h. absurd (none c b h) }
+invariant_of-self c = record { index = c.self.invariant.index; ready = tt; bare = λ b h. absurd (none c b h) }
 
 pub returns-clause-bare : goal.returns-clause-bare
 returns-clause-bare c = none_outside c.remove_replica-is_removed.new.self c.self.inside.pending.map c.self.inside.part c.self.inside.round c.self.inside.pend _ _ (none c)

@@ -9,7 +9,6 @@ use Rattle.bm_shard.proofs.Changing.{changed_seen}
 use Rattle.bm_shard.proofs.Counts.{gone_by_keep}
 use Rattle.bm_levels.specs.Bare.{HasNoneBare}
 use Rattle.bm_shard.proofs.Bare.{none_kept, none_outside}
-use Rattle.bm_shard.proofs.LookedUp.{none_looked_up}
 use Rattle.bm_shard.proofs.Left.{none_listed}
 use Rattle.std.proofs.lemmas.Bool.{eqb-true}
 use Rattle.bm_shard.proofs.shard.Shard.forget_storage.Goals as goal
@@ -33,7 +32,7 @@ none : (c : goal.After-drop_transfers_on) → HasNoneBare c.forget_storage-remov
 none c = none_kept c.self.inside.blocks c.self.inside.pending.map c.self.inside.part c.self.inside.round c.self.inside.pend _ _ c.forget_storage-removed.new.self c.args.self.now c.self.view_is c.requires.none (c.forget_storage-removed.ensures.bare)
 
 pub invariant_of-self : goal.invariant_of-self
-invariant_of-self c = record { index = c.self.invariant.index; ready = λ s e. absurd (none_looked_up s e); fresh = λ s e. absurd (none_looked_up s e); bare = λ b h. absurd (none c b h) }
+invariant_of-self c = record { index = c.self.invariant.index; ready = tt; bare = λ b h. absurd (none c b h) }
 
 pub returns-clause-bare : goal.returns-clause-bare
 returns-clause-bare c = none_outside c.forget_storage-removed.new.self c.drop_transfers_on.new.pending.map c.self.inside.part c.self.inside.round c.self.inside.pend _ _ (none c)

@@ -4,7 +4,6 @@ use Rattle.bm_shard.proofs.Same.{same_seen}
 use Rattle.bm_shard.proofs.Numbers.{entered}
 use Rattle.bm_levels.specs.Bare.{HasNoneBare}
 use Rattle.bm_shard.proofs.Bare.{bare_inside, none_inside, none_outside, none_more, none_prepared, on_err, only_these}
-use Rattle.bm_shard.proofs.LookedUp.{none_looked_up, none_entered}
 use Rattle.std.specs.Prelude.{nat_eq}
 use Rattle.std.proofs.Common.{sym}
 use Rattle.std.proofs.lemmas.Bool.{eqb-false}
@@ -27,7 +26,7 @@ returns-clause-same c =
 pub invariant_of-self : goal.invariant_of-self
 invariant_of-self c =
     let none : HasNoneBare c.ready_block-made.new.self.arena = none_more c.self.inside.blocks.arena c.ready_block-made.new.self.arena (none_inside c.self.inside.blocks c.self.inside.pending.map c.self.inside.part c.self.inside.round c.self.inside.pend _ _ c.args.self.now c.self.view_is c.requires.none) c.in_err-made.ensures.given_up in
-    record { index = c.self.invariant.index; ready = λ s e. absurd (none_looked_up s e); fresh = λ s e. absurd (none_looked_up s e); bare = λ b h. absurd (none b h) }
+    record { index = c.self.invariant.index; ready = tt; bare = λ b h. absurd (none b h) }
 
 pub returns-in_err-made-clause-bare : goal.returns-in_err-made-clause-bare
 returns-in_err-made-clause-bare c = none_prepared _ (λ b. nat_eq c.args.id b) (none_outside c.ready_block-made.new.self c.self.inside.pending.map c.self.inside.part c.self.inside.round c.self.inside.pend _ _ (none_more c.self.inside.blocks.arena c.ready_block-made.new.self.arena (none_inside c.self.inside.blocks c.self.inside.pending.map c.self.inside.part c.self.inside.round c.self.inside.pend _ _ c.args.self.now c.self.view_is c.requires.none) c.in_err-made.ensures.given_up))
@@ -39,4 +38,4 @@ pub returns-clause-bare : goal.returns-clause-bare
 returns-clause-bare c b bare = only_these c.self.inside.blocks.arena c.ready_block-made.new.self.arena (λ b. nat_eq c.args.id b) (none_inside c.self.inside.blocks c.self.inside.pending.map c.self.inside.part c.self.inside.round c.self.inside.pend _ _ c.args.self.now c.self.view_is c.requires.none) (bare_beside c.self.inside.blocks.arena c.ready_block-made.new.self.arena (λ b. nat_eq c.args.id b) c.ready_block-made.ensures.blocks c.ready_block-made.ensures.replicas (λ b e. c.ready_block-made.ensures.others b (λ same. eqb-false c.args.id b e (sym same)))) b (bare_inside c.ready_block-made.new.self c.self.inside.pending.map c.self.inside.part c.self.inside.round c.self.inside.pend _ _ b bare)
 
 pub invariant_of-self-2 : goal.invariant_of-self-2
-invariant_of-self-2 c = record { index = c.self.invariant.index; ready = λ s e. absurd (none_entered s e); fresh = λ s e. absurd (none_entered s e); bare = only_these c.self.inside.blocks.arena c.ready_block-made.new.self.arena (λ b. nat_eq c.args.id b) (none_inside c.self.inside.blocks c.self.inside.pending.map c.self.inside.part c.self.inside.round c.self.inside.pend _ _ c.args.self.now c.self.view_is c.requires.none) (bare_beside c.self.inside.blocks.arena c.ready_block-made.new.self.arena (λ b. nat_eq c.args.id b) c.ready_block-made.ensures.blocks c.ready_block-made.ensures.replicas (λ b e. c.ready_block-made.ensures.others b (λ same. eqb-false c.args.id b e (sym same)))) }
+invariant_of-self-2 c = record { index = c.self.invariant.index; ready = tt; bare = only_these c.self.inside.blocks.arena c.ready_block-made.new.self.arena (λ b. nat_eq c.args.id b) (none_inside c.self.inside.blocks c.self.inside.pending.map c.self.inside.part c.self.inside.round c.self.inside.pend _ _ c.args.self.now c.self.view_is c.requires.none) (bare_beside c.self.inside.blocks.arena c.ready_block-made.new.self.arena (λ b. nat_eq c.args.id b) c.ready_block-made.ensures.blocks c.ready_block-made.ensures.replicas (λ b e. c.ready_block-made.ensures.others b (λ same. eqb-false c.args.id b e (sym same)))) }

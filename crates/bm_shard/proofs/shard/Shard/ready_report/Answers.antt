@@ -3,12 +3,10 @@ use Rattle.bm_arena.specs.Contents.{IsLawful}
 use Rattle.bm_shard.proofs.Same.{same_seen}
 use Rattle.bm_levels.specs.Bare.{HasNoneBare}
 use Rattle.bm_shard.proofs.Bare.{bare_inside, none_inside, none_outside, none_more, none_prepared, on_err, only_these}
-use Rattle.bm_shard.proofs.LookedUp.{none_looked_up, same_report}
-use Rattle.std.proofs.Common.{ℕ, List, sym}
+use Rattle.std.proofs.Common.{List, sym}
 use Rattle.std.specs.Prelude.{IsTrue}
 use Rattle.bm_base.specs.Entries.{Told}
 use Rattle.bm_base.specs.Events.{is_named}
-use Rattle.bm_report.specs.Ready.{IsReady}
 use Rattle.bm_report.specs.Expanded.{told_to}
 use Rattle.bm_shard.proofs.shard.Shard.ready_report.Goals as goal
 
@@ -25,7 +23,7 @@ returns-clause-same c =
 pub invariant_of-self : goal.invariant_of-self
 invariant_of-self c =
     let none : HasNoneBare c.ready_report-made.new.self.arena = none_more c.self.inside.blocks.arena c.ready_report-made.new.self.arena (none_inside c.self.inside.blocks c.self.inside.pending.map c.self.inside.part c.self.inside.round c.self.inside.pend _ _ c.args.self.now c.self.view_is c.requires.none) c.in_err-made.ensures.given_up in
-    record { index = c.self.invariant.index; ready = λ s e. absurd (none_looked_up s e); fresh = λ s e. absurd (none_looked_up s e); bare = λ b h. absurd (none b h) }
+    record { index = c.self.invariant.index; ready = tt; bare = λ b h. absurd (none b h) }
 
 pub returns-in_err-made-clause-bare : goal.returns-in_err-made-clause-bare
 returns-in_err-made-clause-bare c = none_prepared _ (is_named (told_to c.args.part c.args.entries.now)) (none_outside c.ready_report-made.new.self c.self.inside.pending.map c.self.inside.part c.self.inside.round c.self.inside.pend _ _ (none_more c.self.inside.blocks.arena c.ready_report-made.new.self.arena (none_inside c.self.inside.blocks c.self.inside.pending.map c.self.inside.part c.self.inside.round c.self.inside.pend _ _ c.args.self.now c.self.view_is c.requires.none) c.in_err-made.ensures.given_up))
@@ -41,7 +39,6 @@ invariant_of-self-2 c =
     let told_is = c.in_ok-made.ensures.told in
     record {
       index = c.self.invariant.index;
-      ready = λ s e. let P : ℕ → Type 0 = λ x. IsReady c.ready_report-made.new.report c.ready_report-made.new.self.arena x in subst P (same_report s e) c.in_ok-made.ensures.ready;
-      fresh = λ s e. c.in_ok-made.ensures.fresh;
+      ready = (c.in_ok-made.ensures.ready, c.in_ok-made.ensures.fresh);
       bare = λ b h. let P : List Told → Type 0 = λ ts. IsTrue (is_named ts b) in subst P (sym told_is) (only_these c.self.inside.blocks.arena c.ready_report-made.new.self.arena (is_named (told_to c.args.part c.args.entries.now)) (none_inside c.self.inside.blocks c.self.inside.pending.map c.self.inside.part c.self.inside.round c.self.inside.pend _ _ c.args.self.now c.self.view_is c.requires.none) (c.ready_report-made.ensures.bare) b h);
     }

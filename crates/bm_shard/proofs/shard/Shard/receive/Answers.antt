@@ -8,15 +8,17 @@ use Rattle.bm_report.specs.Midway.{IsOncePerNode}
 use Rattle.bm_levels.specs.Held.{holdings_with}
 use Rattle.bm_shard.specs.Seen.{Seen}
 use Rattle.bm_shard.proofs.Changing.{changed_seen}
-use Rattle.bm_shard.proofs.LookedUp.{looked_up}
+use Rattle.bm_shard.specs.declared.shard.Prepared.{Prepared}
+use Rattle.bm_shard.specs.Inside.{HasPrepared}
+use Rattle.bm_shard.proofs.LookedUp.{noticed}
 use Rattle.bm_levels.specs.Bare.{HasNoneBare}
 use Rattle.bm_shard.proofs.Bare.{none_outside, none_received, prepared_one}
-use Rattle.bm_shard.proofs.LookedUp.{none_looked_up}
 use Rattle.bm_shard.proofs.shard.Shard.receive.Goals as goal
 
-pub receive-applied-requires-clause-ready : goal.receive-applied-requires-clause-ready
-receive-applied-requires-clause-ready c =
-    c.self.invariant.ready c.args.storage (looked_up c.self.inside.report c.self.inside.prepared c.args.storage _ (ap (λ (S : Seen). S.room.report) c.self.view_is ∙ c.requires.ready)).0
+pub receive-applied-requires-clause-looked_up : goal.receive-applied-requires-clause-looked_up
+receive-applied-requires-clause-looked_up c =
+    let P : Prepared → Type 0 = λ p. HasPrepared p c.self.inside.report c.self.inside.blocks.arena in
+    subst P (noticed c.self.inside.report c.self.inside.prepared c.args.storage _ (ap (λ (S : Seen). S.room.report) c.self.view_is ∙ c.requires.ready)).0 c.self.invariant.ready
 
 pub receive-applied-requires-clause-once : goal.receive-applied-requires-clause-once
 unfolding holdings_with
@@ -39,10 +41,12 @@ returns-clause-changed c =
     })
 
 none : (c : goal.After-done_of) → HasNoneBare c.receive-applied.new.self.arena
-none c = none_received c.args.topology.now.cluster (holdings_of c.self.inside.blocks.arena) c.self.inside.blocks.arena c.receive-applied.new.self.arena c.args.storage c.args.id c.args.stamp (subst (λ a. IsLawful a) c.arena.ensures c.lawful-2.ensures) c.receive-applied.ensures.received.entries.ids c.receive-applied.ensures.received.others c.receive-applied.ensures.received.replicas (λ n h. prepared_one c.self.inside.prepared c.self.inside.report c.args.storage c.args.id c.args.stamp n (looked_up c.self.inside.report c.self.inside.prepared c.args.storage _ (ap (λ (S : Seen). S.room.report) c.self.view_is ∙ c.requires.ready)).0 (looked_up c.self.inside.report c.self.inside.prepared c.args.storage _ (ap (λ (S : Seen). S.room.report) c.self.view_is ∙ c.requires.ready)).1 (c.self.invariant.bare n h))
+none c =
+    let notice = noticed c.self.inside.report c.self.inside.prepared c.args.storage _ (ap (λ (S : Seen). S.room.report) c.self.view_is ∙ c.requires.ready) in
+    none_received c.args.topology.now.cluster (holdings_of c.self.inside.blocks.arena) c.self.inside.blocks.arena c.receive-applied.new.self.arena c.args.storage c.args.id c.args.stamp (subst (λ a. IsLawful a) c.arena.ensures c.lawful-2.ensures) c.receive-applied.ensures.received.entries.ids c.receive-applied.ensures.received.others c.receive-applied.ensures.received.replicas (λ n h. prepared_one c.self.inside.prepared c.self.inside.report c.args.storage c.args.id c.args.stamp n notice.0 notice.1 (c.self.invariant.bare n h))
 
 pub invariant_of-self : goal.invariant_of-self
-invariant_of-self c = record { index = c.self.invariant.index; ready = λ s e. absurd (none_looked_up s e); fresh = λ s e. absurd (none_looked_up s e); bare = λ b h. absurd (none c b h) }
+invariant_of-self c = record { index = c.self.invariant.index; ready = tt; bare = λ b h. absurd (none c b h) }
 
 pub returns-clause-bare : goal.returns-clause-bare
 returns-clause-bare c = none_outside c.receive-applied.new.self c.remove.new.self.map c.self.inside.part c.self.inside.round c.self.inside.pend _ _ (none c)

@@ -10,7 +10,6 @@ use Rattle.bm_shard.proofs.Counts.{same_replicas}
 use Rattle.bm_shard.proofs.Registering.{same_beside}
 use Rattle.bm_levels.specs.Bare.{HasNoneBare}
 use Rattle.bm_shard.proofs.Bare.{none_kept, none_outside, same_bare}
-use Rattle.bm_shard.proofs.LookedUp.{none_looked_up}
 use Rattle.bm_shard.proofs.shard.Shard.register.Goals as goal
 
 pub returns-clause-changed : goal.returns-clause-changed
@@ -31,7 +30,7 @@ none : (c : goal.After-lawful-4) → HasNoneBare c.judge_for_racks.new.self.aren
 none c = none_kept c.self.inside.blocks c.self.inside.pending.map c.self.inside.part c.self.inside.round c.self.inside.pend _ _ c.judge_for_racks.new.self c.args.self.now c.self.view_is c.requires.none (same_bare c.self.inside.blocks.arena c.judge_for_racks.new.self.arena c.judge_for_racks.ensures.arena)
 
 pub invariant_of-self : goal.invariant_of-self
-invariant_of-self c = record { index = c.self.invariant.index; ready = λ s e. absurd (none_looked_up s e); fresh = λ s e. absurd (none_looked_up s e); bare = λ b h. absurd (none c b h) }
+invariant_of-self c = record { index = c.self.invariant.index; ready = tt; bare = λ b h. absurd (none c b h) }
 
 pub returns-clause-bare : goal.returns-clause-bare
 returns-clause-bare c = none_outside c.judge_for_racks.new.self c.self.inside.pending.map c.self.inside.part c.self.inside.round c.self.inside.pend _ _ (none c)

@@ -7,7 +7,6 @@ use Rattle.bm_shard.proofs.Changing.{changed_seen}
 use Rattle.bm_shard.proofs.Transfers.{turned, nothing_came}
 use Rattle.bm_levels.specs.Bare.{HasNoneBare}
 use Rattle.bm_shard.proofs.Bare.{none_kept, none_outside, same_bare}
-use Rattle.bm_shard.proofs.LookedUp.{none_looked_up}
 use Rattle.bm_shard.proofs.shard.Shard.set_draining.Goals as goal
 
 pub returns-clause-changed : goal.returns-clause-changed
@@ -28,7 +27,7 @@ none : (c : goal.After-drop_drained_transfers) → HasNoneBare c.set_draining.ne
 none c = none_kept c.self.inside.blocks c.self.inside.pending.map c.self.inside.part c.self.inside.round c.self.inside.pend _ _ c.set_draining.new.self c.args.self.now c.self.view_is c.requires.none (same_bare c.self.inside.blocks.arena c.set_draining.new.self.arena c.set_draining.ensures.arena)
 
 pub invariant_of-self : goal.invariant_of-self
-invariant_of-self c = record { index = c.self.invariant.index; ready = λ s e. absurd (none_looked_up s e); fresh = λ s e. absurd (none_looked_up s e); bare = λ b h. absurd (none c b h) }
+invariant_of-self c = record { index = c.self.invariant.index; ready = tt; bare = λ b h. absurd (none c b h) }
 
 pub returns-clause-bare : goal.returns-clause-bare
 returns-clause-bare c = none_outside c.set_draining.new.self c.drop_drained_transfers.new.pending.map c.self.inside.part c.self.inside.round c.self.inside.pend _ _ (none c)

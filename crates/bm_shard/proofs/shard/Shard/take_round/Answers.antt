@@ -14,7 +14,6 @@ use Rattle.bm_shard.proofs.AfterRound.{same_surplus, on_part}
 use Rattle.bm_levels.specs.Bare.{HasNoneBare}
 use Rattle.bm_arena.specs.Holding.{holdings_of}
 use Rattle.bm_shard.proofs.Bare.{bare_by, same_none, none_revised, none_marked, none_kept, none_outside}
-use Rattle.bm_shard.proofs.LookedUp.{none_looked_up}
 use Rattle.bm_shard.proofs.shard.Shard.take_round.Goals as goal
 
 pub mark_excess_anew-requires : goal.mark_excess_anew-requires
@@ -71,7 +70,7 @@ unfolding holdings_of
 none c = none_kept c.self.inside.blocks c.self.inside.pending.map c.self.inside.part c.self.inside.round c.self.inside.pend _ _ c.mark_ordered.new.self c.args.self.now c.self.view_is c.requires.none (λ b bare. bare_by c.self.inside.blocks.arena c.mark_excess_anew.new.self.arena c.mark_excess_anew.ensures.numbers (same_none _ _ c.mark_excess_anew.ensures.blocks) (none_marked c.args.topology.now.cluster (holdings_of c.self.inside.blocks.arena) _ c.mark_excess_anew.ensures.replicas) b (bare_by c.mark_excess_anew.new.self.arena c.mark_ordered.new.self.arena c.mark_ordered.ensures.numbers (same_none _ _ c.mark_ordered.ensures.blocks) (none_revised _ _ _ c.mark_ordered.ensures.replicas) b bare))
 
 pub invariant_of-self : goal.invariant_of-self
-invariant_of-self c = record { index = c.self.invariant.index; ready = λ s e. absurd (none_looked_up s e); fresh = λ s e. absurd (none_looked_up s e); bare = λ b h. absurd (none c b h) }
+invariant_of-self c = record { index = c.self.invariant.index; ready = tt; bare = λ b h. absurd (none c b h) }
 
 pub returns-clause-bare : goal.returns-clause-bare
 returns-clause-bare c = none_outside c.mark_ordered.new.self c.drop_empty_rooms.new.self.map c.self.inside.part _ c.self.inside.pend _ _ (none c)
