@@ -78,6 +78,14 @@ module _ {X : Type 0} (f : ℕ → X) where
         get-table (keys m) q ∙ sym (get-of_sorted by_number (listed f (keys m)) q sorted ∙ find-listed (keys m) q)) in
         ap entries same ∙ entries-of_sorted by_number (listed f (keys m)) sorted
 
+-- a value that is there already
+pub same_inserted : {X : Type 0} (m : Map by_number X) (k : ℕ) (v : X) → get m k ≡ Some v → m ≡ insert m k v
+same_inserted m k v is = same_map m (insert m k v) (λ q. by q (eq_by_cmp nat_cmp q k) refl ∙ sym (get-insert m k v q))
+  where
+    by : (q : ℕ) (b : Bool) → eq_by_cmp nat_cmp q k ≡ b → get m q ≡ cond b (Some v) (get m q)
+    by q true e = ap (get m) (eqb-true q k (sym (number_tie q k) ∙ e)) ∙ is
+    by q false e = refl
+
 -- a number is among the keys just where the map has it
 has-bare : {Y : Type 0} (es : List (ℕ × Y)) (q : ℕ) → has (map (λ e. e.0) es) q ≡ is_some (find nat_cmp q es)
 has-bare [] q = refl

@@ -40,7 +40,9 @@ fn enter(firsts: &mut NumberMap<Target>, target: &Target) -> Result<(), AllocErr
     let Some(node) = target.node else {
         return Ok(());
     };
-    match firsts.get(u64::from(node.0)) {
+    // The storages of a node mostly have adjacent numbers: so its entry is mostly the last one.
+    let last = firsts.len().wrapping_sub(1);
+    match firsts.get_near(u64::from(node.0), last) {
         Some(first) if !goes_before(target, &first) => Ok(()),
         _ => firsts.insert(u64::from(node.0), *target),
     }

@@ -1,5 +1,6 @@
 // Of how many transfers each node is the source in a round.
-ghost use Rattle.std.specs.Prelude.{◌≡◌, ◌<◌, ◌+◌, if◌then◌else◌, ℕ, List, [], ◌∷◌, ◌++◌, IfOk, IfErr};
+ghost use Rattle.std.specs.Prelude.{◌≡◌, ◌<◌, ◌+◌, if◌then◌else◌, ℕ, List, [], ◌∷◌, ◌++◌, Some, IfOk, IfErr, OnOk};
+ghost use Rattle.std.specs.Option.{IfSome};
 ghost use Rattle.bm_base.specs.declared.refusal.Refusal.TheVariants.{Memory};
 ghost use Rattle.bm_base.specs.declared.commands.Transfer.{Transfer};
 ghost use Rattle.bm_base.specs.State.{Cluster};
@@ -12,7 +13,7 @@ ghost use Rattle.bm_place.specs.Tables as tables;
 
 use bm_base::{NodeId, NumberMap, Refusal, StorageId};
 use bm_topo::Topology;
-use std::alloc::Global;
+use std::alloc::{AllocError, Global};
 use std::marker::Model;
 
 /// Of how many transfers each node is the source in a round.
@@ -44,14 +45,17 @@ impl Streams {
         ensures refused { IfErr result (λ e. e ≡ Memory) }
     {
         let mut nodes = NumberMap::new(alloc);
+        nodes.reserve(topology.storage_count() as usize)?;
         let mut counts = NumberMap::new(alloc);
+        let mut last = None;
         for place in 0..topology.storage_count() {
             let Some(storage) = topology.storage_at(place) else {
                 return Ok(Streams { nodes, counts });
             };
             let node = node_number(topology, storage);
             nodes.insert(u64::from(storage.0), node)?;
-            counts.insert(u64::from(node.0), 0)?;
+            enter(&mut counts, node, last)?;
+            last = Some(node);
         }
         Ok(Streams { nodes, counts })
     }
@@ -82,6 +86,19 @@ impl Streams {
             Some(count) => count,
             None => 0,
         }
+    }
+}
+
+/// Enters a node that is the source of no transfer. `last` is the node that was entered last, if there
+/// is one: the storages of a node mostly have adjacent numbers.
+#[tactic(auto, using(crate::proofs::Tables::same_inserted))]
+fn enter(counts: &mut NumberMap<u32>, node: NodeId, last: Option<NodeId>) -> Result<(), AllocError>
+    requires { IfSome last (λ n. map.get counts.old.map n ≡ Some 0) }
+    ensures { OnOk result (counts.new.map ≡ map.insert counts.old.map node 0) }
+{
+    match last {
+        Some(entered) if entered == node => Ok(()),
+        _ => counts.insert(u64::from(node.0), 0),
     }
 }
 

@@ -1,5 +1,6 @@
 use Rattle.std.proofs.Common.{refl, ap, sym, map, ◌∙◌, arith}
-use Rattle.bm_base.specs.Map.{keys, insert_all}
+use Rattle.bm_base.specs.Map.{get, keys, insert_all}
+use Rattle.bm_base.proofs.Maps.{get_here}
 use Rattle.bm_base.specs.Transfers.{node_number}
 use Rattle.bm_place.specs.Tables.{table, listed}
 use Rattle.bm_place.specs.Sources.{sender_table, transfers_by}
@@ -11,7 +12,8 @@ unfolding table
 loop-place-init c =
     let C = c.args.topology.now.cluster in
     record {
-      nodes = ap (λ m. insert_all m (listed (node_number C) (keys C.storages))) c.new-nodes.ensures.empty;
+      nodes = ap (λ m. insert_all m (listed (node_number C) (keys C.storages))) (c.reserve.ensures.same ∙ c.new-nodes.ensures.empty);
+      last = tt;
       counts = ap (λ m. insert_all m (listed (λ _. 0) (map (node_number C) (keys C.storages)))) c.new-counts.ensures.empty;
     }
 
@@ -22,8 +24,9 @@ loop-place-preserved c =
     record {
       nodes = row_made (node_number C) (keys C.storages) c.loop-place.place (sender_table C (λ _. 0)).nodes c.loop-place.nodes.map c.insert.new.self.map c.in-Some.storage c.from.result c.node_number-node.result
           at (c.from.ensures ∙ c.storage.view_is) c.node_number-node.ensures c.in_ok-insert.ensures.ok c.loop-place.invariant.nodes;
-      counts = row_made_of (λ _. 0) (keys C.storages) c.loop-place.place (sender_table C (λ _. 0)).counts (node_number C) c.loop-place.counts.map c.insert-in-loop-place.new.self.map c.in-Some.storage c.from-in-loop-place.result 0
-          at (c.from-in-loop-place.ensures ∙ c.node.view_is ∙ c.node_number-node.ensures) refl c.in_ok-insert-2.ensures.ok c.loop-place.invariant.counts;
+      counts = row_made_of (λ _. 0) (keys C.storages) c.loop-place.place (sender_table C (λ _. 0)).counts (node_number C) c.loop-place.counts.map c.enter.new.counts.map c.in-Some.storage c.node_number-node.result 0
+          at c.node_number-node.ensures refl c.in_ok-enter.ensures c.loop-place.invariant.counts;
+      last = ap (λ m. get m c.node_number-node.result) c.in_ok-enter.ensures ∙ get_here c.loop-place.counts.map c.node_number-node.result 0;
     }
 
 pub returns-in_default-clause-none_yet : goal.returns-in_default-clause-none_yet

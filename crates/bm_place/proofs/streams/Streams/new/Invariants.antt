@@ -1,5 +1,6 @@
-use Rattle.std.proofs.Common.{◌≡◌, drop, map}
-use Rattle.bm_base.specs.Map.{insert_all, keys}
+use Rattle.std.proofs.Common.{◌≡◌, Some, drop, map}
+use Rattle.std.specs.Option.{IfSome}
+use Rattle.bm_base.specs.Map.{get, insert_all, keys}
 use Rattle.bm_base.specs.Transfers.{node_number}
 use Rattle.bm_place.specs.Tables.{listed}
 use Rattle.bm_place.specs.Sources.{sender_table}
@@ -11,5 +12,6 @@ invariant-loop-place l =
     let C = l.topology.cluster in
     record {
       nodes : insert_all l.nodes.map (listed (node_number C) (drop l.place (keys C.storages))) ≡ (sender_table C (λ _. 0)).nodes;
+      last : IfSome l.last (λ n. get l.counts.map n ≡ Some 0);
       counts : insert_all l.counts.map (listed (λ _. 0) (map (node_number C) (drop l.place (keys C.storages)))) ≡ (sender_table C (λ _. 0)).counts;
     }
