@@ -80,9 +80,10 @@ class Pipe:
         words = [word for name, value in options.items() for word in (f"--{name}", str(value))]
         self.errors = tempfile.TemporaryFile()
         try:
+            # In a session of its own, so that Ctrl-C does not end it before its user.
             self.child = subprocess.Popen(
                 [tool, *words], bufsize=0, stdin=subprocess.PIPE, stdout=subprocess.PIPE,
-                stderr=self.errors,
+                stderr=self.errors, start_new_session=True,
             )
         except OSError as error:
             raise Fault(f"the tool cannot be started: {error}") from None

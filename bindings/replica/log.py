@@ -50,7 +50,10 @@ def numbered(prefix, number):
 
 
 def number_of(key):
-    return int(key.rsplit("/", 1)[1][:16])
+    try:
+        return int(key.rsplit("/", 1)[1][:16])
+    except ValueError:
+        raise Stop(f"a key that has no number: {key}") from None
 
 
 def with_header(header, text):
@@ -88,7 +91,7 @@ def batch_of(value):
         batch = Batch(
             header["writer"], header["count"], text, header.get("part", 0), header.get("parts", 0)
         )
-    except (ValueError, KeyError, TypeError, AttributeError):
+    except (ValueError, KeyError, TypeError, AttributeError, RecursionError):
         return None
     numbers = (batch.writer, batch.count, batch.part, batch.parts)
     if any(type(number) is not int or number < 0 for number in numbers):

@@ -17,7 +17,7 @@ Range = namedtuple("Range", "entries more revision")
 # `certain` is false where the transaction was sent more than once: one of these may have succeeded.
 Outcome = namedtuple("Outcome", "succeeded ranges revision certain")
 
-# Seconds for one answer, and without any server.
+# Seconds to wait for one server, and for any.
 ANSWER, PATIENCE = 3, 10
 SPACE = "mvcc: database space exceeded"
 
@@ -106,10 +106,10 @@ def modified(key, revision):
 
 
 class Store:
-    """A client, for one thread. `answer` is for how many seconds it waits for a server."""
+    """A client, for one thread. It waits for one server `answer` seconds, for any `patience`."""
 
-    def __init__(self, servers, answer=ANSWER):
-        self.answer = answer
+    def __init__(self, servers, answer=ANSWER, patience=PATIENCE):
+        self.answer, self.patience = answer, patience
         self.servers = [urlsplit(server).netloc or server for server in servers]
         self.at = 0
         self.connection = None
@@ -117,7 +117,7 @@ class Store:
     def call(self, path, body):
         """The answer of the first server that gives one, and whether the request was sent once."""
         data = json.dumps(body).encode()
-        until = time.monotonic() + PATIENCE
+        until = time.monotonic() + self.patience
         tries = 0
         while True:
             tries += 1

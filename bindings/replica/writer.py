@@ -89,19 +89,15 @@ class Writer:
         self.appended += block.count(b"\n")
 
     def answers(self):
-        """Yields the answers of this session in order, in pieces; None where none comes."""
+        """Yields the answers of this session in order, in pieces; None at times."""
         parts = deque()
         revision = self.revision
         while True:
             try:
                 for entry in follow(self.answers_store, self.keys.answers, revision, say=self.say):
-                    if entry is None:
+                    header, text = headed(entry.value) if entry and entry.value else ({}, b"")
+                    if header.get("writer") != self.number:
                         yield None
-                        continue
-                    if entry.value is None:
-                        continue
-                    header, text = headed(entry.value)
-                    if header["writer"] != self.number:
                         continue
                     if header["count"] > self.answered:
                         raise StoreError(f"the answers from line {self.answered + 1} to line "
