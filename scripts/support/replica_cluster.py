@@ -327,5 +327,21 @@ def lines_of(count, seed, base=0):
     return lines[:count]
 
 
+def feed(writer, lines, seconds):
+    """Writes lines in small pieces, evenly over some seconds."""
+    pieces = [b"".join(lines[at : at + 50]) for at in range(0, len(lines), 50)]
+    start = time.monotonic()
+    for number, piece in enumerate(pieces):
+        time.sleep(max(0, start + seconds * number / len(pieces) - time.monotonic()))
+        writer.child.stdin.write(piece)
+        writer.child.stdin.flush()
+    writer.child.stdin.close()
+
+
+def session_of(writer):
+    """The number of a writer's session."""
+    return int(writer.told().split("session ")[1].split()[0])
+
+
 def etcd_is_there():
     return shutil.which("etcd") is not None
