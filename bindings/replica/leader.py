@@ -30,7 +30,7 @@ class Leadership:
     def __init__(self, replica, name, servers, lease, interval, keep):
         self.replica, self.name, self.keys, self.say = replica, name, replica.keys, replica.say
         self.servers = servers
-        self.store, self.publishing = Store(servers, lease / 3), Store(servers)
+        self.store, self.publishing = Store(servers, max(1, lease / 3)), Store(servers)
         self.seconds, self.interval, self.keep = lease, interval, keep
         self.lease = None
         # When this replica's key as the leader was created; 0 if it does not lead.

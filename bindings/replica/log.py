@@ -185,20 +185,20 @@ MANY, FEW = 128, 16
 
 def follow(store, prefix, revision=0, say=print):
     """Yields the entries below a prefix, first those that are there by their keys, then those that
-    come; None after each second without any. With a revision only those that come after it."""
-    if not revision:
-        start, more, limit = prefix, True, FEW
-        while more:
-            found = store.range(start, after(prefix), limit=limit)
-            yield from found.entries
-            more, revision = found.more, found.revision
-            if more:
-                start = found.entries[-1].key + "\0"
-                size = sum(len(entry.value) for entry in found.entries)
-                limit = MANY if size < BATCH else FEW
+    come; None after each second without any. With a revision only those that come after it.
+    While etcd does not answer it goes on trying."""
+    start, more, limit = prefix, not revision, FEW
     away = False
     while True:
         try:
+            while more:
+                found = store.range(start, after(prefix), limit=limit)
+                yield from found.entries
+                more, revision = found.more, found.revision
+                if more:
+                    start = found.entries[-1].key + "\0"
+                    size = sum(len(entry.value) for entry in found.entries)
+                    limit = MANY if size < BATCH else FEW
             for changes in store.watch(prefix, after(prefix), revision + 1):
                 if away:
                     away = False
@@ -242,10 +242,11 @@ def read(store, keys, say=print):
             yield None
             continue
         number = number_of(entry.key)
-        if entry.modified <= newest:
+        old = entry.modified <= newest
+        if old and number <= index:
             # Delivered again after the connection was lost.
             continue
-        if number <= index or entry.value is None or entry.version != 1:
+        if old or number <= index or entry.value is None or entry.version != 1:
             raise Stop(f"log key {number} was changed after it was written")
         if number != index + 1:
             raise Stop(f"a gap in the log: key {index + 1} is missing before {number}")

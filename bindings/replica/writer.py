@@ -72,8 +72,13 @@ class Writer:
     def __init__(self, servers, keys, say, number=None):
         self.keys, self.say = keys, say
         self.store, self.answers_store = Store(servers), Store(servers)
-        self.again = number is not None
-        self.number, self.revision = (number, 0) if self.again else new_writer(self.store, keys)
+        if number is None:
+            self.number, self.revision = new_writer(self.store, keys)
+        else:
+            newest = self.store.value(keys.writers)
+            if not newest or not 0 < number <= int(newest.value):
+                raise StoreError(f"there is no session {number}")
+            self.number, self.revision = number, 0
         self.appended = self.answered = 0
         self.last = last_index(self.store, keys)[0]
 

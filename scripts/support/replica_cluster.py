@@ -177,6 +177,10 @@ class Manager:
         want(told.returncode == 0, f"no status: {told.stderr.decode()}")
         return json.loads(told.stdout)
 
+    def all_is_answered(self):
+        status = self.status()
+        return status["answered"] == status["log"]
+
     def has_stopped(self, name, why):
         """The replica has ended with status 1 and a reason that has these words."""
         process = self.processes[name]
@@ -190,7 +194,7 @@ class Manager:
         for process in self.processes.values():
             process.ended()
         last = self.replica("last", "--interval", "0")
-        wait_for("all is answered", lambda: self.status()["answered"] == self.status()["log"])
+        wait_for("all is answered", self.all_is_answered, 60)
         last.send(signal.SIGTERM)
         want(last.ended() == 0, f"the last replica failed: {last.told()[-300:]}")
 
