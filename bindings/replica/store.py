@@ -127,7 +127,8 @@ class Store:
                 why = away
                 self.leave()
             if time.monotonic() > until:
-                raise Unreachable(f"no server of etcd answers, the last one because of: {why}")
+                raise Unreachable(f"no server of etcd answers, the last one because of {why} "
+                                  "(a server whose disk is full has ended, says its log)")
             if tries % len(self.servers) == 0:
                 time.sleep(0.1)
 
