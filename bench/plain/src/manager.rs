@@ -24,6 +24,9 @@ impl Default for Limits {
     }
 }
 
+/// How many blocks are read ahead, so that their cache misses overlap.
+pub const AHEAD: usize = 64;
+
 /// How many replicas an event added and removed.
 #[derive(Clone, Copy, Default)]
 pub struct Done {
@@ -55,7 +58,7 @@ pub struct Manager<F: Form> {
     pub pending: Map<u32, Few<(u16, u64)>>,
     pub awaited: VecDeque<Awaited>,
     pub round: u64,
-    /// What reports read ahead: kept, so that the compiler keeps the reads.
+    /// What was read ahead: kept, so that the compiler keeps the reads.
     pub touched: u64,
 }
 
@@ -110,9 +113,14 @@ impl<F: Form> Manager<F> {
     fn remove_storage(&mut self, seat: u16) -> u64 {
         let listed = F::all(&self.blocks, &self.lists[seat as usize], seat);
         self.lists[seat as usize] = Default::default();
-        for &index in &listed {
-            self.drop_replica(index, seat);
-            self.settle_or_drop(index);
+        for chunk in listed.chunks(AHEAD) {
+            for &index in chunk {
+                self.touched ^= self.blocks[index as usize].id;
+            }
+            for &index in chunk {
+                self.drop_replica(index, seat);
+                self.settle_or_drop(index);
+            }
         }
         self.cancel_transfers_to(&[seat]);
         self.cluster.remove_storage(seat);

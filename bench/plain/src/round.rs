@@ -3,7 +3,7 @@
 use crate::block::{Few, Stamp, EXCESS, ORDERED};
 use crate::cluster::{Map, Seat};
 use crate::lists::Form;
-use crate::manager::{Awaited, Manager};
+use crate::manager::{Awaited, Manager, AHEAD};
 use std::cmp::Reverse;
 use std::collections::BTreeMap;
 
@@ -45,6 +45,12 @@ struct Choice {
     targets: Vec<Target>,
     /// The transfers that each node sends.
     sent: Map<u32, u8>,
+}
+
+impl Choice {
+    fn is_full(&self) -> bool {
+        self.chosen.len() >= self.most
+    }
 }
 
 /// A wish for one copy of a block.
@@ -148,7 +154,7 @@ impl<F: Form> Manager<F> {
         }
     }
 
-    fn choose_transfers(&self) -> Vec<Chosen> {
+    fn choose_transfers(&mut self) -> Vec<Chosen> {
         let most = self.limits.work * self.cluster.nodes.len();
         let mut choice = Choice {
             most,
@@ -160,10 +166,10 @@ impl<F: Form> Manager<F> {
             return choice.chosen;
         }
         choice.targets = self.targets();
-        for (level, queue) in self.queues.iter().enumerate() {
-            let mut queue = queue.clone();
+        for level in 0..self.queues.len() {
+            let mut queue = self.queues[level].clone();
             let mut later = &mut queue[..];
-            while !later.is_empty() && choice.chosen.len() < most {
+            while !later.is_empty() && !choice.is_full() {
                 // Only as many are sorted as are likely to be needed.
                 let count = later.len().min(2 * (most - choice.chosen.len()) + 64);
                 if count < later.len() {
@@ -171,8 +177,13 @@ impl<F: Form> Manager<F> {
                 }
                 let (first, rest) = later.split_at_mut(count);
                 first.sort_unstable();
-                for (_, index) in first.iter() {
-                    self.choose_copies(level, *index, &mut choice);
+                for chunk in first.chunks(AHEAD) {
+                    for (_, index) in chunk {
+                        self.touched ^= self.blocks[*index as usize].id;
+                    }
+                    for (_, index) in chunk {
+                        self.choose_copies(level, *index, &mut choice);
+                    }
                 }
                 later = rest;
             }
@@ -196,9 +207,12 @@ impl<F: Form> Manager<F> {
 
     /// Chooses transfers of one block until a copy has no source or no target.
     fn choose_copies(&self, level: usize, index: u32, choice: &mut Choice) {
+        if choice.is_full() {
+            return;
+        }
         let (mut wish, copies) = self.wish(level, index);
         for _ in 0..copies {
-            if choice.chosen.len() >= choice.most || self.choose(&mut wish, choice).is_none() {
+            if choice.is_full() || self.choose(&mut wish, choice).is_none() {
                 return;
             }
         }
