@@ -41,13 +41,6 @@ def block_that_begins(page, start):
     return found[0]
 
 
-def stands_in(told, path):
-    """What a page prints of a file's code stands there once, but for how its lines are broken."""
-    words, code = told.split(), path.read_text().split()
-    places = [at for at in range(len(code)) if code[at : at + len(words)] == words]
-    want(len(places) == 1, f"it stands {len(places)} times in {path.name}")
-
-
 class Report:
     """A line for each check, and the count of both kinds at the end."""
 

@@ -1,0 +1,237 @@
+"""The leader: one replica at a time holds a lease of etcd, and writes the output of all.
+
+Its key exists as long as the lease, and every transaction of a leader compares when that key was
+created. So a deposed leader can write nothing, however late it notices: no clock takes part. Each
+transaction also moves `done`, the position up to which the output is written: so every value is
+written once, and a new leader goes on where the old one ended."""
+
+import json
+import threading
+import time
+
+from log import LEADER, Batch, Deposed, Stop, append, number_of, numbered, value_of
+from store import LeaseGone, Store, StoreError, absent, after, created, get, modified, put
+
+# Seconds between two turns of the keeper, and for which a leader's reading may hang.
+TURN, HANG = 0.25, 60
+# Bytes and values of one transaction: etcd takes 1.5 MiB and 128 operations.
+MOST_BYTES, MOST_VALUES = (1 << 20) + (1 << 16), 100
+# A page of hashes.
+HASHES = 1_000
+
+
+def position_of(entry):
+    return tuple(int(word) for word in entry.value.split()) if entry else (1, 0)
+
+
+class Leadership:
+    """What the keeper and the publisher of a replica share."""
+
+    def __init__(self, replica, name, servers, lease, interval, keep):
+        self.replica, self.name, self.keys, self.say = replica, name, replica.keys, replica.say
+        self.servers = servers
+        self.store, self.publishing = Store(servers, max(1, lease / 3)), Store(servers)
+        self.seconds, self.interval, self.keep = lease, interval, keep
+        self.lease = None
+        # When this replica's key as the leader was created; 0 if it does not lead.
+        self.epoch = 0
+        # Set where the lease is gone: the publisher then lets etcd decide.
+        self.doubt = False
+        self.read_at = time.monotonic()
+        self.confirmed = 0
+        self.status_at = 0
+        # A round is sent when `round_at` has come, and all up to `sent_round` were sent.
+        self.round_at, self.sent_round = 0, -1
+        # The lease of answers and commands, and until when new ones are written under it.
+        self.keep_lease = self.keep_until = 0
+        self.threads = [threading.Thread(target=self.run, args=(turn,), daemon=True)
+                        for turn in (self.keep_turn, self.publish_turn)]
+
+    def run(self, turn):
+        silent = None
+        while not self.replica.stopped.is_set():
+            try:
+                turn()
+                silent = None
+            except LeaseGone:
+                self.keep_until = 0
+            except StoreError as error:
+                if silent != type(error):
+                    silent = type(error)
+                    self.say(str(error))
+                self.replica.stopped.wait(TURN)
+            except Exception as error:
+                self.replica.stop(str(error) if isinstance(error, Stop) else repr(error))
+
+    # The keeper.
+
+    def keep_turn(self):
+        # A leader that reads no further gives way to another one.
+        hangs = time.monotonic() - self.read_at > HANG
+        try:
+            if self.lease is None:
+                self.lease = self.store.grant(self.seconds)
+            elif not (hangs and self.epoch):
+                self.store.keep_alive(self.lease)
+            self.look(hangs)
+            self.write_status()
+        except LeaseGone:
+            self.lease = None
+            self.doubt = True
+        self.replica.stopped.wait(TURN)
+
+    def look(self, hangs):
+        """Reads who leads, what is written and the leader's hashes; leads if nobody does."""
+        keys, replica = self.keys, self.replica
+        start = numbered(keys.hashes, self.confirmed + 1)
+        outcome = self.store.transact(
+            [], [get(keys.leader), get(keys.done), get(start, after(keys.hashes), HASHES)]
+        )
+        leader, done, hashes = outcome.ranges
+        position = position_of(done.entries[0] if done.entries else None)
+        with replica.changed:
+            applied, lines = replica.applied, replica.lines
+        for entry in hashes.entries:
+            number = number_of(entry.key)
+            if number > lines:
+                break
+            replica.confirm(number, entry.value.decode())
+            self.confirmed = number
+        if not self.epoch:
+            replica.written(position)
+        # A leader must have applied whatever is answered, and agree with it.
+        ready = applied + 1 >= position[0] and not hashes.more and not hangs
+        holder = leader.entries[0] if leader.entries else None
+        if holder is None and ready and not self.epoch:
+            own = json.dumps({"name": self.name, "lease": self.lease})
+            outcome = self.store.transact(
+                [absent(keys.leader)], [put(keys.leader, own, self.lease)], [get(keys.leader)]
+            )
+            if outcome.succeeded:
+                self.lead(outcome.revision)
+                return
+            holder = outcome.ranges[0].entries[0] if outcome.ranges[0].entries else None
+        own = holder is not None and json.loads(holder.value)["lease"] == self.lease
+        if own and not self.epoch:
+            # The answer to the transaction was lost.
+            self.lead(holder.created)
+        elif self.epoch and not (own and holder.created == self.epoch):
+            self.doubt = True
+
+    def lead(self, epoch):
+        self.say(f"leads, epoch {epoch}")
+        with self.replica.changed:
+            self.epoch, self.doubt, self.done = epoch, False, None
+            self.replica.changed.notify_all()
+
+    def write_status(self):
+        if time.monotonic() - self.status_at < 1:
+            return
+        self.status_at = time.monotonic()
+        self.store.transact([], [put(self.keys.replicas + self.name, self.status(), self.lease)])
+
+    def status(self, stopped=None):
+        replica = self.replica
+        with replica.changed:
+            status = {"name": self.name, "leads": bool(self.epoch), "applied": replica.applied,
+                      "lines": replica.lines, "hashed": replica.hashed[0],
+                      "hash": replica.hashed[1]}
+        return json.dumps({**status, "stopped": stopped} if stopped else status)
+
+    # The publisher.
+
+    def publish_turn(self):
+        replica = self.replica
+        with replica.changed:
+            if not self.epoch or not (self.doubt or replica.outputs):
+                replica.changed.wait(min(TURN, max(self.round_in(), 0.01)))
+        if not self.epoch:
+            return
+        try:
+            if self.done is None:
+                self.begin()
+            if self.round_in() <= 0:
+                self.append_round()
+            values, position = replica.next_output(MOST_BYTES, MOST_VALUES)
+            if self.doubt or position > replica.position:
+                self.publish(values, position)
+        except Deposed as deposed:
+            self.say(f"leads no more: {deposed}")
+            self.epoch = 0
+
+    def begin(self):
+        """Reads up to where the leaders before wrote."""
+        found = self.publishing.value(self.keys.done)
+        self.done = found.modified if found else 0
+        self.replica.written(position_of(found))
+        self.round_at = time.monotonic() + self.interval
+        self.sent_round = -1
+
+    def guard(self):
+        return [created(self.keys.leader, self.epoch)]
+
+    def publish(self, values, position):
+        keys = self.keys
+        outcome = self.publishing.transact(
+            [*self.guard(), modified(keys.done, self.done)],
+            [*self.puts(values), put(keys.done, "%d %d" % position)],
+            [get(keys.leader), get(keys.done)],
+        )
+        if outcome.succeeded:
+            self.done = outcome.revision
+            self.doubt = False
+            self.replica.written(position)
+            return
+        holder, done = (found.entries[0] if found.entries else None for found in outcome.ranges)
+        if holder is None or holder.created != self.epoch:
+            raise Deposed(f"etcd refused {len(values)} values, since the lease was lost")
+        # Only this replica can have moved it: the answer to an earlier transaction was lost.
+        self.done = done.modified
+        self.replica.written(position_of(done))
+
+    def puts(self, values):
+        """Answers and commands are written under a lease, and go when it runs out: nothing has to
+        delete them. Each lease takes what is written in a part of the time."""
+        now = time.monotonic()
+        if now > self.keep_until:
+            self.keep_lease = self.publishing.grant(self.keep)
+            self.keep_until = now + max(1, self.keep / 1440)
+        for key, value in values:
+            yield put(key, value, 0 if key.startswith(self.keys.hashes) else self.keep_lease)
+
+    def round_in(self):
+        """Seconds until a round is due, and the one before was applied."""
+        if not self.interval or not self.epoch or self.replica.rounds <= self.sent_round:
+            return TURN
+        return self.round_at - time.monotonic()
+
+    def append_round(self):
+        with self.replica.changed:
+            count, last = self.replica.rounds, self.replica.applied
+        value = value_of(Batch(LEADER, count, b'{"op":"round"}\n', 0, 0))
+        try:
+            append(self.publishing, self.keys, value, last, self.guard())
+        except Deposed:
+            raise Deposed("etcd refused a round, since the lease was lost") from None
+        self.sent_round = count
+        self.round_at = time.monotonic() + self.interval
+
+    # Start and end.
+
+    def start(self):
+        for thread in self.threads:
+            thread.start()
+
+    def end(self, why):
+        """Gives the lease up, so that another replica leads at once, and leaves the reason."""
+        for thread in self.threads:
+            thread.join(5)
+        self.epoch = 0
+        store = Store(self.servers)
+        try:
+            if why:
+                store.transact([], [put(self.keys.replicas + self.name, self.status(why))])
+            if self.lease:
+                store.revoke(self.lease)
+        except StoreError as error:
+            self.say(str(error))

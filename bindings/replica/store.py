@@ -1,0 +1,259 @@
+"""What the replicas need of etcd: ranges, transactions, watches and leases, by the JSON gateway of
+etcd 3.4. Standard library alone.
+
+A request goes to one server, and to the next one if no answer comes in time. So a transaction may
+be sent twice: each one compares something that it changes, and then the second is refused."""
+
+import base64
+import http.client
+import json
+import socket
+import time
+from collections import namedtuple
+from urllib.parse import urlsplit
+
+Entry = namedtuple("Entry", "key value created modified version")
+Range = namedtuple("Range", "entries more revision")
+# `certain` is false where the transaction was sent more than once: one of these may have succeeded.
+Outcome = namedtuple("Outcome", "succeeded ranges revision certain")
+
+# Seconds to wait for one server, and for any.
+ANSWER, PATIENCE = 3, 10
+SPACE = "mvcc: database space exceeded"
+
+
+class StoreError(Exception):
+    """What went wrong, in words for the user."""
+
+
+class Unreachable(StoreError):
+    pass
+
+
+class Full(StoreError):
+    pass
+
+
+class Compacted(StoreError):
+    pass
+
+
+class LeaseGone(StoreError):
+    pass
+
+
+class Away(Exception):
+    """This server gives no answer; another one may."""
+
+
+def packed(text):
+    return base64.b64encode(text.encode() if isinstance(text, str) else text).decode()
+
+
+def unpacked(text):
+    return base64.b64decode(text)
+
+
+def after(prefix):
+    """The end of the range of all keys that begin with a prefix."""
+    return prefix[:-1] + chr(ord(prefix[-1]) + 1)
+
+
+def entry_of(pair):
+    return Entry(
+        unpacked(pair["key"]).decode(), unpacked(pair.get("value", "")),
+        int(pair.get("create_revision", 0)), int(pair["mod_revision"]),
+        int(pair.get("version", 0)),
+    )
+
+
+def range_of(answer):
+    return Range(
+        [entry_of(pair) for pair in answer.get("kvs", [])], answer.get("more", False),
+        int(answer["header"]["revision"]),
+    )
+
+
+def get(key, end=None, limit=0, last=False, keys_only=False):
+    """A range: one key, or those below an end; of these the first ones, or the last one."""
+    words = {"key": packed(key), "limit": 1 if last else limit, "keys_only": keys_only}
+    if end:
+        words["range_end"] = packed(end)
+    if last:
+        words.update(sort_order="DESCEND", sort_target="KEY")
+    return {"request_range": words}
+
+
+def put(key, value, lease=0):
+    return {"request_put": {"key": packed(key), "value": packed(value), "lease": lease}}
+
+
+def created(key, revision):
+    """Compares when a key was created; 0 stands for a key that is absent."""
+    return {"key": packed(key), "target": "CREATE", "create_revision": revision}
+
+
+def absent(key):
+    return created(key, 0)
+
+
+def present(key):
+    return {**created(key, 0), "result": "GREATER"}
+
+
+def modified(key, revision):
+    return {"key": packed(key), "target": "MOD", "mod_revision": revision}
+
+
+class Store:
+    """A client, for one thread. It waits for one server `answer` seconds, for any `patience`."""
+
+    def __init__(self, servers, answer=ANSWER, patience=PATIENCE):
+        self.answer, self.patience = answer, patience
+        self.servers = [urlsplit(server).netloc or server for server in servers]
+        self.at = 0
+        self.connection = None
+
+    def call(self, path, body):
+        """The answer of the first server that gives one, and whether the request was sent once."""
+        data = json.dumps(body).encode()
+        until = time.monotonic() + self.patience
+        tries = 0
+        while True:
+            tries += 1
+            try:
+                return self.ask(path, data), tries == 1
+            except Away as away:
+                why = away
+                self.leave()
+            if time.monotonic() > until:
+                raise Unreachable(f"no server of etcd answers, the last one because of {why} "
+                                  "(a server whose disk is full has ended, says its log)")
+            if tries % len(self.servers) == 0:
+                time.sleep(0.1)
+
+    def leave(self):
+        """The next request goes to the next server."""
+        if self.connection:
+            self.connection.close()
+        self.connection = None
+        self.at = (self.at + 1) % len(self.servers)
+
+    def ask(self, path, data):
+        try:
+            if not self.connection:
+                self.connection = http.client.HTTPConnection(
+                    self.servers[self.at], timeout=self.answer
+                )
+            self.connection.request("POST", f"/v3/{path}", data)
+            reply = self.connection.getresponse()
+            text = reply.read()
+            answer = json.loads(text)
+        except (OSError, http.client.HTTPException, ValueError) as error:
+            raise Away(f"{self.servers[self.at]}: {error or type(error).__name__}") from None
+        if reply.status == 200:
+            return answer
+        why = answer.get("message") or answer.get("error") or text.decode(errors="replace")
+        if SPACE in why:
+            raise Full("the quota of etcd's store is reached, so it takes no writes: compact and "
+                       "defragment it, or raise --quota-backend-bytes; then `etcdctl alarm disarm`")
+        if "lease not found" in why:
+            raise LeaseGone(why)
+        if "compacted" in why:
+            raise Compacted(why)
+        # Deadline exceeded, too many requests, unavailable; unknown covers a change of leader.
+        if answer.get("code") in (2, 4, 8, 14):
+            raise Away(f"{self.servers[self.at]}: {why}")
+        raise StoreError(f"etcd refused a request: {why}")
+
+    def range(self, *key, **words):
+        answer, _ = self.call("kv/range", get(*key, **words)["request_range"])
+        return range_of(answer)
+
+    def value(self, key):
+        found = self.range(key).entries
+        return found[0] if found else None
+
+    def transact(self, compares, success, failure=()):
+        body = {"compare": list(compares), "success": list(success), "failure": list(failure)}
+        answer, once = self.call("kv/txn", body)
+        revision = int(answer["header"]["revision"])
+        ranges = []
+        for part in answer.get("responses", []):
+            if "response_range" in part:
+                found = part["response_range"]
+                found.setdefault("header", answer["header"])
+                ranges.append(range_of(found))
+        return Outcome(answer.get("succeeded", False), ranges, revision, once)
+
+    def grant(self, seconds):
+        return int(self.call("lease/grant", {"TTL": seconds})[0]["ID"])
+
+    def keep_alive(self, lease):
+        answer, _ = self.call("lease/keepalive", {"ID": lease})
+        if int(answer["result"].get("TTL", 0)) <= 0:
+            raise LeaseGone("the lease has run out")
+
+    def revoke(self, lease):
+        self.call("lease/revoke", {"ID": lease})
+
+    def watch(self, key, end, revision, silence=1.0):
+        """Yields the changes of keys from a revision on: a list of entries (None for the value of
+        a deleted key) and the revision up to which there are no others; None after a silence."""
+        words = {"key": packed(key), "range_end": packed(end), "start_revision": revision,
+                 "fragment": True, "progress_notify": True}
+        data = json.dumps({"create_request": words}).encode()
+        host, _, port = self.servers[self.at].rpartition(":")
+        try:
+            with socket.create_connection((host, int(port)), timeout=self.answer) as link:
+                # HTTP 1.0, so that the answer comes without chunks: a line for each message.
+                link.sendall(b"POST /v3/watch HTTP/1.0\r\nContent-Length: %d\r\n\r\n" % len(data))
+                link.sendall(data)
+                link.settimeout(silence)
+                yield from self.messages(link)
+        except OSError as error:
+            why = f"{self.servers[self.at]}: {error}"
+            self.leave()
+            raise Unreachable(why) from None
+
+    def messages(self, link):
+        pieces, in_body = [], False
+        while True:
+            try:
+                piece = link.recv(1 << 20)
+            except socket.timeout:
+                yield None
+                continue
+            if not piece:
+                raise OSError("the watch has ended")
+            first, *others = piece.split(b"\n")
+            pieces.append(first)
+            for rest in others:
+                line = b"".join(pieces)
+                pieces = [rest]
+                if not in_body:
+                    in_body = line == b"\r"
+                    continue
+                found = self.changes(json.loads(line))
+                if found:
+                    yield found
+
+    def changes(self, message):
+        result = message.get("result")
+        if not result or "compact_revision" in result:
+            why = message.get("error", {}).get("message", "")
+            if result or "compacted" in why:
+                raise Compacted("the store was compacted beyond what was read")
+            raise OSError(why or "the watch was refused")
+        if result.get("canceled"):
+            raise OSError(result.get("cancel_reason", "the watch was cancelled"))
+        if result.get("created"):
+            return None
+        entries = []
+        for event in result.get("events", []):
+            entry = entry_of(event["kv"])
+            entries.append(entry._replace(value=None) if event.get("type") == "DELETE" else entry)
+        if not entries:
+            return entries, int(result["header"]["revision"])
+        # The next fragment may have more of the last revision.
+        return entries, entries[-1].modified - bool(result.get("fragment"))

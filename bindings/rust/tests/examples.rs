@@ -1,0 +1,106 @@
+//! The worked examples of the repository, line by line, and each typed call on a small cluster whose answers were
+//! worked out by hand.
+
+use puljemrod::{Command, Commands, Done, Entry, Event, Manager, Options, Replica, Tag};
+use std::fs;
+use std::path::Path;
+
+#[test]
+fn the_examples_are_answered_as_worked_out() {
+    let folder = Path::new(env!("CARGO_MANIFEST_DIR")).join("../../examples");
+    let mut count = 0;
+    for entry in fs::read_dir(&folder).unwrap() {
+        let path = entry.unwrap().path();
+        if path.extension().is_none_or(|it| it != "jsonl") || !path.with_extension("txt").exists() {
+            continue;
+        }
+        let mut manager = Manager::open(&Options { shards: 3, ..Options::default() }).unwrap();
+        let mut answers = Vec::new();
+        for line in fs::read(&path).unwrap().split_inclusive(|it| *it == b'\n') {
+            answers.extend(manager.line(line.strip_suffix(b"\n").unwrap_or(line)).unwrap());
+            answers.push(b'\n');
+        }
+        assert_eq!(answers, fs::read(path.with_extension("txt")).unwrap(), "{}", path.display());
+        count += 1;
+    }
+    assert!(count >= 5, "{count} examples");
+}
+
+/// Three nodes on two racks; block 7 wants two replicas, on storages 11 and 31.
+fn cluster() -> Manager {
+    let mut manager = Manager::open(&Options::default()).unwrap();
+    for (node, rack, storage) in [(1, 1, 11), (2, 1, 21), (3, 2, 31)] {
+        manager.apply(&Event::Register { node, rack, storages: vec![storage] }).unwrap();
+    }
+    manager.apply(&Event::Heartbeat { node: 2, remaining: vec![(21, 1000)] }).unwrap();
+    manager.apply(&Event::Add { id: 7, gen: 1, len: 64, repl: 2 }).unwrap();
+    for storage in [11, 31] {
+        let done = manager.apply(&Event::Received { storage, id: 7, gen: 1, len: 64 }).unwrap();
+        assert_eq!(done, Done { added: 1, removed: 0 });
+    }
+    manager
+}
+
+#[test]
+fn a_corrupt_replica_is_copied_and_then_deleted() {
+    let mut manager = cluster();
+    assert_eq!(manager.level(7), Ok(None));
+    manager.apply(&Event::Corrupt { storage: 11, id: 7 }).unwrap();
+    assert_eq!(manager.level(7), Ok(Some(0)));
+    assert_eq!(manager.corrupt(), Ok(vec![(7, 11)]));
+    let copy = Command::Copy { node: 3, block: 7, gen: 1, len: 64, source: 31, target: 21 };
+    assert_eq!(manager.round(), Ok(Commands { round: 1, commands: vec![copy] }));
+    manager.apply(&Event::Received { storage: 21, id: 7, gen: 1, len: 64 }).unwrap();
+    let delete = Command::Delete { node: 1, storage: 11, block: 7 };
+    assert_eq!(manager.round(), Ok(Commands { round: 2, commands: vec![delete] }));
+    let done = manager.apply(&Event::Deleted { storage: 11, id: 7 });
+    assert_eq!(done, Ok(Done { added: 0, removed: 1 }));
+    assert_eq!(manager.places(7), Ok(vec![21, 31]));
+    assert_eq!(manager.excess(), Ok(vec![]));
+}
+
+#[test]
+fn lists_and_reports() {
+    let mut manager = cluster();
+    let blocks = vec![Entry { from: 7, to: 8, gen: 1, len: 64 }];
+    let done = manager.apply(&Event::Report { storage: 21, blocks });
+    assert_eq!(done, Ok(Done { added: 2, removed: 0 }));
+    assert_eq!(manager.blocks_on(21), Ok(vec![7, 8]));
+    let last = Replica { block: 8, storage: 21, tag: Tag::Stray };
+    assert_eq!(manager.replicas().unwrap().last(), Some(&last));
+    manager.apply(&Event::StorageFailed { storage: 21 }).unwrap();
+    manager.apply(&Event::Dead { node: 1 }).unwrap();
+    manager.apply(&Event::Dead { node: 3 }).unwrap();
+    assert_eq!(manager.missing(), Ok(vec![7]));
+}
+
+#[test]
+fn refusals_have_number_and_name() {
+    let mut manager = cluster();
+    let refused = manager.apply(&Event::Delete { id: 8 }).unwrap_err();
+    assert_eq!((refused.number(), refused.name()), (5, "UnknownBlock"));
+    assert_eq!(refused.to_string(), "refused 5 UnknownBlock");
+    assert_eq!(manager.line(b"?").unwrap(), b"refused 20 BadLine");
+    let closed = Manager::open(&Options { shards: 0, ..Options::default() });
+    assert_eq!(closed.err().map(|it| it.name()), Some("BadConfig"));
+}
+
+#[test]
+fn a_draining_node_retires_and_a_manager_moves_between_threads() {
+    let mut manager = cluster();
+    manager.apply(&Event::Drain { node: 1 }).unwrap();
+    let mut manager = std::thread::spawn(move || {
+        assert_eq!(manager.retired(1), Ok(false));
+        manager.round().unwrap();
+        manager.apply(&Event::Received { storage: 21, id: 7, gen: 1, len: 64 }).unwrap();
+        manager
+    })
+    .join()
+    .unwrap();
+    assert_eq!(manager.retired(1), Ok(true));
+    manager.apply(&Event::Undrain { node: 1 }).unwrap();
+    assert_eq!(manager.retired(1), Ok(false));
+    manager.apply(&Event::SetReplication { id: 7, repl: 3 }).unwrap();
+    manager.apply(&Event::Restamp { id: 7, gen: 2, len: 65 }).unwrap();
+    assert_eq!(manager.places(7), Ok(vec![]));
+}

@@ -1,0 +1,44 @@
+"""The changed definitions of crates/bm_base/definition-mutants, and the changed models of
+model/mutants: edits of one name make the same change of a rule in both."""
+
+from checking import TOP, want
+
+DEFINITIONS = TOP / "crates" / "bm_base"
+
+MODEL = TOP / "model"
+
+EDITS_OF_DEFINITIONS = DEFINITIONS / "definition-mutants"
+
+EDITS_OF_MODEL = MODEL / "mutants"
+
+
+def names():
+    """Those of the edits, sorted. Each has to be in both folders."""
+    of_definitions = {path.stem for path in EDITS_OF_DEFINITIONS.glob("*.edit")}
+    of_model = {path.stem for path in EDITS_OF_MODEL.glob("*.edit")}
+    want(of_definitions == of_model, f"in one folder alone: {sorted(of_definitions ^ of_model)}")
+    return sorted(of_definitions)
+
+
+def edited(edit, folder):
+    """The changed texts of the files that an edit names, by their paths below the folder. In the
+    edits of the model `\\n` is the end of a line."""
+    texts = {}
+    for line in edit.read_text().splitlines():
+        key, _, text = line.partition(":")
+        text = text.removeprefix(" ").replace("\\n", "\n")
+        if key == "file":
+            path = text
+            texts.setdefault(path, (folder / path).read_text())
+        elif key == "old":
+            old, count = text, texts[path].count(text)
+            want(count == 1, f"{edit.name}: {old!r} occurs {count} times in {path}")
+        elif key == "new":
+            texts[path] = texts[path].replace(old, text)
+    return texts
+
+
+def can_be_applied():
+    for name in names():
+        edited(EDITS_OF_DEFINITIONS / f"{name}.edit", DEFINITIONS)
+        edited(EDITS_OF_MODEL / f"{name}.edit", MODEL)

@@ -1,0 +1,351 @@
+"""Servers of etcd, replicas and writers on loopback, in a folder of their own, and what is in the
+store afterwards."""
+
+import hashlib
+import json
+import os
+import random
+import shutil
+import signal
+import socket
+import subprocess
+import sys
+import time
+
+from checking import TOP, Failed, want
+
+REPLICA = TOP / "bindings/replica/replica"
+sys.path[:0] = [str(REPLICA.parent), str(TOP / "bindings/python")]
+import log as replica_log
+from store import Store, StoreError, after
+
+
+def wait_for(what, is_so, seconds=20):
+    """What `is_so` answers, once that is true."""
+    until = time.monotonic() + seconds
+    while not (found := is_so()):
+        if time.monotonic() > until:
+            raise Failed(f"not within {seconds} seconds: {what}")
+        time.sleep(0.02)
+    return found
+
+
+def free_ports(count):
+    links = [socket.create_server(("127.0.0.1", 0)) for _ in range(count)]
+    ports = [link.getsockname()[1] for link in links]
+    for link in links:
+        link.close()
+    return ports
+
+
+class Process:
+    """A child process with its output in a file."""
+
+    def __init__(self, command, path, stdin=subprocess.DEVNULL, stdout=None):
+        self.path = path
+        with open(path, "ab") as told:
+            self.child = subprocess.Popen(
+                [str(word) for word in command], stdin=stdin, stdout=stdout or told, stderr=told
+            )
+
+    def told(self):
+        return self.path.read_text(errors="replace")
+
+    def send(self, number):
+        if self.child.poll() is None:
+            os.kill(self.child.pid, number)
+
+    def pause(self):
+        self.send(signal.SIGSTOP)
+
+    def go_on(self):
+        self.send(signal.SIGCONT)
+
+    def kill(self):
+        self.send(signal.SIGKILL)
+        self.child.wait()
+
+    def ended(self, seconds=20):
+        """The status, once the process has ended by itself."""
+        try:
+            return self.child.wait(seconds)
+        except subprocess.TimeoutExpired:
+            raise Failed(f"{self.path.name} did not end; it told: {self.told()[-300:]}") from None
+
+
+class Servers:
+    """The servers of one etcd."""
+
+    def __init__(self, folder, count, *options):
+        self.folder, self.options = folder, options
+        ports = free_ports(2 * count)
+        self.urls = [f"http://127.0.0.1:{port}" for port in ports[:count]]
+        self.peers = [f"http://127.0.0.1:{port}" for port in ports[count:]]
+        self.processes = [None] * count
+        for number in range(count):
+            self.start(number)
+        self.store = Store(self.urls)
+        wait_for("etcd answers", self.answers)
+
+    def start(self, number):
+        name = f"etcd{number}"
+        cluster = ",".join(f"etcd{it}={peer}" for it, peer in enumerate(self.peers))
+        self.processes[number] = Process(
+            ["etcd", "--name", name, "--data-dir", self.folder / name,
+             "--listen-client-urls", self.urls[number],
+             "--advertise-client-urls", self.urls[number],
+             "--listen-peer-urls", self.peers[number],
+             "--initial-advertise-peer-urls", self.peers[number],
+             "--initial-cluster", cluster, *self.options],
+            self.folder / f"{name}.log",
+        )
+
+    def answers(self):
+        try:
+            return self.store.range("x")
+        except StoreError:
+            return None
+
+    def leading(self):
+        """The number of the server that leads."""
+        for number, url in enumerate(self.urls):
+            try:
+                answer, _ = Store([url], 1, 0).call("maintenance/status", {})
+            except StoreError:
+                continue
+            if answer.get("leader") == answer["header"]["member_id"]:
+                return number
+        return None
+
+    def end(self):
+        for process in self.processes:
+            process.go_on()
+            process.kill()
+
+
+class Manager:
+    """The replicas and writers of one prefix."""
+
+    def __init__(self, servers, tool, prefix, folder):
+        self.servers, self.tool, self.folder = servers, tool, folder
+        self.keys = replica_log.Keys(f"/{prefix}/")
+        self.prefix = prefix
+        self.store = Store(servers.urls)
+        self.processes = {}
+
+    def words(self, word, urls=None):
+        return [REPLICA, word, "--etcd", ",".join(urls or self.servers.urls),
+                "--prefix", self.keys.prefix]
+
+    def replica(self, name, *options, tool=None, lease=2):
+        words = self.words("run") + ["--name", name, "--tool", tool or self.tool]
+        process = Process(words + ["--lease", str(lease), "--interval", "0.5", *options],
+                          self.folder / f"{self.prefix}-{name}.log")
+        self.processes[name] = process
+        return process
+
+    def writer(self, name, lines=None, *options, urls=None):
+        """A writer of lines; without any its input is left open."""
+        path = self.folder / f"{self.prefix}-{name}"
+        source = subprocess.PIPE
+        if lines is not None:
+            path.with_suffix(".in").write_bytes(b"".join(lines))
+            source = open(path.with_suffix(".in"), "rb")
+        with open(path.with_suffix(".out"), "wb") as target:
+            process = Process(self.words("write", urls) + list(options),
+                              path.with_suffix(".log"), source, target)
+        process.output = path.with_suffix(".out")
+        self.processes[name] = process
+        return process
+
+    def write(self, lines, *options):
+        """The answers to some lines."""
+        writer = self.writer(f"writer{len(self.processes)}", lines, *options)
+        want(writer.ended() == 0, f"a writer failed: {writer.told()[-300:]}")
+        return writer.output.read_bytes().splitlines(keepends=True)
+
+    def leader(self):
+        """The name of the replica that leads."""
+        try:
+            found = self.store.value(self.keys.leader)
+        except StoreError:
+            return None
+        return json.loads(found.value)["name"] if found else None
+
+    def status(self):
+        told = subprocess.run(self.words("status") + ["--json"], capture_output=True, timeout=20)
+        want(told.returncode == 0, f"no status: {told.stderr.decode()}")
+        return json.loads(told.stdout)
+
+    def all_is_answered(self):
+        status = self.status()
+        return status["answered"] == status["log"]
+
+    def has_stopped(self, name, why):
+        """The replica has ended with status 1 and a reason that has these words."""
+        process = self.processes[name]
+        want(process.ended() == 1, f"status {process.child.returncode}")
+        want(why in process.told(), f"it told: {process.told()[-300:]}")
+
+    def end_in_order(self):
+        """Ends the rounds and waits until all of the log is answered."""
+        for process in self.processes.values():
+            process.send(signal.SIGTERM)
+        for process in self.processes.values():
+            process.ended()
+        last = self.replica("last", "--interval", "0")
+        wait_for("all is answered", self.all_is_answered, 60)
+        last.send(signal.SIGTERM)
+        want(last.ended() == 0, f"the last replica failed: {last.told()[-300:]}")
+
+    def end(self):
+        for process in self.processes.values():
+            process.go_on()
+            process.kill()
+
+    # What is in the store.
+
+    def all(self, prefix):
+        start, entries, more = prefix, [], True
+        while more:
+            found = self.store.range(start, after(prefix), limit=16)
+            entries += found.entries
+            more = found.more
+            if more:
+                start = entries[-1].key + "\0"
+        return entries
+
+    def taken(self):
+        """By the rules of README: for each log key its writer, and the lines that count."""
+        counts, parts = {}, {}
+        for number, entry in enumerate(self.all(self.keys.log), 1):
+            want(int(entry.key.rsplit("/", 1)[1]) == number, f"{entry.key} is key {number}")
+            header, _, text = entry.value.partition(b"\n")
+            header = json.loads(header)
+            writer, count, lines = header["writer"], header["count"], []
+            if "parts" in header:
+                have = parts.setdefault((writer, count), [])
+                if header["part"] == len(have):
+                    have.append(text)
+                    if len(have) == header["parts"]:
+                        text = b"".join(have) + b"\n"
+                    else:
+                        text = b""
+                else:
+                    text = b""
+            for line in text.splitlines(keepends=True):
+                if count == counts.get(writer, 0):
+                    lines.append(line)
+                    counts[writer] = count + 1
+                count += 1
+            yield writer, lines
+
+    def compare(self, options=()):
+        """The answers, commands and hashes in the store are those of one run of the tool on the
+        lines of the log; what each writer is to be told."""
+        taken = list(self.taken())
+        lines = [line for _, batch in taken for line in batch]
+        run = subprocess.run([self.tool, *options], input=b"".join(lines), capture_output=True,
+                             timeout=60)
+        want(run.returncode == 0, f"the tool ended with status {run.returncode}")
+        answers = run.stdout.splitlines(keepends=True)
+        want(len(answers) == len(lines), f"{len(answers)} answers to {len(lines)} lines")
+
+        at, of_writers, hash_, hashes, commands = 0, {}, hashlib.sha256(), {}, {}
+        for writer, batch in taken:
+            told = answers[at : at + len(batch)]
+            of_writers.setdefault(writer, []).extend(told)
+            hash_.update(b"".join(batch))
+            hash_.update(b"".join(told))
+            for number, answer in enumerate(told, at + 1):
+                words = answer.decode().rstrip("\n").split("; ")
+                if words[0].startswith("round "):
+                    for command in words[1:]:
+                        key = (int(command.split()[1]), number)
+                        commands.setdefault(key, []).append(command + "\n")
+            if at // 1000 < (at + len(batch)) // 1000:
+                hashes[at + len(batch)] = hash_.hexdigest()
+            at += len(batch)
+
+        self.compare_answers(answers)
+        found = {}
+        for entry in self.all(self.keys.commands):
+            node, number = entry.key.removeprefix(self.keys.commands).split("/")
+            want(entry.version == 1, f"{entry.key} was written {entry.version} times")
+            key = (int(node), int(number[:16]))
+            found[key] = found.get(key, "") + entry.value.partition(b"\n")[2].decode()
+        want(found == {key: "".join(told) for key, told in commands.items()},
+             "the commands are not those of the rounds")
+        stored = {int(entry.key.rsplit("/", 1)[1]): entry.value.decode()
+                  for entry in self.all(self.keys.hashes)}
+        want(stored == hashes, "the hashes are not those of the log")
+        return of_writers
+
+    def compare_answers(self, answers):
+        at, pieces = 0, []
+        for entry in self.all(self.keys.answers):
+            want(entry.version == 1, f"{entry.key} was written {entry.version} times")
+            header, _, text = entry.value.partition(b"\n")
+            header = json.loads(header)
+            want(header["line"] == at + 1, f"answers from {header['line']} on follow {at}")
+            want(header["part"] == len(pieces), f"{entry.key} is out of order")
+            pieces.append(text)
+            if len(pieces) == header["parts"]:
+                told = b"".join(pieces).splitlines(keepends=True)
+                pieces = []
+                want(told == answers[at : at + len(told)], f"other answers behind line {at}")
+                at += len(told)
+        want(at == len(answers), f"{at} of {len(answers)} lines are answered")
+
+
+def lines_of(count, seed, base=0):
+    """Lines for the tool: with base 0 they begin with 20 nodes; blocks have numbers past base."""
+    draw = random.Random(seed)
+    storages = [100 + 2 * node + side for node in range(1, 21) for side in (0, 1)]
+    lines = []
+
+    def add(op, **fields):
+        lines.append(json.dumps({"op": op, **fields}, separators=(",", ":")).encode() + b"\n")
+
+    if not base:
+        for node in range(1, 21):
+            pair = [100 + 2 * node, 101 + 2 * node]
+            add("register", node=node, rack=1 + node % 4, storages=pair)
+            add("heartbeat", node=node, remaining=[[storage, 10**12] for storage in pair])
+    block = base
+    while len(lines) < count:
+        old = draw.randrange(base + 1, block + 2)
+        kind = draw.choices(["add", "received", "deleted", "corrupt", "delete", "level", "places"],
+                            [30, 30, 8, 3, 3, 13, 13])[0]
+        if kind == "add":
+            block += 1
+            add("add", id=block, gen=1, len=block % 1000, repl=3)
+            for storage in draw.sample(storages, 2):
+                add("received", storage=storage, id=block, gen=1, len=block % 1000)
+        elif kind == "received":
+            add("received", storage=draw.choice(storages), id=old, gen=1, len=old % 1000)
+        elif kind in ("deleted", "corrupt"):
+            add(kind, storage=draw.choice(storages), id=old)
+        else:
+            add("list_places" if kind == "places" else kind, id=old)
+    return lines[:count]
+
+
+def feed(writer, lines, seconds):
+    """Writes lines in small pieces, evenly over some seconds."""
+    pieces = [b"".join(lines[at : at + 50]) for at in range(0, len(lines), 50)]
+    start = time.monotonic()
+    for number, piece in enumerate(pieces):
+        time.sleep(max(0, start + seconds * number / len(pieces) - time.monotonic()))
+        writer.child.stdin.write(piece)
+        writer.child.stdin.flush()
+    writer.child.stdin.close()
+
+
+def session_of(writer):
+    """The number of a writer's session."""
+    return int(writer.told().split("session ")[1].split()[0])
+
+
+def etcd_is_there():
+    return shutil.which("etcd") is not None
