@@ -1,6 +1,6 @@
 -- Whether the delete of a replica is ordered makes no difference to its block's level; and the block is not settled, before and after,
 -- where the replica was not plain.
-use Rattle.std.specs.Prelude.{◌≡◌, ◌≢◌, ◌↔◌, ℕ, ◌+◌, IsSome, Bool, true, false, not, ◌&&◌, ◌||◌, ◌==◌, List, [], ◌∷◌, map, filter, filter_map, length, Option, Some, None, option_map, option_and_then}
+use Rattle.std.specs.Prelude.{◌≡◌, ◌↔◌, ℕ, ◌+◌, IsSome, Bool, true, false, not, ◌&&◌, ◌||◌, ◌==◌, List, [], ◌∷◌, map, filter, filter_map, length, Option, Some, None, option_map, option_and_then}
 use Rattle.std.specs.List.{list_any}
 use Rattle.std.proofs.Common.{cond, refl, sym, ap, subst, ◌∙◌, inl, inr}
 use Rattle.std.proofs.lemmas.Bool.{cases_eq, eqb-true}
@@ -9,16 +9,15 @@ use Rattle.bm_base.specs.declared.replica.Tag.{Tag}
 use Rattle.bm_base.specs.declared.replica.Tag.TheVariants.{Good, Stale, Bad, Stray}
 use Rattle.bm_base.specs.declared.replica.BlockInfo.{BlockInfo}
 use Rattle.bm_base.specs.State.{Cluster}
-use Rattle.bm_base.specs.Replicas.{is_good, rack_of, is_draining, is_multi_rack}
+use Rattle.bm_base.specs.Replicas.{is_good}
 use Rattle.bm_base.specs.Levels.{level_of}
 use Rattle.bm_base.specs.Spread.{spread}
 use Rattle.bm_arena.specs.Triplets.{Block, change_block}
 use Rattle.bm_arena.specs.Contents.{Contents, block_at, marks_at, find_marks, change_marks, with_marks, known_of}
-use Rattle.bm_arena.specs.Holding.{info_at}
 use Rattle.bm_arena.proofs.Changed.{changed-here}
 use Rattle.bm_levels.specs.Changes.{as_ordered}
 use Rattle.bm_levels.specs.Judged.{storages_at, is_live_by, is_drained_by, is_plain, level_by, level_in, is_settled_at}
-use Rattle.bm_levels.specs.Kept.{level_of_slot, IsUnsettled, HasRoomFor}
+use Rattle.bm_levels.specs.Kept.{IsUnsettled, HasRoomFor}
 use Rattle.bm_levels.specs.Leveled.{Leveled, IsLeveled, AreLevels}
 use Rattle.bm_levels.proofs.ManySlots.{known_info}
 use Rattle.bm_levels.proofs.OneSlot.{IsChangedAt}

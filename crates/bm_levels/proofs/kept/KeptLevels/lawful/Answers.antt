@@ -1,6 +1,3 @@
-use Rattle.bm_levels.specs.Kept.{AreSlotsAt, slots_at}
-use Rattle.bm_base.specs.declared.level.Level.{Level}
-use Rattle.bm_base.specs.SlotLists.{Distinct}
 use Rattle.bm_levels.proofs.Wishes.{are_wishing, wishing_once}
 use Rattle.bm_levels.proofs.kept.KeptLevels.lawful.Goals as goal
 

@@ -1,8 +1,7 @@
-use Rattle.std.proofs.Common.{◌≡◌, ◌≢◌, ℕ, Some, false, refl, subst, sym, ap, ◌∙◌, inl, inr}
-use Rattle.std.specs.Prelude.{◌==◌, if◌then◌else◌}
+use Rattle.std.proofs.Common.{◌≡◌, ℕ, Some, false, subst, sym, ap, ◌∙◌, inl, inr}
 use Rattle.std.proofs.lemmas.Bool.{cases_eq, true≢false}
 use Rattle.bm_base.specs.Map.{revise}
-use Rattle.bm_arena.specs.Contents.{Contents, block_at, slot_of}
+use Rattle.bm_arena.specs.Contents.{block_at, slot_of}
 use Rattle.bm_arena.specs.Holding.{replicas_of}
 use Rattle.bm_levels.specs.Changes.{excess_on, has_block}
 use Rattle.bm_levels.specs.Leveled.{Leveled, AreLevels}
