@@ -3,13 +3,13 @@ use Rattle.std.specs.Prelude.{◌≡◌, ℕ, ◌+◌, ◌≤◌, Bool, true, fa
 use Rattle.std.specs.Option.{option_map_or}
 use Rattle.std.specs.Int.{from_bool}
 use Rattle.std.specs.List.{list_any, cons_option}
-use Rattle.std.proofs.Common.{cond, refl, ap, ◌∙◌, arith}
+use Rattle.std.proofs.Common.{cond, refl, sym, ap, ◌∙◌, arith}
 use Rattle.bm_base.specs.declared.replica.Marks.{Marks}
 use Rattle.bm_base.specs.Replicas.{is_usable}
 use Rattle.bm_base.specs.Spread.{spread_from}
 use Rattle.bm_levels.specs.declared.count.Count.{Count}
 use Rattle.bm_levels.specs.Judged.{is_plain, storages_at, is_live_by, is_drained_by}
-use Rattle.bm_levels.specs.Counted.{seen, one_more, counted_on, racks_of}
+use Rattle.bm_levels.specs.Counted.{none, seen, one_more, counted_on, racks_of}
 
 module _ (rack : ℕ → Option ℕ) (draining : ℕ → Bool) where
   live_of : List (ℕ × Marks) → List ℕ
@@ -40,6 +40,11 @@ module _ (rack : ℕ → Option ℕ) (draining : ℕ → Bool) where
 
   pub few_step : (k z : Count) (s : ℕ) (m : Marks) → z ≡ one_more rack draining k s m → (z.live ≤ k.live + 1) × (z.drained ≤ k.drained + 1)
   few_step k z s m e = let h = few_more k s m in (omega (arith, h.0, ap (λ x. x.live) e), omega (arith, h.1, ap (λ x. x.drained) e))
+
+  -- the next replica counted before the rest
+  pub counted_next : (k z : Count) (rs all : List (ℕ × Marks)) (r : ℕ × Marks) (behind : List (ℕ × Marks)) → rs ≡ r ∷ behind → z ≡ one_more rack draining k r.0 r.1
+      → counted_on rack draining k rs ≡ counted_on rack draining none all → counted_on rack draining z behind ≡ counted_on rack draining none all
+  counted_next k z rs all r behind here counted h = ap (λ x. counted_on rack draining x behind) counted ∙ sym (ap (counted_on rack draining k) here) ∙ h
 
   -- on how many racks those that were counted and those of a list stand
   abbrev racks_on : Count → List ℕ → ℕ

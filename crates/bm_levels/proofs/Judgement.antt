@@ -1,18 +1,22 @@
 -- What was counted of the replicas at a slot decides how its block is judged.
-use Rattle.std.specs.Prelude.{◌≡◌, ℕ, ◌≤◌, ◌<◌, Bool, true, false, not, ◌&&◌, if◌then◌else◌, nat_le, nat_lt, List, [], length, filter_map, Option, Some, None, option_and_then}
+use Rattle.std.specs.Prelude.{◌≡◌, ℕ, ◌≤◌, ◌<◌, Bool, true, false, not, ◌&&◌, if◌then◌else◌, nat_le, nat_lt, List, [], length, map, filter_map, Option, Some, None, is_some, option_map, option_and_then}
+use Rattle.std.specs.Int.{from_bool}
 use Rattle.std.specs.Option.{option_map_or}
 use Rattle.std.specs.List.{list_any}
-use Rattle.std.proofs.Common.{refl, sym, ap, ◌∙◌, arith}
+use Rattle.std.proofs.Common.{refl, sym, subst, ap, ◌∙◌, inl, inr, arith}
 use Rattle.std.proofs.lemmas.Bool.{le-leb, lt-leb}
+use Rattle.std.proofs.lemmas.List.{length-map}
+use Rattle.std.proofs.lemmas.Option.{none-some, same_Some}
 use Rattle.bm_base.specs.declared.replica.Marks.{Marks}
 use Rattle.bm_base.specs.declared.replica.BlockInfo.{BlockInfo}
 use Rattle.bm_base.specs.declared.level.Level.TheVariants.{BadlyDistributed}
 use Rattle.bm_base.specs.Levels.{level_of}
 use Rattle.bm_base.specs.Spread.{spread, spread_from}
-use Rattle.bm_arena.specs.Triplets.{Block}
+use Rattle.bm_arena.specs.declared.types.Triplet.{Triplet}
+use Rattle.bm_arena.specs.Triplets.{Block, seen_triplet}
 use Rattle.bm_levels.specs.declared.count.Count.{Count}
 use Rattle.bm_levels.specs.Judged.{storages_at, is_live_by, is_drained_by, is_plain, level_by, is_settled_at}
-use Rattle.bm_levels.specs.Counted.{none, counted_on, racks_of}
+use Rattle.bm_levels.specs.Counted.{none, counted_on, racks_of, IsCountOf}
 use Rattle.bm_levels.proofs.Counts.{counted_is}
 
 abbrev listed : Option Block → List (ℕ × Marks)
@@ -22,7 +26,7 @@ abbrev info_in : Option Block → Option BlockInfo
 info_in o = option_and_then (λ (b : Block). b.info) o
 
 module _ (rack : ℕ → Option ℕ) (draining : ℕ → Bool) where
-  pub level_known : (multi : Bool) (o : Option Block) (i : BlockInfo) (k : Count) → info_in o ≡ Some i → k ≡ counted_on rack draining none (listed o)
+  level_known : (multi : Bool) (o : Option Block) (i : BlockInfo) (k : Count) → info_in o ≡ Some i → k ≡ counted_on rack draining none (listed o)
       → level_of k.live k.drained i.repl (racks_of k) multi ≡ level_by rack draining multi o
   unfolding level_by
   level_known multi None i k e f = cc
@@ -43,7 +47,7 @@ module _ (rack : ℕ → Option ℕ) (draining : ℕ → Bool) where
       apart false = refl
 
   -- so many as are wanted are live on two racks among the first, and the rest is counted behind them
-  pub level_soon : (multi : Bool) (o : Option Block) (i : BlockInfo) (k : Count) (rs : List (ℕ × Marks)) → info_in o ≡ Some i
+  level_soon : (multi : Bool) (o : Option Block) (i : BlockInfo) (k : Count) (rs : List (ℕ × Marks)) → info_in o ≡ Some i
       → counted_on rack draining k rs ≡ counted_on rack draining none (listed o) → i.repl ≤ k.live → k.is_spread ≡ true → None ≡ level_by rack draining multi o
   level_soon multi o i k rs e f many spread =
       let z : Count = counted_on rack draining k rs in
@@ -53,7 +57,7 @@ module _ (rack : ℕ → Option ℕ) (draining : ℕ → Bool) where
       sym (none_wanted z.live z.drained i.repl multi enough) ∙ sym (ap (λ n. level_of z.live z.drained i.repl n multi) two) ∙ level_known multi o i z e f
 
   -- more are there than are wanted
-  pub settled_soon : (o : Option Block) (i : BlockInfo) → info_in o ≡ Some i → i.repl < option_map_or (λ (b : Block). length b.replicas) o 0 → false ≡ is_settled_at o
+  settled_soon : (o : Option Block) (i : BlockInfo) → info_in o ≡ Some i → i.repl < option_map_or (λ (b : Block). length b.replicas) o 0 → false ≡ is_settled_at o
   unfolding is_settled_at
   settled_soon None i e more = absurd (omega (arith, more))
   settled_soon (Some b) i e more =
@@ -75,7 +79,7 @@ module _ (rack : ℕ → Option ℕ) (draining : ℕ → Bool) where
   plain_all : (rs : List (ℕ × Marks)) (k : Count) → k ≡ counted_on rack draining none rs → k.is_plain ≡ not (list_any (λ (r : ℕ × Marks). not (is_plain r.1)) rs)
   plain_all rs k f = ap (λ z. z.is_plain) f ∙ (counted_is rack draining none rs).2
 
-  pub settled_known : (o : Option Block) (i : BlockInfo) (k : Count) → info_in o ≡ Some i → k ≡ counted_on rack draining none (listed o)
+  settled_known : (o : Option Block) (i : BlockInfo) (k : Count) → info_in o ≡ Some i → k ≡ counted_on rack draining none (listed o)
       → (k.is_plain && nat_le (option_map_or (λ (b : Block). length b.replicas) o 0) i.repl) ≡ is_settled_at o
   unfolding is_settled_at
   settled_known None i k e f = cc
@@ -83,7 +87,7 @@ module _ (rack : ℕ → Option ℕ) (draining : ℕ → Bool) where
       (λ t. plain_all b.replicas k f t && nat_le (length b.replicas) i.repl)
       ∙ sym (ap (λ z. not (list_any (λ (r : ℕ × Marks). not (is_plain r.1)) b.replicas) && option_map_or (λ (j : BlockInfo). nat_le (length b.replicas) j.repl) z true) e)
 
-  pub settled_unknown : (o : Option Block) (k : Count) → info_in o ≡ None → k ≡ counted_on rack draining none (listed o) → k.is_plain ≡ is_settled_at o
+  settled_unknown : (o : Option Block) (k : Count) → info_in o ≡ None → k ≡ counted_on rack draining none (listed o) → k.is_plain ≡ is_settled_at o
   unfolding is_settled_at
   settled_unknown None k e f = ap (λ z. z.is_plain) f
   settled_unknown (Some b) k e f =
@@ -93,3 +97,63 @@ module _ (rack : ℕ → Option ℕ) (draining : ℕ → Bool) where
       all : (c : Bool) → c ≡ (c && true)
       all true = refl
       all false = refl
+
+  -- a count that is as said decides the level
+  level_counted : (multi : Bool) (b : Block) (i : BlockInfo) (k : Count) → b.info ≡ Some i → IsCountOf rack draining i.repl b.replicas k
+      → level_of k.live k.drained i.repl (racks_of k) multi ≡ level_by rack draining multi (Some b)
+  unfolding racks_of
+  level_counted multi b i k e h =
+      elim h.decided [
+        | inl all ↦ level_known multi (Some b) i k e (sym (ap (counted_on rack draining k) all) ∙ h.counted)
+        | inr soon ↦
+            ap (λ s. level_of k.live k.drained i.repl (if s then 2 else from_bool (is_some k.first)) multi) soon.2 ∙ none_wanted k.live k.drained i.repl multi soon.1
+            ∙ level_soon multi (Some b) i k h.rest e h.counted soon.1 soon.2
+      ]
+
+  -- and whether the block is settled
+  settled_counted : (b : Block) (i : BlockInfo) (k : Count) → b.info ≡ Some i → IsCountOf rack draining i.repl b.replicas k → (k.is_plain && nat_le (length b.replicas) i.repl) ≡ is_settled_at (Some b)
+  settled_counted b i k e h =
+      elim h.decided [
+        | inl all ↦ settled_known (Some b) i k e (sym (ap (counted_on rack draining k) all) ∙ h.counted)
+        | inr soon ↦ ap (λ t. k.is_plain && t) (lt-leb (length b.replicas) i.repl soon.0) ∙ never k.is_plain ∙ settled_soon (Some b) i e soon.0
+      ]
+    where
+      never : (c : Bool) → (c && false) ≡ false
+      never true = refl
+      never false = refl
+
+  pub level_judged : (multi : Bool) (o : Option Block) (ts : List Triplet) (i : BlockInfo) (k : Count) → Some (Some i) ≡ option_map (λ (b : Block). b.info) o
+      → Some (map seen_triplet ts) ≡ option_map (λ (b : Block). b.replicas) o → IsCountOf rack draining i.repl (map seen_triplet ts) k
+      → level_of k.live k.drained i.repl (racks_of k) multi ≡ level_by rack draining multi o
+  level_judged multi None ts i k info is h = absurd (none-some _ (sym info))
+  level_judged multi (Some b) ts i k info is h =
+      level_counted multi b i k (sym (same_Some (Some i) b.info info)) (subst (λ rs. IsCountOf rack draining i.repl rs k) (same_Some (map seen_triplet ts) b.replicas is) h)
+
+  pub settled_judged : (o : Option Block) (ts : List Triplet) (i : BlockInfo) (k : Count) → Some (Some i) ≡ option_map (λ (b : Block). b.info) o
+      → Some (map seen_triplet ts) ≡ option_map (λ (b : Block). b.replicas) o → IsCountOf rack draining i.repl (map seen_triplet ts) k
+      → (k.is_plain && nat_le (length ts) i.repl) ≡ is_settled_at o
+  settled_judged None ts i k info is h = absurd (none-some _ (sym info))
+  settled_judged (Some b) ts i k info is h =
+      let rs = same_Some (map seen_triplet ts) b.replicas is in
+      let count : length ts ≡ length b.replicas = sym (length-map ts seen_triplet) ∙ ap length rs in
+      ap (λ n. k.is_plain && nat_le n i.repl) count ∙ settled_counted b i k (sym (same_Some (Some i) b.info info)) (subst (λ xs. IsCountOf rack draining i.repl xs k) rs h)
+
+  -- of an unknown block all replicas are counted
+  pub unknown_judged : (o : Option Block) (ts : List Triplet) (k : Count) → Some None ≡ option_map (λ (b : Block). b.info) o → Some (map seen_triplet ts) ≡ option_map (λ (b : Block). b.replicas) o
+      → IsCountOf rack draining (length ts) (map seen_triplet ts) k → k.is_plain ≡ is_settled_at o
+  unknown_judged None ts k info is h = absurd (none-some _ (sym info))
+  unknown_judged (Some b) ts k info is h =
+      let rs = same_Some (map seen_triplet ts) b.replicas is in
+      elim h.decided [
+        | inl all ↦ settled_unknown (Some b) k (sym (same_Some None b.info info)) (sym (ap (counted_on rack draining k) all) ∙ h.counted ∙ ap (counted_on rack draining none) rs)
+        | inr soon ↦ let same = length-map ts seen_triplet in absurd (omega (arith, soon.0, same))
+      ]
+
+  pub none_judged : (multi : Bool) (o : Option Block) → None ≡ option_map (λ (b : Block). b.info) o → (None ≡ level_by rack draining multi o) × (true ≡ is_settled_at o)
+  unfolding level_by is_settled_at
+  none_judged multi None info = (refl, refl)
+  none_judged multi (Some b) info = absurd (none-some _ (info))
+
+  pub unknown_level : (multi : Bool) (o : Option Block) → Some None ≡ option_map (λ (b : Block). b.info) o → None ≡ level_by rack draining multi o
+  unknown_level multi None info = absurd (none-some _ (sym info))
+  unknown_level multi (Some b) info = level_unknown multi (Some b) (sym (same_Some None b.info info))

@@ -1,11 +1,12 @@
 -- The replicas at a slot, place by place.
-use Rattle.std.specs.Prelude.{◌≡◌, ℕ, suc, ◌+◌, ◌<◌, ◌≤◌, List, [], ◌∷◌, length, drop, slice_get, Option, Some, None, option_map, option_and_then}
+use Rattle.std.specs.Prelude.{◌≡◌, ℕ, suc, ◌+◌, ◌<◌, ◌≤◌, List, [], ◌∷◌, length, map, drop, slice_get, Option, Some, None, option_map, option_and_then}
 use Rattle.std.specs.Option.{option_map_or}
-use Rattle.std.proofs.Common.{sym, ap, ◌∙◌, arith, inl, inr, drop_of_length-le}
-use Rattle.std.proofs.lemmas.Option.{slice_get_cases, slice_get-map}
+use Rattle.std.proofs.Common.{refl, sym, ap, ◌∙◌, arith, get_or, inl, inr, drop_of_length-le}
+use Rattle.std.proofs.lemmas.Option.{slice_get_cases, slice_get-map, slice_get_read}
 use Rattle.std.proofs.lemmas.List.{length-map}
 use Rattle.bm_base.specs.declared.replica.Marks.{Marks}
-use Rattle.bm_arena.specs.Triplets.{Block}
+use Rattle.bm_arena.specs.declared.types.Triplet.{Triplet}
+use Rattle.bm_arena.specs.Triplets.{Block, seen_triplet}
 use Rattle.bm_arena.specs.Contents.{Contents}
 use Rattle.bm_levels.specs.Kept.{slots_led}
 use Rattle.bm_report.proofs.Underway.{drop_next}
@@ -34,6 +35,16 @@ none_at (Some b) i e lt =
 pub end_at : (o : Option Block) (i : ℕ) → option_map_or (λ (b : Block). length b.replicas) o 0 ≤ i → drop i (listed o) ≡ []
 end_at None i h = drop_of_length-le {A = ℕ × Marks} [] (omega arith)
 end_at (Some b) i h = drop_of_length-le b.replicas h
+
+-- the triplet at a place is the next of those from it on, as they are seen
+pub next_triplet : (ts : List Triplet) (i : ℕ) (t : Triplet) → i < length ts → t ≡ get_or ts i t → drop i (map seen_triplet ts) ≡ seen_triplet t ∷ drop (i + 1) (map seen_triplet ts)
+next_triplet ts i t below read =
+    drop_next (map seen_triplet ts) i (seen_triplet t) (slice_get-map seen_triplet ts i ∙ ap (option_map seen_triplet) (slice_get_read ts (length ts) i t refl below read))
+    ∙ (let same : suc i ≡ i + 1 = omega arith in ap (λ k. seen_triplet t ∷ drop k (map seen_triplet ts)) same)
+
+-- none from their count on, as they are seen
+pub end_triplets : (ts : List Triplet) (i : ℕ) → length ts ≤ i → drop i (map seen_triplet ts) ≡ []
+end_triplets ts i h = drop_of_length-le (map seen_triplet ts) (let same = length-map ts seen_triplet in omega (arith, h, same))
 
 -- the slot at a place of those to which numbers lead
 pub led_next : (a : Contents) (i slot : ℕ) → Some slot ≡ option_map (λ (p : ℕ × ℕ). p.1) (slice_get a.ids i) → drop i (slots_led a) ≡ slot ∷ drop (i + 1) (slots_led a)

@@ -1,5 +1,5 @@
 -- Counting the replicas at a slot, one after another.
-use Rattle.std.specs.Prelude.{ℕ, ◌+◌, Bool, true, false, not, ◌&&◌, ◌||◌, ◌==◌, if◌then◌else◌, List, [], ◌∷◌, Option, Some, None, is_some}
+use Rattle.std.specs.Prelude.{◌≡◌, ℕ, ◌+◌, ◌<◌, ◌≤◌, ◌⊎◌, Bool, true, false, not, ◌&&◌, ◌||◌, ◌==◌, if◌then◌else◌, List, [], ◌∷◌, length, Option, Some, None, is_some}
 use Rattle.std.specs.Option.{option_map_or}
 use Rattle.std.specs.Int.{from_bool}
 use Rattle.bm_base.specs.declared.replica.Marks.{Marks}
@@ -30,3 +30,10 @@ counted_on rack draining k (r ∷ rs) = counted_on rack draining (one_more rack 
 -- on how many racks the live ones stand, 2 for more
 unfoldable pub racks_of : Count → ℕ
 racks_of k = if k.is_spread then 2 else from_bool (is_some k.first)
+
+-- The replicas of a list, counted: all of them, or the first ones, where the list has more than are wanted, so many as are wanted are live
+-- among the first, and they are on two racks.
+pub record IsCountOf (rack : ℕ → Option ℕ) (draining : ℕ → Bool) (wanted : ℕ) (rs : List (ℕ × Marks)) (k : Count) : Type 0 where
+  pub rest : List (ℕ × Marks)
+  pub counted : counted_on rack draining k rest ≡ counted_on rack draining none rs
+  pub decided : (rest ≡ []) ⊎ ((wanted < length rs) × (wanted ≤ k.live) × (k.is_spread ≡ true))

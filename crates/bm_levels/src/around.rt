@@ -1,10 +1,11 @@
 // The cluster as an event leaves it, as far as levels depend on it.
-ghost use Rattle.std.specs.Prelude.{◌≡◌, None};
+ghost use Rattle.std.specs.Prelude.{◌≡◌, None, false, option_map};
+ghost use Rattle.std.specs.Option.{option_map_or};
 ghost use Rattle.bm_base.specs.Replicas as replicas;
 ghost use Rattle.bm_levels.specs.Around.{rack_around, drains_around};
 
 use bm_base::{NodeId, StorageId};
-use bm_topo::{Location, Topology};
+use bm_topo::{Spot, Topology};
 
 /// A node that begins or ceases to drain.
 #[derive(Clone, Copy)]
@@ -39,22 +40,23 @@ impl<'a> Around<'a> {
         }
     }
 
-    /// Where a storage is.
+    /// Where a storage is; `None` where it is not known.
+    #[inline]
     #[tactic(auto, unfolding(crate::specs::Judged::drains_then, bm_base::specs::Replicas::is_draining))]
-    pub(crate) fn location_of(&self, storage: StorageId) -> Location
-        ensures rack { result.rack ≡ rack_around self.now storage }
-        ensures drains { result.drains ≡ drains_around self.now storage }
+    pub(crate) fn spot_of(&self, storage: StorageId) -> Option<Spot>
+        ensures rack { option_map (λ p. p.rack) result ≡ rack_around self.now storage }
+        ensures drains { option_map_or (λ p. p.drains) result false ≡ drains_around self.now storage }
     {
-        let location = self.topology.location_of(storage);
+        let spot = self.topology.spot_of(storage);
         let Some(turning) = self.turning else {
-            return location;
+            return spot;
         };
-        match location.node {
-            Some(node) if node == turning.node => Location {
+        match spot {
+            Some(spot) if spot.node == turning.node => Some(Spot {
                 drains: turning.drains,
-                ..location
-            },
-            _ => location,
+                ..spot
+            }),
+            _ => spot,
         }
     }
 }

@@ -34,6 +34,7 @@ impl Count {
     }
 
     /// One more replica.
+    #[inline]
     #[tactic(auto, unfolding(crate::specs::Counted::one_more))]
     pub(crate) fn add(&mut self, around: &Around<'_>, storage: StorageId, marks: Marks)
         requires live { self.old.live < 2 ^ 64 - 1 }
@@ -45,15 +46,16 @@ impl Count {
         if !marks.is_usable() {
             return;
         }
-        let location = around.location_of(storage);
-        if location.drains {
+        let Some(spot) = around.spot_of(storage) else {
+            self.live += 1;
+            return;
+        };
+        if spot.drains {
             self.drained += 1;
             return;
         }
         self.live += 1;
-        if let Some(rack) = location.rack {
-            self.see(rack);
-        }
+        self.see(spot.rack);
     }
 
     /// A live replica stands on this rack.

@@ -1,14 +1,14 @@
 // The judgement of one block.
-ghost use Rattle.std.specs.Prelude.{◌≡◌, true, false, None};
+ghost use Rattle.std.specs.Prelude.{◌≡◌, map, true};
 ghost use Rattle.bm_arena.specs.Contents.{block_at};
-ghost use Rattle.bm_arena.specs.Holding.{replicas_at};
+ghost use Rattle.bm_arena.specs.Triplets.{seen_triplet};
 ghost use Rattle.bm_levels.specs.Judged as judged;
-ghost use Rattle.bm_levels.specs.Counted as counted;
+ghost use Rattle.bm_levels.specs.Counted.{IsCountOf};
 ghost use Rattle.bm_levels.specs.Around.{rack_around, drains_around, level_around};
 
 use crate::around::Around;
 use crate::count::Count;
-use bm_arena::{Arena, Slot};
+use bm_arena::{Arena, Slot, Triplet};
 use bm_base::{Level, level_of};
 
 /// What is kept of a block beside its replicas.
@@ -27,72 +27,50 @@ pub(crate) fn are_alike(a: Judged, b: Judged) -> bool
     a == b
 }
 
-/// Judges the block at a slot: by the first of its replicas where they decide it, and else by one look at each.
-#[tactic(auto, unfolding(crate::specs::Judged::level_by, crate::specs::Judged::is_settled_at))]
+/// Judges the block at a slot, with one look at each replica, or at the first ones where they decide it.
 pub(crate) fn judge(arena: &Arena, slot: Slot, around: &Around<'_>) -> Judged
     ensures level { result.level ≡ level_around around.now (block_at arena.now slot) }
     ensures settled { result.is_settled ≡ judged.is_settled_at (block_at arena.now slot) }
 {
-    if is_soon_enough(arena, slot, around) {
+    let Some((info, triplets)) = arena.block(slot) else {
         return Judged {
             level: None,
-            is_settled: false,
-        };
-    }
-    let count = count_all(arena, slot, around);
-    let Some(info) = arena.info(slot) else {
-        return Judged {
-            level: None,
-            is_settled: count.is_plain,
+            is_settled: true,
         };
     };
-    let level = level_of(
-        count.live,
-        count.drained,
-        info.repl,
-        count.racks(),
-        around.multi,
-    );
-    Judged {
-        level,
-        is_settled: count.is_plain && arena.triplet_count(slot) <= info.repl as usize,
-    }
-}
-
-/// Whether the first replicas of a block decide how it is judged: where it has more than are wanted, and so many as are wanted are live,
-/// on two racks. Then it has no level and is not settled, whatever the others are.
-fn is_soon_enough(arena: &Arena, slot: Slot, around: &Around<'_>) -> bool
-    ensures level { result ≡ true → None ≡ level_around around.now (block_at arena.now slot) }
-    ensures settled { result ≡ true → false ≡ judged.is_settled_at (block_at arena.now slot) }
-{
-    let Some(info) = arena.info(slot) else {
-        return false;
+    let Some(info) = info else {
+        return Judged {
+            level: None,
+            is_settled: count(around, triplets, triplets.len()).is_plain,
+        };
     };
     let wanted = info.repl as usize;
-    if arena.triplet_count(slot) <= wanted {
-        return false;
+    let count = count(around, triplets, wanted);
+    Judged {
+        level: level_of(
+            count.live,
+            count.drained,
+            info.repl,
+            count.racks(),
+            around.multi,
+        ),
+        is_settled: count.is_plain && triplets.len() <= wanted,
     }
-    let mut count = Count::none();
-    for place in 0..arena.triplet_count(slot) {
-        if let Some((storage, marks)) = arena.triplet_at(slot, place) {
-            count.add(around, storage, marks);
-            if count.live >= wanted && count.is_spread {
-                return true;
-            }
-        }
-    }
-    false
 }
 
-/// Counts the replicas of the block at a slot.
-fn count_all(arena: &Arena, slot: Slot, around: &Around<'_>) -> Count
-    ensures { result ≡ counted.counted_on (rack_around around.now) (drains_around around.now)
-        counted.none (replicas_at arena.now slot) }
+/// Counts the replicas of a block. Where it has more than are wanted, it stops when so many as are wanted are live on two racks: the
+/// block has no level then and is not settled, whatever the other replicas are.
+fn count(around: &Around<'_>, triplets: &[Triplet], wanted: usize) -> Count
+    ensures { IsCountOf (rack_around around.now) (drains_around around.now) wanted
+        (map seen_triplet triplets.now) result }
 {
+    let may_stop = triplets.len() > wanted;
     let mut count = Count::none();
-    for place in 0..arena.triplet_count(slot) {
-        if let Some((storage, marks)) = arena.triplet_at(slot, place) {
-            count.add(around, storage, marks);
+    for triplet in triplets {
+        let (storage, marks) = triplet.replica();
+        count.add(around, storage, marks);
+        if may_stop && count.live >= wanted && count.is_spread {
+            return count;
         }
     }
     count
