@@ -1,14 +1,14 @@
 // The lists of a node's storages taken apart side by side: what is read of one list does not wait for what is read of another.
-ghost use Rattle.std.specs.Prelude.{◌≡◌, ◌≤◌, ◌+◌, ◌^◌, length};
-ghost use Rattle.bm_arena.specs.Contents.{list_of};
+ghost use Rattle.std.specs.Prelude.{◌≡◌, ◌==◌, ◌||◌, ◌≤◌, ◌+◌, ◌^◌, false};
 ghost use Rattle.bm_levels.specs.Bare.{MakesNoneBare};
-ghost use Rattle.bm_levels.specs.Leaving.{IsLeaving, MakesNoHead};
+ghost use Rattle.bm_levels.specs.Leaving.{IsLeaving, IsLeavingStorage, HasFirstSlots, MakesNoHead};
 ghost use Rattle.bm_levels.specs.Around.{is_on_node, KeepsLevelsAround};
 
 use crate::around::Around;
+use crate::first_slots::FirstSlots;
 use crate::judging_chunks::CHUNK;
 use crate::leveled::LeveledBlocks;
-use bm_arena::{Arena, Walk};
+use bm_arena::Arena;
 use bm_base::{NodeId, StorageId};
 
 /// Four storages, not all of which need to be different.
@@ -48,29 +48,46 @@ impl Four {
     }
 }
 
-/// Goes one slot on; answers how many it went, one or, at the end, none.
-fn step(walk: &mut Walk<'_>) -> usize
-    ensures left { length walk.old ≡ result + length walk.new }
-    ensures few { result ≤ 1 }
-{
-    usize::from(walk.next().is_some())
+/// The first slots of the lists of four storages.
+#[derive(Drop)]
+struct FirstOfFour {
+    first: FirstSlots,
+    second: FirstSlots,
+    third: FirstSlots,
+    fourth: FirstSlots,
 }
 
-/// Counts the slots in the lists of four storages, none behind the 64th of a list. It goes over the lists side by side.
-fn read_ahead(arena: &Arena, four: &Four) -> usize
-    ensures { result
-        ≤ length (list_of arena.now four.now.first) + length (list_of arena.now four.now.second)
-        + length (list_of arena.now four.now.third) + length (list_of arena.now four.now.fourth) }
+/// Reads the first slots of four lists in step, so that their cache misses overlap.
+fn first_of_four(arena: &Arena, four: &Four) -> FirstOfFour
+    ensures first { HasFirstSlots arena.now four.now.first result.first }
+    ensures second { HasFirstSlots arena.now four.now.second result.second }
+    ensures third { HasFirstSlots arena.now four.now.third result.third }
+    ensures fourth { HasFirstSlots arena.now four.now.fourth result.fourth }
 {
+    let mut lists = FirstOfFour {
+        first: FirstSlots::none(),
+        second: FirstSlots::none(),
+        third: FirstSlots::none(),
+        fourth: FirstSlots::none(),
+    };
     let mut first = arena.walk(four.first);
     let mut second = arena.walk(four.second);
     let mut third = arena.walk(four.third);
     let mut fourth = arena.walk(four.fourth);
-    let mut count = 0;
     for _place in 0..CHUNK {
-        count += step(&mut first) + step(&mut second) + step(&mut third) + step(&mut fourth);
+        lists.first.follow(&mut first);
+        lists.second.follow(&mut second);
+        lists.third.follow(&mut third);
+        lists.fourth.follow(&mut fourth);
     }
-    count
+    lists
+}
+
+/// Whether a storage is one of three.
+fn is_one_of(storage: StorageId, a: StorageId, b: StorageId, c: StorageId) -> bool
+    ensures { result ≡ ((storage == a || storage == b) || storage == c) }
+{
+    storage == a || storage == b || storage == c
 }
 
 impl LeveledBlocks {
@@ -113,40 +130,79 @@ impl LeveledBlocks {
         let mut removed = 0;
         for pass in 0..self.arena().slot_bound() / CHUNK + 1 {
             prove!(removed <= pass as u128 * 256);
-            if read_ahead(self.arena(), four) == 0 {
+            let lists = first_of_four(self.arena(), four);
+            let count = self.remove_first_of_four(around, node, four, &lists);
+            removed += count;
+            if count == 0 {
                 return removed;
             }
-            removed += self.remove_some_of_four(around, node, four);
         }
         removed
     }
 
-    /// Takes out replicas on those of four storages that are a node's, some on each; answers how many left.
-    fn remove_some_of_four(&mut self, around: &Around<'_>, node: NodeId, four: &Four) -> u128
+    /// Takes out the replicas of these first blocks in the lists of four storages, on those that are
+    /// a node's; answers how many left.
+    fn remove_first_of_four(
+        &mut self,
+        around: &Around<'_>,
+        node: NodeId,
+        four: &Four,
+        lists: &FirstOfFour,
+    ) -> u128
+        requires first { HasFirstSlots self.old.arena four.now.first lists.now.first }
+        requires second { HasFirstSlots self.old.arena four.now.second lists.now.second }
+        requires third { HasFirstSlots self.old.arena four.now.third lists.now.third }
+        requires fourth { HasFirstSlots self.old.arena four.now.fourth lists.now.fourth }
         ensures left { IsLeaving (is_on_node around.now node) self.old.arena self.new.arena result }
         ensures few { result ≤ 256 }
         ensures bare { MakesNoneBare self.old.arena self.new.arena }
         ensures fewer { MakesNoHead self.old.arena self.new.arena }
         ensures levels { KeepsLevelsAround around.now self.old self.new }
     {
-        let first = self.remove_some_of(around, node, four.first);
-        let second = self.remove_some_of(around, node, four.second);
-        let third = self.remove_some_of(around, node, four.third);
-        let fourth = self.remove_some_of(around, node, four.fourth);
+        let is_second_done = is_one_of(four.second, four.first, four.first, four.first);
+        let is_third_done = is_one_of(four.third, four.first, four.second, four.second);
+        let is_fourth_done = is_one_of(four.fourth, four.first, four.second, four.third);
+        let first = self.remove_first_once(around, node, four.first, &lists.first, false);
+        let second = self.remove_first_once(
+            around,
+            node,
+            four.second,
+            &lists.second,
+            is_second_done,
+        );
+        let third = self.remove_first_once(around, node, four.third, &lists.third, is_third_done);
+        let fourth = self.remove_first_once(
+            around,
+            node,
+            four.fourth,
+            &lists.fourth,
+            is_fourth_done,
+        );
         first + second + third + fourth
     }
 
-    /// Takes out replicas on a storage, if it is the node's: of some blocks, the first ones in its list; answers how many left.
-    fn remove_some_of(&mut self, around: &Around<'_>, node: NodeId, storage: StorageId) -> u128
+    /// Takes out the replicas on a storage of the first blocks in its list, if the storage is the
+    /// node's and was not done before; answers how many left.
+    fn remove_first_once(
+        &mut self,
+        around: &Around<'_>,
+        node: NodeId,
+        storage: StorageId,
+        slots: &FirstSlots,
+        is_done: bool,
+    ) -> u128
+        requires { is_done ≡ false → HasFirstSlots self.old.arena storage slots.now }
+        ensures storage { IsLeavingStorage storage self.old.arena self.new.arena result }
         ensures left { IsLeaving (is_on_node around.now node) self.old.arena self.new.arena result }
         ensures few { result ≤ 64 }
         ensures bare { MakesNoneBare self.old.arena self.new.arena }
         ensures fewer { MakesNoHead self.old.arena self.new.arena }
         ensures levels { KeepsLevelsAround around.now self.old self.new }
     {
-        if !around.topology.has_storage(node, storage) {
+        if is_done || !around.topology.has_storage(node, storage) {
             return 0;
         }
-        self.remove_some(around, storage) as u128
+        self.remove_first(around, storage, slots.as_slice());
+        slots.len() as u128
     }
 }

@@ -11,6 +11,7 @@ mod bare_entries;
 mod block_events;
 mod count;
 mod draining_nodes;
+mod first_slots;
 mod four_lists;
 mod judging;
 mod judging_chunks;

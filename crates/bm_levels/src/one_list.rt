@@ -7,27 +7,10 @@ ghost use Rattle.bm_levels.specs.Leaving.{IsLeavingStorage, HasFirstSlots, Drops
 ghost use Rattle.bm_levels.specs.Around.{KeepsLevelsAround};
 
 use crate::around::Around;
-use crate::judging_chunks::CHUNK;
+use crate::first_slots::FirstSlots;
 use crate::leveled::LeveledBlocks;
 use bm_arena::{Arena, Slot};
 use bm_base::StorageId;
-
-/// Writes the first slots in the list of a storage, as many as there is place for; answers how many.
-fn first_slots(arena: &Arena, storage: StorageId, slots: &mut [Slot]) -> usize
-    ensures within { result ≤ length slots.new }
-    ensures whole { length slots.new ≡ length slots.old }
-    ensures first { HasFirstSlots arena.now storage (take result slots.new) }
-    ensures none { result < length slots.old → list_of arena.now storage ≡ take result slots.new }
-{
-    let mut walk = arena.walk(storage);
-    for place in 0..slots.len() {
-        let Some(slot) = walk.next() else {
-            return place;
-        };
-        slots[place] = slot;
-    }
-    slots.len()
-}
 
 /// Takes out the replicas on a storage of the first blocks in its list.
 fn unlink_all(arena: &mut Arena, storage: StorageId, slots: &[Slot])
@@ -71,7 +54,7 @@ impl LeveledBlocks {
     }
 
     /// Takes out the replicas on a storage of some blocks, the first ones in its list; answers how many left.
-    pub(crate) fn remove_some(&mut self, around: &Around<'_>, storage: StorageId) -> usize
+    fn remove_some(&mut self, around: &Around<'_>, storage: StorageId) -> usize
         ensures left { IsLeavingStorage storage self.old.arena self.new.arena result }
         ensures list { length (list_of self.old.arena storage)
             ≡ result + length (list_of self.new.arena storage) }
@@ -81,15 +64,14 @@ impl LeveledBlocks {
         ensures fewer { MakesNoHead self.old.arena self.new.arena }
         ensures levels { KeepsLevelsAround around.now self.old self.new }
     {
-        let mut slots = [0; CHUNK];
-        let count = first_slots(self.arena(), storage, slots.as_mut_slice());
-        self.remove_first(around, storage, &slots[..count]);
-        count
+        let slots = FirstSlots::of(self.arena(), storage);
+        self.remove_first(around, storage, slots.as_slice());
+        slots.len()
     }
 
     /// Takes out the replicas on a storage of the first blocks in its list, and drops their entries that have neither a block nor
     /// another replica.
-    fn remove_first(&mut self, around: &Around<'_>, storage: StorageId, slots: &[Slot])
+    pub(crate) fn remove_first(&mut self, around: &Around<'_>, storage: StorageId, slots: &[Slot])
         requires { HasFirstSlots self.old.arena storage slots.now }
         ensures left { IsLeavingStorage storage self.old.arena self.new.arena (length slots.now) }
         ensures list { DropsFirstSlots storage slots.now self.old.arena self.new.arena }

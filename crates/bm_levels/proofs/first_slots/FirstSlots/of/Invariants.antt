@@ -1,0 +1,12 @@
+use Rattle.std.proofs.Common.{◌≡◌, ◌≤◌, ◌<◌, ◌++◌, length}
+use Rattle.bm_arena.specs.Contents.{list_of}
+use Rattle.bm_levels.proofs.first_slots.FirstSlots.of.Given as goal
+
+-- what was read, and what is left of the walk
+abbrev pub invariant-loop-place : goal.invariant-loop-place
+invariant-loop-place l =
+    record {
+      whole : list_of l.arena l.fn.storage ≡ l.first ++ l.walk;
+      few : length l.first ≤ l._place;
+      some : 0 < l._place → 0 < length (list_of l.arena l.fn.storage) → 0 < length l.first;
+    }

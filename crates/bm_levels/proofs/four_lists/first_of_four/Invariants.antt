@@ -1,0 +1,14 @@
+use Rattle.std.proofs.Common.{◌≡◌, ◌≤◌, ◌++◌, length}
+use Rattle.bm_arena.specs.Contents.{list_of}
+use Rattle.bm_levels.proofs.four_lists.first_of_four.Given as goal
+
+-- what was read of each list, and what is left of the walks
+abbrev pub invariant-loop-place : goal.invariant-loop-place
+invariant-loop-place l =
+    record {
+      first : list_of l.arena l.fn.four.first ≡ l.lists.first ++ l.first;
+      second : list_of l.arena l.fn.four.second ≡ l.lists.second ++ l.second;
+      third : list_of l.arena l.fn.four.third ≡ l.lists.third ++ l.third;
+      fourth : list_of l.arena l.fn.four.fourth ≡ l.lists.fourth ++ l.fourth;
+      few : (length l.lists.first ≤ l._place) × (length l.lists.second ≤ l._place) × (length l.lists.third ≤ l._place) × (length l.lists.fourth ≤ l._place);
+    }
