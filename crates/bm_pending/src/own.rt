@@ -42,10 +42,11 @@ fn count_one(counts: &mut IndexMap<u64, usize, HashSecret>, id: BlockId) -> Resu
         (count_at counts.old.entries q)) }
     ensures refused { IfErr result (λ e. e ≡ Memory) }
 {
-    let count = match counts.get(&id.0) {
-        Some(count) => *count + 1,
-        None => 1,
-    };
-    counts.insert(id.0, count)?;
-    Ok(count)
+    match counts.insert(id.0, 1)? {
+        Some(count) => {
+            counts.insert(id.0, count + 1)?;
+            Ok(count + 1)
+        }
+        None => Ok(1),
+    }
 }
