@@ -1,5 +1,5 @@
 // A crew whose workers share a bag.
-ghost use Rattle.std.specs.Prelude.{◌≡◌, ◌<◌, ◌≤◌, ◌+◌, [], MatchOption, IfOk, IfErr, vec_len, vec_capacity};
+ghost use Rattle.std.specs.Prelude.{◌≡◌, ◌<◌, ◌≤◌, ◌+◌, [], IfSome, IfOk, IfErr, vec_len, vec_capacity};
 ghost use Rattle.std.specs.List.{All, AllZip};
 ghost use Rattle.bm_base.specs.declared.refusal.Refusal.TheVariants.{Memory};
 ghost use Rattle.bm_crew.specs.Work.{IsResultOf};
@@ -26,7 +26,9 @@ pub struct Crew;
 #[derive(Drop)]
 pub struct Ready<T, U> {
     room: usize,
+    /// `None` where there are no workers but the calling thread.
     team: Option<Team<T, U>>,
+    /// The capacity is for a team: without one, no slot is needed.
     slots: Vec<Option<(u32, U)>>,
     results: Vec<(u32, U)>,
 }
@@ -37,9 +39,8 @@ impl<T, U> Model for Ready<T, U> {
     ghost view = { λ r. record { room = r.room; helpers = helpers_in r.team } };
 
     ghost invariant = { λ r.
-        MatchOption r.team (r.room ≡ 0) (IsTeamFor r.room)
+        IfSome r.team (λ team. IsTeamFor r.room team × (r.room ≤ vec_capacity r.slots))
         × (r.slots.items ≡ [])
-        × (r.room ≤ vec_capacity r.slots)
         × (r.results.items ≡ [])
         × (r.room ≤ vec_capacity r.results) };
 }
@@ -59,16 +60,16 @@ impl Crew {
         ensures none { IfOk result (λ r. n ≡ 0 → r.helpers ≡ 0) }
         ensures refused { IfErr result (λ e. e ≡ Memory) }
     {
-        let slots = Vec::with_capacity(alloc, n)?;
         let results = Vec::with_capacity(alloc, n)?;
-        if n == 0 {
+        if n == 0 || workers == 1 {
             return Ok(Ready {
-                room: 0,
+                room: n,
                 team: None,
-                slots,
+                slots: Vec::new(alloc),
                 results,
             });
         }
+        let slots = Vec::with_capacity(alloc, n)?;
         let team = Team::open(alloc, n, workers)?;
         Ok(Ready {
             room: n,
@@ -104,12 +105,6 @@ impl<T: Send + Drop, U: Send + Drop> Ready<T, U> {
             mut slots,
             results,
         } = self;
-        let Some(team) = team else {
-            return results;
-        };
-        for _ in 0..items.len() {
-            slots.push_reserved(None);
-        }
         let job = move |shard: u32, piece: T| -> U
             requires { F.pre work.now shard piece }
             ensures { F.post work.entry.now shard piece result }
@@ -117,6 +112,44 @@ impl<T: Send + Drop, U: Send + Drop> Ready<T, U> {
             gate.at(shard);
             work(shard, piece)
         };
+        if items.len() < 2 {
+            return work_in_turn(items, results, &job);
+        }
+        let Some(team) = team else {
+            return work_in_turn(items, results, &job);
+        };
+        for _ in 0..items.len() {
+            slots.push_reserved(None);
+        }
         results_from_slots(team.work(rt, items, slots, &job), results)
     }
+}
+
+impl<T: Drop, U: Drop> Ready<T, U> {
+    /// What [`Ready::run`] gives, by the calling thread alone: it needs no runtime, passes no gate, and returns.
+    pub fn run_alone<F: Fn(u32, T) -> U>(self, items: Vec<(u32, T)>, work: &F) -> Vec<(u32, U)>
+        requires room { vec_len items ≤ self.room }
+        requires accepts { All (λ item. F.pre work.now item.0 item.1) items.items }
+        ensures len { vec_len result ≡ vec_len items }
+        ensures each { AllZip (IsResultOf (F.post work.now)) items.items result.items }
+    {
+        work_in_turn(items, self.results, work)
+    }
+}
+
+/// Works each item in turn, and moves the results into the capacity of `results`.
+fn work_in_turn<T: Drop, U: Drop, J: Fn(u32, T) -> U>(
+    items: Vec<(u32, T)>,
+    mut results: Vec<(u32, U)>,
+    job: &J,
+) -> Vec<(u32, U)>
+    requires room { (results.items ≡ []) × (vec_len items ≤ vec_capacity results) }
+    requires accepts { All (λ item. J.pre job.now item.0 item.1) items.items }
+    ensures len { vec_len result ≡ vec_len items }
+    ensures each { AllZip (IsResultOf (J.post job.now)) items.items result.items }
+{
+    for (shard, piece) in items {
+        results.push_reserved((shard, job(shard, piece)));
+    }
+    results
 }

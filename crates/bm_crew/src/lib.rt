@@ -1,7 +1,10 @@
 //! One piece of work for each shard, by a crew of workers that share a bag of pieces.
 //!
 //! [`Crew::ready`] takes all memory, [`Ready::run`] then works every item and refuses nothing: one result for each
-//! item, in the order of items, whatever the threads do and however few of them can be started.
+//! item, in the order of items, whatever the threads do and however few of them can be started. [`Ready::run_alone`]
+//! gives the same by the calling thread alone, for callers without a runtime.
+//!
+//! Where there is one worker or one item, `run` works the items in turn, and no bag is used.
 //!
 //! Pieces lie in a [`Bag`], and a free worker takes the next one, so no worker waits while a piece lies there. It goes on
 //! until it finds the bag empty. Each worker has a [`BagPass`]: the right to take from the bag, and a note for proofs of
