@@ -1,4 +1,4 @@
-// Shards that a crew asked one by one, and their answers, gathered. No shard changes.
+// Shards that the workers asked one by one, and their answers, gathered. No shard changes.
 ghost use Rattle.std.specs.Prelude.{◌≡◌, ◌≤◌, ◌<◌, ◌+◌, ◌++◌, ℕ, [], List, map, vec_len, vec_capacity};
 ghost use Rattle.std.specs.Result.{result_ok};
 ghost use Rattle.std.specs.List.{AllZip, filter_map, cons_option};
@@ -11,7 +11,7 @@ use bm_shard::Shard;
 
 /// A shard, and what it was asked, or that this was refused.
 #[derive(Drop)]
-pub(crate) struct Answered<A> {
+pub struct Answered<A> {
     pub shard: Shard,
     pub answer: Result<A, Refusal>,
 }

@@ -1,5 +1,5 @@
-// An event on all shards, worked by a crew: made on all of them, or on none.
-ghost use Rattle.std.specs.Prelude.{◌≡◌, ◌<◌, ◌≤◌, ℕ, [], None, IfOk, IfErr, OnOk, OnErr, length, vec_len, vec_capacity};
+// An event on all shards: made on all of them, or on none.
+ghost use Rattle.std.specs.Prelude.{◌≡◌, ◌≤◌, ℕ, [], None, IfOk, IfErr, OnOk, OnErr, length, vec_len, vec_capacity};
 ghost use Rattle.std.specs.List.{All, AllZip};
 ghost use Rattle.bm_base.specs.declared.refusal.Refusal.TheVariants.{Memory};
 ghost use Rattle.bm_base.specs.Replicas.{is_multi_rack};
@@ -13,29 +13,25 @@ ghost use Rattle.bm_fleet.specs.Whole.{AreShards, EachStandsIn, EachTook, held_b
 use crate::crewed::{Committed, Prepared};
 use crate::gathering::{abort_all, gather_committed, gather_prepared};
 use crate::pass_room::pass_room;
-use crate::running::{commit_all, prepare_all};
+use crate::workers::Workers;
 use bm_base::{Done, Event, Refusal};
-use bm_crew::{Gate, Ready};
+use bm_crew::Ready;
 use bm_shard::Shard;
 use bm_topo::Topology;
 use std::alloc::Global;
 use std::mem;
-use std::sync::Wait;
-use std::thread::Threads;
 
-/// Changes all shards by an event on no block, or none of them: a crew of `workers`, the calling thread among them, takes the memory of the
-/// event in each shard, and then changes each. `Memory`, and then nothing that is seen has changed but room.
-pub(crate) fn change_all<R: Threads + Wait + Sync, G: Gate + Sync>(
+/// Changes all shards by an event on no block, or none of them: the workers take the memory of the
+/// event in each shard, and then change each. `Memory`, and then nothing that is seen has changed
+/// but room.
+pub(crate) fn change_all<W: Workers>(
     alloc: Global,
-    rt: &R,
-    gate: &G,
-    workers: usize,
+    workers: &W,
     shards: &mut Vec<(u32, Shard)>,
     event: &Event,
     topology: &Topology,
     multi: bool,
 ) -> Result<Done, Refusal>
-    requires workers { 0 < workers }
     requires cluster { first_of (cluster_checks topology.now.cluster event.now) ≡ None }
     requires every { block_of event.now ≡ None }
     requires blocks { All (Accepts event.now) shards.old.items }
@@ -55,9 +51,9 @@ pub(crate) fn change_all<R: Threads + Wait + Sync, G: Gate + Sync>(
     ensures still { OnErr result (EachStandsIn topology.now.cluster shards.new.items) }
     ensures refused { IfErr result (λ e. e ≡ Memory) }
 {
-    match prepare_for_event(alloc, rt, gate, workers, shards, event, topology) {
+    match prepare_for_event(alloc, workers, shards, event, topology) {
         Ok((committing, back)) => Ok(commit_and_gather(
-            rt, gate, committing, shards, back, event, topology, multi,
+            workers, committing, shards, back, event, topology, multi,
         )),
         Err(refusal) => {
             abort_all(shards);
@@ -68,16 +64,13 @@ pub(crate) fn change_all<R: Threads + Wait + Sync, G: Gate + Sync>(
 
 /// Prepares all shards, and takes the memory of the pass that changes them. After a refusal, those
 /// that were prepared stay prepared.
-fn prepare_for_event<R: Threads + Wait + Sync, G: Gate + Sync>(
+fn prepare_for_event<W: Workers>(
     alloc: Global,
-    rt: &R,
-    gate: &G,
-    workers: usize,
+    workers: &W,
     shards: &mut Vec<(u32, Shard)>,
     event: &Event,
     topology: &Topology,
 ) -> Result<(Ready<Shard, Committed>, Vec<(u32, Shard)>), Refusal>
-    requires workers { 0 < workers }
     requires cluster { first_of (cluster_checks topology.now.cluster event.now) ≡ None }
     requires blocks { All (Accepts event.now) shards.old.items }
     requires standing { EachStandsIn topology.now.cluster shards.old.items }
@@ -88,20 +81,19 @@ fn prepare_for_event<R: Threads + Wait + Sync, G: Gate + Sync>(
         (λ r. (r.1.items ≡ []) × (vec_len shards.new ≤ vec_capacity r.1)) }
     ensures refused { IfErr result (λ e. e ≡ Memory) }
 {
-    let (preparing, back) = pass_room::<Prepared>(alloc, shards.len(), workers)?;
+    let (preparing, back) = pass_room::<Prepared>(alloc, shards.len(), workers.count())?;
     let items = mem::replace(shards, back);
-    let made = prepare_all(rt, gate, preparing, items, event, topology);
+    let made = workers.prepare_all(preparing, items, event, topology);
     match gather_prepared(made, shards) {
-        Ok(()) => pass_room::<Committed>(alloc, shards.len(), workers),
+        Ok(()) => pass_room::<Committed>(alloc, shards.len(), workers.count()),
         Err(refusal) => Err(refusal),
     }
 }
 
 /// Changes all shards, each of which is ready, and adds up what they answer. `back` takes the shards
 /// back.
-fn commit_and_gather<R: Threads + Wait + Sync, G: Gate + Sync>(
-    rt: &R,
-    gate: &G,
+fn commit_and_gather<W: Workers>(
+    workers: &W,
     committing: Ready<Shard, Committed>,
     shards: &mut Vec<(u32, Shard)>,
     back: Vec<(u32, Shard)>,
@@ -125,6 +117,6 @@ fn commit_and_gather<R: Threads + Wait + Sync, G: Gate + Sync>(
         → EachTook round pend shards.new.items }
 {
     let items = mem::replace(shards, back);
-    let made = commit_all(rt, gate, committing, items, event, topology, multi);
+    let made = workers.commit_all(committing, items, event, topology, multi);
     gather_committed(made, shards)
 }

@@ -1,4 +1,4 @@
-// What a crew does with one shard for an event.
+// What the workers do with one shard for an event.
 ghost use Rattle.std.specs.Prelude.{◌≡◌, ◌<◌, ◌^◌, None, IfErr, OnOk};
 ghost use Rattle.bm_base.specs.Replicas.{is_multi_rack};
 ghost use Rattle.bm_base.specs.Events.{change_cluster};
@@ -15,14 +15,14 @@ use bm_topo::Topology;
 
 /// A shard that was prepared, and whether that was refused.
 #[derive(Drop)]
-pub(crate) struct Prepared {
+pub struct Prepared {
     pub shard: Shard,
     pub outcome: Result<(), Refusal>,
 }
 
 /// A shard that was changed, and what it answered.
 #[derive(Drop)]
-pub(crate) struct Committed {
+pub struct Committed {
     pub shard: Shard,
     pub done: Done,
 }

@@ -1,5 +1,5 @@
 // An event, made on all shards, on one of them, or on none.
-ghost use Rattle.std.specs.Prelude.{◌≡◌, ◌<◌, ℕ, None, IfOk, IfErr, OnOk, OnErr};
+ghost use Rattle.std.specs.Prelude.{◌≡◌, ℕ, None, IfOk, IfErr, OnOk, OnErr};
 ghost use Rattle.bm_base.specs.Replicas.{is_multi_rack};
 ghost use Rattle.bm_base.specs.Events.{change_cluster, change_holdings};
 ghost use Rattle.bm_base.specs.Calls.{done};
@@ -10,29 +10,24 @@ ghost use Rattle.bm_fleet.specs.Whole.{StandsIn, HasTaken};
 use crate::changing::change_all;
 use crate::fleet::Fleet;
 use crate::one_shard::change_own;
+use crate::workers::Workers;
 use bm_base::{Done, Event, Refusal};
-use bm_crew::Gate;
 use bm_parts::events::block_of;
 use bm_topo::Topology;
-use std::sync::Wait;
-use std::thread::Threads;
 
 impl Fleet {
     /// Changes the shards by an event that no check refuses. A heartbeat touches none; an event on a block touches the block's shard alone;
-    /// any other is made by a crew of `workers`, the calling thread among them, on all shards or on none. `topology` is the cluster before
+    /// any other is made by the workers, on all shards or on none. `topology` is the cluster before
     /// the event, `multi` says whether the alive nodes stand on two racks or more after it. Answers how many replicas came and went.
     /// `Memory`, but for an event that takes no memory, and then nothing that is seen has changed but room.
     #[tactic(auto, unfolding(crate::specs::Whole::StandsIn, crate::specs::Whole::HasTaken))]
-    pub fn change<R: Threads + Wait + Sync, G: Gate + Sync>(
+    pub fn change<W: Workers>(
         &mut self,
-        rt: &R,
-        gate: &G,
-        workers: usize,
+        workers: &W,
         event: &Event,
         topology: &Topology,
         multi: bool,
     ) -> Result<Done, Refusal>
-        requires workers { 0 < workers }
         requires cluster { first_of (cluster_checks topology.now.cluster event.now) ≡ None }
         requires blocks { first_of (block_checks self.old.holdings event.now) ≡ None }
         requires multi { multi ≡ is_multi_rack (change_cluster topology.now.cluster event.now) }
@@ -59,8 +54,6 @@ impl Fleet {
             Some(id) => change_own(&mut self.shards, id, event, topology, multi),
             None => change_all(
                 self.alloc,
-                rt,
-                gate,
                 workers,
                 &mut self.shards,
                 event,

@@ -1,4 +1,4 @@
-// Shards that a crew worked, gathered. Nothing here takes memory.
+// Shards that the workers give back, gathered. Nothing here takes memory.
 ghost use Rattle.std.specs.Prelude.{◌≡◌, ◌≤◌, [], map, length, vec_len, vec_capacity};
 ghost use Rattle.std.specs.Result.{result_and};
 ghost use Rattle.std.specs.List.{All, AllZip};

@@ -12,10 +12,10 @@ use bm_parts::merge::Key;
 use std::alloc::{AllocError, Global};
 
 /// A block, and the first of its places.
-pub(crate) type Row = (BlockId, Places);
+pub type Row = (BlockId, Places);
 
 /// The rows of one shard.
-pub(crate) type Rows = Items<Row>;
+pub type Rows = Items<Row>;
 
 /// Where a row stands: in which list, and at which place there.
 type RowPlace = (usize, usize);

@@ -1,4 +1,5 @@
-//! All shards of a block manager, worked by a crew: what they hold together changes as the definitions change the whole.
+//! All shards of a block manager, worked by a crew of threads or by the calling thread alone ([`Workers`]): what they
+//! hold together changes as the definitions change the whole.
 //!
 //! An event on a block is made on the block's shard alone, any other on every shard or on none ([`Fleet::change`]); so is a round
 //! ([`Fleet::round`]). What is asked of all shards is joined by one merge of their answers.
@@ -6,6 +7,7 @@
 
 mod answered;
 mod asking;
+mod calling_thread;
 mod changing;
 mod crewed;
 mod events;
@@ -19,9 +21,12 @@ mod pass_room;
 mod round_choice;
 mod round_crewed;
 mod round_found;
-mod round_running;
 mod rounding;
-mod running;
 mod table;
+mod threaded;
+mod workers;
 
+pub use calling_thread::CallingThread;
 pub use fleet::Fleet;
+pub use threaded::Threaded;
+pub use workers::Workers;

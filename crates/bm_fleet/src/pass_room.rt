@@ -1,4 +1,4 @@
-// The memory of one pass of a crew over all shards.
+// The memory of one pass of the workers over all shards.
 ghost use Rattle.std.specs.Prelude.{◌≡◌, ◌<◌, ◌≤◌, [], IfOk, IfErr, vec_capacity};
 ghost use Rattle.bm_base.specs.declared.refusal.Refusal.TheVariants.{Memory};
 

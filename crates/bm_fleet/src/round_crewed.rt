@@ -1,4 +1,4 @@
-// What a crew does with one shard for a round.
+// What the workers do with one shard for a round.
 ghost use Rattle.std.specs.Prelude.{◌≡◌, ◌<◌, ◌+◌, ◌^◌, IfOk, IfErr, OnOk};
 ghost use Rattle.bm_base.specs.declared.refusal.Refusal.TheVariants.{Memory};
 ghost use Rattle.bm_base.specs.RoundParts.{round_on_part};

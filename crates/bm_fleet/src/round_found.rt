@@ -1,5 +1,5 @@
 // What all shards have for a round: of their first wishes, or of all.
-ghost use Rattle.std.specs.Prelude.{◌≡◌, ◌<◌, None, IsSome, map, false, IfOk, IfErr};
+ghost use Rattle.std.specs.Prelude.{◌≡◌, None, IsSome, map, false, IfOk, IfErr};
 ghost use Rattle.std.specs.List.{All};
 ghost use Rattle.bm_base.specs.declared.refusal.Refusal.TheVariants.{Memory};
 ghost use Rattle.bm_base.specs.State.{limits_of};
@@ -13,17 +13,14 @@ ghost use Rattle.bm_fleet.specs.RoundChosen.{next_parts, next_parts_before, HasE
 use crate::answered::{Answered, gather_answers};
 use crate::pass_room::pass_room;
 use crate::round_choice::{ChosenCommands, choice_of};
-use crate::round_running::find_all;
+use crate::workers::Workers;
 use bm_base::{Config, Refusal, RoundPart};
-use bm_crew::Gate;
 use bm_parts::merge::Key;
 use bm_round::is_full;
 use bm_shard::Shard;
 use bm_topo::Topology;
 use std::alloc::Global;
 use std::mem;
-use std::sync::Wait;
-use std::thread::Threads;
 
 /// What the shards have for their next round, of whose wishes the first may be there alone, and what is chosen of all.
 #[derive(Drop)]
@@ -35,10 +32,9 @@ pub(crate) struct FoundRound {
 /// Returns what the shards have for their next round, with what is chosen of all of it. Asks first for
 /// the wishes that the round is likely to need, and for all of them only where it can have further
 /// transfers. No shard changes.
-pub(crate) fn find_round<R: Threads + Wait + Sync, G: Gate + Sync>(
+pub(crate) fn find_round<W: Workers>(
     alloc: Global,
-    rt: &R,
-    gate: &G,
+    workers: &W,
     shards: &mut Vec<(u32, Shard)>,
     config: &Config,
     round: u64,
@@ -59,11 +55,11 @@ pub(crate) fn find_round<R: Threads + Wait + Sync, G: Gate + Sync>(
 {
     let bound = bound_of_shards(shards.as_slice(), config, topology)?;
     if let Some(found) = find_round_before(
-        alloc, rt, gate, shards, config, round, topology, bound,
+        alloc, workers, shards, config, round, topology, bound,
     )? {
         return Ok(found);
     }
-    match find_round_before(alloc, rt, gate, shards, config, round, topology, None)? {
+    match find_round_before(alloc, workers, shards, config, round, topology, None)? {
         Some(found) => Ok(found),
         None => unreachable!(),
     }
@@ -71,10 +67,9 @@ pub(crate) fn find_round<R: Threads + Wait + Sync, G: Gate + Sync>(
 
 /// Returns what the shards have for their next round, with the wishes before a bound and what is
 /// chosen of them; `None` where more may be chosen of all wishes. No shard changes.
-fn find_round_before<R: Threads + Wait + Sync, G: Gate + Sync>(
+fn find_round_before<W: Workers>(
     alloc: Global,
-    rt: &R,
-    gate: &G,
+    workers: &W,
     shards: &mut Vec<(u32, Shard)>,
     config: &Config,
     round: u64,
@@ -95,8 +90,7 @@ fn find_round_before<R: Threads + Wait + Sync, G: Gate + Sync>(
     ensures whole { bound ≡ None → IfOk result (λ o. IsSome o) }
     ensures refused { IfErr result (λ e. e ≡ Memory) }
 {
-    let workers = config.workers as usize;
-    let parts = find_parts(alloc, rt, gate, workers, shards, round, topology, bound)?;
+    let parts = find_parts(alloc, workers, shards, round, topology, bound)?;
     let choice = choice_of(alloc, parts.as_slice(), config, round, topology)?;
     if bound.is_some() && !is_full(&choice.chosen, topology, config) {
         return Ok(None);
@@ -105,17 +99,14 @@ fn find_round_before<R: Threads + Wait + Sync, G: Gate + Sync>(
 }
 
 /// Returns what each shard has for its next round, with the wishes before a bound. No shard changes.
-fn find_parts<R: Threads + Wait + Sync, G: Gate + Sync>(
+fn find_parts<W: Workers>(
     alloc: Global,
-    rt: &R,
-    gate: &G,
-    workers: usize,
+    workers: &W,
     shards: &mut Vec<(u32, Shard)>,
     round: u64,
     topology: &Topology,
     bound: Option<Key>,
 ) -> Result<Vec<RoundPart>, Refusal>
-    requires workers { 0 < workers }
     requires shards { All (CanFind topology.now.cluster round) shards.old.items }
     ensures shards { shards.new.items ≡ shards.old.items }
     ensures parts { IfOk result
@@ -123,9 +114,9 @@ fn find_parts<R: Threads + Wait + Sync, G: Gate + Sync>(
     ensures refused { IfErr result (λ e. e ≡ Memory) }
 {
     let answers = Vec::with_capacity(alloc, shards.len())?;
-    let (asking, back) = pass_room::<Answered<RoundPart>>(alloc, shards.len(), workers)?;
+    let (asking, back) = pass_room::<Answered<RoundPart>>(alloc, shards.len(), workers.count())?;
     let items = mem::replace(shards, back);
-    let found = find_all(rt, gate, asking, items, round, topology, bound);
+    let found = workers.find_all(asking, items, round, topology, bound);
     gather_answers(found, shards, answers)
 }
 

@@ -14,25 +14,22 @@ use crate::fleet::Fleet;
 use crate::gathering::{abort_all, gather_prepared};
 use crate::pass_room::pass_room;
 use crate::round_found::find_round;
-use crate::round_running::{commit_round_all, prepare_round_all};
+use crate::workers::Workers;
 use bm_base::{Chosen, Commands, Config, Refusal, RoundPart};
-use bm_crew::{Crew, Gate, Ready};
+use bm_crew::{Crew, Ready};
 use bm_shard::Shard;
 use bm_topo::Topology;
 use std::alloc::Global;
 use std::mem;
-use std::sync::Wait;
-use std::thread::Threads;
 
 impl Fleet {
-    /// Takes the round after `last` in all shards, or in none, and tells what it commands each DataNode: a crew of `config.workers`, the
-    /// calling thread among them, finds what each shard has for it; of all that is chosen what is copied and deleted; then each shard is
+    /// Takes the round after `last` in all shards, or in none, and tells what it commands each DataNode: the
+    /// workers find what each shard has for it; of all that is chosen what is copied and deleted; then each shard is
     /// made ready, and changed. `Memory`, and then nothing that is seen has changed but room.
     #[tactic(auto, unfolding(crate::specs::Whole::StandsIn, crate::specs::Whole::HasTaken))]
-    pub fn round<R: Threads + Wait + Sync, G: Gate + Sync>(
+    pub fn round<W: Workers>(
         &mut self,
-        rt: &R,
-        gate: &G,
+        workers: &W,
         config: &Config,
         last: u64,
         topology: &Topology,
@@ -55,8 +52,7 @@ impl Fleet {
     {
         round_all(
             self.alloc,
-            rt,
-            gate,
+            workers,
             &mut self.shards,
             config,
             last,
@@ -66,10 +62,9 @@ impl Fleet {
 }
 
 /// Takes the round after `last` in all shards, or in none, and tells what it commands.
-fn round_all<R: Threads + Wait + Sync, G: Gate + Sync>(
+fn round_all<W: Workers>(
     alloc: Global,
-    rt: &R,
-    gate: &G,
+    workers: &W,
     shards: &mut Vec<(u32, Shard)>,
     config: &Config,
     last: u64,
@@ -93,12 +88,10 @@ fn round_all<R: Threads + Wait + Sync, G: Gate + Sync>(
     ensures kept { OnErr result (EachTook last config.now.pend shards.new.items) }
     ensures refused { IfErr result (λ e. e ≡ Memory) }
 {
-    let found = find_round(alloc, rt, gate, shards, config, last + 1, topology)?;
+    let found = find_round(alloc, workers, shards, config, last + 1, topology)?;
     take_round(
         alloc,
-        rt,
-        gate,
-        config.workers as usize,
+        workers,
         shards,
         found.parts.as_slice(),
         &found.choice.chosen,
@@ -109,17 +102,14 @@ fn round_all<R: Threads + Wait + Sync, G: Gate + Sync>(
 }
 
 /// Takes the next round in all these shards, or in none of them.
-fn take_round<R: Threads + Wait + Sync, G: Gate + Sync>(
+fn take_round<W: Workers>(
     alloc: Global,
-    rt: &R,
-    gate: &G,
-    workers: usize,
+    workers: &W,
     shards: &mut Vec<(u32, Shard)>,
     parts: &[RoundPart],
     chosen: &Chosen,
     topology: &Topology,
 ) -> Result<(), Refusal>
-    requires workers { 0 < workers }
     requires parts { All (HasPart topology.now.cluster parts.now) shards.old.items }
     requires standing { EachStandsIn topology.now.cluster shards.old.items }
     requires counted { All (λ s. s.1.round + 1 < 2 ^ 64) shards.old.items }
@@ -128,10 +118,10 @@ fn take_round<R: Threads + Wait + Sync, G: Gate + Sync>(
     ensures same { OnErr result (AllZip IsSame shards.old.items shards.new.items) }
     ensures refused { IfErr result (λ e. e ≡ Memory) }
 {
-    match prepare_for_round(alloc, rt, gate, workers, shards, parts, chosen, topology) {
+    match prepare_for_round(alloc, workers, shards, parts, chosen, topology) {
         Ok(committing) => {
             let items = mem::replace(shards, Vec::new(alloc));
-            *shards = commit_round_all(rt, gate, committing, items, parts, chosen, topology);
+            *shards = workers.commit_round_all(committing, items, parts, chosen, topology);
             Ok(())
         }
         Err(refusal) => {
@@ -143,17 +133,14 @@ fn take_round<R: Threads + Wait + Sync, G: Gate + Sync>(
 
 /// Prepares all shards for their next round, and takes the memory of the pass in which they take it.
 /// After a refusal, those that were prepared stay prepared.
-fn prepare_for_round<R: Threads + Wait + Sync, G: Gate + Sync>(
+fn prepare_for_round<W: Workers>(
     alloc: Global,
-    rt: &R,
-    gate: &G,
-    workers: usize,
+    workers: &W,
     shards: &mut Vec<(u32, Shard)>,
     parts: &[RoundPart],
     chosen: &Chosen,
     topology: &Topology,
 ) -> Result<Ready<Shard, Shard>, Refusal>
-    requires workers { 0 < workers }
     requires parts { All (HasPart topology.now.cluster parts.now) shards.old.items }
     requires standing { EachStandsIn topology.now.cluster shards.old.items }
     requires counted { All (λ s. s.1.round + 1 < 2 ^ 64) shards.old.items }
@@ -163,11 +150,11 @@ fn prepare_for_round<R: Threads + Wait + Sync, G: Gate + Sync>(
     ensures room { IfOk result (λ r. r.room ≡ vec_len shards.new) }
     ensures refused { IfErr result (λ e. e ≡ Memory) }
 {
-    let (preparing, back) = pass_room::<Prepared>(alloc, shards.len(), workers)?;
+    let (preparing, back) = pass_room::<Prepared>(alloc, shards.len(), workers.count())?;
     let items = mem::replace(shards, back);
-    let made = prepare_round_all(rt, gate, preparing, items, parts, chosen, topology);
+    let made = workers.prepare_round_all(preparing, items, parts, chosen, topology);
     match gather_prepared(made, shards) {
-        Ok(()) => Crew::ready::<Shard, Shard>(alloc, shards.len(), workers),
+        Ok(()) => Crew::ready::<Shard, Shard>(alloc, shards.len(), workers.count()),
         Err(refusal) => Err(refusal),
     }
 }

@@ -6,7 +6,7 @@ use Rattle.bm_fleet.proofs.Staying.{all_same_again, still_shards, same_held, sam
 use Rattle.bm_fleet.proofs.changing.change_all.Goals as goal
 
 pub commit_and_gather-requires-clause-shards : goal.commit_and_gather-requires-clause-shards
-commit_and_gather-requires-clause-shards g c _ _ = still_shards _ _ c.prepare_for_event.ensures.same c.requires.shards
+commit_and_gather-requires-clause-shards g c = still_shards _ _ c.prepare_for_event.ensures.same c.requires.shards
 
 pub returns-in-Ok-clause-done : goal.returns-in-Ok-clause-done
 returns-in-Ok-clause-done g c = c.commit_and_gather.ensures.done ∙ ap (λ H. done H (held_by c.commit_and_gather.new.shards.items)) (same_held _ _ c.prepare_for_event.ensures.same)

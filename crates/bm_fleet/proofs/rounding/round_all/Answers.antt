@@ -13,22 +13,22 @@ use Rattle.bm_fleet.proofs.RoundEnd.{end_shards, end_stands, end_took, end_held,
 use Rattle.bm_fleet.proofs.rounding.round_all.Goals as goal
 
 pub find_round-requires-clause-shards : goal.find_round-requires-clause-shards
-find_round-requires-clause-shards g c _ _ = can_find c.args.topology.now.cluster c.args.last c.args.config.now.pend _ c.requires.standing c.requires.rounds
+find_round-requires-clause-shards g c = can_find c.args.topology.now.cluster c.args.last c.args.config.now.pend _ c.requires.standing c.requires.rounds
 
 pub find_round-requires-clause-one_wish : goal.find_round-requires-clause-one_wish
-find_round-requires-clause-one_wish g c _ _ =
+find_round-requires-clause-one_wish g c =
     let C = c.args.topology.now.cluster in
     wished_once C (limits_of c.args.config.now) c.args.last c.args.shards.now.items (next_parts C c.args.shards.now.items) refl c.requires.shards c.requires.rounds
 
 pub take_round-requires-clause-parts : goal.take_round-requires-clause-parts
-take_round-requires-clause-parts g c _ _ =
+take_round-requires-clause-parts g c =
     let C = c.args.topology.now.cluster in
     let excess = c.in_ok-found.ensures.excess in
     subst (All (HasPart C c.as_slice.result.now)) (sym c.find_round.ensures.shards)
     (have_parts C _ c.as_slice.result.now c.args.shards.now.items (subst (HasExcess C c.args.shards.now.items) (sym c.as_slice.ensures.value) excess) c.requires.shards.indexed)
 
 pub take_round-requires-clause-counted : goal.take_round-requires-clause-counted
-take_round-requires-clause-counted g c _ _ =
+take_round-requires-clause-counted g c =
     subst (All (λ (s : ℕ × Seen). s.1.round + 1 < 2 ^ 64)) (sym c.find_round.ensures.shards)
     (all_counted c.args.last c.args.config.now.pend c.args.shards.now.items c.requires.counted c.requires.rounds)
 

@@ -16,11 +16,11 @@ returns-in-Heartbeat-clause-standing g c =
     stands_heard c.args.topology.now.cluster c.args.event.now c.in-Heartbeat.node c.in-Heartbeat.remaining c.args.self.now c.in-Heartbeat.is c.lawful.ensures c.requires.cluster c.requires.standing
 
 pub change_all-requires-clause-blocks : goal.change_all-requires-clause-blocks
-change_all-requires-clause-blocks g c _ _ = all_accept _ _ (sym c.in-None.ensures)
+change_all-requires-clause-blocks g c = all_accept _ _ (sym c.in-None.ensures)
 
 pub change_all-requires-clause-standing : goal.change_all-requires-clause-standing
 unfolding StandsIn
-change_all-requires-clause-standing g c _ _ = subst (λ (F : Whole). EachStandsIn c.args.topology.now.cluster F.shards) (sym c.self.view_is) c.requires.standing
+change_all-requires-clause-standing g c = subst (λ (F : Whole). EachStandsIn c.args.topology.now.cluster F.shards) (sym c.self.view_is) c.requires.standing
 
 pub returns-in-Some-clause-rounds : goal.returns-in-Some-clause-rounds
 unfolding HasTaken

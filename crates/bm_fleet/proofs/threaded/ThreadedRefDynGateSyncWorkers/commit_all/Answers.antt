@@ -1,6 +1,6 @@
 use Rattle.bm_fleet.specs.Worked.{IsCommitted}
 use Rattle.bm_fleet.proofs.Told.{all_told}
-use Rattle.bm_fleet.proofs.running.commit_all.Goals as goal
+use Rattle.bm_fleet.proofs.threaded.ThreadedRefDynGateSyncWorkers.commit_all.Goals as goal
 
 pub run-requires-clause-accepts : goal.run-requires-clause-accepts
 run-requires-clause-accepts g c _ _ k d lt = (c.requires.cluster, (c.requires.every, (c.requires.multi, c.requires.shards k d lt)))
