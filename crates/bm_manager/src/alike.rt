@@ -18,10 +18,10 @@ use std::thread::Threads;
 ///
 /// They are alike, and both a run of the definition from the same state: neither the number of shards nor that of workers
 /// shows in an answer, want of memory aside. The refusals are those of [`Manager::new`] for either configuration, and `Memory`.
-pub fn answers_alike<R: Threads + Wait + Sync, G: Gate + Sync>(
+pub fn answers_alike<R: Threads + Wait + Sync>(
     alloc: Global,
     rt: &R,
-    gate: &G,
+    gate: &(dyn Gate + Sync),
     config: Config,
     shards: u32,
     workers: u32,
@@ -44,10 +44,10 @@ pub fn answers_alike<R: Threads + Wait + Sync, G: Gate + Sync>(
 }
 
 /// Makes the calls on a new manager of this configuration, and gives their answers.
-fn answers_of<R: Threads + Wait + Sync, G: Gate + Sync>(
+fn answers_of<R: Threads + Wait + Sync>(
     alloc: Global,
     rt: &R,
-    gate: &G,
+    gate: &(dyn Gate + Sync),
     config: Config,
     calls: &[Call],
 ) -> Result<Items<Answer>, Refusal>

@@ -7,6 +7,7 @@ ghost use Rattle.bm_base.specs.Lawful.{IsLawful};
 use crate::manager::Manager;
 use bm_base::{Answer, Call, Items};
 use bm_crew::Gate;
+use bm_fleet::{CallingThread, Threaded, Workers};
 use std::alloc::AllocError;
 use std::sync::Wait;
 use std::thread::Threads;
@@ -14,21 +15,38 @@ use std::thread::Threads;
 impl Manager {
     /// Makes one call. Its answer is the definition's, or, where the definition refuses nothing and the call is one that
     /// takes memory, `Memory`; a call refused for want of memory leaves the state as it was.
-    pub fn answer<R: Threads + Wait + Sync, G: Gate + Sync>(
+    pub fn answer<R: Threads + Wait + Sync>(
         &mut self,
         rt: &R,
-        gate: &G,
+        gate: &(dyn Gate + Sync),
         call: &Call,
     ) -> Answer
         ensures answer { MayAnswer step self.old call.now result }
         ensures state { self.new ≡ state_left step self.old call.now result }
     {
+        let workers = Threaded::new(rt, gate, self.config.workers as usize);
+        self.answer_by(&workers, call)
+    }
+
+    /// [`Manager::answer`] by the calling thread alone, as [`Manager::apply_alone`].
+    pub fn answer_alone(&mut self, call: &Call) -> Answer
+        ensures answer { MayAnswer step self.old call.now result }
+        ensures state { self.new ≡ state_left step self.old call.now result }
+    {
+        self.answer_by(&CallingThread, call)
+    }
+
+    /// Makes one call by these workers.
+    fn answer_by<W: Workers>(&mut self, workers: &W, call: &Call) -> Answer
+        ensures answer { MayAnswer step self.old call.now result }
+        ensures state { self.new ≡ state_left step self.old call.now result }
+    {
         match call {
-            Call::Apply(event) => match self.apply(rt, gate, event) {
+            Call::Apply(event) => match self.apply_by(workers, event) {
                 Ok(done) => Answer::Done(done),
                 Err(refusal) => Answer::Refused(refusal),
             },
-            Call::Round => match self.round(rt, gate) {
+            Call::Round => match self.round_by(workers) {
                 Ok(commands) => Answer::Commanded(commands),
                 Err(refusal) => Answer::Refused(refusal),
             },
@@ -72,10 +90,10 @@ impl Manager {
     /// Makes the calls one after another, and gives the answer of each: a run of the definition, in which a call that was
     /// refused for want of memory is passed over. An `Err` comes before the first call, where there is no room for the answers.
     /// Whatever the calls and the answers are, the state that they leave is lawful.
-    pub fn answer_all<R: Threads + Wait + Sync, G: Gate + Sync>(
+    pub fn answer_all<R: Threads + Wait + Sync>(
         &mut self,
         rt: &R,
-        gate: &G,
+        gate: &(dyn Gate + Sync),
         calls: &[Call],
     ) -> Result<Items<Answer>, AllocError>
         ensures answers { IfOk result (λ answers. MayAnswerAll step self.old calls.now answers) }

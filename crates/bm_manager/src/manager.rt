@@ -9,7 +9,7 @@ ghost use Rattle.bm_base.specs.Answering.{checked, Refuses, takes_memory};
 
 use bm_base::{Config, Done, Event, HashSecret, Refusal};
 use bm_crew::Gate;
-use bm_fleet::Fleet;
+use bm_fleet::{CallingThread, Fleet, Threaded, Workers};
 use bm_topo::Topology;
 use std::alloc::Global;
 use std::marker::Model;
@@ -20,7 +20,7 @@ use std::thread::Threads;
 ///
 /// A contract sees it as the state of the definitions: the limits of its configuration, the cluster, the blocks and their
 /// replicas, the round and the number of accepted calls. The blocks are cut into shards, and a call that concerns all of them is
-/// worked by a crew of threads; neither shows in an answer.
+/// worked by a crew of threads, or by the calling thread alone; none of this shows in an answer.
 ///
 /// ```text
 /// let mut manager = Manager::new(alloc, Config::standard())?;
@@ -95,11 +95,41 @@ impl Manager {
     ///
     /// Register, Dead, StorageFailed, FullReport, Drain and Undrain are worked by the crew, as rounds are, so these calls may
     /// wait for other threads; AddBlock and Received touch one shard. All memory is taken before the first change.
-    #[tactic(auto, unfolding(bm_base::specs::Calls::after_event, bm_base::specs::Calls::done_by))]
-    pub fn apply<R: Threads + Wait + Sync, G: Gate + Sync>(
+    pub fn apply<R: Threads + Wait + Sync>(
         &mut self,
         rt: &R,
-        gate: &G,
+        gate: &(dyn Gate + Sync),
+        event: &Event,
+    ) -> Result<Done, Refusal>
+        ensures accepted { OnOk result (refusal_of self.old event.now ≡ None) }
+        ensures done { IfOk result (λ d. d ≡ done_by self.old event.now) }
+        ensures state { OnOk result (self.new ≡ after_event self.old event.now) }
+        ensures refused { IfErr result
+            (Refuses (refusal_of self.old event.now) (takes_memory event.now)) }
+        ensures unchanged { OnErr result (self.new ≡ self.old) }
+    {
+        let workers = Threaded::new(rt, gate, self.config.workers as usize);
+        self.apply_by(&workers, event)
+    }
+
+    /// [`Manager::apply`] by the calling thread alone, however many workers are configured: it needs
+    /// no runtime, passes no gate and waits for no thread.
+    pub fn apply_alone(&mut self, event: &Event) -> Result<Done, Refusal>
+        ensures accepted { OnOk result (refusal_of self.old event.now ≡ None) }
+        ensures done { IfOk result (λ d. d ≡ done_by self.old event.now) }
+        ensures state { OnOk result (self.new ≡ after_event self.old event.now) }
+        ensures refused { IfErr result
+            (Refuses (refusal_of self.old event.now) (takes_memory event.now)) }
+        ensures unchanged { OnErr result (self.new ≡ self.old) }
+    {
+        self.apply_by(&CallingThread, event)
+    }
+
+    /// Takes one event by these workers.
+    #[tactic(auto, unfolding(bm_base::specs::Calls::after_event, bm_base::specs::Calls::done_by))]
+    pub(crate) fn apply_by<W: Workers>(
+        &mut self,
+        workers: &W,
         event: &Event,
     ) -> Result<Done, Refusal>
         ensures accepted { OnOk result (refusal_of self.old event.now ≡ None) }
@@ -111,13 +141,9 @@ impl Manager {
     {
         self.check(event)?;
         event.fits();
-        let workers = self.config.workers as usize;
         let multi = self.topology.multi_after(event);
         self.topology.prepare(event)?;
-        match self
-            .fleet
-            .change(rt, gate, workers, event, &self.topology, multi)
-        {
+        match self.fleet.change(workers, event, &self.topology, multi) {
             Ok(done) => {
                 self.topology.commit(event);
                 self.calls += 1;

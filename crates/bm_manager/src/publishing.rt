@@ -6,6 +6,8 @@ ghost use Rattle.bm_view.specs.History.{last_of, IsHistory};
 
 use crate::manager::Manager;
 use bm_base::Refusal;
+use bm_crew::NoGate;
+use bm_fleet::Threaded;
 use bm_view::{Publisher, Receipt, Table};
 use std::sync::{Arc, Wait};
 use std::thread::Threads;
@@ -48,7 +50,8 @@ impl Manager {
         ensures version { IfOk result (λ t. t ≡ version self.old) }
         ensures refused { IfErr result (λ e. e ≡ Memory) }
     {
-        let rows = self.fleet.table(rt, self.config.workers as usize)?;
+        let workers = Threaded::new(rt, &NoGate, self.config.workers as usize);
+        let rows = self.fleet.table(&workers)?;
         Ok(Table::new(self.calls, rows))
     }
 }

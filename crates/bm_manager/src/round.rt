@@ -10,6 +10,7 @@ ghost use Rattle.bm_base.specs.Answering.{checked, Refuses};
 use crate::manager::Manager;
 use bm_base::{Commands, Refusal};
 use bm_crew::Gate;
+use bm_fleet::{CallingThread, Threaded, Workers};
 use std::sync::Wait;
 use std::thread::Threads;
 
@@ -25,11 +26,39 @@ impl Manager {
     /// commanded.
     ///
     /// A round is worked by the crew, so the call may wait for other threads. All memory is taken before the first change.
-    pub fn round<R: Threads + Wait + Sync, G: Gate + Sync>(
+    pub fn round<R: Threads + Wait + Sync>(
         &mut self,
         rt: &R,
-        gate: &G,
+        gate: &(dyn Gate + Sync),
     ) -> Result<Commands, Refusal>
+        ensures accepted { OnOk result (round_refusal self.old ≡ None) }
+        ensures commands { IfOk result (λ k. k ≡ (whole_round self.old).0) }
+        ensures state { OnOk result (self.new ≡ counted (whole_round self.old).1) }
+        ensures refused { IfErr result (Refuses (round_refusal self.old) true) }
+        ensures unchanged { OnErr result (self.new ≡ self.old) }
+        ensures last_good { IfOk result (λ k. SparesLastGood self.old k) }
+        ensures enough_live { IfOk result (λ k. KeepsEnoughLive self.old k self.new) }
+    {
+        let workers = Threaded::new(rt, gate, self.config.workers as usize);
+        self.round_by(&workers)
+    }
+
+    /// [`Manager::round`] by the calling thread alone, however many workers are configured: it needs
+    /// no runtime, passes no gate and waits for no thread.
+    pub fn round_alone(&mut self) -> Result<Commands, Refusal>
+        ensures accepted { OnOk result (round_refusal self.old ≡ None) }
+        ensures commands { IfOk result (λ k. k ≡ (whole_round self.old).0) }
+        ensures state { OnOk result (self.new ≡ counted (whole_round self.old).1) }
+        ensures refused { IfErr result (Refuses (round_refusal self.old) true) }
+        ensures unchanged { OnErr result (self.new ≡ self.old) }
+        ensures last_good { IfOk result (λ k. SparesLastGood self.old k) }
+        ensures enough_live { IfOk result (λ k. KeepsEnoughLive self.old k self.new) }
+    {
+        self.round_by(&CallingThread)
+    }
+
+    /// Takes one round by these workers.
+    pub(crate) fn round_by<W: Workers>(&mut self, workers: &W) -> Result<Commands, Refusal>
         ensures accepted { OnOk result (round_refusal self.old ≡ None) }
         ensures commands { IfOk result (λ k. k ≡ (whole_round self.old).0) }
         ensures state { OnOk result (self.new ≡ counted (whole_round self.old).1) }
@@ -40,7 +69,7 @@ impl Manager {
     {
         self.lawful();
         self.check_round()?;
-        self.next_round(rt, gate)
+        self.next_round(workers)
     }
 
     /// The first refusal of a round.
@@ -60,11 +89,7 @@ impl Manager {
     }
 
     /// The round of all shards, which then counts.
-    fn next_round<R: Threads + Wait + Sync, G: Gate + Sync>(
-        &mut self,
-        rt: &R,
-        gate: &G,
-    ) -> Result<Commands, Refusal>
+    fn next_round<W: Workers>(&mut self, workers: &W) -> Result<Commands, Refusal>
         requires round { self.old.round < last_number }
         requires calls { self.old.calls < last_number }
         ensures commands { IfOk result (λ k. k ≡ (whole_round self.old).0) }
@@ -74,7 +99,7 @@ impl Manager {
     {
         let commands = self
             .fleet
-            .round(rt, gate, &self.config, self.round, &self.topology)?;
+            .round(workers, &self.config, self.round, &self.topology)?;
         self.round += 1;
         self.calls += 1;
         Ok(commands)

@@ -1,5 +1,5 @@
 use Rattle.bm_manager.proofs.Rounding.{spares, keeps}
-use Rattle.bm_manager.proofs.manager.Manager.round.Goals as goal
+use Rattle.bm_manager.proofs.manager.Manager.round_by.Goals as goal
 
 pub returns-clause-last_good : goal.returns-clause-last_good
 returns-clause-last_good g c = spares c.args.self.now c.next_round.result c.lawful.ensures c.next_round.ensures.commands

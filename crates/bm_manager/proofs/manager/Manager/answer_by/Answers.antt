@@ -4,7 +4,7 @@ use Rattle.bm_base.specs.declared.call.Answer.TheVariants as answer
 use Rattle.bm_base.specs.Answering.{MayAnswer, state_left}
 use Rattle.bm_base.specs.Calls.{step}
 use Rattle.bm_manager.proofs.Runs.{ok_answer, ok_left, err_answer, err_left, step_answer, memory_answer, step_apply, step_round, step_replicas, step_corrupt, step_excess, step_blocks_on, step_missing, step_places, step_level, step_retired, step_calls, step_rounds}
-use Rattle.bm_manager.proofs.manager.Manager.answer.Goals as goal
+use Rattle.bm_manager.proofs.manager.Manager.answer_by.Goals as goal
 
 pub returns-in-Ok-clause-answer : goal.returns-in-Ok-clause-answer
 returns-in-Ok-clause-answer g c =
@@ -14,7 +14,7 @@ returns-in-Ok-clause-answer g c =
 pub returns-in-Ok-clause-state : goal.returns-in-Ok-clause-state
 returns-in-Ok-clause-state g c =
     let M = c.args.self.now in
-    ok_left M _ _ _ (step_apply M c.in-Apply.event) c.apply.new.self c.in-Ok.ensures.accepted c.in-Ok.ensures.state ∙ ap (λ k. (step M k).1) (sym c.in-Apply.is)
+    ok_left M _ _ _ (step_apply M c.in-Apply.event) c.apply_by.new.self c.in-Ok.ensures.accepted c.in-Ok.ensures.state ∙ ap (λ k. (step M k).1) (sym c.in-Apply.is)
 
 pub returns-in-Err-clause-answer : goal.returns-in-Err-clause-answer
 returns-in-Err-clause-answer g c =
@@ -25,30 +25,30 @@ returns-in-Err-clause-answer g c =
 pub returns-in-Err-clause-state : goal.returns-in-Err-clause-state
 returns-in-Err-clause-state g c =
     let M = c.args.self.now in
-    err_left M _ _ _ (step_apply M c.in-Apply.event) c.apply.new.self c.in-Err.refusal c.in-Err.ensures.refused c.in-Err.ensures.unchanged
+    err_left M _ _ _ (step_apply M c.in-Apply.event) c.apply_by.new.self c.in-Err.refusal c.in-Err.ensures.refused c.in-Err.ensures.unchanged
     ∙ ap (λ k. state_left step M k (answer.Refused c.in-Err.refusal)) (sym c.in-Apply.is)
 
-pub returns-in-Ok-round-clause-answer : goal.returns-in-Ok-round-clause-answer
-returns-in-Ok-round-clause-answer g c =
+pub returns-in-Ok-round_by-clause-answer : goal.returns-in-Ok-round_by-clause-answer
+returns-in-Ok-round_by-clause-answer g c =
     let M = c.args.self.now in
-    subst (λ k. MayAnswer step M k (answer.Commanded c.in-Ok-round.commands)) (sym c.in-Round.is) (ok_answer M _ _ _ (step_round M) _ c.in-Ok-round.ensures.accepted (ap answer.Commanded c.in-Ok-round.ensures.commands))
+    subst (λ k. MayAnswer step M k (answer.Commanded c.in-Ok-round_by.commands)) (sym c.in-Round.is) (ok_answer M _ _ _ (step_round M) _ c.in-Ok-round_by.ensures.accepted (ap answer.Commanded c.in-Ok-round_by.ensures.commands))
 
-pub returns-in-Ok-round-clause-state : goal.returns-in-Ok-round-clause-state
-returns-in-Ok-round-clause-state g c =
+pub returns-in-Ok-round_by-clause-state : goal.returns-in-Ok-round_by-clause-state
+returns-in-Ok-round_by-clause-state g c =
     let M = c.args.self.now in
-    ok_left M _ _ _ (step_round M) c.round.new.self c.in-Ok-round.ensures.accepted c.in-Ok-round.ensures.state ∙ ap (λ k. (step M k).1) (sym c.in-Round.is)
+    ok_left M _ _ _ (step_round M) c.round_by.new.self c.in-Ok-round_by.ensures.accepted c.in-Ok-round_by.ensures.state ∙ ap (λ k. (step M k).1) (sym c.in-Round.is)
 
-pub returns-in-Err-round-clause-answer : goal.returns-in-Err-round-clause-answer
-returns-in-Err-round-clause-answer g c =
+pub returns-in-Err-round_by-clause-answer : goal.returns-in-Err-round_by-clause-answer
+returns-in-Err-round_by-clause-answer g c =
     let M = c.args.self.now in
-    subst (λ k. MayAnswer step M k (answer.Refused c.in-Err-round.refusal)) (sym c.in-Round.is)
-    (err_answer M _ _ _ (step_round M) c.in-Err-round.refusal refl c.in-Err-round.ensures.refused)
+    subst (λ k. MayAnswer step M k (answer.Refused c.in-Err-round_by.refusal)) (sym c.in-Round.is)
+    (err_answer M _ _ _ (step_round M) c.in-Err-round_by.refusal refl c.in-Err-round_by.ensures.refused)
 
-pub returns-in-Err-round-clause-state : goal.returns-in-Err-round-clause-state
-returns-in-Err-round-clause-state g c =
+pub returns-in-Err-round_by-clause-state : goal.returns-in-Err-round_by-clause-state
+returns-in-Err-round_by-clause-state g c =
     let M = c.args.self.now in
-    err_left M _ _ _ (step_round M) c.round.new.self c.in-Err-round.refusal c.in-Err-round.ensures.refused c.in-Err-round.ensures.unchanged
-    ∙ ap (λ k. state_left step M k (answer.Refused c.in-Err-round.refusal)) (sym c.in-Round.is)
+    err_left M _ _ _ (step_round M) c.round_by.new.self c.in-Err-round_by.refusal c.in-Err-round_by.ensures.refused c.in-Err-round_by.ensures.unchanged
+    ∙ ap (λ k. state_left step M k (answer.Refused c.in-Err-round_by.refusal)) (sym c.in-Round.is)
 
 pub returns-in-Ok-replicas-clause-answer : goal.returns-in-Ok-replicas-clause-answer
 returns-in-Ok-replicas-clause-answer g c =

@@ -2,7 +2,7 @@ use Rattle.std.proofs.Common.{ap, sym, ◌∙◌}
 use Rattle.bm_base.specs.Refusals.{refusal_of}
 use Rattle.bm_manager.proofs.Checks.{nothing_refused}
 use Rattle.bm_manager.proofs.Lawfulness.{changed_manager}
-use Rattle.bm_manager.proofs.manager.Manager.apply.Goals as goal
+use Rattle.bm_manager.proofs.manager.Manager.apply_by.Goals as goal
 
 pub invariant_of-self-in-Ok : goal.invariant_of-self-in-Ok
 invariant_of-self-in-Ok g c =
