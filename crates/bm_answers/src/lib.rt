@@ -9,4 +9,4 @@ mod asked;
 mod line_answer;
 
 pub use asked::{Asked, asked_by, asked_of};
-pub use line_answer::{LineAnswer, make_call};
+pub use line_answer::{LineAnswer, make_call, make_call_alone};

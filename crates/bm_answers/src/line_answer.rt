@@ -89,6 +89,23 @@ pub fn make_call<H: Threads + Wait + Sync>(
     }
 }
 
+/// The same on the calling thread alone.
+pub fn make_call_alone(manager: &mut Manager, asked: Asked) -> Result<LineAnswer, AllocError>
+    ensures answer { IfOk result (λ a. a ≡ answer_to manager.old asked) }
+    ensures memory { IfOk result (λ a. number_of a ≡ 14 → ⊥) }
+    ensures next { OnOk result (manager.new ≡ asked_next manager.old asked) }
+    ensures unchanged { OnErr result (manager.new ≡ manager.old) }
+{
+    match asked {
+        Asked::Long => Ok(LineAnswer::Long),
+        Asked::Bad => Ok(LineAnswer::Bad),
+        Asked::Asks(call) => {
+            let answer = manager.answer_alone(&call);
+            answered(call, answer)
+        }
+    }
+}
+
 fn answered(call: Call, answer: Answer) -> Result<LineAnswer, AllocError>
     ensures answer { IfOk result (λ a. a ≡ Answered call answer) }
     ensures number { IfOk result (λ a. number_of a ≡ 14 → ⊥) }
