@@ -7,11 +7,12 @@ use Rattle.std.proofs.lemmas.List.{length_push, take-append-le}
 use Rattle.bm_base.specs.State.{State}
 use Rattle.bm_session.specs.declared.limits.TheConstants.{MAX_LINES}
 use Rattle.bm_session.specs.declared.session.Session.{Session}
-use Rattle.bm_session.specs.declared.reply.Asked.{Asked}
+use Rattle.bm_answers.specs.declared.asked.Asked.{Asked}
+use Rattle.bm_answers.specs.OneLine.{asked, answer_to, asked_next, text_of, is_refusal, line_text, line_next, line_refused}
 use Rattle.bm_session.specs.declared.fault.Fault.{Fault}
 use Rattle.bm_session.specs.declared.fault.Fault.TheVariants.{Config, Read, Write, Memory, TooMuch}
 use Rattle.bm_lines.specs.Lines.{line_end, onto, onto_whole, IsPart, ended, lines_of, whole_lines}
-use Rattle.bm_session.specs.Text.{asked, asked_text, asked_next, asked_refused, line_text, line_next, line_refused, texts, after, refusals}
+use Rattle.bm_session.specs.Text.{texts, after, refusals}
 use Rattle.bm_lines.specs.Held.{Holds}
 use Rattle.bm_session.specs.Progress.{Progress, Answered, MayBeWorked, Interrupted, Overflows, LineFault, PieceFault, IsSummary}
 use Rattle.bm_session.proofs.LineLemmas.{rest_line, lines_of-first, IsPart-append, splits_none, splits_part, splits_end, lines_of-split, whole_lines-split, lines_of-begin, whole_lines-begin}
@@ -58,8 +59,8 @@ progress_none M start s empty first lines refused = record {
 
 -- a line end, whose line was answered
 pub progress_end : (M : State) (start old new : Option (List ℕ)) (s t : Session) (bytes : List ℕ) (a : Asked) → Progress M start old s bytes
-    → ((rest : List ℕ) → Holds s.line rest → a ≡ asked rest) → Appends old new (ended (asked_text s.manager a)) → t.manager ≡ asked_next s.manager a
-    → t.lines ≡ s.lines + 1 → t.refused ≡ s.refused + (if asked_refused s.manager a then 1 else 0) → Holds t.line [] → Progress M start new t (bytes ++ line_end ∷ [])
+    → ((rest : List ℕ) → Holds s.line rest → a ≡ asked rest) → Appends old new (ended (text_of (answer_to s.manager a))) → t.manager ≡ asked_next s.manager a
+    → t.lines ≡ s.lines + 1 → t.refused ≡ s.refused + (if is_refusal (answer_to s.manager a) then 1 else 0) → Holds t.line [] → Progress M start new t (bytes ++ line_end ∷ [])
 unfolding line_text line_next line_refused
 progress_end M start old new s t bytes a p ask wrote next lines refused empty =
     let e : a ≡ asked p.rest = ask p.rest p.holds in

@@ -2,7 +2,8 @@
 use Rattle.std.proofs.Common.{◌≡◌, ℕ, ◌+◌, List, [], ◌∷◌, ◌++◌, refl, sym, append_assoc, append-nil, arith, if◌then◌else◌}
 use Rattle.bm_base.specs.State.{State}
 use Rattle.bm_lines.specs.Lines.{ended}
-use Rattle.bm_session.specs.Text.{line_text, line_next, line_refused, texts, after, refusals}
+use Rattle.bm_answers.specs.OneLine.{line_text, line_next, line_refused}
+use Rattle.bm_session.specs.Text.{texts, after, refusals}
 
 pub texts-push : (M : State) (ls : List (List ℕ)) (l : List ℕ) → texts M (ls ++ l ∷ []) ≡ texts M ls ++ ended (line_text (after M ls) l)
 unfolding texts after

@@ -8,7 +8,8 @@ use Rattle.bm_session.specs.declared.fault.Summary.{Summary}
 use Rattle.bm_session.specs.declared.fault.Fault.{Fault}
 use Rattle.bm_session.specs.declared.fault.Fault.TheVariants.{Config, Read, Write, Memory, TooMuch}
 use Rattle.bm_lines.specs.Lines.{Splits, lines_of, whole_lines}
-use Rattle.bm_session.specs.Text.{line_next, texts, after, refusals}
+use Rattle.bm_answers.specs.OneLine.{line_next}
+use Rattle.bm_session.specs.Text.{texts, after, refusals}
 use Rattle.bm_lines.specs.Held.{Holds}
 
 -- the session has answered the whole lines of these bytes, from the state M on

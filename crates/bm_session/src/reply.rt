@@ -1,28 +1,13 @@
-// The answer to one line.
-ghost use Rattle.std.specs.Prelude.{◌≡◌, ◌⊎◌, IfOk, OnErr, List, ℕ, string_bytes, true, false};
-ghost use Rattle.bm_base.specs.Answering.{wants_memory, is_refused};
-ghost use Rattle.bm_lines.specs.Held.{Holds};
+// The line that answers a line.
+ghost use Rattle.std.specs.Prelude.{◌≡◌, ◌⊎◌, IfOk, OnOk, OnErr, string_bytes};
 ghost use Rattle.bm_lines.specs.Lines.{ended};
-ghost use Rattle.bm_lines.specs.Print.{answer_text};
-ghost use Rattle.bm_session.specs.Text.{asked, asked_text, asked_next, asked_refused};
+ghost use Rattle.bm_answers.specs.OneLine.{answer_to, asked_next, text_of, is_refusal};
 
-use bm_base::{Answer, Call};
-use bm_crew::NoGate;
-use bm_lines::{Line, answer_line, call_of};
+use bm_answers::{Asked, LineAnswer, make_call};
 use bm_manager::Manager;
 use std::alloc::{AllocError, Global};
 use std::sync::Wait;
 use std::thread::Threads;
-
-/// What a line asks.
-#[derive(Drop)]
-pub enum Asked {
-    /// It is too long to be read.
-    Long,
-    /// It asks for no call.
-    Bad,
-    Asks(Call),
-}
 
 /// A line of the output, with its line end.
 #[derive(Drop)]
@@ -31,69 +16,30 @@ pub struct Reply {
     pub is_refused: bool,
 }
 
-/// What the line that is held asks.
-pub fn asked_by(alloc: Global, line: &Line) -> Result<Asked, AllocError>
-    ensures { IfOk result (λ a. (rest : List ℕ) → Holds line.now rest → a ≡ asked rest) }
-{
-    if line.is_long {
-        return Ok(Asked::Long);
-    }
-    match call_of(alloc, line.bytes.as_slice())? {
-        Some(call) => Ok(Asked::Asks(call)),
-        None => Ok(Asked::Bad),
-    }
-}
-
 /// Makes the call, if there is one. Where memory runs out, the manager took it or not.
 pub fn reply_to<H: Threads + Wait + Sync>(
     rt: &H,
     alloc: Global,
     manager: &mut Manager,
-    asked: &Asked,
+    asked: Asked,
 ) -> Result<Reply, AllocError>
     ensures text { IfOk result
-        (λ r. string_bytes r.text ≡ ended (asked_text manager.old asked.now)) }
-    ensures refused { IfOk result (λ r. r.is_refused ≡ asked_refused manager.old asked.now) }
-    ensures next { IfOk result (λ _. manager.new ≡ asked_next manager.old asked.now) }
+        (λ r. string_bytes r.text ≡ ended (text_of (answer_to manager.old asked))) }
+    ensures refused { IfOk result (λ r. r.is_refused ≡ is_refusal (answer_to manager.old asked)) }
+    ensures next { OnOk result (manager.new ≡ asked_next manager.old asked) }
     ensures worked { OnErr result ((manager.new ≡ manager.old)
-        ⊎ (manager.new ≡ asked_next manager.old asked.now)) }
+        ⊎ (manager.new ≡ asked_next manager.old asked)) }
 {
-    match asked {
-        Asked::Long => refusal_reply(alloc, "refused 21 LongLine\n"),
-        Asked::Bad => refusal_reply(alloc, "refused 20 BadLine\n"),
-        Asked::Asks(call) => {
-            let answer = manager.answer(rt, &NoGate, call);
-            reply_of(alloc, call, &answer)
-        }
-    }
+    let answer = make_call(rt, manager, asked)?;
+    reply_of(alloc, &answer)
 }
 
-fn reply_of(alloc: Global, call: &Call, answer: &Answer) -> Result<Reply, AllocError>
-    ensures text { IfOk result
-        (λ r. string_bytes r.text ≡ ended (answer_text call.now answer.now)) }
-    ensures refused { IfOk result (λ r. r.is_refused ≡ is_refused answer.now) }
-    ensures memory { IfOk result (λ _. wants_memory answer.now ≡ false) }
+fn reply_of(alloc: Global, answer: &LineAnswer) -> Result<Reply, AllocError>
+    ensures text { IfOk result (λ r. string_bytes r.text ≡ ended (text_of answer.now)) }
+    ensures refused { IfOk result (λ r. r.is_refused ≡ is_refusal answer.now) }
 {
-    if answer.wants_memory() {
-        return Err(AllocError);
-    }
-    let mut text = answer_line(alloc, call, answer)?;
+    let mut text = answer.text(alloc)?;
     text.push_str("\n")?;
-    let is_refused = is_refused(answer);
+    let is_refused = answer.is_refusal();
     Ok(Reply { text, is_refused })
-}
-
-fn is_refused(answer: &Answer) -> bool
-    ensures { result ≡ is_refused answer.now }
-{
-    matches!(answer, Answer::Refused(_))
-}
-
-fn refusal_reply(alloc: Global, text: &str) -> Result<Reply, AllocError>
-    ensures { IfOk result (λ r. (string_bytes r.text ≡ text.now) × (r.is_refused ≡ true)) }
-{
-    Ok(Reply {
-        text: String::from_str(alloc, text)?,
-        is_refused: true,
-    })
 }

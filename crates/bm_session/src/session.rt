@@ -9,7 +9,8 @@ ghost use Rattle.bm_session.specs.declared.limits.TheConstants.{MAX_LINES};
 use crate::ends::Sink;
 use crate::fault::{Fault, Summary};
 use crate::limits::MAX_LINES;
-use crate::reply::{asked_by, reply_to};
+use crate::reply::reply_to;
+use bm_answers::asked_by;
 use bm_base::{Config, HashSecret, Refusal};
 use bm_lines::{Line, line_end};
 use bm_manager::Manager;
@@ -71,7 +72,7 @@ impl Session {
             → MayBeWorked self.old.manager rest self.new.manager) }
     {
         let asked = asked_by(self.alloc, &self.line)?;
-        let reply = reply_to(rt, self.alloc, &mut self.manager, &asked)?;
+        let reply = reply_to(rt, self.alloc, &mut self.manager, asked)?;
         if writer.write_all(reply.text.as_bytes()).is_err() {
             return Err(Fault::Write);
         }

@@ -2,9 +2,9 @@
 use Rattle.std.proofs.Common.{◌≡◌, ℕ, ◌<◌, ◌≤◌, List, length, refl}
 use Rattle.std.proofs.lemmas.Bool.{lt-ltb, le-ltb}
 use Rattle.bm_lines.specs.Reading.CallOf.{call_of}
-use Rattle.bm_session.specs.Text.{asked, asked_by}
 use Rattle.bm_lines.specs.declared.limits.TheConstants.{MAX_LINE}
-use Rattle.bm_session.specs.declared.reply.Asked.TheVariants.{Long}
+use Rattle.bm_answers.specs.OneLine.{asked, asked_by}
+use Rattle.bm_answers.specs.declared.asked.Asked.TheVariants.{Long}
 
 pub asked-long : (line : List ℕ) → MAX_LINE < length line → Long ≡ asked line
 unfolding asked

@@ -1,0 +1,2 @@
+-- The definitions of the answer to one line.
+pub mod OneLine

@@ -1,0 +1,65 @@
+-- The answer to one line: the call that it asks for is made, and the answer is a line.
+use Rattle.std.specs.Prelude.{ℕ, Bool, true, List, length, if◌then◌else◌, nat_lt, Option, Some, None, codes}
+use Rattle.bm_base.specs.declared.call.Call.{Call}
+use Rattle.bm_base.specs.declared.call.Answer.{Answer}
+use Rattle.bm_base.specs.declared.call.Answer.TheVariants as answer
+use Rattle.bm_base.specs.State.{State}
+use Rattle.bm_base.specs.Calls.{step}
+use Rattle.bm_base.specs.Answering.{is_refused}
+use Rattle.bm_base.specs.Refusals.{refusal_number}
+use Rattle.bm_lines.specs.declared.limits.TheConstants.{MAX_LINE}
+use Rattle.bm_lines.specs.Print.{answer_text}
+use Rattle.bm_lines.specs.Reading.CallOf.{call_of}
+use Rattle.bm_answers.specs.declared.asked.Asked.{Asked}
+use Rattle.bm_answers.specs.declared.asked.Asked.TheVariants.{Long, Bad, Asks}
+use Rattle.bm_answers.specs.declared.line_answer.LineAnswer.{LineAnswer}
+use Rattle.bm_answers.specs.declared.line_answer.LineAnswer.TheVariants as line
+
+abbrev pub asked_by : Option Call → Asked
+asked_by None = Bad
+asked_by (Some k) = Asks k
+
+-- what a line asks, where it is not too long
+unfoldable pub asked : List ℕ → Asked
+asked line = if nat_lt MAX_LINE (length line) then Long else asked_by (call_of line)
+
+-- what is answered, and the state after it
+
+abbrev pub answer_to : State → Asked → LineAnswer
+answer_to M Long = line.Long
+answer_to M Bad = line.Bad
+answer_to M (Asks k) = line.Answered k (step M k).0
+
+abbrev pub asked_next : State → Asked → State
+asked_next M (Asks k) = (step M k).1
+asked_next M _ = M
+
+-- the text of an answer, whether it begins with `refused`, and the number behind that word
+
+abbrev pub text_of : LineAnswer → List ℕ
+text_of line.Long = codes "refused 21 LongLine"
+text_of line.Bad = codes "refused 20 BadLine"
+text_of (line.Answered k a) = answer_text k a
+
+abbrev pub is_refusal : LineAnswer → Bool
+is_refusal (line.Answered k a) = is_refused a
+is_refusal _ = true
+
+abbrev pub number_of : LineAnswer → ℕ
+number_of line.Long = 21
+number_of line.Bad = 20
+number_of (line.Answered k (answer.Refused r)) = refusal_number r
+number_of (line.Answered k _) = 0
+
+unfoldable pub line_text : State → List ℕ → List ℕ
+line_text M line = text_of (answer_to M (asked line))
+
+unfoldable pub line_next : State → List ℕ → State
+line_next M line = asked_next M (asked line)
+
+unfoldable pub line_refused : State → List ℕ → Bool
+line_refused M line = is_refusal (answer_to M (asked line))
+
+-- 0, or the number of the refusal
+unfoldable pub line_number : State → List ℕ → ℕ
+line_number M line = number_of (answer_to M (asked line))

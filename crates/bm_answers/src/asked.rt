@@ -1,0 +1,41 @@
+// What a line asks.
+ghost use Rattle.std.specs.Prelude.{◌≡◌, IfOk, List, ℕ};
+ghost use Rattle.bm_lines.specs.Held.{Holds};
+ghost use Rattle.bm_answers.specs.OneLine.{asked};
+
+use bm_base::Call;
+use bm_lines::{Line, MAX_LINE, call_of};
+use std::alloc::{AllocError, Global};
+
+/// What a line asks.
+#[derive(Drop)]
+pub enum Asked {
+    /// It is too long to be read.
+    Long,
+    /// It asks for no call.
+    Bad,
+    Asks(Call),
+}
+
+/// What the line that is held asks.
+pub fn asked_by(alloc: Global, line: &Line) -> Result<Asked, AllocError>
+    ensures { IfOk result (λ a. (rest : List ℕ) → Holds line.now rest → a ≡ asked rest) }
+{
+    if line.is_long {
+        return Ok(Asked::Long);
+    }
+    asked_of(alloc, line.bytes.as_slice())
+}
+
+/// What the bytes of a line ask.
+pub fn asked_of(alloc: Global, line: &[u8]) -> Result<Asked, AllocError>
+    ensures { IfOk result (λ a. a ≡ asked line.now) }
+{
+    if line.len() > MAX_LINE {
+        return Ok(Asked::Long);
+    }
+    match call_of(alloc, line)? {
+        Some(call) => Ok(Asked::Asks(call)),
+        None => Ok(Asked::Bad),
+    }
+}

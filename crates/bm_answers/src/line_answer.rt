@@ -1,0 +1,119 @@
+// The answer to what a line asks.
+ghost use Rattle.std.specs.Prelude.{◌≡◌, IfOk, OnOk, OnErr, string_bytes, true, false};
+ghost use Rattle.bm_base.specs.Answering.{wants_memory};
+ghost use Rattle.bm_answers.specs.declared.line_answer.LineAnswer.TheVariants.{Answered};
+ghost use Rattle.bm_answers.specs.OneLine.{answer_to, asked_next, text_of, is_refusal, number_of};
+
+use crate::asked::Asked;
+use bm_base::{Answer, Call};
+use bm_crew::NoGate;
+use bm_lines::answer_line;
+use bm_manager::Manager;
+use std::alloc::{AllocError, Global};
+use std::sync::Wait;
+use std::thread::Threads;
+
+/// The answer to a line, before it is text.
+#[derive(Drop)]
+pub enum LineAnswer {
+    /// The line is too long to be read.
+    Long,
+    /// The line asks for no call.
+    Bad,
+    /// The call that the line asks for, and its answer.
+    Answered(Call, Answer),
+}
+
+impl LineAnswer {
+    /// The text, without a line end.
+    pub fn text(&self, alloc: Global) -> Result<String, AllocError>
+        ensures { IfOk result (λ t. string_bytes t ≡ text_of self.now) }
+    {
+        match self {
+            LineAnswer::Long => Ok(String::from_str(alloc, "refused 21 LongLine")?),
+            LineAnswer::Bad => Ok(String::from_str(alloc, "refused 20 BadLine")?),
+            LineAnswer::Answered(call, answer) => answer_line(alloc, call, answer),
+        }
+    }
+
+    /// Whether the text begins with `refused`.
+    pub fn is_refusal(&self) -> bool
+        ensures { result ≡ is_refusal self.now }
+    {
+        match self {
+            LineAnswer::Long | LineAnswer::Bad => true,
+            LineAnswer::Answered(_, answer) => matches!(answer, Answer::Refused(_)),
+        }
+    }
+
+    /// The number of the refusal, as in the text; 0 where nothing was refused.
+    pub fn number(&self) -> u32
+        ensures { result ≡ number_of self.now }
+    {
+        match self {
+            LineAnswer::Long => 21,
+            LineAnswer::Bad => 20,
+            LineAnswer::Answered(_, answer) => number(answer),
+        }
+    }
+}
+
+fn number(answer: &Answer) -> u32
+    ensures { (call : Call) → result ≡ number_of (Answered call answer.now) }
+{
+    match answer {
+        Answer::Refused(refusal) => refusal.number(),
+        _ => 0,
+    }
+}
+
+/// Makes the call that a line asks for, if there is one, by threads. `Err` where memory was refused: then
+/// the call has changed nothing.
+pub fn make_call<H: Threads + Wait + Sync>(
+    rt: &H,
+    manager: &mut Manager,
+    asked: Asked,
+) -> Result<LineAnswer, AllocError>
+    ensures answer { IfOk result (λ a. a ≡ answer_to manager.old asked) }
+    ensures memory { IfOk result (λ a. number_of a ≡ 14 → ⊥) }
+    ensures next { OnOk result (manager.new ≡ asked_next manager.old asked) }
+    ensures unchanged { OnErr result (manager.new ≡ manager.old) }
+{
+    match asked {
+        Asked::Long => Ok(LineAnswer::Long),
+        Asked::Bad => Ok(LineAnswer::Bad),
+        Asked::Asks(call) => {
+            let answer = manager.answer(rt, &NoGate, &call);
+            answered(call, answer)
+        }
+    }
+}
+
+/// The same on the calling thread alone.
+pub fn make_call_alone(manager: &mut Manager, asked: Asked) -> Result<LineAnswer, AllocError>
+    ensures answer { IfOk result (λ a. a ≡ answer_to manager.old asked) }
+    ensures memory { IfOk result (λ a. number_of a ≡ 14 → ⊥) }
+    ensures next { OnOk result (manager.new ≡ asked_next manager.old asked) }
+    ensures unchanged { OnErr result (manager.new ≡ manager.old) }
+{
+    match asked {
+        Asked::Long => Ok(LineAnswer::Long),
+        Asked::Bad => Ok(LineAnswer::Bad),
+        Asked::Asks(call) => {
+            let answer = manager.answer_alone(&call);
+            answered(call, answer)
+        }
+    }
+}
+
+fn answered(call: Call, answer: Answer) -> Result<LineAnswer, AllocError>
+    ensures answer { IfOk result (λ a. a ≡ Answered call answer) }
+    ensures number { IfOk result (λ a. number_of a ≡ 14 → ⊥) }
+    ensures taken { OnOk result (wants_memory answer ≡ false) }
+    ensures refused { OnErr result (wants_memory answer ≡ true) }
+{
+    if answer.wants_memory() {
+        return Err(AllocError);
+    }
+    Ok(LineAnswer::Answered(call, answer))
+}

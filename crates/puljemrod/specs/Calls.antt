@@ -1,0 +1,92 @@
+-- What a call on a handle comes to: its code, and what is kept behind the handle.
+use Rattle.std.specs.Prelude.{◌≡◌, ◌⊎◌, ℕ, true, List, [], length, Option, Some, None}
+use Rattle.bm_base.specs.declared.config.Config.{Config}
+use Rattle.bm_base.specs.declared.call.Call.{Call}
+use Rattle.bm_base.specs.declared.refusal.Refusal.{Refusal}
+use Rattle.bm_base.specs.State.{State, first_state}
+use Rattle.bm_base.specs.Configuration.{config_refusal}
+use Rattle.bm_base.specs.Answering.{Refuses}
+use Rattle.bm_base.specs.Refusals.{refusal_number}
+use Rattle.bm_answers.specs.declared.asked.Asked.{Asked}
+use Rattle.bm_answers.specs.declared.asked.Asked.TheVariants.{Asks}
+use Rattle.bm_answers.specs.declared.line_answer.LineAnswer.{LineAnswer}
+use Rattle.bm_answers.specs.OneLine.{answer_to, asked_next, number_of, text_of, line_text, line_next, line_number}
+use Rattle.puljemrod.specs.declared.codes.TheConstants.{MEMORY, CLOSED, NO_TEXT}
+use Rattle.puljemrod.specs.declared.options.Options.{Options}
+use Rattle.puljemrod.specs.declared.kept.Kept.{Kept}
+
+-- one worker, and the rest as the options say
+abbrev pub config_of : Options → Config
+config_of o = record { shards = o.shards; workers = 1; work = o.work; invalidate = o.invalidate; pend = o.pend; first_round = o.first_round; first_call = o.first_call }
+
+-- the text that can be copied out
+abbrev pub text_in : Option Kept → List ℕ
+text_in None = []
+text_in (Some k) = k.text.items
+
+-- the text of the last answer, be it made or not
+abbrev pub text_with : Option LineAnswer → List ℕ → List ℕ
+text_with None text = text
+text_with (Some a) text = text_of a
+
+abbrev pub last_text : Kept → List ℕ
+last_text k = text_with k.answer k.text.items
+
+-- a new manager, and an empty answer
+pub record IsFirst (config : Config) (k : Kept) : Type 0 where
+  pub state : k.manager ≡ first_state config
+  pub number : k.number ≡ 0
+  pub answer : k.answer ≡ None
+  pub text : k.text.items ≡ []
+
+-- Opening: the code is 0, or it is the number of a refusal, by which the handle stays closed.
+abbrev pub IsOpened : Options → ℕ → Option Kept → Type 0
+IsOpened o code now = ((code ≡ 0) × (config_refusal (config_of o) ≡ None) × (k : Kept) × (now ≡ Some k) × IsFirst (config_of o) k)
+    ⊎ ((now ≡ None) × (r : Refusal) × (code ≡ refusal_number r) × Refuses (config_refusal (config_of o)) true r)
+
+-- What is asked for is done: the answer is kept, and its text is not made.
+pub record IsAsked (M : State) (asks : Asked) (k : Kept) : Type 0 where
+  pub state : k.manager ≡ asked_next M asks
+  pub number : k.number ≡ number_of (answer_to M asks)
+  pub answer : k.answer ≡ Some (answer_to M asks)
+  pub no_memory : k.number ≡ MEMORY → ⊥
+
+-- a line is answered as the definition says, and the state is the one after it
+pub record IsAnswered (M : State) (line : List ℕ) (k : Kept) : Type 0 where
+  pub state : k.manager ≡ line_next M line
+  pub number : k.number ≡ line_number M line
+  pub text : last_text k ≡ line_text M line
+  pub no_memory : k.number ≡ MEMORY → ⊥
+
+-- The text can be copied out, and the code is the number of the answer; or memory was refused for the text.
+abbrev pub IsTold : Kept → ℕ → ℕ → Type 0
+IsTold k code len = ((code ≡ k.number) × (k.answer ≡ None) × (len ≡ length k.text.items)) ⊎ ((code ≡ NO_TEXT) × (len ≡ 0))
+
+-- A call on a line: memory was refused, and nothing is changed; or the line is answered.
+abbrev pub IsLine : Kept → List ℕ → Kept → ℕ → ℕ → Type 0
+IsLine k line now code len = ((code ≡ MEMORY) × (now ≡ k) × (len ≡ 0)) ⊎ (IsAnswered k.manager line now × IsTold now code len)
+
+-- A call by its own function: memory was refused, and nothing is changed; or the call is made as the definition says.
+abbrev pub IsCall : Kept → Call → Kept → ℕ → Type 0
+IsCall k c now code = ((code ≡ MEMORY) × (now ≡ k)) ⊎ (IsAsked k.manager (Asks c) now × (code ≡ now.number))
+
+-- The text of the last answer is asked for: state and answer stay as they are.
+pub record IsText (k now : Kept) (code len : ℕ) : Type 0 where
+  pub state : now.manager ≡ k.manager
+  pub number : now.number ≡ k.number
+  pub text : last_text now ≡ last_text k
+  pub told : IsTold now code len
+
+-- what a call makes of a closed handle, and of an open one
+
+abbrev pub AfterLine : Option Kept → List ℕ → Option Kept → ℕ → ℕ → Type 0
+AfterLine None line now code len = (code ≡ CLOSED) × (now ≡ None)
+AfterLine (Some k) line now code len = (n : Kept) × (now ≡ Some n) × IsLine k line n code len
+
+abbrev pub AfterText : Option Kept → Option Kept → ℕ → ℕ → Type 0
+AfterText None now code len = (code ≡ CLOSED) × (now ≡ None)
+AfterText (Some k) now code len = (n : Kept) × (now ≡ Some n) × IsText k n code len
+
+abbrev pub AfterCall : Option Kept → Call → Option Kept → ℕ → Type 0
+AfterCall None c now code = (code ≡ CLOSED) × (now ≡ None)
+AfterCall (Some k) c now code = (n : Kept) × (now ≡ Some n) × IsCall k c n code

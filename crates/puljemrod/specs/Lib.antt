@@ -1,0 +1,3 @@
+-- The definitions of what C may call.
+pub mod Handles
+pub mod Calls
