@@ -107,15 +107,15 @@ class Servers:
             return None
 
     def leading(self):
-        """The number of the server that leads."""
-        for number, url in enumerate(self.urls):
-            try:
-                answer, _ = Store([url], 1, 0).call("maintenance/status", {})
-            except StoreError:
-                continue
-            if answer.get("leader") == answer["header"]["member_id"]:
-                return number
-        return None
+        """The number of the server that leads, once one does."""
+        return wait_for("a server leads", lambda: [it for it in range(len(self.urls)) if self.leads(it)])[0]
+
+    def leads(self, number):
+        try:
+            answer, _ = Store([self.urls[number]], 1, 0).call("maintenance/status", {})
+        except StoreError:
+            return False
+        return answer.get("leader") == answer["header"]["member_id"]
 
     def end(self):
         for process in self.processes:
@@ -195,6 +195,7 @@ class Manager:
             process.ended()
         last = self.replica("last", "--interval", "0")
         wait_for("all is answered", self.all_is_answered, 60)
+        wait_for("the last replica reads", lambda: "reads the log" in last.told())
         last.send(signal.SIGTERM)
         want(last.ended() == 0, f"the last replica failed: {last.told()[-300:]}")
 
