@@ -137,8 +137,8 @@ class Manager:
         return [REPLICA, word, "--etcd", ",".join(urls or self.servers.urls),
                 "--prefix", self.keys.prefix]
 
-    def replica(self, name, *options, tool=None, lease=2):
-        words = self.words("run") + ["--name", name, "--tool", tool or self.tool]
+    def replica(self, name, *options, tool=None, lease=2, urls=None):
+        words = self.words("run", urls) + ["--name", name, "--tool", tool or self.tool]
         process = Process(words + ["--lease", str(lease), "--interval", "0.5", *options],
                           self.folder / f"{self.prefix}-{name}.log")
         self.processes[name] = process
