@@ -14,6 +14,8 @@ from store import LeaseGone, Store, StoreError, absent, after, created, get, mod
 
 # Seconds between two turns of the keeper, and for which a leader's reading may hang.
 TURN, HANG = 0.25, 60
+# Seconds in which a leader whose manager has ended writes the output that it still has.
+FINISH = 10
 # Bytes and values of one transaction: etcd takes 1.5 MiB and 128 operations.
 MOST_BYTES, MOST_VALUES = (1 << 20) + (1 << 16), 100
 # A page of hashes.
@@ -221,6 +223,12 @@ class Leadership:
     def start(self):
         for thread in self.threads:
             thread.start()
+
+    def finish(self):
+        """Waits until the output of all that was applied is written, if this replica leads."""
+        replica = self.replica
+        with replica.changed:
+            replica.changed.wait_for(lambda: not (self.epoch and replica.outputs), FINISH)
 
     def end(self, why):
         """Gives the lease up, so that another replica leads at once, and leaves the reason."""

@@ -103,6 +103,7 @@ class Replica:
             self.position = max(self.position, position)
             while self.outputs and self.outputs[0][0] < self.position[0]:
                 self.outputs.popleft()
+            self.changed.notify_all()
 
     def next_output(self, most_bytes, most_values):
         """The values that come next, and the position behind them."""

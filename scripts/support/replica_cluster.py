@@ -107,15 +107,15 @@ class Servers:
             return None
 
     def leading(self):
-        """The number of the server that leads."""
-        for number, url in enumerate(self.urls):
-            try:
-                answer, _ = Store([url], 1, 0).call("maintenance/status", {})
-            except StoreError:
-                continue
-            if answer.get("leader") == answer["header"]["member_id"]:
-                return number
-        return None
+        """The number of the server that leads, once one does."""
+        return wait_for("a server leads", lambda: [it for it in range(len(self.urls)) if self.leads(it)])[0]
+
+    def leads(self, number):
+        try:
+            answer, _ = Store([self.urls[number]], 1, 0).call("maintenance/status", {})
+        except StoreError:
+            return False
+        return answer.get("leader") == answer["header"]["member_id"]
 
     def end(self):
         for process in self.processes:
@@ -137,8 +137,8 @@ class Manager:
         return [REPLICA, word, "--etcd", ",".join(urls or self.servers.urls),
                 "--prefix", self.keys.prefix]
 
-    def replica(self, name, *options, tool=None, lease=2):
-        words = self.words("run") + ["--name", name, "--tool", tool or self.tool]
+    def replica(self, name, *options, tool=None, lease=2, urls=None):
+        words = self.words("run", urls) + ["--name", name, "--tool", tool or self.tool]
         process = Process(words + ["--lease", str(lease), "--interval", "0.5", *options],
                           self.folder / f"{self.prefix}-{name}.log")
         self.processes[name] = process
@@ -195,6 +195,7 @@ class Manager:
             process.ended()
         last = self.replica("last", "--interval", "0")
         wait_for("all is answered", self.all_is_answered, 60)
+        wait_for("the last replica reads", lambda: "reads the log" in last.told())
         last.send(signal.SIGTERM)
         want(last.ended() == 0, f"the last replica failed: {last.told()[-300:]}")
 
