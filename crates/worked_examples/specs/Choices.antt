@@ -164,14 +164,20 @@ HeldAndBarred =
     (holders_of three_racks wanting (sent 6 11 51 10 ∷ sent 2 11 41 10 ∷ []) 6 ≡ 11 ∷ 31 ∷ 51 ∷ [])
     × (barred_for (holdings [] (held 6 11 live_mark ∷ held 6 21 (marks Stale false false) ∷ held 6 41 (marks Good true true) ∷ []) (since 6 31 1 ∷ [])) (sent 6 11 51 10 ∷ []) 6 ≡ 11 ∷ 21 ∷ 41 ∷ 31 ∷ 51 ∷ [])
 
--- A round of one transfer for each of five nodes: six blocks of the highest level get five.
+-- each of six blocks has one of two replicas
+abbrev pub six_urgent : Holdings
+six_urgent =
+    holdings (block 1 2 ∷ block 2 2 ∷ block 3 2 ∷ block 4 2 ∷ block 5 2 ∷ block 6 2 ∷ [])
+    (held 1 11 live_mark ∷ held 2 21 live_mark ∷ held 3 31 live_mark ∷ held 4 41 live_mark ∷ held 5 51 live_mark ∷ held 6 11 live_mark ∷ []) []
+
+-- A round of one transfer for each of five nodes, draining or not: six blocks of the highest level get five. Of a block with
+-- a drained replica alone both copies are wished for.
 abbrev pub WorkIsSharedByAll : Type 0
 WorkIsSharedByAll =
-    map {B = ℕ × ℕ × ℕ} (λ t. (t.block, t.source, t.target))
-    (transfers (record { work = 1; invalidate = 10; pend = 10 }) three_racks
-    (holdings (block 1 2 ∷ block 2 2 ∷ block 3 2 ∷ block 4 2 ∷ block 5 2 ∷ block 6 2 ∷ [])
-    (held 1 11 live_mark ∷ held 2 21 live_mark ∷ held 3 31 live_mark ∷ held 4 41 live_mark ∷ held 5 51 live_mark ∷ held 6 11 live_mark ∷ []) []))
-    ≡ (1, 11, 51) ∷ (2, 21, 51) ∷ (3, 31, 51) ∷ (4, 41, 51) ∷ (5, 51, 11) ∷ []
+    (map {B = ℕ × ℕ × ℕ} (λ t. (t.block, t.source, t.target)) (transfers (record { work = 1; invalidate = 10; pend = 10 }) three_racks six_urgent)
+    ≡ (1, 11, 51) ∷ (2, 21, 51) ∷ (3, 31, 51) ∷ (4, 41, 51) ∷ (5, 51, 11) ∷ [])
+    × (map {B = ℕ × ℕ × ℕ} (λ t. (t.block, t.source, t.target)) (transfers (record { work = 1; invalidate = 10; pend = 10 }) (draining (2 ∷ [])) six_urgent)
+    ≡ (1, 11, 51) ∷ (2, 21, 51) ∷ (2, 21, 11) ∷ (3, 31, 51) ∷ (4, 41, 51) ∷ [])
 
 -- A badly distributed block gets one copy more than are wanted, on another rack; with the copy one of the two on one rack is too many.
 abbrev pub OneMoreThanWanted : Type 0

@@ -63,6 +63,7 @@ restamp_makes_stale = HoldsOnCluster usual (
     ∷ received_version 31 7 2 gives ok 0 0
     ∷ list_corrupt gives replica_ids ((7, 11) ∷ [])
     ∷ restamp 7 2 gives refused OldGeneration
+    ∷ restamp 7 4 gives ok 0 0
     ∷ [])
 
 abbrev pub corrupt_replica_waits_for_replacement : Type 0

@@ -5,7 +5,7 @@ use Rattle.bm_base.specs.declared.call.Answer.{Answer}
 use Rattle.bm_base.specs.declared.level.Level.TheVariants.{Highest, VeryUnderReplicated, UnderReplicated, BadlyDistributed, NoUsableReplica}
 use Rattle.bm_base.specs.declared.refusal.Refusal.TheVariants.{UnknownBlock, BadReplication}
 use Rattle.bm_base.specs.Levels.{level_of}
-use Rattle.worked_examples.specs.Script.{◌gives◌, HoldsOnCluster, usual, dead, add_block, set_replication, received, level, round, list_missing, list_excess, ok, at_level, at_no_level, commands, copies_by, copy, deletes_by, delete, blocks, replica_ids, refused}
+use Rattle.worked_examples.specs.Script.{◌gives◌, HoldsOnCluster, usual, register, dead, drain, add_block, set_replication, received, level, round, list_missing, list_excess, ok, at_level, at_no_level, commands, copies_by, copy, deletes_by, delete, blocks, replica_ids, refused}
 
 abbrev pub block_without_replicas_is_missing : Type 0
 block_without_replicas_is_missing = HoldsOnCluster usual (
@@ -25,6 +25,7 @@ levels_follow_replication = HoldsOnCluster usual (
     ∷ level 7 gives at_level VeryUnderReplicated
     ∷ set_replication 7 2 gives ok 0 0
     ∷ level 7 gives at_no_level
+    ∷ set_replication 7 16 gives ok 0 0
     ∷ set_replication 7 17 gives refused BadReplication
     ∷ set_replication 7 0 gives refused BadReplication
     ∷ set_replication 6 0 gives refused UnknownBlock
@@ -51,6 +52,18 @@ one_rack_is_enough_where_no_other_is_alive = HoldsOnCluster usual (on_one_rack +
     dead 3 gives ok 0 0
     ∷ dead 4 gives ok 0 0
     ∷ level 7 gives at_no_level
+    ∷ register 5 2 [] gives ok 0 0
+    ∷ level 7 gives at_level BadlyDistributed
+    ∷ drain 5 gives ok 0 0
+    ∷ level 7 gives at_level BadlyDistributed
+    ∷ []))
+
+abbrev pub drained_replica_is_on_no_rack : Type 0
+drained_replica_is_on_no_rack = HoldsOnCluster usual (on_one_rack ++ (
+    received 31 7 gives ok 1 0
+    ∷ level 7 gives at_no_level
+    ∷ drain 3 gives ok 0 0
+    ∷ level 7 gives at_level BadlyDistributed
     ∷ []))
 
 abbrev pub queue_follows_death : Type 0

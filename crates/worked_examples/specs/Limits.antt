@@ -40,9 +40,14 @@ report_of_65536_entries = Holds usual (
     ∷ list_replicas gives replicas (replica 7 11 Good ∷ [])
     ∷ [])
 
--- one number more than the runs of a report may name
+-- One number more than the runs of a report may name, and as many as they may. The accepted call is the last that can be
+-- counted, so that no number is entered.
 abbrev pub too_many_numbers_in_a_report : Type 0
-too_many_numbers_in_a_report = HoldsOnCluster usual (report 11 (run 0 1048576 1 ∷ []) gives refused TooMany ∷ [])
+too_many_numbers_in_a_report = Holds (record usual { first_call = 18446744073709551614 }) (
+    register 1 1 (11 ∷ []) gives ok 0 0
+    ∷ report 11 (run 0 1048576 1 ∷ []) gives refused TooMany
+    ∷ report 11 (run 1 1048576 1 ∷ []) gives refused CallsSpent
+    ∷ [])
 
 -- so many numbers down from the last
 abbrev pub numbers_down : ℕ → ℕ → List ℕ

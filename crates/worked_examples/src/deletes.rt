@@ -20,7 +20,8 @@ pub fn deleted_block_must_leave_storages()
     ensures { example.deleted_block_must_leave_storages }
 {}
 
-/// A new version makes the old replicas stale, so the block is missing until one of the new version is received.
+/// A new version makes the old replicas stale, so the block is missing until one of the new version is received. Generations
+/// may be left out.
 pub fn restamp_makes_stale()
     ensures { example.restamp_makes_stale }
 {}

@@ -15,10 +15,12 @@ pub fn levels_follow_replication()
 {}
 
 /// A block with enough replicas, all on one rack, is copied to the other rack; then one of the rack with two is deleted.
-/// Where only one rack is alive, nothing is to be done.
+/// Where only one rack is alive, nothing is to be done. A rack counts though its nodes drain and have no storage; the rack of
+/// a drained replica does not.
 pub fn badly_distributed_block_gets_second_rack()
     ensures second_rack { example.badly_distributed_block_gets_second_rack }
     ensures only_rack { example.one_rack_is_enough_where_no_other_is_alive }
+    ensures drained { example.drained_replica_is_on_no_rack }
 {}
 
 /// A node's death makes two blocks urgent whose other live replicas stood on it. In the next round the replica in excess
