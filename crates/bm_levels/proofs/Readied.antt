@@ -1,5 +1,5 @@
 -- Where a report was made ready, or was not after all, nothing that is held changes.
-use Rattle.std.specs.Prelude.{◌≡◌, ◌≢◌, ℕ, ◌+◌, Bool, true, false, not, ◌&&◌, ◌==◌, if◌then◌else◌, List, [], ◌∷◌, length, Option, Some, None, IsSome, IsTrue, is_some, option_and_then}
+use Rattle.std.specs.Prelude.{◌≡◌, ◌≢◌, ℕ, ◌+◌, Bool, true, false, not, ◌&&◌, ◌==◌, if◌then◌else◌, List, [], ◌∷◌, length, Option, Some, None, IsSome, IsSomeAnd, IsTrue, is_some, option_and_then}
 use Rattle.std.specs.Option.{option_map_or}
 use Rattle.std.proofs.Common.{refl, sym, ap, subst, ◌∙◌, inl, inr, ◌⊎◌, arith}
 use Rattle.std.proofs.lemmas.Bool.{cases_eq, eqb-true, true≢false, false≢true}
@@ -15,6 +15,8 @@ use Rattle.bm_arena.specs.Holding.{info_at}
 use Rattle.bm_arena.proofs.Held.{info_in, replica_in, get-replicas_of, get-blocks_of}
 use Rattle.bm_report.specs.Expanded.{IsPrepared}
 use Rattle.bm_report.specs.Aborted.{is_bare_block, is_bare_number}
+use Rattle.bm_report.proofs.Maps.{get-here}
+use Rattle.bm_levels.specs.Bare.{IsBare}
 use Rattle.bm_levels.specs.Judged.{level_in, level_by, is_settled_at}
 use Rattle.bm_levels.specs.Kept.{Kept, HasRoomFor, KeepsRoom, IsSameAt}
 use Rattle.bm_levels.specs.Leveled.{Leveled, IsLeveled, AreLevels}
@@ -216,6 +218,14 @@ module _ (a c : Contents) (lawful_a : IsLawful a) (lawful_c : IsLawful c) (prepa
 
       pub levels_again : (C : Cluster) → AreLevels C (record { arena = a; kept = k }) → AreLevels C (record { arena = d; kept = K })
       levels_again = levels_alike (record { arena = a; kept = k }) d K alike_again (delimiter ∙ prepared.delimiter) same
+
+-- the entry of a number with neither a block nor a replica has no replica
+pub bare_there : (a : Contents) (b slot : ℕ) → IsLawful a → slot_of a b ≡ Some slot → IsBare a b → IsSomeAnd (block_at a slot) (λ (k : Block). k.replicas ≡ [])
+bare_there a b slot lawful at bare =
+    let found = lawful.found b slot at in
+    let none : found.1.replicas ≡ [] = no_replicas found.1.replicas (λ t. sym (ap (λ x. option_and_then (λ (y : Block). find_marks y.replicas t) x) found.2) ∙ sym (get-here a b slot t at) ∙ bare.empty t) in
+    let P : Option Block → Type 0 = λ o. IsSomeAnd o (λ (k : Block). k.replicas ≡ []) in
+    subst P (sym found.2) none
 
 -- an arena has no number that it has not
 pub none_fresh : (a : Contents) (named : ℕ → Bool) (b : ℕ) → slot_of a b ≡ None → IsSome (slot_of a b) → IsTrue (named b)

@@ -48,7 +48,7 @@ impl LeveledBlocks {
         ensures levels_by { KeepsAllLevels self.old self.new }
     {
         self.arena.lawful();
-        if self.arena.has_entry(slot) && !self.arena.is_delimiter(slot) {
+        if self.arena.is_bare(slot) && !self.arena.is_delimiter(slot) {
             self.drop_if_bare(slot);
         }
     }
