@@ -1,0 +1,105 @@
+/* puljemrod: the block management of an HDFS NameNode, as a library for C and C++.
+ *
+ * A handle holds one manager. A call is a line of JSON, and its answer is a line of text: docs/FORMATS.md
+ * lists both. The answers, and the state after each line, are the proved definition's; they do not depend on
+ * the number of shards. No call starts a thread, waits, or ends the process. No call reads a file or the clock.
+ *
+ *     puljemrod manager = PULJEMROD_CLOSED_HANDLE;
+ *     puljemrod_options options = PULJEMROD_STANDARD;
+ *     size_t len;
+ *     char text[4096];
+ *     if (puljemrod_open(&manager, &options) != PULJEMROD_OK) return 1;
+ *     const char *line = "{\"op\":\"level\",\"id\":7}";
+ *     uint32_t code = puljemrod_line(&manager, line, strlen(line), &len);
+ *     size_t copied = puljemrod_answer(&manager, 0, text, sizeof text);
+ *     puljemrod_close(&manager);
+ *
+ * What the caller has to guarantee. No call can check these:
+ *   - A handle begins as zeros. Only these functions write it. It is never copied or moved.
+ *   - A handle is in one call at a time. Calls on different handles may run at the same time. A handle may pass
+ *     from thread to thread: its calls are then ordered by a lock, by a thread's start or by its join.
+ *   - No pointer is NULL. One with a length leads to that many bytes; where the length is 0, any other
+ *     pointer will do. What a call writes overlaps nothing else that it is given.
+ *   - No call is made from a signal handler, or in a forked child of a process with threads.
+ *   - The calling thread has half a MiB of stack left.
+ *   - The processor has the instructions of x86-64-v2 (from about 2009 on).
+ *
+ * What is trusted, next to the proof of what the functions do: the compiler that built the library, the malloc,
+ * realloc and free of the process, and that this header says the same as crates/puljemrod.
+ */
+#ifndef PULJEMROD_H
+#define PULJEMROD_H
+
+#include <stdbool.h>
+#include <stddef.h>
+#include <stdint.h>
+
+#ifdef __cplusplus
+extern "C" {
+#endif
+
+/* Closed where it is all zeros. */
+typedef struct puljemrod {
+    void *at;
+    bool is_open;
+} puljemrod;
+
+#define PULJEMROD_CLOSED_HANDLE {0, false}
+
+/* The ranges are those of docs/FORMATS.md. No answer depends on `shards` or `secret`. */
+typedef struct puljemrod_options {
+    uint32_t shards;      /* parts into which blocks are cut, 1 to 64 */
+    uint32_t work;        /* copies a round commands for each alive node, 1 to 1,000 */
+    uint32_t invalidate;  /* deletes a round commands one node, 1 to 1,000,000 */
+    uint32_t pend;        /* rounds after which a copy is given up, 1 to 1,000,000 */
+    uint64_t first_round; /* the round number at the start */
+    uint64_t first_call;  /* the number of accepted calls at the start */
+    uint64_t secret;      /* random bits that whoever chooses block numbers does not know */
+} puljemrod_options;
+
+#define PULJEMROD_STANDARD {1, 2, 1000, 100, 0, 0, 0}
+
+/* A code of a call. 1 to 15, 20 and 21 are the numbers of the refusals in docs/FORMATS.md. */
+enum {
+    PULJEMROD_OK = 0,
+    PULJEMROD_MEMORY = 14,     /* memory was refused; nothing is changed, and the call may be made again */
+    PULJEMROD_BAD_CONFIG = 15, /* an option is outside its range */
+    PULJEMROD_BAD_LINE = 20,   /* the line asks for no call */
+    PULJEMROD_LONG_LINE = 21,  /* the line has more than 4,194,304 bytes */
+    PULJEMROD_CLOSED = 32,     /* the handle is closed */
+    PULJEMROD_OPEN = 33,       /* the handle is open already */
+    PULJEMROD_NO_TEXT = 34     /* the line is answered, and memory was refused for its text: puljemrod_text */
+};
+
+/* Opens a closed handle: a manager with no node and no block, and an empty answer.
+ * PULJEMROD_OPEN where the handle is open, which leaves it as it is. PULJEMROD_BAD_CONFIG and PULJEMROD_MEMORY
+ * leave it closed. */
+uint32_t puljemrod_open(puljemrod *handle, const puljemrod_options *options);
+
+/* Answers a line of `line_len` bytes without a line end. The handle keeps the answer, and the answer before
+ * is gone.
+ *
+ * PULJEMROD_OK, or the number of a refusal: the state and the answer are the definition's, and the answer is a
+ * text of `*answer_len` bytes, also where it is a refusal. A refused line changes nothing.
+ * PULJEMROD_NO_TEXT: the same, but the text is not made yet; `*answer_len` is 0.
+ * PULJEMROD_MEMORY: nothing is changed, and the answer before is kept; `*answer_len` is 0.
+ * PULJEMROD_CLOSED: the handle is closed; `*answer_len` is as it was. */
+uint32_t puljemrod_line(puljemrod *handle, const void *line, size_t line_len, size_t *answer_len);
+
+/* Makes the text of the last answer, where memory was refused for it, and returns what puljemrod_line would
+ * have returned; or PULJEMROD_NO_TEXT again. Where there is a text already it is kept. It changes no state.
+ * PULJEMROD_CLOSED where the handle is closed. */
+uint32_t puljemrod_text(puljemrod *handle, size_t *answer_len);
+
+/* Copies the text of the last answer, without a line end, from byte `from` on: as many bytes as there are, at
+ * most `out_len`. Returns their number. It takes no memory. An answer may be copied in pieces, and again.
+ * 0 where the handle is closed, or where there is no text. */
+size_t puljemrod_answer(puljemrod *handle, size_t from, void *out, size_t out_len);
+
+/* Closes a handle and returns its memory. PULJEMROD_CLOSED where it is closed. It may be opened again. */
+uint32_t puljemrod_close(puljemrod *handle);
+
+#ifdef __cplusplus
+}
+#endif
+#endif

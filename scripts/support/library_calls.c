@@ -1,0 +1,277 @@
+/* Calls each function of the library, with allocations refused too: it is linked with --wrap for malloc, realloc
+ * and free. Writes what failed, and then how many checks passed. */
+#include "puljemrod.h"
+
+#include <pthread.h>
+#include <stdio.h>
+#include <stdlib.h>
+#include <string.h>
+
+enum { LONGEST = 4194304, OPENS = 1000 };
+
+static unsigned passed, failed;
+
+static void check(bool is_so, const char *what) {
+    if (is_so) {
+        passed++;
+    } else {
+        failed++;
+        printf("failed: %s\n", what);
+    }
+}
+
+/* ---- the allocator */
+
+void *__real_malloc(size_t size);
+void *__real_realloc(void *block, size_t size);
+void __real_free(void *block);
+
+/* Blocks that are not freed yet; how many more allocations are given, -1 for all; whether one was refused. */
+static _Atomic long blocks, left = -1;
+static _Atomic bool was_refused;
+
+static bool is_refused(void) {
+    if (left == 0) was_refused = true;
+    if (left <= 0) return left == 0;
+    left--;
+    return false;
+}
+
+void *__wrap_malloc(size_t size) {
+    void *block = is_refused() ? NULL : __real_malloc(size);
+    if (block) blocks++;
+    return block;
+}
+
+void *__wrap_realloc(void *block, size_t size) {
+    if (is_refused()) return NULL;
+    void *moved = __real_realloc(block, size);
+    if (moved && !block) blocks++;
+    return moved;
+}
+
+void __wrap_free(void *block) {
+    if (block) blocks--;
+    __real_free(block);
+}
+
+/* ---- calls */
+
+/* Each line with the code and the text of its answer. */
+static const struct row {
+    const char *line, *text;
+    uint32_t code;
+} rows[] = {
+    {"{\"op\":\"register\",\"node\":1,\"rack\":1,\"storages\":[11,12]}", "ok 0 0", 0},
+    {"{\"op\":\"register\",\"node\":2,\"rack\":2,\"storages\":[21]}", "ok 0 0", 0},
+    {"{\"op\":\"register\",\"node\":2,\"rack\":2,\"storages\":[21]}", "refused 2 NodeKnown", 2},
+    {"{\"op\":\"heartbeat\",\"node\":2,\"remaining\":[[21,1000]]}", "ok 0 0", 0},
+    {"{\"op\":\"add\",\"id\":7,\"gen\":1,\"len\":64,\"repl\":2}", "ok 0 0", 0},
+    {"{\"op\":\"received\",\"storage\":11,\"id\":7,\"gen\":1,\"len\":64}", "ok 1 0", 0},
+    {"{\"op\":\"level\",\"id\":7}", "level 7; 0", 0},
+    {"{\"op\":\"level\",\"id\":8}", "refused 5 UnknownBlock", 5},
+    {"{\"op\":\"list_places\",\"id\":7}", "places 7; 11", 0},
+    {"{\"op\":\"round\"}", "round 1; copy 1 7 1 64 11 21", 0},
+    {"{\"op\":\"fly\"}", "refused 20 BadLine", 20},
+    {"", "refused 20 BadLine", 20},
+    {"{\"op\":\"report\",\"storage\":21,\"blocks\":[[7,1,64],[9,1,1]]}", "ok 2 0", 0},
+    {"{\"op\":\"list_replicas\"}", "replicas; 7 11 good; 7 21 good; 9 21 stray", 0},
+    {"{\"op\":\"round\"}", "round 2; delete 2 21 9", 0},
+    {"{\"op\":\"dead\",\"node\":1}", "ok 0 1", 0},
+    {"{\"op\":\"list_missing\"}", "missing", 0},
+    {"{\"op\":\"retired\",\"node\":2}", "retired 2; no", 0},
+};
+
+enum { ROWS = sizeof rows / sizeof *rows };
+
+static const puljemrod_options standard = PULJEMROD_STANDARD;
+
+static bool has_text(puljemrod *handle, const char *text) {
+    char out[200];
+    size_t len = strlen(text);
+    return puljemrod_answer(handle, 0, out, sizeof out) == len && memcmp(out, text, len) == 0;
+}
+
+static uint32_t take(puljemrod *handle, const struct row *row, size_t *len) {
+    return puljemrod_line(handle, row->line, strlen(row->line), len);
+}
+
+/* Whether the line is answered as its row says. */
+static bool is_answered(puljemrod *handle, const struct row *row) {
+    size_t len = 99;
+    return take(handle, row, &len) == row->code && len == strlen(row->text) && has_text(handle, row->text);
+}
+
+static bool are_answered(puljemrod *handle) {
+    bool are = true;
+    for (unsigned at = 0; at < ROWS; at++)
+        are = is_answered(handle, &rows[at]) && are;
+    return are;
+}
+
+/* ---- checks */
+
+static void closed_and_open(void) {
+    puljemrod h = PULJEMROD_CLOSED_HANDLE;
+    size_t len = 99;
+    char out[4];
+    check(take(&h, rows, &len) == PULJEMROD_CLOSED && len == 99, "a line on a closed handle");
+    check(puljemrod_text(&h, &len) == PULJEMROD_CLOSED && len == 99, "the text of a closed handle");
+    check(puljemrod_answer(&h, 0, out, sizeof out) == 0, "the answer of a closed handle");
+    check(puljemrod_close(&h) == PULJEMROD_CLOSED && !h.at, "close of a closed handle");
+    puljemrod_options bad = standard;
+    bad.shards = 65;
+    check(puljemrod_open(&h, &bad) == PULJEMROD_BAD_CONFIG && !h.is_open, "an option outside its range");
+    check(puljemrod_open(&h, &standard) == PULJEMROD_OK && h.is_open, "open");
+    check(puljemrod_text(&h, &len) == PULJEMROD_OK && len == 0, "the answer before the first line");
+    check(is_answered(&h, rows), "a line");
+    check(puljemrod_open(&h, &bad) == PULJEMROD_OPEN && has_text(&h, rows->text), "a second open");
+    check(puljemrod_text(&h, &len) == PULJEMROD_OK && len == strlen(rows->text), "a text that is made already");
+    check(puljemrod_close(&h) == PULJEMROD_OK && !h.is_open && !h.at, "close");
+    check(puljemrod_close(&h) == PULJEMROD_CLOSED, "a second close");
+    check(puljemrod_open(&h, &standard) == PULJEMROD_OK && are_answered(&h), "opened again");
+    puljemrod_close(&h);
+}
+
+static void options_are_taken(void) {
+    puljemrod h = PULJEMROD_CLOSED_HANDLE;
+    puljemrod_options options = {64, 1, 1, 1, 40, UINT64_MAX - 1, 7};
+    struct row round = {"{\"op\":\"round\"}", "round 41", 0};
+    struct row spent = {"{\"op\":\"round\"}", "refused 13 CallsSpent", 13};
+    puljemrod_open(&h, &options);
+    check(is_answered(&h, &round), "the first round and the first call");
+    check(is_answered(&h, &spent), "calls are spent");
+    puljemrod_close(&h);
+}
+
+static void pieces_of_an_answer(void) {
+    puljemrod h = PULJEMROD_CLOSED_HANDLE;
+    char out[8] = "########";
+    puljemrod_open(&h, &standard);
+    is_answered(&h, &rows[7]);
+    check(puljemrod_answer(&h, 8, out, 3) == 3 && memcmp(out, "5 U#####", 8) == 0, "a piece of an answer");
+    check(puljemrod_answer(&h, 20, out, 8) == 2 && memcmp(out, "ckU#####", 8) == 0, "the end of an answer");
+    check(puljemrod_answer(&h, 22, out, 8) == 0, "from the end of an answer");
+    check(puljemrod_answer(&h, SIZE_MAX, out, 8) == 0, "from past the end of an answer");
+    check(puljemrod_answer(&h, 0, out, 0) == 0, "an answer of no bytes");
+    puljemrod_close(&h);
+}
+
+static void longest_line(void) {
+    puljemrod h = PULJEMROD_CLOSED_HANDLE;
+    size_t len;
+    char *line = malloc(LONGEST + 1);
+    memset(line, ' ', LONGEST + 1);
+    memcpy(line, rows[16].line, strlen(rows[16].line));
+    puljemrod_open(&h, &standard);
+    check(puljemrod_line(&h, line, LONGEST, &len) == 0 && has_text(&h, "missing"), "the longest line");
+    check(puljemrod_line(&h, line, LONGEST + 1, &len) == PULJEMROD_LONG_LINE && has_text(&h, "refused 21 LongLine"),
+          "a line that is too long");
+    puljemrod_close(&h);
+    free(line);
+}
+
+/* The line is answered with its Nth allocation refused, for N from 1 on; each time nothing is changed, or the text
+ * is owed. */
+static bool is_answered_in_the_end(puljemrod *handle, const struct row *row, unsigned *memory, unsigned *owed) {
+    for (long n = 0;; n++) {
+        size_t len = 99;
+        was_refused = false;
+        left = n;
+        uint32_t code = take(handle, row, &len);
+        left = -1;
+        if (code == PULJEMROD_MEMORY && was_refused && len == 0) {
+            (*memory)++;
+        } else if (code == PULJEMROD_NO_TEXT && was_refused && len == 0) {
+            char out[1];
+            (*owed)++;
+            left = 0;
+            bool is_owed = puljemrod_text(handle, &len) == PULJEMROD_NO_TEXT;
+            is_owed = puljemrod_answer(handle, 0, out, 1) == 0 && is_owed;
+            left = -1;
+            return is_owed && puljemrod_text(handle, &len) == row->code && len == strlen(row->text)
+                && has_text(handle, row->text);
+        } else {
+            return code == row->code && len == strlen(row->text) && has_text(handle, row->text);
+        }
+    }
+}
+
+static void allocations_refused(void) {
+    puljemrod h = PULJEMROD_CLOSED_HANDLE;
+    unsigned refused = 0, memory = 0, owed = 0;
+    long before = blocks;
+    for (long n = 0; !h.is_open; n++) {
+        left = n;
+        uint32_t code = puljemrod_open(&h, &standard);
+        left = -1;
+        if (code != PULJEMROD_OK && code != PULJEMROD_MEMORY) break;
+        if (code == PULJEMROD_MEMORY && (h.is_open || blocks != before)) break;
+        refused += code == PULJEMROD_MEMORY;
+    }
+    check(h.is_open && refused > 0, "open with each allocation refused");
+    for (unsigned at = 0; at < ROWS; at++)
+        check(is_answered_in_the_end(&h, &rows[at], &memory, &owed), rows[at].line);
+    check(memory > 20, "calls are refused for memory");
+    check(owed > 10, "texts are owed");
+    puljemrod_close(&h);
+    check(blocks == before, "memory is returned after allocations were refused");
+}
+
+static void memory_is_returned(void) {
+    long before = blocks;
+    bool are = true;
+    for (unsigned n = 0; n < OPENS; n++) {
+        puljemrod h = PULJEMROD_CLOSED_HANDLE;
+        puljemrod_options options = standard;
+        options.shards = 1 + n % 64;
+        puljemrod_open(&h, &options);
+        are = are_answered(&h) && are;
+        puljemrod_close(&h);
+        are = blocks == before && are;
+    }
+    check(are, "1,000 opens and closes");
+}
+
+static void *answers_in_a_thread(void *handle) {
+    return are_answered(handle) ? handle : NULL;
+}
+
+static void *opens_in_a_thread(void *handle) {
+    for (unsigned n = 0; n < 100; n++)
+        if (puljemrod_open(handle, &standard) != 0 || !are_answered(handle) || puljemrod_close(handle) != 0) return NULL;
+    return handle;
+}
+
+static void threads(void) {
+    puljemrod h[4] = {PULJEMROD_CLOSED_HANDLE};
+    pthread_t thread[4];
+    void *answered = NULL;
+    puljemrod_open(h, &standard);
+    pthread_create(thread, NULL, answers_in_a_thread, h);
+    pthread_join(*thread, &answered);
+    check(answered == h, "a handle that moves to another thread");
+    check(puljemrod_close(h) == PULJEMROD_OK, "and back");
+    bool are = true;
+    for (unsigned at = 0; at < 4; at++)
+        pthread_create(&thread[at], NULL, opens_in_a_thread, &h[at]);
+    for (unsigned at = 0; at < 4; at++) {
+        pthread_join(thread[at], &answered);
+        are = answered == &h[at] && are;
+    }
+    check(are, "four handles at the same time");
+}
+
+int main(void) {
+    check(sizeof(puljemrod) == 16 && offsetof(puljemrod, is_open) == 8, "the handle's layout");
+    check(sizeof(puljemrod_options) == 40 && offsetof(puljemrod_options, secret) == 32, "the options' layout");
+    closed_and_open();
+    options_are_taken();
+    pieces_of_an_answer();
+    longest_line();
+    allocations_refused();
+    memory_is_returned();
+    threads();
+    printf("%u passed, %u failed\n", passed, failed);
+    return failed != 0;
+}
