@@ -33,7 +33,7 @@ JNIEXPORT jbyteArray JNICALL Java_Puljemrod_answer(JNIEnv *env, jclass class, jl
     size_t len = 0;
     uint32_t code = puljemrod_line(handle, bytes, (size_t)line_len, &len);
     (*env)->ReleaseByteArrayElements(env, line, bytes, JNI_ABORT);
-    while (code == PULJEMROD_NO_TEXT) code = puljemrod_retry(handle, &len);
+    while (code == PULJEMROD_NO_TEXT) code = puljemrod_text(handle, &len);
     if (code == PULJEMROD_MEMORY) return NULL;
     jbyteArray answer = (*env)->NewByteArray(env, (jsize)len);
     if (answer == NULL) return NULL;

@@ -40,7 +40,7 @@ impl Default for Options {
 unsafe extern "C" {
     fn puljemrod_open(handle: *mut Handle, options: *const Options) -> u32;
     fn puljemrod_line(handle: *mut Handle, line: *const u8, len: usize, answer_len: *mut usize) -> u32;
-    fn puljemrod_retry(handle: *mut Handle, answer_len: *mut usize) -> u32;
+    fn puljemrod_text(handle: *mut Handle, answer_len: *mut usize) -> u32;
     fn puljemrod_answer(handle: *mut Handle, from: usize, out: *mut u8, out_len: usize) -> usize;
     fn puljemrod_close(handle: *mut Handle) -> u32;
 }
@@ -124,7 +124,7 @@ impl Manager {
         while code == NO_TEXT {
             // The call counts: so its text is asked for until there is memory for it.
             // SAFETY: as above.
-            code = unsafe { puljemrod_retry(&mut *self.handle, &mut len) };
+            code = unsafe { puljemrod_text(&mut *self.handle, &mut len) };
         }
         if code == MEMORY {
             return Err(Error { number: code });
