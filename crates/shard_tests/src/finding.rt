@@ -8,7 +8,7 @@ ghost use Rattle.bm_levels.specs.Leveled.{AreLevels};
 
 use crate::support::{STAMP, four_nodes};
 use bm_base::{
-    BlockId, BlockInfo, Entry, HashSecret, Level, Part, RoundPart, Stamp, StorageId, Wish,
+    BlockId, BlockInfo, HashSecret, Level, RoundPart, Stamp, StorageId, Wish,
 };
 use bm_finding::{find_round, likely_bound};
 use bm_levels::LeveledBlocks;
@@ -41,13 +41,8 @@ fn block_with_one(rt: &impl Abort, alloc: Global, topology: &Topology) -> Levele
     };
     blocks.set_info(topology, slot, Some(info));
     let mut report = Report::new(alloc);
-    let entries = [Entry::one(id, stamp())];
-    let part = Part {
-        index: 0,
-        shards: 1,
-    };
     blocks
-        .ready_report(&mut report, StorageId(11), entries.as_slice(), part)
+        .ready_notice(&mut report, StorageId(11), id, stamp())
         .expect(rt, "memory");
     blocks.receive(&report, topology, StorageId(11), id, stamp());
     drop(report);

@@ -3,7 +3,7 @@ ghost use Rattle.std.specs.Prelude.{◌≡◌};
 ghost use Rattle.bm_base.specs.State.{empty_cluster};
 
 use crate::support::{STAMP, join};
-use bm_base::{BlockId, BlockInfo, Entry, Event, HashSecret, Level, NodeId, Part, StorageId};
+use bm_base::{BlockId, BlockInfo, Event, HashSecret, Level, NodeId, StorageId};
 use bm_levels::LeveledBlocks;
 use bm_report::Report;
 use bm_topo::Topology;
@@ -30,12 +30,7 @@ fn two_nodes(rt: &impl Abort, alloc: Global) -> Topology {
 fn receive(rt: &impl Abort, alloc: Global, blocks: &mut LeveledBlocks, storage: StorageId) {
     let nowhere = nowhere(rt, alloc);
     let mut report = Report::new(alloc);
-    let entries = [Entry::one(ID, STAMP)];
-    let part = Part {
-        index: 0,
-        shards: 1,
-    };
-    let ready = blocks.ready_report(&mut report, storage, entries.as_slice(), part);
+    let ready = blocks.ready_notice(&mut report, storage, ID, STAMP);
     assert!(rt; ready.is_ok());
     blocks.receive(&report, &nowhere, storage, ID, STAMP);
     drop(report);

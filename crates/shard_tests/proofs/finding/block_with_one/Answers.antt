@@ -2,13 +2,10 @@ use Rattle.std.proofs.Common.{◌≡◌, ℕ, Bool, true, false, cond, [], ◌�
 use Rattle.std.specs.Prelude.{Option, Some, None, IsSome, is_some, option_map, not, IfOk, OnOk, Result, Ok}
 use Rattle.std.specs.Ordering.{eq_by_cmp}
 use Rattle.std.proofs.lemmas.Bool.{false≢true}
-use Rattle.bm_base.specs.declared.ids.Part.{Part}
 use Rattle.bm_base.specs.declared.replica.ReplicaId.{ReplicaId}
 use Rattle.bm_base.specs.declared.replica.Marks.{Marks}
 use Rattle.bm_base.specs.declared.replica.Stamp.{Stamp}
-use Rattle.bm_base.specs.declared.event.Entry.{Entry}
 use Rattle.bm_base.specs.declared.storage.StorageInfo.{StorageInfo}
-use Rattle.bm_base.specs.Entries.{expanded, told_by}
 use Rattle.bm_base.specs.Map.{Map, get, empty, keep, contains_key}
 use Rattle.bm_base.specs.State.{Cluster, Holdings, by_replica, replica_cmp, replica_at}
 use Rattle.bm_base.specs.Replicas.{node_of}
@@ -19,7 +16,6 @@ use Rattle.bm_base.proofs.Options.{there, is_there}
 use Rattle.bm_arena.specs.Contents.{Contents}
 use Rattle.bm_arena.specs.Holding.{replicas_of, holdings_of}
 use Rattle.bm_levels.specs.Leveled.{AreLevels}
-use Rattle.bm_report.specs.Expanded.{told_to}
 use Rattle.shard_tests.proofs.finding.block_with_one.Goals as goal
 
 if_ok : {X E : Type 0} (r : Result X E) (x : X) (P : X → Type 0) → r ≡ Ok x → IfOk r P → P x
@@ -30,16 +26,6 @@ on_ok r x P e h = subst (λ (z : Result _ _). OnOk z P) e h
 
 none_held : (m : Map by_replica Marks) → m ≡ empty → (q : ReplicaId) → IsSome (get m q) → ⊥
 none_held m e q h = false≢true (sym (ap (λ (k : Map by_replica Marks). is_some (get k q)) e ∙ ap is_some (get-empty {X = Marks} by_replica q)) ∙ h)
-
-abbrev one_part : Part
-one_part = record { index = 0; shards = 1 }
-
-abbrev entry_of : Stamp → Entry
-entry_of s = record { from = 7; to = 7; stamp = s }
-
-told_one : (s : Stamp) → told_to one_part (entry_of s ∷ []) ≡ record { id = 7; stamp = s } ∷ []
-unfolding expanded told_by
-told_one s = refl
 
 known_by_node : (o : Option StorageInfo) → IsSome (option_map (λ (i : StorageInfo). i.node) o) → is_some o ≡ true
 known_by_node None h = h
@@ -65,23 +51,22 @@ held a = refl
 pub receive-requires-clause-told : goal.receive-requires-clause-told
 receive-requires-clause-told g c =
     let same : c.stamp-2.result ≡ c.stamp-3.result = c.stamp-2.ensures ∙ sym c.stamp-3.ensures in
-    on_ok c.ready_report.result _ _ c.expect-2.ensures c.ready_report.ensures.told
-    ∙ ap (told_to one_part) (c.as_slice.ensures ∙ ap (λ (e : Entry). e ∷ []) c.one.ensures) ∙ told_one c.stamp-2.result ∙ ap (λ (s : Stamp). record { id = 7; stamp = s } ∷ []) same
+    on_ok c.ready_notice.result _ _ c.expect-2.ensures c.ready_notice.ensures.told ∙ ap (λ (s : Stamp). record { id = 7; stamp = s } ∷ []) same
 
 pub receive-requires-clause-once : goal.receive-requires-clause-once
 receive-requires-clause-once g c p q here also same =
-    let none : replicas_of c.ready_report.new.self.arena ≡ empty =
-    c.ready_report.ensures.replicas ∙ c.set_info.ensures.replicas ∙ c.ready_block.ensures.replicas ∙ if_ok c.new.result c.expect-blocks.result (λ b. replicas_of b.arena ≡ empty) c.expect-blocks.ensures c.new.ensures.replicas in
-    absurd (none_held (replicas_of c.ready_report.new.self.arena) none p here)
+    let none : replicas_of c.ready_notice.new.self.arena ≡ empty =
+    c.ready_notice.ensures.replicas ∙ c.set_info.ensures.replicas ∙ c.ready_block.ensures.replicas ∙ if_ok c.new.result c.expect-blocks.result (λ b. replicas_of b.arena ≡ empty) c.expect-blocks.ensures c.new.ensures.replicas in
+    absurd (none_held (replicas_of c.ready_notice.new.self.arena) none p here)
 
 pub returns-clause-levels : goal.returns-clause-levels
 returns-clause-levels g c =
     let C = c.args.topology.now.cluster in
     let first : AreLevels C c.expect-blocks.result = if_ok c.new.result c.expect-blocks.result (λ b. (D : Cluster) → AreLevels D b) c.expect-blocks.ensures c.new.ensures.levels C in
-    c.receive.ensures.levels (c.ready_report.ensures.levels C (c.set_info.ensures.levels (c.ready_block.ensures.levels C first)))
+    c.receive.ensures.levels (c.ready_notice.ensures.levels C (c.set_info.ensures.levels (c.ready_block.ensures.levels C first)))
 
 pub returns-clause-stored : goal.returns-clause-stored
 returns-clause-stored g c =
-    let none : replicas_of c.ready_report.new.self.arena ≡ empty =
-    c.ready_report.ensures.replicas ∙ c.set_info.ensures.replicas ∙ c.ready_block.ensures.replicas ∙ if_ok c.new.result c.expect-blocks.result (λ b. replicas_of b.arena ≡ empty) c.expect-blocks.ensures c.new.ensures.replicas in
-    entered_known c.args.topology.now.cluster (holdings_of c.ready_report.new.self.arena) 7 11 c.stamp-3.result (replicas_of c.receive.new.self.arena) (held c.ready_report.new.self.arena ∙ none) c.receive.ensures.received.replicas c.requires
+    let none : replicas_of c.ready_notice.new.self.arena ≡ empty =
+    c.ready_notice.ensures.replicas ∙ c.set_info.ensures.replicas ∙ c.ready_block.ensures.replicas ∙ if_ok c.new.result c.expect-blocks.result (λ b. replicas_of b.arena ≡ empty) c.expect-blocks.ensures c.new.ensures.replicas in
+    entered_known c.args.topology.now.cluster (holdings_of c.ready_notice.new.self.arena) 7 11 c.stamp-3.result (replicas_of c.receive.new.self.arena) (held c.ready_notice.new.self.arena ∙ none) c.receive.ensures.received.replicas c.requires
