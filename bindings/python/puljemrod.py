@@ -208,7 +208,9 @@ class Pipe:
                 stderr=self.errors, start_new_session=True,
             )
         except OSError as error:
-            raise Fault(f"the tool cannot be started: {error}") from None
+            raise Fault(
+                f"the tool cannot be started ({error}); `./puljemrod build` makes it"
+            ) from None
         os.set_blocking(self.child.stdin.fileno(), False)
         self.lines = self.bytes = 0
 

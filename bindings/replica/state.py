@@ -7,7 +7,7 @@ import hashlib
 import threading
 from collections import deque
 
-from log import BATCH, Sessions, Stop, batch_of, numbered, with_header
+from log import BATCH, LEADER, Sessions, Stop, batch_of, numbered, with_header
 
 # Lines between two hashes.
 HASH_EVERY = 1_000
@@ -71,7 +71,7 @@ class Replica:
             first = self.lines + 1
             self.lines += lines
             self.applied = index
-            self.rounds = self.sessions.next.get(0, 0)
+            self.rounds = self.sessions.next.get(LEADER, 0)
             crossed = self.lines // HASH_EVERY > (first - 1) // HASH_EVERY
             if crossed:
                 self.hashed = (self.lines, self.hash.hexdigest())

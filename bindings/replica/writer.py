@@ -10,6 +10,8 @@ from store import Compacted, Store, StoreError, after
 
 # Seconds for which lines are gathered, and bytes that wait at most.
 GATHER, WAITING = 0.005, 8 * BATCH
+# Seconds without etcd after which a writer that has begun gives up.
+PATIENCE = 60
 
 
 class Lines:
@@ -81,6 +83,7 @@ class Writer:
             self.number, self.revision = number, 0
         self.appended = self.answered = 0
         self.last = last_index(self.store, keys)[0]
+        self.store.patience = PATIENCE
 
     def append(self, block):
         """Appends whole lines; answers when they are in the log."""
