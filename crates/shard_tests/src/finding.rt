@@ -7,9 +7,7 @@ ghost use Rattle.bm_arena.specs.Holding.{replicas_of};
 ghost use Rattle.bm_levels.specs.Leveled.{AreLevels};
 
 use crate::support::{STAMP, four_nodes};
-use bm_base::{
-    BlockId, BlockInfo, HashSecret, Level, RoundPart, Stamp, StorageId, Wish,
-};
+use bm_base::{BlockId, BlockInfo, HashSecret, Level, RoundPart, Stamp, StorageId, Wish};
 use bm_finding::{find_round, likely_bound};
 use bm_levels::LeveledBlocks;
 use bm_pending::PendingTransfers;

@@ -288,10 +288,9 @@ fn apply_notice(
     id: u64,
     generation: u64,
 ) -> Answer {
-    let is_ready =
-        world
-            .report
-            .ready_one(&mut world.arena, storage, BlockId(id), stamp(generation));
+    let is_ready = world
+        .report
+        .ready_one(&mut world.arena, storage, BlockId(id), stamp(generation));
     assert!(rt; is_ready.is_ok());
     assert!(rt; is_simple(&world.arena));
     let stamp = stamp(generation);
