@@ -10,11 +10,14 @@ ghost use Rattle.puljemrod.specs.declared.kept.Kept.{Kept};
 ghost use Rattle.puljemrod.specs.declared.codes.TheConstants.{CLOSED, OPEN};
 ghost use Rattle.puljemrod.specs.Calls.{IsOpened, AfterLine, AfterText, text_in};
 
+mod calls;
 mod codes;
+mod events;
 mod handle;
 mod kept;
 mod options;
 mod parts;
+mod rows;
 
 use codes::{CLOSED, OPEN};
 use handle::Slot;
