@@ -86,9 +86,9 @@ uint32_t puljemrod_open(puljemrod *handle, const puljemrod_options *options);
  * PULJEMROD_CLOSED: the handle is closed; `*answer_len` is as it was. */
 uint32_t puljemrod_line(puljemrod *handle, const void *line, size_t line_len, size_t *answer_len);
 
-/* Makes the text of the last answer, where memory was refused for it, and returns what puljemrod_line would
- * have returned; or PULJEMROD_NO_TEXT again. Where there is a text already it is kept. It changes no state.
- * PULJEMROD_CLOSED where the handle is closed. */
+/* Makes the text of the last answer, where it is not made: memory was refused for it, or the call was an event
+ * by a function of its own. Returns what the call returned; or PULJEMROD_NO_TEXT, where memory is refused.
+ * Where there is a text already it is kept. It changes no state. PULJEMROD_CLOSED where the handle is closed. */
 uint32_t puljemrod_text(puljemrod *handle, size_t *answer_len);
 
 /* Copies the text of the last answer, without a line end, from byte `from` on: as many bytes as there are, at
@@ -98,6 +98,48 @@ size_t puljemrod_answer(puljemrod *handle, size_t from, void *out, size_t out_le
 
 /* Closes a handle and returns its memory. PULJEMROD_CLOSED where it is closed. It may be opened again. */
 uint32_t puljemrod_close(puljemrod *handle);
+
+/* ---- Events by functions of their own
+ *
+ * Each is a line's event without the text: faster, and with the same codes. PULJEMROD_OK, or the number of a
+ * refusal, says what the line would; puljemrod_text makes the text of the answer. PULJEMROD_MEMORY changes
+ * nothing, and the answer before is kept. Lists are read while the call runs, and not kept. */
+
+/* The blocks from `from` to `to`, all with one generation and length. A run that ends before it begins names none. */
+typedef struct puljemrod_entry {
+    uint64_t from;
+    uint64_t to;
+    uint64_t generation;
+    uint64_t len;
+} puljemrod_entry;
+
+/* The free bytes of a storage. */
+typedef struct puljemrod_remaining {
+    uint32_t storage;
+    uint64_t remaining;
+} puljemrod_remaining;
+
+/* A DataNode comes with its storages. */
+uint32_t puljemrod_register(puljemrod *handle, uint32_t node, uint32_t rack, const uint32_t *storages,
+                            size_t storage_count);
+uint32_t puljemrod_dead(puljemrod *handle, uint32_t node);
+uint32_t puljemrod_storage_failed(puljemrod *handle, uint32_t storage);
+/* A DataNode is to be taken away, and is not to be taken away after all. */
+uint32_t puljemrod_drain(puljemrod *handle, uint32_t node);
+uint32_t puljemrod_undrain(puljemrod *handle, uint32_t node);
+/* The last item of a storage counts. */
+uint32_t puljemrod_heartbeat(puljemrod *handle, uint32_t node, const puljemrod_remaining *remaining,
+                             size_t remaining_count);
+/* A new block, of which `repl` replicas are wanted. */
+uint32_t puljemrod_add_block(puljemrod *handle, uint64_t id, uint64_t generation, uint64_t len, uint32_t repl);
+uint32_t puljemrod_delete_block(puljemrod *handle, uint64_t id);
+uint32_t puljemrod_set_replication(puljemrod *handle, uint64_t id, uint32_t repl);
+uint32_t puljemrod_restamp(puljemrod *handle, uint64_t id, uint64_t generation, uint64_t len);
+uint32_t puljemrod_received(puljemrod *handle, uint32_t storage, uint64_t id, uint64_t generation, uint64_t len);
+uint32_t puljemrod_deleted(puljemrod *handle, uint32_t storage, uint64_t id);
+uint32_t puljemrod_corrupt(puljemrod *handle, uint32_t storage, uint64_t id);
+/* All replicas on a storage. The last entry of a block counts. */
+uint32_t puljemrod_full_report(puljemrod *handle, uint32_t storage, const puljemrod_entry *entries, size_t entry_count);
 
 #ifdef __cplusplus
 }

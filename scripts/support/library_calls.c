@@ -171,6 +171,57 @@ static void longest_line(void) {
     free(line);
 }
 
+/* ---- events by functions of their own */
+
+/* The code and the text of an event: what a line of it would answer. */
+static bool is_event(puljemrod *handle, uint32_t code, uint32_t wanted, const char *text) {
+    size_t len = 99;
+    char out[1];
+    bool is_unmade = puljemrod_answer(handle, 0, out, 1) == 0;
+    return is_unmade && code == wanted && puljemrod_text(handle, &len) == code && len == strlen(text)
+        && has_text(handle, text);
+}
+
+static void events(void) {
+    puljemrod h = PULJEMROD_CLOSED_HANDLE;
+    const uint32_t storages[] = {11, 12}, other[] = {21};
+    const puljemrod_remaining remaining[] = {{21, 500}, {21, 1000}};
+    const puljemrod_entry entries[] = {{7, 8, 1, 64}, {9, 9, 1, 1}};
+    struct row round = {"{\"op\":\"round\"}", "round 1; copy 1 7 1 64 11 21", 0};
+    struct row replicas = {"{\"op\":\"list_replicas\"}", "replicas; 7 11 good; 7 21 good; 8 21 stray; 9 21 stray", 0};
+    struct row after = {"{\"op\":\"list_replicas\"}", "replicas; 7 21 stale; 8 21 stray", 0};
+    check(puljemrod_dead(&h, 1) == PULJEMROD_CLOSED && puljemrod_full_report(&h, 1, entries, 2) == PULJEMROD_CLOSED,
+          "an event on a closed handle");
+    puljemrod_open(&h, &standard);
+    check(is_event(&h, puljemrod_register(&h, 1, 1, storages, 2), 0, "ok 0 0"), "register");
+    check(is_event(&h, puljemrod_register(&h, 2, 2, other, 1), 0, "ok 0 0"), "register another");
+    check(is_event(&h, puljemrod_register(&h, 2, 2, other, 1), 2, "refused 2 NodeKnown"), "register again");
+    check(is_event(&h, puljemrod_heartbeat(&h, 2, remaining, 2), 0, "ok 0 0"), "heartbeat");
+    check(is_event(&h, puljemrod_add_block(&h, 7, 1, 64, 3), 0, "ok 0 0"), "add_block");
+    check(is_event(&h, puljemrod_set_replication(&h, 7, 2), 0, "ok 0 0"), "set_replication");
+    check(is_event(&h, puljemrod_received(&h, 11, 7, 1, 64), 0, "ok 1 0"), "received");
+    check(is_answered(&h, &round), "a round after events");
+    check(is_event(&h, puljemrod_full_report(&h, 21, entries, 2), 0, "ok 3 0"), "full_report");
+    check(is_answered(&h, &replicas), "what was reported");
+    check(is_event(&h, puljemrod_deleted(&h, 21, 9), 0, "ok 0 1"), "deleted");
+    check(is_event(&h, puljemrod_corrupt(&h, 11, 7), 0, "ok 0 0"), "corrupt");
+    check(is_event(&h, puljemrod_storage_failed(&h, 11), 0, "ok 0 1"), "storage_failed");
+    check(is_event(&h, puljemrod_restamp(&h, 7, 2, 64), 0, "ok 0 0"), "restamp");
+    check(is_event(&h, puljemrod_restamp(&h, 7, 2, 64), 9, "refused 9 OldGeneration"), "restamp again");
+    check(is_answered(&h, &after), "what is left");
+    check(is_event(&h, puljemrod_drain(&h, 2), 0, "ok 0 0"), "drain");
+    check(is_event(&h, puljemrod_undrain(&h, 2), 0, "ok 0 0"), "undrain");
+    check(is_event(&h, puljemrod_delete_block(&h, 7), 0, "ok 0 0"), "delete_block");
+    check(is_event(&h, puljemrod_dead(&h, 2), 0, "ok 0 2"), "dead");
+    check(is_event(&h, puljemrod_dead(&h, 2), 1, "refused 1 UnknownNode"), "dead again");
+    left = 0;
+    uint32_t code = puljemrod_full_report(&h, 12, entries, 2);
+    left = -1;
+    check(code == PULJEMROD_MEMORY && has_text(&h, "refused 1 UnknownNode"), "an event refused for memory");
+    check(is_event(&h, puljemrod_full_report(&h, 12, entries, 0), 0, "ok 0 0"), "an empty report");
+    puljemrod_close(&h);
+}
+
 /* The line is answered with its Nth allocation refused, for N from 1 on; each time nothing is changed, or the text
  * is owed. */
 static bool is_answered_in_the_end(puljemrod *handle, const struct row *row, unsigned *memory, unsigned *owed) {
@@ -264,11 +315,13 @@ static void threads(void) {
 
 int main(void) {
     check(sizeof(puljemrod) == 16 && offsetof(puljemrod, is_open) == 8, "the handle's layout");
+    check(sizeof(puljemrod_entry) == 32 && sizeof(puljemrod_remaining) == 16, "the layout of rows");
     check(sizeof(puljemrod_options) == 40 && offsetof(puljemrod_options, secret) == 32, "the options' layout");
     closed_and_open();
     options_are_taken();
     pieces_of_an_answer();
     longest_line();
+    events();
     allocations_refused();
     memory_is_returned();
     threads();

@@ -2,6 +2,8 @@
 use Rattle.std.specs.Prelude.{◌≡◌, ◌⊎◌, ℕ, true, List, [], length, Option, Some, None}
 use Rattle.bm_base.specs.declared.config.Config.{Config}
 use Rattle.bm_base.specs.declared.call.Call.{Call}
+use Rattle.bm_base.specs.declared.call.Call.TheVariants.{Apply}
+use Rattle.bm_base.specs.declared.event.Event.{Event}
 use Rattle.bm_base.specs.declared.refusal.Refusal.{Refusal}
 use Rattle.bm_base.specs.State.{State, first_state}
 use Rattle.bm_base.specs.Configuration.{config_refusal}
@@ -90,3 +92,6 @@ AfterText (Some k) now code len = (n : Kept) × (now ≡ Some n) × IsText k n c
 abbrev pub AfterCall : Option Kept → Call → Option Kept → ℕ → Type 0
 AfterCall None c now code = (code ≡ CLOSED) × (now ≡ None)
 AfterCall (Some k) c now code = (n : Kept) × (now ≡ Some n) × IsCall k c n code
+
+abbrev pub AfterEvent : Option Kept → Event → Option Kept → ℕ → Type 0
+AfterEvent old e now code = AfterCall old (Apply e) now code

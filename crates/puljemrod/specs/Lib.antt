@@ -1,3 +1,4 @@
 -- The definitions of what C may call.
 pub mod Handles
 pub mod Calls
+pub mod Rows

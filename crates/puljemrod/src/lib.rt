@@ -1,4 +1,4 @@
-//! What C may call: a manager behind a handle, told of by the tool's lines. `bindings/c/puljemrod.h`
+//! What C may call: a manager behind a handle, by lines of the tool and by events. `bindings/c/puljemrod.h`
 //! declares it, and says what the caller owes.
 //!
 //! Each call returns a code: 0, the number of a refusal, or one of `codes`. No call starts a thread or
@@ -10,11 +10,14 @@ ghost use Rattle.puljemrod.specs.declared.kept.Kept.{Kept};
 ghost use Rattle.puljemrod.specs.declared.codes.TheConstants.{CLOSED, OPEN};
 ghost use Rattle.puljemrod.specs.Calls.{IsOpened, AfterLine, AfterText, text_in};
 
+mod calls;
 mod codes;
+mod events;
 mod handle;
 mod kept;
 mod options;
 mod parts;
+mod rows;
 
 use codes::{CLOSED, OPEN};
 use handle::Slot;

@@ -1,0 +1,8 @@
+use Rattle.std.proofs.Common.{inl, refl, sym, ◌∙◌}
+use Rattle.puljemrod.proofs.Somes.{some_of}
+use Rattle.puljemrod.proofs.calls.apply_made.Goals as goal
+
+pub returns-in-Err : goal.returns-in-Err
+returns-in-Err c = λ e none.
+    let kept = some_of c.args.slot.now.handle.kept (sym c.args.slot.now.told ∙ c.if-slot.true) in
+    rw kept.1 (kept.0, refl, inl (refl, refl))
