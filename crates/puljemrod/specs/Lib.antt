@@ -2,3 +2,5 @@
 pub mod Handles
 pub mod Calls
 pub mod Rows
+pub mod Telling
+pub mod Commanding

@@ -12,12 +12,16 @@ ghost use Rattle.puljemrod.specs.Calls.{IsOpened, AfterLine, AfterText, text_in}
 
 mod calls;
 mod codes;
+mod commands;
+mod copying;
 mod events;
 mod handle;
 mod kept;
 mod options;
 mod parts;
+mod questions;
 mod rows;
+mod told;
 
 use codes::{CLOSED, OPEN};
 use handle::Slot;
