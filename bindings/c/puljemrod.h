@@ -168,6 +168,28 @@ uint32_t puljemrod_blocks_on(puljemrod *handle, uint32_t storage, uint64_t *coun
 /* The storages with a replica of a block. */
 uint32_t puljemrod_places(puljemrod *handle, uint64_t id, uint64_t *count);
 
+/* What a replica is worth, as docs/FORMATS.md has it. */
+enum { PULJEMROD_GOOD = 0, PULJEMROD_STALE = 1, PULJEMROD_BAD = 2, PULJEMROD_STRAY = 3 };
+
+typedef struct puljemrod_replica {
+    uint64_t block;
+    uint32_t storage;
+    uint32_t tag;
+} puljemrod_replica;
+
+/* A replica that is corrupt or in excess. */
+typedef struct puljemrod_pair {
+    uint64_t block;
+    uint32_t storage;
+} puljemrod_pair;
+
+/* Copies the kept list, from the item with index `from` on: as many as there are, at most `out_len`. Returns their
+ * number. The numbers are blocks, or the storages of puljemrod_places. It takes no memory. 0 where the handle is
+ * closed, or where its last answer has no such items or was made text. */
+size_t puljemrod_replica_rows(puljemrod *handle, size_t from, puljemrod_replica *out, size_t out_len);
+size_t puljemrod_pair_rows(puljemrod *handle, size_t from, puljemrod_pair *out, size_t out_len);
+size_t puljemrod_number_rows(puljemrod *handle, size_t from, uint64_t *out, size_t out_len);
+
 /* ---- Rounds by functions of their own */
 
 /* A command to copy a block from a storage of a node to another storage. */

@@ -4,3 +4,4 @@ pub mod Calls
 pub mod Rows
 pub mod Telling
 pub mod Commanding
+pub mod Listing

@@ -1,5 +1,5 @@
 -- What a question tells: a number that is told, or the length of a list that is kept.
-use Rattle.std.specs.Prelude.{ℕ, true, false, length, if◌then◌else◌, ◌==◌, ◌≡◌, Option, Some, None}
+use Rattle.std.specs.Prelude.{ℕ, true, length, if◌then◌else◌, ◌==◌, ◌≡◌, Option, Some, None}
 use Rattle.bm_base.specs.declared.level.Level.{Level}
 use Rattle.bm_base.specs.declared.call.Call.{Call}
 use Rattle.bm_base.specs.declared.call.Answer.{Answer}

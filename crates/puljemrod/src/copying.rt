@@ -37,3 +37,18 @@ fn write_rows<C: Copy, T, R: Row<C, T>>(common: C, items: &[T], out: &mut [R])
         out[at] = R::of(common, &items[at]);
     }
 }
+
+/// The same, where a contract has the rows of the whole list.
+pub fn copy_list<C: Copy, T, R: Row<C, T>>(
+    common: C,
+    items: &[T],
+    from: usize,
+    out: &mut [R],
+) -> usize
+    ensures count { result
+        ≡ min (length out.old) (length (drop from (map (R.row_of common) items.now))) }
+    ensures copied { out.new
+        ≡ take result (drop from (map (R.row_of common) items.now)) ++ drop result out.old }
+{
+    copy_rows(common, items, from, out)
+}
