@@ -141,6 +141,85 @@ uint32_t puljemrod_corrupt(puljemrod *handle, uint32_t storage, uint64_t id);
 /* All replicas on a storage. The last entry of a block counts. */
 uint32_t puljemrod_full_report(puljemrod *handle, uint32_t storage, const puljemrod_entry *entries, size_t entry_count);
 
+/* ---- Questions by functions of their own
+ *
+ * Each is a line's question without the text, with the same codes: PULJEMROD_OK, or the number of a refusal.
+ * With PULJEMROD_OK it writes its last argument; otherwise that stays as it was. It changes no state. The handle
+ * keeps the answer, whose text puljemrod_text makes. PULJEMROD_MEMORY keeps the answer before. */
+
+/* What puljemrod_level tells of a block that is in no queue. */
+enum { PULJEMROD_NO_LEVEL = 5 };
+
+/* How urgently a block wants replicas: its queue, 0 to 4, or PULJEMROD_NO_LEVEL. */
+uint32_t puljemrod_level(puljemrod *handle, uint64_t id, uint64_t *level);
+/* Whether a DataNode can be taken away: 1 or 0. */
+uint32_t puljemrod_retired(puljemrod *handle, uint32_t node, uint64_t *is_retired);
+/* The number of accepted events and rounds, and the number of the last round. */
+uint32_t puljemrod_calls(puljemrod *handle, uint64_t *calls);
+uint32_t puljemrod_rounds(puljemrod *handle, uint64_t *rounds);
+
+/* A list, which the handle keeps until the next call on it that is answered; `*count` is its length.
+ * The order is that of the line's answer. */
+uint32_t puljemrod_replicas(puljemrod *handle, uint64_t *count);
+uint32_t puljemrod_corrupt_replicas(puljemrod *handle, uint64_t *count);
+uint32_t puljemrod_excess_replicas(puljemrod *handle, uint64_t *count);
+uint32_t puljemrod_missing_blocks(puljemrod *handle, uint64_t *count);
+uint32_t puljemrod_blocks_on(puljemrod *handle, uint32_t storage, uint64_t *count);
+/* The storages with a replica of a block. */
+uint32_t puljemrod_places(puljemrod *handle, uint64_t id, uint64_t *count);
+
+/* What a replica is worth, as docs/FORMATS.md has it. */
+enum { PULJEMROD_GOOD = 0, PULJEMROD_STALE = 1, PULJEMROD_BAD = 2, PULJEMROD_STRAY = 3 };
+
+typedef struct puljemrod_replica {
+    uint64_t block;
+    uint32_t storage;
+    uint32_t tag;
+} puljemrod_replica;
+
+/* A replica that is corrupt or in excess. */
+typedef struct puljemrod_pair {
+    uint64_t block;
+    uint32_t storage;
+} puljemrod_pair;
+
+/* Copies the kept list, from the item with index `from` on: as many as there are, at most `out_len`. Returns their
+ * number. The numbers are blocks, or the storages of puljemrod_places. It takes no memory. 0 where the handle is
+ * closed, or where its last answer has no such items or was made text. */
+size_t puljemrod_replica_rows(puljemrod *handle, size_t from, puljemrod_replica *out, size_t out_len);
+size_t puljemrod_pair_rows(puljemrod *handle, size_t from, puljemrod_pair *out, size_t out_len);
+size_t puljemrod_number_rows(puljemrod *handle, size_t from, uint64_t *out, size_t out_len);
+
+/* ---- Rounds by functions of their own */
+
+/* A command to copy a block from a storage of a node to another storage. */
+typedef struct puljemrod_copy {
+    uint32_t node;
+    uint32_t source;
+    uint32_t target;
+    uint64_t block;
+    uint64_t generation;
+    uint64_t len;
+} puljemrod_copy;
+
+/* A command to delete a block from a storage of a node. */
+typedef struct puljemrod_delete {
+    uint32_t node;
+    uint32_t storage;
+    uint64_t block;
+} puljemrod_delete;
+
+/* Makes a round, whose commands the handle keeps until the next call on it that is answered. With PULJEMROD_OK
+ * it writes the number of the round and how many commands there are of each kind; otherwise these stay as they
+ * were. The codes are those of the line. PULJEMROD_MEMORY changes nothing, and the answer before is kept. */
+uint32_t puljemrod_round(puljemrod *handle, uint64_t *round, uint64_t *copies, uint64_t *deletes);
+
+/* Copies the kept commands of a kind, from the one with index `from` on: as many as there are, at most `out_len`.
+ * Returns their number. They are in the order of the line's answer. It takes no memory. 0 where the handle is
+ * closed, or where its last answer is not that of a round or was made text. */
+size_t puljemrod_copies(puljemrod *handle, size_t from, puljemrod_copy *out, size_t out_len);
+size_t puljemrod_deletes(puljemrod *handle, size_t from, puljemrod_delete *out, size_t out_len);
+
 #ifdef __cplusplus
 }
 #endif

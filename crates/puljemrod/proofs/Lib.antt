@@ -1,3 +1,4 @@
 mod AsBox
 mod Somes
 mod Lines
+mod RowLists

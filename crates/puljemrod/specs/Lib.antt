@@ -2,3 +2,6 @@
 pub mod Handles
 pub mod Calls
 pub mod Rows
+pub mod Telling
+pub mod Commanding
+pub mod Listing

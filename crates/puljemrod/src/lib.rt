@@ -1,8 +1,8 @@
-//! What C may call: a manager behind a handle, by lines of the tool and by events. `bindings/c/puljemrod.h`
-//! declares it, and says what the caller owes.
+//! What C may call: a manager behind a handle, by lines of the tool, and by functions for events, rounds and
+//! questions. `bindings/c/puljemrod.h` declares it, and says what the caller owes.
 //!
 //! Each call returns a code: 0, the number of a refusal, or one of `codes`. No call starts a thread or
-//! waits. `specs/Calls` defines what a call on a line comes to.
+//! waits. `specs/Calls` defines what a call comes to, and the other files of `specs` what it tells.
 #![tactic(auto)]
 
 ghost use Rattle.std.specs.Prelude.{◌≡◌, ◌++◌, None, Some, length, take, drop, min};
@@ -12,12 +12,17 @@ ghost use Rattle.puljemrod.specs.Calls.{IsOpened, AfterLine, AfterText, text_in}
 
 mod calls;
 mod codes;
+mod commands;
+mod copying;
 mod events;
 mod handle;
 mod kept;
+mod lists;
 mod options;
 mod parts;
+mod questions;
 mod rows;
+mod told;
 
 use codes::{CLOSED, OPEN};
 use handle::Slot;

@@ -1,0 +1,55 @@
+// What the kept answer tells by a number.
+ghost use Rattle.std.specs.Prelude.{◌≡◌};
+ghost use Rattle.puljemrod.specs.Telling.{level_or_none, told_by, told_by_answer, told_in};
+
+use crate::codes::NO_LEVEL;
+use crate::handle::Slot;
+use bm_answers::LineAnswer;
+use bm_base::{Answer, Level};
+use std::alloc::Global;
+
+/// The handle is as it was.
+pub fn told(alloc: Global, slot: &mut Slot) -> u64
+    ensures told { result ≡ told_in slot.old.handle.kept }
+    ensures unchanged { slot.new.handle.kept ≡ slot.old.handle.kept }
+{
+    let Some(kept) = slot.take(alloc) else {
+        return 0;
+    };
+    let told = told_by_answer(&kept.answer);
+    slot.put(kept);
+    told
+}
+
+fn told_by_answer(answer: &Option<LineAnswer>) -> u64
+    ensures { result ≡ told_by_answer answer.now }
+{
+    match answer {
+        Some(LineAnswer::Answered(_, answer)) => told_by(answer),
+        _ => 0,
+    }
+}
+
+fn told_by(answer: &Answer) -> u64
+    ensures { result ≡ told_by answer.now }
+{
+    match answer {
+        Answer::LevelIs(level) => level_or_none(*level),
+        Answer::IsRetired(true) => 1,
+        Answer::Number(number) => *number,
+        Answer::Replicas(replicas) => replicas.len() as u64,
+        Answer::ReplicaIds(replicas) => replicas.len() as u64,
+        Answer::Blocks(blocks) => blocks.len() as u64,
+        Answer::Storages(storages) => storages.len() as u64,
+        _ => 0,
+    }
+}
+
+fn level_or_none(level: Option<Level>) -> u64
+    ensures { result ≡ level_or_none level }
+{
+    match level {
+        Some(level) => level.number() as u64,
+        None => NO_LEVEL,
+    }
+}
