@@ -228,8 +228,8 @@ pub static CASES: [Case; 33] = [
     ),
     taking!(
         "received_stray",
-        OF_ALL_KINDS,
-        ShortCall::Received(11, 10, 1),
+        THREE_OF_A_SHARD,
+        ShortCall::Received(11, 12, 1),
         ONE_ADDED
     ),
     taking!(
