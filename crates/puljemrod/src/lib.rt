@@ -14,6 +14,7 @@ mod calls;
 mod codes;
 mod commands;
 mod copying;
+mod done;
 mod events;
 mod handle;
 mod kept;
