@@ -237,6 +237,28 @@ static void make_small_cluster(puljemrod *handle) {
     puljemrod_full_report(handle, 21, stray, 1);
 }
 
+static bool has_counts(puljemrod *handle, uint64_t added, uint64_t removed) {
+    puljemrod_counts counts = {99, 99, 99, 99};
+    return puljemrod_done(handle, &counts) == 0 && counts.added == added && counts.added_high == 0
+        && counts.removed == removed && counts.removed_high == 0;
+}
+
+static void counts_of_events(void) {
+    puljemrod h = PULJEMROD_CLOSED_HANDLE;
+    puljemrod_counts counts = {99, 98, 97, 96};
+    check(puljemrod_done(&h, &counts) == PULJEMROD_CLOSED && counts.added == 99 && counts.removed_high == 96,
+          "counts of a closed handle");
+    puljemrod_open(&h, &standard);
+    check(has_counts(&h, 0, 0), "counts of no event");
+    make_small_cluster(&h);
+    check(has_counts(&h, 1, 0), "counts of a report");
+    puljemrod_storage_failed(&h, 21);
+    check(has_counts(&h, 0, 1), "counts of a failed storage");
+    puljemrod_storage_failed(&h, 22);
+    check(has_counts(&h, 0, 0), "counts of a refused event");
+    puljemrod_close(&h);
+}
+
 static void questions(void) {
     puljemrod h = PULJEMROD_CLOSED_HANDLE;
     uint64_t told = 99;
@@ -438,12 +460,14 @@ int main(void) {
     check(sizeof(puljemrod_copy) == 40 && offsetof(puljemrod_copy, block) == 16, "the layout of copies");
     check(sizeof(puljemrod_delete) == 16 && offsetof(puljemrod_delete, block) == 8, "the layout of deletes");
     check(sizeof(puljemrod_replica) == 16 && sizeof(puljemrod_pair) == 16, "the layout of replicas");
+    check(sizeof(puljemrod_counts) == 32 && offsetof(puljemrod_counts, removed) == 16, "the layout of counts");
     check(sizeof(puljemrod_options) == 40 && offsetof(puljemrod_options, secret) == 32, "the options' layout");
     closed_and_open();
     options_are_taken();
     pieces_of_an_answer();
     longest_line();
     events();
+    counts_of_events();
     questions();
     rounds();
     lists();

@@ -1,4 +1,4 @@
-//! Answers; those to events are read from the lines that the library writes.
+//! What the calls of a manager answer.
 
 /// How many replicas, of any tag, are there after an event and were not before, and the reverse.
 #[derive(Clone, Copy, Debug, PartialEq, Eq)]
@@ -35,19 +35,4 @@ pub enum Command {
 pub struct Commands {
     pub round: u64,
     pub commands: Vec<Command>,
-}
-
-fn number<T: std::str::FromStr>(word: &str) -> T {
-    word.parse().ok().expect("the library writes numbers that fit")
-}
-
-/// The number of a refusal, where the line is one.
-pub fn refusal(line: &str) -> Option<u32> {
-    let words: Vec<&str> = line.split(' ').collect();
-    (words[0] == "refused").then(|| number(words[1]))
-}
-
-pub fn done(line: &str) -> Done {
-    let words: Vec<&str> = line.split(' ').collect();
-    Done { added: number(words[1]), removed: number(words[2]) }
 }

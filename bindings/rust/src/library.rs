@@ -1,7 +1,7 @@
 //! The C library: a handle, its lines, and its codes.
 
-use crate::answers::{self, Command, Commands, Done, Replica, Tag};
-use crate::events::Event;
+use crate::answers::{Command, Commands, Done, Replica, Tag};
+use crate::events::{Entry, Event};
 use std::fmt;
 use std::ptr;
 
@@ -43,6 +43,21 @@ unsafe extern "C" {
     fn puljemrod_text(handle: *mut Handle, answer_len: *mut usize) -> u32;
     fn puljemrod_answer(handle: *mut Handle, from: usize, out: *mut u8, out_len: usize) -> usize;
     fn puljemrod_close(handle: *mut Handle) -> u32;
+    fn puljemrod_register(handle: *mut Handle, node: u32, rack: u32, storages: *const u32, len: usize) -> u32;
+    fn puljemrod_dead(handle: *mut Handle, node: u32) -> u32;
+    fn puljemrod_storage_failed(handle: *mut Handle, storage: u32) -> u32;
+    fn puljemrod_drain(handle: *mut Handle, node: u32) -> u32;
+    fn puljemrod_undrain(handle: *mut Handle, node: u32) -> u32;
+    fn puljemrod_heartbeat(handle: *mut Handle, node: u32, remaining: *const RemainingRow, len: usize) -> u32;
+    fn puljemrod_add_block(handle: *mut Handle, id: u64, generation: u64, len: u64, repl: u32) -> u32;
+    fn puljemrod_delete_block(handle: *mut Handle, id: u64) -> u32;
+    fn puljemrod_set_replication(handle: *mut Handle, id: u64, repl: u32) -> u32;
+    fn puljemrod_restamp(handle: *mut Handle, id: u64, generation: u64, len: u64) -> u32;
+    fn puljemrod_received(handle: *mut Handle, storage: u32, id: u64, generation: u64, len: u64) -> u32;
+    fn puljemrod_deleted(handle: *mut Handle, storage: u32, id: u64) -> u32;
+    fn puljemrod_corrupt(handle: *mut Handle, storage: u32, id: u64) -> u32;
+    fn puljemrod_full_report(handle: *mut Handle, storage: u32, entries: *const Entry, len: usize) -> u32;
+    fn puljemrod_done(handle: *mut Handle, done: *mut DoneRow) -> u32;
     fn puljemrod_level(handle: *mut Handle, id: u64, level: *mut u64) -> u32;
     fn puljemrod_retired(handle: *mut Handle, node: u32, is_retired: *mut u64) -> u32;
     fn puljemrod_replicas(handle: *mut Handle, count: *mut u64) -> u32;
@@ -57,6 +72,21 @@ unsafe extern "C" {
     fn puljemrod_round(handle: *mut Handle, round: *mut u64, copies: *mut u64, deletes: *mut u64) -> u32;
     fn puljemrod_copies(handle: *mut Handle, from: usize, out: *mut CopyRow, len: usize) -> usize;
     fn puljemrod_deletes(handle: *mut Handle, from: usize, out: *mut DeleteRow, len: usize) -> usize;
+}
+
+#[repr(C)]
+struct RemainingRow {
+    storage: u32,
+    remaining: u64,
+}
+
+#[repr(C)]
+#[derive(Default)]
+struct DoneRow {
+    added: u64,
+    added_high: u64,
+    removed: u64,
+    removed_high: u64,
 }
 
 #[repr(C)]
@@ -114,7 +144,40 @@ fn delete_command(row: &DeleteRow) -> Command {
     Command::Delete { node, storage, block }
 }
 
-/// Copies out rows of which the handle has `count`.
+fn whole(low: u64, high: u64) -> u128 {
+    u128::from(high) << 64 | u128::from(low)
+}
+
+unsafe fn apply(handle: *mut Handle, event: &Event) -> u32 {
+    unsafe {
+        match *event {
+            Event::Register { node, rack, ref storages } => {
+                puljemrod_register(handle, node, rack, storages.as_ptr(), storages.len())
+            }
+            Event::Drain { node } => puljemrod_drain(handle, node),
+            Event::Undrain { node } => puljemrod_undrain(handle, node),
+            Event::Heartbeat { node, ref remaining } => {
+                let row = |&(storage, remaining): &(u32, u64)| RemainingRow { storage, remaining };
+                let rows: Vec<RemainingRow> = remaining.iter().map(row).collect();
+                puljemrod_heartbeat(handle, node, rows.as_ptr(), rows.len())
+            }
+            Event::Dead { node } => puljemrod_dead(handle, node),
+            Event::StorageFailed { storage } => puljemrod_storage_failed(handle, storage),
+            Event::Add { id, gen, len, repl } => puljemrod_add_block(handle, id, gen, len, repl),
+            Event::Delete { id } => puljemrod_delete_block(handle, id),
+            Event::SetReplication { id, repl } => puljemrod_set_replication(handle, id, repl),
+            Event::Restamp { id, gen, len } => puljemrod_restamp(handle, id, gen, len),
+            Event::Received { storage, id, gen, len } => puljemrod_received(handle, storage, id, gen, len),
+            Event::Deleted { storage, id } => puljemrod_deleted(handle, storage, id),
+            Event::Corrupt { storage, id } => puljemrod_corrupt(handle, storage, id),
+            Event::Report { storage, ref blocks } => {
+                puljemrod_full_report(handle, storage, blocks.as_ptr(), blocks.len())
+            }
+        }
+    }
+}
+
+/// Copies out rows from an index on, and returns how many.
 type CopyOut<R> = unsafe extern "C" fn(*mut Handle, usize, *mut R, usize) -> usize;
 
 const NO_TEXT: u32 = 34;
@@ -208,17 +271,14 @@ impl Manager {
         Ok(answer)
     }
 
-    fn ask(&mut self, line: &str) -> Result<String, Error> {
-        let answer = String::from_utf8(self.line(line.as_bytes())?).expect("answers are ASCII");
-        match answers::refusal(&answer) {
-            Some(number) => Err(Error { number }),
-            None => Ok(answer),
-        }
-    }
-
     /// Takes an event; says how many replicas came and went.
     pub fn apply(&mut self, event: &Event) -> Result<Done, Error> {
-        Ok(answers::done(&self.ask(&event.to_line())?))
+        // SAFETY: the handle is open, and each list is read while its call runs.
+        checked(unsafe { apply(&mut *self.handle, event) })?;
+        let mut done = DoneRow::default();
+        // SAFETY: the handle is open, and the counts are of this call.
+        checked(unsafe { puljemrod_done(&mut *self.handle, &mut done) })?;
+        Ok(Done { added: whole(done.added, done.added_high), removed: whole(done.removed, done.removed_high) })
     }
 
     /// Makes a round: what each DataNode is to copy and to delete, by ascending node.
