@@ -320,6 +320,30 @@ static void rounds(void) {
     puljemrod_close(&h);
 }
 
+/* Two nodes have a block each; only the third has room. */
+static void commands_of_several_nodes(void) {
+    puljemrod h = PULJEMROD_CLOSED_HANDLE;
+    const uint32_t storage[] = {11, 21, 31};
+    const puljemrod_remaining remaining[] = {{31, 1000}};
+    uint64_t round, copies, deletes;
+    puljemrod_copy copy[3] = {{0, 0, 0, 0, 0, 0}};
+    puljemrod_open(&h, &standard);
+    for (uint32_t at = 0; at < 3; at++)
+        puljemrod_register(&h, at + 1, at + 1, &storage[at], 1);
+    puljemrod_heartbeat(&h, 3, remaining, 1);
+    for (uint32_t at = 0; at < 2; at++) {
+        puljemrod_add_block(&h, 7 + at, 1, 64, 2);
+        puljemrod_received(&h, storage[at], 7 + at, 1, 64);
+    }
+    check(puljemrod_round(&h, &round, &copies, &deletes) == 0 && copies == 2 && deletes == 0, "commands of two nodes");
+    check(puljemrod_copies(&h, 0, copy, 3) == 2 && copy->node == 1 && copy->source == 11 && copy->target == 31
+              && copy->block == 7, "the first node's copy");
+    check(copy[1].node == 2 && copy[1].source == 21 && copy[1].target == 31 && copy[1].block == 8, "the second node's");
+    check(puljemrod_copies(&h, 1, copy, 3) == 1 && copy->block == 8 && copy[1].block == 8, "copies from the second on");
+    check(puljemrod_copies(&h, 0, copy, 1) == 1 && copy->block == 7 && copy[1].block == 8, "room for one copy");
+    puljemrod_close(&h);
+}
+
 static void lists(void) {
     puljemrod h = PULJEMROD_CLOSED_HANDLE;
     uint64_t count = 99, round, copies, deletes, number[3] = {0};
@@ -470,6 +494,7 @@ int main(void) {
     counts_of_events();
     questions();
     rounds();
+    commands_of_several_nodes();
     lists();
     allocations_refused();
     memory_is_returned();
