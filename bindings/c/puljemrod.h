@@ -141,6 +141,19 @@ uint32_t puljemrod_corrupt(puljemrod *handle, uint32_t storage, uint64_t id);
 /* All replicas on a storage. The last entry of a block counts. */
 uint32_t puljemrod_full_report(puljemrod *handle, uint32_t storage, const puljemrod_entry *entries, size_t entry_count);
 
+/* How many replicas, of any tag, are there after an event and were not before, and the reverse. Each number has
+ * 128 bits, of which `_high` are the upper 64. */
+typedef struct puljemrod_counts {
+    uint64_t added;
+    uint64_t added_high;
+    uint64_t removed;
+    uint64_t removed_high;
+} puljemrod_counts;
+
+/* Writes what the event did that was answered last: zeros where the last answer is none to an event that was
+ * accepted, or was made text. It takes no memory. PULJEMROD_CLOSED where the handle is closed; `*counts` is as it was. */
+uint32_t puljemrod_done(puljemrod *handle, puljemrod_counts *counts);
+
 /* ---- Questions by functions of their own
  *
  * Each is a line's question without the text, with the same codes: PULJEMROD_OK, or the number of a refusal.

@@ -222,6 +222,171 @@ static void events(void) {
     puljemrod_close(&h);
 }
 
+/* ---- questions and rounds by functions of their own */
+
+/* Two nodes, of which node 1 has block 7, which has too few replicas, and node 2 a stray replica of block 9. */
+static void make_small_cluster(puljemrod *handle) {
+    const uint32_t storages[] = {11, 12}, other[] = {21};
+    const puljemrod_remaining remaining[] = {{21, 1000}};
+    const puljemrod_entry stray[] = {{9, 9, 1, 1}};
+    puljemrod_register(handle, 1, 1, storages, 2);
+    puljemrod_register(handle, 2, 2, other, 1);
+    puljemrod_heartbeat(handle, 2, remaining, 1);
+    puljemrod_add_block(handle, 7, 1, 64, 2);
+    puljemrod_received(handle, 11, 7, 1, 64);
+    puljemrod_full_report(handle, 21, stray, 1);
+}
+
+static bool has_counts(puljemrod *handle, uint64_t added, uint64_t removed) {
+    puljemrod_counts counts = {99, 99, 99, 99};
+    return puljemrod_done(handle, &counts) == 0 && counts.added == added && counts.added_high == 0
+        && counts.removed == removed && counts.removed_high == 0;
+}
+
+static void counts_of_events(void) {
+    puljemrod h = PULJEMROD_CLOSED_HANDLE;
+    puljemrod_counts counts = {99, 98, 97, 96};
+    check(puljemrod_done(&h, &counts) == PULJEMROD_CLOSED && counts.added == 99 && counts.removed_high == 96,
+          "counts of a closed handle");
+    puljemrod_open(&h, &standard);
+    check(has_counts(&h, 0, 0), "counts of no event");
+    make_small_cluster(&h);
+    check(has_counts(&h, 1, 0), "counts of a report");
+    puljemrod_storage_failed(&h, 21);
+    check(has_counts(&h, 0, 1), "counts of a failed storage");
+    puljemrod_storage_failed(&h, 22);
+    check(has_counts(&h, 0, 0), "counts of a refused event");
+    puljemrod_close(&h);
+}
+
+static void questions(void) {
+    puljemrod h = PULJEMROD_CLOSED_HANDLE;
+    uint64_t told = 99;
+    check(puljemrod_level(&h, 7, &told) == PULJEMROD_CLOSED && told == 99, "level of a closed handle");
+    check(puljemrod_calls(&h, &told) == PULJEMROD_CLOSED && told == 99, "calls of a closed handle");
+    puljemrod_open(&h, &standard);
+    make_small_cluster(&h);
+    check(puljemrod_level(&h, 7, &told) == 0 && told == 0, "level");
+    check(is_event(&h, puljemrod_level(&h, 7, &told), 0, "level 7; 0"), "the text of a level");
+    told = 99;
+    check(is_event(&h, puljemrod_level(&h, 8, &told), 5, "refused 5 UnknownBlock") && told == 99, "level of no block");
+    check(puljemrod_calls(&h, &told) == 0 && told == 6, "calls");
+    check(puljemrod_rounds(&h, &told) == 0 && told == 0, "rounds");
+    told = 99;
+    check(puljemrod_retired(&h, 2, &told) == 0 && told == 0, "a node that is in use");
+    check(puljemrod_retired(&h, 3, &told) == 1 && told == 0, "a node that is not known");
+    puljemrod_received(&h, 21, 7, 1, 64);
+    check(puljemrod_level(&h, 7, &told) == 0 && told == PULJEMROD_NO_LEVEL, "level of a block with enough replicas");
+    puljemrod_drain(&h, 1);
+    puljemrod_set_replication(&h, 7, 1);
+    check(puljemrod_retired(&h, 1, &told) == 0 && told == 1, "a node that can be taken away");
+    left = 0;
+    check(puljemrod_level(&h, 7, &told) == 0 && told == PULJEMROD_NO_LEVEL, "level without memory");
+    left = -1;
+    puljemrod_close(&h);
+}
+
+static void rounds(void) {
+    puljemrod h = PULJEMROD_CLOSED_HANDLE;
+    uint64_t round = 99, copies = 98, deletes = 97;
+    puljemrod_copy copy[2] = {{0, 0, 0, 0, 0, 0}};
+    puljemrod_delete gone[2] = {{0, 0, 0}};
+    check(puljemrod_round(&h, &round, &copies, &deletes) == PULJEMROD_CLOSED && round == 99 && copies == 98
+              && deletes == 97, "a round of a closed handle");
+    check(puljemrod_copies(&h, 0, copy, 2) == 0 && puljemrod_deletes(&h, 0, gone, 2) == 0, "commands of a closed handle");
+    puljemrod_open(&h, &standard);
+    make_small_cluster(&h);
+    check(puljemrod_copies(&h, 0, copy, 2) == 0, "commands of no round");
+    unsigned refused = 0;
+    uint32_t code = PULJEMROD_MEMORY;
+    for (long n = 0; code == PULJEMROD_MEMORY; n++) {
+        left = n;
+        code = puljemrod_round(&h, &round, &copies, &deletes);
+        left = -1;
+        if (code == PULJEMROD_MEMORY) refused += round == 99 && copies == 98 && deletes == 97;
+    }
+    check(refused > 0 && code == 0 && round == 1 && copies == 1 && deletes == 1, "a round with each allocation refused");
+    left = 0;
+    check(puljemrod_copies(&h, 0, copy, 2) == 1 && puljemrod_deletes(&h, 0, gone, 2) == 1, "commands without memory");
+    left = -1;
+    check(copy->node == 1 && copy->source == 11 && copy->target == 21 && copy->block == 7 && copy->generation == 1
+              && copy->len == 64 && copy[1].block == 0, "the copy");
+    check(gone->node == 2 && gone->storage == 21 && gone->block == 9 && gone[1].block == 0, "the delete");
+    check(puljemrod_copies(&h, 1, copy, 2) == 0 && puljemrod_deletes(&h, SIZE_MAX, gone, 2) == 0, "past the commands");
+    check(puljemrod_copies(&h, 0, copy, 0) == 0, "no room for commands");
+    size_t len;
+    check(puljemrod_text(&h, &len) == 0 && has_text(&h, "round 1; copy 1 7 1 64 11 21; delete 2 21 9"), "the round's text");
+    check(puljemrod_copies(&h, 0, copy, 2) == 0, "commands after their text");
+    puljemrod_close(&h);
+}
+
+/* Two nodes have a block each; only the third has room. */
+static void commands_of_several_nodes(void) {
+    puljemrod h = PULJEMROD_CLOSED_HANDLE;
+    const uint32_t storage[] = {11, 21, 31};
+    const puljemrod_remaining remaining[] = {{31, 1000}};
+    uint64_t round, copies, deletes;
+    puljemrod_copy copy[3] = {{0, 0, 0, 0, 0, 0}};
+    puljemrod_open(&h, &standard);
+    for (uint32_t at = 0; at < 3; at++)
+        puljemrod_register(&h, at + 1, at + 1, &storage[at], 1);
+    puljemrod_heartbeat(&h, 3, remaining, 1);
+    for (uint32_t at = 0; at < 2; at++) {
+        puljemrod_add_block(&h, 7 + at, 1, 64, 2);
+        puljemrod_received(&h, storage[at], 7 + at, 1, 64);
+    }
+    check(puljemrod_round(&h, &round, &copies, &deletes) == 0 && copies == 2 && deletes == 0, "commands of two nodes");
+    check(puljemrod_copies(&h, 0, copy, 3) == 2 && copy->node == 1 && copy->source == 11 && copy->target == 31
+              && copy->block == 7, "the first node's copy");
+    check(copy[1].node == 2 && copy[1].source == 21 && copy[1].target == 31 && copy[1].block == 8, "the second node's");
+    check(puljemrod_copies(&h, 1, copy, 3) == 1 && copy->block == 8 && copy[1].block == 8, "copies from the second on");
+    check(puljemrod_copies(&h, 0, copy, 1) == 1 && copy->block == 7 && copy[1].block == 8, "room for one copy");
+    puljemrod_close(&h);
+}
+
+static void lists(void) {
+    puljemrod h = PULJEMROD_CLOSED_HANDLE;
+    uint64_t count = 99, round, copies, deletes, number[3] = {0};
+    puljemrod_replica replica[3] = {{0, 0, 0}};
+    puljemrod_pair pair[3] = {{0, 0}};
+    check(puljemrod_replicas(&h, &count) == PULJEMROD_CLOSED && count == 99, "a list of a closed handle");
+    check(puljemrod_replica_rows(&h, 0, replica, 3) == 0 && puljemrod_pair_rows(&h, 0, pair, 3) == 0
+              && puljemrod_number_rows(&h, 0, number, 3) == 0, "rows of a closed handle");
+    puljemrod_open(&h, &standard);
+    make_small_cluster(&h);
+    left = 0;
+    check(puljemrod_replicas(&h, &count) == PULJEMROD_MEMORY && count == 99, "a list refused for memory");
+    left = -1;
+    check(puljemrod_replicas(&h, &count) == 0 && count == 2, "replicas");
+    left = 0;
+    check(puljemrod_replica_rows(&h, 0, replica, 3) == 2, "rows without memory");
+    left = -1;
+    check(replica->block == 7 && replica->storage == 11 && replica->tag == PULJEMROD_GOOD, "a good replica");
+    check(replica[1].block == 9 && replica[1].storage == 21 && replica[1].tag == PULJEMROD_STRAY && replica[2].block == 0,
+          "a stray replica");
+    check(puljemrod_replica_rows(&h, 1, replica, 3) == 1 && replica->block == 9, "rows from the second on");
+    check(puljemrod_replica_rows(&h, 2, replica, 3) == 0 && puljemrod_pair_rows(&h, 0, pair, 3) == 0, "no rows");
+    check(puljemrod_blocks_on(&h, 21, &count) == 0 && count == 1 && puljemrod_number_rows(&h, 0, number, 3) == 1
+              && *number == 9, "blocks_on");
+    check(puljemrod_blocks_on(&h, 22, &count) == 3 && count == 1, "blocks on no storage");
+    check(puljemrod_places(&h, 7, &count) == 0 && count == 1 && puljemrod_number_rows(&h, 0, number, 3) == 1
+              && *number == 11, "places");
+    puljemrod_received(&h, 21, 7, 1, 64);
+    puljemrod_set_replication(&h, 7, 1);
+    check(puljemrod_excess_replicas(&h, &count) == 0 && count == 0, "no excess before a round");
+    puljemrod_round(&h, &round, &copies, &deletes);
+    check(puljemrod_excess_replicas(&h, &count) == 0 && count == 1 && puljemrod_pair_rows(&h, 0, pair, 3) == 1
+              && pair->block == 7 && pair->storage == 11, "excess");
+    puljemrod_corrupt(&h, 11, 7);
+    check(puljemrod_corrupt_replicas(&h, &count) == 0 && count == 1 && puljemrod_pair_rows(&h, 0, pair, 3) == 1
+              && pair->block == 7 && pair->storage == 11, "corrupt");
+    puljemrod_storage_failed(&h, 11);
+    puljemrod_storage_failed(&h, 21);
+    check(puljemrod_missing_blocks(&h, &count) == 0 && count == 1 && puljemrod_number_rows(&h, 0, number, 3) == 1
+              && *number == 7, "missing");
+    puljemrod_close(&h);
+}
+
 /* The line is answered with its Nth allocation refused, for N from 1 on; each time nothing is changed, or the text
  * is owed. */
 static bool is_answered_in_the_end(puljemrod *handle, const struct row *row, unsigned *memory, unsigned *owed) {
@@ -316,12 +481,21 @@ static void threads(void) {
 int main(void) {
     check(sizeof(puljemrod) == 16 && offsetof(puljemrod, is_open) == 8, "the handle's layout");
     check(sizeof(puljemrod_entry) == 32 && sizeof(puljemrod_remaining) == 16, "the layout of rows");
+    check(sizeof(puljemrod_copy) == 40 && offsetof(puljemrod_copy, block) == 16, "the layout of copies");
+    check(sizeof(puljemrod_delete) == 16 && offsetof(puljemrod_delete, block) == 8, "the layout of deletes");
+    check(sizeof(puljemrod_replica) == 16 && sizeof(puljemrod_pair) == 16, "the layout of replicas");
+    check(sizeof(puljemrod_counts) == 32 && offsetof(puljemrod_counts, removed) == 16, "the layout of counts");
     check(sizeof(puljemrod_options) == 40 && offsetof(puljemrod_options, secret) == 32, "the options' layout");
     closed_and_open();
     options_are_taken();
     pieces_of_an_answer();
     longest_line();
     events();
+    counts_of_events();
+    questions();
+    rounds();
+    commands_of_several_nodes();
+    lists();
     allocations_refused();
     memory_is_returned();
     threads();

@@ -1,7 +1,7 @@
 //! The C library: a handle, its lines, and its codes.
 
-use crate::answers::{self, Commands, Done, Replica};
-use crate::events::Event;
+use crate::answers::{Command, Commands, Done, Replica, Tag};
+use crate::events::{Entry, Event};
 use std::fmt;
 use std::ptr;
 
@@ -43,7 +43,142 @@ unsafe extern "C" {
     fn puljemrod_text(handle: *mut Handle, answer_len: *mut usize) -> u32;
     fn puljemrod_answer(handle: *mut Handle, from: usize, out: *mut u8, out_len: usize) -> usize;
     fn puljemrod_close(handle: *mut Handle) -> u32;
+    fn puljemrod_register(handle: *mut Handle, node: u32, rack: u32, storages: *const u32, len: usize) -> u32;
+    fn puljemrod_dead(handle: *mut Handle, node: u32) -> u32;
+    fn puljemrod_storage_failed(handle: *mut Handle, storage: u32) -> u32;
+    fn puljemrod_drain(handle: *mut Handle, node: u32) -> u32;
+    fn puljemrod_undrain(handle: *mut Handle, node: u32) -> u32;
+    fn puljemrod_heartbeat(handle: *mut Handle, node: u32, remaining: *const RemainingRow, len: usize) -> u32;
+    fn puljemrod_add_block(handle: *mut Handle, id: u64, generation: u64, len: u64, repl: u32) -> u32;
+    fn puljemrod_delete_block(handle: *mut Handle, id: u64) -> u32;
+    fn puljemrod_set_replication(handle: *mut Handle, id: u64, repl: u32) -> u32;
+    fn puljemrod_restamp(handle: *mut Handle, id: u64, generation: u64, len: u64) -> u32;
+    fn puljemrod_received(handle: *mut Handle, storage: u32, id: u64, generation: u64, len: u64) -> u32;
+    fn puljemrod_deleted(handle: *mut Handle, storage: u32, id: u64) -> u32;
+    fn puljemrod_corrupt(handle: *mut Handle, storage: u32, id: u64) -> u32;
+    fn puljemrod_full_report(handle: *mut Handle, storage: u32, entries: *const Entry, len: usize) -> u32;
+    fn puljemrod_done(handle: *mut Handle, done: *mut DoneRow) -> u32;
+    fn puljemrod_level(handle: *mut Handle, id: u64, level: *mut u64) -> u32;
+    fn puljemrod_retired(handle: *mut Handle, node: u32, is_retired: *mut u64) -> u32;
+    fn puljemrod_replicas(handle: *mut Handle, count: *mut u64) -> u32;
+    fn puljemrod_corrupt_replicas(handle: *mut Handle, count: *mut u64) -> u32;
+    fn puljemrod_excess_replicas(handle: *mut Handle, count: *mut u64) -> u32;
+    fn puljemrod_missing_blocks(handle: *mut Handle, count: *mut u64) -> u32;
+    fn puljemrod_blocks_on(handle: *mut Handle, storage: u32, count: *mut u64) -> u32;
+    fn puljemrod_places(handle: *mut Handle, id: u64, count: *mut u64) -> u32;
+    fn puljemrod_replica_rows(handle: *mut Handle, from: usize, out: *mut ReplicaRow, len: usize) -> usize;
+    fn puljemrod_pair_rows(handle: *mut Handle, from: usize, out: *mut PairRow, len: usize) -> usize;
+    fn puljemrod_number_rows(handle: *mut Handle, from: usize, out: *mut u64, len: usize) -> usize;
+    fn puljemrod_round(handle: *mut Handle, round: *mut u64, copies: *mut u64, deletes: *mut u64) -> u32;
+    fn puljemrod_copies(handle: *mut Handle, from: usize, out: *mut CopyRow, len: usize) -> usize;
+    fn puljemrod_deletes(handle: *mut Handle, from: usize, out: *mut DeleteRow, len: usize) -> usize;
 }
+
+#[repr(C)]
+struct RemainingRow {
+    storage: u32,
+    remaining: u64,
+}
+
+#[repr(C)]
+#[derive(Default)]
+struct DoneRow {
+    added: u64,
+    added_high: u64,
+    removed: u64,
+    removed_high: u64,
+}
+
+#[repr(C)]
+#[derive(Clone, Copy, Default)]
+struct ReplicaRow {
+    block: u64,
+    storage: u32,
+    tag: u32,
+}
+
+#[repr(C)]
+#[derive(Clone, Copy, Default)]
+struct PairRow {
+    block: u64,
+    storage: u32,
+}
+
+#[repr(C)]
+#[derive(Clone, Copy, Default)]
+struct CopyRow {
+    node: u32,
+    source: u32,
+    target: u32,
+    block: u64,
+    generation: u64,
+    len: u64,
+}
+
+#[repr(C)]
+#[derive(Clone, Copy, Default)]
+struct DeleteRow {
+    node: u32,
+    storage: u32,
+    block: u64,
+}
+
+const NO_LEVEL: u64 = 5;
+
+fn tag(number: u32) -> Tag {
+    match number {
+        0 => Tag::Good,
+        1 => Tag::Stale,
+        2 => Tag::Bad,
+        _ => Tag::Stray,
+    }
+}
+
+fn copy_command(row: &CopyRow) -> Command {
+    let CopyRow { node, source, target, block, generation, len } = *row;
+    Command::Copy { node, block, gen: generation, len, source, target }
+}
+
+fn delete_command(row: &DeleteRow) -> Command {
+    let DeleteRow { node, storage, block } = *row;
+    Command::Delete { node, storage, block }
+}
+
+fn whole(low: u64, high: u64) -> u128 {
+    u128::from(high) << 64 | u128::from(low)
+}
+
+unsafe fn apply(handle: *mut Handle, event: &Event) -> u32 {
+    unsafe {
+        match *event {
+            Event::Register { node, rack, ref storages } => {
+                puljemrod_register(handle, node, rack, storages.as_ptr(), storages.len())
+            }
+            Event::Drain { node } => puljemrod_drain(handle, node),
+            Event::Undrain { node } => puljemrod_undrain(handle, node),
+            Event::Heartbeat { node, ref remaining } => {
+                let row = |&(storage, remaining): &(u32, u64)| RemainingRow { storage, remaining };
+                let rows: Vec<RemainingRow> = remaining.iter().map(row).collect();
+                puljemrod_heartbeat(handle, node, rows.as_ptr(), rows.len())
+            }
+            Event::Dead { node } => puljemrod_dead(handle, node),
+            Event::StorageFailed { storage } => puljemrod_storage_failed(handle, storage),
+            Event::Add { id, gen, len, repl } => puljemrod_add_block(handle, id, gen, len, repl),
+            Event::Delete { id } => puljemrod_delete_block(handle, id),
+            Event::SetReplication { id, repl } => puljemrod_set_replication(handle, id, repl),
+            Event::Restamp { id, gen, len } => puljemrod_restamp(handle, id, gen, len),
+            Event::Received { storage, id, gen, len } => puljemrod_received(handle, storage, id, gen, len),
+            Event::Deleted { storage, id } => puljemrod_deleted(handle, storage, id),
+            Event::Corrupt { storage, id } => puljemrod_corrupt(handle, storage, id),
+            Event::Report { storage, ref blocks } => {
+                puljemrod_full_report(handle, storage, blocks.as_ptr(), blocks.len())
+            }
+        }
+    }
+}
+
+/// Copies out rows from an index on, and returns how many.
+type CopyOut<R> = unsafe extern "C" fn(*mut Handle, usize, *mut R, usize) -> usize;
 
 const NO_TEXT: u32 = 34;
 const MEMORY: u32 = 14;
@@ -136,62 +271,99 @@ impl Manager {
         Ok(answer)
     }
 
-    fn ask(&mut self, line: &str) -> Result<String, Error> {
-        let answer = String::from_utf8(self.line(line.as_bytes())?).expect("answers are ASCII");
-        match answers::refusal(&answer) {
-            Some(number) => Err(Error { number }),
-            None => Ok(answer),
-        }
-    }
-
     /// Takes an event; says how many replicas came and went.
     pub fn apply(&mut self, event: &Event) -> Result<Done, Error> {
-        Ok(answers::done(&self.ask(&event.to_line())?))
+        // SAFETY: the handle is open, and each list is read while its call runs.
+        checked(unsafe { apply(&mut *self.handle, event) })?;
+        let mut done = DoneRow::default();
+        // SAFETY: the handle is open, and the counts are of this call.
+        checked(unsafe { puljemrod_done(&mut *self.handle, &mut done) })?;
+        Ok(Done { added: whole(done.added, done.added_high), removed: whole(done.removed, done.removed_high) })
     }
 
     /// Makes a round: what each DataNode is to copy and to delete, by ascending node.
     pub fn round(&mut self) -> Result<Commands, Error> {
-        Ok(answers::commands(&self.ask(r#"{"op":"round"}"#)?))
+        let (mut round, mut copies, mut deletes) = (0, 0, 0);
+        // SAFETY: the handle is open, and the numbers are of this call.
+        checked(unsafe { puljemrod_round(&mut *self.handle, &mut round, &mut copies, &mut deletes) })?;
+        let copies = self.rows(puljemrod_copies, copies);
+        let deletes = self.rows(puljemrod_deletes, deletes);
+        let by_node = |command: &Command| match command {
+            Command::Copy { node, .. } | Command::Delete { node, .. } => *node,
+        };
+        let mut commands: Vec<Command> = copies.iter().map(copy_command).collect();
+        commands.extend(deletes.iter().map(delete_command));
+        // It is stable: the copies of a node stay before its deletes.
+        commands.sort_by_key(by_node);
+        Ok(Commands { round, commands })
+    }
+
+    fn rows<R: Copy + Default>(&mut self, copy_out: CopyOut<R>, count: u64) -> Vec<R> {
+        let mut rows = vec![R::default(); count as usize];
+        // SAFETY: the handle is open, and the rows are copied into an array of this call.
+        let copied = unsafe { copy_out(&mut *self.handle, 0, rows.as_mut_ptr(), rows.len()) };
+        rows.truncate(copied);
+        rows
+    }
+
+    /// What a question tells.
+    fn told(&mut self, ask: impl FnOnce(*mut Handle, *mut u64) -> u32) -> Result<u64, Error> {
+        let mut told = 0;
+        checked(ask(&mut *self.handle, &mut told))?;
+        Ok(told)
+    }
+
+    fn pairs(&mut self, count: u64) -> Vec<(u64, u32)> {
+        self.rows(puljemrod_pair_rows, count).iter().map(|row: &PairRow| (row.block, row.storage)).collect()
     }
 
     /// All replicas, by block and storage.
     pub fn replicas(&mut self) -> Result<Vec<Replica>, Error> {
-        Ok(answers::replicas(&self.ask(r#"{"op":"list_replicas"}"#)?))
+        // SAFETY: the handle is open, here and in each question below.
+        let count = self.told(|handle, told| unsafe { puljemrod_replicas(handle, told) })?;
+        let replica = |row: &ReplicaRow| Replica { block: row.block, storage: row.storage, tag: tag(row.tag) };
+        Ok(self.rows(puljemrod_replica_rows, count).iter().map(replica).collect())
     }
 
     /// The stale and bad replicas, as pairs of block and storage.
     pub fn corrupt(&mut self) -> Result<Vec<(u64, u32)>, Error> {
-        Ok(answers::pairs(&self.ask(r#"{"op":"list_corrupt"}"#)?))
+        let count = self.told(|handle, told| unsafe { puljemrod_corrupt_replicas(handle, told) })?;
+        Ok(self.pairs(count))
     }
 
     /// The replicas in excess, as pairs of block and storage.
     pub fn excess(&mut self) -> Result<Vec<(u64, u32)>, Error> {
-        Ok(answers::pairs(&self.ask(r#"{"op":"list_excess"}"#)?))
+        let count = self.told(|handle, told| unsafe { puljemrod_excess_replicas(handle, told) })?;
+        Ok(self.pairs(count))
     }
 
     /// The known blocks of which no replica is live or drained.
     pub fn missing(&mut self) -> Result<Vec<u64>, Error> {
-        Ok(answers::numbers(&self.ask(r#"{"op":"list_missing"}"#)?))
+        let count = self.told(|handle, told| unsafe { puljemrod_missing_blocks(handle, told) })?;
+        Ok(self.rows(puljemrod_number_rows, count))
     }
 
     /// The blocks of all replicas on a storage.
     pub fn blocks_on(&mut self, storage: u32) -> Result<Vec<u64>, Error> {
-        Ok(answers::numbers(&self.ask(&format!(r#"{{"op":"list_storage","storage":{storage}}}"#))?))
+        let count = self.told(|handle, told| unsafe { puljemrod_blocks_on(handle, storage, told) })?;
+        Ok(self.rows(puljemrod_number_rows, count))
     }
 
     /// The storages of a block's good replicas.
     pub fn places(&mut self, id: u64) -> Result<Vec<u32>, Error> {
-        Ok(answers::numbers(&self.ask(&format!(r#"{{"op":"list_places","id":{id}}}"#))?))
+        let count = self.told(|handle, told| unsafe { puljemrod_places(handle, id, told) })?;
+        Ok(self.rows(puljemrod_number_rows, count).iter().map(|storage| *storage as u32).collect())
     }
 
     /// How urgently a block wants replicas: 0 (most) to 4, or none.
     pub fn level(&mut self, id: u64) -> Result<Option<u32>, Error> {
-        Ok(answers::last(&self.ask(&format!(r#"{{"op":"level","id":{id}}}"#))?).parse().ok())
+        let told = self.told(|handle, told| unsafe { puljemrod_level(handle, id, told) })?;
+        Ok((told != NO_LEVEL).then_some(told as u32))
     }
 
     /// Whether a draining node can be taken away.
     pub fn retired(&mut self, node: u32) -> Result<bool, Error> {
-        Ok(answers::last(&self.ask(&format!(r#"{{"op":"retired","node":{node}}}"#))?) == "yes")
+        Ok(self.told(|handle, told| unsafe { puljemrod_retired(handle, node, told) })? == 1)
     }
 }
 

@@ -5,3 +5,4 @@ pub mod Rows
 pub mod Telling
 pub mod Commanding
 pub mod Listing
+pub mod Doing

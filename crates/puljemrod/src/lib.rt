@@ -1,5 +1,5 @@
-//! What C may call: a manager behind a handle, by lines of the tool, and by functions for events, rounds and
-//! questions. `bindings/c/puljemrod.h` declares it, and says what the caller owes.
+//! What C may call: a manager behind a handle, by lines of the tool, and by functions for events, rounds
+//! and questions. `bindings/c/puljemrod.h` declares it, and says what the caller owes.
 //!
 //! Each call returns a code: 0, the number of a refusal, or one of `codes`. No call starts a thread or
 //! waits. `specs/Calls` defines what a call comes to, and the other files of `specs` what it tells.
@@ -14,6 +14,7 @@ mod calls;
 mod codes;
 mod commands;
 mod copying;
+mod done;
 mod events;
 mod handle;
 mod kept;

@@ -75,7 +75,8 @@ impl Row<(), StorageId> for u64 {
     }
 }
 
-/// Copies the replicas of the kept list from one on, as far as they and the array go, and returns how many it copied.
+/// Copies the replicas of the kept list from one on, as far as they and the array go, and returns how
+/// many it copied.
 #[unsafe(no_mangle)]
 pub extern "C" fn puljemrod_replica_rows(
     alloc: Global,
