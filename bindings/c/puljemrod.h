@@ -21,7 +21,7 @@
  *   - No pointer is NULL. One with a length leads to that many bytes; where the length is 0, any other
  *     pointer will do. What a call writes overlaps nothing else that it is given.
  *   - No call is made from a signal handler, or in a forked child of a process with threads.
- *   - The calling thread has half a MiB of stack left.
+ *   - The calling thread has one MiB of stack left.
  *   - The processor has the instructions of x86-64-v2 (from about 2009 on).
  *
  * What is trusted, next to the proof of what the functions do: the compiler that built the library, the malloc,
