@@ -13,8 +13,8 @@ use std::thread::Threads;
 /// The name of the report that is refused again and again.
 const AGAIN: &str = "report_again";
 
-/// Which allocations of that report are refused in turn: with one worker it makes six, once the capacity of all else is there.
-const DEPTH: u32 = 6;
+/// Which allocations of that report are refused in turn: with one worker it makes four, once the capacity of all else is there.
+const DEPTH: u32 = 4;
 
 const ALL_ADDED: &str = "Done(Done { added: 1000, removed: 0 })";
 
