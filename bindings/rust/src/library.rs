@@ -37,7 +37,7 @@ impl Default for Options {
     }
 }
 
-unsafe extern "C" {
+extern "C" {
     fn puljemrod_open(handle: *mut Handle, options: *const Options) -> u32;
     fn puljemrod_line(handle: *mut Handle, line: *const u8, len: usize, answer_len: *mut usize) -> u32;
     fn puljemrod_text(handle: *mut Handle, answer_len: *mut usize) -> u32;

@@ -11,7 +11,7 @@ fn the_examples_are_answered_as_worked_out() {
     let mut count = 0;
     for entry in fs::read_dir(&folder).unwrap() {
         let path = entry.unwrap().path();
-        if path.extension().is_none_or(|it| it != "jsonl") || !path.with_extension("txt").exists() {
+        if path.extension().map_or(true, |it| it != "jsonl") || !path.with_extension("txt").exists() {
             continue;
         }
         let mut manager = Manager::open(&Options { shards: 3, ..Options::default() }).unwrap();
