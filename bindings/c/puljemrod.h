@@ -160,7 +160,7 @@ uint32_t puljemrod_done(puljemrod *handle, puljemrod_counts *counts);
  * With PULJEMROD_OK it writes its last argument; otherwise that stays as it was. It changes no state. The handle
  * keeps the answer, whose text puljemrod_text makes. PULJEMROD_MEMORY keeps the answer before. */
 
-/* What puljemrod_level tells of a block that is in no queue. */
+/* The level that puljemrod_level gives for a block in no queue. */
 enum { PULJEMROD_NO_LEVEL = 5 };
 
 /* How urgently a block wants replicas: its queue, 0 to 4, or PULJEMROD_NO_LEVEL. */

@@ -49,7 +49,7 @@ class Replica:
         # The last hash, with the number of lines; and those that no leader has confirmed.
         self.hashed = (0, "")
         self.unconfirmed = {}
-        # The output of log keys from `position` on: of that key so many values are in the store.
+        # The output from `position` on: a log key, and how many of its values are in the store already.
         self.outputs = deque()
         self.position = (1, 0)
 
