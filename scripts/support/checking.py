@@ -82,6 +82,16 @@ def program(crate):
     return str(path)
 
 
+def chosen_numbers(*words):
+    """Numbers that share groups of a table without a secret. The words are those of chosen_numbers.c."""
+    with tempfile.TemporaryDirectory() as folder:
+        path = os.path.join(folder, "chosen_numbers")
+        source = Path(__file__).with_name("chosen_numbers.c")
+        subprocess.run(["cc", "-O2", "-o", path, str(source)], check=True)
+        told = subprocess.run([path, *map(str, words)], capture_output=True, check=True)
+    return [int(line) for line in told.stdout.split()]
+
+
 def cluster_command(word):
     """The words that start the program for clusters: `import`, `report` or `simulate`."""
     return [program("puljemrod_cluster"), word]
