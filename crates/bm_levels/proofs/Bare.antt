@@ -15,7 +15,7 @@ use Rattle.bm_arena.specs.Contents.{Contents, block_at, slot_of, find_marks, lis
 use Rattle.bm_arena.specs.Holding.{replicas_at, replicas_of, blocks_of, info_at}
 use Rattle.bm_report.specs.Aborted.{is_bare_number}
 use Rattle.bm_report.proofs.Maps.{get-here}
-use Rattle.bm_levels.specs.Bare.{IsBare, HasNoneBare, MakesNoneBare, MakesBareOnly, KeepsSlots}
+use Rattle.bm_levels.specs.Bare.{IsBare, MakesNoneBare, MakesBareOnly, KeepsSlots}
 use Rattle.bm_levels.proofs.Revising.{known_at}
 
 -- with an entry of no number more, and no block and no replica less
@@ -33,13 +33,6 @@ same_numbers a c ids b = ap (λ l. lookup (nat_eq b) l) ids
 
 pub some_before : {o p : Option ℕ} → p ≡ o → IsSome p → IsSome o
 some_before e there = let P : Option ℕ → Type 0 = λ o. IsSome o in subst P e there
-
--- where all numbers keep their entries, and the same is held
-pub bare_same : (a c : Contents) → c.ids ≡ a.ids → blocks_of c ≡ blocks_of a → replicas_of c ≡ replicas_of a → MakesNoneBare a c
-bare_same a c ids blocks replicas b bare = bare_held a c b (some_before (same_numbers a c ids b) bare.entry) blocks replicas bare
-
-pub bare_more : (a b c : Contents) → MakesNoneBare a b → MakesNoneBare b c → MakesNoneBare a c
-bare_more a b c f g n h = f n (g n h)
 
 -- of a bare number nothing is at its slot
 module _ (a : Contents) (b slot : ℕ) (led : slot_of a b ≡ Some slot) (bare : IsBare a b) where
@@ -137,10 +130,6 @@ bare_again a m c named lawful blocks replicas fresh blocks_c replicas_c numbers 
 -- numbers that are not among some have the entries that they had
 pub bare_beside : (a c : Contents) (these : ℕ → Bool) → blocks_of c ≡ blocks_of a → replicas_of c ≡ replicas_of a → ((b : ℕ) → these b ≡ false → slot_of c b ≡ slot_of a b) → MakesBareOnly these a c
 bare_beside a c these blocks replicas others b not_these bare = bare_held a c b (some_before (others b not_these) bare.entry) blocks replicas bare
-
--- nothing is bare where no number has an entry
-pub none_bare : (a : Contents) → a.ids ≡ [] → HasNoneBare a
-none_bare a none b bare = let P : List (ℕ × ℕ) → Type 0 = λ l. IsSome (lookup (nat_eq b) l) in false≢true (subst P none bare.entry)
 
 -- A number that keeps an entry, where one is dropped, keeps its own.
 pub slots_kept : (a c : Contents) (slot : ℕ) → ((id : ℕ) → slot_of a id ≢ Some slot → slot_of c id ≡ slot_of a id) → ((id : ℕ) → slot_of a id ≡ Some slot → slot_of c id ≡ None) → KeepsSlots a c

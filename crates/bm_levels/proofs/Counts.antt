@@ -12,9 +12,6 @@ use Rattle.bm_levels.specs.Judged.{is_plain, storages_at, is_live_by, is_drained
 use Rattle.bm_levels.specs.Counted.{none, seen, one_more, counted_on, racks_of}
 
 module _ (rack : ℕ → Option ℕ) (draining : ℕ → Bool) where
-  live_of : List (ℕ × Marks) → List ℕ
-  live_of rs = storages_at (is_live_by draining) rs
-
   seen_same : (k : Count) (r : ℕ) → ((seen k r).live ≡ k.live) × ((seen k r).drained ≡ k.drained) × ((seen k r).is_plain ≡ k.is_plain)
   unfolding seen
   seen_same k r = elim k.first as (λ o. let z = option_map_or (λ f. record k { is_spread = k.is_spread || not (r == f) }) o (record k { first = Some r }) in (z.live ≡ k.live) × (z.drained ≡ k.drained) × (z.is_plain ≡ k.is_plain)) [
@@ -62,9 +59,6 @@ module _ (rack : ℕ → Option ℕ) (draining : ℕ → Bool) where
       by : (o : Option ℕ) → racks_on (option_map_or (λ f. record k { first = o; is_spread = k.is_spread || not (r == f) }) o (record k { first = Some r })) rs ≡ (if k.is_spread then 2 else spread_from o (r ∷ rs))
       by None = refl
       by (Some f) = either f k.is_spread (r == f)
-
-  abbrev live_racks : List (ℕ × Marks) → List ℕ
-  live_racks rs = filter_map rack (live_of rs)
 
   -- what stands of a list behind those that were counted
   abbrev pub IsCountOf : Count → List (ℕ × Marks) → Count → Type 0

@@ -1,12 +1,11 @@
 -- Where the entry of a number with neither a block nor a replica is dropped, nothing that is held changes.
 use Rattle.std.specs.Prelude.{◌≡◌, ◌≢◌, ◌↔◌, ℕ, IsSome, Bool, true, false, ◌==◌, if◌then◌else◌, [], Option, Some, None, option_and_then, IsSomeAnd}
-use Rattle.std.specs.Option.{option_map_or}
 use Rattle.std.proofs.Common.{refl, sym, ap, subst, ◌∙◌, inl, inr}
 use Rattle.std.proofs.lemmas.Option.{same_Some}
 use Rattle.std.proofs.lemmas.Bool.{cases_eq, ne_eqb, eq-eqb, true≢false, false≢true}
 use Rattle.bm_arena.specs.Triplets.{Block}
 use Rattle.bm_arena.specs.Contents.{Contents, block_at, slot_of, find_marks, dropped, IsLawful}
-use Rattle.bm_arena.specs.Holding.{replicas_at, replicas_of, blocks_of, info_at}
+use Rattle.bm_arena.specs.Holding.{replicas_of, blocks_of, info_at}
 use Rattle.bm_arena.proofs.Held.{same_replicas, same_blocks}
 use Rattle.bm_levels.specs.Judged.{level_by, is_settled_at}
 use Rattle.bm_levels.specs.Kept.{IsUnsettled}
@@ -133,10 +132,3 @@ emptied old c slot id lawful here bare unknown after entries numbers =
       leveled = leveled_still old c slot k lawful e f.0 none info entries (numbers k e) (ap (λ (x : Contents). x.delimiter) is);
       levels = levels_still old c slot k lawful e f.0 none info entries (numbers k e) (ap (λ (x : Contents). x.delimiter) is);
     }
-
--- a slot that is led to, with no replica in its list, is bare
-pub bare_at : (a : Contents) (slot id : ℕ) → IsLawful a → slot_of a id ≡ Some slot → replicas_at a slot ≡ [] → IsSomeAnd (block_at a slot) (λ (b : Block). b.replicas ≡ [])
-bare_at a slot id lawful here none =
-    let f = lawful.found id slot here in
-    let P : Option Block → Type 0 = λ o. IsSomeAnd o (λ (b : Block). b.replicas ≡ []) in
-    subst P (sym f.2) (sym (ap (λ o. option_map_or (λ (b : Block). b.replicas) o []) f.2) ∙ none)

@@ -54,10 +54,6 @@ leaving_more p a b c m n f g = record {
   count = omega (arith, f.count, g.count);
 }
 
--- those of one storage are some of those of a node
-pub leaving_wider : (p r : ℕ → Bool) → ((s : ℕ) → r s ≡ false → p s ≡ false) → (a b : Contents) (n : ℕ) → IsLeaving p a b n → IsLeaving r a b n
-leaving_wider p r wider a b n f = record { blocks = f.blocks; lists = λ s e. f.lists s (wider s e); others = λ q e. f.others q (wider q.storage e); count = f.count }
-
 -- one replica was taken out
 pub leaving_one : (a b : Contents) (id slot s : ℕ) → slot_of a id ≡ Some slot → IsSome (marks_at a slot s) → KeepsOthers a b slot s → blocks_of b ≡ blocks_of a
     → replicas_of b ≡ remove (replicas_of a) (replica_at id s) → IsLeaving (λ t. t == s) a b 1

@@ -109,9 +109,6 @@ module _ (es fs : List (ℕ × Targets)) (b : ℕ) where
         same_map (map_of fs) (keep (map_of es) (λ q _. not (q.block == b))) (λ q.
         get-changed es fs b (λ _. []) changed q ∙ sym (get-keep (map_of es) (λ q _. not (q.block == b)) q ∙ sym (one_out (q.block == b) (get (map_of es) q))))
 
-    pub rising-block_removed : ((q : ℕ) → T (is_sorted nat_cmp (targets_at es q))) → IsPending fs
-    rising-block_removed rise = rising-changed es fs b (λ _. []) changed rise (λ xs h. tt)
-
 -- what stays of the map is what stays of each block's targets
 pub get-kept : (es : List (ℕ × Targets)) (p : ℕ → ℕ → Bool) → ((q : ℕ) → T (is_sorted nat_cmp (targets_at es q))) → (q : ReplicaId)
     → get (keep (map_of es) (λ q t. p q.storage t)) q ≡ find nat_cmp q.storage (filter (λ e. p e.0 e.1) (targets_at es q.block))

@@ -2,7 +2,7 @@
 use Rattle.std.specs.Bool.{beq}
 use Rattle.std.specs.Option.{option_eq}
 use Rattle.std.specs.Ordering.{is_lt, nat_cmp, ordering_then}
-use Rattle.std.proofs.Common.{◌≡◌, ℕ, ◌≤◌, Bool, true, false, if◌then◌else◌, cond, ◌&&◌, ◌==◌, Option, Some, None, refl, sym, ap, ◌∙◌, arith}
+use Rattle.std.proofs.Common.{◌≡◌, ℕ, ◌≤◌, Bool, true, false, ◌&&◌, ◌==◌, Option, Some, None, refl, sym, ap, ◌∙◌, arith}
 use Rattle.std.specs.Cmp.{IsTotalOrder, IsStrictWeakOrder, nat_cmp_total}
 use Rattle.std.proofs.lemmas.Cmp.{on_total, then_total, back_total, tied_itself}
 use Rattle.std.proofs.lemmas.List.MinMax.{ranks_by}
@@ -10,7 +10,7 @@ use Rattle.std.proofs.lemmas.Bool.{eqb-true, eq-eqb}
 use Rattle.std.proofs.lemmas.Bool.Decides.{nat_tests}
 use Rattle.bm_place.specs.declared.scheduled.Target.{Target}
 use Rattle.bm_place.specs.Targets.{room_on}
-use Rattle.bm_place.specs.Foremost.{are_alike, cmp_alike, goes_before, StandsFor}
+use Rattle.bm_place.specs.Foremost.{are_alike, cmp_alike, goes_before}
 
 -- what two targets that are alike have in common
 pub record IsLike (s t : Target) : Type 0 where
@@ -82,29 +82,3 @@ more_room c t e = by (nat_cmp t.storage c.storage) e
 -- with less room it goes no further to the front
 pub less_room : (s t : Target) → s.storage ≡ t.storage → room_on s ≤ room_on t → goes_before s t ≡ false
 less_room s t same less = grind (arith, nat_tests)
-
--- The one of two that goes before stands for what either stood for.
-
-pub stands_itself : (t : Target) → StandsFor t t
-stands_itself t = record { alike = alike t t (like_itself t); before = not_before_itself t }
-
--- the one of the two that goes before the other
-abbrev better : Target → Target → Target
-better s t = if goes_before s t then s else t
-
-pub better_new : (t c : Target) → are_alike c t ≡ true → StandsFor (better t c) t
-better_new t c same = by (goes_before t c) refl
-  where
-    by : (b : Bool) → goes_before t c ≡ b → StandsFor (cond b t c) t
-    by true e = stands_itself t
-    by false e = record { alike = same; before = e }
-
-pub better_old : (t c x : Target) → are_alike c t ≡ true → StandsFor c x → StandsFor (better t c) x
-better_old t c x same old = by (goes_before t c) refl
-  where
-    by : (b : Bool) → goes_before t c ≡ b → StandsFor (cond b t c) x
-    by true e = record {
-      alike = alike t x (like_then t c x (like_back c t (like c t same)) (like c x old.alike));
-      before = ranks.chain x c t old.before (ranks.one_way t c e);
-    }
-    by false e = old

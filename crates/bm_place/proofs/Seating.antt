@@ -2,8 +2,7 @@
 use Rattle.std.specs.Prelude.{filter_map, slice_get}
 use Rattle.std.specs.List.{cons_option}
 use Rattle.std.specs.List.Sorted.{IsPermutation}
-use Rattle.std.proofs.Common.{◌≡◌, ℕ, zero, suc, List, [], ◌∷◌, ◌++◌, map, get_or, Option, Some, None, refl, inl, inr, sym, ap, subst, ◌∙◌}
-use Rattle.std.proofs.lemmas.List.{append_assoc}
+use Rattle.std.proofs.Common.{◌≡◌, ℕ, zero, suc, List, [], ◌∷◌, map, get_or, Option, Some, None, refl, inl, inr, sym, ap, subst, ◌∙◌}
 use Rattle.bm_base.specs.Map.{Map, by_number, entries}
 use Rattle.bm_place.specs.declared.scheduled.Target.{Target}
 use Rattle.bm_place.specs.declared.seats.Seat.{Seat}
@@ -39,7 +38,3 @@ module _ {X Y : Type 0} (f : X → Option Y) where
       by None is h rest = rest h
       by (Some z) is (inl e) rest = (x, is ∙ ap Some e)
       by (Some z) is (inr h) rest = rest h
-
--- A list that is made element by element: one more, of those that are left.
-pub made_more : {X Y : Type 0} (f : X → Y) (ys zs : List Y) (xs rest : List X) (x : X) → rest ≡ x ∷ xs → ys ++ map f rest ≡ zs → (ys ++ f x ∷ []) ++ map f xs ≡ zs
-made_more f ys zs xs rest x is inv = append_assoc ys (f x ∷ []) (map f xs) ∙ ap (λ r. ys ++ map f r) (sym is) ∙ inv

@@ -1,20 +1,16 @@
 -- What stands in a table, and what a change of a count makes of it.
 use Rattle.std.specs.Prelude.{unwrap_or, option_map}
-use Rattle.std.proofs.Common.{◌≡◌, ◌≤◌, ℕ, ◌+◌, suc, zero, Bool, true, false, cond, ◌&&◌, ◌||◌, List, [], ◌∷◌, map, drop, Option, Some, None, is_some, refl, sym, ap, subst, ◌∙◌, T, arith}
+use Rattle.std.proofs.Common.{◌≡◌, ◌≤◌, ℕ, ◌+◌, suc, zero, Bool, true, false, cond, ◌&&◌, ◌||◌, List, [], ◌∷◌, map, drop, Option, Some, None, is_some, refl, sym, ap, ◌∙◌, arith}
 use Rattle.std.specs.Prelude.{◌==◌, slice_get}
-use Rattle.std.specs.Ordering.{nat_cmp, eq_by_cmp, is_lt}
-use Rattle.std.specs.FinMap.{find, is_sorted}
-use Rattle.std.specs.FinMap.Entries.{below_all}
+use Rattle.std.specs.Ordering.{nat_cmp, eq_by_cmp}
+use Rattle.std.specs.FinMap.{find}
 use Rattle.std.proofs.lemmas.Bool.{eqb-true}
 use Rattle.std.proofs.lemmas.List.{length-map}
 use Rattle.std.proofs.lemmas.Option.{slice_get_past}
 use Rattle.std.proofs.lemmas.Bool.Decides.{nat_tests}
 use Rattle.bm_base.specs.Lists.{has}
 use Rattle.bm_base.specs.Map.{Map, by_number, empty, entries, get, insert, insert_all, keys, len, revise_at, contains_key}
-use Rattle.bm_base.specs.OfSorted.{of_sorted}
-use Rattle.bm_base.proofs.OfSorted.{entries-of_sorted}
 use Rattle.bm_base.proofs.MapLaws.{same_map, get-insert, get-empty, get-revise}
-use Rattle.bm_base.proofs.SortedLaws.{get-of_sorted}
 use Rattle.bm_base.proofs.Ties.{number_tie}
 use Rattle.bm_place.specs.Tables.{listed, table, count_at}
 
@@ -43,40 +39,6 @@ module _ {X : Type 0} (f : ℕ → X) where
   pub get-table : (ks : List ℕ) (q : ℕ) → get (table f ks) q ≡ cond (has ks q) (Some (f q)) None
   unfolding table
   get-table ks q = get-listed ks empty q ∙ ap (cond (has ks q) (Some (f q))) (get-empty by_number q)
-
-  swapped_or : (q k : ℕ) (rest : Bool) (b : Bool) → (q == k) ≡ b → cond b (Some (f k)) (cond rest (Some (f q)) None) ≡ cond (b || rest) (Some (f q)) None
-  swapped_or q k rest true e = ap (λ x. Some (f x)) (sym (eqb-true q k e))
-  swapped_or q k rest false e = refl
-
-  find-listed : (ks : List ℕ) (q : ℕ) → find nat_cmp q (listed f ks) ≡ cond (has ks q) (Some (f q)) None
-  find-listed [] q = refl
-  find-listed (k ∷ ks) q =
-      ap (cond (eq_by_cmp nat_cmp q k) (Some (f k))) (find-listed ks q)
-      ∙ ap (λ b. cond b (Some (f k)) (cond (has ks q) (Some (f q)) None)) (number_tie q k)
-      ∙ swapped_or q k (has ks q) (q == k) refl
-      ∙ ap (λ b. cond (b || has ks q) (Some (f q)) None) (sym (equal_back q k (q == k) refl))
-
-  module _ {Y : Type 0} where
-    below_listed : (k : ℕ) (es : List (ℕ × Y)) → below_all nat_cmp k (listed f (map (λ e. e.0) es)) ≡ below_all nat_cmp k es
-    below_listed k [] = refl
-    below_listed k (e ∷ es) = ap (λ b. is_lt (nat_cmp k e.0) && b) (below_listed k es)
-
-    sorted_listed : (es : List (ℕ × Y)) → is_sorted nat_cmp (listed f (map (λ e. e.0) es)) ≡ is_sorted nat_cmp es
-    sorted_listed [] = refl
-    sorted_listed (e ∷ es) = λ i. below_listed e.0 es i && sorted_listed es i
-
-    keys_sorted : (m : Map by_number Y) → T (is_sorted nat_cmp (listed f (keys m)))
-    unfolding keys entries
-    keys_sorted m = subst T (sym (sorted_listed m.list)) m.sorted
-
-    -- a table of the keys of a map has them in the same order
-    pub entries-table : (m : Map by_number Y) → entries (table f (keys m)) ≡ listed f (keys m)
-    entries-table m =
-        let sorted = keys_sorted m in
-        let same : table f (keys m) ≡ of_sorted {o = by_number} (listed f (keys m)) =
-        same_map (table f (keys m)) (of_sorted {o = by_number} (listed f (keys m))) (λ q.
-        get-table (keys m) q ∙ sym (get-of_sorted by_number (listed f (keys m)) q sorted ∙ find-listed (keys m) q)) in
-        ap entries same ∙ entries-of_sorted by_number (listed f (keys m)) sorted
 
 -- a value that is there already
 pub same_inserted : {X : Type 0} (m : Map by_number X) (k : ℕ) (v : X) → get m k ≡ Some v → m ≡ insert m k v

@@ -1,5 +1,5 @@
 -- Lemmas on the chain of one list: what a write of a few links leaves of it.
-use Rattle.std.proofs.Common.{◌≡◌, ◌≢◌, ◌⊎◌, ℕ, zero, suc, ◌<◌, ◌≤◌, ◌+◌, eqb, List, [], ◌∷◌, length, Option, Some, None, inl, inr, subst, sym, ap, ◌∙◌, refl, arith}
+use Rattle.std.proofs.Common.{◌≡◌, ◌≢◌, ◌⊎◌, ℕ, zero, suc, ◌<◌, ◌≤◌, ◌+◌, eqb, List, [], ◌∷◌, length, Option, Some, inl, inr, subst, sym, ap, ◌∙◌, refl, arith}
 use Rattle.std.proofs.lemmas.Bool.{cases_Bool, eq-eqb, ne_eqb, eqb-true, eqb-false}
 use Rattle.std.proofs.lemmas.Option.{none-some, same_Some}
 use Rattle.bm_base.specs.SlotLists.{Among, Distinct, without, first_of, slot_after}
@@ -140,9 +140,3 @@ module _ (k : ℕ) (next new back new_back : ℕ → Option ℕ) (x p : ℕ) (ow
         others y differs not_behind ∙ chain.1,
         Chain-without (k + y) ys chain.2 there distinct.1 (off_slot k y ys distinct.0),
       )
-
--- walks by links that read alike meet the same slots
-pub walk-same : (behind other : ℕ → Option ℕ) → ((x : ℕ) → behind x ≡ other x) → (n : ℕ) (start : Option ℕ) → walk behind n start ≡ walk other n start
-walk-same behind other same zero start = refl
-walk-same behind other same (suc n) None = refl
-walk-same behind other same (suc n) (Some x) = rw (same x) (ap (λ xs. x ∷ xs) (walk-same behind other same n (other x)))

@@ -122,13 +122,6 @@ module _ (k : ℕ) (next back : List (Option ℕ)) (f : ℕ → List ℕ) (held 
   pub next-held : (l x : ℕ) → l < k → Among x (f l) → link_at next (k + x) ≡ slot_after x (f l)
   next-held l x low there = after-chain k (link_at next) (link_at back) l (f l) x (held.chain l low) there
 
-  pub next-absent : (x : ℕ) → ((l : ℕ) → l < k → Among x (f l) → ⊥) → link_at next (k + x) ≡ None
-  next-absent x absent = by (link_at back x) refl
-    where
-      by : (o : Option ℕ) → link_at back x ≡ o → link_at next (k + x) ≡ None
-      by None none = held.clear x none
-      by (Some c) some = let found = held.complete x c some in absurd (absent found.0 found.1 found.2)
-
   -- a slot in no list is taken out of none
   pub unlinked-absent : (x : ℕ) → link_at back x ≡ None → (l : ℕ) → l < k → without x (f l) ≡ f l
   unlinked-absent x none l low = without-absent x (f l) (λ h. let b = listed_back l x low h in none-some b.0 (sym none ∙ b.1))

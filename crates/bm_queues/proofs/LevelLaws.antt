@@ -199,9 +199,6 @@ module _ (levels : List (Option Level)) (indices : List ℕ) (arrays : List (Lis
     at : get_or xs place 0 ≡ slot
     at = are.there l slot is
 
-    pub one-held : 0 < length xs
-    one-held = omega (arith, low)
-
     last-level : level_in levels last ≡ Some l
     last-level = are.level l end (omega (arith, low))
 

@@ -59,10 +59,6 @@ past-next x xs distinct =
       | inr absent ↦ rw (slot_after-absent x xs absent) (λ e. none-some x e, λ h. h)
     ]
 
--- to put a slot that was left behind to the front leaves what is to come
-pub from-with : (x : ℕ) (xs : List ℕ) (at : Option ℕ) → IsPast x at xs → slots_from (x ∷ xs) at ≡ slots_from xs at
-from-with x xs at past = from-skip x xs at past.0
-
 -- and so does to take it out
 pub from-without : (x : ℕ) (xs : List ℕ) (at : Option ℕ) → IsPast x at xs → slots_from (without x xs) at ≡ slots_from xs at
 from-without x xs None past = refl
@@ -76,11 +72,6 @@ from-without x (y ∷ ys) (Some z) past =
             | inr further ↦ let gone = rw further at past.1 in rw further (from-without x ys (Some z) (past.0, gone))
           ])
     ]
-
--- and one still stands on the list
-pub on-with : (x : ℕ) (xs : List ℕ) (at : Option ℕ) → IsOn at xs → IsOn at (x ∷ xs)
-on-with x xs None on = tt
-on-with x xs (Some z) on = inr on
 
 pub on-without : (x : ℕ) (xs : List ℕ) (at : Option ℕ) → IsPast x at xs → IsOn at xs → IsOn at (without x xs)
 on-without x xs None past on = tt

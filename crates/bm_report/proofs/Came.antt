@@ -14,12 +14,6 @@ use Rattle.bm_report.proofs.ByNumber.{first_named, then_named}
 abbrev pub Came : List Named → List ℕ → List ℕ → Type 0
 Came ns before after = (slot : ℕ) → Among slot after → Among slot before ⊎ Among slot (map slot_in ns)
 
-pub came-none : (ns : List Named) (xs : List ℕ) → Came ns xs xs
-came-none ns xs slot m = inl m
-
-pub came-chain : (ns : List Named) (xs ys zs : List ℕ) → Came ns xs ys → Came ns ys zs → Came ns xs zs
-came-chain ns xs ys zs f g slot m = elim (g slot m) [ inl was ↦ f slot was | inr named ↦ inr named ]
-
 pub slot-listed : (ns : List Named) (i : ℕ) (n : Named) → slice_get ns i ≡ Some n → Among n.slot (map slot_in ns)
 slot-listed [] i n e = absurd (none-some n e)
 slot-listed (m ∷ ns) zero n e = inl (ap slot_in (sym (same_Some m n e)))

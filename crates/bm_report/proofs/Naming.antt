@@ -8,8 +8,8 @@ use Rattle.bm_base.specs.declared.ids.Part.{Part}
 use Rattle.bm_base.specs.Entries.{Told, told_by, expanded}
 use Rattle.bm_base.specs.Events.{is_named}
 use Rattle.bm_base.specs.Shards.{shard_of}
-use Rattle.bm_report.specs.Expanded.{of_part, told_to}
-use Rattle.bm_report.proofs.Running.{told_from, told_next, told_rest, told_both}
+use Rattle.bm_report.specs.Expanded.{of_part}
+use Rattle.bm_report.proofs.Running.{told_from, told_next, told_rest}
 
 pub named_apart : (ts : List Told) (b : ℕ) → is_named ts b ≡ false → is_named ts b ≡ true → ⊥
 named_apart ts b out in_it = false≢true (sym out ∙ in_it)
@@ -52,21 +52,6 @@ module _ (p : Part) (es : List Entry) (i : ℕ) (e : Entry) (b : ℕ) (at : slic
 
   pub rest_named : is_named (of_part p (expanded (drop (i + 1) es))) b ≡ true → is_named (of_part p (expanded (drop i es))) b ≡ true
   rest_named in_it = parts ∙ ap (λ x. is_named (of_part p (told_by e)) b || x) in_it ∙ last (is_named (of_part p (told_by e)) b)
-    where
-      last : (x : Bool) → (x || true) ≡ true
-      last true = refl
-      last false = refl
-
--- what entries in two parts name
-module _ (p : Part) (es fs gs : List Entry) (b : ℕ) (whole : es ++ fs ≡ gs) where
-  two_parts : is_named (told_to p gs) b ≡ (is_named (told_to p es) b || is_named (told_to p fs) b)
-  two_parts = ap (λ l. is_named l b) (told_both p es fs gs whole) ∙ named_either (told_to p es) (told_to p fs) b
-
-  pub front_named : is_named (told_to p es) b ≡ true → is_named (told_to p gs) b ≡ true
-  front_named in_it = two_parts ∙ ap (λ x. x || is_named (told_to p fs) b) in_it
-
-  pub back_named : is_named (told_to p fs) b ≡ true → is_named (told_to p gs) b ≡ true
-  back_named in_it = two_parts ∙ ap (λ x. is_named (told_to p es) b || x) in_it ∙ last (is_named (told_to p es) b)
     where
       last : (x : Bool) → (x || true) ≡ true
       last true = refl

@@ -5,7 +5,6 @@ use Rattle.std.proofs.lemmas.Bool.{ne_eqb, eq-eqb, cases_lt}
 use Rattle.std.proofs.lemmas.Nat.{div-add-mod'}
 use Rattle.std.proofs.Math.Nat.{mul-add-mod_self_right, mod-eq_of_lt}
 use Rattle.std.proofs.lemmas.List.Elements.{filter-append}
-use Rattle.std.proofs.lemmas.Grind.{flat_map-append}
 use Rattle.bm_base.specs.declared.event.Entry.{Entry}
 use Rattle.bm_base.specs.declared.ids.Part.{Part}
 use Rattle.bm_base.specs.declared.replica.Stamp.{Stamp}
@@ -112,9 +111,6 @@ run_step p e b xs ys all small own within so_far is =
     ap (λ l. l ++ of_part p (told_from e (b + p.shards))) is ∙ append_assoc xs (record { id = b; stamp = e.stamp } ∷ []) (of_part p (told_from e (b + p.shards)))
     ∙ sym (ap (λ l. xs ++ l) (told_next p e b small own within)) ∙ so_far
 
-pub run_end : (p : Part) (e : Entry) (b : ℕ) (xs all : List Told) → e.to < b → xs ++ of_part p (told_from e b) ≡ all → xs ≡ all
-run_end p e b xs all past so_far = sym (nothing xs) ∙ sym (ap (λ l. xs ++ l) (told_past p e b past)) ∙ so_far
-
 -- entry after entry
 pub told_on : (p : Part) (es : List Entry) (i : ℕ) (e : Entry) (xs ys all : List Told) → slice_get es i ≡ Some e → xs ++ of_part p (expanded (drop i es)) ≡ all
     → ys ≡ xs ++ of_part p (told_by e) → ys ++ of_part p (expanded (drop (i + 1) es)) ≡ all
@@ -143,16 +139,3 @@ told_rest p es i e at =
 pub told_out : (p : Part) (es : List Entry) (i : ℕ) → length es ≤ i → of_part p (expanded (drop i es)) ≡ []
 unfolding expanded
 told_out p es i past = ap (λ l. of_part p (expanded l)) (drop_all es i past)
-
--- entries in two parts
-pub told_both : (p : Part) (es fs gs : List Entry) → es ++ fs ≡ gs → told_to p gs ≡ told_to p es ++ told_to p fs
-unfolding expanded
-told_both p es fs gs whole = ap (λ l. of_part p (expanded l)) (sym whole) ∙ ap (of_part p) (flat_map-append told_by es fs) ∙ filter-append _ (expanded es) (expanded fs)
-
-pub told_parts : (p : Part) (es fs gs : List Entry) (xs ys all : List Told) → es ++ fs ≡ gs → ys ≡ xs ++ told_to p es → xs ++ told_to p gs ≡ all → ys ++ told_to p fs ≡ all
-told_parts p es fs gs xs ys all whole is so_far =
-    ap (λ l. l ++ told_to p fs) is ∙ append_assoc xs (told_to p es) (told_to p fs) ∙ ap (λ l. xs ++ l) (sym (told_both p es fs gs whole)) ∙ so_far
-
-pub told_none : (p : Part) (es : List Entry) → es ≡ [] → told_to p es ≡ []
-unfolding expanded
-told_none p es none = ap (told_to p) none

@@ -1,5 +1,5 @@
 -- The stages of a report: the delimiter put, blocks entered, what was not reported swept out, the delimiter taken, lost excess dropped.
-use Rattle.std.proofs.Common.{◌≡◌, ◌≢◌, ℕ, ◌+◌, ◌<◌, ◌≤◌, Bool, true, false, cond, List, [], ◌∷◌, length, map, Option, Some, None, is_some, IsSome, refl, subst, inl, inr, sym, ap, ◌∙◌, arith, eqb, eq-eqb, eqb-true, ne_eqb, add-one}
+use Rattle.std.proofs.Common.{◌≡◌, ◌≢◌, ℕ, ◌<◌, ◌≤◌, Bool, true, false, cond, List, [], ◌∷◌, length, map, Option, Some, None, is_some, IsSome, refl, subst, inl, inr, sym, ap, ◌∙◌, arith, eqb, eq-eqb, eqb-true, ne_eqb}
 use Rattle.std.specs.Prelude.{◌==◌, nat_eq, IsSomeAnd, ◌⊎◌}
 use Rattle.std.specs.List.{list_any}
 use Rattle.std.specs.Option.{option_and_then, option_or}
@@ -15,12 +15,12 @@ use Rattle.bm_base.specs.Events.{report}
 use Rattle.bm_base.proofs.MapLaws.{same_map, get-remove}
 use Rattle.bm_arena.specs.Triplets.{Block}
 use Rattle.bm_base.specs.SlotLists.{Among, Distinct, without}
-use Rattle.bm_arena.specs.Contents.{Contents, block_at, slot_of, marks_at, list_of, find_marks, HasHead, IsLawful, KeepsOthers, KeepsEntries, IsEntry, count_up}
+use Rattle.bm_arena.specs.Contents.{Contents, block_at, slot_of, marks_at, list_of, find_marks, IsLawful, KeepsOthers, KeepsEntries, IsEntry}
 use Rattle.bm_base.proofs.SlotLists.{Among-without, Among-without_other, without-gone, Distinct-without}
 use Rattle.bm_report.specs.declared.types.Named.{Named}
 use Rattle.bm_report.specs.declared.tally.Tally.{Tally}
 use Rattle.bm_arena.specs.Holding.{replicas_of, blocks_of, holdings_of, id_at}
-use Rattle.bm_report.specs.Midway.{after, behind, without_all, slot_in, entered_all, fresh, out_all, lost_excess_out_all, told_of, count_ups, AreHere, HaveRoom, IsOncePerNode, IsExcessGood, IsEntered, IsCounted, IsSwept, DropsLostExcess, IsListed}
+use Rattle.bm_report.specs.Midway.{after, behind, without_all, slot_in, entered_all, fresh, out_all, lost_excess_out_all, told_of, AreHere, HaveRoom, IsOncePerNode, IsExcessGood, IsEntered, IsCounted, IsSwept, DropsLostExcess, IsListed}
 use Rattle.bm_arena.proofs.Held.{get-replicas_of, blocks-kept, one_number}
 use Rattle.bm_arena.proofs.Staying.{entries-chain, entries-others}
 use Rattle.bm_report.proofs.Behind.{Among-after}
@@ -58,10 +58,6 @@ length-without_all (n ∷ ns) l = let rest = length-without_all ns (without n.sl
 sub-without_all : (ns : List Named) (x : ℕ) (l : List ℕ) → Among x (without_all ns l) → Among x l
 sub-without_all [] x l m = m
 sub-without_all (n ∷ ns) x l m = Among-without n.slot x l (sub-without_all ns x (without n.slot l) m)
-
-Distinct-without_all : (ns : List Named) (l : List ℕ) → Distinct l → Distinct (without_all ns l)
-Distinct-without_all [] l d = d
-Distinct-without_all (n ∷ ns) l d = Distinct-without_all ns (without n.slot l) (Distinct-without n.slot l d)
 
 -- the slot of a named block does not stay
 gone-named : (a : Contents) (ns : List Named) (b : ℕ) → AreHere a ns → is_some (last_stamp ns b) ≡ true → (x : ℕ) → slot_of a b ≡ Some x → (l : List ℕ) → Distinct l → Among x (without_all ns l) → ⊥
@@ -222,17 +218,6 @@ module _ (C : Cluster) (s : ℕ) (ns : List Named) (a0 a1 : Contents) (lawful0 :
         let d2 : a0.delimiter ≡ a2.delimiter = sym (entered.frame.delimiter ∙ others1.delimiter) in
         ap (block_at a3) d2 ∙ swept.marker ∙ sym (ap (block_at a2) d2) ∙ ap (block_at a2) d1 ∙ entered.frame.marker ∙ sym (ap (block_at a1) d1)
 
-    pub marked2 : IsSome (marks_at a1 a0.delimiter s) → IsSome (marks_at a2 a2.delimiter s)
-    marked2 some =
-        let d1 : a0.delimiter ≡ a1.delimiter = sym others1.delimiter in
-        let P : Option Block → Type 0 = λ o. IsSome (option_and_then (λ (b : Block). find_marks b.replicas s) o) in
-        subst P (sym (ap (block_at a2) entered.frame.delimiter ∙ entered.frame.marker ∙ sym (ap (block_at a1) d1))) some
-
-    pub marked3 : IsSome (marks_at a1 a0.delimiter s) → IsSome (marks_at a3 a3.delimiter s)
-    marked3 some =
-        let P : Option Block → Type 0 = λ o. IsSome (option_and_then (λ (b : Block). find_marks b.replicas s) o) in
-        subst P (sym (ap (block_at a3) delimiter3 ∙ marker3)) some
-
     module _ (a5 : Contents) (drops : DropsLostExcess s ns a4 a5) where
       pub replicas5 : replicas_of a5 ≡ (report C (holdings_of a0) s (map told_of ns)).replicas
       unfolding holdings_of
@@ -243,22 +228,11 @@ module _ (C : Cluster) (s : ℕ) (ns : List Named) (a0 a1 : Contents) (lawful0 :
       pub blocks5 : blocks_of a5 ≡ blocks_of a0
       blocks5 = drops.blocks ∙ blocks-kept a3 a4 a3.delimiter others4.ids others4.blocks others4.known ∙ swept.blocks ∙ entered.frame.blocks ∙ blocks1
 
-      pub ids5 : a5.ids ≡ a0.ids
-      ids5 = drops.ids ∙ others4.ids ∙ swept.ids ∙ ids2
-
       pub entries5 : KeepsEntries a0 a5
       entries5 =
           entries-chain a0 a1 a5 (entries-others a0 a1 a0.delimiter s others1)
           (entries-chain a1 a2 a5 entered.frame.entries
           (entries-chain a2 a3 a5 swept.entries (entries-chain a3 a4 a5 (entries-others a3 a4 a3.delimiter s others4) drops.entries)))
-
-      pub delimiter5 : a5.delimiter ≡ a0.delimiter
-      delimiter5 = drops.delimiter ∙ others4.delimiter ∙ delimiter3
-
-      pub heads5 : (t : ℕ) → HasHead a0 t → HasHead a5 t
-      heads5 t h =
-          let P : List (ℕ × List ℕ) → Type 0 = λ l. IsSome (lookup (nat_eq t) l) in
-          subst P (sym drops.lists) (others4.heads t (swept.heads t (entered.frame.heads t (others1.heads t h))))
 
       pub free5 : marks_at a0 a0.delimiter s ≡ None → marks_at a4 a3.delimiter s ≡ None → (t : ℕ) → marks_at a5 a5.delimiter t ≡ marks_at a0 a0.delimiter t
       free5 free taken t =
@@ -302,10 +276,6 @@ module _ (C : Cluster) (s : ℕ) (ns : List Named) (a0 a1 : Contents) (lawful0 :
           by : Among slot l0 ⊎ IsEntry a1 slot → Among slot l0 ⊎ IsEntry a0 slot
           by (inl before) = inl before
           by (inr led) = inr (led.0, ap (λ l. lookup (nat_eq led.0) l) (sym others1.ids) ∙ led.1)
-
-      pub rises5 : a1.steps ≡ count_up a0.steps → t1.steps ≡ 1 → ((n : ℕ) → a1.steps ≡ count_ups t1.steps n → a2.steps ≡ count_ups t2.steps n) → a5.steps ≡ count_ups (t3.steps + 1) a0.steps
-      rises5 first one rises =
-          drops.steps ∙ others4.steps ∙ ap count_up (swept.rises a0.steps (rises a0.steps (first ∙ ap (λ k. count_ups k a0.steps) (sym one)))) ∙ ap (λ k. count_ups k a0.steps) (sym (add-one t3.steps))
 
       -- the replicas in the end, by the maps before
       in_the_end : replicas_of a5 ≡ lost_excess_out_all s ns (out_all s bs (entered_all C (blocks_of a0) s ns (replicas_of a0)))

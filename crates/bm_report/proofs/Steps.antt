@@ -7,7 +7,7 @@ use Rattle.bm_base.specs.Map.{get, insert, remove, len}
 use Rattle.bm_base.specs.State.{Cluster, replica_at}
 use Rattle.bm_base.specs.Replicas.{are_sisters}
 use Rattle.bm_base.specs.SlotLists.{Among, without}
-use Rattle.bm_arena.specs.Contents.{Contents, block_at, slot_of, marks_at, list_of, IsLawful, KeepsOthers}
+use Rattle.bm_arena.specs.Contents.{Contents, slot_of, marks_at, list_of, IsLawful, KeepsOthers}
 use Rattle.bm_arena.specs.Holding.{replicas_of}
 use Rattle.bm_report.specs.Midway.{entered_at, behind, IsFramed, IsOncePerNode}
 use Rattle.bm_arena.proofs.Held.{replicas-put, replicas-out}
@@ -55,9 +55,6 @@ module _ (a c : Contents) (s b slot : ℕ) (was : Marks) (lawful : IsLawful a) (
         framed-chain s a c (set_at c slot s m) known-frame
         (framed c (set_at c slot s m) s slot (λ e. known-apart (e ∙ others.delimiter)) refl refl (set-elsewhere c slot s m) (set-known c slot s m) (λ t h. h)
         (is_there (marks_at (set_at c slot s m) slot s) m put) (set-entries c slot s m))
-
-    pub set-elsewhere_too : (other : ℕ) → other ≢ slot → block_at (set_at c slot s m) other ≡ block_at a other
-    set-elsewhere_too other differs = set-elsewhere c slot s m other differs ∙ others.blocks other differs
 
 -- it is not there: linked, and then taken from a sister storage
 module _ (C : Cluster) (a c : Contents) (s b slot : ℕ) (m : Marks) (lawful : IsLawful a) (here : slot_of a b ≡ Some slot) (absent : marks_at a slot s ≡ None)

@@ -70,10 +70,6 @@ listed-push a b slot xs ys others is entry ids =
         in_rest (inl there) = inl (inr there)
         in_rest (inr led) = inr led
 
--- no block changed
-pub listed-same : (a b : Contents) (xs : List ℕ) → b.blocks ≡ a.blocks → b.ids ≡ a.ids → IsListed a b xs xs
-listed-same a b xs same ids = record { same = λ slot out. ap (λ (x : Contents). block_at x slot) (λ i. record b { blocks = same i }); more = λ slot m. m; only = λ slot m. inl m; ids = ids }
-
 -- counting
 
 pub small-next : (C : Cluster) (s k : ℕ) (xs : List Named) (a b : Contents) (t u : Tally) → IsCounted C s xs a b t u → IsSmall t (length xs + k) → IsSmall u k
