@@ -1,0 +1,4 @@
+-- Lemmas.
+pub mod Tests
+pub mod Left
+pub mod Newly

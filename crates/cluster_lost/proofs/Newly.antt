@@ -1,0 +1,103 @@
+-- The lost blocks are those that are missing after the losses and not before.
+use Rattle.std.proofs.Common.{◌≡◌, ℕ, ◌+◌, ◌<◌, Bool, true, false, not, ◌&&◌, ◌||◌, cond, Option, is_some, Some, None, List, [], ◌∷◌, map, filter, take, get_or, length, refl, sym, ap, ◌∙◌, eqb-true}
+use Rattle.std.specs.Prelude.{◌==◌}
+use Rattle.std.specs.List.{list_any}
+use Rattle.std.proofs.lemmas.List.Folds.{list_any_more}
+use Rattle.bm_base.specs.declared.replica.BlockInfo.{BlockInfo}
+use Rattle.bm_base.specs.declared.event.Event.{Event}
+use Rattle.bm_base.specs.Lists.{has}
+use Rattle.bm_base.specs.Map.{Map, by_number, get, insert, entries, keys, contains_key}
+use Rattle.bm_base.specs.State.{Cluster, Holdings, State}
+use Rattle.bm_base.specs.Replicas.{usable}
+use Rattle.bm_base.specs.Queries.{missing_blocks}
+use Rattle.bm_base.proofs.Each.{Each, each_mapped, each_then}
+use Rattle.bm_base.proofs.Maps.{each_entry, passes_entry}
+use Rattle.bm_base.proofs.MapLaws.{get-insert}
+use Rattle.bm_base.proofs.Options.{there, is_there}
+use Rattle.bm_base.proofs.Ties.{number_tie}
+use Rattle.bm_base.proofs.Clusters.{eqb_turned}
+use Rattle.bm_base.proofs.Listed.{any_map, any_filter, filter_filter, same_again}
+use Rattle.cluster_lost.specs.Losses.{after_losses, is_missing, is_lost, has_replica, has_replica_left, lost_blocks, AreMissing}
+use Rattle.cluster_lost.proofs.Tests.{none_if_empty, not_not}
+use Rattle.cluster_lost.proofs.Left.{left_law, blocks_stay, missing_is_unusable}
+
+by_tie : (p : ℕ → Bool) (x b : ℕ) (rest : Bool) (t : Bool) → (x == b) ≡ t → ((p x && t) || (p b && rest)) ≡ (p b && (t || rest))
+by_tie p x b rest true e = ap (λ z. (p z && true) || (p b && rest)) (eqb-true x b e) ∙ both (p b) rest
+  where
+    both : (a c : Bool) → ((a && true) || (a && c)) ≡ (a && true)
+    both true c = refl
+    both false c = refl
+by_tie p x b rest false e = neither (p x) (p b && rest)
+  where
+    neither : (a c : Bool) → ((a && false) || c) ≡ c
+    neither true c = refl
+    neither false c = refl
+
+never : (a : Bool) → false ≡ (a && false)
+never true = refl
+never false = refl
+
+any_tied : (p : ℕ → Bool) (xs : List ℕ) (b : ℕ) → list_any (λ x. p x && (x == b)) xs ≡ (p b && has xs b)
+any_tied p [] b = never (p b)
+any_tied p (x ∷ xs) b = ap (λ z. (p x && (x == b)) || z) (any_tied p xs b) ∙ by_tie p x b (has xs b) (x == b) refl
+
+has_filtered : (p : ℕ → Bool) (xs : List ℕ) (b : ℕ) → has (filter p xs) b ≡ (p b && has xs b)
+has_filtered p xs b = any_filter (λ x. x == b) p xs ∙ any_tied p xs b
+
+filter_each : {X : Type 0} (f g : X → Bool) (xs : List X) → Each (λ x. f x ≡ g x) xs → filter f xs ≡ filter g xs
+filter_each f g [] h = refl
+filter_each f g (x ∷ xs) h = λ i. cond (h.0 i) (x ∷ filter_each f g xs h.1 i) (filter_each f g xs h.1 i)
+
+each_known : (m : Map by_number BlockInfo) → Each (λ b. contains_key m b ≡ true) (keys m)
+unfolding keys
+each_known m = each_mapped (λ b. contains_key m b ≡ true) (λ e. e.0) (entries m) (each_then (λ e. get m e.0 ≡ Some e.1) (λ e. contains_key m e.0 ≡ true) (entries m) (each_entry m) (λ e h. is_there (get m e.0) e.1 h))
+
+has_known : (m : Map by_number BlockInfo) (b : ℕ) → contains_key m b ≡ true → has (keys m) b ≡ true
+unfolding keys
+has_known m b h = let i = there (get m b) h in any_map (λ x. x == b) (λ e. e.0) (entries m) ∙ passes_entry m (λ e. e.0 == b) b i.0 i.1 (same_again b)
+
+and_true : (b : Bool) → (b && true) ≡ b
+and_true true = refl
+and_true false = refl
+
+and_turned : (a b : Bool) → (a && b) ≡ (b && a)
+and_turned true true = refl
+and_turned true false = refl
+and_turned false true = refl
+and_turned false false = refl
+
+module _ (M : State) (es : List Event) (before after : List ℕ) (h : AreMissing M es before after) where
+  abbrev blocks : Map by_number BlockInfo
+  blocks = M.holdings.blocks
+
+  was_missing : (b : ℕ) → contains_key blocks b ≡ true → not (has before b) ≡ has_replica M b
+  unfolding missing_blocks
+  was_missing b known =
+      let i = there (get blocks b) known in
+      ap (λ bs. not (has bs b)) h.missing_before
+      ∙ ap not (has_filtered (is_missing M) (keys blocks) b ∙ ap (λ z. is_missing M b && z) (has_known blocks b known) ∙ and_true (is_missing M b) ∙ missing_is_unusable M b i.0 i.1 (h.lawful.replicated b i.0 i.1).0)
+      ∙ ap not (sym (none_if_empty (usable M.holdings b)))
+
+  pub newly_missing : (known : Map by_number Bool) → ((b : ℕ) → contains_key known b ≡ has before b) → filter (λ b. not (contains_key known b)) after ≡ lost_blocks M es
+  unfolding missing_blocks lost_blocks
+  newly_missing known knows =
+      ap (filter (λ b. not (contains_key known b))) (h.missing_after ∙ ap (λ m. filter (is_missing (after_losses M es)) (keys m)) (blocks_stay M es h.losses))
+      ∙ filter_filter (λ b. not (contains_key known b)) (is_missing (after_losses M es)) (keys blocks)
+      ∙ filter_each (λ b. is_missing (after_losses M es) b && not (contains_key known b)) (is_lost M es) (keys blocks)
+      (each_then (λ b. contains_key blocks b ≡ true) (λ b. (is_missing (after_losses M es) b && not (contains_key known b)) ≡ is_lost M es b) (keys blocks) (each_known blocks)
+      (λ b is. (λ i. left_law M es b h.lawful h.losses is i && (ap not (knows b) ∙ was_missing b is) i) ∙ and_turned (not (has_replica_left M es b)) (has_replica M b)))
+
+-- A set of the first blocks of a list.
+pub one_more : (m : Map by_number Bool) (xs : List ℕ) (i x : ℕ) → ((b : ℕ) → contains_key m b ≡ has (take i xs) b) → i < length xs → get_or xs i x ≡ x
+    → (b : ℕ) → contains_key (insert m x true) b ≡ has (take (i + 1) xs) b
+one_more m xs i x knows low is b =
+    ap is_some (get-insert m x true b ∙ ap (λ t. cond t (Some true) (get m b)) (number_tie b x ∙ eqb_turned b x))
+    ∙ added (x == b) (get m b)
+    ∙ (λ j. knows b j || (sym is j == b))
+    ∙ sym (list_any_more (λ y. y == b) xs i x low)
+  where
+    added : (t : Bool) (z : Option Bool) → is_some (cond t (Some true) z) ≡ (is_some z || t)
+    added true None = refl
+    added true (Some y) = refl
+    added false None = refl
+    added false (Some y) = refl

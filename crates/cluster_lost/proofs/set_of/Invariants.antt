@@ -1,0 +1,7 @@
+use Rattle.std.proofs.Common.{◌≡◌, ℕ, take}
+use Rattle.bm_base.specs.Lists.{has}
+use Rattle.bm_base.specs.Map.{contains_key}
+use Rattle.cluster_lost.proofs.set_of.Given as goal
+
+abbrev pub invariant-loop-block : goal.invariant-loop-block
+invariant-loop-block l = (b : ℕ) → contains_key l.set.map b ≡ has (take l.block-index l.blocks) b

@@ -1,0 +1,2 @@
+-- What is lost with nodes and storages.
+pub mod Losses

@@ -1,0 +1,70 @@
+-- What is lost with nodes and storages, where no round comes between.
+use Rattle.std.specs.Prelude.{◌≡◌, ℕ, Bool, true, false, not, ◌&&◌, ◌==◌, List, filter, length}
+use Rattle.std.specs.List.{fold, list_any}
+use Rattle.bm_base.specs.declared.event.Event.{Event}
+use Rattle.bm_base.specs.declared.event.Event.TheVariants.{Dead, StorageFailed, Drain}
+use Rattle.bm_base.specs.declared.level.Level.TheVariants.{NoUsableReplica}
+use Rattle.bm_base.specs.Map.{keys, contains_key}
+use Rattle.bm_base.specs.State.{Cluster, State}
+use Rattle.bm_base.specs.Replicas.{has_storage, usable}
+use Rattle.bm_base.specs.Levels.{level, is_at}
+use Rattle.bm_base.specs.Queries.{missing_blocks}
+use Rattle.bm_base.specs.Calls.{after_event}
+use Rattle.bm_base.specs.Lawful.{IsLawfulHoldings}
+
+-- whether an event is a loss: a node dies, a storage fails, or a node begins to drain
+abbrev pub is_loss : Event → Bool
+is_loss (Dead n) = true
+is_loss (StorageFailed s) = true
+is_loss (Drain n) = true
+is_loss _ = false
+
+-- whether all of these events are losses
+abbrev pub are_losses : List Event → Bool
+are_losses es = not (list_any (λ e. not (is_loss e)) es)
+
+-- the state after losses, with no round between
+abbrev pub after_losses : State → List Event → State
+after_losses M es = fold after_event M es
+
+-- whether an event takes storage s away
+abbrev pub takes : Cluster → Event → ℕ → Bool
+takes C (Dead n) s = has_storage C n s
+takes C (StorageFailed t) s = s == t
+takes C _ s = false
+
+-- whether one of these events takes storage s away
+abbrev pub is_taken : Cluster → List Event → ℕ → Bool
+is_taken C es s = list_any (λ e. takes C e s) es
+
+-- whether a usable replica of the block is on a storage that stays
+abbrev pub has_replica_left : State → List Event → ℕ → Bool
+has_replica_left M es b = list_any (λ s. not (is_taken M.cluster es s)) (usable M.holdings b)
+
+-- whether the block has a usable replica
+abbrev pub has_replica : State → ℕ → Bool
+has_replica M b = not (length (usable M.holdings b) == 0)
+
+-- whether a block is lost: it has usable replicas, and all of them are on storages that are taken away
+abbrev pub is_lost : State → List Event → ℕ → Bool
+is_lost M es b = has_replica M b && not (has_replica_left M es b)
+
+-- the known blocks that are lost, ascending
+unfoldable pub lost_blocks : State → List Event → List ℕ
+lost_blocks M es = filter (is_lost M es) (keys M.holdings.blocks)
+
+abbrev pub is_missing : State → ℕ → Bool
+is_missing M b = is_at NoUsableReplica (level M.cluster M.holdings b)
+
+-- After losses a known block is missing exactly if no usable replica of it was on a storage that stays.
+abbrev pub missing_has_no_replica_left : Type 0
+missing_has_no_replica_left =
+    (M : State) (es : List Event) (b : ℕ) → IsLawfulHoldings M.cluster M.holdings → are_losses es ≡ true → contains_key M.holdings.blocks b ≡ true
+    → is_missing (after_losses M es) b ≡ not (has_replica_left M es b)
+
+-- these blocks are missing before the losses, and those after them
+pub record AreMissing (M : State) (es : List Event) (before after : List ℕ) : Type 0 where
+  pub lawful : IsLawfulHoldings M.cluster M.holdings
+  pub losses : are_losses es ≡ true
+  pub missing_before : before ≡ missing_blocks M.cluster M.holdings
+  pub missing_after : after ≡ missing_blocks (after_losses M es).cluster (after_losses M es).holdings

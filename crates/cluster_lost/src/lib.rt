@@ -1,0 +1,74 @@
+//! Which blocks are lost with nodes and storages.
+//!
+//! The manager answers which blocks are missing before the losses and after them. [`lost_blocks`] takes the first from the second. Its
+//! contract says what that is in an operator's words: the blocks whose usable replicas were all on what is lost.
+#![tactic(auto)]
+
+ghost use Rattle.std.specs.Prelude.{◌≡◌, List, IfOk, not, filter};
+ghost use Rattle.bm_base.specs.Lists.{has};
+ghost use Rattle.bm_base.specs.Map as map_of;
+ghost use Rattle.bm_base.specs.declared.event.Event.{Event};
+ghost use Rattle.bm_base.specs.State.{State};
+ghost use Rattle.cluster_lost.specs.Losses as law;
+
+use bm_base::{BlockId, Items, NumberMap};
+use std::alloc::{AllocError, Global};
+
+/// After losses with no round between, a known block is missing exactly if no usable replica of it was on a storage that stays.
+pub fn missing_has_no_replica_left()
+    ensures { law.missing_has_no_replica_left }
+{}
+
+/// The lost blocks, ascending, from those that are missing before the losses and after them.
+pub fn lost_blocks(
+    alloc: Global,
+    before: &[BlockId],
+    after: &[BlockId],
+) -> Result<Items<BlockId>, AllocError>
+    ensures { IfOk result (λ lost. (M : State) (es : List Event)
+        → law.AreMissing M es before.now after.now → lost ≡ law.lost_blocks M es) }
+{
+    let known = set_of(alloc, before)?;
+    let lost = new_blocks(alloc, &known, after)?;
+    Ok(Items::from_vec(lost))
+}
+
+/// A set of these blocks, which ascend.
+fn set_of(alloc: Global, blocks: &[BlockId]) -> Result<NumberMap<bool>, AllocError>
+    ensures { IfOk result (λ set. (b : _)
+        → map_of.contains_key set.map b ≡ has blocks.now b) }
+{
+    let mut set = NumberMap::new(alloc);
+    for block in blocks {
+        set.insert(number_of(block), true)?;
+    }
+    Ok(set)
+}
+
+fn number_of(block: &BlockId) -> u64
+    ensures { result ≡ block.now }
+{
+    block.0
+}
+
+/// Those of these blocks that are not in a set.
+fn new_blocks(
+    alloc: Global,
+    set: &NumberMap<bool>,
+    blocks: &[BlockId],
+) -> Result<Vec<BlockId>, AllocError>
+    ensures { IfOk result (λ v. v.items
+        ≡ filter (λ b. not (map_of.contains_key set.now.map b)) blocks.now) }
+{
+    blocks
+        .iter()
+        .filter(|block| is_new(set, block))
+        .copied()
+        .collect(alloc)
+}
+
+fn is_new(set: &NumberMap<bool>, block: &BlockId) -> bool
+    ensures { result ≡ not (map_of.contains_key set.now.map block.now) }
+{
+    set.get(block.0).is_none()
+}
