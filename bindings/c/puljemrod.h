@@ -59,16 +59,29 @@ typedef struct puljemrod_options {
 
 #define PULJEMROD_STANDARD {1, 2, 1000, 100, 0, 0, 0}
 
-/* A code of a call. 1 to 15, 20 and 21 are the numbers of the refusals in docs/FORMATS.md. */
+/* A code of a call. 1 to 15, 20 and 21 are refusals, with the numbers and names of docs/FORMATS.md. */
 enum {
     PULJEMROD_OK = 0,
-    PULJEMROD_MEMORY = 14,     /* memory was refused; nothing is changed, and the call may be made again */
-    PULJEMROD_BAD_CONFIG = 15, /* an option is outside its range */
-    PULJEMROD_BAD_LINE = 20,   /* the line asks for no call */
-    PULJEMROD_LONG_LINE = 21,  /* the line has more than 4,194,304 bytes */
-    PULJEMROD_CLOSED = 32,     /* the handle is closed */
-    PULJEMROD_OPEN = 33,       /* the handle is open already */
-    PULJEMROD_NO_TEXT = 34     /* the line is answered, and memory was refused for its text: puljemrod_text */
+    PULJEMROD_UNKNOWN_NODE = 1,    /* the node is not alive */
+    PULJEMROD_NODE_KNOWN = 2,      /* the node is alive already */
+    PULJEMROD_UNKNOWN_STORAGE = 3, /* the storage is not known */
+    PULJEMROD_STORAGE_KNOWN = 4,   /* a storage is known already, or occurs twice */
+    PULJEMROD_UNKNOWN_BLOCK = 5,   /* the block is not known */
+    PULJEMROD_BLOCK_KNOWN = 6,     /* the block is known already */
+    PULJEMROD_STILL_STORED = 7,    /* a stray replica of the block's number is still stored */
+    PULJEMROD_BAD_REPLICATION = 8, /* not between 1 and 16 */
+    PULJEMROD_OLD_GENERATION = 9,  /* the generation is not greater than the block's */
+    PULJEMROD_TOO_MANY = 10,       /* past 256 nodes, 4,096 storages, or 65,536 entries or 1,048,576 blocks in a report */
+    PULJEMROD_NOT_ITS_STORAGE = 11, /* a storage is on another node */
+    PULJEMROD_ROUNDS_SPENT = 12,   /* the round number has its last value */
+    PULJEMROD_CALLS_SPENT = 13,    /* the number of accepted calls has its last value */
+    PULJEMROD_MEMORY = 14,         /* memory was refused; nothing is changed, and the call may be made again */
+    PULJEMROD_BAD_CONFIG = 15,     /* an option is outside its range */
+    PULJEMROD_BAD_LINE = 20,       /* the line asks for no call */
+    PULJEMROD_LONG_LINE = 21,      /* the line has more than 4,194,304 bytes */
+    PULJEMROD_CLOSED = 32,         /* the handle is closed */
+    PULJEMROD_OPEN = 33,           /* the handle is open already */
+    PULJEMROD_NO_TEXT = 34         /* the line is answered, and memory was refused for its text: puljemrod_text */
 };
 
 /* Opens a closed handle: a manager with no node and no block, and an empty answer.
@@ -77,7 +90,7 @@ enum {
 uint32_t puljemrod_open(puljemrod *handle, const puljemrod_options *options);
 
 /* Answers a line of `line_len` bytes without a line end. The handle keeps the answer, and the answer before
- * is gone.
+ * is gone. There is no limit on the number of lines.
  *
  * PULJEMROD_OK, or the number of a refusal: the state and the answer are the definition's, and the answer is a
  * text of `*answer_len` bytes, also where it is a refusal. A refused line changes nothing.
@@ -86,9 +99,10 @@ uint32_t puljemrod_open(puljemrod *handle, const puljemrod_options *options);
  * PULJEMROD_CLOSED: the handle is closed; `*answer_len` is as it was. */
 uint32_t puljemrod_line(puljemrod *handle, const void *line, size_t line_len, size_t *answer_len);
 
-/* Makes the text of the last answer, where it is not made: memory was refused for it, or the call was an event
- * by a function of its own. Returns what the call returned; or PULJEMROD_NO_TEXT, where memory is refused.
- * Where there is a text already it is kept. It changes no state. PULJEMROD_CLOSED where the handle is closed. */
+/* Makes the text of the last answer, where it is not made: memory was refused for it, or the call was made by a
+ * function of its own. Returns what the call returned; or PULJEMROD_NO_TEXT, where memory is refused.
+ * Where there is a text already it is kept. It changes no state. PULJEMROD_CLOSED where the handle is closed;
+ * `*answer_len` is as it was. */
 uint32_t puljemrod_text(puljemrod *handle, size_t *answer_len);
 
 /* Copies the text of the last answer, without a line end, from byte `from` on: as many bytes as there are, at

@@ -7,7 +7,8 @@
 #include <stdlib.h>
 #include <string.h>
 
-enum { LONGEST = 4194304, OPENS = 1000 };
+/* LINES is what a run of the line tool reads at most; the library has no such limit. */
+enum { LONGEST = 4194304, OPENS = 1000, LINES = 1048576 };
 
 static unsigned passed, failed;
 
@@ -169,6 +170,16 @@ static void longest_line(void) {
           "a line that is too long");
     puljemrod_close(&h);
     free(line);
+}
+
+static void more_lines_than_the_tool(void) {
+    puljemrod h = PULJEMROD_CLOSED_HANDLE;
+    size_t len;
+    bool are = puljemrod_open(&h, &standard) == PULJEMROD_OK;
+    for (unsigned n = 0; n <= LINES; n++)
+        are = take(&h, &rows[7], &len) == rows[7].code && are;
+    check(are && is_answered(&h, &rows[0]), "more lines than the tool reads");
+    puljemrod_close(&h);
 }
 
 /* ---- events by functions of their own */
@@ -490,6 +501,7 @@ int main(void) {
     options_are_taken();
     pieces_of_an_answer();
     longest_line();
+    more_lines_than_the_tool();
     events();
     counts_of_events();
     questions();

@@ -1,13 +1,11 @@
-//! The steps of `crates/manager_benchmark`, in its order and as often. Standard output tells what
-//! was done, in its words; standard error has a line for each figure.
+//! The steps that are measured, the same for each manager. Standard output has what was done;
+//! standard error has a line for each figure.
 
-use plain::cluster::Refusal;
-use plain::lists::Form;
-use plain::manager::{Done, Limits, Manager};
-use plain::report::Entry;
+use crate::measured::Measured;
+use plain::manager::Done;
 use plain::workload::{
     block_number, drawn_block, drawn_free, drawn_node, drawn_replicas, reports, shuffle,
-    storages_of, storages_of_node, NODES, NODES_OF_RACK, STAMP,
+    storages_of, storages_of_node, NODES, NODES_OF_RACK,
 };
 use std::fs;
 
@@ -67,23 +65,20 @@ fn often(blocks: u64) -> Often {
     }
 }
 
-struct Bench<F: Form> {
+struct Bench<M: Measured> {
     blocks: u64,
-    manager: Manager<F>,
+    manager: M,
     added: u64,
     removed: u64,
     transfers: usize,
     deletes: usize,
 }
 
-type Accepted = Result<Done, Refusal>;
-
-impl<F: Form> Bench<F> {
+impl<M: Measured> Bench<M> {
     fn new(blocks: u64) -> Self {
-        let mut manager = Manager::new(Limits::default());
+        let mut manager = M::new();
         for node in 0..NODES {
-            let storages = storages_of_node(node);
-            accept(manager.register(node, node / NODES_OF_RACK, &storages));
+            manager.register(node, node / NODES_OF_RACK, &storages_of_node(node));
         }
         Bench {
             blocks,
@@ -95,8 +90,7 @@ impl<F: Form> Bench<F> {
         }
     }
 
-    fn count(&mut self, accepted: Accepted) {
-        let done = accept(accepted);
+    fn count(&mut self, done: Done) {
         self.added += done.added;
         self.removed += done.removed;
     }
@@ -108,10 +102,10 @@ impl<F: Form> Bench<F> {
         now() - start
     }
 
-    fn report_all(&mut self, reports: &[(u32, Vec<Entry>)]) {
-        for (storage, entries) in reports {
-            let accepted = self.manager.report(*storage, entries);
-            self.count(accepted);
+    fn report_all(&mut self, reports: &[M::Report]) {
+        for report in reports {
+            let done = self.manager.report(report);
+            self.count(done);
         }
     }
 
@@ -119,7 +113,7 @@ impl<F: Form> Bench<F> {
     fn report_in_turn(
         &mut self,
         passes: usize,
-        turns: [&[(u32, Vec<Entry>)]; 2],
+        turns: [&[M::Report]; 2],
         text: &str,
         figure: &str,
     ) {
@@ -143,10 +137,9 @@ impl<F: Form> Bench<F> {
     }
 
     fn round(&mut self) {
-        for (_, commands) in self.manager.round() {
-            self.transfers += commands.transfers.len();
-            self.deletes += commands.deletes.len();
-        }
+        let commanded = self.manager.round();
+        self.transfers += commanded.transfers;
+        self.deletes += commanded.deletes;
     }
 
     fn tell_rounds(&mut self, text: &str) {
@@ -170,14 +163,14 @@ impl<F: Form> Bench<F> {
 
     fn add_all(&mut self) {
         for i in 0..self.blocks {
-            let accepted = self.manager.add(block_number(i), STAMP, 3);
-            self.count(accepted);
+            let done = self.manager.add(block_number(i));
+            self.count(done);
         }
     }
 
     fn measure_reports(&mut self, passes: usize) {
-        let own_order = reports(self.blocks, true);
-        let ascending = reports(self.blocks, false);
+        let own_order = made_reports::<M>(self.blocks, true);
+        let ascending = made_reports::<M>(self.blocks, false);
         let nanos = self.time(|it| it.report_all(&own_order));
         self.tell_report("first reports");
         let replicas = 3 * self.blocks;
@@ -213,14 +206,14 @@ impl<F: Form> Bench<F> {
         for _ in 0..cycles {
             times[0].push(self.time(|it| {
                 for (id, storage) in &deleted {
-                    let accepted = it.manager.deleted(*storage, *id);
-                    it.count(accepted);
+                    let done = it.manager.deleted(*id, *storage);
+                    it.count(done);
                 }
             }));
             times[1].push(self.time(|it| {
                 for (id, storage) in &received {
-                    let accepted = it.manager.received(*storage, *id, STAMP);
-                    it.count(accepted);
+                    let done = it.manager.received(*id, *storage);
+                    it.count(done);
                 }
             }));
         }
@@ -240,7 +233,7 @@ impl<F: Form> Bench<F> {
             (places, sum) = (0, 0);
             times.push(self.time(|it| {
                 for id in &drawn {
-                    for storage in accept(it.manager.places(*id)) {
+                    for storage in it.manager.places(*id) {
                         places += 1;
                         sum += u64::from(storage);
                     }
@@ -254,18 +247,17 @@ impl<F: Form> Bench<F> {
     fn measure_heartbeats(&mut self, beats: u64) {
         let mut times = Vec::new();
         for turn in 0..6 {
-            let made: Vec<_> = (0..beats).map(|k| beat(turn, k)).collect();
+            let made: Vec<M::Beat> = (0..beats).map(|k| beat::<M>(turn, k)).collect();
             times.push(self.time(|it| {
-                for (node, free) in &made {
-                    let accepted = it.manager.heartbeat(*node, free);
-                    it.count(accepted);
+                for beat in &made {
+                    it.manager.heartbeat(beat);
                 }
             }));
         }
         self.put_rate("d_heartbeats_per_s", beats, median(&times));
         for node in 0..NODES {
             let free = storages_of_node(node).map(|it| (it, drawn_free(it)));
-            accept(self.manager.heartbeat(node, &free));
+            self.manager.heartbeat(&M::make_beat(node, free.to_vec()));
         }
     }
 
@@ -274,8 +266,8 @@ impl<F: Form> Bench<F> {
         self.tell_rounds("idle rounds");
         self.put_millis("e_idle_round_ms", median(&times));
         let nanos = self.time(|it| {
-            let accepted = it.manager.dead(DEAD);
-            it.count(accepted);
+            let done = it.manager.dead(DEAD);
+            it.count(done);
         });
         println!("death of a node: removed {}", self.removed);
         self.forget();
@@ -298,9 +290,10 @@ impl<F: Form> Bench<F> {
     }
 }
 
-/// The calls of the workload are never refused.
-fn accept<T>(answer: Result<T, Refusal>) -> T {
-    answer.unwrap_or_else(|refusal| panic!("refused: {refusal:?}"))
+fn made_reports<M: Measured>(blocks: u64, is_shuffled: bool) -> Vec<M::Report> {
+    let reports = reports(blocks, is_shuffled).into_iter();
+    let made = reports.map(|(storage, entries)| M::make_report(storage, entries));
+    made.collect()
 }
 
 fn median(times: &[u64]) -> u64 {
@@ -310,18 +303,18 @@ fn median(times: &[u64]) -> u64 {
 }
 
 /// A heartbeat of a node that is drawn, with other numbers in each turn.
-fn beat(turn: u64, k: u64) -> (u32, Vec<(u32, u64)>) {
+fn beat<M: Measured>(turn: u64, k: u64) -> M::Beat {
     let node = drawn_node(k);
     let moment = turn * 1000 + (k >> 8);
     let free = (1 << 42) + (u64::from(node) << 20) + moment * 7;
     let storages = storages_of_node(node).into_iter();
-    (node, storages.zip(free..).collect())
+    M::make_beat(node, storages.zip(free..).collect())
 }
 
-pub fn calls<F: Form>(blocks: u64) {
+pub fn calls<M: Measured>(blocks: u64) {
     let often = often(blocks);
-    let mut bench: Bench<F> = Bench::new(blocks);
-    println!("manager: {blocks} blocks, shards 1, workers 1");
+    let mut bench: Bench<M> = Bench::new(blocks);
+    println!("manager: {blocks} blocks");
     let nanos = bench.time(Bench::add_all);
     bench.put_rate("add_per_s", blocks, nanos);
     bench.measure_reports(often.passes);
@@ -332,15 +325,15 @@ pub fn calls<F: Form>(blocks: u64) {
 }
 
 /// What a manager holds in memory whose replicas came one by one.
-pub fn memory<F: Form>(blocks: u64) {
+pub fn memory<M: Measured>(blocks: u64) {
     let held = resident_bytes();
-    let mut bench: Bench<F> = Bench::new(blocks);
+    let mut bench: Bench<M> = Bench::new(blocks);
     for i in 0..blocks {
         let id = block_number(i);
-        accept(bench.manager.add(id, STAMP, 3));
+        bench.manager.add(id);
         for storage in storages_of(i) {
-            let accepted = bench.manager.received(storage, id, STAMP);
-            bench.count(accepted);
+            let done = bench.manager.received(id, storage);
+            bench.count(done);
         }
     }
     let grown = resident_bytes().saturating_sub(held);

@@ -10,14 +10,21 @@ pub struct Entry {
     pub len: u64,
 }
 
+/// The free bytes of a storage.
+#[repr(C)]
+#[derive(Clone, Copy, Debug, PartialEq, Eq)]
+pub struct Remaining {
+    pub storage: u32,
+    pub remaining: u64,
+}
+
 /// An event; docs/FORMATS.md says what each means.
 #[derive(Clone, Debug, PartialEq, Eq)]
 pub enum Event {
     Register { node: u32, rack: u32, storages: Vec<u32> },
     Drain { node: u32 },
     Undrain { node: u32 },
-    /// Free bytes, as pairs of storage and bytes.
-    Heartbeat { node: u32, remaining: Vec<(u32, u64)> },
+    Heartbeat { node: u32, remaining: Vec<Remaining> },
     Dead { node: u32 },
     StorageFailed { storage: u32 },
     Add { id: u64, gen: u64, len: u64, repl: u32 },

@@ -20,5 +20,5 @@ mod events;
 mod library;
 
 pub use answers::{Command, Commands, Done, Replica, Tag};
-pub use events::{Entry, Event};
+pub use events::{Entry, Event, Remaining};
 pub use library::{Error, Manager, Options};

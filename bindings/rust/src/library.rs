@@ -1,7 +1,7 @@
 //! The C library: a handle, its lines, and its codes.
 
 use crate::answers::{Command, Commands, Done, Replica, Tag};
-use crate::events::{Entry, Event};
+use crate::events::{Entry, Event, Remaining};
 use std::fmt;
 use std::ptr;
 
@@ -48,7 +48,7 @@ extern "C" {
     fn puljemrod_storage_failed(handle: *mut Handle, storage: u32) -> u32;
     fn puljemrod_drain(handle: *mut Handle, node: u32) -> u32;
     fn puljemrod_undrain(handle: *mut Handle, node: u32) -> u32;
-    fn puljemrod_heartbeat(handle: *mut Handle, node: u32, remaining: *const RemainingRow, len: usize) -> u32;
+    fn puljemrod_heartbeat(handle: *mut Handle, node: u32, remaining: *const Remaining, len: usize) -> u32;
     fn puljemrod_add_block(handle: *mut Handle, id: u64, generation: u64, len: u64, repl: u32) -> u32;
     fn puljemrod_delete_block(handle: *mut Handle, id: u64) -> u32;
     fn puljemrod_set_replication(handle: *mut Handle, id: u64, repl: u32) -> u32;
@@ -72,12 +72,6 @@ extern "C" {
     fn puljemrod_round(handle: *mut Handle, round: *mut u64, copies: *mut u64, deletes: *mut u64) -> u32;
     fn puljemrod_copies(handle: *mut Handle, from: usize, out: *mut CopyRow, len: usize) -> usize;
     fn puljemrod_deletes(handle: *mut Handle, from: usize, out: *mut DeleteRow, len: usize) -> usize;
-}
-
-#[repr(C)]
-struct RemainingRow {
-    storage: u32,
-    remaining: u64,
 }
 
 #[repr(C)]
@@ -157,9 +151,7 @@ unsafe fn apply(handle: *mut Handle, event: &Event) -> u32 {
             Event::Drain { node } => puljemrod_drain(handle, node),
             Event::Undrain { node } => puljemrod_undrain(handle, node),
             Event::Heartbeat { node, ref remaining } => {
-                let row = |&(storage, remaining): &(u32, u64)| RemainingRow { storage, remaining };
-                let rows: Vec<RemainingRow> = remaining.iter().map(row).collect();
-                puljemrod_heartbeat(handle, node, rows.as_ptr(), rows.len())
+                puljemrod_heartbeat(handle, node, remaining.as_ptr(), remaining.len())
             }
             Event::Dead { node } => puljemrod_dead(handle, node),
             Event::StorageFailed { storage } => puljemrod_storage_failed(handle, storage),

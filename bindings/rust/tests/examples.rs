@@ -1,7 +1,7 @@
 //! The worked examples of the repository, line by line, and each typed call on a small cluster whose answers were
 //! worked out by hand.
 
-use puljemrod::{Command, Commands, Done, Entry, Event, Manager, Options, Replica, Tag};
+use puljemrod::{Command, Commands, Done, Entry, Event, Manager, Options, Remaining, Replica, Tag};
 use std::fs;
 use std::path::Path;
 
@@ -32,7 +32,8 @@ fn cluster() -> Manager {
     for (node, rack, storage) in [(1, 1, 11), (2, 1, 21), (3, 2, 31)] {
         manager.apply(&Event::Register { node, rack, storages: vec![storage] }).unwrap();
     }
-    manager.apply(&Event::Heartbeat { node: 2, remaining: vec![(21, 1000)] }).unwrap();
+    let remaining = vec![Remaining { storage: 21, remaining: 1000 }];
+    manager.apply(&Event::Heartbeat { node: 2, remaining }).unwrap();
     manager.apply(&Event::Add { id: 7, gen: 1, len: 64, repl: 2 }).unwrap();
     for storage in [11, 31] {
         let done = manager.apply(&Event::Received { storage, id: 7, gen: 1, len: 64 }).unwrap();

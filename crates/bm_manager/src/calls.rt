@@ -102,10 +102,26 @@ impl Manager {
         ensures unchanged { OnErr result (self.new ≡ self.old) }
         ensures lawful { IsLawful self.new }
     {
+        let workers = Threaded::new(rt, gate, self.config.workers as usize);
+        self.answer_all_by(&workers, calls)
+    }
+
+    /// Makes the calls one after another by these workers.
+    pub(crate) fn answer_all_by<W: Workers>(
+        &mut self,
+        workers: &W,
+        calls: &[Call],
+    ) -> Result<Items<Answer>, AllocError>
+        ensures answers { IfOk result (λ answers. MayAnswerAll step self.old calls.now answers) }
+        ensures state { IfOk result
+            (λ answers. self.new ≡ state_left_by step self.old calls.now answers) }
+        ensures unchanged { OnErr result (self.new ≡ self.old) }
+        ensures lawful { IsLawful self.new }
+    {
         self.lawful();
         let mut answers = Vec::with_capacity(self.alloc, calls.len())?;
         for call in calls {
-            let answer = self.answer(rt, gate, call);
+            let answer = self.answer_by(workers, call);
             let _ = answers.push(answer);
         }
         self.lawful();

@@ -8,5 +8,5 @@ mod manager;
 mod publishing;
 mod round;
 
-pub use alike::answers_alike;
+pub use alike::{answers_alike, answers_alike_alone};
 pub use manager::Manager;

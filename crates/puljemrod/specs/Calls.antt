@@ -51,6 +51,7 @@ pub record IsAsked (M : State) (asks : Asked) (k : Kept) : Type 0 where
   pub state : k.manager ≡ asked_next M asks
   pub number : k.number ≡ number_of (answer_to M asks)
   pub answer : k.answer ≡ Some (answer_to M asks)
+  pub no_text : k.text.items ≡ []
   pub no_memory : k.number ≡ MEMORY → ⊥
 
 -- a line is answered as the definition says, and the state is the one after it
@@ -60,13 +61,14 @@ pub record IsAnswered (M : State) (line : List ℕ) (k : Kept) : Type 0 where
   pub text : last_text k ≡ line_text M line
   pub no_memory : k.number ≡ MEMORY → ⊥
 
--- The text can be copied out, and the code is the number of the answer; or memory was refused for the text.
-abbrev pub IsTold : Kept → ℕ → ℕ → Type 0
-IsTold k code len = ((code ≡ k.number) × (k.answer ≡ None) × (len ≡ length k.text.items)) ⊎ ((code ≡ NO_TEXT) × (len ≡ 0))
+-- The text can be copied out, and the code is the number of the answer; or memory was refused for the text, and what
+-- can be copied out is as before.
+abbrev pub IsTold : List ℕ → Kept → ℕ → ℕ → Type 0
+IsTold before k code len = ((code ≡ k.number) × (k.answer ≡ None) × (len ≡ length k.text.items)) ⊎ ((code ≡ NO_TEXT) × (len ≡ 0) × (k.text.items ≡ before))
 
 -- A call on a line: memory was refused, and nothing is changed; or the line is answered.
 abbrev pub IsLine : Kept → List ℕ → Kept → ℕ → ℕ → Type 0
-IsLine k line now code len = ((code ≡ MEMORY) × (now ≡ k) × (len ≡ 0)) ⊎ (IsAnswered k.manager line now × IsTold now code len)
+IsLine k line now code len = ((code ≡ MEMORY) × (now ≡ k) × (len ≡ 0)) ⊎ (IsAnswered k.manager line now × IsTold [] now code len)
 
 -- A call by its own function: memory was refused, and nothing is changed; or the call is made as the definition says.
 abbrev pub IsCall : Kept → Call → Kept → ℕ → Type 0
@@ -77,17 +79,17 @@ pub record IsText (k now : Kept) (code len : ℕ) : Type 0 where
   pub state : now.manager ≡ k.manager
   pub number : now.number ≡ k.number
   pub text : last_text now ≡ last_text k
-  pub told : IsTold now code len
+  pub told : IsTold k.text.items now code len
 
--- what a call makes of a closed handle, and of an open one
+-- what a call makes of a closed handle, whose length of an answer stays as it was, and of an open one
 
-abbrev pub AfterLine : Option Kept → List ℕ → Option Kept → ℕ → ℕ → Type 0
-AfterLine None line now code len = (code ≡ CLOSED) × (now ≡ None)
-AfterLine (Some k) line now code len = (n : Kept) × (now ≡ Some n) × IsLine k line n code len
+abbrev pub AfterLine : Option Kept → List ℕ → Option Kept → ℕ → ℕ → ℕ → Type 0
+AfterLine None line now code before len = (code ≡ CLOSED) × (now ≡ None) × (len ≡ before)
+AfterLine (Some k) line now code before len = (n : Kept) × (now ≡ Some n) × IsLine k line n code len
 
-abbrev pub AfterText : Option Kept → Option Kept → ℕ → ℕ → Type 0
-AfterText None now code len = (code ≡ CLOSED) × (now ≡ None)
-AfterText (Some k) now code len = (n : Kept) × (now ≡ Some n) × IsText k n code len
+abbrev pub AfterText : Option Kept → Option Kept → ℕ → ℕ → ℕ → Type 0
+AfterText None now code before len = (code ≡ CLOSED) × (now ≡ None) × (len ≡ before)
+AfterText (Some k) now code before len = (n : Kept) × (now ≡ Some n) × IsText k n code len
 
 abbrev pub AfterCall : Option Kept → Call → Option Kept → ℕ → Type 0
 AfterCall None c now code = (code ≡ CLOSED) × (now ≡ None)

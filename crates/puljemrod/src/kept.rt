@@ -1,5 +1,5 @@
 // What an open handle leads to.
-ghost use Rattle.std.specs.Prelude.{◌≡◌, true, None, IfOk, IfErr, OnOk, OnErr};
+ghost use Rattle.std.specs.Prelude.{◌≡◌, [], true, None, IfOk, IfErr, OnOk, OnErr};
 ghost use Rattle.bm_base.specs.Configuration.{config_refusal};
 ghost use Rattle.bm_base.specs.Answering.{Refuses};
 ghost use Rattle.puljemrod.specs.Calls.{config_of, last_text, IsFirst, IsAsked, IsAnswered, IsLine, IsCall, IsText};
@@ -54,6 +54,7 @@ pub fn take_line(alloc: Global, kept: &mut Kept, line: &[u8], answer_len: &mut u
 
 fn answer_line(alloc: Global, kept: &mut Kept, line: &[u8]) -> Result<(), AllocError>
     ensures answered { OnOk result (IsAnswered kept.old.manager line.now kept.new) }
+    ensures no_text { OnOk result (kept.new.text.items ≡ []) }
     ensures unchanged { OnErr result (kept.new ≡ kept.old) }
 {
     let asked = asked_of(alloc, line)?;
@@ -105,6 +106,7 @@ fn try_text(alloc: Global, kept: &mut Kept) -> Result<(), AllocError>
     ensures number { kept.new.number ≡ kept.old.number }
     ensures text { last_text kept.new ≡ last_text kept.old }
     ensures made { OnOk result (kept.new.answer ≡ None) }
+    ensures not_made { OnErr result (kept.new.text.items ≡ kept.old.text.items) }
 {
     if let Some(answer) = &kept.answer {
         let text = answer.text(alloc)?;

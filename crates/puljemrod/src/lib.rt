@@ -60,7 +60,7 @@ pub extern "C" fn puljemrod_line(
     line: &[u8],
     answer_len: &mut usize,
 ) -> u32
-    ensures { AfterLine slot.old.handle.kept line.now slot.new.handle.kept result answer_len.new }
+    ensures { AfterLine slot.old.handle.kept line.now slot.new.handle.kept result answer_len.old answer_len.new }
 {
     let Some(mut kept) = slot.take(alloc) else {
         return CLOSED;
@@ -73,7 +73,7 @@ pub extern "C" fn puljemrod_line(
 /// Makes the text of the last answer, if it is not made; returns the code of the call that was answered.
 #[unsafe(no_mangle)]
 pub extern "C" fn puljemrod_text(alloc: Global, slot: &mut Slot, answer_len: &mut usize) -> u32
-    ensures { AfterText slot.old.handle.kept slot.new.handle.kept result answer_len.new }
+    ensures { AfterText slot.old.handle.kept slot.new.handle.kept result answer_len.old answer_len.new }
 {
     let Some(mut kept) = slot.take(alloc) else {
         return CLOSED;

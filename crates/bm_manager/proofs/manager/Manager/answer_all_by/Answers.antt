@@ -1,8 +1,8 @@
 use Rattle.std.proofs.Common.{◌≡◌, ◌≤◌, length, [], ◌++◌, ap, sym, subst, ◌∙◌, append-nil, drop, drop_of_length-le, arith}
 use Rattle.bm_base.specs.Answering.{MayAnswerAll, state_left_by}
 use Rattle.bm_base.specs.Calls.{step}
-use Rattle.bm_manager.proofs.manager.Manager.answer_all.Given.{Over}
-use Rattle.bm_manager.proofs.manager.Manager.answer_all.Goals as goal
+use Rattle.bm_manager.proofs.manager.Manager.answer_all_by.Given.{Over}
+use Rattle.bm_manager.proofs.manager.Manager.answer_all_by.Goals as goal
 
 -- the answers that are given are those so far
 given : (g : Over) (c : goal.After-from_vec g) → c.loop-call.answers.items ++ [] ≡ c.from_vec.result
