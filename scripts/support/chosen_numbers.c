@@ -4,11 +4,10 @@
 //     chosen_numbers FIRST COUNT STEP SHIFT BITS TAG
 //
 // prints COUNT numbers, one a line, ascending from FIRST by multiples of STEP. Of the 32 bits of their hashes BITS from SHIFT on are
-// zero, and the highest eight are TAG, so that a look-up compares each of them; where TAG is 256 these may be any.
+// zero, and the highest eight are TAG, so that a look-up compares each of them.
 //
 // The hash is that of `FoldHasher` and `IndexMap`: a product of 128 bits, folded to 64 and to 32. A table takes the lowest bits for the
-// group. So in a table of 2^G groups, where G is SHIFT + BITS,
-// all of them share one 2^BITS-th of the groups.
+// group. So in a table of 2^G groups, where G is SHIFT + BITS, all of these numbers share one 2^BITS-th of the groups.
 #include <stdint.h>
 #include <stdio.h>
 #include <stdlib.h>
@@ -27,7 +26,7 @@ int main(int count, char **words) {
     uint32_t tag = (uint32_t)atol(words[6]);
     for (; left > 0; number += step) {
         uint32_t hash = hash_of(number);
-        if ((hash >> shift & ((1u << bits) - 1)) == 0 && (tag > 255 || hash >> 24 == tag)) {
+        if ((hash >> shift & ((1u << bits) - 1)) == 0 && hash >> 24 == tag) {
             printf("%llu\n", (unsigned long long)number);
             left--;
         }
