@@ -7,7 +7,7 @@ use Rattle.bm_base.specs.declared.replica.Marks.{Marks}
 use Rattle.bm_base.specs.Map.{Map, get, empty, insert, keep, revise, entries}
 use Rattle.bm_base.specs.State.{Cluster, Holdings, by_replica, replica_at}
 use Rattle.bm_base.specs.SlotLists.{Among, Distinct}
-use Rattle.bm_base.specs.Lists.{has}
+use Rattle.bm_base.specs.Lists.{has, has_repeats}
 use Rattle.bm_base.specs.Replicas.{storages_where, is_live_on}
 use Rattle.bm_base.specs.Excess.{without_expired, counted_again, without_unordered_excess, excess_of, excess_in, marked}
 use Rattle.bm_base.specs.RoundParts.{started_holdings}
@@ -15,6 +15,7 @@ use Rattle.bm_base.proofs.MapLaws.{same_map, get-empty, get-insert, get-keep, ge
 use Rattle.bm_base.proofs.Ties.{replica_tie}
 use Rattle.bm_base.proofs.Clusters.{eqb_turned}
 use Rattle.bm_base.proofs.Listed.{filter_filter}
+use Rattle.bm_base.proofs.Stands.{once_where}
 use Rattle.bm_arena.specs.Triplets.{Block}
 use Rattle.bm_arena.specs.Contents.{Contents, block_at, slot_of, find_marks, IsLawful}
 use Rattle.bm_arena.specs.Holding.{replicas_at}
@@ -115,6 +116,20 @@ module _ (a : Contents) (pending : Map by_replica ℕ) (lawful : IsLawful a) (b 
       sym (kept_revised U.replicas (λ q. q.block == b) (λ q m. marked_if (has (excess_in C U q.block) q.storage) m) (λ q m. marked_if (has (excess_in C U b) q.storage) m)
       (λ q x e. ap (λ c. marked_if (has (excess_in C U c) q.storage) x) (eqb-true q.block b e)))
 
+-- what is counted again of a block are its own replicas
+own_of : (a : Contents) (C : Cluster) (b slot : ℕ) (m : Map by_replica Marks) → IsLawful a → slot_of a b ≡ Some slot → m ≡ put_on b empty (replicas_at a slot)
+    → (pend r : ℕ) (pending : Map by_replica ℕ) → m ≡ own_replicas (without_unordered_excess (without_expired pend r (holdings_with a pending))) b
+own_of a C b slot m lawful here counted pend r pending =
+    let found = lawful.found b slot here in
+    counted ∙ ap (λ o. put_on b empty (option_map_or (λ (z : Block). z.replicas) o [])) found.2 ∙ own_counted a pending lawful b slot found.1 here found.2 C pend r
+
+-- each storage is listed once
+pub storages_once : (a : Contents) (C : Cluster) (b slot : ℕ) (m : Map by_replica Marks) → IsLawful a → slot_of a b ≡ Some slot → m ≡ put_on b empty (replicas_at a slot)
+    → (p : ℕ → Marks → Bool) → has_repeats (storages_in p (entries m)) ≡ false
+storages_once a C b slot m lawful here counted p =
+    let H : Holdings = without_unordered_excess (without_expired 0 0 (holdings_with a empty)) in
+    ap (λ n. has_repeats (storages_in p (entries n))) (own_of a C b slot m lawful here counted 0 0 empty) ∙ ap has_repeats (storages_own p H b) ∙ once_where p H b
+
 -- a look that was made of these parts
 pub look_is : (a : Contents) (C : Cluster) (l : Look) (slot : ℕ) (m : Map by_replica Marks) → IsLawful a → slot_of a l.id ≡ Some slot
     → m ≡ put_on l.id empty (replicas_at a slot) → l.info ≡ option_and_then (λ (k : Block). k.info) (block_at a slot)
@@ -124,8 +139,7 @@ look_is a C l slot m lawful here counted info excess replicas pend r pending =
     let found = lawful.found l.id slot here in
     let k : Block = found.1 in
     let stands : block_at a slot ≡ Some k = found.2 in
-    let own : m ≡ own_replicas (U a pending lawful l.id slot k here stands C pend r) l.id =
-    counted ∙ ap (λ o. put_on l.id empty (option_map_or (λ (z : Block). z.replicas) o [])) stands ∙ own_counted a pending lawful l.id slot k here stands C pend r in
+    let own : m ≡ own_replicas (U a pending lawful l.id slot k here stands C pend r) l.id = own_of a C l.id slot m lawful here counted pend r pending in
     let known : l.info ≡ k.info = info ∙ ap (option_and_then (λ (z : Block). z.info)) stands in
     let many : (s : ℕ) → has l.excess.items s ≡ has (too_many C pend r (holdings_with a pending) l.id) s =
     λ s. excess s ∙ (λ j. has (option_map_or (λ i. excess_of C (storages_in (is_live_on C) (entries (own j))) i.repl) (known j) []) s) ∙ ap (λ ss. has ss s) (excess_is a pending lawful l.id slot k here stands C pend r) in

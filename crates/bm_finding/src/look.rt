@@ -1,9 +1,9 @@
 // One block as a round begins.
-ghost use Rattle.std.specs.Prelude.{◌≡◌, ℕ, Some, IfOk, IfErr, OnOk, ◌++◌, length};
+ghost use Rattle.std.specs.Prelude.{◌≡◌, ℕ, false, Some, IfOk, IfErr, OnOk, ◌++◌, length};
 ghost use Rattle.std.specs.Option.{option_map_or};
 ghost use Rattle.std.specs.List.Sorted.{IsNonDecreasing, IsPermutation};
 ghost use Rattle.bm_base.specs.declared.refusal.Refusal.TheVariants.{Memory};
-ghost use Rattle.bm_base.specs.Lists.{has};
+ghost use Rattle.bm_base.specs.Lists.{has, has_repeats};
 ghost use Rattle.bm_base.specs.Map.{Map, empty, entries, revise};
 ghost use Rattle.bm_base.specs.State.{by_replica};
 ghost use Rattle.bm_base.specs.Excess as excess;
@@ -160,7 +160,8 @@ fn fill_surplus(
     info: Option<BlockInfo>,
     live: &[StorageId],
 ) -> Result<(), Refusal>
-    ensures surplus { OnOk result (into.new.items ≡ option_map_or
+    ensures surplus { OnOk result (has_repeats live.now ≡ false
+        → into.new.items ≡ option_map_or
         (λ i. excess.excess_of topology.now.cluster live.now i.repl) info []) }
     ensures refused { IfErr result (λ e. e ≡ Memory) }
 {

@@ -5,7 +5,7 @@ use Rattle.std.proofs.lemmas.List.{at_drop_all}
 use Rattle.bm_base.specs.State.{Cluster}
 use Rattle.bm_base.specs.Lists.{least}
 use Rattle.bm_base.specs.Excess.{excess_cmp}
-use Rattle.bm_place.specs.declared.excess.Candidate.{Candidate}
+use Rattle.bm_place.specs.declared.compared.Candidate.{Candidate}
 use Rattle.bm_place.specs.declared.compared.Holder.{Holder}
 use Rattle.bm_place.specs.Candidates.{cmp_candidates}
 use Rattle.bm_place.specs.Compared.{holder_at, count_among, candidate_among}

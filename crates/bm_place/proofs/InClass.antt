@@ -1,20 +1,18 @@
 -- Storages in the order of choice of those of one class, and those that are named twice.
-use Rattle.std.specs.Option.{option_map_or}
 use Rattle.std.specs.List.Sorted.{IsSorted}
-use Rattle.std.proofs.Common.{◌≡◌, ◌+◌, ◌==◌, ℕ, suc, Bool, true, false, ◌||◌, List, [], ◌∷◌, ◌++◌, map, slice_index_or, Option, Some, None, refl, sym, ap, subst, ◌∙◌, arith, true≢false}
+use Rattle.std.proofs.Common.{◌≡◌, ◌+◌, ◌==◌, ℕ, suc, Bool, true, false, ◌||◌, List, [], ◌∷◌, ◌++◌, map, slice_index_or, refl, subst, arith}
 use Rattle.std.specs.Ordering.{is_lt, nat_cmp, ordering_then}
 use Rattle.std.specs.Cmp.{IsStrictWeakOrder, nat_cmp_total}
-use Rattle.std.proofs.lemmas.Bool.{eqb-true, eq-eqb, false≢true}
+use Rattle.std.proofs.lemmas.Bool.{eqb-true, false≢true}
 use Rattle.std.proofs.lemmas.Cmp.{on_total, then_total, back_total}
 use Rattle.std.proofs.lemmas.List.MinMax.{ranks_by}
 use Rattle.bm_base.specs.State.{Cluster}
-use Rattle.bm_base.specs.Lists.{has, has_repeats}
+use Rattle.bm_base.specs.Lists.{has}
 use Rattle.bm_base.specs.Excess.{remaining}
 use Rattle.bm_base.proofs.Listed.{or_right}
 use Rattle.bm_place.specs.declared.compared.Holder.{Holder}
 use Rattle.bm_place.specs.Compared.{holder_at}
 use Rattle.bm_place.specs.Pass.{cmp_in_class}
-use Rattle.bm_place.proofs.Reordered.{alone_apart}
 
 -- what the sort asks of the order
 pub ranks_in_class : IsStrictWeakOrder (λ (g h : Holder). is_lt (cmp_in_class g h))
@@ -29,11 +27,6 @@ has_more (z ∷ xs) ys x y there = by (z == y) there (has_more xs ys x y)
     by : (b : Bool) → (b || has (xs ++ ys) y) ≡ true → (has (xs ++ ys) y ≡ true → has (xs ++ x ∷ ys) y ≡ true) → (b || has (xs ++ x ∷ ys) y) ≡ true
     by true there rest = refl
     by false there rest = rest there
-
--- whether two that stand side by side are of one storage; the first may be that of the one before
-abbrev pub has_twins : Option ℕ → List Holder → Bool
-has_twins before [] = false
-has_twins before (h ∷ hs) = option_map_or (λ s. s == h.storage) before false || has_twins (Some h.storage) hs
 
 module _ (C : Cluster) where
   -- whether one goes before the other where they are of one class
@@ -78,29 +71,3 @@ module _ (C : Cluster) where
       (h (suc k) d (omega arith) (omega (arith, lt))) in
       let rest = sorted_order (z ∷ xs) later in
       (λ y there. behind_first x z xs (h 0 (holder_at C x) (omega arith) (omega arith)) rest y there, rest)
-
-  equal_turned : (x z : ℕ) → (x == z) ≡ (z == x)
-  equal_turned x z = grind arith
-
-  -- one that differs from the one behind it stands not behind that either
-  none_later : (x z : ℕ) (xs : List ℕ) → InOrder (x ∷ z ∷ xs) → (z == x) ≡ false → has xs x ≡ false
-  none_later x z xs ordered other = by (has xs x) refl
-    where
-      by : (b : Bool) → has xs x ≡ b → has xs x ≡ false
-      by false e = e
-      by true e =
-          let same = alone_apart (remaining C x) (remaining C z) x z (ordered.1.0 x e) (ordered.0 z (eq_first z xs)) in
-          absurd (true≢false (sym (eq-eqb z x (sym same)) ∙ other))
-        where
-          eq_first : (z : ℕ) (xs : List ℕ) → has (z ∷ xs) z ≡ true
-          eq_first z xs = ap (λ b. b || has xs z) (eq-eqb z z refl)
-
-  -- in order, those that are named twice stand side by side
-  pub twins_repeat : (xs : List ℕ) → InOrder xs → has_twins None (map (holder_at C) xs) ≡ has_repeats xs
-  twins_repeat [] ordered = refl
-  twins_repeat (x ∷ []) ordered = refl
-  twins_repeat (x ∷ z ∷ xs) ordered = ap (λ b. b || has_twins (Some z) (map (holder_at C) xs)) (equal_turned x z) ∙ by (z == x) refl (twins_repeat (z ∷ xs) ordered.1)
-    where
-      by : (b : Bool) → (z == x) ≡ b → has_twins (Some z) (map (holder_at C) xs) ≡ has_repeats (z ∷ xs) → (b || has_twins (Some z) (map (holder_at C) xs)) ≡ ((b || has xs x) || has_repeats (z ∷ xs))
-      by true e rest = refl
-      by false e rest = rest ∙ sym (ap (λ b. b || has_repeats (z ∷ xs)) (none_later x z xs ordered e))

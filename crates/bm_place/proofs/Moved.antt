@@ -8,7 +8,7 @@ use Rattle.bm_base.specs.Map.{Map, by_number}
 use Rattle.bm_base.specs.State.{Cluster}
 use Rattle.bm_base.proofs.Each.{Each, each_all}
 use Rattle.bm_place.specs.declared.compared.Holder.{Holder}
-use Rattle.bm_place.specs.Candidates.{is_on, CountsRacks}
+use Rattle.bm_place.specs.Candidates.{CountsRacks}
 use Rattle.bm_place.specs.Compared.{holder_at, count_among}
 use Rattle.bm_place.specs.Standing.{is_rack}
 use Rattle.bm_place.specs.Tables.{count_at}
@@ -43,6 +43,3 @@ module _ (C : Cluster) (ss : List ℕ) (holders : List Holder) (moved : IsPermut
 -- counts of what is looked up count the storages
 pub counts_storages : (C : Cluster) (ss : List ℕ) (holders : List Holder) (counts : Map by_number ℕ) → holders ≡ map (holder_at C) ss → ((r : ℕ) → count_at counts r ≡ count_among holders r) → CountsRacks C ss counts
 counts_storages C ss holders counts is counted r = counted r ∙ ap (λ hs. count_among hs r) is ∙ count_mapped (holder_at C) (λ (h : Holder). is_rack r h.rack) ss
-
-pub counts_alike : (C : Cluster) (xs ys : List ℕ) (counts : Map by_number ℕ) → HaveAlike xs ys → CountsRacks C xs counts → CountsRacks C ys counts
-counts_alike C xs ys counts alike counted r = counted r ∙ alike (is_on C r)

@@ -1,13 +1,14 @@
 -- What is in excess does not depend on the order in which the candidates are named.
 use Rattle.std.specs.Option.{option_map_or}
-use Rattle.std.proofs.Common.{◌≡◌, ◌+◌, ◌==◌, ℕ, zero, suc, Bool, true, false, cond, not, ◌&&◌, ◌||◌, nat_lt, List, [], ◌∷◌, filter, length, count_by, Option, Some, None, refl, sym, ap, subst, ◌∙◌, arith, true≢false}
+use Rattle.std.proofs.Common.{◌≡◌, ◌≤◌, ◌+◌, ◌==◌, ℕ, zero, suc, Bool, true, false, cond, not, ◌&&◌, ◌||◌, nat_lt, List, [], ◌∷◌, filter, length, count_by, Option, Some, None, refl, sym, ap, subst, ◌∙◌, arith, true≢false}
 use Rattle.std.specs.declared.cmp.Ordering.{Ordering}
 use Rattle.std.specs.declared.cmp.Ordering.TheVariants.{Less, Equal, Greater}
 use Rattle.std.specs.Ordering.{is_lt, nat_cmp, ordering_then, ordering_reverse}
 use Rattle.std.specs.Cmp.{IsTotalOrder, nat_cmp_total}
+use Rattle.std.proofs.lemmas.Bool.{eqb-true, eq-eqb}
 use Rattle.std.proofs.lemmas.List.Sums.{length-filter}
 use Rattle.bm_base.specs.State.{Cluster}
-use Rattle.bm_base.specs.Lists.{has, least}
+use Rattle.bm_base.specs.Lists.{has, has_repeats, least}
 use Rattle.bm_base.specs.Excess.{remaining, share_rack, has_rack_mate, excess_cmp, excess_among}
 use Rattle.bm_base.proofs.Listed.{filter_filter}
 use Rattle.bm_place.specs.Least.{IsLeastOf}
@@ -91,6 +92,43 @@ has_counted (y ∷ xs) x = by (y == x) (has_counted xs x) ∙ ap (nat_lt 0) (sym
 
 alike_has : (xs ys : List ℕ) → HaveAlike xs ys → (x : ℕ) → has xs x ≡ has ys x
 alike_has xs ys alike x = has_counted xs x ∙ ap (nat_lt 0) (alike (λ y. y == x)) ∙ sym (has_counted ys x)
+
+or_parts : (a b : Bool) → (a || b) ≡ false → (a ≡ false) × (b ≡ false)
+or_parts true b e = cc
+or_parts false b e = (refl, e)
+
+none_counted : (xs : List ℕ) (x : ℕ) → has xs x ≡ false → count_by (λ y. y == x) xs ≡ 0
+none_counted xs x none = by (count_by (λ y. y == x) xs) (sym (has_counted xs x) ∙ none)
+  where
+    by : (n : ℕ) → nat_lt 0 n ≡ false → n ≡ 0
+    by n e = grind arith
+
+once_counted : (xs : List ℕ) → has_repeats xs ≡ false → (x : ℕ) → count_by (λ y. y == x) xs ≤ 1
+once_counted [] once x = omega arith
+once_counted (y ∷ ys) once x =
+    let two = or_parts (has ys y) (has_repeats ys) once in
+    by (y == x) refl (count_cons (λ z. z == x) y ys) two.0 (once_counted ys two.1 x)
+  where
+    by : (b : Bool) → (y == x) ≡ b → count_by (λ z. z == x) (y ∷ ys) ≡ cond b 1 0 + count_by (λ z. z == x) ys → has ys y ≡ false → count_by (λ z. z == x) ys ≤ 1 → count_by (λ z. z == x) (y ∷ ys) ≤ 1
+    by true e one none rest = let zero = none_counted ys x (ap (has ys) (sym (eqb-true y x e)) ∙ none) in omega (arith, one, zero)
+    by false e one none rest = omega (arith, one, rest)
+
+counted_once : (xs : List ℕ) → ((x : ℕ) → count_by (λ y. y == x) xs ≤ 1) → has_repeats xs ≡ false
+counted_once [] most = refl
+counted_once (y ∷ ys) most =
+    by (has ys y) (has_counted ys y) (count_cons (λ z. z == y) y ys ∙ ap (λ b. cond b 1 0 + count_by (λ z. z == y) ys) (eq-eqb y y refl)) (most y)
+    (counted_once ys (λ x. let one = count_cons (λ z. z == x) y ys in let all = most x in omega (arith, one, all)))
+  where
+    some : (n : ℕ) → true ≡ nat_lt 0 n → 1 ≤ n
+    some n e = grind arith
+
+    by : (b : Bool) → b ≡ nat_lt 0 (count_by (λ z. z == y) ys) → count_by (λ z. z == y) (y ∷ ys) ≡ 1 + count_by (λ z. z == y) ys → count_by (λ z. z == y) (y ∷ ys) ≤ 1 → has_repeats ys ≡ false → (b || has_repeats ys) ≡ false
+    by false e one all rest = rest
+    by true e one all rest = let n = some (count_by (λ z. z == y) ys) e in absurd (omega (arith, one, all, n))
+
+-- each number is there once in both or in neither
+pub once_alike : (xs ys : List ℕ) → HaveAlike xs ys → has_repeats ys ≡ false → has_repeats xs ≡ false
+once_alike xs ys alike once = counted_once xs (λ x. subst (λ n. n ≤ 1) (sym (alike (λ y. y == x))) (once_counted ys once x))
 
 alike_cmp : (C : Cluster) (xs ys : List ℕ) → HaveAlike xs ys → excess_cmp C xs ≡ excess_cmp C ys
 unfolding excess_cmp has_rack_mate

@@ -8,22 +8,19 @@ use Rattle.std.specs.Cmp.{IsTotalOrder, nat_cmp_total}
 use Rattle.std.proofs.lemmas.Cmp.{on_total, then_total, back_total}
 use Rattle.std.proofs.lemmas.Bool.{eqb-true, eq-eqb}
 use Rattle.std.proofs.lemmas.List.Sums.{sum_by-cons, count_by-le-length}
-use Rattle.std.proofs.lemmas.List.Filters.{sum_by-filter_both}
-use Rattle.std.proofs.lemmas.List.{at_drop_all}
-use Rattle.bm_base.specs.Map.{Map, by_number, insert, revise_at}
+use Rattle.bm_base.specs.Map.{Map, by_number, insert}
 use Rattle.bm_base.specs.State.{Cluster}
 use Rattle.bm_base.specs.Lists.{least}
 use Rattle.bm_base.specs.Replicas.{rack_of}
 use Rattle.bm_base.specs.Excess.{remaining, share_rack, has_rack_mate, excess_cmp, excess_among}
-use Rattle.bm_base.proofs.Differences.{both_parts}
-use Rattle.bm_place.specs.declared.excess.Candidate.{Candidate}
+use Rattle.bm_place.specs.declared.compared.Candidate.{Candidate}
 use Rattle.bm_place.specs.Tables.{count_at}
-use Rattle.bm_place.specs.Candidates.{is_on, CountsRacks, candidate_at, cmp_candidates}
+use Rattle.bm_place.specs.Candidates.{is_on, cmp_candidates}
 use Rattle.bm_place.specs.Standing.{is_rack}
 use Rattle.bm_place.specs.Scan.{scan}
 use Rattle.bm_place.proofs.Choosing.{scan-found}
 use Rattle.bm_place.proofs.Counting.{count_none}
-use Rattle.bm_place.proofs.Tables.{count-insert, count-revised}
+use Rattle.bm_place.proofs.Tables.{count-insert}
 
 pub excess_cmp_total : (C : Cluster) (left : List ℕ) → IsTotalOrder (excess_cmp C left)
 unfolding excess_cmp
@@ -68,13 +65,6 @@ found_by C left count best counted is =
     ∙ storage_again C count (least (excess_cmp C left) (filter (λ _. true) left))
     ∙ ap (least (excess_cmp C left)) (all_pass left)
 
--- one that has nothing left, too
-pub excess_found : (C : Cluster) (left : List ℕ) (counts : Map by_number ℕ) (best : Option Candidate) (i : ℕ) → CountsRacks C left counts → length left ≤ i
-    → scan cmp_candidates (λ _. true) best (map (candidate_at C counts) (drop i left)) ≡ scan cmp_candidates (λ _. true) None (map (candidate_at C counts) left)
-    → option_map (λ (c : Candidate). c.storage) best ≡ least (excess_cmp C left) left
-excess_found C left counts best i counted all inv =
-    found_by C left (count_at counts) best counted (sym (at_drop_all (λ xs. scan cmp_candidates (λ _. true) best (map (candidate_at C counts) xs)) left i all) ∙ inv)
-
 -- Counting.
 
 pub count_cons : {X : Type 0} (p : X → Bool) (x : X) (xs : List X) → count_by p (x ∷ xs) ≡ cond (p x) 1 0 + count_by p xs
@@ -116,61 +106,6 @@ module _ {X : Type 0} (rack : X → Option ℕ) where
   count_fits counts xs i x k next on inv =
       let left = count_left (stands_on k) xs i x true next (ap (is_rack k) on ∙ eq-eqb k k refl) in
       omega (arith, inv k, left, count_by-le-length (stands_on k) xs)
-
--- those that equal x pass where x does
-same_all : (p : ℕ → Bool) (x : ℕ) (xs : List ℕ) → count_by p (filter (λ s. s == x) xs) ≡ cond (p x) (length (filter (λ s. s == x) xs)) 0
-same_all p x [] = by (p x)
-  where
-    by : (t : Bool) → ◌≡◌ {A = ℕ} 0 (cond t 0 0)
-    by true = refl
-    by false = refl
-same_all p x (y ∷ ys) = by (y == x) refl (filter (λ s. s == x) ys) (same_all p x ys)
-  where
-    two : (t : Bool) (same : List ℕ) → p y ≡ t → p x ≡ t → count_by p same ≡ cond (p x) (length same) 0 → count_by p (y ∷ same) ≡ cond t (length (y ∷ same)) 0
-    two true same e f rest =
-        let one = count_cons p y same ∙ ap (λ t. cond t 1 0 + count_by p same) e in
-        let all = rest ∙ ap (λ t. cond t (length same) 0) f in
-        omega (arith, one, all)
-    two false same e f rest =
-        let one = count_cons p y same ∙ ap (λ t. cond t 1 0 + count_by p same) e in
-        let all = rest ∙ ap (λ t. cond t (length same) 0) f in
-        omega (arith, one, all)
-
-    by : (b : Bool) → (y == x) ≡ b → (same : List ℕ) → count_by p same ≡ cond (p x) (length same) 0 → count_by p (cond b (y ∷ same) same) ≡ cond (p x) (length (cond b (y ∷ same) same)) 0
-    by true e same rest = two (p x) same (ap p (eqb-true y x e)) refl rest
-    by false e same rest = rest
-
--- those that stay, and those that go, where all that equal x go
-parted : (p : ℕ → Bool) (x : ℕ) (xs : List ℕ) → count_by p (filter (λ s. not (s == x)) xs) + cond (p x) (length xs - length (filter (λ s. not (s == x)) xs)) 0 ≡ count_by p xs
-parted p x xs =
-    let both = sum_by-filter_both (λ s. s == x) (λ s. not (s == x)) (λ s. refl) (λ s. cond (p s) 1 0) xs in
-    let gone : length (filter (λ s. s == x) xs) ≡ length xs - length (filter (λ s. not (s == x)) xs) = (let all = both_parts (λ s. s == x) xs in omega (arith, all)) in
-    let same = same_all p x xs ∙ ap (λ n. cond (p x) n 0) gone in
-    omega (arith, both, same)
-
-zero_less : (n : ℕ) → 0 - n ≡ 0
-zero_less n = omega arith
-
--- the racks are counted anew once a storage is out
-pub counted_without : (C : Cluster) (left : List ℕ) (counts less : Map by_number ℕ) (x k gone : ℕ) → rack_of C x ≡ Some k → gone ≡ length left - length (filter (λ s. not (s == x)) left) → less ≡ revise_at counts k (λ n. n - gone)
-    → CountsRacks C left counts → CountsRacks C (filter (λ s. not (s == x)) left) less
-counted_without C left counts less x k gone on out is counted r =
-    let here : is_on C r x ≡ (k == r) = ap (λ o. option_map_or (λ q. q == r) o false) on in
-    let parts = ap (λ b. count_by (is_on C r) (filter (λ s. not (s == x)) left) + cond b (length left - length (filter (λ s. not (s == x)) left)) 0) (sym here) ∙ parted (is_on C r) x left in
-    let new : count_at less r ≡ cond (k == r) (count_at counts r - gone) (count_at counts r) = ap (λ m. count_at m r) is ∙ count-revised counts k (λ n. n - gone) (zero_less gone) r in
-    by (k == r) parts new (counted r)
-  where
-    by : (b : Bool) → count_by (is_on C r) (filter (λ s. not (s == x)) left) + cond b (length left - length (filter (λ s. not (s == x)) left)) 0 ≡ count_by (is_on C r) left → count_at less r ≡ cond b (count_at counts r - gone) (count_at counts r)
-        → count_at counts r ≡ count_by (is_on C r) left → count_at less r ≡ count_by (is_on C r) (filter (λ s. not (s == x)) left)
-    by true parts new counted = omega (arith, parts, new, counted, out)
-    by false parts new counted = omega (arith, parts, new, counted)
-
--- and where the storage has no rack
-pub counted_as_before : (C : Cluster) (left : List ℕ) (counts : Map by_number ℕ) (x : ℕ) → rack_of C x ≡ None → CountsRacks C left counts → CountsRacks C (filter (λ s. not (s == x)) left) counts
-counted_as_before C left counts x none counted r =
-    let here : is_on C r x ≡ false = ap (λ o. option_map_or (λ q. q == r) o false) none in
-    let parts = ap (λ b. count_by (is_on C r) (filter (λ s. not (s == x)) left) + cond b (length left - length (filter (λ s. not (s == x)) left)) 0) (sym here) ∙ parted (is_on C r) x left in
-    omega (arith, parts, counted r)
 
 -- One choice after another.
 

@@ -4,7 +4,7 @@ use Rattle.std.specs.Option.{option_map_or}
 use Rattle.bm_base.specs.State.{Cluster}
 use Rattle.bm_base.specs.Replicas.{rack_of}
 use Rattle.bm_base.specs.Excess.{remaining}
-use Rattle.bm_place.specs.declared.excess.Candidate.{Candidate}
+use Rattle.bm_place.specs.declared.compared.Candidate.{Candidate}
 use Rattle.bm_place.specs.declared.compared.Holder.{Holder}
 use Rattle.bm_place.specs.Standing.{is_rack}
 

@@ -1,12 +1,13 @@
 // What is in excess where few replicas are live: each is looked up once, and then they are compared with one another.
-ghost use Rattle.std.specs.Prelude.{◌≡◌, ◌++◌, false, nat_lt, ℕ, List, map, OnOk};
+ghost use Rattle.std.specs.Prelude.{◌≡◌, ◌++◌, false, nat_lt, ℕ, List, map, option_map, OnOk};
 ghost use Rattle.std.specs.Option.{option_map_or};
 ghost use Rattle.bm_base.specs.Excess as excess;
 ghost use Rattle.bm_base.specs.Lists.{least};
 ghost use Rattle.bm_base.specs.State.{Cluster};
+ghost use Rattle.bm_place.specs.Candidates as candidates;
 ghost use Rattle.bm_place.specs.Compared as compared;
+ghost use Rattle.bm_place.specs.Scan as scanned;
 
-use crate::excess::{Candidate, is_better, storage_of};
 use bm_base::{Rack, StorageId};
 use bm_topo::Topology;
 use std::alloc::AllocError;
@@ -17,6 +18,15 @@ pub struct Holder {
     pub storage: StorageId,
     pub rack: Option<Rack>,
     pub remaining: u64,
+}
+
+/// A replica that may be in excess, in the order of choice except that of two storages the greater comes first.
+#[derive(Clone, Copy)]
+pub struct Candidate {
+    /// 0 where the rack holds another candidate, else 1.
+    pub class: u32,
+    pub remaining: u64,
+    pub storage: StorageId,
 }
 
 /// Puts so many of these storages, one after another, each of those that are left the one that is in excess before all others, behind
@@ -78,6 +88,15 @@ fn first_among(holders: &[Holder]) -> Option<StorageId>
     storage_of(&best)
 }
 
+fn storage_of(candidate: &Option<Candidate>) -> Option<StorageId>
+    ensures { result ≡ option_map (λ c. c.storage) candidate.now }
+{
+    match candidate {
+        Some(candidate) => Some(candidate.storage),
+        None => None,
+    }
+}
+
 fn candidate_among(holders: &[Holder], holder: &Holder) -> Candidate
     ensures { result ≡ compared.candidate_among holders.now holder.now }
 {
@@ -109,4 +128,19 @@ fn count_among(holders: &[Holder], rack: Rack) -> usize
         }
     }
     count
+}
+
+/// Whether a candidate comes before the best so far.
+fn is_better(candidate: &Candidate, best: &Option<Candidate>) -> bool
+    ensures { result ≡ scanned.is_better candidates.cmp_candidates best.now candidate.now }
+{
+    match best {
+        Some(best) => candidate
+            .class
+            .cmp(&best.class)
+            .then(candidate.remaining.cmp(&best.remaining))
+            .then(best.storage.cmp(&candidate.storage))
+            .is_lt(),
+        None => true,
+    }
 }

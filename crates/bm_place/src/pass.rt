@@ -1,9 +1,9 @@
 // What is in excess where more than a few replicas are live: they are put in order, and gone over once.
-ghost use Rattle.std.specs.Prelude.{◌≡◌, ◌+◌, ◌++◌, ◌&&◌, if◌then◌else◌, false, nat_lt, map, take, ℕ, List, OnOk, IfOk};
+ghost use Rattle.std.specs.Prelude.{◌≡◌, ◌+◌, ◌-◌, ◌++◌, ◌&&◌, if◌then◌else◌, false, nat_lt, take, ℕ, List, OnOk, IfOk};
 ghost use Rattle.std.specs.Option.{option_map_or};
 ghost use Rattle.std.specs.List.Sorted.{IsPermutation, IsSorted};
 ghost use Rattle.bm_base.specs.Excess as excess;
-ghost use Rattle.bm_base.specs.Lists.{has_repeats};
+ghost use Rattle.bm_base.specs.Map as map;
 ghost use Rattle.bm_base.specs.State.{Cluster};
 ghost use Rattle.bm_place.specs.Compared as compared;
 ghost use Rattle.bm_place.specs.Pass as pass;
@@ -11,7 +11,6 @@ ghost use Rattle.bm_place.specs.Standing.{is_rack};
 ghost use Rattle.bm_place.specs.Tables as tables;
 
 use crate::compared::Holder;
-use crate::excess::{count_on, lower};
 use bm_base::{NumberMap, Rack, StorageId};
 use std::alloc::AllocError;
 
@@ -28,19 +27,40 @@ pub(crate) fn sort_holders(holders: &mut Vec<Holder>)
     });
 }
 
-/// Whether one of these, which are in order, is named twice: then it stands beside itself.
-pub(crate) fn names_one_twice(holders: &[Holder]) -> bool
-    ensures { (C : Cluster) (ss : List ℕ) → holders.now ≡ map (compared.holder_at C) ss
-        → IsSorted pass.cmp_in_class holders.now → result ≡ has_repeats ss }
+/// How many of these stand on each rack, in the place of what was counted before.
+pub(crate) fn count_racks(
+    counts: &mut NumberMap<usize>,
+    holders: &[Holder],
+) -> Result<(), AllocError>
+    ensures { OnOk result ((r : ℕ) →
+        tables.count_at counts.new.map r ≡ compared.count_among holders.now r) }
 {
-    let mut before = None;
+    clear(counts);
     for holder in holders {
-        if before == Some(holder.storage) {
-            return true;
-        }
-        before = Some(holder.storage);
+        let Some(rack) = holder.rack else {
+            continue;
+        };
+        let count = count_on(counts, rack);
+        counts.insert(u64::from(rack.0), count + 1)?;
     }
-    false
+    Ok(())
+}
+
+/// Takes all counts out, and keeps the memory.
+fn clear(counts: &mut NumberMap<usize>)
+    ensures { counts.new.map ≡ map.empty }
+{
+    counts.retain(|_| false);
+}
+
+#[tactic(auto, unfolding(crate::specs::Tables::count_at))]
+fn count_on(counts: &NumberMap<usize>, rack: Rack) -> usize
+    ensures { result ≡ tables.count_at counts.now.map rack }
+{
+    match counts.get(u64::from(rack.0)) {
+        Some(count) => count,
+        None => 0,
+    }
 }
 
 /// Puts so many of these storages, which are in order with their racks counted, in the order of choice behind those that are there. Goes
@@ -105,5 +125,14 @@ fn lower_if_more(racks: &mut NumberMap<usize>, rack: Option<Rack>) -> bool
             true
         }
         _ => false,
+    }
+}
+
+/// So many fewer stand on a rack.
+fn lower(counts: &mut NumberMap<usize>, rack: Rack, gone: usize)
+    ensures { counts.new.map ≡ map.revise_at counts.old.map rack (λ n. n - gone) }
+{
+    if let Some(count) = counts.get(u64::from(rack.0)) {
+        counts.replace(u64::from(rack.0), count.saturating_sub(gone));
     }
 }

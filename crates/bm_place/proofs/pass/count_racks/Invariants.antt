@@ -1,7 +1,7 @@
 use Rattle.std.proofs.Common.{◌≡◌, ◌+◌, ℕ, drop}
 use Rattle.bm_place.specs.Compared.{count_among}
 use Rattle.bm_place.specs.Tables.{count_at}
-use Rattle.bm_place.proofs.excess.count_racks.Given as goal
+use Rattle.bm_place.proofs.pass.count_racks.Given as goal
 
 -- with those that are left each rack has its count
 abbrev pub invariant-loop-holder : goal.invariant-loop-holder

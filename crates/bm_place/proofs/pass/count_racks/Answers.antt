@@ -6,7 +6,7 @@ use Rattle.bm_place.specs.Compared.{count_among}
 use Rattle.bm_place.specs.Tables.{count_at}
 use Rattle.bm_place.proofs.Tables.{count-empty, drop-next}
 use Rattle.bm_place.proofs.Surplus.{counted_next, skipped_next, count_fits}
-use Rattle.bm_place.proofs.excess.count_racks.Goals as goal
+use Rattle.bm_place.proofs.pass.count_racks.Goals as goal
 
 pub loop-holder-init : goal.loop-holder-init
 loop-holder-init c r = let none = ap (λ m. count_at m r) c.clear.ensures ∙ count-empty r in omega (arith, none)
