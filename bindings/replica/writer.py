@@ -1,17 +1,21 @@
 """A writer: gathers lines into batches, appends them to the log, and gives the answers in order."""
 
+import contextlib
 import os
 import threading
+import time
 from collections import deque
 
 from log import BATCH, LONGEST, Batch, append, follow, headed, last_index, new_writer
-from log import parts_of, value_of
+from log import parts_of, position_of, value_of
 from store import Compacted, Store, StoreError, after
 
 # Seconds for which lines are gathered, and bytes that wait at most.
 GATHER, WAITING = 0.005, 8 * BATCH
 # Seconds without etcd after which a writer that has begun gives up.
 PATIENCE = 60
+# Silent seconds, with answers that are written but do not come, after which they are gone.
+MISSED = 10
 
 
 class Lines:
@@ -82,11 +86,11 @@ class Writer:
                 raise StoreError(f"there is no session {number}")
             self.number, self.revision = number, 0
         self.appended = self.answered = 0
-        self.last = last_index(self.store, keys)[0]
+        self.last = last_index(self.store, keys)
         self.store.patience = PATIENCE
 
     def append(self, block):
-        """Appends whole lines; answers when they are in the log."""
+        """Appends whole lines; returns when they are in the log."""
         line_end = block.find(b"\n") + 1
         if line_end == len(block) and len(block) > BATCH:
             batches = list(parts_of(self.number, self.appended, block[:-1]))
@@ -96,30 +100,59 @@ class Writer:
             self.last = append(self.store, self.keys, value_of(batch), self.last)
         self.appended += block.count(b"\n")
 
+    def due(self):
+        """How many lines have answers in the store, where some were not seen, and a revision by
+        which these were written; else zeros."""
+        appended, last = self.appended, self.last
+        with contextlib.suppress(StoreError):
+            done = self.answers_store.value(self.keys.done)
+            if self.answered < appended and position_of(done)[0] > last:
+                return appended, done.modified
+        return 0, 0
+
     def answers(self):
         """Yields the answers of this session in order, in pieces; None at times."""
-        parts = deque()
         revision = self.revision
         while True:
             try:
-                for entry in follow(self.answers_store, self.keys.answers, revision, say=self.say):
-                    header, text = headed(entry.value) if entry and entry.value else ({}, b"")
-                    if header.get("writer") != self.number:
-                        yield None
-                        continue
-                    if header["count"] > self.answered:
-                        raise StoreError(f"the answers from line {self.answered + 1} to line "
-                                         f"{header['count']} of writer {self.number} are kept "
-                                         "no longer")
-                    if header["count"] < self.answered or header["part"] != len(parts):
-                        continue
-                    parts.append(text)
-                    if len(parts) == header["parts"]:
-                        whole = b"".join(parts)
-                        parts.clear()
-                        self.answered += whole.count(b"\n")
-                        yield whole
+                yield from self.answers_from(revision)
             except Compacted:
                 # What was missed is still there by its keys.
                 revision = 0
+
+    def answers_from(self, revision):
+        parts = deque()
+        lines = by = missed = looked_at = 0
+        other = None
+        entries = follow(self.answers_store, self.keys.answers, revision, say=self.say)
+        while True:
+            entry = entries.send(other)
+            other = None
+            if entry and self.answered < lines and by < entry.modified:
+                raise self.gone(lines)
+            if time.monotonic() - looked_at >= 1:
+                looked_at = time.monotonic()
+                lines, by = self.due()
+                missed = missed + 1 if lines and not entry else 0
+                if missed == MISSED:
+                    raise self.gone(lines)
+                # Another server may have what does not come from this one.
+                other = missed > 0 or None
+            header, text = headed(entry.value) if entry and entry.value else ({}, b"")
+            if header.get("writer") != self.number:
+                yield None
+                continue
+            if header["count"] > self.answered:
+                raise self.gone(header["count"])
+            if header["count"] < self.answered or header["part"] != len(parts):
+                continue
+            parts.append(text)
+            if len(parts) == header["parts"]:
+                whole = b"".join(parts)
                 parts.clear()
+                self.answered += whole.count(b"\n")
+                yield whole
+
+    def gone(self, count):
+        return StoreError(f"the answers from line {self.answered + 1} to line {count} of writer "
+                          f"{self.number} are kept no longer")

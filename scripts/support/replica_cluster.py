@@ -1,6 +1,7 @@
 """Servers of etcd, replicas and writers on loopback, in a folder of their own, and what is in the
 store afterwards."""
 
+import contextlib
 import hashlib
 import json
 import os
@@ -10,7 +11,9 @@ import signal
 import socket
 import subprocess
 import sys
+import tempfile
 import time
+from pathlib import Path
 
 from checking import TOP, Failed, want
 
@@ -28,6 +31,42 @@ def wait_for(what, is_so, seconds=20):
             raise Failed(f"not within {seconds} seconds: {what}")
         time.sleep(0.02)
     return found
+
+
+# Names a variable that every process has which was started in a scratch folder.
+MARK = "PULJEMROD_SCRATCH"
+
+
+def marked(folder):
+    """The processes that were started in a scratch folder, whoever is their parent."""
+    mark = f"{MARK}={folder}".encode()
+    for path in Path("/proc").glob("[0-9]*/environ"):
+        with contextlib.suppress(OSError):
+            if mark in path.read_bytes().split(b"\0"):
+                yield int(path.parent.name)
+
+
+@contextlib.contextmanager
+def scratch(seconds=0):
+    """A scratch folder. At its end, also after a signal or so many seconds, it is removed, and no
+    process is left that was started in it."""
+
+    def ends(number, _):
+        raise Failed(f"not within {seconds} seconds" if number == signal.SIGALRM else "ended by a signal")
+
+    for number in (signal.SIGTERM, signal.SIGALRM):
+        signal.signal(number, ends)
+    with tempfile.TemporaryDirectory(ignore_cleanup_errors=True) as name:
+        os.environ[MARK] = name
+        signal.alarm(seconds)
+        try:
+            yield Path(name)
+        finally:
+            signal.alarm(0)
+            for process in marked(name):
+                with contextlib.suppress(ProcessLookupError):
+                    os.kill(process, signal.SIGKILL)
+            wait_for("no process is left", lambda: not list(marked(name)))
 
 
 def free_ports(count):
@@ -138,7 +177,9 @@ class Manager:
                 "--prefix", self.keys.prefix]
 
     def replica(self, name, *options, tool=None, lease=2, urls=None):
-        words = self.words("run", urls) + ["--name", name, "--tool", tool or self.tool]
+        words = self.words("run", urls) + ["--name", name]
+        if "--library" not in options:
+            words += ["--tool", tool or self.tool]
         process = Process(words + ["--lease", str(lease), "--interval", "0.5", *options],
                           self.folder / f"{self.prefix}-{name}.log")
         self.processes[name] = process
@@ -211,7 +252,7 @@ class Manager:
         while more:
             found = self.store.range(start, after(prefix), limit=16)
             entries += found.entries
-            more = found.more
+            more = found.count > len(found.entries)
             if more:
                 start = entries[-1].key + "\0"
         return entries
@@ -350,3 +391,13 @@ def session_of(writer):
 
 def etcd_is_there():
     return shutil.which("etcd") is not None
+
+
+def library(folder):
+    """The shared library, made in a folder; what it is made of is built only if it is missing."""
+    crate = TOP / "crates/puljemrod"
+    archive = crate / "out/libpuljemrod.a"
+    if not archive.exists():
+        subprocess.run(["rt", "lib"], cwd=crate, stdin=subprocess.DEVNULL, capture_output=True)
+    subprocess.run([TOP / "scripts/build_library", archive, folder], capture_output=True, check=True)
+    return folder / "libpuljemrod.so"
