@@ -32,7 +32,7 @@ class Keys:
 
     def __init__(self, prefix="/puljemrod/"):
         if not prefix.endswith("/"):
-            raise ValueError("the prefix of the keys has no / at its end")
+            raise Stop(f"the prefix {prefix!r} has no / at its end")
         self.prefix = prefix
         # Answers and hashes by the number of a line; commands by node and number of the round's.
         self.log, self.answers, self.hashes, self.commands, self.replicas = (
@@ -245,17 +245,11 @@ def is_behind(store, keys, index, newest):
         ).entries
     except StoreError:
         return False
-    if index:
-        if not entries or number_of(entries[0].key) > index or entries[0].modified < newest:
-            raise Stop(f"the store has gone back: log key {index} was read, and is not there")
-        entries = entries[1:]
-    if entries and number_of(entries[0].key) != index + 1:
-        raise Stop(gap(index, number_of(entries[0].key)))
-    return bool(entries)
-
-
-def gap(index, number):
-    return f"a gap in the log: key {index + 1} is missing before {number}"
+    if not index:
+        return bool(entries)
+    if not entries or number_of(entries[0].key) > index or entries[0].modified < newest:
+        raise Stop(f"the store has gone back: log key {index} was read, and is not there")
+    return len(entries) > 1
 
 
 def read(store, keys, say=print):
@@ -280,6 +274,6 @@ def read(store, keys, say=print):
         if old or number <= index or entry.value is None or entry.version != 1:
             raise Stop(f"log key {number} was changed after it was written")
         if number != index + 1:
-            raise Stop(gap(index, number))
+            raise Stop(f"a gap in the log: key {index + 1} is missing before {number}")
         index, newest = number, entry.modified
         yield index, entry.value

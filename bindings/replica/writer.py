@@ -2,7 +2,7 @@
 
 import contextlib
 import os
-import threading
+import select
 import time
 from collections import deque
 
@@ -10,8 +10,8 @@ from log import BATCH, LONGEST, Batch, append, follow, headed, last_index, new_w
 from log import parts_of, position_of, value_of
 from store import Compacted, Store, StoreError, after
 
-# Seconds for which lines are gathered, and bytes that wait at most.
-GATHER, WAITING = 0.005, 8 * BATCH
+# Seconds for which lines are gathered.
+GATHER = 0.005
 # Seconds without etcd after which a writer that has begun gives up.
 PATIENCE = 60
 # Silent seconds, with answers that are written but do not come, after which they are gone.
@@ -19,46 +19,35 @@ MISSED = 10
 
 
 class Lines:
-    """The input, read ahead by a thread."""
+    """The input. Every line ends with a line feed."""
 
     def __init__(self, source):
-        self.source = source
-        self.changed = threading.Condition()
-        self.text = bytearray()
-        self.ended = False
-        threading.Thread(target=self.fill, daemon=True).start()
+        self.source, self.text, self.ended = source, bytearray(), False
 
-    def fill(self):
-        while True:
-            piece = os.read(self.source, 1 << 16)
-            with self.changed:
-                self.text += piece
-                self.ended = not piece
-                self.changed.notify_all()
-                self.changed.wait_for(lambda: len(self.text) < WAITING)
-            if not piece:
-                return
+    def read(self, seconds=None):
+        """Whether more input or its end came within some time."""
+        if self.ended or not select.select([self.source], [], [], seconds)[0]:
+            return False
+        piece = os.read(self.source, 1 << 16)
+        self.ended = not piece
+        if self.ended and self.text and not self.text.endswith(b"\n"):
+            piece = b"\n"
+        self.text += piece
+        return True
 
     def block(self):
-        """Whole lines, of at most a batch; or one longer line; or nothing at the end. Every line
-        ends with a line feed."""
-        with self.changed:
-            self.changed.wait_for(lambda: self.ended or self.text.find(b"\n") >= 0 or
-                                  len(self.text) > LONGEST)
-            self.changed.wait_for(lambda: self.ended or len(self.text) >= BATCH, GATHER)
-            if self.ended and self.text and not self.text.endswith(b"\n"):
-                self.text += b"\n"
-            end = self.text.rfind(b"\n", 0, BATCH) + 1
-            if not end:
-                end = self.text.find(b"\n") + 1
-            if not end and self.text:
-                return self.long_line()
-            return self.cut(end)
+        """Whole lines, of at most a batch; or one longer line; or nothing at the end."""
+        while b"\n" not in self.text and len(self.text) <= LONGEST and self.read():
+            pass
+        until = time.monotonic() + GATHER
+        while len(self.text) < BATCH and (left := until - time.monotonic()) > 0 and self.read(left):
+            pass
+        end = self.text.rfind(b"\n", 0, BATCH) + 1 or self.text.find(b"\n") + 1
+        return self.cut(end) if end or not self.text else self.long_line()
 
     def cut(self, end):
         block = bytes(self.text[:end])
         del self.text[:end]
-        self.changed.notify_all()
         return block
 
     def long_line(self):
@@ -67,9 +56,8 @@ class Lines:
         while True:
             end = self.text.find(b"\n") + 1
             self.cut(end or len(self.text))
-            if end or self.ended:
+            if end or not self.read():
                 return block
-            self.changed.wait()
 
 
 class Writer:
