@@ -193,8 +193,9 @@ def new_writer(store, keys):
             return number, outcome.revision
 
 
-# Keys of one answer where they are small, and where they may be batches of full size.
-MANY, FEW = 128, 16
+# Keys of one answer where they are small, and where they may be batches of full size: etcd gives
+# some megabytes a second.
+MANY, FEW = 32, 4
 
 
 def follow(store, prefix, revision=0, say=print, dense=False):
@@ -216,7 +217,7 @@ def follow(store, prefix, revision=0, say=print, dense=False):
                 if entries:
                     start, last = entries[-1].key + "\0", number_of(entries[-1].key)
                     size = sum(len(entry.value) for entry in entries)
-                    limit = MANY if size < BATCH else FEW
+                    limit = MANY if size < BATCH // 8 else FEW
             for changes in store.watch(prefix, after(prefix), revision + 1):
                 if away:
                     away = False
@@ -231,6 +232,8 @@ def follow(store, prefix, revision=0, say=print, dense=False):
                 entries, revision = changes[0], max(revision, changes[1])
                 yield from entries
         except Unreachable as error:
+            # Or what was asked for takes too long.
+            limit = 1
             if not away:
                 say(str(error))
                 away = True

@@ -17,8 +17,8 @@ Range = namedtuple("Range", "entries count revision")
 # `certain` is false where the transaction was sent more than once: one of these may have succeeded.
 Outcome = namedtuple("Outcome", "succeeded ranges revision certain")
 
-# Seconds to wait for one server, and for any.
-ANSWER, PATIENCE = 3, 10
+# Seconds to wait for one server, and for any; bytes of a request for which a second is added.
+ANSWER, PATIENCE, BYTES = 3, 10, 200_000
 SPACE = "mvcc: database space exceeded"
 
 
@@ -135,7 +135,7 @@ class Store:
             except Away as away:
                 why = away
                 self.leave()
-            if time.monotonic() > until:
+            if tries >= len(self.servers) and time.monotonic() > until:
                 raise Unreachable(f"no server of etcd answers; the last one: {why}. If a server has "
                                   "ended, its log says why: its disk may be full")
             if tries % len(self.servers) == 0:
@@ -150,10 +150,12 @@ class Store:
 
     def ask(self, path, data):
         try:
-            if not self.connection:
+            if not (self.connection and self.connection.sock):
                 self.connection = http.client.HTTPConnection(
                     *self.servers[self.at], timeout=self.answer
                 )
+                self.connection.connect()
+            self.connection.sock.settimeout(self.answer + len(data) / BYTES)
             self.connection.request("POST", f"/v3/{path}", data)
             reply = self.connection.getresponse()
             text = reply.read()
