@@ -208,10 +208,7 @@ class Leadership:
         with self.replica.changed:
             count, last = self.replica.rounds, self.replica.applied
         value = value_of(Batch(LEADER, count, b'{"op":"round"}\n', 0, 0))
-        try:
-            append(self.publishing, self.keys, value, last, self.guard())
-        except Deposed:
-            raise Deposed("etcd refused a round, since the lease was lost") from None
+        append(self.publishing, self.keys, value, last, self.guard())
         self.sent_round = count
         self.round_at = time.monotonic() + self.interval
 

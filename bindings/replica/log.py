@@ -157,7 +157,7 @@ def last_index(store, keys):
 
 def append(store, keys, value, last, guard=()):
     """Puts a value after the last key of the log and returns its number. `last` is a guess.
-    `guard` are further comparisons; if one of these fails, the leader is deposed."""
+    A leader's rounds are compared with its `guard` too."""
     while True:
         key, before = numbered(keys.log, last + 1), numbered(keys.log, last)
         compares = [absent(key), *guard]
@@ -179,7 +179,7 @@ def append(store, keys, value, last, guard=()):
         elif last and not guess.entries:
             last = last_index(store, keys)
         else:
-            raise Deposed("etcd refused a log key, since the lease was lost")
+            raise Deposed("etcd refused a round, since the lease was lost")
 
 
 def new_writer(store, keys):
