@@ -12,6 +12,7 @@ import socket
 import subprocess
 import sys
 import tempfile
+import threading
 import time
 from pathlib import Path
 
@@ -23,18 +24,19 @@ import log as replica_log
 from store import Store, StoreError, after
 
 
+# Names a variable that every process has which was started in a scratch folder.
+MARK = "PULJEMROD_SCRATCH"
+ENDED = threading.Event()
+
+
 def wait_for(what, is_so, seconds=20):
     """What `is_so` answers, once that is true."""
     until = time.monotonic() + seconds
     while not (found := is_so()):
-        if time.monotonic() > until:
+        if time.monotonic() > until or ENDED.is_set():
             raise Failed(f"not within {seconds} seconds: {what}")
         time.sleep(0.02)
     return found
-
-
-# Names a variable that every process has which was started in a scratch folder.
-MARK = "PULJEMROD_SCRATCH"
 
 
 def marked(folder):
@@ -63,10 +65,13 @@ def scratch(seconds=0):
             yield Path(name)
         finally:
             signal.alarm(0)
-            for process in marked(name):
-                with contextlib.suppress(ProcessLookupError):
-                    os.kill(process, signal.SIGKILL)
-            wait_for("no process is left", lambda: not list(marked(name)))
+            # Other threads may still be at work: they start nothing from here on.
+            ENDED.set()
+            while left := list(marked(name)):
+                for process in left:
+                    with contextlib.suppress(ProcessLookupError):
+                        os.kill(process, signal.SIGKILL)
+                time.sleep(0.2)
 
 
 def free_ports(count):
@@ -82,6 +87,7 @@ class Process:
 
     def __init__(self, command, path, stdin=subprocess.DEVNULL, stdout=None):
         self.path = path
+        want(not ENDED.is_set(), "the scratch folder is no more")
         with open(path, "ab") as told:
             self.child = subprocess.Popen(
                 [str(word) for word in command], stdin=stdin, stdout=stdout or told, stderr=told
