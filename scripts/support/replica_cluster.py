@@ -399,11 +399,21 @@ def etcd_is_there():
     return shutil.which("etcd") is not None
 
 
-def library(folder):
-    """The shared library, made in a folder; what it is made of is built only if it is missing."""
+def archive():
+    """The library for C, which is built only if it is missing; None where there is no linker for it."""
     crate = TOP / "crates/puljemrod"
-    archive = crate / "out/libpuljemrod.a"
-    if not archive.exists():
+    path = crate / "out/libpuljemrod.a"
+    if not shutil.which("cc"):
+        return None
+    if not path.exists():
         subprocess.run(["rt", "lib"], cwd=crate, stdin=subprocess.DEVNULL, capture_output=True)
-    subprocess.run([TOP / "scripts/build_library", archive, folder], capture_output=True, check=True)
-    return folder / "libpuljemrod.so"
+    want(path.exists(), "the library cannot be built")
+    return path
+
+
+def options_of_library(path, folder):
+    """For a replica over the shared library, which is made in a folder of the library for C."""
+    if not path:
+        return ()
+    subprocess.run([TOP / "scripts/build_library", path, folder], capture_output=True, check=True)
+    return "--library", folder / "libpuljemrod.so"
