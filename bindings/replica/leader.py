@@ -9,7 +9,7 @@ import json
 import threading
 import time
 
-from log import LEADER, Batch, Deposed, Stop, append, number_of, numbered, value_of
+from log import LEADER, Batch, Deposed, Stop, append, number_of, numbered, position_of, value_of
 from store import LeaseGone, Store, StoreError, absent, after, created, get, modified, put
 
 # Seconds between two turns of the keeper, and for which a leader's reading may hang.
@@ -20,10 +20,6 @@ FINISH = 10
 MOST_BYTES, MOST_VALUES = (1 << 20) + (1 << 16), 100
 # A page of hashes.
 HASHES = 1_000
-
-
-def position_of(entry):
-    return tuple(int(word) for word in entry.value.split()) if entry else (1, 0)
 
 
 class Leadership:
@@ -102,7 +98,7 @@ class Leadership:
         if not self.epoch:
             replica.written(position)
         # A leader must have applied whatever is answered, and agree with it.
-        ready = applied + 1 >= position[0] and not hashes.more and not hangs
+        ready = applied + 1 >= position[0] and hashes.count <= HASHES and not hangs
         holder = leader.entries[0] if leader.entries else None
         if holder is None and ready and not self.epoch:
             own = json.dumps({"name": self.name, "lease": self.lease})
@@ -196,8 +192,9 @@ class Leadership:
         delete them. Each lease takes what is written in a part of the time."""
         now = time.monotonic()
         if now > self.keep_until:
-            self.keep_lease = self.publishing.grant(self.keep)
-            self.keep_until = now + max(1, self.keep / 1440)
+            part = max(1, self.keep // 1440)
+            self.keep_lease = self.publishing.grant(self.keep + part)
+            self.keep_until = now + part
         for key, value in values:
             yield put(key, value, 0 if key.startswith(self.keys.hashes) else self.keep_lease)
 
@@ -211,10 +208,7 @@ class Leadership:
         with self.replica.changed:
             count, last = self.replica.rounds, self.replica.applied
         value = value_of(Batch(LEADER, count, b'{"op":"round"}\n', 0, 0))
-        try:
-            append(self.publishing, self.keys, value, last, self.guard())
-        except Deposed:
-            raise Deposed("etcd refused a round, since the lease was lost") from None
+        append(self.publishing, self.keys, value, last, self.guard())
         self.sent_round = count
         self.round_at = time.monotonic() + self.interval
 

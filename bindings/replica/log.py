@@ -32,7 +32,7 @@ class Keys:
 
     def __init__(self, prefix="/puljemrod/"):
         if not prefix.endswith("/"):
-            raise ValueError("the prefix of the keys has no / at its end")
+            raise Stop(f"the prefix {prefix!r} has no / at its end")
         self.prefix = prefix
         # Answers and hashes by the number of a line; commands by node and number of the round's.
         self.log, self.answers, self.hashes, self.commands, self.replicas = (
@@ -138,22 +138,34 @@ class Sessions:
         return b"".join(have) + b"\n"
 
 
+def position_of(entry):
+    """The value of `done`: a log key, and how many of its values are written. All before it are."""
+    return tuple(int(word) for word in entry.value.split()) if entry else (1, 0)
+
+
+def keys_from(keys, index):
+    """Counts the log keys from one on."""
+    return get(numbered(keys.log, index), after(keys.log), count_only=True)
+
+
 def last_index(store, keys):
-    """The number of the last log key, 0 if there is none, and the revision of this answer."""
-    found = store.range(keys.log, after(keys.log), last=True, keys_only=True)
-    return (number_of(found.entries[0].key) if found.entries else 0), found.revision
+    """The number of the last log key, 0 if there is none."""
+    index, _ = position_of(store.value(keys.done))
+    outcome = store.transact([], [keys_from(keys, index)])
+    return index - 1 + outcome.ranges[0].count
 
 
 def append(store, keys, value, last, guard=()):
-    """Puts a value behind the last key of the log and answers its number. `last` is a guess.
-    `guard` are further comparisons; the answer to their failure is `Deposed`."""
+    """Puts a value after the last key of the log and returns its number. `last` is a guess.
+    A leader's rounds are compared with its `guard` too."""
     while True:
-        key = numbered(keys.log, last + 1)
+        key, before = numbered(keys.log, last + 1), numbered(keys.log, last)
         compares = [absent(key), *guard]
         if last:
-            compares.append(present(numbered(keys.log, last)))
-        newest = get(keys.log, after(keys.log), last=True, keys_only=True)
-        outcome = store.transact(compares, [put(key, value)], [newest])
+            compares.append(present(before))
+        outcome = store.transact(
+            compares, [put(key, value)], [keys_from(keys, last + 1), get(before, keys_only=True)]
+        )
         if outcome.succeeded:
             return last + 1
         if not outcome.certain:
@@ -161,11 +173,13 @@ def append(store, keys, value, last, guard=()):
             found = store.value(key)
             if found and found.value == value:
                 return last + 1
-        entries = outcome.ranges[0].entries
-        newest = number_of(entries[0].key) if entries else 0
-        if newest == last:
-            raise Deposed()
-        last = newest
+        newer, guess = outcome.ranges
+        if newer.count:
+            last += newer.count
+        elif last and not guess.entries:
+            last = last_index(store, keys)
+        else:
+            raise Deposed("etcd refused a round, since the lease was lost")
 
 
 def new_writer(store, keys):
@@ -179,66 +193,80 @@ def new_writer(store, keys):
             return number, outcome.revision
 
 
-# Keys of one answer where they are small, and where they may be batches of full size.
-MANY, FEW = 128, 16
+# Keys of one answer where they are small, and where they may be batches of full size: etcd gives
+# some megabytes a second.
+MANY, FEW = 32, 4
 
 
-def follow(store, prefix, revision=0, say=print):
+def follow(store, prefix, revision=0, say=print, dense=False):
     """Yields the entries below a prefix, first those that are there by their keys, then those that
-    come; None after each second without any. With a revision only those that come after it.
-    While etcd does not answer it goes on trying."""
-    start, more, limit = prefix, not revision, FEW
+    come; None after each second without any, to which the caller may send that there are more.
+    With a revision only those that come after it. While etcd does not answer it goes on trying.
+    Keys that are numbered without gaps are `dense`: a range spans no more than are asked for."""
+    start, last, more, limit = prefix, 0, not revision, FEW
     away = False
     while True:
         try:
             while more:
-                found = store.range(start, after(prefix), limit=limit)
-                yield from found.entries
-                more, revision = found.more, found.revision
-                if more:
-                    start = found.entries[-1].key + "\0"
-                    size = sum(len(entry.value) for entry in found.entries)
-                    limit = MANY if size < BATCH else FEW
+                end = numbered(prefix, last + 1 + limit) if dense else after(prefix)
+                entries, _, revision = store.range(start, end, limit=limit)
+                yield from entries
+                # Behind the keys that have no gap there may be others.
+                full = len(entries) == limit
+                more, dense = full or dense, full and dense
+                if entries:
+                    start, last = entries[-1].key + "\0", number_of(entries[-1].key)
+                    size = sum(len(entry.value) for entry in entries)
+                    limit = MANY if size < BATCH // 8 else FEW
             for changes in store.watch(prefix, after(prefix), revision + 1):
                 if away:
                     away = False
                     say("etcd answers again")
                 if changes is None:
-                    newer = yield None
-                    if newer:
-                        # The server that is watched is behind.
+                    is_behind = yield None
+                    if is_behind:
+                        # Another server may have more.
                         store.leave()
                         break
                     continue
                 entries, revision = changes[0], max(revision, changes[1])
                 yield from entries
         except Unreachable as error:
+            # Or what was asked for takes too long.
+            limit = 1
             if not away:
                 say(str(error))
                 away = True
             yield None
 
 
+def is_behind(store, keys, index, newest):
+    """Whether the log has more keys than were read. The last of these must still be as it was."""
+    try:
+        entries = store.range(
+            numbered(keys.log, index), after(keys.log), limit=2, keys_only=True
+        ).entries
+    except StoreError:
+        return False
+    if not index:
+        return bool(entries)
+    if not entries or number_of(entries[0].key) > index or entries[0].modified < newest:
+        raise Stop(f"the store has gone back: log key {index} was read, and is not there")
+    return len(entries) > 1
+
+
 def read(store, keys, say=print):
     """Yields the number and the value of each log key from the first on, in order; None after each
     second without any. Stops at a gap, at a changed key, and where the store has gone back."""
-    checks = Store(store.servers)
+    checks = Store(store.urls)
     index = newest = 0
-    entries = follow(store, keys.log, say=say)
+    entries = follow(store, keys.log, say=say, dense=True)
     behind = None
     while True:
-        entry = entries.send(behind) if behind else next(entries)
+        entry = entries.send(behind)
         behind = None
         if entry is None:
-            try:
-                last, revision = last_index(checks, keys)
-            except StoreError:
-                yield None
-                continue
-            if last < index or revision < newest:
-                raise Stop(f"the store has gone back: log key {index} was read, and its last is "
-                           f"{last}; revision {newest} was seen, and it is at {revision}")
-            behind = last > index
+            behind = is_behind(checks, keys, index, newest)
             yield None
             continue
         number = number_of(entry.key)

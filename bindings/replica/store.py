@@ -13,12 +13,12 @@ from collections import namedtuple
 from urllib.parse import urlsplit
 
 Entry = namedtuple("Entry", "key value created modified version")
-Range = namedtuple("Range", "entries more revision")
+Range = namedtuple("Range", "entries count revision")
 # `certain` is false where the transaction was sent more than once: one of these may have succeeded.
 Outcome = namedtuple("Outcome", "succeeded ranges revision certain")
 
-# Seconds to wait for one server, and for any.
-ANSWER, PATIENCE = 3, 10
+# Seconds to wait for one server, and for any; bytes of a request for which a second is added.
+ANSWER, PATIENCE, BYTES = 3, 10, 200_000
 SPACE = "mvcc: database space exceeded"
 
 
@@ -69,19 +69,17 @@ def entry_of(pair):
 
 def range_of(answer):
     return Range(
-        [entry_of(pair) for pair in answer.get("kvs", [])], answer.get("more", False),
+        [entry_of(pair) for pair in answer.get("kvs", [])], int(answer.get("count", 0)),
         int(answer["header"]["revision"]),
     )
 
 
-def get(key, end=None, limit=0, last=False, keys_only=False):
-    """A range: one key, or those below an end; of these the first ones, or the last one."""
-    words = {"key": packed(key), "limit": 1 if last else limit, "keys_only": keys_only}
+def get(key, end=None, limit=0, **words):
+    """A range: one key, or the first ones below an end, of which all are counted. etcd walks over
+    the keys up to the end, whatever the limit, and reads all values to find the last one."""
     if end:
         words["range_end"] = packed(end)
-    if last:
-        words.update(sort_order="DESCEND", sort_target="KEY")
-    return {"request_range": words}
+    return {"request_range": {"key": packed(key), "limit": limit, **words}}
 
 
 def put(key, value, lease=0):
@@ -105,12 +103,23 @@ def modified(key, revision):
     return {"key": packed(key), "target": "MOD", "mod_revision": revision}
 
 
+def address_of(url):
+    parts = urlsplit(url)
+    try:
+        port = parts.port
+    except ValueError:
+        port = None
+    if parts.scheme != "http" or not parts.hostname or not port:
+        raise StoreError(f"{url!r} is no server of etcd: write http://HOST:PORT")
+    return parts.hostname, port
+
+
 class Store:
     """A client, for one thread. It waits for one server `answer` seconds, for any `patience`."""
 
-    def __init__(self, servers, answer=ANSWER, patience=PATIENCE):
+    def __init__(self, urls, answer=ANSWER, patience=PATIENCE):
         self.answer, self.patience = answer, patience
-        self.servers = [urlsplit(server).netloc or server for server in servers]
+        self.urls, self.servers = urls, [address_of(url) for url in urls]
         self.at = 0
         self.connection = None
 
@@ -126,9 +135,9 @@ class Store:
             except Away as away:
                 why = away
                 self.leave()
-            if time.monotonic() > until:
-                raise Unreachable(f"no server of etcd answers, the last one because of {why} "
-                                  "(a server whose disk is full has ended, says its log)")
+            if tries >= len(self.servers) and time.monotonic() > until:
+                raise Unreachable(f"no server of etcd answers; the last one: {why}. If a server has "
+                                  "ended, its log says why: its disk may be full")
             if tries % len(self.servers) == 0:
                 time.sleep(0.1)
 
@@ -141,16 +150,18 @@ class Store:
 
     def ask(self, path, data):
         try:
-            if not self.connection:
+            if not (self.connection and self.connection.sock):
                 self.connection = http.client.HTTPConnection(
-                    self.servers[self.at], timeout=self.answer
+                    *self.servers[self.at], timeout=self.answer
                 )
+                self.connection.connect()
+            self.connection.sock.settimeout(self.answer + len(data) / BYTES)
             self.connection.request("POST", f"/v3/{path}", data)
             reply = self.connection.getresponse()
             text = reply.read()
             answer = json.loads(text)
         except (OSError, http.client.HTTPException, ValueError) as error:
-            raise Away(f"{self.servers[self.at]}: {error or type(error).__name__}") from None
+            raise Away(f"{self.urls[self.at]}: {error or type(error).__name__}") from None
         if reply.status == 200:
             return answer
         why = answer.get("message") or answer.get("error") or text.decode(errors="replace")
@@ -163,7 +174,7 @@ class Store:
             raise Compacted(why)
         # Deadline exceeded, too many requests, unavailable; unknown covers a change of leader.
         if answer.get("code") in (2, 4, 8, 14):
-            raise Away(f"{self.servers[self.at]}: {why}")
+            raise Away(f"{self.urls[self.at]}: {why}")
         raise StoreError(f"etcd refused a request: {why}")
 
     def range(self, *key, **words):
@@ -203,16 +214,15 @@ class Store:
         words = {"key": packed(key), "range_end": packed(end), "start_revision": revision,
                  "fragment": True, "progress_notify": True}
         data = json.dumps({"create_request": words}).encode()
-        host, _, port = self.servers[self.at].rpartition(":")
         try:
-            with socket.create_connection((host, int(port)), timeout=self.answer) as link:
+            with socket.create_connection(self.servers[self.at], timeout=self.answer) as link:
                 # HTTP 1.0, so that the answer comes without chunks: a line for each message.
                 link.sendall(b"POST /v3/watch HTTP/1.0\r\nContent-Length: %d\r\n\r\n" % len(data))
                 link.sendall(data)
                 link.settimeout(silence)
                 yield from self.messages(link)
         except OSError as error:
-            why = f"{self.servers[self.at]}: {error}"
+            why = f"{self.urls[self.at]}: {error}"
             self.leave()
             raise Unreachable(why) from None
 

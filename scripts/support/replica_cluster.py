@@ -1,6 +1,7 @@
 """Servers of etcd, replicas and writers on loopback, in a folder of their own, and what is in the
 store afterwards."""
 
+import contextlib
 import hashlib
 import json
 import os
@@ -10,7 +11,10 @@ import signal
 import socket
 import subprocess
 import sys
+import tempfile
+import threading
 import time
+from pathlib import Path
 
 from checking import TOP, Failed, want
 
@@ -20,14 +24,54 @@ import log as replica_log
 from store import Store, StoreError, after
 
 
+# Names a variable that every process has which was started in a scratch folder.
+MARK = "PULJEMROD_SCRATCH"
+ENDED = threading.Event()
+
+
 def wait_for(what, is_so, seconds=20):
     """What `is_so` answers, once that is true."""
     until = time.monotonic() + seconds
     while not (found := is_so()):
-        if time.monotonic() > until:
+        if time.monotonic() > until or ENDED.is_set():
             raise Failed(f"not within {seconds} seconds: {what}")
         time.sleep(0.02)
     return found
+
+
+def marked(folder):
+    """The processes that were started in a scratch folder, whoever is their parent."""
+    mark = f"{MARK}={folder}".encode()
+    for path in Path("/proc").glob("[0-9]*/environ"):
+        with contextlib.suppress(OSError):
+            if mark in path.read_bytes().split(b"\0"):
+                yield int(path.parent.name)
+
+
+@contextlib.contextmanager
+def scratch(seconds=0):
+    """A scratch folder. At its end, also after a signal or so many seconds, it is removed, and no
+    process is left that was started in it."""
+
+    def ends(number, _):
+        raise Failed(f"not within {seconds} seconds" if number == signal.SIGALRM else "ended by a signal")
+
+    for number in (signal.SIGTERM, signal.SIGALRM):
+        signal.signal(number, ends)
+    with tempfile.TemporaryDirectory(ignore_cleanup_errors=True) as name:
+        os.environ[MARK] = name
+        signal.alarm(seconds)
+        try:
+            yield Path(name)
+        finally:
+            signal.alarm(0)
+            # Other threads may still be at work: they start nothing from here on.
+            ENDED.set()
+            while left := list(marked(name)):
+                for process in left:
+                    with contextlib.suppress(ProcessLookupError):
+                        os.kill(process, signal.SIGKILL)
+                time.sleep(0.2)
 
 
 def free_ports(count):
@@ -43,6 +87,7 @@ class Process:
 
     def __init__(self, command, path, stdin=subprocess.DEVNULL, stdout=None):
         self.path = path
+        want(not ENDED.is_set(), "the scratch folder is no more")
         with open(path, "ab") as told:
             self.child = subprocess.Popen(
                 [str(word) for word in command], stdin=stdin, stdout=stdout or told, stderr=told
@@ -138,7 +183,9 @@ class Manager:
                 "--prefix", self.keys.prefix]
 
     def replica(self, name, *options, tool=None, lease=2, urls=None):
-        words = self.words("run", urls) + ["--name", name, "--tool", tool or self.tool]
+        words = self.words("run", urls) + ["--name", name]
+        if "--library" not in options:
+            words += ["--tool", tool or self.tool]
         process = Process(words + ["--lease", str(lease), "--interval", "0.5", *options],
                           self.folder / f"{self.prefix}-{name}.log")
         self.processes[name] = process
@@ -211,7 +258,7 @@ class Manager:
         while more:
             found = self.store.range(start, after(prefix), limit=16)
             entries += found.entries
-            more = found.more
+            more = found.count > len(found.entries)
             if more:
                 start = entries[-1].key + "\0"
         return entries
@@ -350,3 +397,23 @@ def session_of(writer):
 
 def etcd_is_there():
     return shutil.which("etcd") is not None
+
+
+def archive():
+    """The library for C, which is built only if it is missing; None where there is no linker for it."""
+    crate = TOP / "crates/puljemrod"
+    path = crate / "out/libpuljemrod.a"
+    if not shutil.which("cc"):
+        return None
+    if not path.exists():
+        subprocess.run(["rt", "lib"], cwd=crate, stdin=subprocess.DEVNULL, capture_output=True)
+    want(path.exists(), "the library cannot be built")
+    return path
+
+
+def options_of_library(path, folder):
+    """For a replica over the shared library, which is made in a folder of the library for C."""
+    if not path:
+        return ()
+    subprocess.run([TOP / "scripts/build_library", path, folder], capture_output=True, check=True)
+    return "--library", folder / "libpuljemrod.so"
