@@ -1,0 +1,3 @@
+-- Lemmas.
+pub mod RowLemmas
+pub mod FileLemmas

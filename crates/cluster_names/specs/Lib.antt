@@ -1,0 +1,4 @@
+-- Names of a cluster.
+pub mod Rows
+pub mod Names
+pub mod FileTable
