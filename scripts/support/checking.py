@@ -70,6 +70,24 @@ class Report:
         sys.exit(1 if self.failed else 0)
 
 
+def uses_of_crates():
+    """By crate what it depends on, as crates.txt lists it."""
+    lines = [line.split(":") for line in (TOP / "crates.txt").read_text().splitlines() if line and not line.startswith("#")]
+    return {head.split()[0]: uses.split() for head, uses in lines}
+
+
+USES = uses_of_crates()
+
+
+def below_crate(crate):
+    """The crates of this repository below a crate, each after those that it uses."""
+    found = []
+    for it in USES[crate]:
+        if it in USES:
+            found += [name for name in [*below_crate(it), it] if name not in found]
+    return found
+
+
 def program(crate):
     """The program of a crate, which is built only if it is missing."""
     path = TOP / "crates" / crate / "out" / crate
@@ -86,6 +104,30 @@ def program(crate):
         print("0 passed, 1 failed")
         sys.exit(1)
     return str(path)
+
+
+def library(compiler="llvm", crate="puljemrod"):
+    """The static library by one of the two compilers, `llvm` or `rattle`.
+
+    After an `rt ci` that left the libraries below it without stamps, `rt lib` would prove all of them again. Then the
+    compiler is called as `rt ci` calls it for a program, over the libraries that are there."""
+    folder = TOP / "crates" / crate
+    made = folder / "out" / f"lib{crate}.a"
+    below = {name: TOP / "crates" / name / "out/rlib" / f"{name}.rlib" for name in below_crate(crate)}
+    command = ["rt", "lib", "--backend", compiler]
+    if all(it.is_dir() for it in below.values()) and not any((it.parent / "stamp").exists() for it in below.values()):
+        kit = Path(subprocess.run(["rt", "doc"], capture_output=True, text=True, check=True).stdout.strip()).parent
+        command = [kit / "bin/rattle", "build", "--crate-name", crate, "src/lib.rt", "--crate-type", "staticlib"]
+        for name in ["std", *USES[crate]]:
+            command += ["--extern", f"{name}={below.get(name, kit / f'rlibs/{name}.rlib')}"]
+        for path in [kit / "rlibs", *(it.parent for it in below.values())]:
+            command += ["-L", f"dependency={path}"]
+        command += ["--antt-project", kit / "rattle/logic/antt-project.json", "--logic-built", kit / "logic_built"]
+        command += ["--jobs", str(len(os.sched_getaffinity(0))), "--links", f"{crate}="]
+        command += ["--toolchain", kit / "toolchain", "--backend", compiler, "-o", made]
+    ended = subprocess.run([*map(str, command)], cwd=folder, capture_output=True, timeout=3600)
+    want(ended.returncode == 0, f"{command[:2]} ends with {ended.returncode}: {ended.stdout[-500:]!r}, {ended.stderr[-500:]!r}")
+    return made
 
 
 def chosen_numbers(*words):

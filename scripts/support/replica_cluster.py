@@ -16,7 +16,7 @@ import threading
 import time
 from pathlib import Path
 
-from checking import TOP, Failed, want
+from checking import TOP, Failed, library, want
 
 REPLICA = TOP / "bindings/replica/replica"
 sys.path[:0] = [str(REPLICA.parent), str(TOP / "bindings/python")]
@@ -401,14 +401,10 @@ def etcd_is_there():
 
 def archive():
     """The library for C, which is built only if it is missing; None where there is no linker for it."""
-    crate = TOP / "crates/puljemrod"
-    path = crate / "out/libpuljemrod.a"
     if not shutil.which("cc"):
         return None
-    if not path.exists():
-        subprocess.run(["rt", "lib"], cwd=crate, stdin=subprocess.DEVNULL, capture_output=True)
-    want(path.exists(), "the library cannot be built")
-    return path
+    path = TOP / "crates/puljemrod/out/libpuljemrod.a"
+    return path if path.exists() else library()
 
 
 def options_of_library(path, folder):
