@@ -9,6 +9,7 @@
 //     mark NAME      the log gets `mark NAME` and how many bytes are held
 // With REFUSE_AT=k the k-th allocation is refused, and that one alone; the log gets `refused k`. With PEAK=1 the log gets
 // `peak` at the end, and how many bytes were held at most; the end is `exit` or, in a program that may start threads, `_exit`.
+// With COUNT=1 it gets `made` there, and how many allocations were made.
 //
 // With LAST_TURN=k the log gets a further line when `refuse k NAME` ends: `sizes NAME T M B1 B2 ..` has the number of threads
 // started since then, how many threads met (see below), and the bytes of each allocation.
@@ -84,7 +85,9 @@ __attribute__((constructor)) static void start(void) {
 
 __attribute__((destructor)) static void end(void) {
     static atomic_int has_ended;
-    if (!atomic_exchange(&has_ended, 1) && getenv("PEAK")) tell("peak", "", atomic_load(&peak));
+    if (atomic_exchange(&has_ended, 1)) return;
+    if (getenv("PEAK")) tell("peak", "", atomic_load(&peak));
+    if (getenv("COUNT")) tell("made", "", atomic_load(&made));
 }
 
 void _exit(int status) {
