@@ -24,7 +24,7 @@ use Rattle.bm_place.proofs.Tables.{get-table, has-keys}
 use Rattle.bm_place.proofs.Alike.{IsLike, like, alike}
 use Rattle.bm_place.proofs.Covering.{AreFirst, covered}
 use Rattle.bm_place.proofs.Ordered.{AreApart, sorted_in_order}
-use Rattle.bm_place.proofs.Spanning.{moved_among}
+use Rattle.bm_place.proofs.Among.{moved_among}
 
 pub among_mapped : {X Y : Type 0} (f : X → Y) (xs : List X) (y : Y) → IsAmong (map f xs) y → (x : X) × IsAmong xs x × (f x ≡ y)
 among_mapped f [] y none = absurd none

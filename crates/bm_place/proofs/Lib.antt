@@ -6,7 +6,7 @@ pub mod Choosing
 pub mod Alike
 pub mod Scanning
 pub mod Keeping
-pub mod Spanning
+pub mod Among
 pub mod Seating
 pub mod Renewing
 pub mod Fewer

@@ -12,5 +12,4 @@ pub mod Candidates
 pub mod Compared
 pub mod Foremost
 pub mod Seats
-pub mod Spans
 pub mod Pass

@@ -14,7 +14,6 @@ mod pass;
 mod scheduled;
 mod seats;
 mod source;
-mod spans;
 mod standing;
 mod streams;
 mod target;

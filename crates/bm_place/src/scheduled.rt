@@ -10,13 +10,11 @@ ghost use Rattle.bm_place.specs.Tables.{nothing_yet};
 ghost use Rattle.bm_place.specs.Targets as targets;
 ghost use Rattle.bm_place.specs.Found.{HasRoomFor, with_sent, targets_with};
 ghost use Rattle.bm_place.specs.Foremost.{AreForemost, IsKept};
-ghost use Rattle.bm_place.specs.Seats.{AreSeated};
-ghost use Rattle.bm_place.specs.Spans.{AreSpanned};
+ghost use Rattle.bm_place.specs.Seats.{AreSeated, AreByNode};
 ghost use Rattle.bm_place.specs.declared.scheduled.Target.{Target};
 
 use crate::foremost::{foremost_beside, foremost_of, place_of, put_back};
-use crate::seats::{Seat, seats_of};
-use crate::spans::{Span, seats_near, spans_of};
+use crate::seats::{Seat, seats_near, seats_of};
 use bm_base::{NodeId, NumberMap, Rack, Refusal, StorageId};
 use bm_topo::Topology;
 use std::alloc::{AllocError, Global};
@@ -44,10 +42,8 @@ pub struct Scheduled {
     /// Of the storages of each node the one with most room, and of these the least: no other is the target of a copy. They stand in
     /// this order too, so that the first that will do is the target.
     foremost: Vec<Target>,
-    /// All storages, those of a node side by side.
+    /// All storages, sorted by their nodes.
     seats: Vec<Seat>,
-    /// By node: between which places of these all its storages stand.
-    spans: NumberMap<Span>,
 }
 
 impl Model for Scheduled {
@@ -63,9 +59,9 @@ impl Model for Scheduled {
 
     ghost view = { λ s. s.rows.map };
 
-    ghost use Rattle.bm_place.specs.Spans.{IsIndexed};
+    ghost use Rattle.bm_place.specs.Seats.{IsIndexed};
 
-    ghost invariant = { λ s. IsIndexed s.rows.map s.foremost.items s.seats.items s.spans.map };
+    ghost invariant = { λ s. IsIndexed s.rows.map s.foremost.items s.seats.items };
 }
 
 impl Scheduled {
@@ -81,12 +77,10 @@ impl Scheduled {
         let listed = rows.entries();
         let foremost = foremost_of(alloc, listed)?;
         let seats = seats_of(alloc, listed)?;
-        let spans = spans_of(alloc, &seats)?;
         Ok(Scheduled {
             rows,
             foremost,
             seats,
-            spans,
         })
     }
 
@@ -103,13 +97,7 @@ impl Scheduled {
             → self.old ≡ targets_with C chosen → self.new ≡ targets_with C (chosen ++ t ∷ []) }
     {
         add_to(&mut self.rows, target, len);
-        renew(
-            &mut self.foremost,
-            &self.rows,
-            &self.seats,
-            &self.spans,
-            target,
-        );
+        renew(&mut self.foremost, &self.rows, &self.seats, target);
     }
 
     /// The foremost storage of each node: of its storages the one with most room, and of these the least. In this order too.
@@ -149,24 +137,18 @@ fn add_to(rows: &mut NumberMap<Target>, target: StorageId, len: u64)
 
 /// The foremost storages, where more bytes were sent to one: in its place comes what is foremost on its node now, and moves back
 /// behind those that go before it. Any other storage of the node goes before none of them still.
-fn renew(
-    foremost: &mut Vec<Target>,
-    rows: &NumberMap<Target>,
-    seats: &[Seat],
-    spans: &NumberMap<Span>,
-    target: StorageId,
-)
+fn renew(foremost: &mut Vec<Target>, rows: &NumberMap<Target>, seats: &[Seat], target: StorageId)
     ensures { (old : map.Map map.by_number Target) (len : ℕ)
         → IsKept old foremost.old.items → HasRoomFor old len target
         → rows.now.map ≡ with_sent old target len
-        → AreSeated rows.now.map seats.now → AreSpanned seats.now spans.now.map
+        → AreSeated rows.now.map seats.now → AreByNode seats.now
         → IsKept rows.now.map foremost.new.items }
 {
     let Some(place) = place_of(foremost, target) else {
         return;
     };
     if let Some(row) = rows.get(u64::from(target.0)) {
-        let near = seats_near(seats, spans, row.node);
+        let near = seats_near(seats, row.node);
         let best = foremost_beside(row, rows, near);
         put_back(foremost, place, &best);
     }

@@ -4,8 +4,7 @@ use Rattle.bm_base.specs.Map.{get, revise_at}
 use Rattle.bm_base.specs.Transfers.{scheduled_to}
 use Rattle.bm_place.specs.declared.scheduled.Target.{Target}
 use Rattle.bm_place.specs.Targets.{target_table}
-use Rattle.bm_place.specs.Spans.{AreSpanned}
-use Rattle.bm_place.specs.Seats.{AreSeated}
+use Rattle.bm_place.specs.Seats.{AreSeated, AreByNode}
 use Rattle.bm_place.proofs.Renewing.{seated_added}
 use Rattle.bm_place.proofs.Counting.{targets-more, targets-chosen}
 use Rattle.bm_place.proofs.scheduled.Scheduled.add.Goals as goal
@@ -29,7 +28,7 @@ invariant_of-self c =
     record {
       kept =
           c.renew.ensures inside.rows.map c.args.len c.self.invariant.kept fits c.add_to.ensures (subst (AreSeated c.add_to.new.rows.map) (sym c.deref.ensures.value) seated)
-          (subst (λ es. AreSpanned es inside.spans.map) (sym c.deref.ensures.value) c.self.invariant.spanned);
+          (subst AreByNode (sym c.deref.ensures.value) c.self.invariant.by_node);
       seated = seated;
-      spanned = c.self.invariant.spanned;
+      by_node = c.self.invariant.by_node;
     }
