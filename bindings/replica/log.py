@@ -270,13 +270,13 @@ def read(store, keys, say=print):
             yield None
             continue
         number = number_of(entry.key)
+        if number > index + 1:
+            raise Stop(f"a gap in the log: key {index + 1} is missing before {number}")
         old = entry.modified <= newest
         if old and number <= index:
             # Delivered again after the connection was lost.
             continue
         if old or number <= index or entry.value is None or entry.version != 1:
             raise Stop(f"log key {number} was changed after it was written")
-        if number != index + 1:
-            raise Stop(f"a gap in the log: key {index + 1} is missing before {number}")
         index, newest = number, entry.modified
         yield index, entry.value

@@ -408,8 +408,9 @@ def archive():
 
 
 def options_of_library(path, folder):
-    """For a replica over the shared library, which is made in a folder of the library for C."""
+    """For a replica over the shared library, which is made below a folder of the library for C."""
     if not path:
         return ()
-    subprocess.run([TOP / "scripts/build_library", path, folder], capture_output=True, check=True)
-    return "--library", folder / "libpuljemrod.so"
+    dist = folder / "dist"
+    subprocess.run([TOP / "scripts/build_library", path, dist], capture_output=True, check=True)
+    return "--library", dist / "libpuljemrod.so"
