@@ -1,6 +1,6 @@
 -- Each kind of step keeps the rule.
-use Rattle.std.proofs.Common.{◌≡◌, ◌≢◌, ℕ, zero, suc, List, [], ◌∷◌, ◌++◌, Option, Some, None, set, refl, sym, ◌∙◌, subst, ⊎_elim}
-use mathlib.Core.Option.{some, some-injective, some-ne-none}
+use Rattle.std.proofs.Common.{◌≡◌, ◌≢◌, ℕ, List, [], ◌∷◌, ◌++◌, Option, Some, None, set, refl, sym, ◌∙◌, subst, ⊎_elim}
+use mathlib.Core.Option.{some}
 use lib.ListN.{get_elem?}
 use Rattle.crossbeam_utils.specs.Register.{Admits, TurnsAt, Turns, Forks, Merges}
 use Rattle.atomic_table.proofs.Lists.{at_set, at_snoc}
@@ -31,10 +31,6 @@ kept_set shown views seat w others mine j u e =
 
 kept_snoc : (shown : Evidence) (views : List (Option Evidence)) (w : Option Evidence) → Kept shown views → BeginsShown w shown → Kept shown (views ++ w ∷ [])
 kept_snoc shown views w h mine j u e = ⊎_elim (h j u) (λ (same : w ≡ u). subst (λ u. BeginsShown u shown) same mine) (at_snoc views w u j e)
-
-pub begins : (x : Evidence) → Holds x (None ∷ [])
-begins x zero v e = subst (λ v. BeginsShown v x) (some-injective _ _ e) tt
-begins x (suc seat) v e = absurd (some-ne-none v (sym e))
 
 pub admits : Admits Holds None
 admits x views h = kept_snoc x views None h tt

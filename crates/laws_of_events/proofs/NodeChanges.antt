@@ -22,9 +22,6 @@ use Rattle.laws_of_events.specs.Changes as law
 
 -- A node comes.
 
-info_of : ℕ → StorageInfo
-info_of n = record { node = n; remaining = 0 }
-
 abbrev pub new_or : Bool → ℕ → Option StorageInfo → Option StorageInfo
 new_or b n z = if b then Some (record { node = n; remaining = 0 }) else z
 

@@ -39,18 +39,10 @@ module _ {X : Type 0} (P : List X → X → Type 0) where
   after_split xs front back x h is = after_at [] front back x (subst (EachAfter P []) is h)
 
 module _ {X : Type 0} where
-  pub after_weaker : (P Q : List X → X → Type 0) → ((ys : List X) (y : X) → P ys y → Q ys y) → (front xs : List X) → EachAfter P front xs → EachAfter Q front xs
-  after_weaker P Q f front [] h = tt
-  after_weaker P Q f front (x ∷ xs) h = (f front x h.0, after_weaker P Q f (front ++ x ∷ []) xs h.1)
-
   -- what no element breaks holds of the whole
   pub after_whole : (P : List X → X → Type 0) (Q : List X → Type 0) → ((ys : List X) (y : X) → Q ys → P ys y → Q (ys ++ y ∷ [])) → (front xs : List X) → Q front → EachAfter P front xs → Q (front ++ xs)
   after_whole P Q f front [] q h = subst Q (sym (append-nil front)) q
   after_whole P Q f front (x ∷ xs) q h = subst Q (append_assoc front (x ∷ []) xs) (after_whole P Q f (front ++ x ∷ []) xs (f front x q h.0) h.1)
-
-  pub each_of_after : (P : X → Type 0) (front xs : List X) → EachAfter (λ _ x. P x) front xs → Each P xs
-  each_of_after P front [] h = tt
-  each_of_after P front (x ∷ xs) h = (h.0, each_of_after P (front ++ x ∷ []) xs h.1)
 
 -- A wish is of a block at its level.
 

@@ -132,9 +132,6 @@ among_front xs ys x h = (h.0, h.1 ++ ys, ap (λ zs. zs ++ ys) h.2 ∙ append_ass
 pub among_cons : {X : Type 0} (y : X) (xs : List X) (x : X) → IsAmong xs x → IsAmong (y ∷ xs) x
 among_cons y xs x h = (y ∷ h.0, h.1, ap (λ zs. y ∷ zs) h.2)
 
-among_at : {X : Type 0} (front back : List X) (x : X) → IsAmong (front ++ x ∷ back) x
-among_at front back x = (front, back, refl)
-
 module _ {X Y : Type 0} where
   among_flat_at : (f : X → List Y) (front back : List X) (x : X) (y : Y) → IsAmong (f x) y → IsAmong (flat_map f (front ++ x ∷ back)) y
   among_flat_at f [] back x y h = among_front (f x) (flat_map f back) y h

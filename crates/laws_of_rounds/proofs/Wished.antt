@@ -259,11 +259,6 @@ on_rack : (C : Cluster) (rs : List ℕ) (u r : ℕ) → rack_of C u ≡ Some r �
 unfolding is_on_racks
 on_rack C rs u r e there = ap (λ o. option_map_or (has rs) o false) e ∙ there
 
-two_parts : (a b c : Bool) → a ≡ true → b ≡ true → (a && b && c) ≡ false → c ≡ false
-two_parts true true c e f g = g
-two_parts true false c e f g = absurd (false≢true f)
-two_parts false b c e f g = absurd (false≢true e)
-
 known_before : (M : State) (b : ℕ) (i : BlockInfo) → get (started M).holdings.blocks b ≡ Some i → get M.holdings.blocks b ≡ Some i
 unfolding started begun marked without_expired without_unordered_excess
 known_before M b i e = e
