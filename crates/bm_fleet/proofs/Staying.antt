@@ -4,11 +4,13 @@ use Rattle.std.specs.List.{AllZip}
 use Rattle.std.proofs.Common.{refl, sym, ap, subst, ◌∙◌, get_or}
 use Rattle.std.proofs.Math.ListN.{set}
 use Rattle.bm_base.specs.Map.{get}
-use Rattle.bm_base.specs.State.{Cluster}
+use Rattle.bm_base.specs.State.{Cluster, Holdings, replica_at}
+use Rattle.bm_base.specs.SlotLists.{Among}
 use Rattle.bm_base.specs.Levels.{level}
 use Rattle.bm_parts.specs.Whole.{whole_of, AreOwn}
 use Rattle.bm_parts.specs.PlacedLaws.{IsPlaced}
 use Rattle.bm_shard.specs.Seen.{Seen}
+use Rattle.bm_shard.specs.Bare.{HasNoneBare}
 use Rattle.bm_shard.specs.Standing.{StandsIn, IsSameButRoom}
 use Rattle.bm_fleet.specs.Whole.{parts_of, held_by, AreIndexed, AreShards, EachStandsIn, EachTook}
 use Rattle.bm_fleet.specs.Worked.{IsSame}
@@ -34,6 +36,16 @@ same_again R S T first next =
       rest = next.rest ∙ ap with_room first.rest;
       levels = λ C h. next.levels C (stands_still C R S first h) ∙ first.levels C h;
     }
+
+-- and no number has an entry for nothing, if the step keeps the entries
+pub bare_again : (S T : Seen) → IsSameButRoom S T → T.room.entries ≡ S.room.entries → HasNoneBare S → HasNoneBare T
+bare_again S T same entries none b bare =
+    let held : T.holdings ≡ S.holdings = ap (λ s. s.holdings) same.rest in
+    none b (record {
+      entry = subst (λ (l : List ℕ). Among b l) entries bare.entry;
+      unknown = ap (λ (H : Holdings). get H.blocks b) (sym held) ∙ bare.unknown;
+      empty = λ s. ap (λ (H : Holdings). get H.replicas (replica_at b s)) (sym held) ∙ bare.empty s;
+    })
 
 pub all_same_again : (rs ss ts : List (ℕ × Seen)) → AllZip IsSame rs ss → AllZip IsSame ss ts → AllZip IsSame rs ts
 all_same_again [] [] [] first next = tt

@@ -9,6 +9,7 @@ use Rattle.bm_base.specs.Refusals.{first_of, block_checks}
 use Rattle.bm_base.specs.Answering.{Refuses, takes_memory}
 use Rattle.bm_parts.specs.Parts.{change_part}
 use Rattle.bm_shard.specs.Seen.{Seen, IsReadyFor}
+use Rattle.bm_shard.specs.Bare.{HasNoneBare, HasNoSpareRoom}
 use Rattle.bm_shard.specs.Standing.{StandsIn, IsSameButRoom}
 use Rattle.bm_fleet.specs.declared.crewed.Prepared.{Prepared}
 use Rattle.bm_fleet.specs.declared.crewed.Committed.{Committed}
@@ -30,6 +31,11 @@ AreNew config index (s ∷ ss) = IsNew config index s × AreNew config (suc inde
 -- the same shard, in all but room
 abbrev pub IsSame : ℕ × Seen → ℕ × Seen → Type 0
 IsSame s t = (t.0 ≡ s.0) × IsSameButRoom s.1 t.1
+
+-- what was made ready for an event or a round is given up: no number has an entry for nothing, no block room for transfers for nothing
+pub record HasGivenUp (S : Seen) : Type 0 where
+  pub bare : HasNoneBare S
+  pub freed : HasNoSpareRoom S
 
 -- no check on the blocks of this shard refuses the event
 abbrev pub Accepts : Event → ℕ × Seen → Type 0

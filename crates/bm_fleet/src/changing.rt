@@ -7,7 +7,7 @@ ghost use Rattle.bm_base.specs.Events.{change_cluster, change_holdings};
 ghost use Rattle.bm_base.specs.Refusals.{first_of, cluster_checks};
 ghost use Rattle.bm_base.specs.Calls.{done};
 ghost use Rattle.bm_parts.specs.Parts.{block_of};
-ghost use Rattle.bm_fleet.specs.Worked.{Accepts, CanCommit, IsSame};
+ghost use Rattle.bm_fleet.specs.Worked.{Accepts, CanCommit, IsSame, HasGivenUp};
 ghost use Rattle.bm_fleet.specs.Whole.{AreShards, EachStandsIn, EachTook, held_by};
 
 use crate::crewed::{Committed, Prepared};
@@ -49,6 +49,7 @@ pub(crate) fn change_all<W: Workers>(
         → EachTook round pend shards.new.items }
     ensures unchanged { OnErr result (held_by shards.new.items ≡ held_by shards.old.items) }
     ensures still { OnErr result (EachStandsIn topology.now.cluster shards.new.items) }
+    ensures given_up { OnErr result (All (λ s. HasGivenUp s.1) shards.new.items) }
     ensures refused { IfErr result (λ e. e ≡ Memory) }
 {
     match prepare_for_event(alloc, workers, shards, event, topology) {

@@ -3,7 +3,7 @@ ghost use Rattle.std.specs.Prelude.{◌≡◌, ◌≤◌, [], map, length, vec_l
 ghost use Rattle.std.specs.Result.{result_and};
 ghost use Rattle.std.specs.List.{All, AllZip};
 ghost use Rattle.bm_shard.specs.Standing.{IsSameButRoom};
-ghost use Rattle.bm_fleet.specs.Worked.{IsSame};
+ghost use Rattle.bm_fleet.specs.Worked.{IsSame, HasGivenUp};
 ghost use Rattle.bm_fleet.specs.Gathered.{outcome_of, done_of, shard_of_prepared, shard_of_committed, IsFew};
 
 use crate::crewed::{Committed, Prepared};
@@ -44,6 +44,7 @@ pub(crate) fn first_refusal(
 /// Has each shard give up what was made ready for an event or a round.
 pub(crate) fn abort_all(shards: &mut Vec<(u32, Shard)>)
     ensures each { AllZip IsSame shards.old.items shards.new.items }
+    ensures given_up { All (λ s. HasGivenUp s.1) shards.new.items }
 {
     for one in shards.iter_mut() {
         abort_one(&mut one.1);
@@ -52,7 +53,8 @@ pub(crate) fn abort_all(shards: &mut Vec<(u32, Shard)>)
 
 /// Has a shard give up what was made ready for an event or a round.
 fn abort_one(shard: &mut Shard)
-    ensures { IsSameButRoom shard.old shard.new }
+    ensures same { IsSameButRoom shard.old shard.new }
+    ensures given_up { HasGivenUp shard.new }
 {
     shard.abort();
     shard.round_abort();

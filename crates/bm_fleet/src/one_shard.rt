@@ -8,6 +8,7 @@ ghost use Rattle.bm_base.specs.Refusals.{first_of, cluster_checks, block_checks}
 ghost use Rattle.bm_base.specs.Answering.{Refuses, takes_memory};
 ghost use Rattle.bm_parts.specs.Parts.{block_of};
 ghost use Rattle.bm_shard.specs.Seen.{Seen};
+ghost use Rattle.bm_shard.specs.Bare.{HasNoneBare};
 ghost use Rattle.bm_shard.specs.Standing.{StandsIn, IsSameButRoom};
 ghost use Rattle.bm_fleet.specs.Whole.{AreShards, EachStandsIn, EachTook, held_by};
 ghost use Rattle.bm_fleet.specs.Worked.{Accepts};
@@ -97,6 +98,7 @@ fn change_shard(
     requires standing { StandsIn topology.now.cluster shard.old }
     ensures changed { IfOk result (IsChanged topology.now.cluster event.now shard.old shard.new) }
     ensures same { OnErr result (IsSameButRoom shard.old shard.new) }
+    ensures bare { OnErr result (HasNoneBare shard.new) }
     ensures refused { IfErr result (Refuses None (takes_memory event.now)) }
 {
     match shard.prepare(event, topology) {

@@ -1,5 +1,5 @@
 -- What is kept of blocks beside their replicas, by slot.
-use Rattle.std.specs.Prelude.{◌≡◌, ◌↔◌, ℕ, ◌+◌, ◌<◌, ◌≤◌, Bool, true, false, List, ◌++◌, length, map, reverse, Option, Some, None, slice_get, slice_index_or}
+use Rattle.std.specs.Prelude.{◌≡◌, ◌↔◌, ℕ, ◌+◌, ◌<◌, ◌≤◌, max, Bool, true, false, List, ◌++◌, length, map, reverse, Option, Some, None, slice_get, slice_index_or}
 use Rattle.bm_base.specs.declared.level.Level.{Level}
 use Rattle.bm_base.specs.declared.level.Level.TheVariants.{Highest, VeryUnderReplicated, UnderReplicated, BadlyDistributed, NoUsableReplica}
 use Rattle.bm_base.specs.SlotLists.{Among}
@@ -52,6 +52,10 @@ HasRoomForEach K slots = (slot : ℕ) → Among slot slots → HasRoomFor K (slo
 -- a change leaves the room that there is
 abbrev pub KeepsRoom : Kept → Kept → Type 0
 KeepsRoom old new = (bound : ℕ) → HasRoomFor old bound → HasRoomFor new bound
+
+-- a change makes room for this many slots at most, and for none where there was room for as many
+abbrev pub GrowsWithin : ℕ → Kept → Kept → Type 0
+GrowsWithin most old new = (length new.levels.levels ≤ max (length old.levels.levels) most) × (new.unsettled.room ≤ max old.unsettled.room most)
 
 -- these are just the slots at a level
 abbrev pub AreSlotsAt : Kept → Level → List ℕ → Type 0

@@ -1,9 +1,9 @@
 // What is kept of the blocks of a shard beside their replicas.
-ghost use Rattle.std.specs.Prelude.{◌≡◌, true, ◌≢◌, ℕ, ◌≤◌, None, length, IfOk, IfErr, OnOk, IsOk};
+ghost use Rattle.std.specs.Prelude.{◌≡◌, true, ◌≢◌, ℕ, ◌+◌, ◌≤◌, None, length, IfOk, IfErr, OnOk, IsOk};
 ghost use Rattle.bm_base.specs.declared.refusal.Refusal.TheVariants.{Memory};
 ghost use Rattle.bm_base.specs.declared.level.Level.{Level};
 ghost use Rattle.bm_base.specs.SlotLists.{Distinct};
-ghost use Rattle.bm_levels.specs.Kept.{level_of_slot, IsUnsettled, HasRoomFor, HasRoomAt, KeepsRoom, AreSlotsAt, AreWishing, slots_at, wishing_slots, IsKeptAs, IsSameAt, KeepsAhead};
+ghost use Rattle.bm_levels.specs.Kept.{level_of_slot, IsUnsettled, HasRoomFor, HasRoomAt, KeepsRoom, GrowsWithin, AreSlotsAt, AreWishing, slots_at, wishing_slots, IsKeptAs, IsSameAt, KeepsAhead};
 
 use crate::judging::Judged;
 use bm_arena::Slot;
@@ -20,7 +20,8 @@ const FAR: usize = 1 << 31;
 
 /// Below which bound room is made, where it is asked for below this one.
 fn ahead_of(bound: usize) -> usize
-    ensures { bound ≤ result }
+    ensures enough { bound ≤ result }
+    ensures few { result ≤ bound + 255 }
 {
     if bound < FAR { bound + AHEAD } else { bound }
 }
@@ -64,7 +65,9 @@ impl KeptLevels {
     pub fn grow_to(&mut self, bound: usize) -> Result<(), Refusal>
         ensures room { OnOk result (HasRoomFor self.new bound) }
         ensures kept { KeepsRoom self.old self.new }
+        ensures few { GrowsWithin (bound + 255) self.old self.new }
         ensures there { HasRoomFor self.old bound → IsOk result }
+        ensures unchanged { HasRoomFor self.old bound → self.new ≡ self.old }
         ensures same { (slot : ℕ) → IsSameAt self.old self.new slot }
         ensures refused { IfErr result (λ e. e ≡ Memory) }
     {
@@ -86,6 +89,7 @@ impl KeptLevels {
     fn grow(&mut self, bound: usize) -> Result<(), Refusal>
         ensures room { OnOk result (HasRoomFor self.new bound) }
         ensures kept { KeepsRoom self.old self.new }
+        ensures few { GrowsWithin bound self.old self.new }
         ensures same { (slot : ℕ) → IsSameAt self.old self.new slot }
         ensures refused { IfErr result (λ e. e ≡ Memory) }
     {

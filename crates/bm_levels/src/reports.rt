@@ -5,13 +5,14 @@ ghost use Rattle.bm_base.specs.SlotLists.{Among};
 ghost use Rattle.bm_base.specs.State.{Cluster};
 ghost use Rattle.bm_base.specs.Events as events;
 ghost use Rattle.bm_base.specs.Calls as calls;
-ghost use Rattle.bm_arena.specs.Contents.{KeepsEntries};
+ghost use Rattle.bm_arena.specs.Contents.{HasHead, KeepsEntries};
 ghost use Rattle.bm_arena.specs.Holding.{replicas_of, blocks_of, holdings_of};
 ghost use Rattle.bm_report.specs.Expanded.{told_to};
 ghost use Rattle.bm_report.specs.Midway.{IsOncePerNode};
-ghost use Rattle.bm_report.specs.Ready.{told, IsLookedUp, IsReady, IsToldAt, HasGoodExcess};
+ghost use Rattle.bm_report.specs.Ready.{told, IsLookedUp, IsReady, IsToldAt, HasGoodExcess, HaveReplicas};
 ghost use Rattle.bm_report.specs.Received.{HasReceived};
 ghost use Rattle.bm_levels.specs.Bare.{HasNoneBareOf, MakesNoneBare, MakesBareOnly, IsSameBeside};
+ghost use Rattle.bm_levels.specs.Kept.{HasRoomFor};
 ghost use Rattle.bm_levels.specs.Leveled.{KeepsLevels};
 
 use crate::leveled::LeveledBlocks;
@@ -38,6 +39,10 @@ impl LeveledBlocks {
         ensures bare { MakesBareOnly (events.is_named (told_to part entries.now))
             self.old.arena self.new.arena }
         ensures given_up { OnErr result (MakesNoneBare self.old.arena self.new.arena) }
+        ensures there { HasHead self.old.arena storage
+            → HaveReplicas self.old.arena storage (told_to part entries.now)
+            → OnOk result ((self.new.arena ≡ self.old.arena)
+            × (HasRoomFor self.old.kept self.old.arena.bound → self.new ≡ self.old)) }
         ensures levels { (C : Cluster) → KeepsLevels C self.old self.new }
         ensures refused { IfErr result (λ e. e ≡ Memory) }
     {

@@ -1,5 +1,5 @@
 -- What a report keeps from its look-up to its end, and what has to stand before it is applied.
-use Rattle.std.specs.Prelude.{◌≡◌, ℕ, ◌+◌, ◌≤◌, List, [], ◌∷◌, map, length, IsTrue, IsSomeAnd, Some, None}
+use Rattle.std.specs.Prelude.{◌≡◌, ℕ, ◌+◌, ◌≤◌, List, [], ◌∷◌, map, length, IsTrue, IsSome, IsSomeAnd, Some, None}
 use Rattle.std.specs.Option.{unwrap_or}
 use Rattle.bm_base.specs.declared.replica.ReplicaId.{ReplicaId}
 use Rattle.bm_base.specs.declared.replica.Marks.{Marks}
@@ -53,6 +53,13 @@ HasPlace a s b = IsSomeAnd (slot_of a b) (λ slot. marks_at a slot s ≡ None �
 pub record HasPlaces (a : Contents) (s : ℕ) (ts : List Told) : Type 0 where
   pub places : (b : ℕ) → IsTrue (is_named ts b) → HasPlace a s b
   pub head : HasHead a s
+
+-- a number has a replica on s, and so does each number that is told
+abbrev pub HasReplica : Contents → ℕ → ℕ → Type 0
+HasReplica a s b = IsSome (get (replicas_of a) (replica_at b s))
+
+abbrev pub HaveReplicas : Contents → ℕ → List Told → Type 0
+HaveReplicas a s ts = (b : ℕ) → IsTrue (is_named ts b) → HasReplica a s b
 
 -- each replica on s that is told is there with just the marks with which it is entered
 abbrev pub StandAlready : Holdings → ℕ → List Told → Type 0

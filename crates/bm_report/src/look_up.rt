@@ -1,5 +1,5 @@
 // The slots of the blocks that a report names.
-ghost use Rattle.std.specs.Prelude.{◌≡◌, ◌≢◌, ◌<◌, ◌≤◌, ◌+◌, ◌-◌, ◌^◌, ◌==◌, ◌++◌, ◌∷◌, [], map, ℕ, slice_get, IsSome, IfOk, IfErr, OnOk, OnErr, None, Some, false, length};
+ghost use Rattle.std.specs.Prelude.{◌≡◌, ◌≢◌, ◌<◌, ◌≤◌, ◌+◌, ◌-◌, ◌^◌, ◌==◌, ◌++◌, ◌∷◌, [], map, ℕ, slice_get, IsSome, IsOk, IfOk, IfErr, OnOk, OnErr, None, Some, false, length};
 ghost use Rattle.bm_base.specs.declared.refusal.Refusal.TheVariants.{Memory};
 ghost use Rattle.bm_arena.specs.Contents.{slot_of, HasHead};
 ghost use Rattle.bm_base.specs.Entries.{told_by};
@@ -8,6 +8,7 @@ ghost use Rattle.bm_base.specs.Shards.{shard_of};
 ghost use Rattle.bm_report.specs.Midway.{AreHere, HaveRoom, told_of};
 ghost use Rattle.bm_report.specs.Aborted.{NamesNew};
 ghost use Rattle.bm_report.specs.Expanded.{IsPrepared, of_part, told_to};
+ghost use Rattle.bm_report.specs.Ready.{HasReplica, HaveReplicas};
 
 use crate::first_of_part::first_of_part;
 use crate::room_for_replica::make_room;
@@ -21,6 +22,7 @@ fn slot_for(arena: &mut Arena, id: BlockId) -> Result<Slot, Refusal>
     ensures here { IfOk result (λ slot. slot_of arena.new id ≡ Some slot) }
     ensures others { (b : ℕ) → b ≢ id → slot_of arena.new b ≡ slot_of arena.old b }
     ensures unchanged { OnErr result (arena.new ≡ arena.old) }
+    ensures known { IsSome (slot_of arena.old id) → IsOk result × (arena.new ≡ arena.old) }
     ensures refused { IfErr result (λ e. e ≡ Memory) }
 {
     arena.lawful();
@@ -45,6 +47,7 @@ fn look_up_one(
     ensures named { OnOk result (map told_of named.new.items ≡ map told_of named.old.items
         ++ record { id = id; stamp = stamp } ∷ []) }
     ensures fresh { NamesNew arena.old arena.new named.old.items named.new.items }
+    ensures there { HasReplica arena.old storage id → arena.new ≡ arena.old }
     ensures refused { IfErr result (λ e. e ≡ Memory) }
 {
     named.reserve(1)?;
@@ -77,6 +80,8 @@ fn look_up_run(
     ensures named { OnOk result (map told_of named.new.items ≡ map told_of named.old.items
         ++ of_part part (told_by entry.now)) }
     ensures fresh { NamesNew arena.old arena.new named.old.items named.new.items }
+    ensures there { HaveReplicas arena.old storage (of_part part (told_by entry.now))
+        → arena.new ≡ arena.old }
     ensures refused { IfErr result (λ e. e ≡ Memory) }
 {
     let last = u128::from(entry.to.0);
@@ -107,6 +112,8 @@ fn look_up_all(
     ensures room { OnOk result (HaveRoom arena.new storage named.new.items) }
     ensures named { OnOk result (map told_of named.new.items ≡ told_to part entries.now) }
     ensures fresh { NamesNew arena.old arena.new [] named.new.items }
+    ensures there { HaveReplicas arena.old storage (told_to part entries.now)
+        → arena.new ≡ arena.old }
     ensures refused { IfErr result (λ e. e ≡ Memory) }
 {
     named.clear();
@@ -139,6 +146,8 @@ pub(crate) fn look_up(
     ensures room { OnOk result (HaveRoom arena.new storage named.new.items) }
     ensures named { OnOk result (map told_of named.new.items ≡ told_to part entries.now) }
     ensures fresh { NamesNew arena.old arena.new [] named.new.items }
+    ensures there { HasHead arena.old storage
+        → HaveReplicas arena.old storage (told_to part entries.now) → arena.new ≡ arena.old }
     ensures refused { IfErr result (λ e. e ≡ Memory) }
 {
     reserve_head(arena, storage)?;
@@ -161,9 +170,11 @@ pub(crate) fn look_up_alone(
     ensures named { OnOk result (map told_of named.new.items
         ≡ record { id = id; stamp = stamp } ∷ []) }
     ensures fresh { NamesNew arena.old arena.new [] named.new.items }
+    ensures there { HasReplica arena.old storage id → arena.new ≡ arena.old }
     ensures refused { IfErr result (λ e. e ≡ Memory) }
 {
     named.clear();
+    arena.lawful();
     reserve_head(arena, storage)?;
     arena.lawful();
     look_up_one(arena, storage, id, stamp, named)
@@ -173,6 +184,7 @@ fn reserve_head(arena: &mut Arena, storage: StorageId) -> Result<(), Refusal>
     ensures kept { IsPrepared arena.old arena.new }
     ensures head { OnOk result (HasHead arena.new storage) }
     ensures numbers { (b : ℕ) → slot_of arena.new b ≡ slot_of arena.old b }
+    ensures had { HasHead arena.old storage → IsOk result × (arena.new ≡ arena.old) }
     ensures refused { IfErr result (λ e. e ≡ Memory) }
 {
     arena.lawful();

@@ -4,13 +4,13 @@ ghost use Rattle.bm_base.specs.declared.refusal.Refusal.TheVariants.{Memory};
 ghost use Rattle.bm_base.specs.Events as events;
 ghost use Rattle.bm_base.specs.Calls as calls;
 ghost use Rattle.bm_base.specs.SlotLists.{Among};
-ghost use Rattle.bm_arena.specs.Contents.{block_at, slot_of, marks_at, IsEntry, KeepsEntries};
+ghost use Rattle.bm_arena.specs.Contents.{block_at, slot_of, marks_at, HasHead, IsEntry, KeepsEntries};
 ghost use Rattle.bm_arena.specs.Holding.{replicas_of, blocks_of, holdings_of};
 ghost use Rattle.bm_report.specs.Midway.{IsOncePerNode, count_ups, slot_in};
 ghost use Rattle.bm_report.specs.Expanded.{IsPrepared, told_to};
 ghost use Rattle.bm_report.specs.Aborted.{is_bare_number};
 ghost use Rattle.bm_report.specs.Received.{HasReceived};
-ghost use Rattle.bm_report.specs.Ready.{told, IsLookedUp, IsReady, IsToldAt, HasGoodExcess, StandAlready};
+ghost use Rattle.bm_report.specs.Ready.{told, IsLookedUp, IsReady, IsToldAt, HasGoodExcess, HasReplica, HaveReplicas, StandAlready};
 
 use crate::aborting::abort_named;
 use crate::applying::apply;
@@ -83,6 +83,8 @@ impl Report {
             → slot_of arena.new b ≡ slot_of arena.old b }
         ensures fresh { (b : ℕ) → slot_of arena.old b ≡ None → IsSome (slot_of arena.new b)
             → IsTrue (events.is_named (told self.new) b) }
+        ensures there { HasHead arena.old storage
+            → HaveReplicas arena.old storage (told_to part entries.now) → arena.new ≡ arena.old }
         ensures refused { IfErr result (λ e. e ≡ Memory) }
     {
         look_up(arena, storage, entries, part, &mut self.named)?;
@@ -109,6 +111,7 @@ impl Report {
         ensures others { (b : ℕ) → b ≢ id → slot_of arena.new b ≡ slot_of arena.old b }
         ensures fresh { (b : ℕ) → slot_of arena.old b ≡ None → IsSome (slot_of arena.new b)
             → IsTrue (events.is_named (told self.new) b) }
+        ensures there { HasReplica arena.old storage id → arena.new ≡ arena.old }
         ensures refused { IfErr result (λ e. e ≡ Memory) }
     {
         look_up_alone(arena, storage, id, stamp, &mut self.named)

@@ -1,5 +1,5 @@
 // Room for the replicas that a report may bring.
-ghost use Rattle.std.specs.Prelude.{◌≡◌, ℕ, IsSome, IfErr, OnOk, None};
+ghost use Rattle.std.specs.Prelude.{◌≡◌, ℕ, IsSome, IfErr, IsOk, OnOk, None};
 ghost use Rattle.bm_base.specs.declared.refusal.Refusal.TheVariants.{Memory};
 ghost use Rattle.bm_arena.specs.Contents.{block_at, slot_of, marks_at, HasRoom};
 ghost use Rattle.bm_report.specs.Expanded.{IsPrepared};
@@ -12,6 +12,8 @@ pub(crate) fn make_room(arena: &mut Arena, slot: Slot, storage: StorageId) -> Re
     requires held { IsSome (block_at arena.old slot) }
     ensures kept { IsPrepared arena.old arena.new }
     ensures room { OnOk result (marks_at arena.new slot storage ≡ None → HasRoom arena.new slot) }
+    ensures there { IsSome (marks_at arena.old slot storage)
+        → IsOk result × (arena.new ≡ arena.old) }
     ensures numbers { (b : ℕ) → slot_of arena.new b ≡ slot_of arena.old b }
     ensures refused { IfErr result (λ e. e ≡ Memory) }
 {

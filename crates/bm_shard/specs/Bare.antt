@@ -1,5 +1,8 @@
--- Numbers that have an entry while nothing is held of them: only an event that is prepared may need such entries.
-use Rattle.std.specs.Prelude.{◌≡◌, ◌==◌, ℕ, Bool, false, IsTrue, None}
+-- Numbers that have an entry while nothing is held of them: only an event that is prepared may need such entries. And blocks that
+-- have room for transfers while none is on its way: only a round that is made ready may need such room.
+use Rattle.std.specs.Prelude.{◌≡◌, ◌==◌, ℕ, Bool, false, [], IsTrue, None, nat_eq}
+use Rattle.std.specs.Option.{unwrap_or}
+use Rattle.std.specs.Map.{lookup}
 use Rattle.bm_base.specs.declared.ids.Part.{Part}
 use Rattle.bm_base.specs.declared.event.Event.{Event}
 use Rattle.bm_base.specs.declared.event.Event.TheVariants.{AddBlock, Received, FullReport}
@@ -7,6 +10,7 @@ use Rattle.bm_base.specs.Map.{get}
 use Rattle.bm_base.specs.State.{replica_at}
 use Rattle.bm_base.specs.Entries.{expanded}
 use Rattle.bm_base.specs.Events.{is_named}
+use Rattle.bm_base.specs.Transfers.{pending_targets}
 use Rattle.bm_base.specs.SlotLists.{Among}
 use Rattle.bm_parts.specs.Parts.{told_of}
 use Rattle.bm_shard.specs.Seen.{Seen}
@@ -30,3 +34,7 @@ may_enter part (AddBlock b stamp repl) n = b == n
 may_enter part (Received s b stamp) n = b == n
 may_enter part (FullReport s es) n = is_named (told_of part.index part.shards (expanded es)) n
 may_enter part _ n = false
+
+-- a block with no transfer on its way has no room for any
+abbrev pub HasNoSpareRoom : Seen → Type 0
+HasNoSpareRoom S = (b : ℕ) → pending_targets S.holdings b ≡ [] → unwrap_or (lookup (nat_eq b) S.room.transfers) 0 ≡ 0

@@ -4,7 +4,7 @@ ghost use Rattle.bm_base.specs.declared.refusal.Refusal.TheVariants.{Memory};
 ghost use Rattle.bm_base.specs.RoundParts.{round_on_part};
 ghost use Rattle.bm_parts.specs.Before.{part_before};
 ghost use Rattle.bm_shard.specs.Seen.{IsReadyForRound};
-ghost use Rattle.bm_shard.specs.Bare.{HasNoneBare};
+ghost use Rattle.bm_shard.specs.Bare.{HasNoneBare, HasNoSpareRoom};
 ghost use Rattle.bm_shard.specs.Standing.{StandsIn, IsSameButRoom, next_part};
 
 use crate::own_transfers::insert_own;
@@ -142,6 +142,7 @@ impl Shard {
     pub fn round_abort(&mut self)
         ensures same { IsSameButRoom self.old self.new }
         ensures entries { self.new.room.entries ≡ self.old.room.entries }
+        ensures freed { HasNoSpareRoom self.new }
     {
         self.pending.drop_empty_rooms();
     }

@@ -1,6 +1,10 @@
-use Rattle.std.proofs.Common.{[], map, length, refl, ◌∙◌}
+use Rattle.std.proofs.Common.{[], map, length, refl, sym, subst, ◌∙◌}
 use Rattle.std.proofs.lemmas.Option.{slice_get_read}
+use Rattle.bm_arena.specs.Contents.{Contents}
+use Rattle.bm_base.specs.Entries.{told_by}
+use Rattle.bm_report.specs.Expanded.{of_part}
 use Rattle.bm_report.specs.Midway.{told_of}
+use Rattle.bm_report.specs.Ready.{HaveReplicas}
 use Rattle.bm_report.proofs.Aborts.{naming-chain}
 use Rattle.bm_report.proofs.Prepared.{prepared-chain}
 use Rattle.bm_report.proofs.Running.{told_on, told_end}
@@ -17,6 +21,9 @@ loop-entry-preserved c =
       others = λ b out.
           c.look_up_run.ensures.others b (not_named _ (λ in_it. named_apart _ b out (c.loop-entry.invariant.rest b (entry_named c.args.part c.args.entries.now c.loop-entry.entry-index c.entry-item.result b at in_it)))) ∙ c.loop-entry.invariant.others b out;
       rest = λ b in_it. c.loop-entry.invariant.rest b (rest_named c.args.part c.args.entries.now c.loop-entry.entry-index c.entry-item.result b at in_it);
+      there = λ h.
+          let same = c.loop-entry.invariant.there h in
+          c.look_up_run.ensures.there (subst (λ (a : Contents). HaveReplicas a c.args.storage (of_part c.args.part (told_by c.entry-item.result))) (sym same) (λ b in_it. h b (c.loop-entry.invariant.rest b (entry_named c.args.part c.args.entries.now c.loop-entry.entry-index c.entry-item.result b at in_it)))) ∙ same;
       named =
           told_on c.args.part c.args.entries.now c.loop-entry.entry-index c.entry-item.result (map told_of c.loop-entry.named.items) (map told_of c.look_up_run.new.named.items) _ at c.loop-entry.invariant.named
           c.in_ok-look_up_run.ensures.named;
@@ -30,3 +37,9 @@ pub returns-in_err-look_up_run-clause-others : goal.returns-in_err-look_up_run-c
 returns-in_err-look_up_run-clause-others c b out =
     let at = slice_get_read c.args.entries.now (length c.args.entries.now) c.loop-entry.entry-index c.entry-item.result refl c.loop-entry-test.true c.entry-item.is in
     c.look_up_run.ensures.others b (not_named _ (λ in_it. named_apart _ b out (c.loop-entry.invariant.rest b (entry_named c.args.part c.args.entries.now c.loop-entry.entry-index c.entry-item.result b at in_it)))) ∙ c.loop-entry.invariant.others b out
+
+pub returns-in_err-look_up_run-clause-there : goal.returns-in_err-look_up_run-clause-there
+returns-in_err-look_up_run-clause-there c h =
+    let at = slice_get_read c.args.entries.now (length c.args.entries.now) c.loop-entry.entry-index c.entry-item.result refl c.loop-entry-test.true c.entry-item.is in
+    let same = c.loop-entry.invariant.there h in
+    c.look_up_run.ensures.there (subst (λ (a : Contents). HaveReplicas a c.args.storage (of_part c.args.part (told_by c.entry-item.result))) (sym same) (λ b in_it. h b (c.loop-entry.invariant.rest b (entry_named c.args.part c.args.entries.now c.loop-entry.entry-index c.entry-item.result b at in_it)))) ∙ same

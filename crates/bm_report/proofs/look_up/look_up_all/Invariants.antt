@@ -3,6 +3,7 @@ use Rattle.bm_arena.specs.Contents.{slot_of}
 use Rattle.bm_base.specs.Events.{is_named}
 use Rattle.bm_report.specs.Midway.{AreHere, HaveRoom, told_of}
 use Rattle.bm_report.specs.Aborted.{NamesNew}
+use Rattle.bm_report.specs.Ready.{HaveReplicas}
 use Rattle.bm_report.specs.Expanded.{IsPrepared, of_part, told_to}
 use Rattle.bm_base.specs.Entries.{expanded}
 use Rattle.bm_report.proofs.look_up.look_up_all.Given as goal
@@ -16,5 +17,6 @@ invariant-loop-entry l =
       room : HaveRoom l.arena l.storage l.named.items;
       others : (b : ℕ) → is_named (told_to l.part l.entries) b ≡ false → slot_of l.arena b ≡ slot_of l.initial.arena b;
       rest : (b : ℕ) → is_named (of_part l.part (expanded (drop l.entry-index l.entries))) b ≡ true → is_named (told_to l.part l.entries) b ≡ true;
+      there : HaveReplicas l.initial.arena l.storage (told_to l.part l.entries) → l.arena ≡ l.initial.arena;
       named : map told_of l.named.items ++ of_part l.part (expanded (drop l.entry-index l.entries)) ≡ told_to l.part l.entries;
     }

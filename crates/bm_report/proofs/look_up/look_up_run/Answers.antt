@@ -1,9 +1,11 @@
-use Rattle.std.proofs.Common.{◌≡◌, ◌+◌, ◌%◌, ◌≤◌, ◌++◌, ◌∷◌, [], true, map, sym, ap, ◌∙◌, arith}
+use Rattle.std.proofs.Common.{◌≡◌, ◌+◌, ◌%◌, ◌≤◌, ◌++◌, ◌∷◌, [], true, map, sym, subst, ap, ◌∙◌, arith}
 use Rattle.std.proofs.Math.Nat.{add-mod_right}
 use Rattle.bm_base.specs.declared.event.Entry.{Entry}
 use Rattle.bm_report.specs.Expanded.{of_part}
 use Rattle.bm_base.specs.Events.{is_named}
+use Rattle.bm_arena.specs.Contents.{Contents}
 use Rattle.bm_report.specs.Midway.{told_of}
+use Rattle.bm_report.specs.Ready.{HasReplica}
 use Rattle.std.proofs.Common.{refl}
 use Rattle.bm_report.proofs.Aborts.{naming-none, naming-chain}
 use Rattle.bm_report.proofs.Prepared.{prepared-none, prepared-chain}
@@ -21,6 +23,7 @@ loop-next-init c =
       room = c.requires.room;
       others = λ b out. refl;
       rest = λ b in_it. ap (λ l. is_named l b) first_is ∙ in_it;
+      there = λ h. refl;
       own = c.first_of_part-next.ensures.of_part;
       named = sym (ap (λ l. map told_of c.args.named.now.items ++ l) first_is);
     }
@@ -37,6 +40,10 @@ loop-next-preserved c =
       rest = λ b in_it.
           let at : is_named (of_part c.args.part (told_from c.args.entry.now (c.loop-next.next + c.args.part.shards))) b ≡ true = ap (λ k. is_named (of_part c.args.part (told_from c.args.entry.now (c.loop-next.next + k))) b) (sym c.from-next.ensures) ∙ in_it in
           c.loop-next.invariant.rest b (later_named c.args.part c.args.entry.now c.loop-next.next b c.requires.index c.loop-next.invariant.own within at);
+      there = λ h.
+          let same = c.loop-next.invariant.there h in
+          let named = c.loop-next.invariant.rest c.loop-next.next (next_named c.args.part c.args.entry.now c.loop-next.next c.loop-next.next c.requires.index c.loop-next.invariant.own within refl) in
+          c.look_up_one.ensures.there (subst (λ (a : Contents). HasReplica a c.args.storage c.loop-next.next) (sym same) (h c.loop-next.next named)) ∙ same;
       own = ap (λ k. (c.loop-next.next + k) % c.args.part.shards) c.from-next.ensures ∙ add-mod_right c.loop-next.next c.args.part.shards ∙ c.loop-next.invariant.own;
       named = ap (λ k. map told_of c.look_up_one.new.named.items ++ of_part c.args.part (told_from c.args.entry.now (c.loop-next.next + k))) c.from-next.ensures ∙ run_step c.args.part c.args.entry.now c.loop-next.next (map told_of c.loop-next.named.items) (map told_of c.look_up_one.new.named.items) _ c.requires.index c.loop-next.invariant.own within c.loop-next.invariant.named
           (c.in_ok-look_up_one.ensures.named ∙ ap (λ (e : Entry). map told_of c.loop-next.named.items ++ record { id = c.loop-next.next; stamp = e.stamp } ∷ []) c.entry.view_is);
@@ -51,3 +58,11 @@ returns-in_err-look_up_one-clause-others c b out =
     let to : c.from-last.result ≡ c.args.entry.now.to = c.from-last.ensures ∙ ap (λ (e : Entry). e.to) c.entry.view_is in
     let within : c.loop-next.next ≤ c.args.entry.now.to = omega (arith, c.loop-next-test.true, to) in
     c.look_up_one.ensures.others b (λ same. named_apart _ b out (c.loop-next.invariant.rest b (next_named c.args.part c.args.entry.now c.loop-next.next b c.requires.index c.loop-next.invariant.own within same))) ∙ c.loop-next.invariant.others b out
+
+pub returns-in_err-look_up_one-clause-there : goal.returns-in_err-look_up_one-clause-there
+returns-in_err-look_up_one-clause-there c h =
+    let to : c.from-last.result ≡ c.args.entry.now.to = c.from-last.ensures ∙ ap (λ (e : Entry). e.to) c.entry.view_is in
+    let within : c.loop-next.next ≤ c.args.entry.now.to = omega (arith, c.loop-next-test.true, to) in
+    let same = c.loop-next.invariant.there h in
+    let named = c.loop-next.invariant.rest c.loop-next.next (next_named c.args.part c.args.entry.now c.loop-next.next c.loop-next.next c.requires.index c.loop-next.invariant.own within refl) in
+    c.look_up_one.ensures.there (subst (λ (a : Contents). HasReplica a c.args.storage c.loop-next.next) (sym same) (h c.loop-next.next named)) ∙ same

@@ -5,6 +5,7 @@ use Rattle.bm_base.specs.Entries.{told_by}
 use Rattle.bm_base.specs.Shards.{shard_of}
 use Rattle.bm_report.specs.Midway.{AreHere, HaveRoom, told_of}
 use Rattle.bm_report.specs.Aborted.{NamesNew}
+use Rattle.bm_report.specs.Ready.{HaveReplicas}
 use Rattle.bm_report.specs.Expanded.{IsPrepared, of_part}
 use Rattle.bm_report.proofs.Running.{told_from}
 use Rattle.bm_report.proofs.look_up.look_up_run.Given as goal
@@ -18,6 +19,7 @@ invariant-loop-next l =
       room : HaveRoom l.arena l.storage l.named.items;
       others : (b : ℕ) → is_named (of_part l.part (told_by l.entry)) b ≡ false → slot_of l.arena b ≡ slot_of l.initial.arena b;
       rest : (b : ℕ) → is_named (of_part l.part (told_from l.entry l.next)) b ≡ true → is_named (of_part l.part (told_by l.entry)) b ≡ true;
+      there : HaveReplicas l.initial.arena l.storage (of_part l.part (told_by l.entry)) → l.arena ≡ l.initial.arena;
       own : shard_of l.next l.part.shards ≡ l.part.index;
       named : map told_of l.named.items ++ of_part l.part (told_from l.entry l.next) ≡ map told_of l.initial.named.items ++ of_part l.part (told_by l.entry);
     }

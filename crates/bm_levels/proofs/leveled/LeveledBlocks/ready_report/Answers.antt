@@ -1,7 +1,10 @@
-use Rattle.std.proofs.Common.{not, subst, ap, ◌∙◌}
+use Rattle.std.proofs.Common.{◌≡◌, ℕ, not, subst, sym, ap, ◌∙◌}
 use Rattle.bm_base.specs.State.{Cluster}
 use Rattle.bm_base.specs.Events.{is_named}
-use Rattle.bm_report.specs.Ready.{told}
+use Rattle.bm_arena.specs.Contents.{Contents, HasHead}
+use Rattle.bm_report.specs.Expanded.{told_to}
+use Rattle.bm_report.specs.Ready.{told, HaveReplicas}
+use Rattle.bm_levels.specs.Kept.{HasRoomFor}
 use Rattle.bm_report.proofs.Simple.{ok_then}
 use Rattle.bm_levels.specs.Leveled.{Leveled, AreLevels}
 use Rattle.bm_levels.specs.Bare.{MakesNoneBare}
@@ -51,3 +54,16 @@ returns-clause-levels c =
     let P : Leveled → Type 0 = λ v. (C : Cluster) → AreLevels C v → AreLevels C (record { arena = c.ready-found.new.arena; kept = c.grow_to-grown.new.self }) in
     subst P c.self.view_is
     (levels_alike (start c) c.ready-found.new.arena c.grow_to-grown.new.self (alike_ready c.self.inside.arena c.ready-found.new.arena c.lawful.ensures c.lawful-2.ensures c.ready-found.ensures.kept) c.ready-found.ensures.kept.delimiter c.grow_to-grown.ensures.same)
+
+pub returns-clause-there : goal.returns-clause-there
+returns-clause-there c =
+    let new : Leveled = record { arena = c.ready-found.new.arena; kept = c.grow_to-grown.new.self } in
+    let P : Leveled → Type 0 = λ v. HasHead v.arena c.args.storage → HaveReplicas v.arena c.args.storage (told_to c.args.part c.args.entries.now)
+    → (new.arena ≡ v.arena) × (HasRoomFor v.kept v.arena.bound → new ≡ v) in
+    subst P c.self.view_is (λ head there.
+    let same = c.ready-found.ensures.there head there in (
+      same,
+      λ room.
+          let kept = c.grow_to-grown.ensures.unchanged (subst (λ (n : ℕ). HasRoomFor c.self.inside.kept n) (sym (c.slot_bound.ensures.bound ∙ ap (λ (a : Contents). a.bound) same)) room) in
+          λ i. record { arena = same i; kept = kept i },
+    ))

@@ -1,3 +1,8 @@
+use Rattle.std.proofs.Common.{ℕ, ◌==◌, map, filter, sym, ap, ◌∙◌}
+use Rattle.bm_base.specs.Map.{Map, entries}
+use Rattle.bm_base.specs.State.{by_replica}
+use Rattle.bm_base.specs.Transfers.{pending_targets}
+use Rattle.bm_levels.specs.Held.{holdings_with}
 use Rattle.bm_shard.proofs.AfterRound.{same_without_room}
 use Rattle.bm_shard.proofs.shard.Shard.round_abort.Goals as goal
 
@@ -5,3 +10,9 @@ pub returns-clause-same : goal.returns-clause-same
 returns-clause-same c =
     let v = c.self.inside in
     same_without_room v.blocks v.pending.map c.drop_empty_rooms.new.self.map c.drop_empty_rooms.ensures.map v.part v.round v.pend _ _ c.args.self.now c.self.view_is
+
+pub returns-clause-freed : goal.returns-clause-freed
+unfolding pending_targets holdings_with
+returns-clause-freed c b none =
+    c.drop_empty_rooms.ensures.freed b
+    (ap (λ (m : Map by_replica ℕ). map (λ e. e.0.storage) (filter (λ e. e.0.block == b) (entries m))) (sym c.drop_empty_rooms.ensures.map) ∙ none)
