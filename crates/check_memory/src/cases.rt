@@ -66,6 +66,9 @@ const THREE_REPLICAS: &[ShortCall] = &[
     ShortCall::Received(31, 5, 1),
 ];
 
+/// One of them, as it is there.
+const A_KNOWN_NUMBER: &[(u64, u64, u64)] = &[(5, 5, 1)];
+
 /// As many blocks of one of the three shards as its first capacity holds; a further one makes it grow.
 const THREE_OF_A_SHARD: &[ShortCall] = &[
     ShortCall::Add(3, 3),
@@ -172,7 +175,7 @@ macro_rules! bare {
 
 /// Each call that may be refused for lack of memory, with what goes before it, and then each call that takes none, on blocks of all
 /// kinds.
-pub static CASES: [Case; 33] = [
+pub static CASES: [Case; 35] = [
     taking!(
         "report_of_four",
         TWO_BLOCKS,
@@ -198,6 +201,12 @@ pub static CASES: [Case; 33] = [
         TWO_REMOVED
     ),
     taking!(
+        "report_of_known",
+        THREE_REPLICAS,
+        ShortCall::Report(11, A_KNOWN_NUMBER),
+        NONE_CHANGED
+    ),
+    taking!(
         "register",
         NOTHING,
         ShortCall::Register(5, 1, 51, 1),
@@ -219,6 +228,7 @@ pub static CASES: [Case; 33] = [
         ShortCall::Failed(31),
         TWO_REMOVED
     ),
+    taking!("add_first", NOTHING, ShortCall::Add(12, 3), NONE_CHANGED),
     taking!("add", THREE_OF_A_SHARD, ShortCall::Add(12, 3), NONE_CHANGED),
     taking!(
         "received",

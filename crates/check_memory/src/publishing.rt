@@ -2,7 +2,8 @@
 ghost use Rattle.std.specs.Prelude.{◌≡◌, ◌≤◌, IfOk, IfErr};
 
 use crate::bench::Bench;
-use crate::calls_in_turn::{is_as_before, make, print_tally, renew};
+use crate::calls_in_turn::{is_as_before, make, print_tally};
+use crate::cases::CLUSTER;
 use crate::lists::note_alike;
 use crate::managers::config;
 use crate::marks::{OPEN, Window, begin_turn, end_turn};
@@ -17,8 +18,17 @@ use std::alloc::Global;
 use std::sync::Wait;
 use std::thread::Threads;
 
-/// Block 7, of which three replicas are wanted, and the first of them.
-static FIRST_REPLICA: [ShortCall; 2] = [ShortCall::Add(7, 3), ShortCall::Received(11, 7, 1)];
+/// How many shards a version is made of, each of which has a block.
+const SHARDS: u32 = 4;
+
+/// A block of each shard, of which three replicas are wanted, and the first replica of block 7.
+static FIRST_REPLICA: [ShortCall; 5] = [
+    ShortCall::Add(4, 3),
+    ShortCall::Add(5, 3),
+    ShortCall::Add(6, 3),
+    ShortCall::Add(7, 3),
+    ShortCall::Received(11, 7, 1),
+];
 
 static SECOND_REPLICA: [ShortCall; 1] = [ShortCall::Received(31, 7, 1)];
 
@@ -118,7 +128,8 @@ fn publish_on_new<R: Eprint + Threads + Wait + Sync>(
     workers: u32,
     turn: u32,
 ) -> Result<(), Refusal> {
-    renew(rt, bench, workers);
+    bench.renew_manager(SHARDS, workers);
+    make(rt, bench, &CLUSTER);
     make(rt, bench, &FIRST_REPLICA);
     let (mut publisher, mut locators) = open_view(rt, bench.alloc, 2)?;
     let published = match locators.pop() {
@@ -163,7 +174,7 @@ fn publish_both<R: Eprint + Threads + Wait + Sync>(
     make(rt, bench, &SECOND_REPLICA);
     let is_asked = ask_all(rt, bench.alloc, &mut bench.manager, &mut bench.before);
     let receipt = publish_with_refusal(rt, bench, publisher, first, others, workers, turn)?;
-    bench.tally.note(receipt.calls() == 11);
+    bench.tally.note(receipt.calls() == 14);
     bench
         .tally
         .note(learn_and_read(first, others, receipt, &TWO));
@@ -198,7 +209,7 @@ fn publish_with_refusal<R: Eprint + Threads + Wait + Sync>(
         }
         Err(_) => {
             bench.tally.refuse_if(true);
-            let is_read = publisher.calls() == 10 && all_read(first, others, found_on(10, &ONE));
+            let is_read = publisher.calls() == 13 && all_read(first, others, found_on(13, &ONE));
             let is_kept = is_as_before(rt, bench);
             bench.tally.note(is_read && is_kept);
             publish(rt, &mut bench.manager, publisher, &OPEN)
