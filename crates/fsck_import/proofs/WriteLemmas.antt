@@ -5,6 +5,7 @@ use Rattle.std.proofs.lemmas.Option.{slice_get_past}
 use Rattle.std.proofs.Math.Seq.{take-suc}
 use Rattle.std.proofs.lemmas.List.{take_all, nil_from_length}
 use Rattle.std.specs.List.{AllByRecursion, flat_map}
+use Rattle.std.specs.Option.{option_map_or}
 use Rattle.std.proofs.lemmas.Grind.{flat_map-append}
 use Rattle.std.specs.Io.KnownBytes.{Appends, Keeps}
 use Rattle.bm_base.specs.declared.call.Call.{Call}
@@ -138,3 +139,23 @@ all_first n xs lt = sym (take_all n xs (omega (arith, lt)))
 
 pub no_others : {A : Type 0} (n : ℕ) (xs : List A) → length xs < n → [] ≡ drop n xs
 no_others n xs lt = sym (nil_from_length (drop n xs) (omega (arith, length-drop n xs, lt)))
+
+-- a text with one more part, if there is one
+pub texts_more : {A : Type 0} (f : A → Text) (xs : List A) (i : ℕ) (start old new : Text) → old ≡ start ++ flat_map f (take i xs)
+    → new ≡ old ++ flat_map f (option_to_list (slice_get xs i)) → new ≡ start ++ flat_map f (take (i + 1) xs)
+texts_more f xs i start old new so_far one =
+    let more : flat_map f (take (i + 1) xs) ≡ flat_map f (take i xs) ++ flat_map f (option_to_list (slice_get xs i)) =
+    ap (flat_map f) (take_more xs i) ∙ flat_map-append f (take i xs) (option_to_list (slice_get xs i)) in
+    one ∙ ap (λ t. t ++ flat_map f (option_to_list (slice_get xs i))) so_far
+    ∙ append_assoc start (flat_map f (take i xs)) (flat_map f (option_to_list (slice_get xs i)))
+    ∙ ap (λ t. start ++ t) (sym more)
+
+-- a text with the part of what is there, and the same text where nothing is
+pub with_part : {A : Type 0} (f : A → Text) (o : Option A) (x : A) (old new : Text) → Some x ≡ o → new ≡ old ++ f x → new ≡ old ++ flat_map f (option_to_list o)
+with_part f o x old new is e = subst (λ p. new ≡ old ++ flat_map f (option_to_list p)) is (e ∙ ap (λ t. old ++ t) (sym (append-nil (f x))))
+
+pub without_part : {A : Type 0} (f : A → Text) (o : Option A) (old : Text) → None ≡ o → old ≡ old ++ flat_map f (option_to_list o)
+without_part f o old is = subst (λ p. old ≡ old ++ flat_map f (option_to_list p)) is (sym (append-nil old))
+
+pub without_text : {A : Type 0} (f : A → Text) (o : Option A) (old : Text) → None ≡ o → old ≡ old ++ option_map_or f o []
+without_text f o old is = subst (λ p. old ≡ old ++ option_map_or f p []) is (sym (append-nil old))

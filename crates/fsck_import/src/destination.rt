@@ -1,4 +1,4 @@
-// Where the table of names goes: to a stream, or into a file.
+// Where a table goes: to a stream, into a file, or nowhere.
 ghost use Rattle.std.specs.Prelude.{List, Option, ℕ, OnOk, IfErr};
 ghost use Rattle.std.specs.Io.KnownBytes.{Appends};
 ghost use Rattle.fsck_import.specs.Writing.{IsTableFault};
@@ -8,7 +8,7 @@ use std::io::Write;
 use std::rt::Files;
 use std::{fs, io};
 
-/// What takes the table of names.
+/// What takes a table.
 pub trait Destination {
     /// The bytes that it holds, where they are known.
     ghost contents: { Self → Option (List ℕ) };
@@ -38,28 +38,36 @@ impl<W: Write> Destination for Stream<W> {
 
 /// A file of which the table is all: made where there is none, and opened only when the table comes.
 #[derive(Drop)]
-pub struct TableFile<'a, F> {
-    files: &'a F,
-    path: &'a str,
+pub struct TableFile<'f, 'p, F> {
+    files: &'f F,
+    /// What is in the table.
+    what: &'static str,
+    path: &'p str,
     error: Option<io::Error>,
 }
 
-impl<'a, F: Files> TableFile<'a, F> {
-    pub fn new(files: &'a F, path: &'a str) -> TableFile<'a, F> {
+impl<'f, 'p, F: Files> TableFile<'f, 'p, F> {
+    pub fn new(files: &'f F, what: &'static str, path: &'p str) -> TableFile<'f, 'p, F> {
         TableFile {
             files,
+            what,
             path,
             error: None,
         }
     }
 
-    /// Why the table could not be written, where it could not.
-    pub fn error(&self) -> Option<&io::Error> {
-        self.error.as_ref()
+    /// Says why the table could not be written, where it could not.
+    pub fn say_error<R: Eprint>(&self, rt: &R) {
+        if let Some(error) = &self.error {
+            let (what, path) = (self.what, self.path);
+            let _ = rt.eprintln(format_args!(
+                "fsck_import: the table of {what} cannot be written to {path}: {error}"
+            ));
+        }
     }
 }
 
-impl<F: Files> Destination for TableFile<'_, F> {
+impl<F: Files> Destination for TableFile<'_, '_, F> {
     ghost use Rattle.std.specs.Prelude.{None};
 
     ghost contents = { λ _. None };
@@ -71,6 +79,20 @@ impl<F: Files> Destination for TableFile<'_, F> {
                 self.error = Some(error);
                 Err(Fault::Table)
             }
+        }
+    }
+}
+
+/// Where there is no file, the table goes nowhere.
+impl<F: Files> Destination for Option<TableFile<'_, '_, F>> {
+    ghost use Rattle.std.specs.Prelude.{None};
+
+    ghost contents = { λ _. None };
+
+    fn put(&mut self, table: &str) -> Result<(), Fault> {
+        match self {
+            Some(file) => file.put(table),
+            None => Ok(()),
         }
     }
 }

@@ -107,8 +107,8 @@ pub enum Fault {
     /// A write or the flush failed.
     #[error("write fault")]
     Write,
-    /// The file for the table of names could not be opened or written.
-    #[error("the table of names cannot be written")]
+    /// The file for a table could not be opened or written.
+    #[error("a table cannot be written")]
     Table,
     #[error("{0}")]
     Refused(Unread),

@@ -1,12 +1,14 @@
 //! The import: reads what `hdfs fsck / -files -blocks -locations -replicaDetails -maintenance`
 //! printed, and writes the lines that make the line tool know that cluster. The table of names and
-//! their numbers goes to standard error, or into a file.
+//! their numbers goes to standard error, or into a file; that of the files goes into a file.
 #![tactic(auto)]
 
 mod destination;
 mod fault;
+mod file_table;
 mod import;
 mod lines;
+mod listing;
 mod name_table;
 mod options;
 mod reading;
@@ -102,30 +104,38 @@ fn run_from<R: Input + Print + Eprint + Files + AllocGlobal, N: Print>(
     asked: &Asked<'_>,
     nodes: Cluster,
 ) -> u8 {
-    let Some(path) = asked.names else {
-        let mut names = Stream {
-            writer: io::writer(notes),
-        };
-        return said(rt, asked, run(rt, asked, nodes, &mut names));
+    let mut files = match asked.files {
+        Some(path) => Some(TableFile::new(rt, "files", path)),
+        None => None,
     };
-    let mut names = TableFile::new(rt, path);
-    let ended = run(rt, asked, nodes, &mut names);
-    match (ended, names.error()) {
-        (Err(fault), Some(error)) => {
-            let _ = rt.eprintln(format_args!("fsck_import: {fault} to {path}: {error}"));
-            FAULTED
+    let ended = match asked.names {
+        Some(path) => {
+            let mut names = TableFile::new(rt, "names", path);
+            let ended = run(rt, asked, nodes, &mut names, &mut files);
+            names.say_error(rt);
+            ended
         }
-        (ended, _) => said(rt, asked, ended),
+        None => {
+            let mut names = Stream {
+                writer: io::writer(notes),
+            };
+            run(rt, asked, nodes, &mut names, &mut files)
+        }
+    };
+    if let Some(table) = &files {
+        table.say_error(rt);
     }
+    said(rt, asked, ended)
 }
 
-/// Says what the user has to know, or the fault.
+/// Says what the user has to know, or the fault. Why a table cannot be written was said.
 fn said<R: Eprint>(rt: &R, asked: &Asked<'_>, ended: Result<Notes, Fault>) -> u8 {
     match ended {
         Ok(notes) => {
             say_notes(rt, asked, &notes);
             DONE
         }
+        Err(Fault::Table) => FAULTED,
         Err(fault) => say_fault(rt, fault),
     }
 }
@@ -213,15 +223,17 @@ fn say_count<R: Eprint>(rt: &R, count: u64, one: &str, several: &str) {
 }
 
 /// From standard input to standard output.
-fn run<R: Input + Print + AllocGlobal, N: Destination>(
+fn run<R: Input + Print + AllocGlobal, N: Destination, F: Destination>(
     rt: &R,
     asked: &Asked<'_>,
     nodes: Cluster,
     names: &mut N,
+    files: &mut F,
 ) -> Result<Notes, Fault> {
     let alloc: Global = rt.alloc();
     let values = asked.values;
-    let start = Reading::new(alloc, nodes, values.skips, values.unclear);
+    let keeps_files = asked.files.is_some();
+    let start = Reading::new(alloc, nodes, values.skips, values.unclear, keeps_files);
     let Ok(mut reader) = BufReader::new(alloc, rt.reader()) else {
         drop(start);
         return Err(Fault::Memory);
@@ -237,5 +249,6 @@ fn run<R: Input + Print + AllocGlobal, N: Destination>(
         &mut reader,
         &mut writer,
         names,
+        files,
     )
 }
