@@ -83,7 +83,7 @@ def program(crate):
 
 
 def cluster_command(word):
-    """The words that start the program for clusters: `import`, `report` or `simulate`."""
+    """The words that start the program for clusters: `import`, `report`, `what-if` or `simulate`."""
     return [program("puljemrod_cluster"), word]
 
 
