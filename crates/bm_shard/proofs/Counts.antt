@@ -1,5 +1,5 @@
 -- Counting the pairs that came and went.
-use Rattle.std.proofs.Common.{◌≡◌, ◌+◌, ◌-◌, ◌≤◌, fold, Bool, true, false, cond, not, List, [], ◌∷◌, Option, Some, is_some, count_by, None, refl, sym, ap, ◌∙◌, is_eq}
+use Rattle.std.proofs.Common.{◌≡◌, ◌+◌, ◌-◌, fold, Bool, true, false, cond, not, List, [], ◌∷◌, Option, Some, is_some, count_by, None, refl, sym, ap, ◌∙◌, is_eq}
 use Rattle.std.specs.Prelude.{option_map, option_and_then}
 use Rattle.std.specs.FinMap.{find}
 use Rattle.std.specs.Ordering.{eq_by_cmp}
@@ -8,7 +8,7 @@ use Rattle.bm_base.specs.declared.replica.Marks.{Marks}
 use Rattle.bm_base.specs.declared.replica.ReplicaId.{ReplicaId}
 use Rattle.bm_base.specs.Map.{Map, Order, get, entries, keep, revise, remove, len}
 use Rattle.bm_base.proofs.MapLaws.{same_map, get-revise, get-remove, get-keep}
-use Rattle.bm_base.proofs.Differences.{none_new, none_came, some_left, len-keep-le}
+use Rattle.bm_base.proofs.Differences.{none_new, none_came, some_left}
 use Rattle.bm_base.specs.State.{by_replica}
 use Rattle.bm_base.specs.Calls.{new_replicas}
 
@@ -60,6 +60,3 @@ removed_is_kept m k =
 
 pub gone_by_remove : (m : Map by_replica Marks) (k : ReplicaId) → (new_replicas m (remove m k) ≡ 0) × (new_replicas (remove m k) m ≡ len m - len (remove m k))
 gone_by_remove m k = rw (removed_is_kept m k) (gone_by_keep m (λ q. not (eq_by_cmp by_replica.cmp q k)))
-
-pub len_removed : (m : Map by_replica Marks) (k : ReplicaId) → len (remove m k) ≤ len m
-len_removed m k = rw (removed_is_kept m k) (len-keep-le m (λ q _. not (eq_by_cmp by_replica.cmp q k)))

@@ -1,5 +1,5 @@
 -- Where the blocks and replicas stay, so does all that is seen but for room.
-use Rattle.std.proofs.Common.{◌≡◌, ℕ, refl, sym, ap, subst, ◌∙◌}
+use Rattle.std.proofs.Common.{◌≡◌, ℕ, sym, ap, subst, ◌∙◌}
 use Rattle.bm_base.specs.declared.ids.Part.{Part}
 use Rattle.bm_base.specs.Map.{Map, get}
 use Rattle.bm_base.specs.State.{Cluster, by_replica}
@@ -19,9 +19,6 @@ pub record KeepsHeld (v w : Leveled) : Type 0 where
   pub blocks : blocks_of w.arena ≡ blocks_of v.arena
   pub replicas : replicas_of w.arena ≡ replicas_of v.arena
   pub levels : (C : Cluster) → AreLevels C v → AreLevels C w
-
-pub keeps_itself : (v : Leveled) → KeepsHeld v v
-keeps_itself v = record { blocks = refl; replicas = refl; levels = λ C h. h }
 
 -- what is seen of these fields
 abbrev pub seen_of : Leveled → Map by_replica ℕ → Part → ℕ → ℕ → Room → Seen
