@@ -1,5 +1,5 @@
-"""Says which lines `./puljemrod import` has to write of a text of fsck, which table of names, and
-what it has to say at its end.
+"""Says which lines `./puljemrod import` has to write of a text of fsck, which tables of names and
+of files, and what it has to say at its end.
 
 All is computed from the cluster and from what its text shows, and never from the text itself.
 """
@@ -259,11 +259,23 @@ def names(cluster: Cluster, call: Fsck, options: Import = Import()) -> list[str]
     lines = []
     for number, node in numbering.nodes.values():
         rack = numbering.rack(node)
-        lines.append(f"# node {number} {node.address} rack {numbering.racks[rack]} {rack}")
+        lines.append(f"node\t{number}\t{node.address}\t{numbering.racks[rack]}\t{rack}")
     for name, (number, node) in numbering.storages.items():
         on = numbering.nodes[node.address][0]
-        lines.append(f"# storage {number} {name} node {on} {node.address}")
+        lines.append(f"storage\t{number}\t{name}\t{on}\t{node.address}")
     return lines
+
+
+def file_rows(cluster: Cluster, call: Fsck, options: Import = Import()) -> list[str]:
+    """The table of files that the import has to write: path, index in the file and number of each
+    taken block."""
+    taken = {it.block.number for it in taken_blocks(cluster, call, options)}
+    return [
+        f"{file.path}\t{index}\t{block.number}"
+        for file in shown_files(cluster, call)
+        for index, block in enumerate(file.blocks)
+        if block.number in taken
+    ]
 
 
 # What the import says of each kind of file that is left out, in this order, of one and of several.

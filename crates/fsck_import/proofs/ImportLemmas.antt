@@ -4,7 +4,8 @@ use Rattle.std.specs.Prelude.{IsOk}
 use Rattle.fsck_text.specs.Cuts.{Text}
 use Rattle.std.specs.Io.KnownBytes.{Appends}
 use Rattle.fsck_import.specs.CallsFor.{calls_for}
-use Rattle.fsck_import.specs.Importing.{IsFaultOfRun, IsRunFault, TellsNames, TellsText, WritesNoLine, WritesNothing}
+use Rattle.fsck_import.specs.Importing.{IsFaultOfRun, IsRunFault, TellsFiles, TellsNames, TellsText, WritesNoLine, WritesNothing}
+use Rattle.fsck_import.specs.FileTables.{files_text}
 use Rattle.fsck_import.specs.NameTable.{table_of}
 use Rattle.fsck_import.specs.Lines.{IsReadFault}
 use Rattle.fsck_import.specs.Reading.{reading_of, IsFaultOfReading}
@@ -96,4 +97,9 @@ whole_text known start read remaining old new told tells =
 pub whole_names : (known : Option Text) (start read : Reading) (old new : Option Text) → IfSome known (λ text. reading_of start text ≡ Ok read)
     → Appends old new (table_of read.cluster) → IfSome known (λ text. TellsNames text start old new)
 whole_names known start read old new told written =
+    each_known known (λ text e. record { read = read; told = e; written = written }) told
+
+pub whole_files : (known : Option Text) (start read : Reading) (old new : Option Text) → IfSome known (λ text. reading_of start text ≡ Ok read)
+    → Appends old new (files_text read.listing.files) → IfSome known (λ text. TellsFiles text start old new)
+whole_files known start read old new told written =
     each_known known (λ text e. record { read = read; told = e; written = written }) told

@@ -18,3 +18,5 @@ pub mod TellsLemmas
 pub mod StartLemmas
 pub mod TextBlocks
 pub mod ImportLemmas
+pub mod CallLists
+pub mod TableLemmas

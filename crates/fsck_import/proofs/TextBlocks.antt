@@ -1,5 +1,5 @@
 -- The blocks of a text, and what the calls for its cluster tell of them.
-use Rattle.std.proofs.Common.{◌≡◌, ℕ, ◌+◌, List, [], ◌∷◌, Option, Some, None, IfSome, map, Result, Ok, Err, sym, ap, subst, ◌∙◌}
+use Rattle.std.proofs.Common.{◌≡◌, ℕ, ◌+◌, ◌-◌, List, [], ◌∷◌, Option, Some, None, IfSome, map, Result, Ok, Err, sym, ap, subst, ◌∙◌}
 use Rattle.std.specs.Str.{is_utf8}
 use Rattle.bm_lines.specs.Lines.{lines_of}
 use Rattle.fsck_text.specs.Cuts.{Text}
@@ -17,6 +17,7 @@ use Rattle.fsck_cluster.specs.declared.node_list.NodeRefusal.{NodeRefusal}
 use Rattle.fsck_import.specs.CallsFor.{calls_for}
 use Rattle.fsck_import.specs.Importing.{TellsText, blocks_of, taken}
 use Rattle.fsck_import.specs.Laws.{IsFresh, after_blocks}
+use Rattle.fsck_import.specs.Listings.{Listing, headed, with_listed}
 use Rattle.fsck_import.specs.Lines.{after_bytes, after_lines, after_text, at_line, without_end}
 use Rattle.fsck_import.specs.Reading.{after_line, after_node_line, at_end, cause_of, ended, ended_nodes, node_cause, nodes_of, reading_of, with_cluster, with_nodes, with_taken}
 use Rattle.fsck_import.specs.Starts.{after_node_lines}
@@ -37,17 +38,17 @@ bytes_ok : {T : Type 0} (after : T → Text → Result T Cause) (s t : T) (line 
 bytes_ok after s t line e = (if_ok (is_utf8 line) (after s (without_end 13 line)) cause.NotText t e).1
 
 -- with a block that is taken
-with_one : (f : Files) (q : After) (u : Reading) (t : Cluster) (next : Files → List Block) → with_cluster f q ≡ Ok u → after_blocks u.cluster (next u.files) ≡ Ok t
+with_one : (f : Files) (l : Listing) (q : After) (u : Reading) (t : Cluster) (next : Files → List Block) → with_cluster f l q ≡ Ok u → after_blocks u.cluster (next u.files) ≡ Ok t
     → after_ok (λ d. after_blocks d (next f)) q ≡ Ok t
-with_one f (Ok d) u t next e rest = subst (λ (x : Reading). after_blocks x.cluster (next x.files) ≡ Ok t) (sym (same_ok (record { files = f; cluster = d }) u e)) rest
-with_one f (Err w) u t next e rest = absurd (err_is_not_ok (cause.Cluster w) u e)
+with_one f l (Ok d) u t next e rest = subst (λ (x : Reading). after_blocks x.cluster (next x.files) ≡ Ok t) (sym (same_ok (record { files = f; cluster = d; listing = l }) u e)) rest
+with_one f l (Err w) u t next e rest = absurd (err_is_not_ok (cause.Cluster w) u e)
 
 -- with a line that is taken
-one_line : (line : Text) (c : Cluster) (r : Result (Files × Option Block) Refusal) (u : Reading) (t : Cluster) (next : Files → List Block)
-    → with_taken line c r ≡ Ok u → after_blocks u.cluster (next u.files) ≡ Ok t → after_blocks c (taken next r) ≡ Ok t
-one_line line c (Ok (f, None)) u t next e rest = subst (λ (x : Reading). after_blocks x.cluster (next x.files) ≡ Ok t) (sym (same_ok (record { files = f; cluster = c }) u e)) rest
-one_line line c (Ok (f, Some b)) u t next e rest = with_one f (after_block c b) u t next e rest
-one_line line c (Err r) u t next e rest = absurd (err_is_not_ok (cause_of line r) u e)
+one_line : (line : Text) (l : Listing) (c : Cluster) (r : Result (Files × Option Block) Refusal) (u : Reading) (t : Cluster) (next : Files → List Block)
+    → with_taken line l c r ≡ Ok u → after_blocks u.cluster (next u.files) ≡ Ok t → after_blocks c (taken next r) ≡ Ok t
+one_line line l c (Ok (f, None)) u t next e rest = subst (λ (x : Reading). after_blocks x.cluster (next x.files) ≡ Ok t) (sym (same_ok (record { files = f; cluster = c; listing = l }) u e)) rest
+one_line line l c (Ok (f, Some b)) u t next e rest = with_one f (with_listed l b.id (f.file.read - 1)) (after_block c b) u t next e rest
+one_line line l c (Err r) u t next e rest = absurd (err_is_not_ok (cause_of line r) u e)
 
 lines_taken : (n : ℕ) (s : Reading) (lines : List Text) (p : Reading × ℕ) → after_lines after_line n s lines ≡ Ok p
     → after_blocks s.cluster (blocks_of s.files lines) ≡ Ok p.0.cluster
@@ -56,16 +57,16 @@ lines_taken n s (line ∷ lines) p e =
     let first = came_of (λ u. after_lines after_line (n + 1) u lines) (at_line n (after_bytes after_line s line)) p e in
     let u = first.0 in
     let after = bytes_ok after_line s u line (line_ok n (after_bytes after_line s line) u first.1) in
-    one_line (without_end 13 line) s.cluster (files.after_line s.files (without_end 13 line)) u p.0.cluster (λ g. blocks_of g lines) after (lines_taken (n + 1) u lines p first.2)
+    one_line (without_end 13 line) (headed s.listing (without_end 13 line)) s.cluster (files.after_line s.files (without_end 13 line)) u p.0.cluster (λ g. blocks_of g lines) after (lines_taken (n + 1) u lines p first.2)
 
 -- the end of a text
-at_spares : (f : Files) (q : After) (read : Reading) → with_cluster f q ≡ Ok read → q ≡ Ok read.cluster
-at_spares f (Ok d) read e = ap (λ (x : Reading). Ok x.cluster) (same_ok (record { files = f; cluster = d }) read e)
-at_spares f (Err w) read e = absurd (err_is_not_ok (cause.Cluster w) read e)
+at_spares : (f : Files) (l : Listing) (q : After) (read : Reading) → with_cluster f l q ≡ Ok read → q ≡ Ok read.cluster
+at_spares f l (Ok d) read e = ap (λ (x : Reading). Ok x.cluster) (same_ok (record { files = f; cluster = d; listing = l }) read e)
+at_spares f l (Err w) read e = absurd (err_is_not_ok (cause.Cluster w) read e)
 
 end_taken : (s read : Reading) → at_end s ≡ Ok read → with_spares s.cluster ≡ Ok read.cluster
 end_taken s read e =
-    at_spares s.files (with_spares s.cluster) read (if_ok (files.is_whole s.files.part) (with_cluster s.files (with_spares s.cluster)) (cause.File why.CutOff) read e).1
+    at_spares s.files s.listing (with_spares s.cluster) read (if_ok (files.is_whole s.files.part) (with_cluster s.files s.listing (with_spares s.cluster)) (cause.File why.CutOff) read e).1
 
 pub tells_text : (text : Text) (start read : Reading) (remaining : ℕ) (old new : Option Text) → reading_of start text ≡ Ok read
     → Tells (calls_for read.cluster remaining) old new → TellsText text start remaining old new

@@ -95,10 +95,10 @@ take_next (x ∷ xs) zero = refl
 take_next (x ∷ xs) (suc i) = ap (λ ys. x ∷ ys) (take_next xs i)
 
 -- one more element of a list, if there is one
-take_more : {A : Type 0} (xs : List A) (i : ℕ) → take (i + 1) xs ≡ take i xs ++ option_to_list (slice_get xs i)
+pub take_more : {A : Type 0} (xs : List A) (i : ℕ) → take (i + 1) xs ≡ take i xs ++ option_to_list (slice_get xs i)
 take_more xs i = let next : i + 1 ≡ suc i = omega arith in ap (λ n. take n xs) next ∙ take_next xs i
 
-map-append : {A : Type 0} (f : A → Call) (xs ys : List A) → map f (xs ++ ys) ≡ map f xs ++ map f ys
+pub map-append : {A : Type 0} (f : A → Call) (xs ys : List A) → map f (xs ++ ys) ≡ map f xs ++ map f ys
 map-append f [] ys = refl
 map-append f (x ∷ xs) ys = ap (λ zs. f x ∷ zs) (map-append f xs ys)
 
@@ -107,7 +107,7 @@ pub adds_more : {A : Type 0} (f : A → Call) (xs : List A) (i : ℕ) (a b c : O
 adds_more f xs i a b c first second =
     subst (λ calls. Written calls a c) (sym (ap (map f) (take_more xs i) ∙ map-append f (take i xs) (option_to_list (slice_get xs i)))) (written_more _ _ a b c first second)
 
-filter-push : {A : Type 0} (t : A → Bool) (xs : List A) (x : A) → filter t (xs ++ x ∷ []) ≡ filter t xs ++ filter t (x ∷ [])
+pub filter-push : {A : Type 0} (t : A → Bool) (xs : List A) (x : A) → filter t (xs ++ x ∷ []) ≡ filter t xs ++ filter t (x ∷ [])
 filter-push t [] x = refl
 filter-push t (y ∷ xs) x = by (t y) (filter-push t xs x)
   where
@@ -138,3 +138,13 @@ all_first n xs lt = sym (take_all n xs (omega (arith, lt)))
 
 pub no_others : {A : Type 0} (n : ℕ) (xs : List A) → length xs < n → [] ≡ drop n xs
 no_others n xs lt = sym (nil_from_length (drop n xs) (omega (arith, length-drop n xs, lt)))
+
+-- a text with one more part, if there is one
+pub texts_more : {A : Type 0} (f : A → Text) (xs : List A) (i : ℕ) (start old new : Text) → old ≡ start ++ flat_map f (take i xs)
+    → new ≡ old ++ flat_map f (option_to_list (slice_get xs i)) → new ≡ start ++ flat_map f (take (i + 1) xs)
+texts_more f xs i start old new so_far one =
+    let more : flat_map f (take (i + 1) xs) ≡ flat_map f (take i xs) ++ flat_map f (option_to_list (slice_get xs i)) =
+    ap (flat_map f) (take_more xs i) ∙ flat_map-append f (take i xs) (option_to_list (slice_get xs i)) in
+    one ∙ ap (λ t. t ++ flat_map f (option_to_list (slice_get xs i))) so_far
+    ∙ append_assoc start (flat_map f (take i xs)) (flat_map f (option_to_list (slice_get xs i)))
+    ∙ ap (λ t. start ++ t) (sym more)

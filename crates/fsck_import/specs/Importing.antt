@@ -10,6 +10,7 @@ use Rattle.fsck_files.specs.declared.replicas.Block.{Block}
 use Rattle.fsck_import.specs.CallsFor.{calls_for}
 use Rattle.fsck_import.specs.Laws.{IsFresh, TellsBlocks}
 use Rattle.fsck_import.specs.Lines.{without_end}
+use Rattle.fsck_import.specs.FileTables.{files_text}
 use Rattle.fsck_import.specs.NameTable.{table_of}
 use Rattle.fsck_import.specs.Reading.{reading_of}
 use Rattle.fsck_import.specs.Writing.{Tells}
@@ -41,6 +42,12 @@ pub record TellsNames (text : Text) (start : Reading) (old new : Option Text) : 
   pub read : Reading
   pub told : reading_of start text ≡ Ok read
   pub written : Appends old new (table_of read.cluster)
+
+-- what was written is the table of the files of a text
+pub record TellsFiles (text : Text) (start : Reading) (old new : Option Text) : Type 0 where
+  pub read : Reading
+  pub told : reading_of start text ≡ Ok read
+  pub written : Appends old new (files_text read.listing.files)
 
 -- a refusal is that of the first line that is refused, and a fault of writing comes of a text that is taken
 abbrev pub IsRunFault : Fault → Result Reading Unread → Type 0

@@ -1,4 +1,4 @@
--- The table of names: which number stands for which rack, node and storage. A line ends with the byte 10.
+-- The table of names: which number stands for which rack, node and storage. Tabs are between the words, and a line ends with the byte 10.
 use Rattle.std.specs.Prelude.{◌++◌, codes, decimal}
 use Rattle.std.specs.List.{flat_map}
 use Rattle.fsck_text.specs.Cuts.{Text}
@@ -7,17 +7,17 @@ use Rattle.fsck_cluster.specs.declared.rows.Row.{Row}
 use Rattle.fsck_cluster.specs.declared.cluster.NodeRow.{NodeRow}
 use Rattle.fsck_cluster.specs.declared.cluster.Cluster.{Cluster}
 
--- a node, and its rack
+-- a node and its rack, each by number and name
 unfoldable pub node_line : Cluster → NodeRow → Text
 node_line c row =
-    codes "# node " ++ (decimal row.number ++ (codes " " ++ (name_of c.nodes row.number
-    ++ (codes " rack " ++ (decimal row.rack ++ (codes " " ++ (name_of c.racks row.rack ++ codes "\n")))))))
+    codes "node\t" ++ (decimal row.number ++ (codes "\t" ++ (name_of c.nodes row.number
+    ++ (codes "\t" ++ (decimal row.rack ++ (codes "\t" ++ (name_of c.racks row.rack ++ codes "\n")))))))
 
--- a storage, and its node
+-- a storage and its node
 unfoldable pub storage_line : Cluster → Row → Text
 storage_line c row =
-    codes "# storage " ++ (decimal row.number ++ (codes " " ++ (name_of c.storages row.number
-    ++ (codes " node " ++ (decimal row.node ++ (codes " " ++ (name_of c.nodes row.node ++ codes "\n")))))))
+    codes "storage\t" ++ (decimal row.number ++ (codes "\t" ++ (name_of c.storages row.number
+    ++ (codes "\t" ++ (decimal row.node ++ (codes "\t" ++ (name_of c.nodes row.node ++ codes "\n")))))))
 
 -- a line for each node and each storage, in the order of their numbers
 unfoldable pub table_of : Cluster → Text

@@ -21,8 +21,8 @@ option_rule name = record (new_rule name) { long = Some name; action = Some Set;
 
 abbrev pub options : List Rule
 options =
-    option_rule (codes "remaining") ∷ option_rule (codes "names") ∷ option_rule (codes "nodes") ∷ option_rule (codes "skip")
-    ∷ option_rule (codes "unclear") ∷ []
+    option_rule (codes "remaining") ∷ option_rule (codes "names") ∷ option_rule (codes "files") ∷ option_rule (codes "nodes")
+    ∷ option_rule (codes "skip") ∷ option_rule (codes "unclear") ∷ []
 
 -- the command line: the options, and --help, which the library adds
 abbrev pub program : App

@@ -1,5 +1,5 @@
 -- What a whole text says of a cluster.
-use Rattle.std.specs.Prelude.{◌≡◌, ⊤, ℕ, [], Option, Some, None, IfSome, Result, Ok, Err, if◌then◌else◌}
+use Rattle.std.specs.Prelude.{◌≡◌, ⊤, ℕ, ◌-◌, Bool, [], Option, Some, None, IfSome, Result, Ok, Err, if◌then◌else◌}
 use Rattle.fsck_text.specs.Cuts.{Text}
 use Rattle.fsck_text.specs.Wrongs.{after_ok}
 use Rattle.fsck_files.specs.Files as files
@@ -21,6 +21,7 @@ use Rattle.fsck_cluster.specs.declared.node_list.NodeFault.TheVariants as node_f
 use Rattle.fsck_cluster.specs.declared.node_list.NodeRefusal.{NodeRefusal}
 use Rattle.fsck_cluster.specs.declared.node_list.NodeRefusal.TheVariants as node_refusal
 use Rattle.fsck_import.specs.Quotes.{quoted}
+use Rattle.fsck_import.specs.Listings.{Listing, no_listing, headed, with_listed}
 use Rattle.fsck_import.specs.Lines.{at_line, after_text, IsReadFault}
 use Rattle.fsck_import.specs.declared.fault.Cause.{Cause}
 use Rattle.fsck_import.specs.declared.fault.Cause.TheVariants as cause
@@ -30,9 +31,9 @@ use Rattle.fsck_import.specs.declared.fault.Unread.{Unread}
 use Rattle.fsck_import.specs.declared.fault.Fault.{Fault}
 use Rattle.fsck_import.specs.declared.reading.Reading.{Reading}
 
--- nothing was read; these nodes are known
-abbrev pub beginning : Cluster → Skips → Unclear → Reading
-beginning known skips unclear = record { files = files.no_files skips unclear; cluster = known }
+-- nothing was read; these nodes are known; the files of blocks are kept or not
+abbrev pub beginning : Cluster → Skips → Unclear → Bool → Reading
+beginning known skips unclear kept = record { files = files.no_files skips unclear; cluster = known; listing = no_listing kept }
 
 -- why a line is refused
 abbrev pub cause_of : Text → Refusal → Cause
@@ -45,26 +46,26 @@ IsFileFault fault.Memory line f = ⊤
 IsFileFault (fault.Refused c) line file_fault.Memory = ⊥
 IsFileFault (fault.Refused c) line (file_fault.Refused r) = c ≡ cause_of line r
 
-abbrev pub with_cluster : Files → After → Result Reading Cause
-with_cluster f (Ok c) = Ok (record { files = f; cluster = c })
-with_cluster f (Err w) = Err (cause.Cluster w)
+abbrev pub with_cluster : Files → Listing → After → Result Reading Cause
+with_cluster f l (Ok c) = Ok (record { files = f; cluster = c; listing = l })
+with_cluster f l (Err w) = Err (cause.Cluster w)
 
--- with a block that is taken
-abbrev pub after_taken : Files → Cluster → Block → Result Reading Cause
-after_taken f c b = with_cluster f (after_block c b)
+-- with a block that is taken: the last one that was read of its file
+abbrev pub after_taken : Files → Listing → Cluster → Block → Result Reading Cause
+after_taken f l c b = with_cluster f (with_listed l b.id (f.file.read - 1)) (after_block c b)
 
-abbrev pub with_taken : Text → Cluster → Result (Files × Option Block) Refusal → Result Reading Cause
-with_taken line c (Ok (f, None)) = Ok (record { files = f; cluster = c })
-with_taken line c (Ok (f, Some b)) = after_taken f c b
-with_taken line c (Err r) = Err (cause_of line r)
+abbrev pub with_taken : Text → Listing → Cluster → Result (Files × Option Block) Refusal → Result Reading Cause
+with_taken line l c (Ok (f, None)) = Ok (record { files = f; cluster = c; listing = l })
+with_taken line l c (Ok (f, Some b)) = after_taken f l c b
+with_taken line l c (Err r) = Err (cause_of line r)
 
 -- after one more line of fsck
 abbrev pub after_line : Reading → Text → Result Reading Cause
-after_line s line = with_taken line s.cluster (files.after_line s.files line)
+after_line s line = with_taken line (headed s.listing line) s.cluster (files.after_line s.files line)
 
 -- at the end of the text, whose last line was read: each known node has a storage
 abbrev pub at_end : Reading → Result Reading Cause
-at_end s = if files.is_whole s.files.part then with_cluster s.files (with_spares s.cluster) else Err (cause.File why.CutOff)
+at_end s = if files.is_whole s.files.part then with_cluster s.files s.listing (with_spares s.cluster) else Err (cause.File why.CutOff)
 
 abbrev pub ended : Reading × ℕ → Result Reading Unread
 ended p = at_line p.1 (at_end p.0)

@@ -1,4 +1,4 @@
-// Where the table of names goes: to a stream, or into a file.
+// Where a table goes: to a stream, into a file, or nowhere.
 ghost use Rattle.std.specs.Prelude.{List, Option, ℕ, OnOk, IfErr};
 ghost use Rattle.std.specs.Io.KnownBytes.{Appends};
 ghost use Rattle.fsck_import.specs.Writing.{IsTableFault};
@@ -8,7 +8,7 @@ use std::io::Write;
 use std::rt::Files;
 use std::{fs, io};
 
-/// What takes the table of names.
+/// What takes a table.
 pub trait Destination {
     /// The bytes that it holds, where they are known.
     ghost contents: { Self → Option (List ℕ) };
@@ -40,22 +40,30 @@ impl<W: Write> Destination for Stream<W> {
 #[derive(Drop)]
 pub struct TableFile<'a, F> {
     files: &'a F,
+    /// What is in the table.
+    what: &'static str,
     path: &'a str,
     error: Option<io::Error>,
 }
 
 impl<'a, F: Files> TableFile<'a, F> {
-    pub fn new(files: &'a F, path: &'a str) -> TableFile<'a, F> {
+    pub fn new(files: &'a F, what: &'static str, path: &'a str) -> TableFile<'a, F> {
         TableFile {
             files,
+            what,
             path,
             error: None,
         }
     }
 
-    /// Why the table could not be written, where it could not.
-    pub fn error(&self) -> Option<&io::Error> {
-        self.error.as_ref()
+    /// Says why the table could not be written, where it could not.
+    pub fn say_error<R: Eprint>(&self, rt: &R) {
+        if let Some(error) = &self.error {
+            let (what, path) = (self.what, self.path);
+            let _ = rt.eprintln(format_args!(
+                "fsck_import: the table of {what} cannot be written to {path}: {error}"
+            ));
+        }
     }
 }
 
@@ -71,6 +79,20 @@ impl<F: Files> Destination for TableFile<'_, F> {
                 self.error = Some(error);
                 Err(Fault::Table)
             }
+        }
+    }
+}
+
+/// Where there is no file, the table goes nowhere.
+impl<F: Files> Destination for Option<TableFile<'_, F>> {
+    ghost use Rattle.std.specs.Prelude.{None};
+
+    ghost contents = { λ _. None };
+
+    fn put(&mut self, table: &str) -> Result<(), Fault> {
+        match self {
+            Some(file) => file.put(table),
+            None => Ok(()),
         }
     }
 }

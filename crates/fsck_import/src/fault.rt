@@ -69,6 +69,9 @@ pub enum Cause {
     Cluster(fsck_cluster::Why),
     #[error("{0}")]
     Node(NodeWhy),
+    /// Not a row of a table, or one of what has another name or place already.
+    #[error("no row of the table, or one at odds with those above it")]
+    Row,
 }
 
 /// Why a line is not taken, or memory that was refused.
@@ -107,8 +110,8 @@ pub enum Fault {
     /// A write or the flush failed.
     #[error("write fault")]
     Write,
-    /// The file for the table of names could not be opened or written.
-    #[error("the table of names cannot be written")]
+    /// The file for a table could not be opened or written.
+    #[error("a table cannot be written")]
     Table,
     #[error("{0}")]
     Refused(Unread),

@@ -2,12 +2,15 @@
 ghost use Rattle.std.specs.Prelude.{◌≡◌, IfSome, IfErr, OnOk};
 ghost use Rattle.std.specs.Io.KnownBytes.{Appends};
 ghost use Rattle.fsck_import.specs.NameTable.{table_of};
+ghost use Rattle.fsck_import.specs.FileTables.{files_text};
 ghost use Rattle.fsck_import.specs.CallsFor.{calls_for};
 ghost use Rattle.fsck_import.specs.Writing.{Tells, IsOutputFault};
-ghost use Rattle.fsck_import.specs.Importing.{TellsText, TellsNames, IsFaultOfRun, WritesNoLine, WritesNothing};
+ghost use Rattle.fsck_import.specs.Importing.{TellsText, TellsNames, TellsFiles, IsFaultOfRun, WritesNoLine, WritesNothing};
 
 use crate::destination::Destination;
 use crate::fault::Fault;
+use crate::file_table::files_text;
+use crate::listing::Listing;
 use crate::name_table::table_of;
 use crate::reading::{Reading, read_cluster};
 use crate::writing::write_flushed;
@@ -33,30 +36,34 @@ pub struct Notes {
     pub lines: u64,
 }
 
-/// Reads a whole text of fsck, and then writes a table of names and the lines for its cluster.
-/// `remaining` is the number of free bytes on each storage whose node's are not known. Nothing is
-/// written before all of the text was read, and no line before the whole table.
-#[tactic(auto, using(crate::proofs::ImportLemmas::reading_refuses, crate::proofs::ImportLemmas::output_refuses, crate::proofs::ImportLemmas::output_writes, crate::proofs::ImportLemmas::unwritten, crate::proofs::ImportLemmas::whole_text, crate::proofs::ImportLemmas::whole_names))]
-pub fn import<R: BufRead, W: Write, N: Destination>(
+/// Reads a whole text of fsck, and then writes the tables of names and of files, and the lines for its
+/// cluster. `remaining` is the number of free bytes on each storage whose node's are not known. Nothing
+/// is written before all of the text was read, and no line before the whole tables.
+#[tactic(auto, using(crate::proofs::ImportLemmas::reading_refuses, crate::proofs::ImportLemmas::output_refuses, crate::proofs::ImportLemmas::output_writes, crate::proofs::ImportLemmas::unwritten, crate::proofs::ImportLemmas::whole_text, crate::proofs::ImportLemmas::whole_names, crate::proofs::ImportLemmas::whole_files))]
+pub fn import<R: BufRead, W: Write, N: Destination, F: Destination>(
     alloc: Global,
     start: Reading,
     remaining: u64,
     reader: &mut R,
     writer: &mut W,
     names: &mut N,
+    files: &mut F,
 ) -> Result<Notes, Fault>
     ensures tells { OnOk result (IfSome (R.remaining reader.old) (λ text.
         TellsText text start remaining (W.contents writer.old) (W.contents writer.new))) }
     ensures named { OnOk result (IfSome (R.remaining reader.old) (λ text.
         TellsNames text start (N.contents names.old) (N.contents names.new))) }
+    ensures filed { OnOk result (IfSome (R.remaining reader.old) (λ text.
+        TellsFiles text start (F.contents files.old) (F.contents files.new))) }
     ensures refused { IfErr result (λ f. IsFaultOfRun start f (R.remaining reader.old)) }
-    // If a line is refused or a read fails, the writer is as it was, and so is what takes the names. The
-    // writer is so too if the table of names cannot be written.
+    // If a line is refused or a read fails, the writer is as it was, and so is what takes the tables. The
+    // writer is so too if a table cannot be written.
     ensures nothing_written { IfErr result (λ f. WritesNoLine f writer.old writer.new) }
     ensures nothing_named { IfErr result (λ f. WritesNothing f names.old names.new) }
+    ensures nothing_filed { IfErr result (λ f. WritesNothing f files.old files.new) }
 {
     let read = read_cluster(alloc, reader, start)?;
-    let written = write_all(alloc, &read, remaining, writer, names);
+    let written = write_all(alloc, &read, remaining, writer, names, files);
     let notes = notes_of(&read);
     drop(read);
     match written {
@@ -65,23 +72,27 @@ pub fn import<R: BufRead, W: Write, N: Destination>(
     }
 }
 
-/// Writes the table of names, and then the lines.
+/// Writes the tables, and then the lines.
 #[tactic(auto, using(crate::proofs::ImportLemmas::write_output, crate::proofs::ImportLemmas::unwritten, crate::proofs::ImportLemmas::write_lines))]
-fn write_all<W: Write, N: Destination>(
+fn write_all<W: Write, N: Destination, F: Destination>(
     alloc: Global,
     read: &Reading,
     remaining: u64,
     writer: &mut W,
     names: &mut N,
+    files: &mut F,
 ) -> Result<(), Fault>
     ensures tells { OnOk result (Tells (calls_for read.now.cluster remaining)
         (W.contents writer.old) (W.contents writer.new)) }
     ensures named { OnOk result
         (Appends (N.contents names.old) (N.contents names.new) (table_of read.now.cluster)) }
+    ensures filed { OnOk result
+        (Appends (F.contents files.old) (F.contents files.new) (files_text read.now.listing.files)) }
     ensures faults { IfErr result IsOutputFault }
     ensures no_line { IfErr result (λ f. WritesNoLine f writer.old writer.new) }
 {
     put_names(alloc, &read.cluster, names)?;
+    put_files(alloc, &read.listing, files)?;
     write_flushed(alloc, writer, &read.cluster, remaining)
 }
 
@@ -94,6 +105,17 @@ fn put_names<N: Destination>(alloc: Global, cluster: &Cluster, names: &mut N) ->
 {
     let table = table_of(alloc, cluster)?;
     names.put(table.as_str())
+}
+
+/// Hands over the table of the files.
+#[tactic(auto, using(crate::proofs::ImportLemmas::table_output))]
+fn put_files<F: Destination>(alloc: Global, listing: &Listing, files: &mut F) -> Result<(), Fault>
+    ensures held { OnOk result
+        (Appends (F.contents files.old) (F.contents files.new) (files_text listing.now.files)) }
+    ensures faults { IfErr result IsOutputFault }
+{
+    let table = files_text(alloc, listing.files())?;
+    files.put(table.as_str())
 }
 
 fn notes_of(read: &Reading) -> Notes {

@@ -1,31 +1,40 @@
 //! The import: reads what `hdfs fsck / -files -blocks -locations -replicaDetails -maintenance`
 //! printed, and writes the lines that make the line tool know that cluster. The table of names and
-//! their numbers goes to standard error, or into a file.
+//! their numbers goes to standard error, or into a file; that of the files goes into a file.
 #![tactic(auto)]
 
+mod calls;
 mod destination;
 mod fault;
+mod file_table;
 mod import;
 mod lines;
+mod listing;
 mod name_table;
+mod names;
 mod options;
 mod reading;
+mod tables;
 mod writing;
 
+pub use calls::calls_of;
 use clap::Error;
 use clap::error::ErrorKind;
 use destination::{Destination, Stream, TableFile};
-use fault::Fault;
+pub use fault::{Cause, Fault, Quoted, Unread};
 use fsck_cluster::Cluster;
 use fsck_files::{LeftOut, Unclear};
 use import::{Notes, import};
+pub use listing::Listing;
+pub use names::names_of;
 use options::{Asked, asked_by};
-use reading::{Reading, read_nodes};
+pub use reading::{Reading, read_cluster, read_nodes};
 use std::alloc::Global;
 use std::fs::File;
 use std::io;
 use std::io::{BufReader, BufWriter};
 use std::rt::Files;
+pub use tables::{read_files, read_names};
 
 const DONE: u8 = 0;
 
@@ -102,29 +111,39 @@ fn run_from<R: Input + Print + Eprint + Files + AllocGlobal, N: Print>(
     asked: &Asked<'_>,
     nodes: Cluster,
 ) -> u8 {
+    let mut files = asked.files.map(|path| TableFile::new(rt, "files", path));
     let Some(path) = asked.names else {
         let mut names = Stream {
             writer: io::writer(notes),
         };
-        return said(rt, asked, run(rt, asked, nodes, &mut names));
+        let ended = run(rt, asked, nodes, &mut names, &mut files);
+        return said(rt, asked, ended, &None, &files);
     };
-    let mut names = TableFile::new(rt, path);
-    let ended = run(rt, asked, nodes, &mut names);
-    match (ended, names.error()) {
-        (Err(fault), Some(error)) => {
-            let _ = rt.eprintln(format_args!("fsck_import: {fault} to {path}: {error}"));
-            FAULTED
-        }
-        (ended, _) => said(rt, asked, ended),
-    }
+    let mut names = Some(TableFile::new(rt, "names", path));
+    let ended = run(rt, asked, nodes, &mut names, &mut files);
+    said(rt, asked, ended, &names, &files)
 }
 
 /// Says what the user has to know, or the fault.
-fn said<R: Eprint>(rt: &R, asked: &Asked<'_>, ended: Result<Notes, Fault>) -> u8 {
+fn said<R: Eprint + Files>(
+    rt: &R,
+    asked: &Asked<'_>,
+    ended: Result<Notes, Fault>,
+    names: &Option<TableFile<'_, R>>,
+    files: &Option<TableFile<'_, R>>,
+) -> u8 {
     match ended {
         Ok(notes) => {
             say_notes(rt, asked, &notes);
             DONE
+        }
+        Err(Fault::Table) => {
+            for table in [names, files] {
+                if let Some(table) = table {
+                    table.say_error(rt);
+                }
+            }
+            FAULTED
         }
         Err(fault) => say_fault(rt, fault),
     }
@@ -213,15 +232,17 @@ fn say_count<R: Eprint>(rt: &R, count: u64, one: &str, several: &str) {
 }
 
 /// From standard input to standard output.
-fn run<R: Input + Print + AllocGlobal, N: Destination>(
+fn run<R: Input + Print + AllocGlobal, N: Destination, F: Destination>(
     rt: &R,
     asked: &Asked<'_>,
     nodes: Cluster,
     names: &mut N,
+    files: &mut F,
 ) -> Result<Notes, Fault> {
     let alloc: Global = rt.alloc();
     let values = asked.values;
-    let start = Reading::new(alloc, nodes, values.skips, values.unclear);
+    let keeps_files = asked.files.is_some();
+    let start = Reading::new(alloc, nodes, values.skips, values.unclear, keeps_files);
     let Ok(mut reader) = BufReader::new(alloc, rt.reader()) else {
         drop(start);
         return Err(Fault::Memory);
@@ -237,5 +258,6 @@ fn run<R: Input + Print + AllocGlobal, N: Destination>(
         &mut reader,
         &mut writer,
         names,
+        files,
     )
 }

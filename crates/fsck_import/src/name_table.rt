@@ -6,7 +6,7 @@ ghost use Rattle.fsck_import.specs.NameTable.{node_line, storage_line, table_of}
 use fsck_cluster::{Cluster, NodeRow, Row};
 use std::alloc::{AllocError, Global};
 
-/// A comment for each node and each storage, in the order of their numbers.
+/// A row for each node and each storage, in the order of their numbers.
 #[tactic(auto, unfolding(crate::specs::NameTable::table_of))]
 pub fn table_of(alloc: Global, cluster: &Cluster) -> Result<String, AllocError>
     ensures { IfOk result (λ s. string_bytes s ≡ table_of cluster.now) }
@@ -36,7 +36,7 @@ fn write_node(text: &mut String, cluster: &Cluster, row: &NodeRow) -> Result<(),
     let address = cluster.nodes.name(number);
     let rack = row.rack;
     let rack_name = cluster.racks.name(rack);
-    write!(text, "# node {number} {address} rack {rack} {rack_name}\n")
+    write!(text, "node\t{number}\t{address}\t{rack}\t{rack_name}\n")
 }
 
 fn write_storages(text: &mut String, cluster: &Cluster) -> Result<(), AllocError>
@@ -58,5 +58,5 @@ fn write_storage(text: &mut String, cluster: &Cluster, row: &Row) -> Result<(), 
     let storage = cluster.storages.name(number);
     let node = row.node;
     let address = cluster.nodes.name(node);
-    write!(text, "# storage {number} {storage} node {node} {address}\n")
+    write!(text, "storage\t{number}\t{storage}\t{node}\t{address}\n")
 }

@@ -27,6 +27,8 @@ pub struct Asked<'a> {
     pub values: Values,
     /// The path of the file into which the table of names goes, if one is named.
     pub names: Option<&'a str>,
+    /// The path of the file into which the table of files goes, if one is named.
+    pub files: Option<&'a str>,
     /// The path of the report on DataNodes, if one is named.
     pub nodes: Option<&'a str>,
 }
@@ -40,6 +42,8 @@ pub fn asked_by<'a>(alloc: Global, words: &'a [String]) -> Result<Asked<'a>, Err
         (given (codes "unclear") (map string_bytes words.entry.now))) }
     ensures names { IfOk result (λ a. option_copied a.names
         ≡ given (codes "names") (map string_bytes words.entry.now)) }
+    ensures files { IfOk result (λ a. option_copied a.files
+        ≡ given (codes "files") (map string_bytes words.entry.now)) }
     ensures nodes { IfOk result (λ a. option_copied a.nodes
         ≡ given (codes "nodes") (map string_bytes words.entry.now)) }
     ensures refused { FailsBy (refusals_of (map string_bytes words.entry.now)) result }
@@ -55,6 +59,7 @@ pub fn asked_by<'a>(alloc: Global, words: &'a [String]) -> Result<Asked<'a>, Err
         Some(values) => Ok(Asked {
             values,
             names: matches.get_str("names"),
+            files: matches.get_str("files"),
             nodes: matches.get_str("nodes"),
         }),
         None => Err(wrong_value(alloc)?),
@@ -77,6 +82,12 @@ fn command<'a>(alloc: Global) -> Result<Command<'a>, AllocError>
             "names",
             "FILE",
             "file for the table of names; without it standard error",
+        ))?
+        .arg(option(
+            alloc,
+            "files",
+            "FILE",
+            "file for the table of files: the path, the index and the number of each block",
         ))?
         .arg(option(
             alloc,

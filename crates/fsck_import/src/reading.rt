@@ -7,6 +7,7 @@ ghost use Rattle.fsck_import.specs.Lines.{IsReadFault};
 
 use crate::fault::{Cause, Fault, LineFault, Quoted, Unread};
 use crate::lines::{TakesLines, take_lines};
+use crate::listing::Listing;
 use fsck_cluster::{Cluster, ClusterFault, NodeFault, NodeList, NodeRefusal};
 use fsck_files::{Block, Files, Refusal, Skips, Unclear, Why};
 use std::alloc::Global;
@@ -17,6 +18,7 @@ use std::io::BufRead;
 pub struct Reading {
     pub files: Files,
     pub cluster: Cluster,
+    pub listing: Listing,
 }
 
 impl TakesLines for Reading {
@@ -25,6 +27,7 @@ impl TakesLines for Reading {
     ghost after = { after_line };
 
     fn take_line(&mut self, alloc: Global, line: &str) -> Result<(), LineFault> {
+        self.listing.take_line(alloc, line)?;
         match self.files.take_line(alloc, line) {
             Ok(Some(block)) => self.take_block(alloc, &block),
             Ok(None) => Ok(()),
@@ -50,21 +53,32 @@ fn line_fault(alloc: Global, line: &str, fault: fsck_files::LineFault) -> LineFa
 }
 
 impl Reading {
-    /// Nothing was read; the cluster has the nodes that are known.
-    pub fn new(alloc: Global, nodes: Cluster, skips: Skips, unclear: Unclear) -> Reading
-        ensures { result ≡ beginning nodes skips unclear }
+    /// Nothing was read; the cluster has the nodes that are known. The files of blocks are kept or not.
+    pub fn new(
+        alloc: Global,
+        nodes: Cluster,
+        skips: Skips,
+        unclear: Unclear,
+        keeps_files: bool,
+    ) -> Reading
+        ensures { result ≡ beginning nodes skips unclear keeps_files }
     {
         Reading {
             files: Files::new(alloc, skips, unclear),
             cluster: nodes,
+            listing: Listing::new(alloc, keeps_files),
         }
     }
 
     /// Takes a block.
     fn take_block(&mut self, alloc: Global, block: &Block) -> Result<(), LineFault>
-        ensures ok { OnOk result (after_taken self.old.files self.old.cluster block.now ≡ Ok self.new) }
-        ensures refused { IfErr result (λ f. IsCause f (after_taken self.old.files self.old.cluster block.now)) }
+        ensures ok { OnOk result (after_taken self.old.files self.old.listing self.old.cluster block.now
+            ≡ Ok self.new) }
+        ensures refused { IfErr result
+            (λ f. IsCause f (after_taken self.old.files self.old.listing self.old.cluster block.now)) }
     {
+        let index = u64::from(self.files.file.read).saturating_sub(1);
+        self.listing.take_block(alloc, block.id, index)?;
         match self.cluster.take_block(alloc, block) {
             Ok(()) => Ok(()),
             Err(ClusterFault::Memory) => Err(LineFault::Memory),

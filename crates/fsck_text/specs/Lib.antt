@@ -6,6 +6,7 @@ pub mod Places
 pub mod Lists
 pub mod Blocks
 pub mod Headings
+pub mod Paths
 pub mod Summaries
 pub mod Lines
 pub mod Nodes

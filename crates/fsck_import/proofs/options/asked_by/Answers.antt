@@ -23,10 +23,16 @@ returns-in-Some-clause-names c =
     c.get_str-in-Some.ensures
     ∙ found words c.in_ok-command.command c.in_ok-matches.matches c.in_ok-command.ensures c.in_ok-matches.ensures.matches (codes "names")
 
+pub returns-in-Some-clause-files : goal.returns-in-Some-clause-files
+returns-in-Some-clause-files c =
+    let words = map string_bytes c.args.words.now in
+    c.get_str-in-Some-2.ensures
+    ∙ found words c.in_ok-command.command c.in_ok-matches.matches c.in_ok-command.ensures c.in_ok-matches.ensures.matches (codes "files")
+
 pub returns-in-Some-clause-nodes : goal.returns-in-Some-clause-nodes
 returns-in-Some-clause-nodes c =
     let words = map string_bytes c.args.words.now in
-    c.get_str-in-Some-2.ensures
+    c.get_str-in-Some-3.ensures
     ∙ found words c.in_ok-command.command c.in_ok-matches.matches c.in_ok-command.ensures c.in_ok-matches.ensures.matches (codes "nodes")
 
 pub returns-in-Some-clause-refused : goal.returns-in-Some-clause-refused

@@ -19,4 +19,5 @@ returns c =
     let s2 = added _ _ _ _ _ c.in_ok-arg-2.ensures c.option-2.ensures.local s1 c.option-2.ensures.rule in
     let s3 = added _ _ _ _ _ c.in_ok-arg-3.ensures c.option-3.ensures.local s2 c.option-3.ensures.rule in
     let s4 = added _ _ _ _ _ c.in_ok-arg-4.ensures c.option-4.ensures.local s3 c.option-4.ensures.rule in
-    IfOk-weaker c.arg-5.result _ _ (λ r h. added _ _ _ _ _ h c.option-5.ensures.local s4 c.option-5.ensures.rule) c.arg-5.ensures
+    let s5 = added _ _ _ _ _ c.in_ok-arg-5.ensures c.option-5.ensures.local s4 c.option-5.ensures.rule in
+    IfOk-weaker c.arg-6.result _ _ (λ r h. added _ _ _ _ _ h c.option-6.ensures.local s5 c.option-6.ensures.rule) c.arg-6.ensures

@@ -1,0 +1,64 @@
+// The table of files: the path, the index in the file and the number of each block.
+ghost use Rattle.std.specs.Prelude.{◌≡◌, ◌++◌, IfOk, OnOk, option_to_list, slice_get, string_bytes};
+ghost use Rattle.std.specs.List.{flat_map};
+ghost use Rattle.fsck_import.specs.FileTables.{place_line, row_text, files_text};
+
+use bm_base::BlockId;
+use cluster_names::{FilePlace, Files};
+use std::alloc::{AllocError, Global};
+
+/// A row for each block, in the order of the text.
+#[tactic(auto, unfolding(crate::specs::FileTables::files_text))]
+pub fn files_text(alloc: Global, files: &Files) -> Result<String, AllocError>
+    ensures { IfOk result (λ s. string_bytes s ≡ files_text files.now) }
+{
+    let mut text = String::new(alloc);
+    write_places(&mut text, files)?;
+    Ok(text)
+}
+
+fn write_places(text: &mut String, files: &Files) -> Result<(), AllocError>
+    ensures { OnOk result (string_bytes text.new ≡ string_bytes text.old
+        ++ flat_map (place_line files.now.paths) files.now.places) }
+{
+    for index in 0..files.block_count() {
+        write_place(text, files, index)?;
+    }
+    Ok(())
+}
+
+/// The row of the block at an index.
+fn write_place(text: &mut String, files: &Files, index: usize) -> Result<(), AllocError>
+    ensures { OnOk result (string_bytes text.new ≡ string_bytes text.old
+        ++ flat_map (place_line files.now.paths) (option_to_list (slice_get files.now.places index))) }
+{
+    match files.get(index) {
+        Some((block, place)) => write_block(text, files, block, place),
+        None => Ok(()),
+    }
+}
+
+/// The row of a block in its place.
+fn write_block(
+    text: &mut String,
+    files: &Files,
+    block: BlockId,
+    place: FilePlace,
+) -> Result<(), AllocError>
+    ensures { OnOk result (string_bytes text.new ≡ string_bytes text.old
+        ++ place_line files.now.paths (block, place)) }
+{
+    match files.path(place.file) {
+        Some(path) => write_row(text, path, place.index, block),
+        None => Ok(()),
+    }
+}
+
+#[tactic(auto, unfolding(crate::specs::FileTables::row_text))]
+fn write_row(text: &mut String, path: &str, index: u64, block: BlockId) -> Result<(), AllocError>
+    ensures { OnOk result (string_bytes text.new ≡ string_bytes text.old
+        ++ row_text block index path.now) }
+{
+    let number = block.0;
+    write!(text, "{path}\t{index}\t{number}\n")
+}

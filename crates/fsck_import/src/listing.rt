@@ -1,0 +1,77 @@
+// The files of the blocks that are taken.
+ghost use Rattle.std.specs.Prelude.{◌≡◌, OnOk};
+ghost use Rattle.fsck_import.specs.Listings.{no_listing, headed, with_listed};
+
+use bm_base::BlockId;
+use cluster_names::Files;
+use fsck_text::path_of;
+use std::alloc::{AllocError, Global};
+use std::marker::Model;
+
+/// The path of the file that is being read, and the files of the blocks so far. Nothing is listed where that is not asked for.
+#[derive(Drop)]
+pub struct Listing {
+    is_kept: bool,
+    path: String,
+    files: Files,
+}
+
+impl Model for Listing {
+    ghost use Rattle.std.specs.Prelude.{string_bytes};
+    ghost use Rattle.fsck_import.specs.Listings as spec;
+
+    ghost Value = { spec.Listing };
+
+    ghost view = { λ l. record {
+      is_kept = l.is_kept;
+      path = string_bytes l.path;
+      files = l.files;
+    } };
+}
+
+impl Listing {
+    /// Nothing was read. Takes no memory.
+    pub fn new(alloc: Global, is_kept: bool) -> Listing
+        ensures { result ≡ no_listing is_kept }
+    {
+        Listing {
+            is_kept,
+            path: String::new(alloc),
+            files: Files::new(alloc),
+        }
+    }
+
+    pub fn files(&self) -> &Files
+        ensures { result.now ≡ self.now.files }
+    {
+        &self.files
+    }
+
+    /// Takes the path, if a line is the heading of a file.
+    pub fn take_line(&mut self, alloc: Global, line: &str) -> Result<(), AllocError>
+        ensures { OnOk result (self.new ≡ headed self.old line.now) }
+    {
+        if !self.is_kept {
+            return Ok(());
+        }
+        if let Some(path) = path_of(line) {
+            self.path = String::from_str(alloc, path)?;
+        }
+        Ok(())
+    }
+
+    /// Lists a block of the file, by its index there.
+    pub fn take_block(
+        &mut self,
+        alloc: Global,
+        block: BlockId,
+        index: u64,
+    ) -> Result<(), AllocError>
+        ensures { OnOk result (self.new ≡ with_listed self.old block index) }
+    {
+        if self.is_kept {
+            self.files.add(alloc, block, self.path.as_str(), index)?;
+        }
+        Ok(())
+    }
+}
