@@ -273,6 +273,7 @@ def file_rows(cluster: Cluster, call: Fsck, options: Import = Import()) -> list[
     return [
         f"{file.path}\t{index}\t{block.number}"
         for file in shown_files(cluster, call)
+        if not is_skipped(file, call, options)
         for index, block in enumerate(file.blocks)
         if block.number in taken
     ]
