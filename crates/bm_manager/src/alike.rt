@@ -47,7 +47,7 @@ pub fn answers_alike<R: Threads + Wait + Sync>(
     Ok((answers, other_answers))
 }
 
-/// [`answers_alike`], where the calling thread alone works the calls of the second manager, which has so many shards.
+/// [`answers_alike`], where the second manager has this number of shards, and the calling thread alone works its calls.
 pub fn answers_alike_alone<R: Threads + Wait + Sync>(
     alloc: Global,
     rt: &R,

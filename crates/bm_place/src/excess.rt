@@ -10,7 +10,7 @@ use bm_base::{NumberMap, Refusal, StorageId};
 use bm_topo::Topology;
 use std::alloc::{AllocError, Global};
 
-/// Up to so many live replicas each is compared with the others, which takes less time than to sort them and count their racks.
+/// Up to this number of live replicas, each is compared with the others, which takes less time than to sort them and count their racks.
 const FEW: usize = 8;
 
 /// Room for the choice of what is in excess, used again from block to block.
