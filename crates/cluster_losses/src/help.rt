@@ -9,7 +9,7 @@ Examples, where cluster.jsonl has lines of the line tool:
   what-if --lose rack:1 cluster.jsonl             rack 1 burns
   what-if --lose node:3 --lose node:4 FILE        two nodes die at once
   what-if --lose each-rack FILE                   a table: each rack alone, the worst first
-  what-if --drain 3 FILE                          node 3 is taken away";
+  what-if --drain 3 --mend FILE                   when node 3 can be taken away";
 
 /// What is said of words that ask no question.
 pub fn wrong_question(alloc: Global) -> Result<Error, AllocError> {
@@ -17,6 +17,6 @@ pub fn wrong_question(alloc: Global) -> Result<Error, AllocError> {
     command.error(
         ErrorKind::ValueValidation,
         "--lose takes rack:NAME, node:NAME, storage:NAME, each-rack and each-node, the last two \
-         alone; at least one --lose or --drain is wanted",
+         alone and without --mend; at least one --lose or --drain is wanted; --svg needs --mend",
     )
 }

@@ -16,16 +16,23 @@ mod answers;
 pub mod catalogue;
 mod each;
 pub mod fault;
+mod free;
 pub mod held;
 mod help;
 mod lacking;
+mod links;
 pub mod losing;
 pub mod loss;
+mod on_way;
 mod options;
 mod reading;
+mod reasons;
+mod repair;
+mod repair_text;
 mod set_back;
 pub mod standing;
 mod text;
+mod watch;
 pub mod without;
 
 ghost use Rattle.cluster_report.specs.Sessions.{IsInStep};
@@ -33,6 +40,7 @@ ghost use Rattle.cluster_report.specs.Sessions.{IsInStep};
 use answers::answer_to_losses;
 use clap::Error;
 use clap::error::ErrorKind;
+use cluster_simulation::picture_text;
 use each::{nodes_of, racks_of, table_of};
 use fault::Fault;
 use held::Held;
@@ -40,6 +48,9 @@ use losing::Lost;
 use loss::{Loss, Question};
 use options::{Asked, asked_by};
 use reading::read_lines;
+use reasons::unmended_of;
+use repair::{Pace, mend};
+use repair_text::write_mended;
 use std::alloc::Global;
 use std::io;
 use std::io::{BufReader, Write};
@@ -97,7 +108,7 @@ fn run<R: Input + Print + AllocGlobal + Threads + Wait + Sync, N: Print>(
     let mut told = io::writer(notes);
     let mut held = Held::new(alloc, &asked.config)?;
     let all_accepted = read_lines(rt, alloc, &mut held, &mut reader, &mut told)?;
-    let text = text_for(rt, alloc, &mut held, &asked.question)?;
+    let text = text_for(rt, alloc, &mut held, asked)?;
     let mut writer = io::writer(rt);
     match writer.write_all(text.as_bytes()) {
         Ok(()) if writer.flush().is_ok() => Ok(all_accepted),
@@ -109,12 +120,12 @@ fn text_for<H: Threads + Wait + Sync>(
     rt: &H,
     alloc: Global,
     held: &mut Held,
-    question: &Question<'_>,
+    asked: &Asked<'_>,
 ) -> Result<String, Fault>
     requires { IsInStep held.old.session }
 {
-    match question {
-        Question::Losses(losses) => losses_text(rt, alloc, held, losses.as_slice()),
+    match &asked.question {
+        Question::Losses(losses) => losses_text(rt, alloc, held, asked, losses.as_slice()),
         Question::EachRack => {
             let parts = racks_of(alloc, &held.session.book)?;
             table_of(rt, alloc, held, "rack", parts.as_slice())
@@ -131,6 +142,7 @@ fn losses_text<H: Threads + Wait + Sync>(
     rt: &H,
     alloc: Global,
     held: &mut Held,
+    asked: &Asked<'_>,
     losses: &[Loss<'_>],
 ) -> Result<String, Fault>
     requires { IsInStep held.old.session }
@@ -141,5 +153,38 @@ fn losses_text<H: Threads + Wait + Sync>(
     let events = lost.events(alloc)?;
     let answer = answer_to_losses(rt, alloc, held, events.as_slice())?;
     text.push_str(answer.as_str())?;
+    match asked.pace {
+        Some(pace) => mended_text(rt, alloc, held, asked, pace, &lost, text),
+        None => Ok(text),
+    }
+}
+
+/// The answer, and behind it what is mended; or a picture of that.
+fn mended_text<H: Threads + Wait + Sync>(
+    rt: &H,
+    alloc: Global,
+    held: &mut Held,
+    asked: &Asked<'_>,
+    pace: Pace,
+    lost: &Lost,
+    mut text: String,
+) -> Result<String, Fault> {
+    let mended = mend(rt, alloc, held, pace, lost.drained.as_slice())?;
+    if asked.is_picture {
+        let below = format!(in alloc;
+            "a round every {} s, {} bytes a second",
+            pace.interval, pace.bandwidth
+        )?;
+        let rows = mended.rows.as_slice();
+        return Ok(picture_text(
+            alloc,
+            "What is lost is copied again",
+            below.as_str(),
+            None,
+            rows,
+        )?);
+    }
+    let unmended = unmended_of(alloc, held, &mended.free, mended.unmended.as_slice())?;
+    write_mended(&mut text, pace, &mended, unmended.as_slice())?;
     Ok(text)
 }

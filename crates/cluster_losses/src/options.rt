@@ -1,8 +1,9 @@
 // The options of the program.
 use crate::help::{EXAMPLES, wrong_question};
 use crate::loss::{Question, question_of};
+use crate::repair::Pace;
 use bm_base::Config;
-use clap::{Arg, ArgAction, Command, Error};
+use clap::{Arg, ArgAction, ArgMatches, Command, Error, value_parser};
 use cluster_report::options::{NUMBERS, argument, config_from, with};
 use std::alloc::{AllocError, Global};
 
@@ -11,6 +12,10 @@ use std::alloc::{AllocError, Global};
 pub struct Asked<'a> {
     pub config: Config,
     pub question: Question<'a>,
+    /// How fast it is mended, if that is asked for.
+    pub pace: Option<Pace>,
+    /// Whether the answer is a picture.
+    pub is_picture: bool,
 }
 
 /// What the words of a command line ask for, the program's name first. An `Err` is a request for help, a command line that is refused,
@@ -20,12 +25,38 @@ pub fn asked_by<'a>(alloc: Global, words: &'a [String]) -> Result<Asked<'a>, Err
     let matches = command.try_get_matches_from(words)?;
     let lose = matches.get_strs("lose").unwrap_or(&[]);
     let drain = matches.get_strs("drain").unwrap_or(&[]);
+    let pace = pace_in(&matches);
+    let is_picture = matches.get_flag("svg");
     let Some(question) = question_of(alloc, lose, drain)? else {
         return Err(wrong_question(alloc)?);
     };
+    if !may_ask(&question, pace, is_picture) {
+        return Err(wrong_question(alloc)?);
+    }
     Ok(Asked {
         config: config_from(&matches),
         question,
+        pace,
+        is_picture,
+    })
+}
+
+/// A table is of losses alone, and a picture of what is mended.
+fn may_ask(question: &Question<'_>, pace: Option<Pace>, is_picture: bool) -> bool {
+    match pace {
+        Some(_) => question.is_one(),
+        None => !is_picture,
+    }
+}
+
+fn pace_in(matches: &ArgMatches<'_>) -> Option<Pace> {
+    if !matches.get_flag("mend") {
+        return None;
+    }
+    let megabytes = matches.get_one::<u32>("bandwidth").unwrap_or(50);
+    Some(Pace {
+        bandwidth: u64::from(megabytes) * 1_000_000,
+        interval: matches.get_one::<u32>("interval").unwrap_or(3),
     })
 }
 
@@ -38,7 +69,23 @@ pub fn command<'a>(alloc: Global) -> Result<Command<'a>, AllocError> {
             "WHAT",
             "rack:NAME, node:NAME, storage:NAME, each-rack or each-node, the last two alone",
         ))?
-        .arg(several(alloc, "drain", "NAME", "a node that is to be taken away"))?;
+        .arg(several(alloc, "drain", "NAME", "a node that is to be taken away"))?
+        .arg(flag(alloc, "mend").help("goes on in rounds until nothing more is copied"))?
+        .arg(flag(alloc, "svg").help("with --mend: a picture of the rounds"))?
+        .arg(number(
+            alloc,
+            "bandwidth",
+            "50",
+            100_000,
+            "with --mend: megabytes a second that a node sends, and receives, 1 to 100,000",
+        ))?
+        .arg(number(
+            alloc,
+            "interval",
+            "3",
+            3_600,
+            "with --mend: seconds from round to round, 1 to 3,600",
+        ))?;
     for number in &NUMBERS {
         command = with(command, argument(alloc, number))?;
     }
@@ -60,6 +107,27 @@ fn several<'a>(alloc: Global, name: &'a str, value: &'a str, help: &'a str) -> A
         .long(name)
         .value_name(value)
         .help(help)
+}
+
+fn flag<'a>(alloc: Global, name: &'a str) -> Arg<'a> {
+    new_arg(alloc, name).action(ArgAction::SetTrue).long(name)
+}
+
+/// An option with a whole number from 1 to `most`.
+fn number<'a>(
+    alloc: Global,
+    name: &'a str,
+    standard: &'a str,
+    most: u32,
+    help: &'a str,
+) -> Arg<'a> {
+    new_arg(alloc, name)
+        .action(ArgAction::Set)
+        .long(name)
+        .value_name("N")
+        .default_value(standard)
+        .help(help)
+        .value_parser(value_parser!(u32).range(1..=i64::from(most)))
 }
 
 fn new_arg<'a>(alloc: Global, name: &'a str) -> Arg<'a> {
