@@ -7,3 +7,5 @@ pub mod ReadLemmas
 pub mod SentLemmas
 pub mod CopyLemmas
 pub mod StepLemmas
+-- Lengths of blocks.
+pub mod LengthLemmas

@@ -1,25 +1,17 @@
-// The options of the program: those of the line tool.
+// The options of a manager: those of the line tool.
 use bm_base::Config;
-use clap::{Arg, ArgAction, ArgMatches, Command, Error, value_parser};
+use clap::{Arg, ArgAction, ArgMatches, Command, value_parser};
 use std::alloc::{AllocError, Global};
 
-/// The configuration that the words of a command line name, the program's name first: each option at most once, a whole number within
-/// its range. What is not named is standard. An `Err` is a request for help, a command line that is refused, or want of memory.
-pub fn config_of(alloc: Global, words: &[String]) -> Result<Config, Error> {
-    let command = command(alloc)?;
-    let matches = command.try_get_matches_from(words)?;
-    Ok(config_from(&matches))
-}
-
 /// An option with a whole number from 1 to `most`.
-struct Number {
+pub struct Number {
     name: &'static str,
     standard: &'static str,
     most: u32,
     help: &'static str,
 }
 
-static NUMBERS: [Number; 5] = [
+pub static NUMBERS: [Number; 5] = [
     Number {
         name: "shards",
         standard: "1",
@@ -52,26 +44,12 @@ static NUMBERS: [Number; 5] = [
     },
 ];
 
-fn command<'a>(alloc: Global) -> Result<Command<'a>, AllocError> {
-    let mut command = program(alloc);
-    for number in &NUMBERS {
-        command = with(command, argument(alloc, number))?;
-    }
-    Ok(command)
-}
-
-fn program<'a>(alloc: Global) -> Command<'a> {
-    Command::new(alloc, "cluster_report").about(
-        "Makes the calls of the line tool's lines, and tells at the end how the cluster stands",
-    )
-}
-
 /// The command with one more argument.
-fn with<'a>(command: Command<'a>, arg: Arg<'a>) -> Result<Command<'a>, AllocError> {
+pub fn with<'a>(command: Command<'a>, arg: Arg<'a>) -> Result<Command<'a>, AllocError> {
     command.arg(arg)
 }
 
-fn argument<'a>(alloc: Global, number: &Number) -> Arg<'a> {
+pub fn argument<'a>(alloc: Global, number: &Number) -> Arg<'a> {
     new_arg(alloc, number.name)
         .action(ArgAction::Set)
         .long(number.name)
@@ -85,7 +63,7 @@ fn new_arg<'a>(alloc: Global, name: &'a str) -> Arg<'a> {
     Arg::new(alloc, name)
 }
 
-fn config_from(matches: &ArgMatches<'_>) -> Config {
+pub fn config_from(matches: &ArgMatches<'_>) -> Config {
     let standard = Config::standard();
     Config {
         shards: number_in(matches, "shards", standard.shards),

@@ -1,0 +1,3 @@
+-- Lemmas.
+pub mod MakeLemmas
+pub mod HeadLemmas
