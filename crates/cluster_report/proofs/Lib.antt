@@ -9,3 +9,4 @@ pub mod CopyLemmas
 pub mod StepLemmas
 -- Lengths of blocks.
 pub mod LengthLemmas
+pub mod CatalogueLemmas

@@ -1,5 +1,5 @@
 // The stamp and the wanted replicas of each known block. The manager answers no question about them.
-ghost use Rattle.std.specs.Prelude.{◌≡◌, ℕ, nat_eq, sum_by, Some, OnOk, if◌then◌else◌};
+ghost use Rattle.std.specs.Prelude.{◌≡◌, ℕ, nat_eq, sum_by, Some, None, OnOk, if◌then◌else◌};
 ghost use Rattle.bm_base.specs.Map as map_of;
 ghost use Rattle.bm_base.specs.State.{Cluster, Holdings};
 ghost use Rattle.bm_base.specs.Events.{change_holdings, set_replication, restamp};
@@ -53,6 +53,7 @@ impl Catalogue {
     }
 
     /// Notes what an accepted event makes of a block.
+    #[tactic(auto, unfolding(bm_base::specs::Events::change_holdings, bm_base::specs::Events::without_storages, bm_base::specs::Events::add_block, bm_base::specs::Events::delete_block, bm_base::specs::Events::without_pending, bm_base::specs::Events::revise_block, bm_base::specs::Events::set_replication, bm_base::specs::Events::restamp, bm_base::specs::Events::enter, bm_base::specs::Events::remove_replica, bm_base::specs::Events::make_bad, bm_base::specs::Events::report), using(crate::proofs::CatalogueLemmas::lists_put, crate::proofs::CatalogueLemmas::lists_removed, crate::proofs::CatalogueLemmas::lists_drained))]
     pub fn take_event(&mut self, event: &Event) -> Result<(), AllocError>
         ensures { OnOk result ((C : Cluster) (H : Holdings) → Lists self.old H.blocks
             → Lists self.new (change_holdings C H event.now).blocks) }
@@ -64,7 +65,7 @@ impl Catalogue {
                 self.put(*id, BlockInfo { stamp, repl })
             }
             Event::DeleteBlock { id } => {
-                let _ = self.blocks.remove(&id.0);
+                self.forget(*id);
                 Ok(())
             }
             Event::SetReplication { id, repl } => self.set_replication(*id, *repl),
@@ -82,6 +83,7 @@ impl Catalogue {
         }
     }
 
+    #[tactic(auto, unfolding(bm_base::specs::Events::set_replication), using(crate::proofs::CatalogueLemmas::lists_revised, crate::proofs::CatalogueLemmas::lists_absent))]
     fn set_replication(&mut self, block: BlockId, repl: u32) -> Result<(), AllocError>
         ensures { OnOk result ((H : Holdings) → Lists self.old H.blocks
             → Lists self.new (set_replication H block repl).blocks) }
@@ -92,6 +94,7 @@ impl Catalogue {
         }
     }
 
+    #[tactic(auto, unfolding(bm_base::specs::Events::restamp, bm_base::specs::Events::without_pending, bm_base::specs::Events::revise_block), using(crate::proofs::CatalogueLemmas::lists_revised, crate::proofs::CatalogueLemmas::lists_absent))]
     fn restamp(&mut self, block: BlockId, stamp: Stamp) -> Result<(), AllocError>
         ensures { OnOk result ((H : Holdings) → Lists self.old H.blocks
             → Lists self.new (restamp H block stamp).blocks) }
@@ -100,6 +103,13 @@ impl Catalogue {
             Some(info) => self.put(block, BlockInfo { stamp, ..info }),
             None => Ok(()),
         }
+    }
+
+    fn forget(&mut self, block: BlockId)
+        ensures { (b : ℕ) → info_in self.new b
+            ≡ (if nat_eq block b then None else info_in self.old b) }
+    {
+        let _ = self.blocks.remove(&block.0);
     }
 
     fn put(&mut self, block: BlockId, info: BlockInfo) -> Result<(), AllocError>
