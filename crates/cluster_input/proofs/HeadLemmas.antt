@@ -1,7 +1,9 @@
 -- The first lines of a text.
-use Rattle.std.proofs.Common.{◌≡◌, ℕ, zero, suc, Bool, true, false, cond, not, ◌||◌, List, [], ◌∷◌, ◌++◌, drop, Option, Some, None, IfSome, refl, sym, ap, ◌∙◌, append_assoc, append-nil}
+use Rattle.std.proofs.Common.{◌≡◌, ℕ, zero, suc, Bool, true, false, cond, not, ◌||◌, List, [], ◌∷◌, ◌++◌, drop, length, Option, Some, None, IfSome, refl, sym, ap, subst, ◌∙◌, append_assoc, append-nil}
 use Rattle.std.specs.List.{find, list_any}
+use Rattle.std.specs.Io.{StartsWith, appended_bytes}
 use Rattle.std.specs.Io.KnownBytes.{Consumes, IsAtEnd}
+use Rattle.std.proofs.lemmas.List.{take-append-drop}
 use Rattle.cluster_input.specs.Kinds.{is_blank, is_brace, are_lines, IsHead, IsHeadOf}
 
 -- what is not blank in the front is the first in the whole
@@ -29,6 +31,13 @@ more_read None b c xs ys h k = tt
 more_read (Some a) None c xs ys h k = absurd h
 more_read (Some a) (Some b) None xs ys h k = k
 more_read (Some a) (Some b) (Some c) xs ys h k = h ∙ ap (λ t. xs ++ t) k ∙ sym (append_assoc xs ys c)
+
+-- one more line is behind the head
+pub head_more : (known a b : Option (List ℕ)) (old new : List ℕ) → Consumes known a old → Consumes a b (appended_bytes old new) → StartsWith new old
+    → Consumes known b new
+head_more known a b old new h k starts =
+    subst (Consumes known b) (ap (λ xs. xs ++ drop (length old) new) (sym starts) ∙ take-append-drop (length old) new)
+    (more_read known a b old (appended_bytes old new) h k)
 
 -- the head ends with a line that is not blank
 pub head_found : (known left : Option (List ℕ)) (head : List ℕ) → Consumes known left head → list_any any_of head ≡ true

@@ -31,7 +31,7 @@ bytes_on ss = fold (λ total s. capped total s.bytes) 0 ss
 
 -- how many thousandths of a total a part is, rounded down; 0 of nothing
 abbrev pub thousandths : ℕ → ℕ → ℕ
-thousandths n total = n * 1000 / max 1 total
+thousandths n total = min (n * 1000) (2 ^ 128 - 1) / max 1 total
 
 -- a part in per cent, to a tenth
 abbrev pub share : ℕ → ℕ → Text

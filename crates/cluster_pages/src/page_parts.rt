@@ -25,27 +25,29 @@ pub fn write_number_cell(text: &mut String, number: u128) -> Result<(), AllocErr
     write!(text, "<td class=\"n\">{number}</td>")
 }
 
-/// The binary units, each 1,024 of the one before.
-static UNITS: [&str; 7] = ["B", "KiB", "MiB", "GiB", "TiB", "PiB", "EiB"];
+/// The binary units above the byte, each 1,024 of the one before.
+static UNITS: [&str; 8] = ["KiB", "MiB", "GiB", "TiB", "PiB", "EiB", "ZiB", "YiB"];
 
 /// Bytes in the greatest unit of which there is one, to a tenth, rounded down.
 pub fn write_bytes(text: &mut String, bytes: u128) -> Result<(), AllocError> {
-    let mut whole = bytes;
-    let mut rest = 0;
-    let mut name = "B";
-    for unit in UNITS.iter().skip(1) {
-        if whole < 1024 {
-            break;
+    let mut below = bytes;
+    for unit in &UNITS {
+        if below < 1024 * 1024 {
+            return write_in_unit(text, below, *unit);
         }
-        rest = whole % 1024;
-        whole /= 1024;
-        name = *unit;
+        below /= 1024;
     }
-    if name == "B" {
-        return write!(text, "{whole} B");
+    write!(text, "{bytes} B")
+}
+
+/// So many of the unit below this one.
+fn write_in_unit(text: &mut String, below: u128, unit: &str) -> Result<(), AllocError> {
+    if below < 1024 && unit == "KiB" {
+        return write!(text, "{below} B");
     }
-    let tenth = rest * 10 / 1024;
-    write!(text, "{whole}.{tenth} {name}")
+    let whole = below / 1024;
+    let tenth = below % 1024 * 10 / 1024;
+    write!(text, "{whole}.{tenth} {unit}")
 }
 
 /// A row with a count, its bytes, its part of the total in per cent, and that as a bar.
@@ -68,7 +70,7 @@ pub fn write_amount_row(
     text.push_str("</td></tr>\n")
 }
 
-/// A part of a total as a bar, with the per cent beside it.
+/// A part of a total as a bar.
 pub fn write_share_cell(
     text: &mut String,
     part: u128,
@@ -76,16 +78,8 @@ pub fn write_share_cell(
     is_bad: bool,
 ) -> Result<(), AllocError> {
     text.push_str("<td class=\"bar\">")?;
-    write_bar(text, share_of(part, total), is_bad)?;
+    write_bar(text, thousandths(part, total), is_bad)?;
     text.push_str("</td>")
-}
-
-/// How many thousandths of a total a part is, also of the greatest numbers.
-fn share_of(part: u128, total: u128) -> u128 {
-    if total > 1 << 100 {
-        return thousandths((part >> 64).min(1 << 64), (total >> 64).max(1));
-    }
-    thousandths(part.min(1 << 100), total)
 }
 
 /// A bar of so many thousandths of its width.

@@ -1,5 +1,5 @@
 // The lines of a report.
-ghost use Rattle.std.specs.Prelude.{◌≡◌, ◌≤◌, ◌*◌, ◌++◌, [], Some, length, slice_get, OnOk, option_copied, option_map, string_bytes, sum_by};
+ghost use Rattle.std.specs.Prelude.{◌≡◌, ◌++◌, [], Some, length, slice_get, OnOk, option_copied, option_map, string_bytes, sum_by};
 ghost use Rattle.std.specs.List.{flat_map};
 ghost use Rattle.std.specs.Option.{option_map_or};
 ghost use Rattle.cluster_names.specs.Rows.{name_or_number, shown};
@@ -45,7 +45,6 @@ pub fn write_total(
 
 /// A part of a total in per cent, to a tenth.
 fn write_share(text: &mut String, count: u128, total: u128) -> Result<(), AllocError>
-    requires { count ≤ 18446744073709551615 * 18446744073709551615 }
     ensures { OnOk result (string_bytes text.new ≡ string_bytes text.old ++ share count total) }
 {
     let thousandths = thousandths(count, total);
@@ -56,10 +55,9 @@ fn write_share(text: &mut String, count: u128, total: u128) -> Result<(), AllocE
 
 /// How many thousandths of a total a part is, rounded down; 0 of nothing.
 pub fn thousandths(count: u128, total: u128) -> u128
-    requires { count ≤ 18446744073709551615 * 18446744073709551615 }
     ensures { result ≡ thousandths count total }
 {
-    count * 1000 / total.max(1)
+    count.saturating_mul(1000) / total.max(1)
 }
 
 pub fn write_nodes(
@@ -139,7 +137,6 @@ fn write_held(
     bytes: u128,
     remaining: u128,
 ) -> Result<(), AllocError>
-    requires { replicas ≤ 18446744073709551615 * 18446744073709551615 }
     ensures { OnOk result (string_bytes text.new ≡ string_bytes text.old
         ++ held_text all replicas bytes remaining) }
 {
@@ -160,8 +157,7 @@ pub fn state_word(state: NodeState) -> &'static str
 
 /// The replicas that these storages hold.
 pub fn replicas_on(rows: &[StorageRow]) -> u128
-    ensures sum { result ≡ sum_by (λ s. s.replicas) rows.now }
-    ensures bound { result ≤ 18446744073709551615 * 18446744073709551615 }
+    ensures { result ≡ sum_by (λ s. s.replicas) rows.now }
 {
     let mut total = 0u128;
     for row in rows {

@@ -1,13 +1,17 @@
 -- What a catalogue has after an event.
-use Rattle.std.proofs.Common.{◌≡◌, ℕ, Bool, true, false, cond, ◌==◌, if◌then◌else◌, Option, Some, None, option_map, arith, refl, sym, ap, subst, ◌∙◌}
+use Rattle.std.proofs.Common.{◌≡◌, ℕ, Bool, true, false, cond, ◌==◌, if◌then◌else◌, [], Option, Some, None, option_map, arith, refl, sym, ap, subst, ◌∙◌}
 use Rattle.std.specs.Prelude.{nat_eq}
+use Rattle.std.specs.Map.{lookup}
 use Rattle.std.specs.Ordering.{eq_by_cmp, nat_cmp}
 use Rattle.std.proofs.lemmas.Bool.{eqb-true}
 use Rattle.std.proofs.lemmas.Bool.Decides.{nat_tests}
 use Rattle.bm_base.specs.declared.replica.BlockInfo.{BlockInfo}
 use Rattle.bm_base.specs.Map.{Map, by_number, empty, get, insert, remove, revise_at, without}
 use Rattle.bm_base.specs.State.{Cluster, Holdings}
-use Rattle.bm_base.specs.Events.{begun_to_drain}
+use Rattle.bm_base.specs.declared.event.Event.{Event}
+use Rattle.bm_base.specs.declared.event.Event.TheVariants.{AddBlock, DeleteBlock}
+use Rattle.bm_base.specs.declared.replica.Stamp.{Stamp}
+use Rattle.bm_base.specs.Events.{add_block, begun_to_drain, change_holdings, delete_block, revise_block, without_pending}
 use Rattle.bm_base.specs.Replicas.{drains, has_storage}
 use Rattle.bm_base.proofs.MapLaws.{get-empty, get-insert, get-remove, get-revise}
 use Rattle.bm_base.proofs.Ties.{number_tie}
@@ -25,8 +29,8 @@ tie : (a b : ℕ) → nat_eq a b ≡ eq_by_cmp nat_cmp b a
 tie a b = either_way a b ∙ sym (number_tie b a)
 
 -- a catalogue with no block
-pub lists_none : (c : Catalogue) → ((b : ℕ) → info_in c b ≡ None) → Lists c empty
-lists_none c none = λ b. none b ∙ sym (get-empty by_number b)
+pub lists_empty : (c : Catalogue) → c.blocks.entries ≡ [] → Lists c empty
+lists_empty c none = λ b. ap (λ es. lookup (nat_eq b) es) none ∙ sym (get-empty by_number b)
 
 -- a node that begins to drain changes no block
 pub lists_drained : (c : Catalogue) (C : Cluster) (H : Holdings) (n : ℕ) → Lists c H.blocks → Lists c (begun_to_drain C H n).blocks
@@ -52,6 +56,20 @@ module _ (old new : Catalogue) (blocks : Map by_number BlockInfo) (k : ℕ) wher
       ∙ ap (λ t. cond t None (info_in old b)) (tie k b)
       ∙ ap (cond (eq_by_cmp nat_cmp b k) None) (lists b)
       ∙ sym (get-remove blocks k b)
+
+-- a block was added, or deleted
+pub lists_added : (old new : Catalogue) (C : Cluster) (H : Holdings) (e : Event) (b : ℕ) (stamp : Stamp) (repl : ℕ) → e ≡ AddBlock b stamp repl
+    → ((q : ℕ) → info_in new q ≡ (if nat_eq b q then Some (record { stamp = stamp; repl = repl }) else info_in old q)) → Lists old H.blocks
+    → Lists new (change_holdings C H e).blocks
+unfolding change_holdings add_block
+lists_added old new C H e b stamp repl is put lists =
+    subst (λ f. Lists new (change_holdings C H f).blocks) (sym is) (lists_put old new H.blocks b (record { stamp = stamp; repl = repl }) put lists)
+
+pub lists_deleted : (old new : Catalogue) (C : Cluster) (H : Holdings) (e : Event) (b : ℕ) → e ≡ DeleteBlock b
+    → ((q : ℕ) → info_in new q ≡ (if nat_eq b q then None else info_in old q)) → Lists old H.blocks → Lists new (change_holdings C H e).blocks
+unfolding change_holdings delete_block without_pending revise_block
+lists_deleted old new C H e b is gone lists =
+    subst (λ f. Lists new (change_holdings C H f).blocks) (sym is) (lists_removed old new H.blocks b gone lists)
 
 module _ (old : Catalogue) (blocks : Map by_number BlockInfo) (k : ℕ) (f : BlockInfo → BlockInfo) (lists : Lists old blocks) where
   revised_at : (b : ℕ) → get (revise_at blocks k f) b ≡ option_map (λ x. cond (eq_by_cmp nat_cmp b k) (f x) x) (info_in old b)

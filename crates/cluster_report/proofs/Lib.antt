@@ -10,3 +10,5 @@ pub mod StepLemmas
 -- Lengths of blocks.
 pub mod LengthLemmas
 pub mod CatalogueLemmas
+-- A whole report.
+pub mod ReportLemmas

@@ -76,8 +76,8 @@ impl Book {
         if self.topology.prepare(event).is_err() {
             return Err(AllocError);
         }
-        take_rack(&mut self.racks, event)?;
         self.blocks.take_event(event)?;
+        take_rack(&mut self.racks, event)?;
         self.transfers.take_event(&self.topology, event);
         self.topology.commit(event);
         Ok(())

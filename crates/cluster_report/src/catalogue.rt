@@ -53,7 +53,7 @@ impl Catalogue {
     }
 
     /// Notes what an accepted event makes of a block.
-    #[tactic(auto, unfolding(bm_base::specs::Events::change_holdings, bm_base::specs::Events::without_storages, bm_base::specs::Events::add_block, bm_base::specs::Events::delete_block, bm_base::specs::Events::without_pending, bm_base::specs::Events::revise_block, bm_base::specs::Events::set_replication, bm_base::specs::Events::restamp, bm_base::specs::Events::enter, bm_base::specs::Events::remove_replica, bm_base::specs::Events::make_bad, bm_base::specs::Events::report), using(crate::proofs::CatalogueLemmas::lists_put, crate::proofs::CatalogueLemmas::lists_removed, crate::proofs::CatalogueLemmas::lists_drained))]
+    #[tactic(auto, unfolding(bm_base::specs::Events::change_holdings, bm_base::specs::Events::without_storages, bm_base::specs::Events::add_block, bm_base::specs::Events::delete_block, bm_base::specs::Events::without_pending, bm_base::specs::Events::revise_block, bm_base::specs::Events::set_replication, bm_base::specs::Events::restamp, bm_base::specs::Events::enter, bm_base::specs::Events::remove_replica, bm_base::specs::Events::make_bad, bm_base::specs::Events::report), using(crate::proofs::CatalogueLemmas::lists_drained))]
     pub fn take_event(&mut self, event: &Event) -> Result<(), AllocError>
         ensures { OnOk result ((C : Cluster) (H : Holdings) → Lists self.old H.blocks
             → Lists self.new (change_holdings C H event.now).blocks) }

@@ -96,14 +96,38 @@ fn with_levels(
         round: manager.rounds(),
         nodes,
         levels: count_levels(levels, missing.as_slice().len()),
-        level_bytes: level_bytes(&book.blocks, levels, missing.as_slice()),
+        level_bytes: held_level_bytes(manager, book, levels, missing.as_slice()),
         tags: count_tags(replicas),
-        tag_bytes: tag_bytes(&book.blocks, replicas),
+        tag_bytes: held_tag_bytes(manager, book, replicas),
         excess,
         transfers: book.transfers.count(),
         missing,
         urgent: Items::from_vec(urgent),
     })
+}
+
+/// The bytes of the blocks at each level, by the lengths in the book.
+fn held_level_bytes(
+    manager: &Manager,
+    book: &Book,
+    levels: &[Leveled],
+    missing: &[BlockId],
+) -> LevelBytes
+    requires follows { Follows book.now manager.now }
+    requires levels { levels.now ≡ levels_held manager.now }
+    requires missing { missing.now ≡ missing_blocks manager.now.cluster manager.now.holdings }
+    ensures { result ≡ (report_of manager.now).level_bytes }
+{
+    level_bytes(&book.blocks, levels, missing)
+}
+
+/// The bytes of the replicas of each tag, by the lengths in the book.
+fn held_tag_bytes(manager: &Manager, book: &Book, replicas: &[Replica]) -> TagBytes
+    requires follows { Follows book.now manager.now }
+    requires replicas { replicas.now ≡ all_replicas manager.now.holdings }
+    ensures { result ≡ (report_of manager.now).tag_bytes }
+{
+    tag_bytes(&book.blocks, replicas)
 }
 
 fn count_excess(manager: &Manager) -> Result<usize, Refusal>

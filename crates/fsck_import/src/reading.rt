@@ -104,7 +104,6 @@ impl Reading {
 }
 
 /// Reads a whole text of fsck. No more of it is held than one line.
-#[tactic(auto, using(crate::proofs::TextBlocks::known_blocks))]
 pub fn read_cluster<R: BufRead>(
     alloc: Global,
     reader: &mut R,
