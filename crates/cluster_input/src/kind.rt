@@ -8,6 +8,7 @@ use cluster_report::reading::read_fault;
 use std::io::BufRead;
 
 /// Reads the lines of a text up to the first that is not blank.
+#[tactic(auto, using(crate::proofs::HeadLemmas::head_found, crate::proofs::HeadLemmas::head_whole, crate::proofs::HeadLemmas::head_more, crate::proofs::HeadLemmas::none_read, crate::proofs::HeadLemmas::any_dropped))]
 pub fn read_head<R: BufRead>(reader: &mut R, head: &mut Vec<u8>) -> Result<(), Fault>
     requires { head.old.items ≡ [] }
     ensures { OnOk result (IfSome (R.remaining reader.old) (λ text.

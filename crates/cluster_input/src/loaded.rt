@@ -56,6 +56,7 @@ impl Loaded {
     /// Takes a text, which holds lines of the tool or is one of fsck, and makes its calls. Whether all were accepted: a line that is
     /// refused is noted by its number, and a refused call for a text of fsck is a fault. `start` is how a text of fsck is read, and
     /// `remaining` the number of free bytes on each storage whose node's are not known.
+    #[tactic(auto, using(crate::proofs::LoadLemmas::lines_after, crate::proofs::LoadLemmas::text_after, crate::proofs::LoadLemmas::lines_accepted, crate::proofs::LoadLemmas::text_accepted))]
     pub fn take_text<R: BufRead, N: Write, H: Threads + Wait + Sync>(
         &mut self,
         rt: &H,
@@ -88,6 +89,7 @@ impl Loaded {
     }
 
     /// Takes lines of the tool.
+    #[tactic(auto, using(crate::proofs::LoadLemmas::are_taken))]
     pub fn take_lines<R: BufRead, N: Write, H: Threads + Wait + Sync>(
         &mut self,
         rt: &H,
@@ -109,6 +111,7 @@ impl Loaded {
     }
 
     /// Takes a text of fsck. The names of its cluster come in place of those before.
+    #[tactic(auto, using(crate::proofs::LoadLemmas::is_read))]
     fn take_fsck<R: BufRead, H: Threads + Wait + Sync>(
         &mut self,
         rt: &H,
