@@ -47,7 +47,7 @@ head_found (Some text) None head h found = absurd h
 head_found (Some text) (Some rest) head h found = record {
   rest = rest;
   left_is = refl;
-  head = record { parts = h; alike = alike_here head rest found ∙ ap are_lines (sym h) };
+  begins = record { parts = h; alike = alike_here head rest found ∙ ap are_lines (sym h) };
 }
 
 -- or it is all of the text
@@ -57,7 +57,7 @@ head_whole None left head h done = tt
 head_whole (Some text) None head h done = absurd h
 head_whole (Some text) (Some rest) head h done =
     let whole : text ≡ head = h ∙ ap (λ t. head ++ t) done ∙ append-nil head in
-    record { rest = rest; left_is = refl; head = record { parts = h; alike = ap are_lines (sym whole) } }
+    record { rest = rest; left_is = refl; begins = record { parts = h; alike = ap are_lines (sym whole) } }
 
 pub any_dropped : (n : ℕ) (xs : List ℕ) → list_any any_of (drop n xs) ≡ true → list_any any_of xs ≡ true
 any_dropped zero xs h = h

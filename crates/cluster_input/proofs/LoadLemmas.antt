@@ -1,15 +1,15 @@
 -- What is known after a text was read, where the bytes of its reader are known.
-use Rattle.std.proofs.Common.{◌≡◌, ℕ, Bool, true, false, if◌then◌else◌, List, Option, Some, None, IfSome, Ok, refl, sym, ap, subst, ◌∙◌}
+use Rattle.std.proofs.Common.{◌≡◌, ℕ, Bool, List, Option, Some, None, IfSome, Ok, sym, ap, subst, ◌∙◌}
 use Rattle.core.specs.Fmt.{option_append}
 use Rattle.bm_base.specs.State.{State}
 use Rattle.bm_lines.specs.Lines.{lines_of}
-use Rattle.cluster_report.specs.Reading.{after_lines, all_accepted}
+use Rattle.cluster_report.specs.Reading.{after_lines}
 use Rattle.fsck_import.specs.CallsFor.{calls_for}
 use Rattle.fsck_import.specs.Importing.{HasBlocks}
 use Rattle.fsck_import.specs.Reading.{reading_of}
 use Rattle.fsck_import.specs.declared.reading.Reading.{Reading}
 use Rattle.cluster_input.specs.ClusterNames.{names_of}
-use Rattle.cluster_input.specs.Inputs.{AreTaken, IsAfter, IsRead, accepts}
+use Rattle.cluster_input.specs.Inputs.{AreTaken, IsAfter, IsRead, accepts, accepts_as}
 use Rattle.cluster_input.specs.Kinds.{are_lines, IsHeadOf}
 use Rattle.cluster_input.specs.Making.{Makes}
 use Rattle.cluster_input.specs.declared.loaded.Loaded.{Loaded}
@@ -20,34 +20,20 @@ through_head : (known left whole : Option (List ℕ)) (head : List ℕ) (b : Boo
     → IfSome known (λ text. P (are_lines text) text)
 through_head None left whole head b P is h e p = tt
 through_head (Some text) left whole head b P is h e p =
-    let all : whole ≡ Some text = e ∙ ap (option_append (Some head)) h.left_is ∙ ap Some (sym h.head.parts) in
-    subst (λ c. P c text) (is ∙ h.head.alike) (subst (λ w. IfSome w (P b)) all p)
+    let all : whole ≡ Some text = e ∙ ap (option_append (Some head)) h.left_is ∙ ap Some (sym h.begins.parts) in
+    subst (λ c. P c text) (is ∙ h.begins.alike) (subst (λ w. IfSome w (P b)) all p)
 
-always : {P : List ℕ → Type 0} (o : Option (List ℕ)) → ((text : List ℕ) → P text) → IfSome o P
-always None h = tt
-always (Some text) h = h text
+pub after_through : (known left whole : Option (List ℕ)) (head : List ℕ) (b : Bool) (start : Reading) (remaining : ℕ) (old new : Loaded)
+    → b ≡ are_lines head → IfSome known (λ text. IsHeadOf text head left) → whole ≡ option_append (Some head) left
+    → IfSome whole (λ text. IsAfter b start remaining text old new) → IfSome known (λ text. IsAfter (are_lines text) start remaining text old new)
+after_through known left whole head b start remaining old new is h e after =
+    through_head known left whole head b (λ c text. IsAfter c start remaining text old new) is h e after
 
-module _ (known left whole : Option (List ℕ)) (head : List ℕ) (b : Bool) (is : b ≡ are_lines head)
-    (h : IfSome known (λ text. IsHeadOf text head left)) (e : whole ≡ option_append (Some head) left) where
-  pub lines_after : (start : Reading) (remaining : ℕ) (old new : Loaded) → b ≡ true → IfSome whole (λ text. AreTaken text old new)
-      → IfSome known (λ text. IsAfter (are_lines text) start remaining text old new)
-  lines_after start remaining old new yes taken =
-      through_head known left whole head true (λ c text. IsAfter c start remaining text old new) (sym yes ∙ is) h e taken
-
-  pub text_after : (start : Reading) (remaining : ℕ) (old new : Loaded) → b ≡ false → IfSome whole (λ text. IsRead start remaining text old new)
-      → IfSome known (λ text. IsAfter (are_lines text) start remaining text old new)
-  text_after start remaining old new no read =
-      through_head known left whole head false (λ c text. IsAfter c start remaining text old new) (sym no ∙ is) h e read
-
-  pub lines_accepted : (all : Bool) (M : State) → b ≡ true → IfSome whole (λ text. all ≡ all_accepted M (lines_of text))
-      → IfSome known (λ text. all ≡ accepts M text)
-  lines_accepted all M yes says =
-      through_head known left whole head true (λ c text. all ≡ (if c then all_accepted M (lines_of text) else true)) (sym yes ∙ is) h e says
-
-  pub text_accepted : (M : State) → b ≡ false → IfSome known (λ text. true ≡ accepts M text)
-  text_accepted M no =
-      through_head known left whole head false (λ c text. true ≡ (if c then all_accepted M (lines_of text) else true)) (sym no ∙ is) h e
-      (always whole (λ text. refl))
+pub accepts_through : (known left whole : Option (List ℕ)) (head : List ℕ) (b all : Bool) (M : State)
+    → b ≡ are_lines head → IfSome known (λ text. IsHeadOf text head left) → whole ≡ option_append (Some head) left
+    → IfSome whole (λ text. all ≡ accepts_as b M text) → IfSome known (λ text. all ≡ accepts M text)
+accepts_through known left whole head b all M is h e says =
+    through_head known left whole head b (λ c text. all ≡ accepts_as c M text) is h e says
 
 -- a text of fsck was read, and its calls were made
 pub is_read : (known : Option (List ℕ)) (start read : Reading) (remaining : ℕ) (old new : Loaded)

@@ -1,5 +1,5 @@
 -- What is known after a text was read.
-use Rattle.std.specs.Prelude.{◌≡◌, ⊤, ℕ, true, false, Bool, List, Ok, if◌then◌else◌}
+use Rattle.std.specs.Prelude.{◌≡◌, ⊤, ℕ, true, false, Bool, List, Ok}
 use Rattle.bm_base.specs.State.{State}
 use Rattle.bm_lines.specs.Lines.{lines_of}
 use Rattle.cluster_names.specs.FileTable.{FileTable}
@@ -37,5 +37,9 @@ IsAfter true start remaining text old new = AreTaken text old new
 IsAfter false start remaining text old new = IsRead start remaining text old new
 
 -- whether every call was accepted; of a text of fsck each was
+abbrev pub accepts_as : Bool → State → List ℕ → Bool
+accepts_as true M text = all_accepted M (lines_of text)
+accepts_as false M text = true
+
 abbrev pub accepts : State → List ℕ → Bool
-accepts M text = if are_lines text then all_accepted M (lines_of text) else true
+accepts M text = accepts_as (are_lines text) M text

@@ -23,4 +23,4 @@ pub record IsHead (text head rest : List ℕ) : Type 0 where
 pub record IsHeadOf (text head : List ℕ) (left : Option (List ℕ)) : Type 0 where
   pub rest : List ℕ
   pub left_is : left ≡ Some rest
-  pub head : IsHead text head rest
+  pub begins : IsHead text head rest

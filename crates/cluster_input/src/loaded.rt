@@ -6,7 +6,7 @@ ghost use Rattle.cluster_report.specs.Sessions.{IsInStep};
 ghost use Rattle.cluster_report.specs.Reading.{SaysIfAccepted};
 ghost use Rattle.cluster_input.specs.ClusterNames.{no_names};
 ghost use Rattle.cluster_input.specs.Kinds.{are_lines};
-ghost use Rattle.cluster_input.specs.Inputs.{IsAfter, IsRead, AreTaken, accepts};
+ghost use Rattle.cluster_input.specs.Inputs.{IsAfter, IsRead, AreTaken, accepts, accepts_as};
 
 use crate::calls::make_calls;
 use crate::fault::Fault;
@@ -37,10 +37,10 @@ pub struct Loaded {
 impl Loaded {
     /// Nothing was read.
     pub fn new(alloc: Global, config: &Config) -> Result<Loaded, Fault>
-        ensures state { IfOk result (λ loaded. loaded.session.manager ≡ first_state config.now) }
-        ensures in_step { IfOk result (λ input. IsInStep loaded.session) }
-        ensures names { IfOk result (λ loaded. loaded.names ≡ no_names) }
-        ensures files { IfOk result (λ loaded. loaded.files ≡ no_blocks) }
+        ensures state { IfOk result (λ it. it.session.manager ≡ first_state config.now) }
+        ensures in_step { IfOk result (λ it. IsInStep it.session) }
+        ensures names { IfOk result (λ it. it.names ≡ no_names) }
+        ensures files { IfOk result (λ it. it.files ≡ no_blocks) }
     {
         let Ok(session) = Session::new(alloc, config) else {
             return Err(Fault::Memory);
@@ -56,7 +56,6 @@ impl Loaded {
     /// Takes a text, which holds lines of the tool or is one of fsck, and makes its calls. Whether all were accepted: a line that is
     /// refused is noted by its number, and a refused call for a text of fsck is a fault. `start` is how a text of fsck is read, and
     /// `remaining` the number of free bytes on each storage whose node's are not known.
-    #[tactic(auto, using(crate::proofs::LoadLemmas::lines_after, crate::proofs::LoadLemmas::text_after, crate::proofs::LoadLemmas::lines_accepted, crate::proofs::LoadLemmas::text_accepted))]
     pub fn take_text<R: BufRead, N: Write, H: Threads + Wait + Sync>(
         &mut self,
         rt: &H,
@@ -77,19 +76,37 @@ impl Loaded {
             drop(start);
             return Err(fault);
         }
-        let are_lines = are_lines(head.as_slice());
+        let holds_lines = are_lines(head.as_slice());
         let mut whole = head.as_slice().chain(reader);
-        if are_lines {
+        self.take_kind(rt, holds_lines, start, remaining, &mut whole, notes)
+    }
+
+    /// Takes a text of which it is known whether it holds lines of the tool.
+    fn take_kind<R: BufRead, N: Write, H: Threads + Wait + Sync>(
+        &mut self,
+        rt: &H,
+        holds_lines: bool,
+        start: Reading,
+        remaining: u64,
+        reader: &mut R,
+        notes: &mut N,
+    ) -> Result<bool, Fault>
+        requires { IsInStep self.old.session }
+        ensures state { OnOk result (IfSome (R.remaining reader.old) (λ text.
+            IsAfter holds_lines start remaining text self.old self.new)) }
+        ensures accepted { IfOk result (λ all. IfSome (R.remaining reader.old) (λ text.
+            all ≡ accepts_as holds_lines self.old.session.manager text)) }
+        ensures in_step { OnOk result (IsInStep self.new.session) }
+    {
+        if holds_lines {
             drop(start);
-            self.take_lines(rt, &mut whole, notes)
-        } else {
-            self.take_fsck(rt, start, remaining, &mut whole)?;
-            Ok(true)
+            return self.take_lines(rt, reader, notes);
         }
+        self.take_fsck(rt, start, remaining, reader)?;
+        Ok(true)
     }
 
     /// Takes lines of the tool.
-    #[tactic(auto, using(crate::proofs::LoadLemmas::are_taken))]
     pub fn take_lines<R: BufRead, N: Write, H: Threads + Wait + Sync>(
         &mut self,
         rt: &H,
@@ -111,7 +128,6 @@ impl Loaded {
     }
 
     /// Takes a text of fsck. The names of its cluster come in place of those before.
-    #[tactic(auto, using(crate::proofs::LoadLemmas::is_read))]
     fn take_fsck<R: BufRead, H: Threads + Wait + Sync>(
         &mut self,
         rt: &H,

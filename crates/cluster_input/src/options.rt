@@ -7,14 +7,12 @@ use std::alloc::{AllocError, Global};
 
 /// What the words ask for about the cluster.
 #[derive(Clone, Copy)]
-pub struct Asked<'m, 'a> {
+pub struct Asked<'a> {
     pub config: Config,
     /// How a text of fsck is read.
     pub values: Values,
     /// The report on DataNodes, if one is named.
     pub nodes: Option<&'a str>,
-    /// The files, one after another; none is standard input.
-    pub files: &'m [&'a str],
 }
 
 /// An option with a value, for a text of fsck.
@@ -83,7 +81,7 @@ fn new_arg<'a>(alloc: Global, name: &'a str) -> Arg<'a> {
 }
 
 /// What the words ask for; `None` if a value is none of its option's.
-pub fn asked_of<'m, 'a>(matches: &'m ArgMatches<'a>) -> Option<Asked<'m, 'a>> {
+pub fn asked_of<'a>(matches: &ArgMatches<'a>) -> Option<Asked<'a>> {
     let values = values_of(
         matches.get_str("remaining"),
         matches.get_str("skip"),
@@ -93,6 +91,10 @@ pub fn asked_of<'m, 'a>(matches: &'m ArgMatches<'a>) -> Option<Asked<'m, 'a>> {
         config: config_from(matches),
         values,
         nodes: matches.get_str("nodes"),
-        files: matches.get_strs("FILE").unwrap_or(&[]),
     })
+}
+
+/// The files that the words name, one after another; `None` is standard input.
+pub fn files_of<'m, 'a>(matches: &'m ArgMatches<'a>) -> Option<&'m [&'a str]> {
+    matches.get_strs("FILE")
 }

@@ -16,13 +16,14 @@ use std::rt::Files;
 use std::sync::Wait;
 use std::thread::Threads;
 
-/// Loads the cluster that the words name, and says whether every call was accepted. Refused lines go to `notes`; why nothing was loaded is
-/// said on standard error, after the name of the program.
+/// Loads the cluster of these files, or of standard input where there is none, and says whether every call was accepted. Refused lines go
+/// to `notes`; why nothing was loaded is said on standard error, after the name of the program.
 pub fn load<R: Input + Eprint + Files + AllocGlobal + Threads + Wait + Sync, N: Print>(
     rt: &R,
     notes: &N,
     program: &str,
-    asked: &Asked<'_, '_>,
+    asked: &Asked<'_>,
+    files: Option<&[&str]>,
 ) -> Option<(Loaded, bool)>
     ensures { IfSome result (λ p. IsInStep p.0.session) }
 {
@@ -43,12 +44,9 @@ pub fn load<R: Input + Eprint + Files + AllocGlobal + Threads + Wait + Sync, N: 
         asked.values.unclear,
         true,
     );
-    let all_accepted = match asked.files.split_first() {
+    let all_accepted = match files {
         None => take_input(rt, program, &mut loaded, start, asked, &mut told),
-        Some((first, others)) => {
-            let first = take_first(rt, program, &mut loaded, start, asked, first, &mut told);
-            take_others(rt, program, &mut loaded, first, others, &mut told)
-        }
+        Some(paths) => take_files(rt, program, &mut loaded, start, asked, paths, &mut told),
     };
     let all_accepted = all_accepted?;
     if let Some(notes) = &loaded.notes {
@@ -73,7 +71,7 @@ fn said_of<R: Eprint, T>(rt: &R, program: &str, path: &str, fault: &Fault) -> Op
 fn nodes_of<R: Eprint + Files + AllocGlobal>(
     rt: &R,
     program: &str,
-    asked: &Asked<'_, '_>,
+    asked: &Asked<'_>,
 ) -> Option<Cluster> {
     let alloc: Global = rt.alloc();
     let Some(path) = asked.nodes else {
@@ -110,7 +108,7 @@ fn take_input<R: Input + Eprint + AllocGlobal + Threads + Wait + Sync, W: Write>
     program: &str,
     loaded: &mut Loaded,
     start: Reading,
-    asked: &Asked<'_, '_>,
+    asked: &Asked<'_>,
     notes: &mut W,
 ) -> Option<bool>
     requires { IsInStep loaded.old.session }
@@ -126,13 +124,34 @@ fn take_input<R: Input + Eprint + AllocGlobal + Threads + Wait + Sync, W: Write>
     }
 }
 
+/// Takes these files, one after another.
+fn take_files<R: Eprint + Files + AllocGlobal + Threads + Wait + Sync, W: Write>(
+    rt: &R,
+    program: &str,
+    loaded: &mut Loaded,
+    start: Reading,
+    asked: &Asked<'_>,
+    paths: &[&str],
+    notes: &mut W,
+) -> Option<bool>
+    requires { IsInStep loaded.old.session }
+    ensures { IfSome result (λ all. IsInStep loaded.new.session) }
+{
+    let Some((path, others)) = paths.split_first() else {
+        drop(start);
+        return Some(true);
+    };
+    let first = take_first(rt, program, loaded, start, asked, path, notes);
+    take_others(rt, program, loaded, first, others, notes)
+}
+
 /// Takes the first file, which may be a text of fsck.
 fn take_first<R: Eprint + Files + AllocGlobal + Threads + Wait + Sync, W: Write>(
     rt: &R,
     program: &str,
     loaded: &mut Loaded,
     start: Reading,
-    asked: &Asked<'_, '_>,
+    asked: &Asked<'_>,
     path: &str,
     notes: &mut W,
 ) -> Option<bool>

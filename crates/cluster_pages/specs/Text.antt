@@ -58,14 +58,19 @@ held_text all replicas bytes remaining =
     ++ (codes " " ++ (share replicas all
     ++ (codes " remaining " ++ (decimal remaining ++ codes "\n")))))))
 
+-- a node and its rack
+unfoldable pub place_text : Names → NodeRow → Text
+place_text names row = codes "node " ++ (name_or_number [] names.nodes row.node ++ (codes " rack " ++ name_or_number [] names.racks row.rack))
+
+-- whether it is in use, and how many storages it has
+unfoldable pub use_text : NodeRow → Text
+use_text row = codes " " ++ (state_word row.state ++ (codes " storages " ++ decimal (length row.storages)))
+
 -- a node: its rack and state, and what it holds
 unfoldable pub node_line : Names → ℕ → NodeRow → Text
 node_line names all row =
-    codes "node " ++ (name_or_number [] names.nodes row.node
-    ++ (codes " rack " ++ (name_or_number [] names.racks row.rack
-    ++ (codes " " ++ (state_word row.state
-    ++ (codes " storages " ++ (decimal (length row.storages)
-    ++ held_text all (sum_by (λ s. s.replicas) row.storages) (bytes_on row.storages) (sum_by (λ s. s.remaining) row.storages))))))))
+    place_text names row
+    ++ (use_text row ++ held_text all (sum_by (λ s. s.replicas) row.storages) (bytes_on row.storages) (sum_by (λ s. s.remaining) row.storages))
 
 unfoldable pub storage_line : Names → ℕ → StorageRow → Text
 storage_line names all row =
@@ -82,16 +87,23 @@ abbrev pub all_block_bytes : LevelBytes → ℕ
 all_block_bytes ls =
     capped (capped (capped (capped (capped ls.highest ls.very_under_replicated) ls.under_replicated) ls.badly_distributed) ls.missing) ls.none
 
--- how many blocks there are, and how many at each level
-unfoldable pub levels_text : LevelCounts → LevelBytes → Text
-levels_text ls bytes =
+-- how many blocks there are, and how many lack replicas
+unfoldable pub lacking_text : LevelCounts → LevelBytes → Text
+lacking_text ls bytes =
     total_line (codes "blocks") (all_blocks ls) (all_block_bytes bytes)
     ++ (amount_line (codes "level highest") ls.highest bytes.highest (all_blocks ls)
     ++ (amount_line (codes "level very_under_replicated") ls.very_under_replicated bytes.very_under_replicated (all_blocks ls)
-    ++ (amount_line (codes "level under_replicated") ls.under_replicated bytes.under_replicated (all_blocks ls)
-    ++ (amount_line (codes "level badly_distributed") ls.badly_distributed bytes.badly_distributed (all_blocks ls)
+    ++ amount_line (codes "level under_replicated") ls.under_replicated bytes.under_replicated (all_blocks ls)))
+
+unfoldable pub other_text : LevelCounts → LevelBytes → Text
+other_text ls bytes =
+    amount_line (codes "level badly_distributed") ls.badly_distributed bytes.badly_distributed (all_blocks ls)
     ++ (amount_line (codes "level missing") ls.missing bytes.missing (all_blocks ls)
-    ++ amount_line (codes "level none") ls.none bytes.none (all_blocks ls))))))
+    ++ amount_line (codes "level none") ls.none bytes.none (all_blocks ls))
+
+-- how many blocks there are, and how many at each level
+unfoldable pub levels_text : LevelCounts → LevelBytes → Text
+levels_text ls bytes = lacking_text ls bytes ++ other_text ls bytes
 
 abbrev pub all_replicas : TagCounts → ℕ
 all_replicas ts = ts.good + ts.stale + ts.bad + ts.stray

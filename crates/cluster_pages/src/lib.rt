@@ -45,7 +45,7 @@ ghost use Rattle.cluster_pages.specs.Output.{StandsAs};
 use clap::Error;
 use clap::error::ErrorKind;
 use cluster_input::loaded::Loaded;
-use cluster_input::options::asked_of;
+use cluster_input::options::{asked_of, files_of};
 use cluster_input::sources::load;
 use options::{Form, form_of, matches_of, wrong_value};
 use json::standing_json;
@@ -84,7 +84,7 @@ pub fn report_by_words<
             Err(_) => say_memory(rt),
         };
     };
-    match load(rt, notes, PROGRAM, &asked) {
+    match load(rt, notes, PROGRAM, &asked, files_of(&matches)) {
         Some((loaded, all_accepted)) => {
             let status = report_on(rt, &loaded, &form_of(&matches));
             if all_accepted { status } else { FAULTED }

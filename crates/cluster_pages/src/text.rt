@@ -1,6 +1,6 @@
 // The text of a report.
 ghost use Rattle.std.specs.Prelude.{◌≡◌, ◌++◌, take, IfOk, OnOk, string_bytes};
-ghost use Rattle.cluster_pages.specs.Text.{report_text, cluster_text, levels_text, tags_text, work_text, risk_text, files_text, all_blocks, all_block_bytes, all_replicas, all_replica_bytes};
+ghost use Rattle.cluster_pages.specs.Text.{report_text, cluster_text, levels_text, lacking_text, other_text, tags_text, work_text, risk_text, files_text, all_blocks, all_block_bytes, all_replicas, all_replica_bytes};
 
 use crate::at_risk::AtRisk;
 use crate::text_parts::{
@@ -58,6 +58,20 @@ fn write_levels(
     ensures { OnOk result (string_bytes text.new ≡ string_bytes text.old
         ++ levels_text levels.now bytes.now) }
 {
+    write_lacking(text, levels, bytes)?;
+    write_other(text, levels, bytes)
+}
+
+/// How many blocks there are, and how many lack replicas.
+#[tactic(auto, unfolding(crate::specs::Text::lacking_text))]
+fn write_lacking(
+    text: &mut String,
+    levels: &LevelCounts,
+    bytes: &LevelBytes,
+) -> Result<(), AllocError>
+    ensures { OnOk result (string_bytes text.new ≡ string_bytes text.old
+        ++ lacking_text levels.now bytes.now) }
+{
     let all = all_blocks(levels);
     write_total(text, "blocks", all, all_block_bytes(bytes))?;
     write_amount(text, "level highest", levels.highest, bytes.highest, all)?;
@@ -74,7 +88,19 @@ fn write_levels(
         levels.under_replicated,
         bytes.under_replicated,
         all,
-    )?;
+    )
+}
+
+#[tactic(auto, unfolding(crate::specs::Text::other_text))]
+fn write_other(
+    text: &mut String,
+    levels: &LevelCounts,
+    bytes: &LevelBytes,
+) -> Result<(), AllocError>
+    ensures { OnOk result (string_bytes text.new ≡ string_bytes text.old
+        ++ other_text levels.now bytes.now) }
+{
+    let all = all_blocks(levels);
     write_amount(
         text,
         "level badly_distributed",

@@ -3,7 +3,7 @@ ghost use Rattle.std.specs.Prelude.{◌≡◌, ◌++◌, [], Some, length, slice
 ghost use Rattle.std.specs.List.{flat_map};
 ghost use Rattle.std.specs.Option.{option_map_or};
 ghost use Rattle.cluster_names.specs.Rows.{name_or_number, shown};
-ghost use Rattle.cluster_pages.specs.Text.{amount_line, total_line, share, thousandths, bytes_on, state_word, level_word, held_text, node_line, storage_line, node_text, end_with, missing_line, urgent_line, urgent_text, file_line};
+ghost use Rattle.cluster_pages.specs.Text.{amount_line, total_line, share, thousandths, bytes_on, state_word, level_word, held_text, place_text, use_text, node_line, storage_line, node_text, end_with, missing_line, urgent_line, urgent_text, file_line};
 
 use crate::at_risk::FileRow;
 use bm_base::{BlockId, Level};
@@ -101,13 +101,8 @@ fn write_node_line(
         ++ node_line names.now all row.now) }
 {
     let storages = row.storages.as_slice();
-    let state = state_word(row.state);
-    let count = storages.len();
-    text.push_str("node ")?;
-    write_name(text, names.host(row.node), row.node.0)?;
-    text.push_str(" rack ")?;
-    write_name(text, names.rack(row.rack), row.rack.0)?;
-    write!(text, " {state} storages {count}")?;
+    write_place(text, names, row)?;
+    write_use(text, row)?;
     write_held(
         text,
         all,
@@ -115,6 +110,28 @@ fn write_node_line(
         bytes_on(storages),
         remaining_on(storages),
     )
+}
+
+/// A node and its rack.
+#[tactic(auto, unfolding(crate::specs::Text::place_text))]
+fn write_place(text: &mut String, names: &Names, row: &NodeRow) -> Result<(), AllocError>
+    ensures { OnOk result (string_bytes text.new ≡ string_bytes text.old
+        ++ place_text names.now row.now) }
+{
+    text.push_str("node ")?;
+    write_name(text, names.host(row.node), row.node.0)?;
+    text.push_str(" rack ")?;
+    write_name(text, names.rack(row.rack), row.rack.0)
+}
+
+/// Whether a node is in use, and how many storages it has.
+#[tactic(auto, unfolding(crate::specs::Text::use_text))]
+fn write_use(text: &mut String, row: &NodeRow) -> Result<(), AllocError>
+    ensures { OnOk result (string_bytes text.new ≡ string_bytes text.old ++ use_text row.now) }
+{
+    let state = state_word(row.state);
+    let count = row.storages.as_slice().len();
+    write!(text, " {state} storages {count}")
 }
 
 /// A name, or the number of what has none.
