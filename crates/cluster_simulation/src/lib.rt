@@ -27,7 +27,7 @@
 
 mod awaited;
 mod counting;
-mod counts;
+pub mod counts;
 mod csv;
 mod datanodes;
 mod dice;
@@ -54,6 +54,7 @@ use std::io;
 use std::io::Write;
 use std::sync::Wait;
 use std::thread::Threads;
+pub use svg::picture_text;
 use svg::svg_text;
 
 const DONE: u8 = 0;

@@ -1,0 +1,225 @@
+// The answer as text: a line for each fact.
+ghost use Rattle.std.specs.Prelude.{◌≡◌, ◌++◌, IfOk, OnOk, nat_le, codes, option_map, string_bytes};
+ghost use Rattle.std.specs.List.{flat_map};
+ghost use Rattle.cluster_losses.specs.Text.{change_line, levels_text, end_with, block_line, blocks_text, files_text, yes_or_no, fits_line, copies_text, answer_text};
+
+use crate::losing::Lost;
+use crate::standing::Standing;
+use crate::without::Outcome;
+use bm_base::{BlockId, NodeId, Rack, StorageId};
+use cluster_input::loaded::Loaded;
+use cluster_names::Files;
+use cluster_pages::at_risk::{AtRisk, FileRow};
+use cluster_pages::text::first_of;
+use cluster_pages::text_parts::write_files;
+use cluster_report::levels::LevelCounts;
+use cluster_report::text_parts::write_count;
+use std::alloc::{AllocError, Global};
+
+/// What is lost, as the cluster is before.
+pub fn write_lost(text: &mut String, loaded: &Loaded, lost: &Lost) -> Result<(), AllocError> {
+    write_nodes(text, "drain", loaded, lost.drained.as_slice())?;
+    for storage in &lost.storages {
+        text.push_str("lose storage ")?;
+        write_storage(text, loaded, *storage)?;
+        text.push_str("\n")?;
+    }
+    write_nodes(text, "lose", loaded, lost.nodes.as_slice())
+}
+
+fn write_nodes(
+    text: &mut String,
+    what: &str,
+    loaded: &Loaded,
+    nodes: &[NodeId],
+) -> Result<(), AllocError> {
+    for node in nodes {
+        write!(text, "{what} node ")?;
+        write_node(text, loaded, *node)?;
+        text.push_str(" rack ")?;
+        write_rack(text, loaded, loaded.session.book.rack_of(*node))?;
+        text.push_str("\n")?;
+    }
+    Ok(())
+}
+
+/// The name of a node, or its number.
+pub fn write_node(text: &mut String, loaded: &Loaded, node: NodeId) -> Result<(), AllocError> {
+    write_name(text, loaded.names.host(node), node.0)
+}
+
+/// The name of a rack, or its number.
+pub fn write_rack(text: &mut String, loaded: &Loaded, rack: Rack) -> Result<(), AllocError> {
+    write_name(text, loaded.names.rack(rack), rack.0)
+}
+
+fn write_storage(text: &mut String, loaded: &Loaded, storage: StorageId) -> Result<(), AllocError> {
+    write_name(text, loaded.names.storage(storage), storage.0)
+}
+
+fn write_name(text: &mut String, name: Option<&str>, number: u32) -> Result<(), AllocError> {
+    match name {
+        Some(name) => text.push_str(name),
+        None => write!(text, "{number}"),
+    }
+}
+
+/// The blocks before and after, what is lost, and what is to be copied.
+#[tactic(auto, unfolding(crate::specs::Text::answer_text))]
+pub fn answer_text(
+    alloc: Global,
+    files: &Files,
+    most: usize,
+    before: &Standing,
+    without: &Outcome,
+    risk: &AtRisk,
+) -> Result<String, AllocError>
+    ensures { IfOk result (λ text. string_bytes text ≡ answer_text files.now most
+        before.now without.now.after without.now.lost risk.now.lost) }
+{
+    let mut text = String::new(alloc);
+    write_levels(&mut text, &before.levels, &without.after.levels)?;
+    write_lost_files(&mut text, files, most, risk.lost.as_slice())?;
+    write_lost_blocks(&mut text, files, most, without.lost.as_slice())?;
+    write_copies(&mut text, &without.after)?;
+    Ok(text)
+}
+
+#[tactic(auto, unfolding(crate::specs::Text::levels_text))]
+fn write_levels(
+    text: &mut String,
+    before: &LevelCounts,
+    after: &LevelCounts,
+) -> Result<(), AllocError>
+    ensures { OnOk result (string_bytes text.new ≡ string_bytes text.old
+        ++ levels_text before.now after.now) }
+{
+    write_change(text, "highest", before.highest, after.highest)?;
+    write_change(
+        text,
+        "very_under_replicated",
+        before.very_under_replicated,
+        after.very_under_replicated,
+    )?;
+    write_change(
+        text,
+        "under_replicated",
+        before.under_replicated,
+        after.under_replicated,
+    )?;
+    write_change(
+        text,
+        "badly_distributed",
+        before.badly_distributed,
+        after.badly_distributed,
+    )?;
+    write_change(text, "missing", before.missing, after.missing)?;
+    write_change(text, "none", before.none, after.none)
+}
+
+#[tactic(auto, unfolding(crate::specs::Text::change_line))]
+fn write_change(
+    text: &mut String,
+    what: &str,
+    before: usize,
+    after: usize,
+) -> Result<(), AllocError>
+    ensures { OnOk result (string_bytes text.new ≡ string_bytes text.old
+        ++ change_line what.now before after) }
+{
+    write!(text, "{what} before {before} after {after}\n")
+}
+
+/// How many files are lost, and the first of them.
+#[tactic(auto, unfolding(crate::specs::Text::files_text))]
+fn write_lost_files(
+    text: &mut String,
+    files: &Files,
+    most: usize,
+    rows: &[FileRow],
+) -> Result<(), AllocError>
+    ensures { OnOk result (string_bytes text.new ≡ string_bytes text.old
+        ++ files_text files.now most rows.now) }
+{
+    if files.file_count() == 0 {
+        return Ok(());
+    }
+    write_count(text, "lost files", rows.len() as u128)?;
+    write_files(text, "lost file", files, first_of(rows, most))
+}
+
+/// How many blocks are lost, and the first of them.
+#[tactic(auto, unfolding(crate::specs::Text::blocks_text))]
+fn write_lost_blocks(
+    text: &mut String,
+    files: &Files,
+    most: usize,
+    lost: &[BlockId],
+) -> Result<(), AllocError>
+    ensures { OnOk result (string_bytes text.new ≡ string_bytes text.old
+        ++ blocks_text files.now most lost.now) }
+{
+    write_count(text, "lost blocks", lost.len() as u128)?;
+    write_blocks(text, files, first_of(lost, most))
+}
+
+fn write_blocks(text: &mut String, files: &Files, blocks: &[BlockId]) -> Result<(), AllocError>
+    ensures { OnOk result (string_bytes text.new ≡ string_bytes text.old
+        ++ flat_map (block_line files.now) blocks.now) }
+{
+    for block in blocks {
+        write_block(text, files, *block)?;
+    }
+    Ok(())
+}
+
+#[tactic(auto, unfolding(crate::specs::Text::block_line))]
+fn write_block(text: &mut String, files: &Files, block: BlockId) -> Result<(), AllocError>
+    ensures { OnOk result (string_bytes text.new ≡ string_bytes text.old
+        ++ block_line files.now block) }
+{
+    let number = block.0;
+    write!(text, "lost block {number}")?;
+    write_end(text, files.path_of(block))
+}
+
+/// The end of a line: the file of a block, if it is known, and the index of the block there.
+pub fn write_end(text: &mut String, place: Option<(&str, u64)>) -> Result<(), AllocError>
+    ensures { OnOk result (string_bytes text.new ≡ string_bytes text.old
+        ++ end_with (option_map (λ p. (p.0.now, p.1)) place.entry)) }
+{
+    match place {
+        Some((path, index)) => write!(text, " index {index} file {path}\n"),
+        None => text.push_str("\n"),
+    }
+}
+
+/// The bytes that are to be copied, and whether they fit.
+#[tactic(auto, unfolding(crate::specs::Text::copies_text))]
+fn write_copies(text: &mut String, after: &Standing) -> Result<(), AllocError>
+    ensures { OnOk result (string_bytes text.new ≡ string_bytes text.old
+        ++ copies_text after.now) }
+{
+    write_count(text, "bytes to copy", after.lacking)?;
+    write_count(text, "free bytes", after.free)?;
+    write_fits(text, after)
+}
+
+#[tactic(auto, unfolding(crate::specs::Text::fits_line))]
+fn write_fits(text: &mut String, after: &Standing) -> Result<(), AllocError>
+    ensures { OnOk result (string_bytes text.new ≡ string_bytes text.old ++ fits_line after.now) }
+{
+    let fits = fits_word(after);
+    write!(text, "free bytes suffice {fits}\n")
+}
+
+/// Whether what is to be copied is no more than what is free.
+pub fn fits_word(after: &Standing) -> &'static str
+    ensures { result.now ≡ yes_or_no (nat_le after.now.lacking after.now.free) }
+{
+    if after.lacking <= after.free {
+        "yes"
+    } else {
+        "no"
+    }
+}
