@@ -9,17 +9,17 @@ use Rattle.cluster_input.specs.Kinds.{is_blank, is_brace, are_lines, IsHead, IsH
 -- what is not blank in the front is the first in the whole
 find_in : (p : ℕ → Bool) (xs ys : List ℕ) → list_any p xs ≡ true → find p (xs ++ ys) ≡ find p xs
 find_in p [] ys h = cc
-find_in p (x ∷ xs) ys h = by (p x) refl h
+find_in p (x ∷ xs) ys h = by (p x) h (λ k. find_in p xs ys k)
   where
-    by : (b : Bool) → p x ≡ b → (b || list_any p xs) ≡ true → cond b (Some x) (find p (xs ++ ys)) ≡ cond b (Some x) (find p xs)
-    by true e k = refl
-    by false e k = find_in p xs ys k
+    by : (b : Bool) → (b || list_any p xs) ≡ true → (list_any p xs ≡ true → find p (xs ++ ys) ≡ find p xs)
+        → cond b (Some x) (find p (xs ++ ys)) ≡ cond b (Some x) (find p xs)
+    by true k rest = refl
+    by false k rest = rest k
 
-any_of : (b : ℕ) → Bool
+abbrev pub any_of : ℕ → Bool
 any_of b = not (is_blank b)
 
 alike_here : (head rest : List ℕ) → list_any any_of head ≡ true → are_lines head ≡ are_lines (head ++ rest)
-unfolding are_lines
 alike_here head rest h = ap is_brace (sym (find_in any_of head rest h))
 
 pub none_read : (known : Option (List ℕ)) → Consumes known known []

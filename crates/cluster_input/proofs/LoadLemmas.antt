@@ -1,6 +1,6 @@
 -- What is known after a text was read, where the bytes of its reader are known.
 use Rattle.std.proofs.Common.{◌≡◌, ℕ, Bool, List, Option, Some, None, IfSome, Ok, sym, ap, subst, ◌∙◌}
-use Rattle.core.specs.Fmt.{option_append}
+use Rattle.std.specs.Fmt.{option_append}
 use Rattle.bm_base.specs.State.{State}
 use Rattle.bm_lines.specs.Lines.{lines_of}
 use Rattle.cluster_report.specs.Reading.{after_lines}

@@ -26,7 +26,7 @@ state_after-append M (k ∷ calls) more = state_after-append (step M k).1 calls 
 
 answers-append : (M : State) (calls more : List Call) → answers M (calls ++ more) ≡ answers M calls ++ answers (state_after M calls) more
 answers-append M [] more = refl
-answers-append M (k ∷ calls) more = ap (λ as. (step M k).0 ∷ as) (answers-append (step M k).1 calls more)
+answers-append M (k ∷ calls) more = ap (λ rest. (step M k).0 ∷ rest) (answers-append (step M k).1 calls more)
 
 pub none_made : (M : State) → Makes [] M M
 none_made M = record { state = refl; accepted = refl }

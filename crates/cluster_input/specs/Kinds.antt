@@ -11,7 +11,7 @@ is_brace None = true
 is_brace (Some b) = b == 123
 
 -- lines of the tool begin with a brace; a blank text has no lines but those that are refused
-unfoldable pub are_lines : List ℕ → Bool
+abbrev pub are_lines : List ℕ → Bool
 are_lines text = is_brace (find (λ b. not (is_blank b)) text)
 
 -- the first bytes of a text, by which it is seen what it is

@@ -1,14 +1,14 @@
 // Whether a text holds lines of the tool or is one of fsck.
 ghost use Rattle.std.specs.Prelude.{◌≡◌, [], not, drop, IfSome, OnOk};
-ghost use Rattle.std.specs.List.{list_any};
-ghost use Rattle.cluster_input.specs.Kinds.{is_blank, are_lines, IsHeadOf};
+ghost use Rattle.std.specs.List.{find, list_any};
+ghost use Rattle.cluster_input.specs.Kinds.{is_blank, is_brace, are_lines, IsHeadOf};
 
 use crate::fault::Fault;
 use cluster_report::reading::read_fault;
 use std::io::BufRead;
 
 /// Reads the lines of a text up to the first that is not blank.
-#[tactic(auto, using(crate::proofs::HeadLemmas::head_found, crate::proofs::HeadLemmas::head_whole, crate::proofs::HeadLemmas::head_more, crate::proofs::HeadLemmas::none_read, crate::proofs::HeadLemmas::any_dropped))]
+#[tactic(auto, using(crate::proofs::HeadLemmas::head_whole, crate::proofs::HeadLemmas::none_read))]
 pub fn read_head<R: BufRead>(reader: &mut R, head: &mut Vec<u8>) -> Result<(), Fault>
     requires { head.old.items ≡ [] }
     ensures { OnOk result (IfSome (R.remaining reader.old) (λ text.
@@ -36,12 +36,24 @@ fn has_word(text: &[u8], start: usize) -> bool
 }
 
 /// Whether these are lines of the tool.
-#[tactic(auto, unfolding(crate::specs::Kinds::are_lines))]
 pub fn are_lines(text: &[u8]) -> bool
     ensures { result ≡ are_lines text.now }
 {
-    match text.iter().find(|byte| !is_blank(**byte)) {
-        Some(byte) => *byte == b'{',
+    is_brace(first_word(text))
+}
+
+/// The first byte that is not blank.
+fn first_word(text: &[u8]) -> Option<u8>
+    ensures { result ≡ find (λ b. not (is_blank b)) text.now }
+{
+    text.iter().copied().find(|byte| !is_blank(*byte))
+}
+
+fn is_brace(first: Option<u8>) -> bool
+    ensures { result ≡ is_brace first }
+{
+    match first {
+        Some(byte) => byte == b'{',
         None => true,
     }
 }

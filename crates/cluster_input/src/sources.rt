@@ -1,5 +1,5 @@
 // The files that are named, or standard input.
-ghost use Rattle.std.specs.Prelude.{IfSome, OnOk};
+ghost use Rattle.std.specs.Prelude.{◌≡◌, None, IfSome};
 ghost use Rattle.cluster_report.specs.Sessions.{IsInStep};
 
 use crate::fault::Fault;
@@ -56,13 +56,17 @@ pub fn load<R: Input + Eprint + Files + AllocGlobal + Threads + Wait + Sync, N: 
 }
 
 /// Says a fault; nothing was loaded.
-fn said<R: Eprint, T>(rt: &R, program: &str, fault: &Fault) -> Option<T> {
+fn said<R: Eprint, T>(rt: &R, program: &str, fault: &Fault) -> Option<T>
+    ensures { result ≡ None }
+{
     let _ = rt.eprintln(format_args!("{program}: {fault}"));
     None
 }
 
 /// Says a fault of a file.
-fn said_of<R: Eprint, T>(rt: &R, program: &str, path: &str, fault: &Fault) -> Option<T> {
+fn said_of<R: Eprint, T>(rt: &R, program: &str, path: &str, fault: &Fault) -> Option<T>
+    ensures { result ≡ None }
+{
     let _ = rt.eprintln(format_args!("{program}: {path}: {fault}"));
     None
 }
