@@ -4,7 +4,6 @@ ghost use Rattle.bm_base.specs.declared.refusal.Refusal.TheVariants.{Memory};
 ghost use Rattle.bm_arena.specs.Contents.{slot_of, HasHead};
 ghost use Rattle.bm_base.specs.Entries.{told_by};
 ghost use Rattle.bm_base.specs.Events.{is_named};
-ghost use Rattle.bm_base.specs.Shards.{shard_of};
 ghost use Rattle.bm_report.specs.Midway.{AreHere, HaveRoom, told_of};
 ghost use Rattle.bm_report.specs.Aborted.{NamesNew};
 ghost use Rattle.bm_report.specs.Expanded.{IsPrepared, of_part, told_to};
@@ -14,7 +13,7 @@ use crate::first_of_part::first_of_part;
 use crate::room_for_replica::make_room;
 use crate::types::Named;
 use bm_arena::{Arena, Slot};
-use bm_base::{BlockId, Entry, Part, Refusal, Stamp, StorageId};
+use bm_base::{BlockId, Entry, Part, Refusal, Stamp, StorageId, shard_of};
 
 /// The slot of a number, which has an entry from now on.
 fn slot_for(arena: &mut Arena, id: BlockId) -> Result<Slot, Refusal>
@@ -124,11 +123,8 @@ fn look_up_all(
 }
 
 /// Looks up all numbers of the part that a report of a storage names, and reserves what `apply`
-/// needs beside `changed`. Each number that has an entry is hashed at most once, and a new one
-/// twice. Nothing that is held changes. `Memory`.
-///
-/// Each entry of the arena is read once. The steps of one number do not wait for those of another,
-/// so the processor overlaps their cache misses.
+/// needs beside `changed`. A number that has an entry is hashed at most twice, and a new one three
+/// times. Nothing that is held changes. `Memory`.
 pub(crate) fn look_up(
     arena: &mut Arena,
     storage: StorageId,
@@ -151,7 +147,31 @@ pub(crate) fn look_up(
     ensures refused { IfErr result (λ e. e ≡ Memory) }
 {
     reserve_head(arena, storage)?;
+    read_ahead(arena, entries, part, named);
     look_up_all(arena, storage, entries, part, named)
+}
+
+/// Reads the arena's entries of a report's numbers, of a run only the first, before any is looked
+/// up: a read is so short that the processor has many cache misses under way at once, and a look-up
+/// is too long for that. No answer depends on it: it counts numbers that are known, and reserves
+/// for them if it can.
+fn read_ahead(arena: &Arena, entries: &[Entry], part: Part, named: &mut Vec<Named>)
+    requires { 0 < part.shards }
+{
+    let mut known = 0usize;
+    for entry in entries {
+        if is_of_part(entry.from, part) && arena.find(entry.from).is_some() {
+            known = known.saturating_add(1);
+        }
+    }
+    named.clear();
+    let _ = named.reserve(known);
+}
+
+fn is_of_part(id: BlockId, part: Part) -> bool
+    requires { 0 < part.shards }
+{
+    part.shards == 1 || shard_of(id, part.shards) == part.index
 }
 
 /// Looks up one number alone, and reserves what a notice of it needs. Nothing that is held changes. `Memory`.
