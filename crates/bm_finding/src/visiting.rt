@@ -1,8 +1,9 @@
 // What is found of the blocks at which a round looks, one after another.
-ghost use Rattle.std.specs.Prelude.{◌≡◌, ◌++◌, ◌∷◌, [], ℕ, List, map, Some, nat_le, false, IfOk, IfErr, OnOk};
+ghost use Rattle.std.specs.Prelude.{◌≡◌, ◌++◌, ◌∷◌, [], ℕ, List, map, not, Some, nat_le, false, IfOk, IfErr, OnOk};
 ghost use Rattle.std.specs.Option.{option_map_or};
 ghost use Rattle.bm_base.specs.declared.refusal.Refusal.TheVariants.{Memory};
 ghost use Rattle.bm_base.specs.Map.{values};
+ghost use Rattle.bm_base.specs.Lists.{has};
 ghost use Rattle.bm_base.specs.SlotLists.{Among};
 ghost use Rattle.bm_arena.specs.Contents.{slot_of};
 ghost use Rattle.bm_arena.specs.Holding.{id_at};
@@ -23,6 +24,10 @@ use std::alloc::Global;
 /// The greatest capacity for wishes before any is found. A wish is large, and is copied whenever
 /// their list grows.
 const WISHES_AT_FIRST: usize = 4096;
+
+/// The entry of the block so many places further on is read while a block is scanned, so that its
+/// cache miss is not waited for.
+const AHEAD: usize = 8;
 
 /// What was found so far, in the order in which it was come upon.
 #[derive(Drop)]
@@ -64,10 +69,18 @@ impl<'a> Start<'a> {
             deletes: Vec::new(alloc),
         };
         let mut look = Look::new(alloc);
-        for keyed in slots {
+        for (place, keyed) in slots.iter().enumerate() {
+            look.ready_for(self.arena, slots.get(place.saturating_add(AHEAD)))?;
             self.visit(alloc, keyed.1, &mut look, &mut found)?;
         }
         Ok(found)
+    }
+
+    /// Whether the block at a slot is settled. If all are, nothing is read of the slot.
+    pub(crate) fn is_settled(&self, slot: Slot) -> bool
+        ensures { result ≡ not (has self.now.kept.now.unsettled.slots slot) }
+    {
+        self.kept.unsettled_count() == 0 || !self.kept.is_unsettled(slot)
     }
 
     /// Scans the block at a slot, and appends what is found of it.
@@ -90,7 +103,7 @@ impl<'a> Start<'a> {
     {
         self.arena.lawful();
         let id = self.arena.id_of(slot);
-        if !self.kept.is_unsettled(slot) {
+        if self.is_settled(slot) {
             let wishes = &mut found.wishes;
             return self.push_settled_wish(alloc, slot, id, &mut look.storages, wishes);
         }
