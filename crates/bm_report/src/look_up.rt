@@ -13,7 +13,10 @@ use crate::first_of_part::first_of_part;
 use crate::room_for_replica::make_room;
 use crate::types::Named;
 use bm_arena::{Arena, Slot};
-use bm_base::{BlockId, Entry, Part, Refusal, Stamp, StorageId, shard_of};
+use bm_base::{BlockId, Entry, Part, Refusal, Stamp, StorageId};
+
+/// The entries of so many numbers of a report are read together.
+const CHUNK: usize = 64;
 
 /// The slot of a number, which has an entry from now on.
 fn slot_for(arena: &mut Arena, id: BlockId) -> Result<Slot, Refusal>
@@ -116,10 +119,51 @@ fn look_up_all(
     ensures refused { IfErr result (λ e. e ≡ Memory) }
 {
     named.clear();
-    for entry in entries {
+    for (place, entry) in entries.iter().enumerate() {
+        read_ahead(arena, entries, place, part, named)?;
         look_up_run(arena, storage, entry, part, named)?;
     }
     Ok(())
+}
+
+/// At the first of each chunk of entries of a report: reads what the arena has of the chunk's
+/// numbers, of a run only the first, and makes room to name those that it knows. A read is so short
+/// that the processor has many cache misses under way at once; a look-up is too long for that.
+fn read_ahead(
+    arena: &Arena,
+    entries: &[Entry],
+    place: usize,
+    part: Part,
+    named: &mut Vec<Named>,
+) -> Result<(), Refusal>
+    requires shards { 0 < part.shards }
+    requires index { part.index < part.shards }
+    requires place { place < length entries.now }
+    ensures named { named.new.items ≡ named.old.items }
+    ensures refused { IfErr result (λ e. e ≡ Memory) }
+{
+    if place % CHUNK != 0 {
+        return Ok(());
+    }
+    let rest = &entries[place..];
+    let (chunk, _) = rest.split_at(rest.len().min(CHUNK));
+    named.reserve(count_known(arena, chunk, part))?;
+    Ok(())
+}
+
+/// How many of these entries have a number of the part as the first that the arena knows.
+fn count_known(arena: &Arena, entries: &[Entry], part: Part) -> usize
+    requires shards { 0 < part.shards }
+    requires index { part.index < part.shards }
+{
+    let mut known = 0usize;
+    for entry in entries {
+        let first = first_of_part(entry.from, part);
+        if first <= u128::from(entry.to.0) && arena.find(BlockId(first as u64)).is_some() {
+            known = known.saturating_add(1);
+        }
+    }
+    known
 }
 
 /// Looks up all numbers of the part that a report of a storage names, and reserves what `apply`
@@ -147,31 +191,7 @@ pub(crate) fn look_up(
     ensures refused { IfErr result (λ e. e ≡ Memory) }
 {
     reserve_head(arena, storage)?;
-    read_ahead(arena, entries, part, named);
     look_up_all(arena, storage, entries, part, named)
-}
-
-/// Reads the arena's entries of a report's numbers, of a run only the first, before any is looked
-/// up: a read is so short that the processor has many cache misses under way at once, and a look-up
-/// is too long for that. No answer depends on it: it counts numbers that are known, and reserves
-/// for them if it can.
-fn read_ahead(arena: &Arena, entries: &[Entry], part: Part, named: &mut Vec<Named>)
-    requires { 0 < part.shards }
-{
-    let mut known = 0usize;
-    for entry in entries {
-        if is_of_part(entry.from, part) && arena.find(entry.from).is_some() {
-            known = known.saturating_add(1);
-        }
-    }
-    named.clear();
-    let _ = named.reserve(known);
-}
-
-fn is_of_part(id: BlockId, part: Part) -> bool
-    requires { 0 < part.shards }
-{
-    part.shards == 1 || shard_of(id, part.shards) == part.index
 }
 
 /// Looks up one number alone, and reserves what a notice of it needs. Nothing that is held changes. `Memory`.
