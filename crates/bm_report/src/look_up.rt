@@ -127,8 +127,9 @@ fn look_up_all(
 }
 
 /// At the first of each chunk of entries of a report: reads what the arena has of the chunk's
-/// numbers, of a run only the first, and makes room to name those that it knows. A read is so short
-/// that the processor has many cache misses under way at once; a look-up is too long for that.
+/// numbers, of a run only the first, and makes room to name those that are known with the reported
+/// stamp. A read is so short that the processor has many cache misses under way at once; a look-up
+/// is too long for that.
 fn read_ahead(
     arena: &Arena,
     entries: &[Entry],
@@ -151,19 +152,37 @@ fn read_ahead(
     Ok(())
 }
 
-/// How many of these entries have a number of the part as the first that the arena knows.
+/// How many of these entries begin with a block that is known with the reported stamp.
 fn count_known(arena: &Arena, entries: &[Entry], part: Part) -> usize
     requires shards { 0 < part.shards }
     requires index { part.index < part.shards }
 {
     let mut known = 0usize;
     for entry in entries {
-        let first = first_of_part(entry.from, part);
-        if first <= u128::from(entry.to.0) && arena.find(BlockId(first as u64)).is_some() {
+        if is_known(arena, entry, part) {
             known = known.saturating_add(1);
         }
     }
     known
+}
+
+/// Whether the first number of the part in an entry is that of a block which is known with the
+/// reported stamp. Reads the arena's entry of the number from its first cache line to its last.
+fn is_known(arena: &Arena, entry: &Entry, part: Part) -> bool
+    requires shards { 0 < part.shards }
+    requires index { part.index < part.shards }
+{
+    let first = first_of_part(entry.from, part);
+    if first > u128::from(entry.to.0) {
+        return false;
+    }
+    let Some(slot) = arena.find(BlockId(first as u64)) else {
+        return false;
+    };
+    match arena.info(slot) {
+        Some(info) => info.stamp == entry.stamp,
+        None => false,
+    }
 }
 
 /// Looks up all numbers of the part that a report of a storage names, and reserves what `apply`
