@@ -1,5 +1,5 @@
 -- The slots at which a round looks.
-use Rattle.std.specs.Prelude.{◌≡◌, ◌↔◌, ℕ, ◌-◌, Bool, false, not, ◌&&◌, nat_lt, nat_le, List, ◌++◌, filter, length, Option, None}
+use Rattle.std.specs.Prelude.{◌≡◌, ◌↔◌, ℕ, ◌-◌, Bool, false, not, ◌&&◌, nat_lt, nat_le, List, ◌++◌, filter, length, Option}
 use Rattle.std.specs.Option.{option_map_or}
 use Rattle.bm_base.specs.State.{Cluster}
 use Rattle.bm_base.specs.Lists.{has}
@@ -16,10 +16,6 @@ use Rattle.bm_levels.specs.Kept.{Kept, IsUnsettled, level_of_slot, wishing_slots
 -- the unsettled slots are just those of the blocks that are not settled
 abbrev pub AreMarked : Kept → Contents → Type 0
 AreMarked K a = (slot : ℕ) → IsUnsettled K slot ↔ (is_settled_at (block_at a slot) ≡ false)
-
--- a slot that has a level is that of a known block
-abbrev pub HaveKnownBlocks : Kept → Contents → Type 0
-HaveKnownBlocks K a = (slot : ℕ) → info_at a slot ≡ None → level_of_slot K slot ≡ None
 
 -- the level and the number of the block at a slot; 5 where it has no level
 abbrev pub key_at : Kept → Contents → ℕ → ℕ × ℕ

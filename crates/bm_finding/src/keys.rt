@@ -1,8 +1,6 @@
 // By what slots are put in order: the level of their block, and its number.
-ghost use Rattle.std.specs.Prelude.{◌≡◌, ℕ, map, Some, IsSome, IfOk};
-ghost use Rattle.bm_base.specs.SlotLists.{Among};
+ghost use Rattle.std.specs.Prelude.{◌≡◌, Some};
 ghost use Rattle.bm_parts.specs.Before as before;
-ghost use Rattle.bm_arena.specs.Contents as contents;
 ghost use Rattle.bm_arena.specs.Holding as holding;
 ghost use Rattle.bm_levels.specs.Kept as kept_levels;
 ghost use Rattle.bm_finding.specs.Visits as visits;
@@ -11,7 +9,6 @@ use bm_arena::{Arena, Slot};
 use bm_base::Level;
 use bm_levels::KeptLevels;
 use bm_parts::merge::Key;
-use std::alloc::{AllocError, Global};
 
 /// Stands for the level of a block that has none: one more than the greatest.
 const NO_LEVEL: u32 = 5;
@@ -27,44 +24,12 @@ pub(crate) fn key_of(kept: &KeptLevels, arena: &Arena, slot: Slot) -> Key
     (level as u64, number_of(arena, slot))
 }
 
-/// The same where the level and the number are known.
-pub(crate) fn key_at_level(
-    _kept: &KeptLevels,
-    _arena: &Arena,
-    slot: Slot,
-    level: Level,
-    number: u64,
-) -> Key
-    requires level { kept_levels.level_of_slot _kept.now slot ≡ Some level }
-    requires number { number ≡ holding.id_at _arena.now slot }
-    ensures { result ≡ visits.key_at _kept.now _arena.now slot }
+/// The same where the level is known, so that nothing is read but the number.
+pub(crate) fn key_at_level(_kept: &KeptLevels, arena: &Arena, slot: Slot, level: Level) -> Key
+    requires { kept_levels.level_of_slot _kept.now slot ≡ Some level }
+    ensures { result ≡ visits.key_at _kept.now arena.now slot }
 {
-    (level.number() as u64, number)
-}
-
-/// The numbers of the blocks at these slots. All are read before any is compared: their cache misses
-/// overlap then.
-pub(crate) fn numbers_of(
-    alloc: Global,
-    arena: &Arena,
-    slots: &[u32],
-) -> Result<Vec<u64>, AllocError>
-    requires held { (slot : ℕ) → Among slot slots.now → IsSome (contents.block_at arena.now slot) }
-    ensures { IfOk result (λ v. v.items ≡ map (holding.id_at arena.now) slots.now) }
-{
-    let mut numbers = Vec::with_capacity(alloc, slots.len())?;
-    for slot in slots {
-        numbers.push(number_held(arena, *slot as usize))?;
-    }
-    Ok(numbers)
-}
-
-/// The number of the block at a slot that is held.
-fn number_held(arena: &Arena, slot: Slot) -> u64
-    requires { IsSome (contents.block_at arena.now slot) }
-    ensures { result ≡ holding.id_at arena.now slot }
-{
-    arena.id_of(slot).0
+    (level.number() as u64, number_of(arena, slot))
 }
 
 /// The number of the block at a slot; 0 where no block stands.

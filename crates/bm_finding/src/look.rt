@@ -16,7 +16,6 @@ ghost use Rattle.std.specs.Prelude.{[]};
 use crate::replicas::{Usable, contains_near, fill_counted, mark_on, usable_among};
 use bm_arena::{Arena, Slot};
 use bm_base::{BlockId, BlockInfo, Delete, Marks, Refusal, ReplicaId, ReplicaMap, StorageId};
-use bm_parts::merge::Key;
 use bm_place::{ExcessRoom, fill_excess};
 use bm_topo::Topology;
 use std::alloc::{AllocError, Global};
@@ -52,19 +51,6 @@ impl Look {
             storages: Vec::new(alloc),
             triplets: Vec::new(alloc),
             room: ExcessRoom::new(alloc),
-        }
-    }
-
-    /// Makes room for the storages of the block at a slot, which is to be looked at soon. Reads the
-    /// number of its replicas, which brings its entry into the cache.
-    pub(crate) fn ready_for(
-        &mut self,
-        arena: &Arena,
-        next: Option<&(Key, Slot)>,
-    ) -> Result<(), AllocError> {
-        match next {
-            Some(next) => self.storages.reserve(arena.triplet_count(next.1)),
-            None => Ok(()),
         }
     }
 

@@ -3,9 +3,8 @@ ghost use Rattle.std.specs.Prelude.{◌≡◌, ◌++◌, filter, map, IfOk, OnOk
 ghost use Rattle.std.specs.List.Sorted.{IsPermutation};
 ghost use Rattle.bm_levels.specs.Kept.{slots_at};
 ghost use Rattle.bm_finding.specs.Visits as visits;
-ghost use Rattle.bm_finding.specs.Visits.{HaveKnownBlocks};
 
-use crate::keys::{is_before, key_at_level, key_of, numbers_of};
+use crate::keys::{is_before, key_at_level, key_of};
 use crate::visiting::Start;
 use bm_arena::Slot;
 use bm_base::{BlockId, Level};
@@ -15,7 +14,6 @@ use std::alloc::{AllocError, Global};
 /// The slots that are not settled, and the settled ones before the bound at a level at which copies
 /// are wished for that lack pending transfers; each of them once, beside its key.
 pub(crate) fn slots_to_visit(alloc: Global, start: &Start) -> Result<Vec<(Key, Slot)>, AllocError>
-    requires known { HaveKnownBlocks start.now.kept.now start.now.arena.now }
     ensures { IfOk result (λ v. v.items
         ≡ map (visits.keyed_at start.now.kept.now start.now.arena.now)
         (visits.visits start.now.kept.now start.now.arena.now start.now.bound
@@ -26,22 +24,16 @@ pub(crate) fn slots_to_visit(alloc: Global, start: &Start) -> Result<Vec<(Key, S
     for slot in start.kept.unsettled_slots() {
         keyed.push((key_of(start.kept, start.arena, slot), slot))?;
     }
-    push_settled(alloc, start, Level::Highest, &mut keyed)?;
-    push_settled(alloc, start, Level::VeryUnderReplicated, &mut keyed)?;
-    push_settled(alloc, start, Level::UnderReplicated, &mut keyed)?;
-    push_settled(alloc, start, Level::BadlyDistributed, &mut keyed)?;
+    push_settled(start, Level::Highest, &mut keyed)?;
+    push_settled(start, Level::VeryUnderReplicated, &mut keyed)?;
+    push_settled(start, Level::UnderReplicated, &mut keyed)?;
+    push_settled(start, Level::BadlyDistributed, &mut keyed)?;
     Ok(keyed)
 }
 
 /// Puts the settled slots of a level that come before the bound and lack pending transfers behind
 /// those that are there. The bound is compared first: mostly few slots come before it.
-fn push_settled(
-    alloc: Global,
-    start: &Start,
-    level: Level,
-    into: &mut Vec<(Key, Slot)>,
-) -> Result<(), AllocError>
-    requires known { HaveKnownBlocks start.now.kept.now start.now.arena.now }
+fn push_settled(start: &Start, level: Level, into: &mut Vec<(Key, Slot)>) -> Result<(), AllocError>
     ensures { OnOk result (into.new.items ≡ into.old.items
         ++ map (visits.keyed_at start.now.kept.now start.now.arena.now)
         (filter
@@ -50,10 +42,9 @@ fn push_settled(
         start.now.arena.now start.now.pending.now)) (slots_at start.now.kept.now level))) }
 {
     let members = start.kept.at_level(level);
-    let numbers = numbers_of(alloc, start.arena, members)?;
-    for (place, member) in members.iter().enumerate() {
+    for member in members {
         let slot = *member as usize;
-        let key = key_at_level(start.kept, start.arena, slot, level, numbers[place]);
+        let key = key_at_level(start.kept, start.arena, slot, level);
         if is_before(start.bound, key)
             && start.is_settled(slot)
             && !start.has_enough_pending(slot, BlockId(key.1))

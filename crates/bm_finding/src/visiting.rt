@@ -25,10 +25,6 @@ use std::alloc::Global;
 /// their list grows.
 const WISHES_AT_FIRST: usize = 4096;
 
-/// The entry of the block so many places further on is read while a block is scanned, so that its
-/// cache miss is not waited for.
-const AHEAD: usize = 8;
-
 /// What was found so far, in the order in which it was come upon.
 #[derive(Drop)]
 pub(crate) struct Found {
@@ -69,8 +65,7 @@ impl<'a> Start<'a> {
             deletes: Vec::new(alloc),
         };
         let mut look = Look::new(alloc);
-        for (place, keyed) in slots.iter().enumerate() {
-            look.ready_for(self.arena, slots.get(place.saturating_add(AHEAD)))?;
+        for keyed in slots {
             self.visit(alloc, keyed.1, &mut look, &mut found)?;
         }
         Ok(found)

@@ -9,17 +9,11 @@ use Rattle.bm_arena.specs.Contents.{Contents, slot_of, IsLawful}
 use Rattle.bm_arena.specs.Holding.{id_at}
 use Rattle.bm_levels.specs.Held.{holdings_with}
 use Rattle.bm_levels.specs.Kept.{Kept}
-use Rattle.bm_finding.specs.Visits.{visits, keyed_at, has_enough_pending, AreMarked, HaveKnownBlocks}
+use Rattle.bm_finding.specs.Visits.{visits, keyed_at, has_enough_pending, AreMarked}
 use Rattle.bm_finding.specs.Gathering.{HasFound, IsInOrder}
 use Rattle.bm_finding.proofs.Visited.{AreListed}
 use Rattle.bm_finding.proofs.Covering.{told_known, all_found}
 use Rattle.bm_finding.proofs.finding.find_round.Goals as goal
-
-pub slots_to_visit-requires : goal.slots_to_visit-requires
-slots_to_visit-requires c = record {
-  known =
-      subst (λ K. HaveKnownBlocks K c.arena-2.result.now) (sym c.kept_levels-2.ensures) (subst (λ (a : Contents). HaveKnownBlocks c.args.blocks.now.kept a) (sym c.arena-2.ensures) c.lawful.ensures.unknown);
-}
 
 pub visit_all-requires-clause-known : goal.visit_all-requires-clause-known
 visit_all-requires-clause-known c slot there =

@@ -9,4 +9,4 @@ slot_at (x ∷ xs) zero d below = inl refl
 slot_at (x ∷ xs) (suc i) d below = inr (slot_at xs i d (omega (arith, below)))
 
 pub visit-requires-clause-known : goal.visit-requires-clause-known
-visit-requires-clause-known c = c.requires.known _ (slot_at c.args.slots.now c.loop-place.place ((0, 0), 0) c.loop-place-test.true)
+visit-requires-clause-known c = c.requires.known _ (slot_at c.args.slots.now c.loop-keyed.keyed-index ((0, 0), 0) c.loop-keyed-test.true)
