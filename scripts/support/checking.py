@@ -92,6 +92,7 @@ def program(crate):
     """The program of a crate, which is built only if it is missing."""
     path = TOP / "crates" / crate / "out" / crate
     if not path.exists():
+        print(f"{crate} is not built: proves and builds it first", file=sys.stderr, flush=True)
         subprocess.run(
             ["rt", "run"],
             cwd=TOP / "crates" / crate,
