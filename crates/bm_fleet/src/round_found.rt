@@ -30,8 +30,8 @@ pub(crate) struct FoundRound {
 }
 
 /// Returns what the shards have for their next round, with what is chosen of all of it. Asks first for
-/// the wishes that the round is likely to need, then for some more, and for all of them only where
-/// it can still have further transfers. No shard changes.
+/// the wishes that the round is likely to need, and for all of them only where it can have further
+/// transfers. No shard changes.
 pub(crate) fn find_round<W: Workers>(
     alloc: Global,
     workers: &W,
@@ -53,13 +53,7 @@ pub(crate) fn find_round<W: Workers>(
         f.choice) }
     ensures refused { IfErr result (λ e. e ≡ Memory) }
 {
-    let bound = bound_of_shards(shards.as_slice(), WISHES_A_TRANSFER, config, topology)?;
-    if let Some(found) = find_round_before(
-        alloc, workers, shards, config, round, topology, bound,
-    )? {
-        return Ok(found);
-    }
-    let bound = bound_of_shards(shards.as_slice(), MORE_WISHES_A_TRANSFER, config, topology)?;
+    let bound = bound_of_shards(shards.as_slice(), config, topology)?;
     if let Some(found) = find_round_before(
         alloc, workers, shards, config, round, topology, bound,
     )? {
@@ -128,19 +122,14 @@ fn find_parts<W: Workers>(
 
 /// For each transfer that a round may have, so many wishes are asked for first: some find no source, since towards the end few nodes may
 /// still send a copy. Where all nodes are alike, a round takes its last transfer from among 3 to 5 wishes for each.
-const WISHES_A_TRANSFER: u64 = 6;
-
-/// For so many where the first ones do not fill the round.
-const MORE_WISHES_A_TRANSFER: u64 = 24;
+const WISHES_A_TRANSFER: u64 = 7;
 
 /// About so many blocks of all shards together are looked at to guess where so many wishes end.
 const SAMPLES: usize = 1_024;
 
-/// A bound before which the shards are likely to have so many wishes for each transfer that a round
-/// may have.
+/// A bound before which the shards are likely to wish for more copies than a round may have transfers.
 fn bound_of_shards(
     shards: &[(u32, Shard)],
-    wishes_a_transfer: u64,
     config: &Config,
     topology: &Topology,
 ) -> Result<Option<Key>, Refusal>
@@ -148,7 +137,7 @@ fn bound_of_shards(
 {
     let transfers = u64::from(config.work).saturating_mul(u64::from(topology.alive_nodes()));
     let shard_count = shards.len().max(1);
-    let of_each = transfers.saturating_mul(wishes_a_transfer) / shard_count as u64;
+    let of_each = transfers.saturating_mul(WISHES_A_TRANSFER) / shard_count as u64;
     let samples = SAMPLES / shard_count;
     let mut bound = None;
     for shard in shards {
