@@ -126,10 +126,10 @@ fn look_up_all(
     Ok(())
 }
 
-/// At the first of each chunk of entries of a report: reads what the arena has of the chunk's
-/// numbers, of a run only the first, and makes room to name those that are known with the reported
-/// stamp. A read is so short that the processor has many cache misses under way at once; a look-up
-/// is too long for that.
+/// At the first of each chunk of entries of a report, in the only shard: reads what the arena has of
+/// the chunk's numbers, of a run only the first, and makes room to name those that are known with
+/// the reported stamp. A read is so short that the processor has many cache misses under way at
+/// once; a look-up is too long for that. One of several shards would divide each number once more.
 fn read_ahead(
     arena: &Arena,
     entries: &[Entry],
@@ -137,46 +137,34 @@ fn read_ahead(
     part: Part,
     named: &mut Vec<Named>,
 ) -> Result<(), Refusal>
-    requires shards { 0 < part.shards }
-    requires index { part.index < part.shards }
-    requires place { place < length entries.now }
+    requires { place < length entries.now }
     ensures named { named.new.items ≡ named.old.items }
     ensures refused { IfErr result (λ e. e ≡ Memory) }
 {
-    if place % CHUNK != 0 {
+    if part.shards != 1 || place % CHUNK != 0 {
         return Ok(());
     }
     let rest = &entries[place..];
     let (chunk, _) = rest.split_at(rest.len().min(CHUNK));
-    named.reserve(count_known(arena, chunk, part))?;
+    named.reserve(count_known(arena, chunk))?;
     Ok(())
 }
 
 /// How many of these entries begin with a block that is known with the reported stamp.
-fn count_known(arena: &Arena, entries: &[Entry], part: Part) -> usize
-    requires shards { 0 < part.shards }
-    requires index { part.index < part.shards }
-{
+fn count_known(arena: &Arena, entries: &[Entry]) -> usize {
     let mut known = 0usize;
     for entry in entries {
-        if is_known(arena, entry, part) {
+        if is_known(arena, entry) {
             known = known.saturating_add(1);
         }
     }
     known
 }
 
-/// Whether the first number of the part in an entry is that of a block which is known with the
-/// reported stamp. Reads the arena's entry of the number from its first cache line to its last.
-fn is_known(arena: &Arena, entry: &Entry, part: Part) -> bool
-    requires shards { 0 < part.shards }
-    requires index { part.index < part.shards }
-{
-    let first = first_of_part(entry.from, part);
-    if first > u128::from(entry.to.0) {
-        return false;
-    }
-    let Some(slot) = arena.find(BlockId(first as u64)) else {
+/// Whether an entry begins with a block that is known with the reported stamp. Reads what the arena
+/// has of it from its first cache line to its last.
+fn is_known(arena: &Arena, entry: &Entry) -> bool {
+    let Some(slot) = arena.find(entry.from) else {
         return false;
     };
     match arena.info(slot) {
