@@ -19,10 +19,7 @@ impl KeptLevels {
         ensures ahead { KeepsAhead slot self.old.unsettled.slots self.new.unsettled.slots }
         ensures room { KeepsRoom self.old self.new }
     {
-        self.keep(
-            slot,
-            judge(arena, slot, arena.triplet_count(slot), around),
-        );
+        self.keep(slot, judge(arena, slot, arena.triplet_count(slot), around));
     }
 
     /// Judges the block at a slot anew, of which it is known what was kept. To look at that before the block changes lets reads of

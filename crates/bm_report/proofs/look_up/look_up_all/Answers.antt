@@ -17,7 +17,7 @@ pub loop-place-preserved : goal.loop-place-preserved
 loop-place-preserved c =
     let at = slice_get_read c.args.entries.now (length c.args.entries.now) c.loop-place.place c.index-entries-place.result refl c.loop-place-test.true c.index-entries-place.is in record {
       fresh = naming-chain c.args.arena.now c.loop-place.arena c.look_up_run.new.arena [] c.loop-place.named.items c.look_up_run.new.named.items c.loop-place.invariant.fresh
-      (subst (λ (l : List Named). NamesNew c.loop-place.arena c.look_up_run.new.arena l c.look_up_run.new.named.items) c.read_ahead.ensures.named c.look_up_run.ensures.fresh);
+          (subst (λ (l : List Named). NamesNew c.loop-place.arena c.look_up_run.new.arena l c.look_up_run.new.named.items) c.read_ahead.ensures.named c.look_up_run.ensures.fresh);
       kept = prepared-chain c.args.arena.now c.loop-place.arena c.look_up_run.new.arena c.loop-place.invariant.kept c.look_up_run.ensures.kept;
       here = c.in_ok-look_up_run.ensures.here;
       room = c.in_ok-look_up_run.ensures.room;
