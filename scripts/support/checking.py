@@ -168,7 +168,7 @@ def chosen_numbers(*words):
 
 
 def cluster_command(word):
-    """The words that start the program for clusters: `import`, `report` or `simulate`."""
+    """The words that start the program for clusters: `import`, `report`, `what-if` or `simulate`."""
     return [program("puljemrod_cluster"), word]
 
 

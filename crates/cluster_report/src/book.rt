@@ -53,7 +53,7 @@ impl Book {
 
     /// The manager accepted an event. Its transfers cost a look at each copy that is on its way, where the event takes any away; the
     /// rest at most a look at each node and each storage.
-    fn take_event(&mut self, event: &Event) -> Result<(), AllocError>
+    pub fn take_event(&mut self, event: &Event) -> Result<(), AllocError>
         requires { first_of (cluster_checks self.old.topology.cluster event.now) ≡ None }
         ensures cluster { OnOk result (self.new.topology.cluster
             ≡ change_cluster self.old.topology.cluster event.now) }

@@ -31,19 +31,19 @@
 //! memory was refused; and with status 2 where the words ask for nothing that there is.
 #![tactic(auto)]
 
-mod book;
-mod counting;
-mod fault;
-mod levels;
-mod nodes;
-mod options;
-mod reading;
-mod report;
+pub mod book;
+pub mod counting;
+pub mod fault;
+pub mod levels;
+pub mod nodes;
+pub mod options;
+pub mod reading;
+pub mod report;
 mod run;
-mod session;
+pub mod session;
 mod text;
-mod text_parts;
-mod transfers;
+pub mod text_parts;
+pub mod transfers;
 
 use bm_base::Config;
 use clap::Error;

@@ -12,14 +12,14 @@ pub fn config_of(alloc: Global, words: &[String]) -> Result<Config, Error> {
 }
 
 /// An option with a whole number from 1 to `most`.
-struct Number {
+pub struct Number {
     name: &'static str,
     standard: &'static str,
     most: u32,
     help: &'static str,
 }
 
-static NUMBERS: [Number; 5] = [
+pub static NUMBERS: [Number; 5] = [
     Number {
         name: "shards",
         standard: "1",
@@ -67,11 +67,11 @@ fn program<'a>(alloc: Global) -> Command<'a> {
 }
 
 /// The command with one more argument.
-fn with<'a>(command: Command<'a>, arg: Arg<'a>) -> Result<Command<'a>, AllocError> {
+pub fn with<'a>(command: Command<'a>, arg: Arg<'a>) -> Result<Command<'a>, AllocError> {
     command.arg(arg)
 }
 
-fn argument<'a>(alloc: Global, number: &Number) -> Arg<'a> {
+pub fn argument<'a>(alloc: Global, number: &Number) -> Arg<'a> {
     new_arg(alloc, number.name)
         .action(ArgAction::Set)
         .long(number.name)
@@ -85,7 +85,7 @@ fn new_arg<'a>(alloc: Global, name: &'a str) -> Arg<'a> {
     Arg::new(alloc, name)
 }
 
-fn config_from(matches: &ArgMatches<'_>) -> Config {
+pub fn config_from(matches: &ArgMatches<'_>) -> Config {
     let standard = Config::standard();
     Config {
         shards: number_in(matches, "shards", standard.shards),

@@ -76,7 +76,12 @@ fn take_line<N: Write, H: Threads + Wait + Sync>(
 
 /// The note on a line that is refused.
 #[tactic(auto, unfolding(crate::specs::Reading::note_text))]
-fn write_note<N: Write>(alloc: Global, notes: &mut N, number: u64, why: &str) -> Result<(), Fault>
+pub fn write_note<N: Write>(
+    alloc: Global,
+    notes: &mut N,
+    number: u64,
+    why: &str,
+) -> Result<(), Fault>
     ensures { OnOk result (Appends (N.contents notes.old) (N.contents notes.new)
         (note_text number (Some why.now))) }
 {
@@ -88,14 +93,14 @@ fn write_note<N: Write>(alloc: Global, notes: &mut N, number: u64, why: &str) ->
 }
 
 /// A line without its line end.
-fn without_end(line: &[u8]) -> &[u8]
+pub fn without_end(line: &[u8]) -> &[u8]
     ensures { result.now ≡ without_end line.now }
 {
     line.strip_suffix(b"\n".as_slice()).unwrap_or(line)
 }
 
 /// Memory that was refused to a read, or a read that failed.
-fn read_fault(error: &io::Error) -> Fault
+pub fn read_fault(error: &io::Error) -> Fault
     ensures { (result ≡ Fault.Memory) ⊎ (result ≡ Fault.Read) }
 {
     if error.kind() == ErrorKind::OutOfMemory {

@@ -108,7 +108,7 @@ fn count_excess(manager: &Manager) -> Result<usize, Refusal>
 }
 
 /// The levels of the blocks of these replicas but the stray ones.
-fn held_levels(
+pub fn held_levels(
     alloc: Global,
     manager: &Manager,
     replicas: &[Replica],

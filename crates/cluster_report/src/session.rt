@@ -66,7 +66,7 @@ impl Session {
     }
 
     /// Makes a call, and notes in the book what it says. What is told of its answer.
-    fn take_call<H: Threads + Wait + Sync>(
+    pub fn take_call<H: Threads + Wait + Sync>(
         &mut self,
         rt: &H,
         call: &Call,
@@ -100,7 +100,7 @@ fn told_of(alloc: Global, call: &Call, answer: &Answer) -> Result<Option<String>
     }
 }
 
-fn text_of(alloc: Global, text: &str) -> Result<Option<String>, AllocError>
+pub fn text_of(alloc: Global, text: &str) -> Result<Option<String>, AllocError>
     ensures { IfOk result (λ o. option_map string_bytes o ≡ Some text.now) }
 {
     let text = String::from_str(alloc, text)?;
