@@ -6,6 +6,7 @@ import java.nio.file.Path;
 import java.nio.file.Paths;
 import java.util.ArrayList;
 import java.util.List;
+import java.util.Objects;
 
 /**
  * The block management of an HDFS NameNode: a manager that answers the lines of docs/FORMATS.md.
@@ -24,7 +25,11 @@ import java.util.List;
  */
 public final class Puljemrod implements AutoCloseable {
     static {
-        System.load(Paths.get(System.getProperty("puljemrod.jni")).toAbsolutePath().toString());
+        String library = System.getProperty("puljemrod.jni");
+        if (library == null) {
+            throw new UnsatisfiedLinkError("the property puljemrod.jni names no library (bindings/java/README.md)");
+        }
+        System.load(Paths.get(library).toAbsolutePath().toString());
     }
 
     /** How a manager is set up; docs/FORMATS.md has the ranges. */
@@ -68,7 +73,8 @@ public final class Puljemrod implements AutoCloseable {
 
     /**
      * Answers a line, without a line end. A refusal is an answer too ("refused 5 UnknownBlock"). Throws where
-     * memory was refused (14): then nothing has changed.
+     * memory was refused (14): then nothing has changed. After an OutOfMemoryError the line counts, and only
+     * its answer is lost: it has no place in Java's memory, or more bytes than an array.
      */
     public String line(String line) {
         return new String(line(line.getBytes(StandardCharsets.UTF_8)), StandardCharsets.US_ASCII);
@@ -76,6 +82,7 @@ public final class Puljemrod implements AutoCloseable {
 
     /** The same of bytes. */
     public synchronized byte[] line(byte[] line) {
+        Objects.requireNonNull(line);
         if (handle == 0) {
             throw new IllegalStateException("the manager is closed");
         }
@@ -140,7 +147,14 @@ public final class Puljemrod implements AutoCloseable {
                 System.out.println("FAILED: 0 shards: " + refused.getMessage());
             }
         }
+        try (Puljemrod manager = new Puljemrod(new Options())) {
+            manager.line((byte[]) null);
+            failed++;
+            System.out.println("FAILED: null is a line");
+        } catch (NullPointerException refused) {
+            passed++;
+        }
         System.out.println(passed + " passed, " + failed + " failed");
-        System.exit(failed == 0 && passed > 1 ? 0 : 1);
+        System.exit(failed == 0 && passed > 2 ? 0 : 1);
     }
 }

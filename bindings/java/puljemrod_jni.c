@@ -4,6 +4,9 @@
 #include <jni.h>
 #include <stdlib.h>
 
+/* What an array of Java can hold. */
+static const size_t MOST_BYTES = 0x7ffffff7;
+
 JNIEXPORT jlong JNICALL Java_Puljemrod_open(JNIEnv *env, jclass class, jint shards, jint work, jint invalidate,
                                             jint pend, jlong first_round, jlong first_call, jlong secret,
                                             jintArray code_out) {
@@ -22,8 +25,8 @@ JNIEXPORT jlong JNICALL Java_Puljemrod_open(JNIEnv *env, jclass class, jint shar
     return (jlong)(intptr_t)handle;
 }
 
-/* NULL where memory was refused, and then nothing has changed; or where Java has no memory for the answer of a
- * call that counts, and then an OutOfMemoryError is pending. */
+/* NULL where memory was refused, and then nothing has changed; or where Java cannot hold the answer of a call that
+ * counts, and then an OutOfMemoryError is pending. */
 JNIEXPORT jbyteArray JNICALL Java_Puljemrod_answer(JNIEnv *env, jclass class, jlong at, jbyteArray line) {
     (void)class;
     puljemrod *handle = (puljemrod *)(intptr_t)at;
@@ -35,6 +38,10 @@ JNIEXPORT jbyteArray JNICALL Java_Puljemrod_answer(JNIEnv *env, jclass class, jl
     (*env)->ReleaseByteArrayElements(env, line, bytes, JNI_ABORT);
     while (code == PULJEMROD_NO_TEXT) code = puljemrod_text(handle, &len);
     if (code == PULJEMROD_MEMORY) return NULL;
+    if (len > MOST_BYTES) {
+        (*env)->ThrowNew(env, (*env)->FindClass(env, "java/lang/OutOfMemoryError"), "the answer is too long");
+        return NULL;
+    }
     jbyteArray answer = (*env)->NewByteArray(env, (jsize)len);
     if (answer == NULL) return NULL;
     jbyte piece[4096];

@@ -215,6 +215,8 @@ class Pipe:
         self.lines = self.bytes = 0
 
     def answer(self, block):
+        if self.child.stdout.closed:
+            raise Fault("the manager is closed")
         left = block.count(b"\n")
         if self.lines + left > MOST_LINES or self.bytes + len(block) > MOST_BYTES:
             raise TooMuch(f"one run of the tool reads at most {MOST_LINES:,} lines and "

@@ -208,9 +208,11 @@ class Leadership:
         with self.replica.changed:
             count, last = self.replica.rounds, self.replica.applied
         value = value_of(Batch(LEADER, count, b'{"op":"round"}\n', 0, 0))
-        append(self.publishing, self.keys, value, last, self.guard())
-        self.sent_round = count
-        self.round_at = time.monotonic() + self.interval
+        if append(self.publishing, self.keys, value, last, self.guard(), waits=False):
+            self.sent_round = count
+            self.round_at = time.monotonic() + self.interval
+        else:
+            self.round_at = time.monotonic() + TURN
 
     # Start and end.
 

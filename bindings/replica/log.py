@@ -5,9 +5,11 @@ the writer's number and the count of the first line, which is how many lines of 
 before it. A line longer than a batch is parted over keys; their headers have `part` and `parts`."""
 
 import json
+import time
 from collections import namedtuple
 
-from store import Store, StoreError, Unreachable, absent, after, get, modified, present, put
+from store import LeaseGone, Store, StoreError, Unreachable, absent, after, created, delete, get
+from store import modified, present, put
 
 # The most bytes of lines, or of answers, in one value. etcd takes requests of 1.5 MiB.
 BATCH = 1 << 20
@@ -17,6 +19,10 @@ MOST_PARTS = -(-LONGEST // BATCH)
 
 # The writer of the leader's rounds.
 LEADER = 0
+
+# Seconds for which a writer tries to append before it takes the turn; for which a dead one keeps
+# it; after which others look whether it is free.
+RACE, HOLD, LOOK = 0.5, 5, 0.02
 
 
 class Stop(Exception):
@@ -39,9 +45,9 @@ class Keys:
             f"{prefix}{name}/" for name in ("log", "answers", "hashes", "commands", "replicas")
         )
         # Who leads; up to which log key the output is written; the manager's options; the number
-        # of the newest writer.
-        self.leader, self.done, self.options, self.writers = (
-            f"{prefix}{name}" for name in ("leader", "done", "options", "writers")
+        # of the newest writer; who alone may append.
+        self.leader, self.done, self.options, self.writers, self.turn = (
+            f"{prefix}{name}" for name in ("leader", "done", "options", "writers", "turn")
         )
 
 
@@ -155,16 +161,46 @@ def last_index(store, keys):
     return index - 1 + outcome.ranges[0].count
 
 
-def append(store, keys, value, last, guard=()):
+def wait_for_turn(store, keys):
+    while store.value(keys.turn):
+        time.sleep(LOOK)
+
+
+def take_turn(store, keys):
+    """Takes the turn once it is free. While its key is there nobody else appends. Returns the
+    revision of the key, which is under a lease and goes if this writer dies."""
+    while True:
+        wait_for_turn(store, keys)
+        lease = store.grant(HOLD)
+        try:
+            outcome = store.transact(
+                [absent(keys.turn)], [put(keys.turn, str(lease), lease)], [get(keys.turn)]
+            )
+        except LeaseGone:
+            continue
+        if outcome.succeeded:
+            return outcome.revision
+        for holder in outcome.ranges[0].entries:
+            if holder.value == str(lease).encode():
+                # The answer to the transaction was lost.
+                return holder.created
+
+
+def append(store, keys, value, last, guard=(), waits=True):
     """Puts a value after the last key of the log and returns its number. `last` is a guess.
-    A leader's rounds are compared with its `guard` too."""
+    A small value is put sooner than a large one, so a writer that has lost for a while takes the
+    turn. A leader's rounds are compared with its `guard` too, and do not wait: 0 if others are
+    first."""
+    since, turn = time.monotonic(), 0
     while True:
         key, before = numbered(keys.log, last + 1), numbered(keys.log, last)
-        compares = [absent(key), *guard]
+        compares = [absent(key), created(keys.turn, turn), *guard]
         if last:
             compares.append(present(before))
         outcome = store.transact(
-            compares, [put(key, value)], [keys_from(keys, last + 1), get(before, keys_only=True)]
+            compares,
+            [put(key, value), *([delete(keys.turn)] if turn else [])],
+            [keys_from(keys, last + 1), get(before, keys_only=True), get(keys.turn)],
         )
         if outcome.succeeded:
             return last + 1
@@ -173,13 +209,23 @@ def append(store, keys, value, last, guard=()):
             found = store.value(key)
             if found and found.value == value:
                 return last + 1
-        newer, guess = outcome.ranges
+        newer, guess, holder = outcome.ranges
+        held = holder.entries[0].created if holder.entries else 0
         if newer.count:
             last += newer.count
         elif last and not guess.entries:
             last = last_index(store, keys)
-        else:
+        elif held == turn:
             raise Deposed("etcd refused a round, since the lease was lost")
+        if held == turn != 0:
+            continue
+        is_late = time.monotonic() - since > RACE
+        if not waits and (held or is_late):
+            return 0
+        if is_late:
+            turn = take_turn(store, keys)
+        elif held:
+            wait_for_turn(store, keys)
 
 
 def new_writer(store, keys):

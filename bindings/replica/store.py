@@ -86,6 +86,10 @@ def put(key, value, lease=0):
     return {"request_put": {"key": packed(key), "value": packed(value), "lease": lease}}
 
 
+def delete(key):
+    return {"request_delete_range": {"key": packed(key)}}
+
+
 def created(key, revision):
     """Compares when a key was created; 0 stands for a key that is absent."""
     return {"key": packed(key), "target": "CREATE", "create_revision": revision}

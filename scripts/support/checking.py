@@ -92,6 +92,7 @@ def program(crate):
     """The program of a crate, which is built only if it is missing."""
     path = TOP / "crates" / crate / "out" / crate
     if not path.exists():
+        print(f"{crate} is not built: proves and builds it first", file=sys.stderr, flush=True)
         subprocess.run(
             ["rt", "run"],
             cwd=TOP / "crates" / crate,
@@ -106,6 +107,39 @@ def program(crate):
     return str(path)
 
 
+class Proved:
+    """A static library that is proved over the libraries that are there: once for both compilers, as `rt ci` does for a program."""
+
+    def __init__(self, crate, below):
+        kit = Path(ended_well(["rt", "doc"]).decode().strip()).parent
+        self.folder, self.rattle = TOP / "crates" / crate, kit / "bin/rattle"
+        self.words = ["--crate-name", crate, "src/lib.rt", "--crate-type", "staticlib"]
+        for name in ["std", *USES[crate]]:
+            self.words += ["--extern", f"{name}={below.get(name, kit / f'rlibs/{name}.rlib')}"]
+        for path in [kit / "rlibs", *(it.parent for it in below.values())]:
+            self.words += ["-L", f"dependency={path}"]
+        self.words += ["--antt-project", kit / "rattle/logic/antt-project.json", "--links", f"{crate}="]
+        self.room = tempfile.TemporaryDirectory()
+        self.checked = f"{self.room.name}/checked"
+        jobs = str(len(os.sched_getaffinity(0)))
+        proof = ["--logic-built", kit / "logic_built", "--jobs", jobs, "-o", self.checked]
+        ended_well([self.rattle, "check", *self.words, *proof], self.folder)
+        self.toolchain = kit / "toolchain"
+
+    def build(self, compiler, made):
+        words = ["--crate-checked", self.checked, "--toolchain", self.toolchain, "--backend", compiler, "-o", made]
+        ended_well([self.rattle, "build", *self.words, *words], self.folder)
+
+
+PROVED = {}
+
+
+def ended_well(command, folder=TOP):
+    ended = subprocess.run([*map(str, command)], cwd=folder, capture_output=True, timeout=3600)
+    want(ended.returncode == 0, f"{command[:2]} ends with {ended.returncode}: {ended.stdout[-500:]!r}, {ended.stderr[-500:]!r}")
+    return ended.stdout
+
+
 def library(compiler="llvm", crate="puljemrod"):
     """The static library by one of the two compilers, `llvm` or `rattle`.
 
@@ -114,19 +148,12 @@ def library(compiler="llvm", crate="puljemrod"):
     folder = TOP / "crates" / crate
     made = folder / "out" / f"lib{crate}.a"
     below = {name: TOP / "crates" / name / "out/rlib" / f"{name}.rlib" for name in below_crate(crate)}
-    command = ["rt", "lib", "--backend", compiler]
     if all(it.is_dir() for it in below.values()) and not any((it.parent / "stamp").exists() for it in below.values()):
-        kit = Path(subprocess.run(["rt", "doc"], capture_output=True, text=True, check=True).stdout.strip()).parent
-        command = [kit / "bin/rattle", "build", "--crate-name", crate, "src/lib.rt", "--crate-type", "staticlib"]
-        for name in ["std", *USES[crate]]:
-            command += ["--extern", f"{name}={below.get(name, kit / f'rlibs/{name}.rlib')}"]
-        for path in [kit / "rlibs", *(it.parent for it in below.values())]:
-            command += ["-L", f"dependency={path}"]
-        command += ["--antt-project", kit / "rattle/logic/antt-project.json", "--logic-built", kit / "logic_built"]
-        command += ["--jobs", str(len(os.sched_getaffinity(0))), "--links", f"{crate}="]
-        command += ["--toolchain", kit / "toolchain", "--backend", compiler, "-o", made]
-    ended = subprocess.run([*map(str, command)], cwd=folder, capture_output=True, timeout=3600)
-    want(ended.returncode == 0, f"{command[:2]} ends with {ended.returncode}: {ended.stdout[-500:]!r}, {ended.stderr[-500:]!r}")
+        if crate not in PROVED:
+            PROVED[crate] = Proved(crate, below)
+        PROVED[crate].build(compiler, made)
+    else:
+        ended_well(["rt", "lib", "--backend", compiler], folder)
     return made
 
 
@@ -141,7 +168,7 @@ def chosen_numbers(*words):
 
 
 def cluster_command(word):
-    """The words that start the program for clusters: `import`, `report` or `simulate`."""
+    """The words that start the program for clusters: `import`, `report`, `what-if` or `simulate`."""
     return [program("puljemrod_cluster"), word]
 
 

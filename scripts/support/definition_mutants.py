@@ -38,6 +38,16 @@ def edited(edit, folder):
     return texts
 
 
+def are_counted():
+    """The pages that say how many there are."""
+    count = len(names())
+    for page, words in (
+        ("README.md", f"each of {count} changed definitions"),
+        ("docs/DEFINITIONS.md", f"has {count} changes of single rules"),
+    ):
+        want(words in (TOP / page).read_text(), f"{page} does not say {words!r}")
+
+
 def can_be_applied():
     for name in names():
         edited(EDITS_OF_DEFINITIONS / f"{name}.edit", DEFINITIONS)

@@ -8,7 +8,7 @@
 #include <string.h>
 
 /* LINES is what a run of the line tool reads at most; the library has no such limit. */
-enum { LONGEST = 4194304, OPENS = 1000, LINES = 1048576 };
+enum { LONGEST = 4194304, OPENS = 1000, LINES = 1048576, DEEPEST = 126, STACK = 1 << 20 };
 
 static unsigned passed, failed;
 
@@ -193,6 +193,17 @@ static bool is_event(puljemrod *handle, uint32_t code, uint32_t wanted, const ch
         && has_text(handle, text);
 }
 
+/* Events that take no memory, and one that something else refuses. Storage 12 is there, and no block. */
+static void check_events_without_memory(puljemrod *handle) {
+    puljemrod_add_block(handle, 5, 1, 64, 1);
+    left = 0;
+    bool are = puljemrod_set_replication(handle, 5, 2) == 0 && puljemrod_restamp(handle, 5, 2, 64) == 0;
+    are = puljemrod_deleted(handle, 12, 5) == 0 && puljemrod_corrupt(handle, 12, 5) == 0 && are;
+    are = puljemrod_delete_block(handle, 5) == 0 && puljemrod_received(handle, 99, 5, 1, 64) == 3 && are;
+    left = -1;
+    check(are, "events without memory");
+}
+
 static void events(void) {
     puljemrod h = PULJEMROD_CLOSED_HANDLE;
     const uint32_t storages[] = {11, 12}, other[] = {21};
@@ -229,6 +240,7 @@ static void events(void) {
     uint32_t code = puljemrod_full_report(&h, 12, entries, 2);
     left = -1;
     check(code == PULJEMROD_MEMORY && has_text(&h, "refused 1 UnknownNode"), "an event refused for memory");
+    check_events_without_memory(&h);
     check(is_event(&h, puljemrod_full_report(&h, 12, entries, 0), 0, "ok 0 0"), "an empty report");
     puljemrod_close(&h);
 }
@@ -470,6 +482,40 @@ static void *opens_in_a_thread(void *handle) {
     return handle;
 }
 
+/* With as many nested values as a line may have, of lists and of objects. */
+static void *answers_deep_lines(void *handle) {
+    const char *begins[] = {"[", "{\"a\":"}, *ends[] = {"]", "}"};
+    bool are = are_answered(handle);
+    for (unsigned kind = 0; kind < 2; kind++) {
+        char line[2000] = "{\"x\":";
+        size_t len;
+        for (unsigned n = 0; n < DEEPEST; n++)
+            strcat(line, begins[kind]);
+        strcat(line, "1");
+        for (unsigned n = 0; n < DEEPEST; n++)
+            strcat(line, ends[kind]);
+        strcat(line, ",\"op\":\"list_missing\"}");
+        are = puljemrod_line(handle, line, strlen(line), &len) == 0 && has_text(handle, "missing") && are;
+    }
+    return are ? handle : NULL;
+}
+
+/* The thread has no more stack than the header asks for. */
+static void small_stack(void) {
+    puljemrod h = PULJEMROD_CLOSED_HANDLE;
+    pthread_t thread;
+    pthread_attr_t attributes;
+    void *answered = NULL;
+    pthread_attr_init(&attributes);
+    pthread_attr_setstacksize(&attributes, STACK);
+    puljemrod_open(&h, &standard);
+    pthread_create(&thread, &attributes, answers_deep_lines, &h);
+    pthread_join(thread, &answered);
+    check(answered == &h, "deep lines in a small stack");
+    puljemrod_close(&h);
+    pthread_attr_destroy(&attributes);
+}
+
 static void threads(void) {
     puljemrod h[4] = {PULJEMROD_CLOSED_HANDLE};
     pthread_t thread[4];
@@ -511,6 +557,7 @@ int main(void) {
     allocations_refused();
     memory_is_returned();
     threads();
+    small_stack();
     printf("%u passed, %u failed\n", passed, failed);
     return failed != 0;
 }

@@ -205,10 +205,10 @@ class Manager:
         self.processes[name] = process
         return process
 
-    def write(self, lines, *options):
+    def write(self, lines, *options, seconds=20):
         """The answers to some lines."""
         writer = self.writer(f"writer{len(self.processes)}", lines, *options)
-        want(writer.ended() == 0, f"a writer failed: {writer.told()[-300:]}")
+        want(writer.ended(seconds) == 0, f"a writer failed: {writer.told()[-300:]}")
         return writer.output.read_bytes().splitlines(keepends=True)
 
     def leader(self):

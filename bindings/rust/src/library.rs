@@ -60,6 +60,8 @@ extern "C" {
     fn puljemrod_done(handle: *mut Handle, done: *mut DoneRow) -> u32;
     fn puljemrod_level(handle: *mut Handle, id: u64, level: *mut u64) -> u32;
     fn puljemrod_retired(handle: *mut Handle, node: u32, is_retired: *mut u64) -> u32;
+    fn puljemrod_calls(handle: *mut Handle, calls: *mut u64) -> u32;
+    fn puljemrod_rounds(handle: *mut Handle, rounds: *mut u64) -> u32;
     fn puljemrod_replicas(handle: *mut Handle, count: *mut u64) -> u32;
     fn puljemrod_corrupt_replicas(handle: *mut Handle, count: *mut u64) -> u32;
     fn puljemrod_excess_replicas(handle: *mut Handle, count: *mut u64) -> u32;
@@ -356,6 +358,16 @@ impl Manager {
     /// Whether a draining node can be taken away.
     pub fn retired(&mut self, node: u32) -> Result<bool, Error> {
         Ok(self.told(|handle, told| unsafe { puljemrod_retired(handle, node, told) })? == 1)
+    }
+
+    /// The number of accepted events and rounds.
+    pub fn calls(&mut self) -> Result<u64, Error> {
+        self.told(|handle, told| unsafe { puljemrod_calls(handle, told) })
+    }
+
+    /// The number of the last round.
+    pub fn rounds(&mut self) -> Result<u64, Error> {
+        self.told(|handle, told| unsafe { puljemrod_rounds(handle, told) })
     }
 }
 

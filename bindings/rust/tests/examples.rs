@@ -45,6 +45,8 @@ fn cluster() -> Manager {
 #[test]
 fn a_corrupt_replica_is_copied_and_then_deleted() {
     let mut manager = cluster();
+    // Three nodes, a heartbeat, a block and two replicas.
+    assert_eq!((manager.calls(), manager.rounds()), (Ok(7), Ok(0)));
     assert_eq!(manager.level(7), Ok(None));
     manager.apply(&Event::Corrupt { storage: 11, id: 7 }).unwrap();
     assert_eq!(manager.level(7), Ok(Some(0)));
@@ -54,6 +56,7 @@ fn a_corrupt_replica_is_copied_and_then_deleted() {
     manager.apply(&Event::Received { storage: 21, id: 7, gen: 1, len: 64 }).unwrap();
     let delete = Command::Delete { node: 1, storage: 11, block: 7 };
     assert_eq!(manager.round(), Ok(Commands { round: 2, commands: vec![delete] }));
+    assert_eq!((manager.calls(), manager.rounds()), (Ok(11), Ok(2)));
     let done = manager.apply(&Event::Deleted { storage: 11, id: 7 });
     assert_eq!(done, Ok(Done { added: 0, removed: 1 }));
     assert_eq!(manager.places(7), Ok(vec![21, 31]));

@@ -1,13 +1,14 @@
 // Whether the transfers on their way to a settled block make up for the replicas that it lacks.
-ghost use Rattle.std.specs.Prelude.{◌≡◌, length};
+ghost use Rattle.std.specs.Prelude.{◌≡◌, length, map};
 ghost use Rattle.bm_base.specs.Replicas as replicas;
-ghost use Rattle.bm_arena.specs.Holding.{id_at, replicas_at};
+ghost use Rattle.bm_arena.specs.Holding.{id_at};
+ghost use Rattle.bm_arena.specs.Triplets.{seen_triplet};
 ghost use Rattle.bm_levels.specs.Judged.{storages_at};
 ghost use Rattle.bm_pending.specs.Remaining.{targets_left};
 ghost use Rattle.bm_finding.specs.Visits as visits;
 
 use crate::visiting::Start;
-use bm_arena::{Arena, Slot};
+use bm_arena::{Slot, Triplet};
 use bm_base::{BlockId, Marks, StorageId};
 use bm_topo::Topology;
 
@@ -26,12 +27,12 @@ impl<'a> Start<'a> {
         if pending == 0 {
             return false;
         }
-        match self.arena.info(slot) {
-            Some(info) => {
-                let live = live_count(self.topology, self.arena, slot);
+        match self.arena.block(slot) {
+            Some((Some(info), triplets)) => {
+                let live = live_count(self.topology, triplets);
                 (info.repl as usize).saturating_sub(live) <= pending
             }
-            None => false,
+            _ => false,
         }
     }
 
@@ -56,17 +57,16 @@ fn is_live_on(topology: &Topology, storage: StorageId, marks: Marks) -> bool
     is_usable && !topology.is_draining(storage)
 }
 
-/// How many replicas at a slot are live.
-fn live_count(topology: &Topology, arena: &Arena, slot: Slot) -> usize
-    ensures { result ≡ length
-        (storages_at (replicas.is_live_on topology.now.cluster) (replicas_at arena.now slot)) }
+/// How many of these replicas are live.
+fn live_count(topology: &Topology, triplets: &[Triplet]) -> usize
+    ensures { result ≡ length (storages_at (replicas.is_live_on topology.now.cluster)
+        (map seen_triplet triplets.now)) }
 {
     let mut count = 0;
-    for place in 0..arena.triplet_count(slot) {
-        if let Some((storage, marks)) = arena.triplet_at(slot, place) {
-            if is_live_on(topology, storage, marks) {
-                count += 1;
-            }
+    for triplet in triplets {
+        let (storage, marks) = triplet.replica();
+        if is_live_on(topology, storage, marks) {
+            count += 1;
         }
     }
     count

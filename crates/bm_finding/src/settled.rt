@@ -1,17 +1,17 @@
 // The wish of a settled block: none of its replicas is in excess, and none is to be deleted.
-ghost use Rattle.std.specs.Prelude.{◌≡◌, ◌++◌, true, not, filter, Some, IfOk, IfErr, OnOk};
+ghost use Rattle.std.specs.Prelude.{◌≡◌, ◌++◌, true, not, filter, map, Some, IfOk, IfErr, OnOk};
 ghost use Rattle.bm_base.specs.declared.refusal.Refusal.TheVariants.{Memory};
 ghost use Rattle.bm_base.specs.Replicas as replicas;
 ghost use Rattle.bm_parts.specs.Before.{wishes_before};
 ghost use Rattle.bm_arena.specs.Contents.{block_at, slot_of};
-ghost use Rattle.bm_arena.specs.Holding.{replicas_at};
+ghost use Rattle.bm_arena.specs.Triplets.{seen_triplet};
 ghost use Rattle.bm_levels.specs.Held.{holdings_with};
 ghost use Rattle.bm_levels.specs.Judged.{is_settled_at, storages_at};
 ghost use Rattle.bm_finding.specs.Gathering.{wishes_at};
 
 use crate::replicas::Usable;
 use crate::visiting::Start;
-use bm_arena::{Arena, Slot};
+use bm_arena::{Slot, Triplet};
 use bm_base::{BlockId, Refusal, StorageId, StorageIds, Wish};
 use bm_topo::Topology;
 use std::alloc::{AllocError, Global};
@@ -36,24 +36,25 @@ impl<'a> Start<'a> {
         ensures refused { IfErr result (λ e. e ≡ Memory) }
     {
         self.arena.lawful();
-        fill_storages(storages, self.arena, slot)?;
+        let Some((info, triplets)) = self.arena.block(slot) else {
+            return Ok(());
+        };
+        fill_storages(storages, triplets)?;
         storages.sort_unstable();
         let usable = split_by_draining(alloc, self.topology, storages)?;
-        let info = self.arena.info(slot);
         self.push_wish(alloc, id, info, usable, storages, into)
     }
 }
 
-/// Replaces the storages in `into` with those of the replicas at a slot.
-fn fill_storages(into: &mut Vec<StorageId>, arena: &Arena, slot: Slot) -> Result<(), AllocError>
+/// Replaces the storages in `into` with those of these replicas.
+fn fill_storages(into: &mut Vec<StorageId>, triplets: &[Triplet]) -> Result<(), AllocError>
     ensures { OnOk result (into.new.items
-        ≡ storages_at (λ _ _. true) (replicas_at arena.now slot)) }
+        ≡ storages_at (λ _ _. true) (map seen_triplet triplets.now)) }
 {
     into.clear();
-    for place in 0..arena.triplet_count(slot) {
-        if let Some((storage, _)) = arena.triplet_at(slot, place) {
-            into.push(storage)?;
-        }
+    for triplet in triplets {
+        let (storage, _) = triplet.replica();
+        into.push(storage)?;
     }
     Ok(())
 }

@@ -46,7 +46,7 @@ fn push_settled(start: &Start, level: Level, into: &mut Vec<(Key, Slot)>) -> Res
         let slot = *member as usize;
         let key = key_at_level(start.kept, start.arena, slot, level);
         if is_before(start.bound, key)
-            && !start.kept.is_unsettled(slot)
+            && start.is_settled(slot)
             && !start.has_enough_pending(slot, BlockId(key.1))
         {
             into.push((key, slot))?;

@@ -1,8 +1,9 @@
 // What is found of the blocks at which a round looks, one after another.
-ghost use Rattle.std.specs.Prelude.{◌≡◌, ◌++◌, ◌∷◌, [], ℕ, List, map, Some, nat_le, false, IfOk, IfErr, OnOk};
+ghost use Rattle.std.specs.Prelude.{◌≡◌, ◌++◌, ◌∷◌, [], ℕ, List, map, not, Some, nat_le, false, IfOk, IfErr, OnOk};
 ghost use Rattle.std.specs.Option.{option_map_or};
 ghost use Rattle.bm_base.specs.declared.refusal.Refusal.TheVariants.{Memory};
 ghost use Rattle.bm_base.specs.Map.{values};
+ghost use Rattle.bm_base.specs.Lists.{has};
 ghost use Rattle.bm_base.specs.SlotLists.{Among};
 ghost use Rattle.bm_arena.specs.Contents.{slot_of};
 ghost use Rattle.bm_arena.specs.Holding.{id_at};
@@ -70,6 +71,13 @@ impl<'a> Start<'a> {
         Ok(found)
     }
 
+    /// Whether the block at a slot is settled. If all are, nothing is read of the slot.
+    pub(crate) fn is_settled(&self, slot: Slot) -> bool
+        ensures { result ≡ not (has self.now.kept.now.unsettled.slots slot) }
+    {
+        self.kept.unsettled_count() == 0 || !self.kept.is_unsettled(slot)
+    }
+
     /// Scans the block at a slot, and appends what is found of it.
     fn visit(
         &self,
@@ -90,7 +98,7 @@ impl<'a> Start<'a> {
     {
         self.arena.lawful();
         let id = self.arena.id_of(slot);
-        if !self.kept.is_unsettled(slot) {
+        if self.is_settled(slot) {
             let wishes = &mut found.wishes;
             return self.push_settled_wish(alloc, slot, id, &mut look.storages, wishes);
         }

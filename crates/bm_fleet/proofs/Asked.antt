@@ -1,31 +1,35 @@
 -- What is asked of all shards, of one of them or of each.
-use Rattle.std.specs.Prelude.{◌≡◌, ◌≤◌, ℕ, ◌||◌, List, [], ◌∷◌, map, flat_map, length, Some, None}
+use Rattle.std.specs.Prelude.{◌≡◌, ℕ, ◌||◌, Bool, List, [], ◌∷◌, map, flat_map, length, Some, None}
 use Rattle.std.specs.List.{list_any}
+use Rattle.std.specs.List.Sorted.{IsPermutation, IsSortedByKey}
+use Rattle.std.specs.Ordering.{nat_cmp}
 use Rattle.std.proofs.Common.{refl, sym, ap, subst, ◌∙◌}
+use Rattle.std.proofs.lemmas.List.Folds.{flat_map-map}
 use Rattle.bm_base.specs.declared.event.Event.{Event}
+use Rattle.bm_base.specs.declared.replica.Marks.{Marks}
 use Rattle.bm_base.specs.declared.replica.Replica.{Replica}
 use Rattle.bm_base.specs.declared.replica.ReplicaId.{ReplicaId}
 use Rattle.bm_base.specs.Map.{by_number}
-use Rattle.bm_base.specs.Ordered.{ordered_by}
-use Rattle.bm_base.specs.State.{Cluster, Holdings, by_replica, empty_cluster}
+use Rattle.bm_base.specs.State.{Cluster, Holdings, by_replica, replica_cmp, empty_cluster}
 use Rattle.bm_base.specs.Shards.{shard_of, cut}
 use Rattle.bm_base.specs.Levels.{level}
-use Rattle.bm_base.specs.Queries.{all_replicas, places}
+use Rattle.bm_base.specs.Queries.{missing_blocks, blocks_on, places}
 use Rattle.bm_base.specs.Refusals.{first_of, block_checks, block_refusal}
 use Rattle.bm_base.specs.Answering.{checked}
+use Rattle.bm_base.specs.Versions.{Row, table}
 use Rattle.bm_parts.specs.Parts.{block_of}
-use Rattle.bm_parts.specs.Whole.{parts}
-use Rattle.bm_parts.specs.Merging.{put_all, AreSorted}
 use Rattle.bm_parts.specs.QueryLaws.{holds_back, replica_key}
 use Rattle.bm_parts.proofs.HeldBack.{held_back_by_some_part}
-use Rattle.bm_parts.proofs.JoinedReplicas.{replicas_join}
+use Rattle.bm_parts.proofs.JoinedReplicas.{blocks_on_join}
+use Rattle.bm_parts.proofs.JoinedBlocks.{missing_join, tables_join}
 use Rattle.bm_parts.proofs.OwnShard.{own_shard_answers, own_shard_checks}
 use Rattle.bm_parts.proofs.Wholes.{whole_has_its_parts}
 use Rattle.bm_shard.specs.Seen.{Seen}
+use Rattle.bm_fleet.specs.Rows.{rows_of}
 use Rattle.bm_fleet.specs.Whole.{Whole, parts_of, held_by, AreShards, EachStandsIn, StandsIn}
-use Rattle.bm_fleet.specs.Listed.{pair_of, pair_of_number, keyed_replica, keyed_id, keyed_block}
-use Rattle.bm_fleet.proofs.Joins.{sorted_lists, joined_list, replicas_alike, numbers_alike}
 use Rattle.bm_fleet.proofs.Fleets.{no_block_checks}
+use Rattle.bm_fleet.proofs.Joins.{sorted_lists}
+use Rattle.bm_fleet.proofs.PartLists.{passing, passing_join, own_passing, own_missing, own_blocks_on, own_rows}
 use Rattle.bm_fleet.proofs.Staying.{count_of}
 
 -- The shard of a block answers as all of them: `ss` is seen as F, and P is what the block's own shard holds.
@@ -67,30 +71,18 @@ pub some_shard : (C : Cluster) (n : ℕ) (ss : List (ℕ × Seen)) → AreShards
 some_shard C n ss h =
     any_part C n ss ∙ ap (list_any (holds_back C n)) (sym (whole_has_its_parts (parts_of ss) (length ss) h.own (sym (count_of ss)))) ∙ held_back_by_some_part C n (held_by ss) (length ss) h.some
 
--- The lists of the shards, and all of them joined.
+-- The lists of the shards, gathered and then sorted.
 
-module _ {L : Type 0} (ls : List L) (ss : List (ℕ × Seen)) where
-  module _ (items : L → List ((ℕ × ℕ) × Replica)) (is : map items ls ≡ map (λ (s : ℕ × Seen). map keyed_replica (all_replicas s.1.holdings)) ss) where
-    pub replicas_sorted : AreSorted (map items ls)
-    replicas_sorted = sorted_lists by_replica pair_of replicas_alike replica_key all_replicas replicas_join ss (map items ls) is
+module _ (ss : List (ℕ × Seen)) (are : AreShards (length ss) ss) where
+  pub sorted_replicas : (p : Marks → Bool) (ys : List Replica) → IsPermutation (flat_map (λ (s : ℕ × Seen). passing p s.1.holdings) ss) ys → IsSortedByKey replica_key replica_cmp ys → ys ≡ passing p (held_by ss)
+  sorted_replicas p ys moved sorted = sorted_lists by_replica replica_key (λ (q : ReplicaId). q.block) (passing p) (passing_join p) (own_passing p) ss ys are moved sorted
 
-    pub replicas_joined : AreShards (length ss) ss → map (λ (e : (ℕ × ℕ) × Replica). e.1) (put_all [] (flat_map items ls)) ≡ all_replicas (held_by ss)
-    replicas_joined = joined_list by_replica pair_of replicas_alike replica_key all_replicas replicas_join items ls ss is
+  pub sorted_missing : (C : Cluster) (ys : List ℕ) → IsPermutation (flat_map (λ (s : ℕ × Seen). missing_blocks C s.1.holdings) ss) ys → IsSortedByKey (λ (b : ℕ). b) nat_cmp ys → ys ≡ missing_blocks C (held_by ss)
+  sorted_missing C ys moved sorted = sorted_lists by_number (λ (b : ℕ). b) (λ b. b) (missing_blocks C) (missing_join C) (own_missing C) ss ys are moved sorted
 
-  module _ (items : L → List ((ℕ × ℕ) × ReplicaId)) (list : Holdings → List ReplicaId)
-      (joins : (H : Holdings) (shards : ℕ) → 1 ≤ shards → ordered_by by_replica (λ (q : ReplicaId). q) (flat_map list (parts H shards)) ≡ list H)
-      (is : map items ls ≡ map (λ (s : ℕ × Seen). map keyed_id (list s.1.holdings)) ss) where
-    pub ids_sorted : AreSorted (map items ls)
-    ids_sorted = sorted_lists by_replica pair_of replicas_alike (λ (q : ReplicaId). q) list joins ss (map items ls) is
+  pub sorted_blocks_on : (storage : ℕ) (ys : List ℕ) → IsPermutation (flat_map (λ (s : ℕ × Seen). blocks_on s.1.holdings storage) ss) ys → IsSortedByKey (λ (b : ℕ). b) nat_cmp ys → ys ≡ blocks_on (held_by ss) storage
+  sorted_blocks_on storage ys moved sorted = sorted_lists by_number (λ (b : ℕ). b) (λ b. b) (λ H. blocks_on H storage) (blocks_on_join storage) (own_blocks_on storage) ss ys are moved sorted
 
-    pub ids_joined : AreShards (length ss) ss → map (λ (e : (ℕ × ℕ) × ReplicaId). e.1) (put_all [] (flat_map items ls)) ≡ list (held_by ss)
-    ids_joined = joined_list by_replica pair_of replicas_alike (λ (q : ReplicaId). q) list joins items ls ss is
-
-  module _ (items : L → List ((ℕ × ℕ) × ℕ)) (list : Holdings → List ℕ)
-      (joins : (H : Holdings) (shards : ℕ) → 1 ≤ shards → ordered_by by_number (λ (b : ℕ). b) (flat_map list (parts H shards)) ≡ list H)
-      (is : map items ls ≡ map (λ (s : ℕ × Seen). map keyed_block (list s.1.holdings)) ss) where
-    pub blocks_sorted : AreSorted (map items ls)
-    blocks_sorted = sorted_lists by_number pair_of_number numbers_alike (λ (b : ℕ). b) list joins ss (map items ls) is
-
-    pub blocks_joined : AreShards (length ss) ss → map (λ (e : (ℕ × ℕ) × ℕ). e.1) (put_all [] (flat_map items ls)) ≡ list (held_by ss)
-    blocks_joined = joined_list by_number pair_of_number numbers_alike (λ (b : ℕ). b) list joins items ls ss is
+  pub sorted_rows : (ts : List (List Row)) (ys : List Row) → ts ≡ map (λ (s : ℕ × Seen). rows_of s.1) ss → IsPermutation (flat_map (λ t. t) ts) ys → IsSortedByKey (λ (r : Row). r.0) nat_cmp ys → ys ≡ table (held_by ss)
+  sorted_rows ts ys is moved sorted =
+      sorted_lists by_number (λ (r : Row). r.0) (λ b. b) table tables_join own_rows ss ys are (subst (λ xs. IsPermutation xs ys) (ap (flat_map (λ t. t)) is ∙ flat_map-map (λ (t : List Row). t) (λ (s : ℕ × Seen). rows_of s.1) ss) moved) sorted

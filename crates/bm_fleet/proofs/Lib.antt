@@ -9,7 +9,7 @@ pub mod Founds
 pub mod Chosen
 pub mod RoundsTaken
 pub mod Joins
-pub mod RowPlaces
+pub mod PartLists
 pub mod RoundEnd
 pub mod Asked
 pub mod Heartbeats

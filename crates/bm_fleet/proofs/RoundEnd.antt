@@ -1,5 +1,5 @@
 -- How a round of all shards ends.
-use Rattle.std.specs.Prelude.{◌≡◌, ℕ, ◌+◌, List, length, Result, Ok, Err, IfOk, OnOk, OnErr}
+use Rattle.std.specs.Prelude.{◌≡◌, ℕ, ◌+◌, List, length, Result, Ok, Err, OnOk, OnErr}
 use Rattle.std.specs.List.{AllZip}
 use Rattle.std.proofs.Common.{subst, ◌∙◌}
 use Rattle.bm_base.specs.declared.commands.Commands.{Commands}
@@ -17,9 +17,6 @@ use Rattle.bm_fleet.specs.Rounds.{commands_in, left_by_round}
 use Rattle.bm_fleet.specs.RoundWorked.{HasTakenRound}
 use Rattle.bm_fleet.proofs.RoundsTaken.{are_after, held_after, stands_after, took_after}
 use Rattle.bm_fleet.proofs.Staying.{still_shards, same_held, same_stands, same_took}
-
-pub then_ok : {X E : Type 0} (P : X → Type 0) (r : Result X E) (x : X) → r ≡ Ok x → IfOk r P → P x
-then_ok P r x is h = subst (λ o. IfOk o P) is h
 
 module _ (C : Cluster) (limits : RoundLimits) (last : ℕ) (ss : List (ℕ × Seen)) (h : AreShards (length ss) ss) (took : EachTook last limits.pend ss) where
   -- Taken.

@@ -7,4 +7,4 @@ pub mod OneShard
 pub mod Rounds
 pub mod RoundWorked
 pub mod RoundChosen
-pub mod Listed
+pub mod Rows

@@ -13,12 +13,10 @@ ghost use Rattle.bm_shard.specs.Standing as shard;
 ghost use Rattle.bm_fleet.specs.Whole.{StandsIn, AreShards, EachStandsIn, held_by};
 
 use crate::fleet::Fleet;
-use crate::joining::join_all;
-use crate::listed::{
-    lists_of_blocks_on, lists_of_corrupt, lists_of_excess, lists_of_missing, lists_of_replicas,
-};
+use crate::lists::{blocks_on, missing_blocks, replicas};
 use crate::one_shard::index_of_shard;
 use bm_base::{BlockId, Event, Items, Level, NodeId, Refusal, Replica, ReplicaId, StorageId};
+use bm_listing::{Wanted, replica_keys};
 use bm_parts::events::block_of;
 use bm_shard::Shard;
 use bm_topo::Topology;
@@ -39,8 +37,8 @@ impl Fleet {
         ensures replicas { IfOk result (λ v. v ≡ queries.all_replicas self.now.holdings) }
         ensures refused { IfErr result (λ e. e ≡ Memory) }
     {
-        let lists = lists_of_replicas(self.alloc, self.shards.as_slice())?;
-        join_all(self.alloc, lists)
+        let all = replicas(self.alloc, self.shards.as_slice(), Wanted::All)?;
+        Ok(Items::from_vec(all))
     }
 
     /// The stale and bad replicas, by block and storage. `Memory`.
@@ -48,8 +46,8 @@ impl Fleet {
         ensures corrupt { IfOk result (λ v. v ≡ queries.corrupt_replicas self.now.holdings) }
         ensures refused { IfErr result (λ e. e ≡ Memory) }
     {
-        let lists = lists_of_corrupt(self.alloc, self.shards.as_slice())?;
-        join_all(self.alloc, lists)
+        let all = replicas(self.alloc, self.shards.as_slice(), Wanted::Corrupt)?;
+        Ok(Items::from_vec(replica_keys(self.alloc, all.as_slice())?))
     }
 
     /// The replicas in excess, by block and storage. `Memory`.
@@ -57,8 +55,8 @@ impl Fleet {
         ensures excess { IfOk result (λ v. v ≡ queries.excess_replicas self.now.holdings) }
         ensures refused { IfErr result (λ e. e ≡ Memory) }
     {
-        let lists = lists_of_excess(self.alloc, self.shards.as_slice())?;
-        join_all(self.alloc, lists)
+        let all = replicas(self.alloc, self.shards.as_slice(), Wanted::Excess)?;
+        Ok(Items::from_vec(replica_keys(self.alloc, all.as_slice())?))
     }
 
     /// The known blocks of which no replica is usable, rising. `Memory`.
@@ -69,8 +67,8 @@ impl Fleet {
             (λ v. v ≡ queries.missing_blocks topology.now.cluster self.now.holdings) }
         ensures refused { IfErr result (λ e. e ≡ Memory) }
     {
-        let lists = lists_of_missing(self.alloc, self.shards.as_slice(), topology)?;
-        join_all(self.alloc, lists)
+        let all = missing_blocks(self.alloc, self.shards.as_slice())?;
+        Ok(Items::from_vec(all))
     }
 
     /// The blocks of all replicas on a storage, whatever their tags, rising. `Memory`.
@@ -78,8 +76,8 @@ impl Fleet {
         ensures blocks { IfOk result (λ v. v ≡ queries.blocks_on self.now.holdings storage) }
         ensures refused { IfErr result (λ e. e ≡ Memory) }
     {
-        let lists = lists_of_blocks_on(self.alloc, self.shards.as_slice(), storage)?;
-        join_all(self.alloc, lists)
+        let all = blocks_on(self.alloc, self.shards.as_slice(), storage)?;
+        Ok(Items::from_vec(all))
     }
 
     /// The storages of the block's good replicas, rising. Asks the block's shard alone. `UnknownBlock`; `Memory`.

@@ -7,14 +7,14 @@ ghost use Rattle.bm_parts.specs.Before.{part_before};
 ghost use Rattle.bm_parts.specs.Parts.{block_of};
 ghost use Rattle.bm_shard.specs.Standing.{next_part};
 ghost use Rattle.bm_fleet.specs.FromShards.{HasAnswered};
-ghost use Rattle.bm_fleet.specs.Listed.{rows_of};
+ghost use Rattle.bm_fleet.specs.Rows.{rows_of};
 ghost use Rattle.bm_fleet.specs.Worked.{Accepts, IsPrepared, CanCommit, IsCommitted};
 ghost use Rattle.bm_fleet.specs.RoundWorked.{CanFind, HasPart, IsPreparedForRound, CanCommitRound, HasTakenRound};
 
 use crate::answered::Answered;
 use crate::crewed::{Committed, Prepared, commit_one, prepare_one};
-use crate::joined_rows::Rows;
 use crate::round_crewed::{commit_round_one, find_one, prepare_round_one};
+use crate::table::Rows;
 use crate::workers::Workers;
 use bm_base::{Chosen, Event, RoundPart};
 use bm_crew::Ready;

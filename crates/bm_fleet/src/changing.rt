@@ -12,10 +12,9 @@ ghost use Rattle.bm_fleet.specs.Whole.{AreShards, EachStandsIn, EachTook, held_b
 
 use crate::crewed::{Committed, Prepared};
 use crate::gathering::{abort_all, gather_committed, gather_prepared};
-use crate::pass_room::pass_room;
+use crate::pass_room::{PassRoom, pass_room};
 use crate::workers::Workers;
 use bm_base::{Done, Event, Refusal};
-use bm_crew::Ready;
 use bm_shard::Shard;
 use bm_topo::Topology;
 use std::alloc::Global;
@@ -53,9 +52,7 @@ pub(crate) fn change_all<W: Workers>(
     ensures refused { IfErr result (λ e. e ≡ Memory) }
 {
     match prepare_for_event(alloc, workers, shards, event, topology) {
-        Ok((committing, back)) => Ok(commit_and_gather(
-            workers, committing, shards, back, event, topology, multi,
-        )),
+        Ok(room) => Ok(commit_and_gather(workers, room, shards, event, topology, multi)),
         Err(refusal) => {
             abort_all(shards);
             Err(refusal)
@@ -71,7 +68,7 @@ fn prepare_for_event<W: Workers>(
     shards: &mut Vec<(u32, Shard)>,
     event: &Event,
     topology: &Topology,
-) -> Result<(Ready<Shard, Committed>, Vec<(u32, Shard)>), Refusal>
+) -> Result<PassRoom<Committed>, Refusal>
     requires cluster { first_of (cluster_checks topology.now.cluster event.now) ≡ None }
     requires blocks { All (Accepts event.now) shards.old.items }
     requires standing { EachStandsIn topology.now.cluster shards.old.items }
@@ -91,19 +88,17 @@ fn prepare_for_event<W: Workers>(
     }
 }
 
-/// Changes all shards, each of which is ready, and adds up what they answer. `back` takes the shards
-/// back.
+/// Changes all shards, each of which is ready, and adds up what they answer.
 fn commit_and_gather<W: Workers>(
     workers: &W,
-    committing: Ready<Shard, Committed>,
+    room: PassRoom<Committed>,
     shards: &mut Vec<(u32, Shard)>,
-    back: Vec<(u32, Shard)>,
     event: &Event,
     topology: &Topology,
     multi: bool,
 ) -> Done
-    requires room { vec_len shards.old ≤ committing.room }
-    requires back { (back.items ≡ []) × (vec_len shards.old ≤ vec_capacity back) }
+    requires room { vec_len shards.old ≤ room.0.room }
+    requires back { (room.1.items ≡ []) × (vec_len shards.old ≤ vec_capacity room.1) }
     requires cluster { first_of (cluster_checks topology.now.cluster event.now) ≡ None }
     requires every { block_of event.now ≡ None }
     requires multi { multi ≡ is_multi_rack (change_cluster topology.now.cluster event.now) }
@@ -117,6 +112,7 @@ fn commit_and_gather<W: Workers>(
     ensures rounds { (round pend : ℕ) → EachTook round pend shards.old.items
         → EachTook round pend shards.new.items }
 {
+    let (committing, back) = room;
     let items = mem::replace(shards, back);
     let made = workers.commit_all(committing, items, event, topology, multi);
     gather_committed(made, shards)

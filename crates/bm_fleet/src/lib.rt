@@ -2,7 +2,7 @@
 //! hold together changes as the definitions change the whole.
 //!
 //! An event on a block is made on the block's shard alone, any other on every shard or on none ([`Fleet::change`]); so is a round
-//! ([`Fleet::round`]). What is asked of all shards is joined by one merge of their answers.
+//! ([`Fleet::round`]). The lists of all shards are gathered and sorted once.
 #![tactic(auto)]
 
 mod answered;
@@ -13,9 +13,7 @@ mod crewed;
 mod events;
 mod fleet;
 mod gathering;
-mod joined_rows;
-mod joining;
-mod listed;
+mod lists;
 mod one_shard;
 mod pass_room;
 mod round_choice;

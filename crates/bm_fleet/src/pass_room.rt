@@ -7,13 +7,15 @@ use bm_crew::{Crew, Ready};
 use bm_shard::Shard;
 use std::alloc::Global;
 
-/// One pass over `count` shards by `workers` threads, the calling one among them, and an empty list
-/// with capacity to take the shards back.
+/// The memory of a pass, and an empty list with capacity to take the shards back.
+pub(crate) type PassRoom<U> = (Ready<Shard, U>, Vec<(u32, Shard)>);
+
+/// The memory of one pass over `count` shards by `workers` threads, the calling one among them.
 pub(crate) fn pass_room<U: Drop>(
     alloc: Global,
     count: usize,
     workers: usize,
-) -> Result<(Ready<Shard, U>, Vec<(u32, Shard)>), Refusal>
+) -> Result<PassRoom<U>, Refusal>
     requires { 0 < workers }
     ensures ready { IfOk result (λ r. r.0.room ≡ count) }
     ensures back { IfOk result (λ r. (r.1.items ≡ []) × (count ≤ vec_capacity r.1)) }

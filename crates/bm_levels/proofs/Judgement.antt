@@ -129,14 +129,13 @@ module _ (rack : ℕ → Option ℕ) (draining : ℕ → Bool) where
   level_judged multi (Some b) ts i k info is h =
       level_counted multi b i k (sym (same_Some (Some i) b.info info)) (subst (λ rs. IsCountOf rack draining i.repl rs k) (same_Some (map seen_triplet ts) b.replicas is) h)
 
-  pub settled_judged : (o : Option Block) (ts : List Triplet) (i : BlockInfo) (k : Count) → Some (Some i) ≡ option_map (λ (b : Block). b.info) o
-      → Some (map seen_triplet ts) ≡ option_map (λ (b : Block). b.replicas) o → IsCountOf rack draining i.repl (map seen_triplet ts) k
-      → (k.is_plain && nat_le (length ts) i.repl) ≡ is_settled_at o
-  settled_judged None ts i k info is h = absurd (none-some _ (sym info))
-  settled_judged (Some b) ts i k info is h =
+  pub settled_judged : (o : Option Block) (ts : List Triplet) (n : ℕ) (i : BlockInfo) (k : Count) → Some (Some i) ≡ option_map (λ (b : Block). b.info) o
+      → Some (map seen_triplet ts) ≡ option_map (λ (b : Block). b.replicas) o → n ≡ option_map_or (λ (b : Block). length b.replicas) o 0
+      → IsCountOf rack draining i.repl (map seen_triplet ts) k → (k.is_plain && nat_le n i.repl) ≡ is_settled_at o
+  settled_judged None ts n i k info is many h = absurd (none-some _ (sym info))
+  settled_judged (Some b) ts n i k info is many h =
       let rs = same_Some (map seen_triplet ts) b.replicas is in
-      let count : length ts ≡ length b.replicas = sym (length-map ts seen_triplet) ∙ ap length rs in
-      ap (λ n. k.is_plain && nat_le n i.repl) count ∙ settled_counted b i k (sym (same_Some (Some i) b.info info)) (subst (λ xs. IsCountOf rack draining i.repl xs k) rs h)
+      ap (λ m. k.is_plain && nat_le m i.repl) many ∙ settled_counted b i k (sym (same_Some (Some i) b.info info)) (subst (λ xs. IsCountOf rack draining i.repl xs k) rs h)
 
   -- of an unknown block all replicas are counted
   pub unknown_judged : (o : Option Block) (ts : List Triplet) (k : Count) → Some None ≡ option_map (λ (b : Block). b.info) o → Some (map seen_triplet ts) ≡ option_map (λ (b : Block). b.replicas) o

@@ -1,5 +1,6 @@
 // The judgement of one block.
-ghost use Rattle.std.specs.Prelude.{◌≡◌, map, true};
+ghost use Rattle.std.specs.Prelude.{◌≡◌, length, map, true};
+ghost use Rattle.std.specs.Option.{option_map_or};
 ghost use Rattle.bm_arena.specs.Contents.{block_at};
 ghost use Rattle.bm_arena.specs.Triplets.{seen_triplet};
 ghost use Rattle.bm_levels.specs.Judged as judged;
@@ -27,8 +28,10 @@ pub(crate) fn are_alike(a: Judged, b: Judged) -> bool
     a == b
 }
 
-/// Judges the block at a slot, with one look at each replica, or at the first ones where they decide it.
-pub(crate) fn judge(arena: &Arena, slot: Slot, around: &Around<'_>) -> Judged
+/// Judges the block at a slot, of which the count of its replicas was read: with one look at each replica, or at the first
+/// ones where they decide it.
+pub(crate) fn judge(arena: &Arena, slot: Slot, replicas: usize, around: &Around<'_>) -> Judged
+    requires { replicas ≡ option_map_or (λ b. length b.replicas) (block_at arena.now slot) 0 }
     ensures level { result.level ≡ level_around around.now (block_at arena.now slot) }
     ensures settled { result.is_settled ≡ judged.is_settled_at (block_at arena.now slot) }
 {
@@ -54,7 +57,7 @@ pub(crate) fn judge(arena: &Arena, slot: Slot, around: &Around<'_>) -> Judged
             count.racks(),
             around.multi,
         ),
-        is_settled: count.is_plain && triplets.len() <= wanted,
+        is_settled: count.is_plain && replicas <= wanted,
     }
 }
 

@@ -1,5 +1,7 @@
 // Many blocks judged anew, some at a time: reads of memory that do not depend on one another do not wait for one another.
-ghost use Rattle.std.specs.Prelude.{◌≡◌, ◌<◌, ◌≤◌, length, true};
+ghost use Rattle.std.specs.Prelude.{◌≡◌, ◌<◌, ◌≤◌, ℕ, length, slice_get, slice_index_or, Some, true};
+ghost use Rattle.std.specs.Option.{option_map_or};
+ghost use Rattle.bm_arena.specs.Contents.{block_at};
 ghost use Rattle.bm_levels.specs.Kept.{HasRoomForEach, KeepsRoom, AreKeptAs, IsSameOutside};
 ghost use Rattle.bm_levels.specs.Around.{AreJudgedAsAround, AreJudgedAround};
 
@@ -17,14 +19,30 @@ const NOT_JUDGED: Judged = Judged {
     is_settled: true,
 };
 
+/// How many replicas the blocks at the slots of a chunk have. A read is so short that the processor has many cache misses under
+/// way at once; a judgement is too long for that, and finds the blocks' entries near.
+fn count_ahead(arena: &Arena, chunk: &[Slot]) -> [usize; CHUNK]
+    requires { length chunk.now ≤ 64 }
+    ensures { (i slot : ℕ) → slice_get chunk.now i ≡ Some slot
+        → slice_index_or result i 0
+        ≡ option_map_or (λ b. length b.replicas) (block_at arena.now slot) 0 }
+{
+    let mut counts = [0; CHUNK];
+    for (place, slot) in chunk.iter().enumerate() {
+        counts[place] = arena.triplet_count(*slot);
+    }
+    counts
+}
+
 /// Judges the blocks at the slots of a chunk.
 fn judge_ahead(arena: &Arena, chunk: &[Slot], around: &Around<'_>) -> [Judged; CHUNK]
     requires { length chunk.now ≤ 64 }
     ensures { AreJudgedAsAround around.now arena.now chunk.now result }
 {
+    let counts = count_ahead(arena, chunk);
     let mut judged = [NOT_JUDGED; CHUNK];
     for (place, slot) in chunk.iter().enumerate() {
-        judged[place] = judge(arena, *slot, around);
+        judged[place] = judge(arena, *slot, counts[place], around);
     }
     judged
 }

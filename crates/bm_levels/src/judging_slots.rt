@@ -19,7 +19,7 @@ impl KeptLevels {
         ensures ahead { KeepsAhead slot self.old.unsettled.slots self.new.unsettled.slots }
         ensures room { KeepsRoom self.old self.new }
     {
-        self.keep(slot, judge(arena, slot, around));
+        self.keep(slot, judge(arena, slot, arena.triplet_count(slot), around));
     }
 
     /// Judges the block at a slot anew, of which it is known what was kept. To look at that before the block changes lets reads of
@@ -31,7 +31,7 @@ impl KeptLevels {
         ensures others { (other : ℕ) → other ≢ slot → IsSameAt self.old self.new other }
         ensures room { KeepsRoom self.old self.new }
     {
-        let judged = judge(arena, slot, around);
+        let judged = judge(arena, slot, arena.triplet_count(slot), around);
         if are_alike(judged, was) {
             return;
         }

@@ -1,5 +1,5 @@
 // The line that is being read.
-ghost use Rattle.std.specs.Prelude.{◌≡◌, ◌++◌, ◌<◌, ◌≤◌, [], List, ℕ, length, OnOk, OnErr, IsTrue, ◌↔◌, IfSome, IfNone, take, drop, ◌∷◌, ◌+◌, false, not};
+ghost use Rattle.std.specs.Prelude.{◌≡◌, ◌++◌, ◌<◌, ◌≤◌, [], List, ℕ, length, vec_len, vec_capacity, OnOk, OnErr, IsOk, IsTrue, ◌↔◌, IfSome, IfNone, take, drop, ◌∷◌, ◌+◌, false, not};
 ghost use Rattle.bm_lines.specs.Lines.{IsPart, line_end};
 ghost use Rattle.bm_lines.specs.declared.limits.TheConstants.{MAX_LINE};
 
@@ -29,12 +29,15 @@ impl Line {
         }
     }
 
-    /// Adds bytes that have no line end. Memory is wanted only for a line that may be read.
+    /// Adds bytes that have no line end. It takes memory only for a line that may be read, and only
+    /// where the buffer is full.
     pub fn add(&mut self, part: &[u8]) -> Result<(), AllocError>
         ensures holds { OnOk result ((rest : List ℕ) → Holds self.old rest
             → Holds self.new (rest ++ part.now)) }
         ensures not_long { OnErr result (self.old.is_long ≡ false) }
         ensures fits { OnErr result (length self.old.bytes.items + length part.now ≤ MAX_LINE) }
+        ensures there { vec_len self.old.bytes + length part.now ≤ vec_capacity self.old.bytes
+            → IsOk result }
     {
         if self.is_long || part.len() > MAX_LINE.saturating_sub(self.bytes.len()) {
             self.is_long = true;

@@ -13,5 +13,5 @@ mod rows;
 pub use blocks::{blocks_on, missing_blocks};
 pub use held_back::is_held_back;
 pub use one_block::{is_still_stored, knows_block, places};
-pub use replicas::{all_replicas, corrupt_replicas, excess_replicas};
+pub use replicas::{Wanted, list_replicas, replica_key, replica_keys};
 pub use rows::table_rows;

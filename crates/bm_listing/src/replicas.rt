@@ -3,22 +3,20 @@ ghost use Rattle.std.specs.Prelude.{◌≡◌, ◌++◌, ℕ, IsSome, IfOk, IfEr
 ghost use Rattle.bm_base.specs.declared.refusal.Refusal.TheVariants.{Memory};
 ghost use Rattle.bm_base.specs.Map.{Map};
 ghost use Rattle.bm_base.specs.State.{by_replica};
-ghost use Rattle.bm_base.specs.Queries as queries;
 ghost use Rattle.bm_arena.specs.Contents.{block_at};
-ghost use Rattle.bm_arena.specs.Holding.{replicas_of};
 ghost use Rattle.bm_parts.specs.QueryLaws.{replica_key};
 ghost use Rattle.bm_levels.specs.Kept.{slots_led};
 ghost use Rattle.bm_levels.specs.Held.{holdings_with};
 ghost use Rattle.bm_listing.specs.Listed.{wants, listed_at, listed_on, replicas_passing};
 
 use bm_arena::{Arena, Slot};
-use bm_base::{Items, Marks, Refusal, Replica, ReplicaId};
+use bm_base::{Marks, Refusal, Replica, ReplicaId};
 use bm_levels::LeveledBlocks;
-use std::alloc::Global;
+use std::alloc::{AllocError, Global};
 
 /// Which replicas are listed.
-#[derive(Clone, Copy)]
-pub(crate) enum Wanted {
+#[derive(Clone, Copy, Debug)]
+pub enum Wanted {
     All,
     /// The stale and the bad ones.
     Corrupt,
@@ -79,7 +77,8 @@ fn gather(alloc: Global, arena: &Arena, wanted: Wanted) -> Result<Vec<Replica>, 
     Ok(all)
 }
 
-fn key(replica: &Replica) -> ReplicaId
+/// The block and the storage of a replica.
+pub fn replica_key(replica: &Replica) -> ReplicaId
     ensures { result ≡ replica_key replica.now }
 {
     ReplicaId {
@@ -88,58 +87,32 @@ fn key(replica: &Replica) -> ReplicaId
     }
 }
 
-/// The replicas that are wanted, by block and storage.
-fn list(alloc: Global, arena: &Arena, wanted: Wanted) -> Result<Vec<Replica>, Refusal>
-    ensures items { IfOk result
-        (λ v. v.items ≡ replicas_passing (wants wanted) (replicas_of arena.now)) }
+/// The blocks and storages of these replicas.
+pub fn replica_keys(alloc: Global, replicas: &[Replica]) -> Result<Vec<ReplicaId>, AllocError>
+    ensures { IfOk result (λ v. v.items ≡ map replica_key replicas.now) }
+{
+    let mut keys = Vec::with_capacity(alloc, replicas.len())?;
+    for replica in replicas {
+        keys.push(replica_key(replica))?;
+    }
+    Ok(keys)
+}
+
+/// The replicas that are wanted, by block and storage. May answer `Memory`.
+#[tactic(auto, unfolding(bm_levels::specs::Held::holdings_with))]
+pub fn list_replicas(
+    alloc: Global,
+    blocks: &LeveledBlocks,
+    wanted: Wanted,
+) -> Result<Vec<Replica>, Refusal>
+    ensures items { (pending : Map by_replica ℕ) → IfOk result
+        (λ v. v.items
+        ≡ replicas_passing (wants wanted) (holdings_with blocks.now.arena pending).replicas) }
     ensures refused { IfErr result (λ e. e ≡ Memory) }
 {
+    let arena = blocks.arena();
     arena.lawful();
     let mut all = gather(alloc, arena, wanted)?;
-    all.sort_by_key(|replica| key(replica))?;
+    all.sort_by_key(|replica| replica_key(replica))?;
     Ok(all)
-}
-
-/// Which replicas are wanted, by block and storage.
-fn list_ids(alloc: Global, arena: &Arena, wanted: Wanted) -> Result<Vec<ReplicaId>, Refusal>
-    ensures items { IfOk result
-        (λ v. v.items ≡ map replica_key (replicas_passing (wants wanted) (replicas_of arena.now))) }
-    ensures refused { IfErr result (λ e. e ≡ Memory) }
-{
-    let all = list(alloc, arena, wanted)?;
-    let mut ids = Vec::new(alloc);
-    for replica in &all {
-        ids.push(key(replica))?;
-    }
-    Ok(ids)
-}
-
-/// All replicas with their tags, by block and storage. May answer `Memory`.
-#[tactic(auto, unfolding(bm_base::specs::Queries::all_replicas, bm_levels::specs::Held::holdings_with))]
-pub fn all_replicas(alloc: Global, blocks: &LeveledBlocks) -> Result<Items<Replica>, Refusal>
-    ensures all { (pending : Map by_replica ℕ)
-        → IfOk result (λ v. v ≡ queries.all_replicas (holdings_with blocks.now.arena pending)) }
-    ensures refused { IfErr result (λ e. e ≡ Memory) }
-{
-    Ok(Items::from_vec(list(alloc, blocks.arena(), Wanted::All)?))
-}
-
-/// The stale and bad replicas, by block and storage. May answer `Memory`.
-#[tactic(auto, unfolding(bm_base::specs::Queries::replicas_where, bm_levels::specs::Held::holdings_with))]
-pub fn corrupt_replicas(alloc: Global, blocks: &LeveledBlocks) -> Result<Items<ReplicaId>, Refusal>
-    ensures corrupt { (pending : Map by_replica ℕ)
-        → IfOk result (λ v. v ≡ queries.corrupt_replicas (holdings_with blocks.now.arena pending)) }
-    ensures refused { IfErr result (λ e. e ≡ Memory) }
-{
-    Ok(Items::from_vec(list_ids(alloc, blocks.arena(), Wanted::Corrupt)?))
-}
-
-/// The replicas in excess, by block and storage. May answer `Memory`.
-#[tactic(auto, unfolding(bm_base::specs::Queries::replicas_where, bm_levels::specs::Held::holdings_with))]
-pub fn excess_replicas(alloc: Global, blocks: &LeveledBlocks) -> Result<Items<ReplicaId>, Refusal>
-    ensures excess { (pending : Map by_replica ℕ)
-        → IfOk result (λ v. v ≡ queries.excess_replicas (holdings_with blocks.now.arena pending)) }
-    ensures refused { IfErr result (λ e. e ≡ Memory) }
-{
-    Ok(Items::from_vec(list_ids(alloc, blocks.arena(), Wanted::Excess)?))
 }

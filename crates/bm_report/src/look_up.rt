@@ -4,7 +4,6 @@ ghost use Rattle.bm_base.specs.declared.refusal.Refusal.TheVariants.{Memory};
 ghost use Rattle.bm_arena.specs.Contents.{slot_of, HasHead};
 ghost use Rattle.bm_base.specs.Entries.{told_by};
 ghost use Rattle.bm_base.specs.Events.{is_named};
-ghost use Rattle.bm_base.specs.Shards.{shard_of};
 ghost use Rattle.bm_report.specs.Midway.{AreHere, HaveRoom, told_of};
 ghost use Rattle.bm_report.specs.Aborted.{NamesNew};
 ghost use Rattle.bm_report.specs.Expanded.{IsPrepared, of_part, told_to};
@@ -15,6 +14,9 @@ use crate::room_for_replica::make_room;
 use crate::types::Named;
 use bm_arena::{Arena, Slot};
 use bm_base::{BlockId, Entry, Part, Refusal, Stamp, StorageId};
+
+/// The entries of so many numbers of a report are read together.
+const CHUNK: usize = 64;
 
 /// The slot of a number, which has an entry from now on.
 fn slot_for(arena: &mut Arena, id: BlockId) -> Result<Slot, Refusal>
@@ -117,18 +119,63 @@ fn look_up_all(
     ensures refused { IfErr result (λ e. e ≡ Memory) }
 {
     named.clear();
-    for entry in entries {
+    for (place, entry) in entries.iter().enumerate() {
+        read_ahead(arena, entries, place, part, named)?;
         look_up_run(arena, storage, entry, part, named)?;
     }
     Ok(())
 }
 
+/// At the first of each chunk of entries of a report, in the only shard: reads what the arena has of
+/// the chunk's numbers, of a run only the first, and makes room to name those that are known with
+/// the reported stamp. A read is so short that the processor has many cache misses under way at
+/// once; a look-up is too long for that. One of several shards would divide each number once more.
+fn read_ahead(
+    arena: &Arena,
+    entries: &[Entry],
+    place: usize,
+    part: Part,
+    named: &mut Vec<Named>,
+) -> Result<(), Refusal>
+    requires { place < length entries.now }
+    ensures named { named.new.items ≡ named.old.items }
+    ensures refused { IfErr result (λ e. e ≡ Memory) }
+{
+    if part.shards != 1 || place % CHUNK != 0 {
+        return Ok(());
+    }
+    let rest = &entries[place..];
+    let (chunk, _) = rest.split_at(rest.len().min(CHUNK));
+    named.reserve(count_known(arena, chunk))?;
+    Ok(())
+}
+
+/// How many of these entries begin with a block that is known with the reported stamp.
+fn count_known(arena: &Arena, entries: &[Entry]) -> usize {
+    let mut known = 0usize;
+    for entry in entries {
+        if is_known(arena, entry) {
+            known = known.saturating_add(1);
+        }
+    }
+    known
+}
+
+/// Whether an entry begins with a block that is known with the reported stamp. Reads what the arena
+/// has of it from its first cache line to its last.
+fn is_known(arena: &Arena, entry: &Entry) -> bool {
+    let Some(slot) = arena.find(entry.from) else {
+        return false;
+    };
+    match arena.info(slot) {
+        Some(info) => info.stamp == entry.stamp,
+        None => false,
+    }
+}
+
 /// Looks up all numbers of the part that a report of a storage names, and reserves what `apply`
-/// needs beside `changed`. Each number that has an entry is hashed at most once, and a new one
-/// twice. Nothing that is held changes. `Memory`.
-///
-/// Each entry of the arena is read once. The steps of one number do not wait for those of another,
-/// so the processor overlaps their cache misses.
+/// needs beside `changed`. A number that has an entry is hashed at most twice, and a new one three
+/// times. Nothing that is held changes. `Memory`.
 pub(crate) fn look_up(
     arena: &mut Arena,
     storage: StorageId,

@@ -24,7 +24,7 @@ use std::alloc::Global;
 use std::marker::Model;
 
 /// What a shard keeps of a report between `ready` and its end: the slots of the numbers that it names, so that a number that
-/// has an entry is hashed once, and a list of the slots that change, with its room. A contract sees both as lists. Only `ready`
+/// has an entry is hashed at most twice, and a list of the slots that change, with its room. A contract sees both as lists. Only `ready`
 /// takes memory; a shard keeps one `Report` for all its reports, so that its room is taken once.
 #[derive(Drop)]
 pub struct Report {

@@ -83,9 +83,6 @@ none_more a c none keeps b bare = none b (keeps b bare)
 
 -- Changes in place, at the same numbers.
 
-none_some : {X : Type 0} {x : X} → None ≡ Some x → ⊥
-none_some e = cc
-
 -- a changed value is there where it was
 pub none_revised : {K X : Type 0} {o : Order K} (m n : Map o X) (f : K → X → X) → n ≡ revise m f → (q : K) → get n q ≡ None → get m q ≡ None
 none_revised {K} {X} m n f is q none = by (get m q) (sym (get-revise m f q) ∙ ap (λ k. get k q) (sym is) ∙ none)

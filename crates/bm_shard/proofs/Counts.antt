@@ -60,6 +60,3 @@ removed_is_kept m k =
 
 pub gone_by_remove : (m : Map by_replica Marks) (k : ReplicaId) → (new_replicas m (remove m k) ≡ 0) × (new_replicas (remove m k) m ≡ len m - len (remove m k))
 gone_by_remove m k = rw (removed_is_kept m k) (gone_by_keep m (λ q. not (eq_by_cmp by_replica.cmp q k)))
-
-pub len_removed : (m : Map by_replica Marks) (k : ReplicaId) → len (remove m k) ≤ len m
-len_removed m k = rw (removed_is_kept m k) (len-keep-le m (λ q _. not (eq_by_cmp by_replica.cmp q k)))

@@ -20,9 +20,6 @@ pub record KeepsHeld (v w : Leveled) : Type 0 where
   pub replicas : replicas_of w.arena ≡ replicas_of v.arena
   pub levels : (C : Cluster) → AreLevels C v → AreLevels C w
 
-pub keeps_itself : (v : Leveled) → KeepsHeld v v
-keeps_itself v = record { blocks = refl; replicas = refl; levels = λ C h. h }
-
 -- what is seen of these fields
 abbrev pub seen_of : Leveled → Map by_replica ℕ → Part → ℕ → ℕ → Room → Seen
 seen_of v P part round pend room = record { holdings = holdings_with v.arena P; part = part; round = round; pend = pend; levels = levels_of v; room = room }

@@ -8,23 +8,33 @@ ghost use Rattle.bm_base.specs.Versions as versions;
 ghost use Rattle.bm_base.specs.Refusals.{block_refusal};
 ghost use Rattle.bm_base.specs.Answering.{Refuses};
 ghost use Rattle.bm_parts.specs.QueryLaws.{holds_back};
+ghost use Rattle.bm_listing.specs.Listed.{wants, replicas_passing};
 ghost use Rattle.bm_shard.specs.Standing.{StandsIn};
 
 use crate::shard::Shard;
 use bm_base::{BlockId, Items, Level, NodeId, Places, Refusal, Replica, ReplicaId, StorageId};
 use bm_listing::{
-    all_replicas, blocks_on, corrupt_replicas, excess_replicas, is_held_back, knows_block,
-    missing_blocks, places, table_rows,
+    Wanted, blocks_on, is_held_back, knows_block, list_replicas, missing_blocks, places,
+    replica_keys, table_rows,
 };
 use bm_topo::Topology;
 
 impl Shard {
+    /// The replicas that are wanted, by block and storage. `Memory`.
+    pub fn list_replicas(&self, wanted: Wanted) -> Result<Vec<Replica>, Refusal>
+        ensures replicas { IfOk result
+            (λ v. v.items ≡ replicas_passing (wants wanted) self.now.holdings.replicas) }
+        ensures refused { IfErr result (λ e. e ≡ Memory) }
+    {
+        list_replicas(self.alloc, &self.blocks, wanted)
+    }
+
     /// All replicas with their tags, by block and storage. `Memory`.
     pub fn replicas(&self) -> Result<Items<Replica>, Refusal>
         ensures replicas { IfOk result (λ v. v ≡ queries.all_replicas self.now.holdings) }
         ensures refused { IfErr result (λ e. e ≡ Memory) }
     {
-        all_replicas(self.alloc, &self.blocks)
+        Ok(Items::from_vec(self.list_replicas(Wanted::All)?))
     }
 
     /// The stale and bad replicas, by block and storage. `Memory`.
@@ -32,7 +42,8 @@ impl Shard {
         ensures corrupt { IfOk result (λ v. v ≡ queries.corrupt_replicas self.now.holdings) }
         ensures refused { IfErr result (λ e. e ≡ Memory) }
     {
-        corrupt_replicas(self.alloc, &self.blocks)
+        let all = self.list_replicas(Wanted::Corrupt)?;
+        Ok(Items::from_vec(replica_keys(self.alloc, all.as_slice())?))
     }
 
     /// The replicas in excess, by block and storage. `Memory`.
@@ -40,7 +51,8 @@ impl Shard {
         ensures excess { IfOk result (λ v. v ≡ queries.excess_replicas self.now.holdings) }
         ensures refused { IfErr result (λ e. e ≡ Memory) }
     {
-        excess_replicas(self.alloc, &self.blocks)
+        let all = self.list_replicas(Wanted::Excess)?;
+        Ok(Items::from_vec(replica_keys(self.alloc, all.as_slice())?))
     }
 
     /// The known blocks of which no replica is usable, rising. `Memory`.

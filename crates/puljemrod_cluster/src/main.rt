@@ -1,5 +1,5 @@
 //! Clusters, by the first word: `import` writes what `hdfs fsck` says of one as lines of the line tool, `report` says how the cluster
-//! of such lines stands, `simulate` shows how a made-up one mends.
+//! of such lines stands, `what-if` what is lost with a part of it, `simulate` shows how a made-up one mends.
 //!
 //! ```text
 //! puljemrod_cluster report < cluster.jsonl
@@ -9,6 +9,7 @@
 //! The stored run is a report, which `crates/cluster_report` explains.
 #![tactic(auto)]
 
+use cluster_losses::losses_by_words;
 use cluster_pages::report_by_words;
 use cluster_simulation::simulate_by_words;
 use fsck_import::import_by_words;
@@ -64,8 +65,11 @@ fn status_by_words<
         Some("import") => import_by_words(rt, notes, words),
         Some("report") => report_by_words(rt, notes, words),
         Some("simulate") => simulate_by_words(rt, words),
+        Some("what-if") => losses_by_words(rt, notes, words),
         _ => {
-            let _ = rt.eprintln("error: the first word is none of import, report and simulate");
+            let _ = rt.eprintln(
+                "error: the first word is none of import, report, simulate and what-if",
+            );
             MISUSED
         }
     }

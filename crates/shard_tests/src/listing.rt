@@ -3,9 +3,7 @@
 use crate::support::STAMP;
 use bm_base::{BlockId, BlockInfo, HashSecret, Items, Places, Refusal, StorageId};
 use bm_levels::LeveledBlocks;
-use bm_listing::{
-    all_replicas, blocks_on, corrupt_replicas, excess_replicas, missing_blocks, places, table_rows,
-};
+use bm_listing::{Wanted, blocks_on, list_replicas, missing_blocks, places, table_rows};
 use bm_topo::Topology;
 use std::alloc::Global;
 use std::process::Abort;
@@ -34,11 +32,23 @@ fn is_empty<T: Drop>(listed: Result<Items<T>, Refusal>) -> bool {
     }
 }
 
+/// Whether there are no replicas that are wanted.
+fn has_none(alloc: Global, blocks: &LeveledBlocks, wanted: Wanted) -> bool {
+    match list_replicas(alloc, blocks, wanted) {
+        Ok(replicas) => {
+            let is_empty = replicas.is_empty();
+            drop(replicas);
+            is_empty
+        }
+        Err(_) => false,
+    }
+}
+
 /// Whether no replica is listed.
 fn are_empty(alloc: Global, blocks: &LeveledBlocks) -> bool {
-    is_empty(all_replicas(alloc, blocks))
-        && is_empty(corrupt_replicas(alloc, blocks))
-        && is_empty(excess_replicas(alloc, blocks))
+    has_none(alloc, blocks, Wanted::All)
+        && has_none(alloc, blocks, Wanted::Corrupt)
+        && has_none(alloc, blocks, Wanted::Excess)
         && is_empty(blocks_on(alloc, blocks, StorageId(11)))
         && is_empty(places(alloc, blocks, BlockId(7)))
 }

@@ -1,26 +1,24 @@
-use Rattle.std.proofs.Common.{◌+◌, drop, sym, ◌∙◌, arith}
+use Rattle.std.proofs.Common.{◌+◌, ◌∷◌, map, drop, sym, ap, ◌∙◌, arith}
 use Rattle.bm_base.specs.Replicas.{is_live_on}
-use Rattle.bm_arena.specs.Contents.{block_at}
-use Rattle.bm_arena.specs.Holding.{replicas_at}
-use Rattle.bm_levels.proofs.Slots.{next_at, none_at}
+use Rattle.bm_arena.specs.Triplets.{seen_triplet}
+use Rattle.bm_levels.proofs.Slots.{next_triplet}
 use Rattle.bm_finding.proofs.Counting.{counted_more, counted_same}
 use Rattle.bm_finding.proofs.enough_pending.live_count.Goals as goal
-use Rattle.bm_finding.proofs.enough_pending.live_count.Goals.{in-Some+then-is_live_on, in-Some+else-is_live_on, in_default}
+use Rattle.bm_finding.proofs.enough_pending.live_count.Goals.{then-is_live_on, else-is_live_on}
 
-pub loop-place-preserved : goal.loop-place-preserved
-loop-place-preserved c =
-    let o = block_at c.args.arena.now c.args.slot in
+pub loop-triplet-preserved : goal.loop-triplet-preserved
+loop-triplet-preserved c =
     let p = is_live_on c.args.topology.now.cluster in
-    let rs = drop c.loop-place.place (replicas_at c.args.arena.now c.args.slot) in
-    let rest = drop (c.loop-place.place + 1) (replicas_at c.args.arena.now c.args.slot) in
-    elim c.match-triplet_at.branch [
-      | in-Some+then-is_live_on w ↦
-          let here = next_at o c.loop-place.place _ (sym w.in-Some.ensures) in
-          let more = counted_more p rs rest _ here (sym w.is_live_on.ensures ∙ w.if-is_live_on.true) in
-          record { rest = omega (arith, more, w.count-is, c.loop-place.invariant.rest); few = omega (arith, w.count-is, c.loop-place.invariant.few) }
-      | in-Some+else-is_live_on w ↦
-          let here = next_at o c.loop-place.place _ (sym w.in-Some.ensures) in
-          let same = counted_same p rs rest _ here (sym w.is_live_on.ensures ∙ w.if-is_live_on.false) in
-          record { rest = omega (arith, same, w.count-is, c.loop-place.invariant.rest); few = omega (arith, w.count-is, c.loop-place.invariant.few) }
-      | in_default w ↦ absurd (none_at o c.loop-place.place (sym w.in_default.ensures) (omega (arith, c.loop-place-test.true, c.triplet_count-place-end.ensures)))
+    let rs = drop c.loop-triplet.triplet-index (map seen_triplet c.args.triplets.now) in
+    let rest = drop (c.loop-triplet.triplet-index + 1) (map seen_triplet c.args.triplets.now) in
+    let r = c.replica-storage.result in
+    let next = next_triplet c.args.triplets.now c.loop-triplet.triplet-index c.triplet-item.result c.loop-triplet-test.true c.triplet-item.is in
+    let here = next ∙ ap (λ x. x ∷ rest) (sym c.replica-storage.ensures) in
+    elim c.if-is_live_on.branch [
+      | then-is_live_on w ↦
+          let more = counted_more p rs rest r here (sym c.is_live_on.ensures ∙ w.if-is_live_on.true) in
+          record { rest = omega (arith, more, w.count-is, c.loop-triplet.invariant.rest); few = omega (arith, w.count-is, c.loop-triplet.invariant.few) }
+      | else-is_live_on w ↦
+          let same = counted_same p rs rest r here (sym c.is_live_on.ensures ∙ w.if-is_live_on.false) in
+          record { rest = omega (arith, same, w.count-is, c.loop-triplet.invariant.rest); few = omega (arith, w.count-is, c.loop-triplet.invariant.few) }
     ]

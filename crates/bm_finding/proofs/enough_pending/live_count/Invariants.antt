@@ -1,13 +1,13 @@
-use Rattle.std.proofs.Common.{◌≡◌, ◌≤◌, ◌+◌, length, drop}
+use Rattle.std.proofs.Common.{◌≡◌, ◌≤◌, ◌+◌, length, map, drop}
 use Rattle.bm_base.specs.Replicas.{is_live_on}
-use Rattle.bm_arena.specs.Holding.{replicas_at}
+use Rattle.bm_arena.specs.Triplets.{seen_triplet}
 use Rattle.bm_levels.specs.Judged.{storages_at}
 use Rattle.bm_finding.proofs.enough_pending.live_count.Given as goal
 
 -- those that were counted and those that are left are all, and no more were counted than have gone
-pub record CountsOn (l : goal.Live-loop-place) : Type 0 where
-  pub rest : l.count + length (storages_at (is_live_on l.topology.cluster) (drop l.place (replicas_at l.arena l.slot))) ≡ length (storages_at (is_live_on l.topology.cluster) (replicas_at l.arena l.slot))
-  pub few : l.count ≤ l.place
+pub record CountsOn (l : goal.Live-loop-triplet) : Type 0 where
+  pub rest : l.count + length (storages_at (is_live_on l.topology.cluster) (drop l.triplet-index (map seen_triplet l.triplets))) ≡ length (storages_at (is_live_on l.topology.cluster) (map seen_triplet l.triplets))
+  pub few : l.count ≤ l.triplet-index
 
-abbrev pub invariant-loop-place : goal.invariant-loop-place
-invariant-loop-place l = CountsOn l
+abbrev pub invariant-loop-triplet : goal.invariant-loop-triplet
+invariant-loop-triplet l = CountsOn l

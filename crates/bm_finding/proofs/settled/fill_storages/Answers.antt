@@ -1,22 +1,21 @@
-use Rattle.std.proofs.Common.{true, ◌++◌, ◌+◌, drop, ap, sym, ◌∙◌, arith}
-use Rattle.std.proofs.lemmas.List.{append_assoc}
-use Rattle.bm_arena.specs.Holding.{replicas_at}
-use Rattle.bm_arena.specs.Contents.{block_at}
+use Rattle.std.proofs.Common.{true, ◌++◌, ◌+◌, ◌∷◌, [], drop, map, ap, sym, ◌∙◌}
+use Rattle.std.proofs.lemmas.List.{append_assoc, append-nil}
+use Rattle.bm_arena.specs.Triplets.{seen_triplet}
 use Rattle.bm_levels.specs.Judged.{storages_at}
-use Rattle.bm_levels.proofs.Slots.{next_at, none_at}
+use Rattle.bm_levels.proofs.Slots.{next_triplet, end_triplets}
 use Rattle.bm_finding.proofs.settled.fill_storages.Goals as goal
-use Rattle.bm_finding.proofs.settled.fill_storages.Goals.{in-Some+in_ok-push, in_default}
 
-pub loop-place-preserved : goal.loop-place-preserved
-loop-place-preserved c =
-    let rs = replicas_at c.args.arena.now c.args.slot in
-    let rest = storages_at (λ _ _. true) (drop (c.loop-place.place + 1) rs) in
-    elim c.match-triplet_at.branch [
-      | in-Some+in_ok-push w ↦
-          let here = next_at (block_at c.args.arena.now c.args.slot) c.loop-place.place _ (sym w.in-Some.ensures) in
-          ap (λ xs. xs ++ rest) (ap (λ v. v.items) w.into-is ∙ w.in_ok-push.ensures.items)
-          ∙ append_assoc c.loop-place.into.items _ rest
-          ∙ ap (λ xs. c.loop-place.into.items ++ storages_at (λ _ _. true) xs) (sym here)
-          ∙ c.loop-place.invariant
-      | in_default w ↦ absurd (none_at (block_at c.args.arena.now c.args.slot) c.loop-place.place (sym w.in_default.ensures) (omega (arith, c.loop-place-test.true, c.triplet_count-place-end.ensures)))
-    ]
+pub loop-triplet-preserved : goal.loop-triplet-preserved
+loop-triplet-preserved c =
+    let rs = map seen_triplet c.args.triplets.now in
+    let rest = storages_at (λ _ _. true) (drop (c.loop-triplet.triplet-index + 1) rs) in
+    let here = next_triplet c.args.triplets.now c.loop-triplet.triplet-index c.triplet-item.result c.loop-triplet-test.true c.triplet-item.is in
+    ap (λ xs. xs ++ rest) (c.in_ok-push.ensures.items ∙ ap (λ (r : _). c.loop-triplet.into.items ++ r.0 ∷ []) c.replica-storage.ensures)
+    ∙ append_assoc c.loop-triplet.into.items _ rest
+    ∙ ap (λ xs. c.loop-triplet.into.items ++ storages_at (λ _ _. true) xs) (sym here)
+    ∙ c.loop-triplet.invariant
+
+pub returns : goal.returns
+returns c =
+    let past = end_triplets c.args.triplets.now c.loop-triplet.triplet-index c.loop-triplet-test.false in
+    sym (append-nil c.loop-triplet.into.items) ∙ ap (λ xs. c.loop-triplet.into.items ++ storages_at (λ _ _. true) xs) (sym past) ∙ c.loop-triplet.invariant

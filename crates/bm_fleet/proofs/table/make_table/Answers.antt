@@ -1,11 +1,12 @@
-use Rattle.std.specs.Prelude.{◌≡◌, IfOk}
-use Rattle.std.proofs.Common.{subst}
-use Rattle.bm_fleet.proofs.RowPlaces.{tables_sorted, tables_joined}
+use Rattle.std.proofs.Common.{List, rules, subst}
+use Rattle.std.specs.List.Sorted.{IsPermutation}
+use Rattle.std.proofs.lemmas.List.Sorted.{answers_always}
+use Rattle.bm_base.specs.Versions.{Row}
+use Rattle.bm_fleet.proofs.Asked.{sorted_rows}
 use Rattle.bm_fleet.proofs.table.make_table.Goals as goal
-
-pub joined_rows-requires : goal.joined_rows-requires
-joined_rows-requires g c = tables_sorted c.args.shards.now.items _ c.in_ok-tables.ensures.tables
 
 pub returns-clause-table : goal.returns-clause-table
 returns-clause-table g c =
-    subst (λ t. IfOk c.joined_rows.result (λ v. v.items ≡ t)) (tables_joined c.args.shards.now.items _ c.in_ok-tables.ensures.tables c.requires.shards) c.joined_rows.ensures.joined
+    let P : List Row → Type 0 = λ xs. IsPermutation xs c.sort_by_key.new.self.items in
+    sorted_rows c.args.shards.now.items c.requires.shards _ c.sort_by_key.new.self.items c.in_ok-tables.ensures.tables (subst P c.in_ok-rows.ensures c.sort_by_key.ensures.permutation)
+    (c.in_ok-sort_by_key.ensures.sorted (λ (r : Row). r.0) (answers_always _ _ _ (λ f a r g h. search rules)))

@@ -1,4 +1,4 @@
-use Rattle.std.proofs.Common.{◌≡◌, ◌&&◌, Bool, Some, true, false, length, refl, sym, ap, ◌∙◌}
+use Rattle.std.proofs.Common.{◌≡◌, ◌&&◌, Bool, Some, true, false, refl, sym, ap, ◌∙◌}
 use Rattle.std.specs.Prelude.{nat_le}
 use Rattle.bm_base.specs.Levels.{level_of}
 use Rattle.bm_arena.specs.Contents.{block_at}
@@ -27,8 +27,8 @@ returns-then-count-clause-level c =
 
 pub returns-then-count-clause-settled : goal.returns-then-count-clause-settled
 returns-then-count-clause-settled c =
-    ap (λ b. b && nat_le (length c.in-Some.triplets.now) c.in-Some-info.info.repl) (sym c.if-count.true)
-    ∙ settled_judged (rack_around c.args.around.now) (drains_around c.args.around.now) (block_at c.args.arena.now c.args.slot) c.in-Some.triplets.now c.in-Some-info.info c.count-count.result (ap Some (sym c.in-Some-info.is) ∙ c.in-Some.ensures.info) c.in-Some.ensures.replicas
+    ap (λ b. b && nat_le c.args.replicas c.in-Some-info.info.repl) (sym c.if-count.true)
+    ∙ settled_judged (rack_around c.args.around.now) (drains_around c.args.around.now) (block_at c.args.arena.now c.args.slot) c.in-Some.triplets.now c.args.replicas c.in-Some-info.info c.count-count.result (ap Some (sym c.in-Some-info.is) ∙ c.in-Some.ensures.info) c.in-Some.ensures.replicas c.requires
     c.count-count.ensures
 
 pub returns-else-count-clause-level : goal.returns-else-count-clause-level
@@ -39,8 +39,8 @@ returns-else-count-clause-level c =
 
 pub returns-else-count-clause-settled : goal.returns-else-count-clause-settled
 returns-else-count-clause-settled c =
-    never _ (nat_le (length c.in-Some.triplets.now) c.in-Some-info.info.repl) c.if-count.false
-    ∙ settled_judged (rack_around c.args.around.now) (drains_around c.args.around.now) (block_at c.args.arena.now c.args.slot) c.in-Some.triplets.now c.in-Some-info.info c.count-count.result (ap Some (sym c.in-Some-info.is) ∙ c.in-Some.ensures.info) c.in-Some.ensures.replicas
+    never _ (nat_le c.args.replicas c.in-Some-info.info.repl) c.if-count.false
+    ∙ settled_judged (rack_around c.args.around.now) (drains_around c.args.around.now) (block_at c.args.arena.now c.args.slot) c.in-Some.triplets.now c.args.replicas c.in-Some-info.info c.count-count.result (ap Some (sym c.in-Some-info.is) ∙ c.in-Some.ensures.info) c.in-Some.ensures.replicas c.requires
     c.count-count.ensures
   where
     never : (a b : Bool) → a ≡ false → a ≡ (a && b)

@@ -1,4 +1,6 @@
-use Rattle.std.proofs.Common.{[], map, length, refl, sym, subst, ◌∙◌}
+use Rattle.std.proofs.Common.{[], ◌++◌, List, map, length, refl, sym, subst, ap, ◌∙◌}
+use Rattle.bm_report.specs.declared.types.Named.{Named}
+use Rattle.bm_report.specs.Aborted.{NamesNew}
 use Rattle.std.proofs.lemmas.Option.{slice_get_read}
 use Rattle.bm_arena.specs.Contents.{Contents}
 use Rattle.bm_base.specs.Entries.{told_by}
@@ -11,35 +13,36 @@ use Rattle.bm_report.proofs.Running.{told_on, told_end}
 use Rattle.bm_report.proofs.Naming.{named_apart, not_named, entry_named, rest_named}
 use Rattle.bm_report.proofs.look_up.look_up_all.Goals as goal
 
-pub loop-entry-preserved : goal.loop-entry-preserved
-loop-entry-preserved c =
-    let at = slice_get_read c.args.entries.now (length c.args.entries.now) c.loop-entry.entry-index c.entry-item.result refl c.loop-entry-test.true c.entry-item.is in record {
-      fresh = naming-chain c.args.arena.now c.loop-entry.arena c.look_up_run.new.arena [] c.loop-entry.named.items c.look_up_run.new.named.items c.loop-entry.invariant.fresh c.look_up_run.ensures.fresh;
-      kept = prepared-chain c.args.arena.now c.loop-entry.arena c.look_up_run.new.arena c.loop-entry.invariant.kept c.look_up_run.ensures.kept;
+pub loop-place-preserved : goal.loop-place-preserved
+loop-place-preserved c =
+    let at = slice_get_read c.args.entries.now (length c.args.entries.now) c.loop-place.place c.index-entries-place.result refl c.loop-place-test.true c.index-entries-place.is in record {
+      fresh = naming-chain c.args.arena.now c.loop-place.arena c.look_up_run.new.arena [] c.loop-place.named.items c.look_up_run.new.named.items c.loop-place.invariant.fresh
+          (subst (λ (l : List Named). NamesNew c.loop-place.arena c.look_up_run.new.arena l c.look_up_run.new.named.items) c.read_ahead.ensures.named c.look_up_run.ensures.fresh);
+      kept = prepared-chain c.args.arena.now c.loop-place.arena c.look_up_run.new.arena c.loop-place.invariant.kept c.look_up_run.ensures.kept;
       here = c.in_ok-look_up_run.ensures.here;
       room = c.in_ok-look_up_run.ensures.room;
       others = λ b out.
-          c.look_up_run.ensures.others b (not_named _ (λ in_it. named_apart _ b out (c.loop-entry.invariant.rest b (entry_named c.args.part c.args.entries.now c.loop-entry.entry-index c.entry-item.result b at in_it)))) ∙ c.loop-entry.invariant.others b out;
-      rest = λ b in_it. c.loop-entry.invariant.rest b (rest_named c.args.part c.args.entries.now c.loop-entry.entry-index c.entry-item.result b at in_it);
+          c.look_up_run.ensures.others b (not_named _ (λ in_it. named_apart _ b out (c.loop-place.invariant.rest b (entry_named c.args.part c.args.entries.now c.loop-place.place c.index-entries-place.result b at in_it)))) ∙ c.loop-place.invariant.others b out;
+      rest = λ b in_it. c.loop-place.invariant.rest b (rest_named c.args.part c.args.entries.now c.loop-place.place c.index-entries-place.result b at in_it);
       there = λ h.
-          let same = c.loop-entry.invariant.there h in
-          c.look_up_run.ensures.there (subst (λ (a : Contents). HaveReplicas a c.args.storage (of_part c.args.part (told_by c.entry-item.result))) (sym same) (λ b in_it. h b (c.loop-entry.invariant.rest b (entry_named c.args.part c.args.entries.now c.loop-entry.entry-index c.entry-item.result b at in_it)))) ∙ same;
+          let same = c.loop-place.invariant.there h in
+          c.look_up_run.ensures.there (subst (λ (a : Contents). HaveReplicas a c.args.storage (of_part c.args.part (told_by c.index-entries-place.result))) (sym same) (λ b in_it. h b (c.loop-place.invariant.rest b (entry_named c.args.part c.args.entries.now c.loop-place.place c.index-entries-place.result b at in_it)))) ∙ same;
       named =
-          told_on c.args.part c.args.entries.now c.loop-entry.entry-index c.entry-item.result (map told_of c.loop-entry.named.items) (map told_of c.look_up_run.new.named.items) _ at c.loop-entry.invariant.named
-          c.in_ok-look_up_run.ensures.named;
+          told_on c.args.part c.args.entries.now c.loop-place.place c.index-entries-place.result (map told_of c.loop-place.named.items) (map told_of c.look_up_run.new.named.items) _ at c.loop-place.invariant.named
+          (c.in_ok-look_up_run.ensures.named ∙ ap (λ l. map told_of l ++ of_part c.args.part (told_by c.index-entries-place.result)) c.read_ahead.ensures.named);
     }
 
 pub returns-clause-named : goal.returns-clause-named
 returns-clause-named c =
-    told_end c.args.part c.args.entries.now c.loop-entry.entry-index (map told_of c.loop-entry.named.items) _ c.loop-entry-test.false c.loop-entry.invariant.named
+    told_end c.args.part c.args.entries.now c.loop-place.place (map told_of c.loop-place.named.items) _ c.loop-place-test.false c.loop-place.invariant.named
 
 pub returns-in_err-look_up_run-clause-others : goal.returns-in_err-look_up_run-clause-others
 returns-in_err-look_up_run-clause-others c b out =
-    let at = slice_get_read c.args.entries.now (length c.args.entries.now) c.loop-entry.entry-index c.entry-item.result refl c.loop-entry-test.true c.entry-item.is in
-    c.look_up_run.ensures.others b (not_named _ (λ in_it. named_apart _ b out (c.loop-entry.invariant.rest b (entry_named c.args.part c.args.entries.now c.loop-entry.entry-index c.entry-item.result b at in_it)))) ∙ c.loop-entry.invariant.others b out
+    let at = slice_get_read c.args.entries.now (length c.args.entries.now) c.loop-place.place c.index-entries-place.result refl c.loop-place-test.true c.index-entries-place.is in
+    c.look_up_run.ensures.others b (not_named _ (λ in_it. named_apart _ b out (c.loop-place.invariant.rest b (entry_named c.args.part c.args.entries.now c.loop-place.place c.index-entries-place.result b at in_it)))) ∙ c.loop-place.invariant.others b out
 
 pub returns-in_err-look_up_run-clause-there : goal.returns-in_err-look_up_run-clause-there
 returns-in_err-look_up_run-clause-there c h =
-    let at = slice_get_read c.args.entries.now (length c.args.entries.now) c.loop-entry.entry-index c.entry-item.result refl c.loop-entry-test.true c.entry-item.is in
-    let same = c.loop-entry.invariant.there h in
-    c.look_up_run.ensures.there (subst (λ (a : Contents). HaveReplicas a c.args.storage (of_part c.args.part (told_by c.entry-item.result))) (sym same) (λ b in_it. h b (c.loop-entry.invariant.rest b (entry_named c.args.part c.args.entries.now c.loop-entry.entry-index c.entry-item.result b at in_it)))) ∙ same
+    let at = slice_get_read c.args.entries.now (length c.args.entries.now) c.loop-place.place c.index-entries-place.result refl c.loop-place-test.true c.index-entries-place.is in
+    let same = c.loop-place.invariant.there h in
+    c.look_up_run.ensures.there (subst (λ (a : Contents). HaveReplicas a c.args.storage (of_part c.args.part (told_by c.index-entries-place.result))) (sym same) (λ b in_it. h b (c.loop-place.invariant.rest b (entry_named c.args.part c.args.entries.now c.loop-place.place c.index-entries-place.result b at in_it)))) ∙ same

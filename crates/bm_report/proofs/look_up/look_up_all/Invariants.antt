@@ -8,15 +8,15 @@ use Rattle.bm_report.specs.Expanded.{IsPrepared, of_part, told_to}
 use Rattle.bm_base.specs.Entries.{expanded}
 use Rattle.bm_report.proofs.look_up.look_up_all.Given as goal
 
-abbrev pub invariant-loop-entry : goal.invariant-loop-entry
-invariant-loop-entry l =
+abbrev pub invariant-loop-place : goal.invariant-loop-place
+invariant-loop-place l =
     record {
       fresh : NamesNew l.initial.arena l.arena [] l.named.items;
       kept : IsPrepared l.initial.arena l.arena;
       here : AreHere l.arena l.named.items;
       room : HaveRoom l.arena l.storage l.named.items;
       others : (b : ℕ) → is_named (told_to l.part l.entries) b ≡ false → slot_of l.arena b ≡ slot_of l.initial.arena b;
-      rest : (b : ℕ) → is_named (of_part l.part (expanded (drop l.entry-index l.entries))) b ≡ true → is_named (told_to l.part l.entries) b ≡ true;
+      rest : (b : ℕ) → is_named (of_part l.part (expanded (drop l.place l.entries))) b ≡ true → is_named (told_to l.part l.entries) b ≡ true;
       there : HaveReplicas l.initial.arena l.storage (told_to l.part l.entries) → l.arena ≡ l.initial.arena;
-      named : map told_of l.named.items ++ of_part l.part (expanded (drop l.entry-index l.entries)) ≡ told_to l.part l.entries;
+      named : map told_of l.named.items ++ of_part l.part (expanded (drop l.place l.entries)) ≡ told_to l.part l.entries;
     }

@@ -1,4 +1,4 @@
-use Rattle.std.proofs.Common.{◌≡◌, ◌++◌, ◌∷◌, [], ℕ, List, false, nat_le, length, refl, Bool, true, ap, sym, subst, ◌∙◌}
+use Rattle.std.proofs.Common.{◌≡◌, ◌++◌, ◌∷◌, [], ℕ, List, false, not, nat_le, length, refl, Bool, true, ap, sym, subst, ◌∙◌}
 use Rattle.std.specs.Prelude.{OnOk, option_and_then, option_to_list}
 use Rattle.std.specs.Option.{option_map_or}
 use Rattle.std.proofs.lemmas.Bool.{false≢true}
@@ -46,6 +46,10 @@ returns-clause-more c bs has =
       deletes = c.in_ok-push_deletes.ensures;
     }) bs has)
 
+is_not : (b : Bool) → not b ≡ true → false ≡ b
+is_not true e = e
+is_not false e = refl
+
 -- a slot that is not unsettled is settled
 settled_slot : (us : List ℕ) (slot : ℕ) (settled : Bool) → false ≡ has us slot → (settled ≡ false → Among slot us) → settled ≡ true
 settled_slot us slot true none there = refl
@@ -54,10 +58,10 @@ settled_slot us slot false none there = absurd (false≢true (none ∙ among_has
 pub push_settled_wish-requires-clause-settled : goal.push_settled_wish-requires-clause-settled
 push_settled_wish-requires-clause-settled c =
     let s = c.args.self.now in
-    settled_slot s.kept.now.unsettled.slots c.args.slot (is_settled_at (block_at s.arena.now c.args.slot)) (sym c.if-not-is_unsettled.true ∙ c.is_unsettled.ensures) (c.requires.settled c.args.slot).1
+    settled_slot s.kept.now.unsettled.slots c.args.slot (is_settled_at (block_at s.arena.now c.args.slot)) (is_not (has s.kept.now.unsettled.slots c.args.slot) (sym c.is_settled.ensures ∙ c.if-is_settled.true)) (c.requires.settled c.args.slot).1
 
-pub returns-then-not-is_unsettled-clause-more : goal.returns-then-not-is_unsettled-clause-more
-returns-then-not-is_unsettled-clause-more c bs has =
+pub returns-then-is_settled-clause-more : goal.returns-then-is_settled-clause-more
+returns-then-is_settled-clause-more c bs found_so_far =
     let s = c.args.self.now in
     let C = s.topology.now.cluster in
     let a = s.arena.now in
@@ -65,10 +69,10 @@ returns-then-not-is_unsettled-clause-more c bs has =
     let own = c.id_of-id.ensures found.1 found.2 in
     let here = ap (slot_of a) (own ∙ found.3) ∙ c.requires.known.1 in
     let id : c.id_of-id.result ≡ id_at a c.args.slot = own ∙ sym (ap (λ o. option_map_or (λ (b : Block). b.id) o 0) found.2) in
-    let settled = settled_slot s.kept.now.unsettled.slots c.args.slot (is_settled_at (block_at a c.args.slot)) (sym c.if-not-is_unsettled.true ∙ c.is_unsettled.ensures) (c.requires.settled c.args.slot).1 in
+    let settled = settled_slot s.kept.now.unsettled.slots c.args.slot (is_settled_at (block_at a c.args.slot)) (is_not (has s.kept.now.unsettled.slots c.args.slot) (sym c.is_settled.ensures ∙ c.if-is_settled.true)) (c.requires.settled c.args.slot).1 in
     let f = c.args.found.now in
     let g : Found = record { excess = f.excess; wishes = c.push_settled_wish.new.into; deletes = f.deletes } in
     subst (λ b. OnOk c.push_settled_wish.result (HasFound C s.pend s.round (holdings_with a s.pending.now.map) s.bound (bs ++ b ∷ []) g)) id
     (on_ok_weaker c.push_settled_wish.result
-    (λ wishes. settled_more C s.pend s.round a s.pending.now c.lawful.ensures c.id_of-id.result c.args.slot here settled s.bound f g refl refl wishes bs has)
+    (λ wishes. settled_more C s.pend s.round a s.pending.now c.lawful.ensures c.id_of-id.result c.args.slot here settled s.bound f g refl refl wishes bs found_so_far)
     c.push_settled_wish.ensures.wish)

@@ -1,5 +1,5 @@
 use Rattle.bm_fleet.specs.FromShards.{HasAnswered}
-use Rattle.bm_fleet.specs.Listed.{rows_of}
+use Rattle.bm_fleet.specs.Rows.{rows_of}
 use Rattle.bm_fleet.proofs.Told.{all_told}
 use Rattle.bm_fleet.proofs.calling_thread.CallingThreadWorkers.rows_of_all.Goals as goal
 

@@ -1,21 +1,14 @@
-use Rattle.std.specs.Prelude.{◌≡◌, ℕ, map, IfOk}
-use Rattle.std.proofs.Common.{◌∙◌, ap, subst}
-use Rattle.bm_base.specs.Queries.{excess_replicas}
-use Rattle.bm_parts.proofs.JoinedReplicas.{marked_replicas_join}
-use Rattle.bm_shard.specs.Seen.{Seen}
-use Rattle.bm_fleet.specs.Whole.{Whole}
-use Rattle.bm_fleet.specs.Listed.{keyed_id}
-use Rattle.bm_fleet.proofs.Asked.{ids_sorted, ids_joined}
+use Rattle.std.proofs.Common.{◌∙◌, ap, map}
+use Rattle.bm_base.specs.Queries.{replicas_where, excess_replicas}
+use Rattle.bm_parts.specs.QueryLaws.{replica_key}
+use Rattle.bm_listing.specs.declared.replicas.Wanted.TheVariants.{Excess}
+use Rattle.bm_listing.specs.Listed.{wants}
+use Rattle.bm_listing.proofs.Found.{ids_passing}
+use Rattle.bm_fleet.specs.Whole.{Whole, held_by}
 use Rattle.bm_fleet.proofs.fleet.Fleet.excess.Goals as goal
 
-pub join_all-requires : goal.join_all-requires
-join_all-requires c =
-    ids_sorted c.in_ok-lists.lists.items c.as_slice.result.now (λ l. l.items) excess_replicas (marked_replicas_join _)
-    (c.in_ok-lists.ensures.lists)
-
 pub returns-clause-excess : goal.returns-clause-excess
+unfolding replicas_where
 returns-clause-excess c =
-    subst (λ t. IfOk c.join_all.result (λ v. v ≡ t))
-    (ids_joined c.in_ok-lists.lists.items c.self.inside.shards.items (λ l. l.items) excess_replicas (marked_replicas_join _)
-    (c.in_ok-lists.ensures.lists ∙ ap (map (λ (s : ℕ × Seen). map keyed_id (excess_replicas s.1.holdings))) c.as_slice.ensures.value) c.self.invariant
-    ∙ ap (λ (F : Whole). excess_replicas F.holdings) c.self.view_is) c.join_all.ensures.joined
+    c.from_vec.ensures ∙ c.in_ok-replica_keys.ensures ∙ ap (map replica_key) (c.as_slice-2.ensures.value ∙ c.in_ok-all.ensures.replicas) ∙ ids_passing (wants Excess) (held_by c.as_slice.result.now).replicas
+    ∙ ap (λ ss. excess_replicas (held_by ss)) c.as_slice.ensures.value ∙ ap (λ (F : Whole). excess_replicas F.holdings) c.self.view_is

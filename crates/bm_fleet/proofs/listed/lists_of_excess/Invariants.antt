@@ -1,7 +1,0 @@
-use Rattle.std.proofs.Common.{◌≡◌, map, take}
-use Rattle.bm_base.specs.Queries.{excess_replicas}
-use Rattle.bm_fleet.specs.Listed.{keyed_id}
-use Rattle.bm_fleet.proofs.listed.lists_of_excess.Given as goal
-
-abbrev pub invariant-loop-one : goal.invariant-loop-one
-invariant-loop-one l = map (λ list. list.items) l.lists.items ≡ map (λ s. map keyed_id (excess_replicas s.1.holdings)) (take l.one-index l.shards)

@@ -1,7 +1,0 @@
-use Rattle.std.proofs.Common.{◌≡◌, map, take}
-use Rattle.bm_base.specs.Queries.{all_replicas}
-use Rattle.bm_fleet.specs.Listed.{keyed_replica}
-use Rattle.bm_fleet.proofs.listed.lists_of_replicas.Given as goal
-
-abbrev pub invariant-loop-one : goal.invariant-loop-one
-invariant-loop-one l = map (λ list. list.items) l.lists.items ≡ map (λ s. map keyed_replica (all_replicas s.1.holdings)) (take l.one-index l.shards)

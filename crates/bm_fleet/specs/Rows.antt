@@ -1,0 +1,7 @@
+-- The rows of a shard.
+use Rattle.std.specs.Prelude.{List}
+use Rattle.bm_base.specs.Versions.{Row, table}
+use Rattle.bm_shard.specs.Seen.{Seen}
+
+abbrev pub rows_of : Seen → List Row
+rows_of S = table S.holdings

@@ -1,0 +1,12 @@
+use Rattle.std.proofs.Common.{◌∙◌, map, ap}
+use Rattle.bm_base.specs.Queries.{replicas_where}
+use Rattle.bm_parts.specs.QueryLaws.{replica_key}
+use Rattle.bm_listing.specs.declared.replicas.Wanted.TheVariants.{Excess}
+use Rattle.bm_listing.specs.Listed.{wants}
+use Rattle.bm_listing.proofs.Found.{ids_passing}
+use Rattle.bm_shard.proofs.shard.Shard.excess.Goals as goal
+
+pub returns-clause-excess : goal.returns-clause-excess
+unfolding replicas_where
+returns-clause-excess c =
+    c.from_vec.ensures ∙ c.in_ok-replica_keys.ensures ∙ ap (map replica_key) (c.as_slice.ensures.value ∙ c.in_ok-all.ensures.replicas) ∙ ids_passing (wants Excess) c.args.self.now.holdings.replicas

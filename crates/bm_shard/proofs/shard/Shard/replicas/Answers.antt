@@ -1,0 +1,8 @@
+use Rattle.std.proofs.Common.{◌∙◌}
+use Rattle.bm_base.specs.Queries.{all_replicas}
+use Rattle.bm_listing.proofs.Found.{all_passing}
+use Rattle.bm_shard.proofs.shard.Shard.replicas.Goals as goal
+
+pub returns-clause-replicas : goal.returns-clause-replicas
+unfolding all_replicas
+returns-clause-replicas c = c.from_vec.ensures ∙ c.in_ok-list_replicas.ensures.replicas ∙ all_passing c.args.self.now.holdings.replicas

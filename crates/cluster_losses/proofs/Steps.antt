@@ -1,0 +1,62 @@
+-- What a book has after an event that is accepted, and lists of losses.
+use Rattle.std.proofs.Common.{◌≡◌, ℕ, Bool, true, false, not, ◌||◌, Option, Some, None, List, [], ◌∷◌, ◌++◌, refl, sym, ap, subst, ◌∙◌}
+use Rattle.std.specs.List.{fold, list_any}
+use Rattle.std.proofs.lemmas.List.Folds.{list_any-append}
+use Rattle.bm_base.specs.declared.event.Event.{Event}
+use Rattle.bm_base.specs.declared.refusal.Refusal.{Refusal}
+use Rattle.bm_base.specs.State.{Cluster, Holdings, State}
+use Rattle.bm_base.specs.Events.{change_cluster, change_holdings}
+use Rattle.bm_base.specs.Refusals.{◌before◌, first_of, cluster_checks, refusal_of}
+use Rattle.bm_base.specs.Calls.{after_event}
+use Rattle.bm_base.specs.Queries.{missing_blocks}
+use Rattle.bm_base.specs.Lawful.{IsLawful}
+use Rattle.cluster_lost.specs.Losses.{is_loss, are_losses, AreMissing}
+use Rattle.cluster_report.specs.declared.book.Book.{Book}
+use Rattle.cluster_report.specs.Catalogues.{Lists}
+use Rattle.cluster_report.specs.Sessions.{Follows}
+
+first_none : (x y : Option Refusal) → (x before y) ≡ None → x ≡ None
+first_none None y e = refl
+first_none (Some r) y e = cc
+
+pub accepted_by_cluster : (M : State) (C : Cluster) (e : Event) → C ≡ M.cluster → refusal_of M e ≡ None → first_of (cluster_checks C e) ≡ None
+unfolding refusal_of
+accepted_by_cluster M C e same h = ap (λ D. first_of (cluster_checks D e)) same ∙ first_none (first_of (cluster_checks M.cluster e)) _ h
+
+-- the book has the blocks after an event, if it had those before
+abbrev KeepsLists : Book → Book → Event → Type 0
+KeepsLists old new e = (C : Cluster) (H : Holdings) → Lists old.blocks H.blocks → Lists new.blocks (change_holdings C H e).blocks
+
+pub follows_event : (M : State) (old new : Book) (e : Event) → Follows old M → new.topology.cluster ≡ change_cluster old.topology.cluster e
+    → ((H : Holdings) → old.transfers.copies ≡ H.pending → new.transfers.copies ≡ (change_holdings old.topology.cluster H e).pending)
+    → new.transfers.pend ≡ old.transfers.pend → KeepsLists old new e → Follows new (after_event M e)
+unfolding after_event
+follows_event M old new e f cluster copies pend blocks = record {
+  cluster = cluster ∙ ap (λ C. change_cluster C e) f.cluster;
+  copies = copies M.holdings f.copies ∙ ap (λ C. (change_holdings C M.holdings e).pending) f.cluster;
+  pend = pend ∙ f.pend;
+  blocks = blocks M.cluster M.holdings f.blocks;
+}
+
+pub follows_after : (M N : State) (old new : Book) (e : Event) → N ≡ after_event M e → Follows old M → new.topology.cluster ≡ change_cluster old.topology.cluster e
+    → ((H : Holdings) → old.transfers.copies ≡ H.pending → new.transfers.copies ≡ (change_holdings old.topology.cluster H e).pending)
+    → new.transfers.pend ≡ old.transfers.pend → KeepsLists old new e → Follows new N
+follows_after M N old new e is f cluster copies pend blocks = subst (λ O. Follows new O) (sym is) (follows_event M old new e f cluster copies pend blocks)
+
+one_more : (a b : Bool) → not a ≡ true → b ≡ true → not (a || (not b || false)) ≡ true
+one_more true b h l = cc
+one_more false true h l = refl
+one_more false false h l = cc
+
+-- losses, and one more
+pub losses_and : (es : List Event) (e : Event) → are_losses es ≡ true → is_loss e ≡ true → are_losses (es ++ (e ∷ [])) ≡ true
+losses_and es e h l = ap not (list_any-append (λ e. not (is_loss e)) es (e ∷ [])) ∙ one_more (list_any (λ e. not (is_loss e)) es) (is_loss e) h l
+
+pub missing_both : (M N : State) (es : List Event) (had has : List ℕ) → IsLawful M → are_losses es ≡ true → had ≡ missing_blocks M.cluster M.holdings
+    → N ≡ fold after_event M es → has ≡ missing_blocks N.cluster N.holdings → AreMissing M es had has
+missing_both M N es had has lawful losses was is now = record {
+  lawful = lawful.holdings;
+  losses = losses;
+  missing_before = was;
+  missing_after = now ∙ ap (λ (O : State). missing_blocks O.cluster O.holdings) is;
+}

@@ -1,0 +1,3 @@
+-- What is answered about losses.
+pub mod Text
+pub mod Answers

@@ -1,0 +1,55 @@
+// Why a run ends without its answer.
+use crate::loss::Kind;
+use bm_base::Refusal;
+use cluster_report::fault::Fault as LineFault;
+use std::alloc::AllocError;
+use thiserror::Error;
+
+/// Why there is no answer, or an unknown part of it where a write failed.
+#[derive(Clone, Copy, Debug, Error)]
+pub enum Fault {
+    #[error("memory fault")]
+    Memory,
+    #[error("read fault")]
+    Read,
+    /// A write or the flush failed.
+    #[error("write fault")]
+    Write,
+    /// A word of the command line names nothing of the cluster.
+    #[error("the cluster has no such {0}")]
+    Unknown(Kind),
+    /// Replicas in excess are no longer so after their node has come back.
+    #[error("replicas are in excess, so racks and nodes can be lost one at a time only")]
+    Excess,
+    /// The cluster differs from what was read after a rack or node has come back.
+    #[error("the cluster could not be set back")]
+    NotSetBack,
+    /// The manager refused a loss.
+    #[error("refused: {0}")]
+    Refused(Refusal),
+}
+
+impl From<AllocError> for Fault {
+    fn from(_error: AllocError) -> Self {
+        Fault::Memory
+    }
+}
+
+impl From<Refusal> for Fault {
+    fn from(refusal: Refusal) -> Self {
+        match refusal {
+            Refusal::Memory => Fault::Memory,
+            refusal => Fault::Refused(refusal),
+        }
+    }
+}
+
+impl From<LineFault> for Fault {
+    fn from(fault: LineFault) -> Self {
+        match fault {
+            LineFault::Memory => Fault::Memory,
+            LineFault::Read => Fault::Read,
+            LineFault::Write => Fault::Write,
+        }
+    }
+}
