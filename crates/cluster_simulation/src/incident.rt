@@ -51,36 +51,25 @@ impl Incident {
 pub fn any_kills_node(incidents: &[Incident], shape: Shape, node: u32) -> bool
     ensures { result ≡ any_kills_node incidents.now shape node }
 {
-    for incident in incidents {
-        if incident.kills_node(shape, node) {
-            return true;
-        }
-    }
-    false
+    incidents
+        .iter()
+        .any(|incident| incident.kills_node(shape, node))
 }
 
 /// Whether one of the incidents takes the disk out of the cluster.
 pub fn any_kills(incidents: &[Incident], shape: Shape, storage: u32) -> bool
     ensures { result ≡ any_kills incidents.now shape storage }
 {
-    for incident in incidents {
-        if incident.kills(shape, storage) {
-            return true;
-        }
-    }
-    false
+    incidents
+        .iter()
+        .any(|incident| incident.kills(shape, storage))
 }
 
 /// Whether one of the incidents makes the node drain.
 pub fn any_drains(incidents: &[Incident], node: u32) -> bool
     ensures { result ≡ any_drains incidents.now node }
 {
-    for incident in incidents {
-        if incident.drains(node) {
-            return true;
-        }
-    }
-    false
+    incidents.iter().any(|incident| incident.drains(node))
 }
 
 /// Whether no copy can come to the disk any more: it is gone, or its node drains.

@@ -23,6 +23,7 @@ pub fn events_of(
     Ok(events)
 }
 
+#[tactic(auto, using(crate::proofs::Numbers::one_more_number, crate::proofs::Numbers::no_more_number))]
 fn push_deaths(
     events: &mut Vec<Event>,
     shape: Shape,
@@ -39,6 +40,7 @@ fn push_deaths(
     Ok(())
 }
 
+#[tactic(auto, using(crate::proofs::Numbers::one_more_number, crate::proofs::Numbers::no_more_number))]
 fn push_failures(
     events: &mut Vec<Event>,
     shape: Shape,
@@ -57,6 +59,7 @@ fn push_failures(
     Ok(())
 }
 
+#[tactic(auto, using(crate::proofs::Numbers::one_more_number, crate::proofs::Numbers::no_more_number))]
 fn push_drains(
     events: &mut Vec<Event>,
     shape: Shape,

@@ -6,9 +6,6 @@ use crate::shape::Shape;
 use std::alloc::{AllocError, Global};
 use std::fmt;
 
-/// So many incidents are named in a heading.
-const MOST_NAMED: usize = 2;
-
 /// What goes wrong, all of it in one round.
 #[derive(Drop)]
 pub struct Plan {
@@ -37,19 +34,19 @@ impl fmt::Display for Plan {
     }
 }
 
-/// The first ones, and how many more there are.
+/// The first two, and how many more there are.
 fn write_incidents<W: fmt::Write>(
     f: &mut fmt::Formatter<W>,
     incidents: &[Incident],
 ) -> fmt::Result {
-    let mut comma = "";
-    for incident in incidents.iter().take(MOST_NAMED) {
-        write!(f, "{comma}{incident}")?;
-        comma = ", ";
-    }
-    match incidents.len().saturating_sub(MOST_NAMED) {
-        0 => Ok(()),
-        more => write!(f, ", and {more} more"),
+    match incidents {
+        [] => Ok(()),
+        [one] => write!(f, "{one}"),
+        [one, other] => write!(f, "{one}, {other}"),
+        [one, other, ..] => {
+            let more = incidents.len().saturating_sub(2);
+            write!(f, "{one}, {other}, and {more} more")
+        }
     }
 }
 

@@ -1,7 +1,8 @@
 // The manager and its DataNodes, round by round.
-ghost use Rattle.std.specs.Prelude.{◌≡◌, ◌<◌, ◌+◌, ◌-◌, ◌^◌, IsSome, OnOk, OnErr};
+ghost use Rattle.std.specs.Prelude.{◌≡◌, ◌<◌, ◌+◌, ◌-◌, ◌^◌, IsSome, IfOk, OnOk, OnErr};
 ghost use Rattle.bm_base.specs.Refusals.{refusal_of};
 ghost use Rattle.bm_base.specs.declared.refusal.Refusal.TheVariants.{Memory};
+ghost use Rattle.cluster_simulation.specs.Counting.{IsCounted};
 
 use crate::awaited::AwaitedCopies;
 use crate::counting::count_blocks;
@@ -109,7 +110,10 @@ impl Simulation {
         &mut self,
         rt: &R,
         round: u32,
-    ) -> Result<Counts, AllocError> {
+    ) -> Result<Counts, AllocError>
+        ensures answered { IfOk result
+            (λ counts. IsCounted self.new.manager self.new.options.blocks counts) }
+    {
         self.carry_out_due(rt, round)?;
         if round == self.plan.round {
             self.go_wrong(rt)?;
@@ -339,12 +343,14 @@ impl Simulation {
         Ok(())
     }
 
-    /// What stands now. The refusals are counted anew from here on.
+    /// Counts what the round leaves. The refusals are counted from 0 again from here on.
     fn count(&mut self, counts: &mut Counts) -> Result<(), AllocError>
+        ensures answered { OnOk result
+            (IsCounted self.new.manager self.new.options.blocks counts.new) }
         ensures counted { OnOk result (counts.new.refused ≡ self.old.refused) }
         ensures counted_once { OnOk result (self.new.refused ≡ 0) }
     {
-        count_blocks(&self.manager, self.options.blocks, counts)?;
+        count_blocks(self.alloc, &self.manager, self.options.blocks, counts)?;
         counts.pending = self.awaited.count() as u64;
         counts.refused = self.refused;
         self.refused = 0;
