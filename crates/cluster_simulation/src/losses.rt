@@ -23,7 +23,6 @@ pub fn events_of(
     Ok(events)
 }
 
-#[tactic(auto, using(crate::proofs::Numbers::one_more_number, crate::proofs::Numbers::no_more_number))]
 fn push_deaths(
     events: &mut Vec<Event>,
     shape: Shape,
@@ -40,7 +39,6 @@ fn push_deaths(
     Ok(())
 }
 
-#[tactic(auto, using(crate::proofs::Numbers::one_more_number, crate::proofs::Numbers::no_more_number))]
 fn push_failures(
     events: &mut Vec<Event>,
     shape: Shape,
@@ -59,7 +57,6 @@ fn push_failures(
     Ok(())
 }
 
-#[tactic(auto, using(crate::proofs::Numbers::one_more_number, crate::proofs::Numbers::no_more_number))]
 fn push_drains(
     events: &mut Vec<Event>,
     shape: Shape,
