@@ -1,1 +1,2 @@
 -- Lemmas.
+pub mod Numbers

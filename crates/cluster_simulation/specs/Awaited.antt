@@ -5,9 +5,9 @@ use Rattle.bm_base.specs.declared.commands.NodeCommands.{NodeCommands}
 use Rattle.bm_base.specs.declared.event.Event.{Event}
 use Rattle.bm_base.specs.declared.event.Event.TheVariants.{Received}
 use Rattle.cluster_simulation.specs.declared.shape.Shape.{Shape}
-use Rattle.cluster_simulation.specs.declared.story.Incident.{Incident}
+use Rattle.cluster_simulation.specs.declared.incident.Incident.{Incident}
 use Rattle.cluster_simulation.specs.declared.awaited.Awaited.{Awaited}
-use Rattle.cluster_simulation.specs.Incidents.{bars}
+use Rattle.cluster_simulation.specs.Incidents.{any_bars}
 
 abbrev pub awaited_copy : ℕ → Transfer → Awaited
 awaited_copy round t = record { block = t.block; target = t.target; round = round }
@@ -29,6 +29,6 @@ after_notice _ copies = copies
 abbrev pub without_old : ℕ → ℕ → List Awaited → List Awaited
 without_old round patience = filter (λ c. nat_lt (round - c.round) patience)
 
--- without those whose disk an incident takes away
-abbrev pub without_lost : Incident → Shape → List Awaited → List Awaited
-without_lost incident shape = filter (λ c. not (bars incident shape c.target))
+-- without those to whose disks no copy can come any more
+abbrev pub without_lost : List Incident → Shape → List Awaited → List Awaited
+without_lost incidents shape = filter (λ c. not (any_bars incidents shape c.target))

@@ -1,17 +1,65 @@
--- Which disks an incident takes away.
-use Rattle.std.specs.Prelude.{ℕ, Bool, false, ◌==◌, ◌/◌, ◌%◌}
+-- What incidents take from a cluster, and what the manager is told of it.
+use Rattle.std.specs.Prelude.{ℕ, Bool, false, List, ◌==◌, ◌/◌, ◌%◌, ◌*◌, ◌&&◌, ◌||◌, not, map, filter, ◌++◌}
+use Rattle.std.specs.List.{list_any, range_with_len}
+use Rattle.bm_base.specs.declared.event.Event.{Event}
+use Rattle.bm_base.specs.declared.event.Event.TheVariants.{Dead, StorageFailed, Drain}
 use Rattle.cluster_simulation.specs.declared.shape.Shape.{Shape}
-use Rattle.cluster_simulation.specs.declared.story.Incident.{Incident}
-use Rattle.cluster_simulation.specs.declared.story.Incident.TheVariants.{NodeDies, RackDies, NodeDrains, DiskFails}
+use Rattle.cluster_simulation.specs.declared.incident.Incident.{Incident}
+use Rattle.cluster_simulation.specs.declared.incident.Incident.TheVariants.{NodeDies, RackDies, NodeDrains, DiskFails}
+
+-- the node is not heard of again
+unfoldable pub kills_node : Incident → Shape → ℕ → Bool
+kills_node (NodeDies n) shape k = k == n
+kills_node (RackDies r) shape k = k % shape.racks == r
+kills_node _ shape k = false
 
 -- the disk is not heard of again
 unfoldable pub kills : Incident → Shape → ℕ → Bool
-kills (NodeDies n) shape s = s / shape.storages == n
-kills (RackDies r) shape s = (s / shape.storages) % shape.racks == r
 kills (DiskFails t) shape s = s == t
-kills _ shape s = false
+kills incident shape s = kills_node incident shape (s / shape.storages)
+
+-- the node begins to drain
+unfoldable pub drains : Incident → ℕ → Bool
+drains (NodeDrains n) k = k == n
+drains _ k = false
+
+abbrev pub any_kills_node : List Incident → Shape → ℕ → Bool
+any_kills_node incidents shape k = list_any (λ i. kills_node i shape k) incidents
+
+abbrev pub any_kills : List Incident → Shape → ℕ → Bool
+any_kills incidents shape s = list_any (λ i. kills i shape s) incidents
+
+abbrev pub any_drains : List Incident → ℕ → Bool
+any_drains incidents k = list_any (λ i. drains i k) incidents
 
 -- no copy can come to the disk any more
-unfoldable pub bars : Incident → Shape → ℕ → Bool
-bars (NodeDrains n) shape s = s / shape.storages == n
-bars incident shape s = kills incident shape s
+abbrev pub any_bars : List Incident → Shape → ℕ → Bool
+any_bars incidents shape s = any_kills incidents shape s || any_drains incidents (s / shape.storages)
+
+-- the disk is gone, and its node is not
+abbrev pub fails_alone : List Incident → Shape → ℕ → Bool
+fails_alone incidents shape s = any_kills incidents shape s && not (any_kills_node incidents shape (s / shape.storages))
+
+-- the node begins to drain, and is not gone
+abbrev pub drains_alive : List Incident → Shape → ℕ → Bool
+drains_alive incidents shape k = any_drains incidents k && not (any_kills_node incidents shape k)
+
+abbrev pub death : ℕ → Event
+death n = Dead n
+
+abbrev pub failure : ℕ → Event
+failure s = StorageFailed s
+
+abbrev pub drain : ℕ → Event
+drain n = Drain n
+
+-- the numbers below n at which the test gives true, ascending
+abbrev pub numbers_where : (ℕ → Bool) → ℕ → List ℕ
+numbers_where test n = filter test (range_with_len 0 n)
+
+-- what the manager is told: each node that is gone, each disk that is gone without its node, and each further node that drains, once
+abbrev pub reported : List Incident → Shape → List Event
+reported incidents shape =
+    map death (numbers_where (any_kills_node incidents shape) shape.nodes)
+    ++ map failure (numbers_where (fails_alone incidents shape) (shape.nodes * shape.storages))
+    ++ map drain (numbers_where (drains_alive incidents shape) shape.nodes)

@@ -3,3 +3,4 @@ pub mod Orders
 pub mod Incidents
 pub mod Awaited
 pub mod Disks
+pub mod Counting

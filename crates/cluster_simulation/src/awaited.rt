@@ -4,8 +4,8 @@ ghost use Rattle.std.specs.List.{flat_map};
 ghost use Rattle.std.specs.Vec.{vec_len};
 ghost use Rattle.cluster_simulation.specs.Awaited.{commanded_to, without_copy, after_notice, without_old, without_lost};
 
+use crate::incident::{Incident, any_bars};
 use crate::shape::Shape;
-use crate::story::Incident;
 use bm_base::{BlockId, Commands, Event, NodeCommands, StorageId};
 use std::alloc::{AllocError, Global};
 
@@ -89,10 +89,10 @@ impl AwaitedCopies {
     }
 
     /// No copy is awaited on a disk that is lost, or on a node that begins to drain.
-    pub fn forget_lost(&mut self, incident: &Incident, shape: Shape)
-        ensures { self.new.copies.items ≡ without_lost incident.now shape self.old.copies.items }
+    pub fn forget_lost(&mut self, incidents: &[Incident], shape: Shape)
+        ensures { self.new.copies.items ≡ without_lost incidents.now shape self.old.copies.items }
     {
         self.copies
-            .retain(|copy| !incident.bars(shape, copy.target.0));
+            .retain(|copy| !any_bars(incidents, shape, copy.target.0));
     }
 }

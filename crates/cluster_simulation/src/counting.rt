@@ -1,24 +1,95 @@
 // What the manager answers about its blocks, counted.
-use crate::counts::Counts;
-use bm_base::{BlockId, Items, Refusal, ReplicaId};
-use bm_manager::Manager;
-use std::alloc::AllocError;
+ghost use Rattle.std.specs.Prelude.{◌≡◌, IfOk, OnOk, map, length, count_by};
+ghost use Rattle.std.specs.List.{range_with_len};
+ghost use Rattle.bm_base.specs.Levels.{is_at, level};
+ghost use Rattle.bm_base.specs.Queries.{excess_replicas, corrupt_replicas};
+ghost use Rattle.cluster_simulation.specs.Counting.{IsCounted, levels_below};
 
-/// Counts the blocks at each level, by a question for each, and the replicas that are in excess or corrupt.
-pub fn count_blocks(manager: &Manager, blocks: u32, counts: &mut Counts) -> Result<(), AllocError> {
-    for number in 0..blocks {
-        if let Ok(Some(level)) = manager.level(BlockId(u64::from(number))) {
-            counts.add_level(level);
-        }
-    }
-    counts.excess = length_of(manager.excess())?;
-    counts.corrupt = length_of(manager.corrupt())?;
+use crate::counts::Counts;
+use bm_base::{BlockId, Level};
+use bm_manager::Manager;
+use std::alloc::{AllocError, Global};
+
+/// Counts the blocks at each level, by a question for each of the first `blocks` numbers, and the replicas in excess and the corrupt ones.
+pub fn count_blocks(
+    alloc: Global,
+    manager: &Manager,
+    blocks: u32,
+    counts: &mut Counts,
+) -> Result<(), AllocError>
+    ensures { OnOk result (IsCounted manager.now blocks counts.new) }
+{
+    let levels = levels_of(alloc, manager, blocks)?;
+    let levels = levels.as_slice();
+    counts.highest = count_at(levels, Level::Highest);
+    counts.very_under_replicated = count_at(levels, Level::VeryUnderReplicated);
+    counts.under_replicated = count_at(levels, Level::UnderReplicated);
+    counts.badly_distributed = count_at(levels, Level::BadlyDistributed);
+    counts.missing = count_at(levels, Level::NoUsableReplica);
+    counts.excess = count_excess(manager)?;
+    counts.corrupt = count_corrupt(manager)?;
     Ok(())
 }
 
-/// Such a question is refused for want of memory alone.
-fn length_of(listed: Result<Items<ReplicaId>, Refusal>) -> Result<u64, AllocError> {
-    match listed {
+/// The level of each of these blocks; none of one that is not known.
+fn levels_of(
+    alloc: Global,
+    manager: &Manager,
+    blocks: u32,
+) -> Result<Vec<Option<Level>>, AllocError>
+    ensures { IfOk result (λ v. v.items ≡ levels_below manager.now blocks) }
+{
+    let mut levels = Vec::new(alloc);
+    for number in 0..blocks {
+        levels.push(level_of(manager, BlockId(u64::from(number))))?;
+    }
+    Ok(levels)
+}
+
+#[tactic(auto, unfolding(bm_base::specs::Levels::level, bm_base::specs::Refusals::block_refusal, bm_base::specs::Refusals::knows_block))]
+fn level_of(manager: &Manager, block: BlockId) -> Option<Level>
+    ensures { result ≡ level manager.now.cluster manager.now.holdings block }
+{
+    match manager.level(block) {
+        Ok(level) => level,
+        Err(_) => None,
+    }
+}
+
+fn count_at(levels: &[Option<Level>], urgency: Level) -> u64
+    ensures { result ≡ count_by (is_at urgency) levels.now }
+{
+    let count = levels
+        .iter()
+        .filter(|found| is_at(found, urgency))
+        .count();
+    count as u64
+}
+
+/// Whether a level is there and is this one.
+fn is_at(found: &Option<Level>, urgency: Level) -> bool
+    ensures { result ≡ is_at urgency found.now }
+{
+    match found {
+        Some(level) => level.number() == urgency.number(),
+        None => false,
+    }
+}
+
+/// Refused where memory is, as the next.
+fn count_excess(manager: &Manager) -> Result<u64, AllocError>
+    ensures { IfOk result (λ n. n ≡ length (excess_replicas manager.now.holdings)) }
+{
+    match manager.excess() {
+        Ok(listed) => Ok(listed.as_slice().len() as u64),
+        Err(_) => Err(AllocError),
+    }
+}
+
+fn count_corrupt(manager: &Manager) -> Result<u64, AllocError>
+    ensures { IfOk result (λ n. n ≡ length (corrupt_replicas manager.now.holdings)) }
+{
+    match manager.corrupt() {
         Ok(listed) => Ok(listed.as_slice().len() as u64),
         Err(_) => Err(AllocError),
     }

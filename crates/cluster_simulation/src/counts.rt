@@ -1,6 +1,6 @@
 // What is counted in each round.
 
-use bm_base::{Commands, Level};
+use bm_base::Commands;
 
 /// The counts as a round leaves them.
 #[derive(Clone, Copy)]
@@ -40,18 +40,6 @@ impl Counts {
             deletes: 0,
             refused: 0,
         }
-    }
-
-    /// One more block at this level.
-    pub fn add_level(&mut self, level: Level) {
-        let count = match level {
-            Level::Highest => &mut self.highest,
-            Level::VeryUnderReplicated => &mut self.very_under_replicated,
-            Level::UnderReplicated => &mut self.under_replicated,
-            Level::BadlyDistributed => &mut self.badly_distributed,
-            Level::NoUsableReplica => &mut self.missing,
-        };
-        *count = count.saturating_add(1);
     }
 
     /// What the round commands all nodes.

@@ -1,19 +1,28 @@
 // Why a run ends early.
 
 use std::alloc::AllocError;
+use std::fmt;
+use std::io;
+use std::io::ErrorKind;
 
-#[derive(Clone, Copy)]
+#[derive(Drop)]
 pub enum Fault {
     Memory,
-    Write,
+    Write(io::Error),
 }
 
 impl Fault {
-    /// What standard error says of it.
-    pub fn text(self) -> &'static str {
+    /// Whether nobody reads the output any more, of which nobody wants to hear.
+    pub fn is_closed_pipe(&self) -> bool {
+        matches!(self, Fault::Write(error) if error.kind() == ErrorKind::BrokenPipe)
+    }
+}
+
+impl fmt::Display for Fault {
+    fn fmt<W: fmt::Write>(&self, f: &mut fmt::Formatter<W>) -> fmt::Result {
         match self {
-            Fault::Memory => "cluster_simulation: memory fault",
-            Fault::Write => "cluster_simulation: write fault",
+            Fault::Memory => f.write_str("memory fault"),
+            Fault::Write(error) => write!(f, "write fault: {error}"),
         }
     }
 }

@@ -1,15 +1,23 @@
 // The options of the program.
 ghost use Rattle.std.specs.Prelude.{◌<◌, ◌≤◌};
 
+use crate::help::EXAMPLES;
+use crate::misuse::Misuse;
+use crate::plan::{Plan, incidents_of};
 use crate::shape::{MOST_NODES, MOST_RACKS, MOST_STORAGES, Shape};
-use crate::story::{STORIES, STORY_ROUND, Story};
 use bm_base::MAX_REPLICATION;
+use clap::error::ErrorKind;
 use clap::{Arg, ArgAction, ArgMatches, Command, Error, value_parser};
 use std::alloc::{AllocError, Global};
 
 const MOST_BLOCKS: u32 = 1_000_000;
 
+/// The round in which it goes wrong without `--at` is always among the rounds.
+const LEAST_ROUNDS: u32 = 5;
+
 const MOST_ROUNDS: u32 = 1_000;
+
+const NONE_CORRUPT: u32 = 0;
 
 /// How the counts are written.
 #[derive(Clone, Copy)]
@@ -19,6 +27,15 @@ pub enum Form {
 }
 
 /// What is asked for.
+#[derive(Drop)]
+pub struct Asked {
+    pub options: Options,
+    pub plan: Plan,
+    /// Whether standard error shows how many rounds are made.
+    pub shows_progress: bool,
+}
+
+/// The cluster, its course and how it is written.
 #[derive(Clone, Copy)]
 pub struct Options {
     pub shape: Shape,
@@ -29,18 +46,35 @@ pub struct Options {
     /// How many rounds there are between a command and its being done.
     pub delay: u32,
     pub rounds: u32,
-    pub story: Story,
     pub form: Form,
     ghost blocks_fit: { (1 ≤ blocks) × (blocks ≤ 1000000) },
     ghost rounds_fit: { (5 ≤ rounds) × (rounds ≤ 1000) },
 }
 
-/// What the words of a command line ask for, the program's name first: each option at most once, a whole number within its range.
-/// An `Err` is a request for help, a command line that is refused, or want of memory.
-pub fn options_of(alloc: Global, words: &[String]) -> Result<Options, Error> {
+/// What the words of a command line ask for, the program's name first. An `Err` is a request for help, a command line that is refused,
+/// or out of memory.
+pub fn asked_by(alloc: Global, words: &[String]) -> Result<Asked, Error> {
     let command = command(alloc)?;
     let matches = command.try_get_matches_from(words)?;
-    Ok(options_in(&matches))
+    let options = options_in(&matches);
+    match plan_in(alloc, &matches, &options) {
+        Ok(plan) => Ok(Asked {
+            options,
+            plan,
+            shows_progress: matches.get_flag("progress") && !matches.get_flag("quiet"),
+        }),
+        Err(misuse) => Err(refusal(alloc, misuse)?),
+    }
+}
+
+/// The error that says why the words ask for nothing that there is.
+fn refusal(alloc: Global, misuse: Misuse<'_>) -> Result<Error, AllocError> {
+    if matches!(misuse, Misuse::Memory) {
+        return Err(AllocError);
+    }
+    let mut command = command(alloc)?;
+    let message = format!(in alloc; "{misuse}")?;
+    command.error(ErrorKind::ValueValidation, message.as_str())
 }
 
 /// An option with a whole number from `least` to `most`.
@@ -103,30 +137,47 @@ static COURSE: [Number; 2] = [
     Number {
         name: "rounds",
         standard: "40",
-        least: STORY_ROUND,
+        least: LEAST_ROUNDS,
         most: MOST_ROUNDS,
         help: "rounds, 5 to 1,000",
     },
 ];
 
+static AT: Number = Number {
+    name: "at",
+    standard: "5",
+    least: 1,
+    most: MOST_ROUNDS,
+    help: "the round in which it goes wrong, 1 to the last round",
+};
+
 fn command<'a>(alloc: Global) -> Result<Command<'a>, AllocError> {
     let command = with_numbers(alloc, program(alloc), &CLUSTER)?;
     let command = with(command, seed(alloc))?;
     let command = with_numbers(alloc, command, &COURSE)?;
-    with_choices(alloc, command)
+    with_form(alloc, with_plan(alloc, command)?)
 }
 
-/// The command with the story and the form.
-fn with_choices<'a>(alloc: Global, command: Command<'a>) -> Result<Command<'a>, AllocError> {
-    let command = with(command, story(alloc))?;
+/// The command with what goes wrong.
+fn with_plan<'a>(alloc: Global, command: Command<'a>) -> Result<Command<'a>, AllocError> {
+    let command = with(command, lose(alloc))?;
+    let command = with(command, drain(alloc))?;
+    let command = with(command, corrupt(alloc))?;
+    with(command, argument(alloc, &AT))
+}
+
+/// The command with the form of the output.
+fn with_form<'a>(alloc: Global, command: Command<'a>) -> Result<Command<'a>, AllocError> {
     let command = with(command, csv(alloc))?;
-    with(command, svg(alloc)?)
+    let command = with(command, svg(alloc)?)?;
+    let command = with(command, quiet(alloc))?;
+    with(command, progress(alloc))
 }
 
 fn program<'a>(alloc: Global) -> Command<'a> {
-    Command::new(alloc, "cluster_simulation").about(
-        "Tells how a cluster of DataNodes mends what went wrong, round by round, where its block manager is this library",
-    )
+    Command::new(alloc, "simulate")
+        .about("Shows how a made-up cluster of DataNodes mends what goes wrong, round by round")
+        .after_help(EXAMPLES)
 }
 
 fn with_numbers<'a>(
@@ -152,11 +203,32 @@ fn seed<'a>(alloc: Global) -> Arg<'a> {
         .value_parser(value_parser!(u64))
 }
 
-fn story<'a>(alloc: Global) -> Arg<'a> {
-    option(alloc, "story", "node-dies")
-        .value_name("NAME")
-        .help("what happens in round 5")
-        .value_parser(STORIES.as_slice())
+fn lose<'a>(alloc: Global) -> Arg<'a> {
+    several(alloc, "lose", "WHAT").help(
+        "rack:N, node:N or storage:N is lost, numbered from 0; may be given several times",
+    )
+}
+
+fn drain<'a>(alloc: Global) -> Arg<'a> {
+    several(alloc, "drain", "N")
+        .help("this node is to be taken away; may be given several times")
+}
+
+fn corrupt<'a>(alloc: Global) -> Arg<'a> {
+    new_arg(alloc, "corrupt")
+        .action(ArgAction::Set)
+        .long("corrupt")
+        .value_name("N")
+        .help("one replica of each of N blocks is found corrupt")
+        .value_parser(value_parser!(u32).range(1..=i64::from(MOST_BLOCKS)))
+}
+
+/// An option that may be given several times.
+fn several<'a>(alloc: Global, name: &'a str, value: &'a str) -> Arg<'a> {
+    new_arg(alloc, name)
+        .action(ArgAction::Append)
+        .long(name)
+        .value_name(value)
 }
 
 fn csv<'a>(alloc: Global) -> Arg<'a> {
@@ -169,6 +241,15 @@ fn svg<'a>(alloc: Global) -> Result<Arg<'a>, AllocError> {
     flag(alloc, "svg")
         .help("writes the counts as a picture")
         .conflicts_with("csv")
+}
+
+fn quiet<'a>(alloc: Global) -> Arg<'a> {
+    flag(alloc, "quiet").help("shows no progress on standard error")
+}
+
+/// For a caller that knows standard error to be a terminal.
+fn progress<'a>(alloc: Global) -> Arg<'a> {
+    flag(alloc, "progress").hide(true)
 }
 
 fn argument<'a>(alloc: Global, number: &Number) -> Arg<'a> {
@@ -205,8 +286,7 @@ fn options_in(matches: &ArgMatches<'_>) -> Options {
         replication: number_in(matches, "replication"),
         seed: matches.get_one::<u64>("seed").unwrap_or(0),
         delay: number_in(matches, "delay"),
-        rounds: number_in(matches, "rounds").clamp(STORY_ROUND, MOST_ROUNDS),
-        story: story_in(matches),
+        rounds: number_in(matches, "rounds").clamp(LEAST_ROUNDS, MOST_ROUNDS),
         form: if matches.get_flag("svg") {
             Form::Svg
         } else {
@@ -219,9 +299,35 @@ fn number_in(matches: &ArgMatches<'_>, name: &str) -> u32 {
     matches.get_one::<u32>(name).unwrap_or(0)
 }
 
-fn story_in(matches: &ArgMatches<'_>) -> Story {
-    matches
-        .get_str("story")
-        .and_then(Story::of_name)
-        .unwrap_or(Story::NodeDies)
+/// What goes wrong, if the cluster has what is named, and the rounds get that far.
+fn plan_in<'a>(
+    alloc: Global,
+    matches: &ArgMatches<'a>,
+    options: &Options,
+) -> Result<Plan, Misuse<'a>> {
+    let lose = matches.get_strs("lose").unwrap_or(&[]);
+    let drain = matches.get_strs("drain").unwrap_or(&[]);
+    let plan = Plan {
+        round: number_in(matches, "at"),
+        incidents: incidents_of(alloc, options.shape, lose, drain)?,
+        corrupt: matches.get_one::<u32>("corrupt").unwrap_or(NONE_CORRUPT),
+    };
+    match misuse_of(&plan, options) {
+        Some(misuse) => Err(misuse),
+        None => Ok(plan),
+    }
+}
+
+/// What is wrong with the numbers of a plan.
+fn misuse_of<'a>(plan: &Plan, options: &Options) -> Option<Misuse<'a>> {
+    let Options { blocks, rounds, .. } = *options;
+    if plan.corrupt > blocks {
+        let corrupt = plan.corrupt;
+        return Some(Misuse::FewBlocks { corrupt, blocks });
+    }
+    if plan.round > rounds {
+        let round = plan.round;
+        return Some(Misuse::TooLate { round, rounds });
+    }
+    None
 }

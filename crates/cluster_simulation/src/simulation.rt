@@ -1,19 +1,23 @@
 // The manager and its DataNodes, round by round.
-ghost use Rattle.std.specs.Prelude.{◌≡◌, ◌<◌, ◌+◌, ◌-◌, ◌^◌, IsSome, OnOk, OnErr};
+ghost use Rattle.std.specs.Prelude.{◌≡◌, ◌<◌, ◌+◌, ◌-◌, ◌^◌, IsSome, IfOk, OnOk, OnErr};
 ghost use Rattle.bm_base.specs.Refusals.{refusal_of};
 ghost use Rattle.bm_base.specs.declared.refusal.Refusal.TheVariants.{Memory};
+ghost use Rattle.cluster_simulation.specs.Counting.{IsCounted};
 
 use crate::awaited::AwaitedCopies;
 use crate::counting::count_blocks;
+use crate::corrupt::corrupt_events;
 use crate::counts::Counts;
 use crate::datanodes::{carry_out, heartbeat, registration};
 use crate::dice::Dice;
 use crate::disks::{Disks, STAMP};
+use crate::incident::any_kills;
+use crate::losses::events_of;
 use crate::options::Options;
 use crate::orders::{Order, Orders};
 use crate::placing::place;
+use crate::plan::Plan;
 use crate::shape::Shape;
-use crate::story::{Incident, STORY_ROUND};
 use bm_base::{BlockId, Commands, Config, Event, Refusal, StorageId};
 use bm_crew::NoGate;
 use bm_manager::Manager;
@@ -27,7 +31,7 @@ pub struct Simulation {
     alloc: Global,
     options: Options,
     dice: Dice,
-    incident: Incident,
+    plan: Plan,
     manager: Manager,
     disks: Disks,
     orders: Orders,
@@ -42,8 +46,9 @@ impl Simulation {
         rt: &R,
         alloc: Global,
         options: Options,
+        plan: Plan,
     ) -> Result<Simulation, AllocError> {
-        let mut simulation = Simulation::before_all(alloc, options)?;
+        let mut simulation = Simulation::before_all(alloc, options, plan)?;
         if let Err(error) = simulation.begin(rt) {
             drop(simulation);
             return Err(error);
@@ -52,24 +57,31 @@ impl Simulation {
     }
 
     /// No node is registered yet.
-    fn before_all(alloc: Global, options: Options) -> Result<Simulation, AllocError> {
+    fn before_all(
+        alloc: Global,
+        options: Options,
+        plan: Plan,
+    ) -> Result<Simulation, AllocError> {
         match Manager::new(alloc, Config::standard()) {
-            Ok(manager) => Simulation::around(alloc, options, manager),
+            Ok(manager) => Simulation::around(alloc, options, plan, manager),
             Err(_) => Err(AllocError),
         }
     }
 
     /// Around a manager that knows nothing yet.
-    fn around(alloc: Global, options: Options, manager: Manager) -> Result<Simulation, AllocError> {
-        let mut dice = Dice::new(options.seed);
-        let incident = Incident::draw(&mut dice, options.story, options.shape, options.blocks);
+    fn around(
+        alloc: Global,
+        options: Options,
+        plan: Plan,
+        manager: Manager,
+    ) -> Result<Simulation, AllocError> {
         let replicas = u64::from(options.blocks) * u64::from(options.replication);
         match Disks::new(alloc, options.shape, replicas) {
             Ok(disks) => Ok(Simulation {
                 alloc,
                 options,
-                dice,
-                incident,
+                dice: Dice::new(options.seed),
+                plan,
                 manager,
                 disks,
                 orders: Orders::new(alloc, options.delay),
@@ -88,20 +100,23 @@ impl Simulation {
         self.place_blocks(rt)
     }
 
-    pub fn incident(&self) -> Incident {
-        self.incident
+    pub fn plan(&self) -> &Plan {
+        &self.plan
     }
 
-    /// The next round: first DataNodes tell what they have done, then the story may happen, then DataNodes tell what is free, and
-    /// then the manager commands. The counts after it.
+    /// The next round: first DataNodes report what they have done, then it may go wrong, then DataNodes report what is free, and then
+    /// the manager commands. The counts after it.
     pub fn next_round<R: Threads + Wait + Sync>(
         &mut self,
         rt: &R,
         round: u32,
-    ) -> Result<Counts, AllocError> {
+    ) -> Result<Counts, AllocError>
+        ensures answered { IfOk result
+            (λ counts. IsCounted self.new.manager self.new.options.blocks counts) }
+    {
         self.carry_out_due(rt, round)?;
-        if round == STORY_ROUND {
-            self.let_happen(rt)?;
+        if round == self.plan.round {
+            self.go_wrong(rt)?;
         }
         self.send_heartbeats(rt)?;
         let mut counts = Counts::new(round);
@@ -253,21 +268,22 @@ impl Simulation {
         Ok(())
     }
 
-    /// The story happens, and the manager is told of it.
-    fn let_happen<R: Threads + Wait + Sync>(&mut self, rt: &R) -> Result<(), AllocError> {
-        let shape = self.options.shape;
-        let events = self
-            .incident
-            .events(self.alloc, &mut self.dice, shape, &self.disks)?;
+    /// What is planned happens, and the manager is told of it.
+    fn go_wrong<R: Threads + Wait + Sync>(&mut self, rt: &R) -> Result<(), AllocError> {
+        let Options { shape, blocks, .. } = self.options;
         self.fail_disks(shape);
-        self.tell_all(rt, events.as_slice())?;
-        self.awaited.forget_lost(&self.incident, shape);
-        Ok(())
+        let lost = events_of(self.alloc, shape, self.plan.incidents.as_slice())?;
+        self.tell_all(rt, lost.as_slice())?;
+        self.awaited
+            .forget_lost(self.plan.incidents.as_slice(), shape);
+        let corrupt = self.plan.corrupt;
+        let found = corrupt_events(self.alloc, &mut self.dice, &self.disks, corrupt, blocks)?;
+        self.tell_all(rt, found.as_slice())
     }
 
     fn fail_disks(&mut self, shape: Shape) {
         for storage in 0..shape.all_storages() {
-            if self.incident.kills(shape, storage) {
+            if any_kills(self.plan.incidents.as_slice(), shape, storage) {
                 self.disks.fail(storage);
             }
         }
@@ -327,12 +343,14 @@ impl Simulation {
         Ok(())
     }
 
-    /// What stands now. The refusals are counted anew from here on.
+    /// Counts what the round leaves. The refusals are counted from 0 again from here on.
     fn count(&mut self, counts: &mut Counts) -> Result<(), AllocError>
+        ensures answered { OnOk result
+            (IsCounted self.new.manager self.new.options.blocks counts.new) }
         ensures counted { OnOk result (counts.new.refused ≡ self.old.refused) }
         ensures counted_once { OnOk result (self.new.refused ≡ 0) }
     {
-        count_blocks(&self.manager, self.options.blocks, counts)?;
+        count_blocks(self.alloc, &self.manager, self.options.blocks, counts)?;
         counts.pending = self.awaited.count() as u64;
         counts.refused = self.refused;
         self.refused = 0;

@@ -2,60 +2,64 @@
 
 mod axes;
 mod legend;
-pub mod lines;
+mod lines;
 mod paint;
 
 use crate::counts::Counts;
 use crate::options::Options;
+use crate::plan::Plan;
 use crate::scale::Scale;
 use crate::shape::Shape;
-use crate::story::{Incident, STORY_ROUND};
 use std::alloc::{AllocError, Global};
 
-pub fn svg_text(
+pub(crate) fn svg_text(
     alloc: Global,
     options: &Options,
-    incident: &Incident,
+    plan: &Plan,
+    rows: &[Counts],
+) -> Result<String, AllocError> {
+    let heading = format!(in alloc; "{plan}")?;
+    let mut below = String::new(alloc);
+    write_shape(&mut below, &options.shape)?;
+    write_blocks(&mut below, options.blocks, options.replication)?;
+    write_course(&mut below, options.delay, options.seed)?;
+    let marked = if plan.is_empty() {
+        None
+    } else {
+        Some(plan.round)
+    };
+    picture_text(alloc, heading.as_str(), below.as_str(), marked, rows)
+}
+
+/// The picture of these counts, with a heading, a line below it, and perhaps a mark at a round.
+pub fn picture_text(
+    alloc: Global,
+    heading: &str,
+    below: &str,
+    marked: Option<u32>,
     rows: &[Counts],
 ) -> Result<String, AllocError> {
     let mut text = String::new(alloc);
-    write_svg(&mut text, options, incident, rows)?;
-    Ok(text)
-}
-
-fn write_svg(
-    text: &mut String,
-    options: &Options,
-    incident: &Incident,
-    rows: &[Counts],
-) -> Result<(), AllocError> {
     text.push_str("<svg xmlns='http://www.w3.org/2000/svg' width='900' height='420' ")?;
     text.push_str("viewBox='0 0 900 420' font-family='sans-serif' font-size='12'>\n")?;
     text.push_str("<rect width='900' height='420' fill='#ffffff'/>\n")?;
-    write_title(text, options, incident)?;
+    write_title(&mut text, heading, below)?;
     let scale = Scale::new(rows);
-    axes::write_axes(text, &scale)?;
-    axes::write_story_round(text, &scale)?;
-    lines::write_lines(text, &scale, rows)?;
-    legend::write_legend(text, rows)?;
-    text.push_str("</svg>\n")
+    axes::write_axes(&mut text, &scale)?;
+    if let Some(round) = marked {
+        axes::write_marked_round(&mut text, &scale, round)?;
+    }
+    lines::write_lines(&mut text, &scale, rows)?;
+    legend::write_legend(&mut text, rows)?;
+    text.push_str("</svg>\n")?;
+    Ok(text)
 }
 
-fn write_title(
-    text: &mut String,
-    options: &Options,
-    incident: &Incident,
-) -> Result<(), AllocError> {
+fn write_title(text: &mut String, heading: &str, below: &str) -> Result<(), AllocError> {
     text.push_str("<text x='76' y='28' font-size='18' font-weight='bold'>")?;
-    write_incident(text, incident)?;
+    writeln!(text, "{heading}</text>")?;
     text.push_str("<text x='76' y='50' fill='#444444'>")?;
-    write_shape(text, &options.shape)?;
-    write_blocks(text, options.blocks, options.replication)?;
-    write_course(text, options.delay, options.seed)
-}
-
-fn write_incident(text: &mut String, incident: &Incident) -> Result<(), AllocError> {
-    writeln!(text, "Round {STORY_ROUND}: {incident}</text>")
+    writeln!(text, "{below}</text>")
 }
 
 fn write_shape(text: &mut String, shape: &Shape) -> Result<(), AllocError> {
@@ -74,5 +78,5 @@ fn write_blocks(text: &mut String, blocks: u32, replication: u32) -> Result<(), 
 }
 
 fn write_course(text: &mut String, delay: u32, seed: u64) -> Result<(), AllocError> {
-    writeln!(text, "delay in rounds {delay}, seed {seed}</text>")
+    write!(text, "delay in rounds {delay}, seed {seed}")
 }

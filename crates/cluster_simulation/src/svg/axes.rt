@@ -1,7 +1,6 @@
 // The axes with their numbers.
 
 use crate::scale::{BOTTOM, LEFT, RIGHT, Scale, TOP};
-use crate::story::STORY_ROUND;
 use std::alloc::AllocError;
 
 /// A grey line and a number for each step upwards, and a number for each step aside.
@@ -60,13 +59,13 @@ fn write_round_mark(text: &mut String, scale: &Scale, round: u64) -> Result<(), 
     )
 }
 
-/// A line at the round in which the story happens.
-pub fn write_story_round(text: &mut String, scale: &Scale) -> Result<(), AllocError> {
-    let x = scale.x_of(u64::from(STORY_ROUND));
+/// A line at a round.
+pub fn write_marked_round(text: &mut String, scale: &Scale, round: u32) -> Result<(), AllocError> {
+    let x = scale.x_of(u64::from(round));
     write!(text, "<line x1='{x}' y1='{TOP}' x2='{x}' y2='{BOTTOM}' ")?;
     writeln!(text, "stroke='#666666' stroke-dasharray='4 4'/>")?;
     writeln!(
         text,
-        "<text x='{x}' y='80' fill='#444444'>round {STORY_ROUND}</text>"
+        "<text x='{x}' y='80' fill='#444444'>round {round}</text>"
     )
 }

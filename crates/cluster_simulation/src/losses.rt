@@ -1,0 +1,89 @@
+// What the manager is told of the incidents.
+ghost use Rattle.std.specs.Prelude.{◌≡◌, ◌*◌, ◌++◌, OnOk, IfOk, map};
+ghost use Rattle.cluster_simulation.specs.Incidents.{numbers_where, any_kills_node, fails_alone, drains_alive, death, failure, drain, reported};
+
+use crate::incident::{Incident, any_drains, any_kills, any_kills_node};
+use crate::shape::Shape;
+use bm_base::{Event, NodeId, StorageId};
+use std::alloc::{AllocError, Global};
+
+/// Each node that is gone dies, each disk that is gone without its node fails, and each further node that is to drain does so: each
+/// once, however many incidents name it.
+pub fn events_of(
+    alloc: Global,
+    shape: Shape,
+    incidents: &[Incident],
+) -> Result<Vec<Event>, AllocError>
+    ensures { IfOk result (λ events. events.items ≡ reported incidents.now shape) }
+{
+    let mut events = Vec::new(alloc);
+    push_deaths(&mut events, shape, incidents)?;
+    push_failures(&mut events, shape, incidents)?;
+    push_drains(&mut events, shape, incidents)?;
+    Ok(events)
+}
+
+fn push_deaths(
+    events: &mut Vec<Event>,
+    shape: Shape,
+    incidents: &[Incident],
+) -> Result<(), AllocError>
+    ensures { OnOk result (events.new.items ≡ events.old.items
+        ++ map death (numbers_where (any_kills_node incidents.now shape) shape.nodes)) }
+{
+    for node in 0..shape.nodes {
+        if any_kills_node(incidents, shape, node) {
+            events.push(Event::Dead { node: NodeId(node) })?;
+        }
+    }
+    Ok(())
+}
+
+fn push_failures(
+    events: &mut Vec<Event>,
+    shape: Shape,
+    incidents: &[Incident],
+) -> Result<(), AllocError>
+    ensures { OnOk result (events.new.items ≡ events.old.items
+        ++ map failure (numbers_where (fails_alone incidents.now shape) (shape.nodes * shape.storages))) }
+{
+    for storage in 0..shape.all_storages() {
+        if fails_alone(incidents, shape, storage) {
+            events.push(Event::StorageFailed {
+                storage: StorageId(storage),
+            })?;
+        }
+    }
+    Ok(())
+}
+
+fn push_drains(
+    events: &mut Vec<Event>,
+    shape: Shape,
+    incidents: &[Incident],
+) -> Result<(), AllocError>
+    ensures { OnOk result (events.new.items ≡ events.old.items
+        ++ map drain (numbers_where (drains_alive incidents.now shape) shape.nodes)) }
+{
+    for node in 0..shape.nodes {
+        if drains_alive(incidents, shape, node) {
+            events.push(Event::Drain { node: NodeId(node) })?;
+        }
+    }
+    Ok(())
+}
+
+/// Whether the disk is gone and its node is not.
+fn fails_alone(incidents: &[Incident], shape: Shape, storage: u32) -> bool
+    ensures { result ≡ fails_alone incidents.now shape storage }
+{
+    any_kills(incidents, shape, storage)
+        && !any_kills_node(incidents, shape, shape.node_of(storage))
+}
+
+/// Whether the node is to drain and is not gone.
+fn drains_alive(incidents: &[Incident], shape: Shape, node: u32) -> bool
+    ensures { result ≡ drains_alive incidents.now shape node }
+{
+    any_drains(incidents, node) && !any_kills_node(incidents, shape, node)
+}
