@@ -59,10 +59,7 @@ fn level_of(manager: &Manager, block: BlockId) -> Option<Level>
 fn count_at(levels: &[Option<Level>], urgency: Level) -> u64
     ensures { result ≡ count_by (is_at urgency) levels.now }
 {
-    let count = levels
-        .iter()
-        .filter(|found| is_at(found, urgency))
-        .count();
+    let count = levels.iter().filter(|found| is_at(found, urgency)).count();
     count as u64
 }
 

@@ -1,9 +1,8 @@
 // Why a run ends early.
 
 use std::alloc::AllocError;
-use std::fmt;
-use std::io;
 use std::io::ErrorKind;
+use std::{fmt, io};
 
 #[derive(Drop)]
 pub enum Fault {

@@ -17,9 +17,15 @@ pub enum Misuse<'a> {
         count: u32,
     },
     /// More corrupt replicas than blocks.
-    FewBlocks { corrupt: u32, blocks: u32 },
+    FewBlocks {
+        corrupt: u32,
+        blocks: u32,
+    },
     /// It would happen after the last round.
-    TooLate { round: u32, rounds: u32 },
+    TooLate {
+        round: u32,
+        rounds: u32,
+    },
 }
 
 impl From<AllocError> for Misuse<'_> {

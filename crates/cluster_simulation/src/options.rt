@@ -210,8 +210,7 @@ fn lose<'a>(alloc: Global) -> Arg<'a> {
 }
 
 fn drain<'a>(alloc: Global) -> Arg<'a> {
-    several(alloc, "drain", "N")
-        .help("this node is to be taken away; may be given several times")
+    several(alloc, "drain", "N").help("this node is to be taken away; may be given several times")
 }
 
 fn corrupt<'a>(alloc: Global) -> Arg<'a> {

@@ -5,8 +5,8 @@ ghost use Rattle.bm_base.specs.declared.refusal.Refusal.TheVariants.{Memory};
 ghost use Rattle.cluster_simulation.specs.Counting.{IsCounted};
 
 use crate::awaited::AwaitedCopies;
-use crate::counting::count_blocks;
 use crate::corrupt::corrupt_events;
+use crate::counting::count_blocks;
 use crate::counts::Counts;
 use crate::datanodes::{carry_out, heartbeat, registration};
 use crate::dice::Dice;
@@ -57,11 +57,7 @@ impl Simulation {
     }
 
     /// No node is registered yet.
-    fn before_all(
-        alloc: Global,
-        options: Options,
-        plan: Plan,
-    ) -> Result<Simulation, AllocError> {
+    fn before_all(alloc: Global, options: Options, plan: Plan) -> Result<Simulation, AllocError> {
         match Manager::new(alloc, Config::standard()) {
             Ok(manager) => Simulation::around(alloc, options, plan, manager),
             Err(_) => Err(AllocError),

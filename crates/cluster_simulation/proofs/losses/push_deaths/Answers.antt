@@ -8,9 +8,9 @@ use Rattle.cluster_simulation.proofs.losses.push_deaths.Goals.{then-any_kills_no
 pub loop-node-preserved : goal.loop-node-preserved
 loop-node-preserved c = elim c.if-any_kills_node.branch [
   | then-any_kills_node+in_ok-push w ↦
-    let more = one_more_number death (any_kills_node c.args.incidents.now c.args.shape) c.loop-node.node (search rules) in
-    grind (arith, common_steps, append_assoc, more)
+      let more = one_more_number death (any_kills_node c.args.incidents.now c.args.shape) c.loop-node.node (search rules) in
+      grind (arith, common_steps, append_assoc, more)
   | else-any_kills_node w ↦
-    let same = no_more_number (any_kills_node c.args.incidents.now c.args.shape) c.loop-node.node (search rules) in
-    grind (arith, common_steps, same)
+      let same = no_more_number (any_kills_node c.args.incidents.now c.args.shape) c.loop-node.node (search rules) in
+      grind (arith, common_steps, same)
 ]

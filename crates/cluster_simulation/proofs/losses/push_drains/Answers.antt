@@ -8,9 +8,9 @@ use Rattle.cluster_simulation.proofs.losses.push_drains.Goals.{then-drains_alive
 pub loop-node-preserved : goal.loop-node-preserved
 loop-node-preserved c = elim c.if-drains_alive.branch [
   | then-drains_alive+in_ok-push w ↦
-    let more = one_more_number drain (drains_alive c.args.incidents.now c.args.shape) c.loop-node.node (search rules) in
-    grind (arith, common_steps, append_assoc, more)
+      let more = one_more_number drain (drains_alive c.args.incidents.now c.args.shape) c.loop-node.node (search rules) in
+      grind (arith, common_steps, append_assoc, more)
   | else-drains_alive w ↦
-    let same = no_more_number (drains_alive c.args.incidents.now c.args.shape) c.loop-node.node (search rules) in
-    grind (arith, common_steps, same)
+      let same = no_more_number (drains_alive c.args.incidents.now c.args.shape) c.loop-node.node (search rules) in
+      grind (arith, common_steps, same)
 ]
