@@ -11,7 +11,7 @@ use std::alloc::{AllocError, Global};
 /// So many slots at a level at which copies are wished for are to be there for each unsettled one, that a bound is worth while.
 const WISHING_FOR_UNSETTLED: usize = 4;
 
-/// With so many samples before the bound, it is off by about a tenth.
+/// With this number of samples before the bound, it is off by about a tenth.
 const SAMPLES_BEFORE: usize = 128;
 
 /// A bound before which about so many blocks wish for copies: a block for which a transfer is on

@@ -4,7 +4,7 @@
 //! of its numbers and reserves all memory, and may be refused it; then `apply_full`,
 //! `apply_received` or `abort` takes none and succeeds. A `Report` keeps the slots in between, so
 //! that a number that has an entry is hashed at most twice, reads 64 numbers ahead, and lists
-//! the slots that change; a shard holds one. The free functions keep nothing and look each number up anew.
+//! the slots that change; a shard holds one. The free functions keep nothing and look each number up again.
 //! What an arena holds as blocks and replicas is said by two finite maps.
 #![tactic(auto)]
 

@@ -15,7 +15,7 @@ use crate::types::Named;
 use bm_arena::{Arena, Slot};
 use bm_base::{BlockId, Entry, Part, Refusal, Stamp, StorageId};
 
-/// The entries of so many numbers of a report are read together.
+/// How many entries of a report are read together.
 const CHUNK: usize = 64;
 
 /// The slot of a number, which has an entry from now on.
@@ -174,7 +174,7 @@ fn is_known(arena: &Arena, entry: &Entry) -> bool {
 }
 
 /// Looks up all numbers of the part that a report of a storage names, and reserves what `apply`
-/// needs beside `changed`. A number that has an entry is hashed at most twice, and a new one three
+/// needs next to `changed`. A number that has an entry is hashed at most twice, and a new one three
 /// times. Nothing that is held changes. `Memory`.
 pub(crate) fn look_up(
     arena: &mut Arena,

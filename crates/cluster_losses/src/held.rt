@@ -59,7 +59,7 @@ impl Held {
         }
     }
 
-    /// Makes a call. What is told of its answer.
+    /// Makes a call. Returns a note if it is refused.
     fn take_call<H: Threads + Wait + Sync>(
         &mut self,
         rt: &H,

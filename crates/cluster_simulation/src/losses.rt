@@ -1,4 +1,4 @@
-// What the manager is told of the incidents.
+// The events by which the manager learns of the incidents.
 ghost use Rattle.std.specs.Prelude.{◌≡◌, ◌*◌, ◌++◌, OnOk, IfOk, map};
 ghost use Rattle.cluster_simulation.specs.Incidents.{numbers_where, any_kills_node, fails_alone, drains_alive, death, failure, drain, reported};
 

@@ -264,7 +264,7 @@ impl Simulation {
         Ok(())
     }
 
-    /// What is planned happens, and the manager is told of it.
+    /// What is planned happens, and the manager gets the events.
     fn go_wrong<R: Threads + Wait + Sync>(&mut self, rt: &R) -> Result<(), AllocError> {
         let Options { shape, blocks, .. } = self.options;
         self.fail_disks(shape);
