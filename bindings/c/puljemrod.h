@@ -18,8 +18,8 @@
  *   - A handle begins as zeros. Only these functions write it. It is never copied or moved.
  *   - A handle is in one call at a time. Calls on different handles may run at the same time. A handle may pass
  *     from thread to thread: its calls are then ordered by a lock, by a thread's start or by its join.
- *   - No pointer is NULL. One with a length leads to that many bytes; where the length is 0, any other
- *     pointer will do. What a call writes overlaps nothing else that it is given.
+ *   - No pointer is NULL. One with a length or a count leads to that many bytes or items; where it is 0, any other
+ *     pointer will do, aligned as its type asks. What a call writes overlaps nothing else that it is given.
  *   - No call is made from a signal handler, or in a forked child of a process with threads.
  *   - The calling thread has one MiB of stack left.
  *   - The processor has the instructions of x86-64-v2 (from about 2009 on).
@@ -95,14 +95,15 @@ uint32_t puljemrod_open(puljemrod *handle, const puljemrod_options *options);
  * PULJEMROD_OK, or the number of a refusal: the state and the answer are the definition's, and the answer is a
  * text of `*answer_len` bytes, also where it is a refusal. A refused line changes nothing.
  * PULJEMROD_NO_TEXT: the same, but the text is not made yet; `*answer_len` is 0.
- * PULJEMROD_MEMORY: nothing is changed, and the answer before is kept; `*answer_len` is 0.
+ * PULJEMROD_MEMORY: nothing is changed, and the answer before is kept; `*answer_len` is 0. A line that is too long
+ * is never refused for memory.
  * PULJEMROD_CLOSED: the handle is closed; `*answer_len` is as it was. */
 uint32_t puljemrod_line(puljemrod *handle, const void *line, size_t line_len, size_t *answer_len);
 
 /* Makes the text of the last answer, where it is not made: memory was refused for it, or the call was made by a
- * function of its own. Returns what the call returned; or PULJEMROD_NO_TEXT, where memory is refused.
- * Where there is a text already it is kept. It changes no state. PULJEMROD_CLOSED where the handle is closed;
- * `*answer_len` is as it was. */
+ * function of its own. Returns what the call returned; or PULJEMROD_NO_TEXT, where memory is refused: then nothing
+ * is changed, and `*answer_len` is 0. A text that is made already is kept, and takes no memory. No state changes.
+ * PULJEMROD_CLOSED where the handle is closed; `*answer_len` is as it was. */
 uint32_t puljemrod_text(puljemrod *handle, size_t *answer_len);
 
 /* Copies the text of the last answer, without a line end, from byte `from` on: as many bytes as there are, at
@@ -116,8 +117,12 @@ uint32_t puljemrod_close(puljemrod *handle);
 /* ---- Events by functions of their own
  *
  * Each is a line's event without the text: faster, and with the same codes. PULJEMROD_OK, or the number of a
- * refusal, says what the line would; puljemrod_text makes the text of the answer. PULJEMROD_MEMORY changes
- * nothing, and the answer before is kept. Lists are read while the call runs, and not kept. */
+ * refusal, says what the line would; puljemrod_text makes the text of the answer. Lists are read while the call
+ * runs, and not kept.
+ *
+ * PULJEMROD_MEMORY changes nothing, and the answer before is kept. It comes only where nothing else refuses the event,
+ * but for events with a list, which is copied first. It never comes from puljemrod_delete_block,
+ * puljemrod_set_replication, puljemrod_restamp, puljemrod_deleted and puljemrod_corrupt, which take no memory. */
 
 /* The blocks from `from` to `to`, all with one generation and length. A run that ends before it begins names none. */
 typedef struct puljemrod_entry {
@@ -172,7 +177,8 @@ uint32_t puljemrod_done(puljemrod *handle, puljemrod_counts *counts);
  *
  * Each is a line's question without the text, with the same codes: PULJEMROD_OK, or the number of a refusal.
  * With PULJEMROD_OK it writes its last argument; otherwise that stays as it was. It changes no state. The handle
- * keeps the answer, whose text puljemrod_text makes. PULJEMROD_MEMORY keeps the answer before. */
+ * keeps the answer, whose text puljemrod_text makes. PULJEMROD_MEMORY keeps the answer before; it comes only from
+ * functions that make a list, where nothing else refuses the question. */
 
 /* The level that puljemrod_level gives for a block in no queue. */
 enum { PULJEMROD_NO_LEVEL = 5 };
@@ -181,7 +187,8 @@ enum { PULJEMROD_NO_LEVEL = 5 };
 uint32_t puljemrod_level(puljemrod *handle, uint64_t id, uint64_t *level);
 /* Whether a DataNode can be taken away: 1 or 0. */
 uint32_t puljemrod_retired(puljemrod *handle, uint32_t node, uint64_t *is_retired);
-/* The number of accepted events and rounds, and the number of the last round. */
+/* The number of accepted events and rounds, and the number of the last round. No line asks for these: their text
+ * is empty. */
 uint32_t puljemrod_calls(puljemrod *handle, uint64_t *calls);
 uint32_t puljemrod_rounds(puljemrod *handle, uint64_t *rounds);
 

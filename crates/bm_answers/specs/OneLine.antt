@@ -1,11 +1,11 @@
 -- The answer to one line: the call that it asks for is made, and the answer is a line.
-use Rattle.std.specs.Prelude.{ℕ, Bool, true, List, length, if◌then◌else◌, nat_lt, Option, Some, None, codes}
+use Rattle.std.specs.Prelude.{ℕ, Bool, true, false, List, length, if◌then◌else◌, nat_lt, Option, Some, None, codes}
 use Rattle.bm_base.specs.declared.call.Call.{Call}
 use Rattle.bm_base.specs.declared.call.Answer.{Answer}
 use Rattle.bm_base.specs.declared.call.Answer.TheVariants as answer
 use Rattle.bm_base.specs.State.{State}
 use Rattle.bm_base.specs.Calls.{step}
-use Rattle.bm_base.specs.Answering.{is_refused}
+use Rattle.bm_base.specs.Answering.{is_refused, may_lack_memory}
 use Rattle.bm_base.specs.Refusals.{refusal_number}
 use Rattle.bm_lines.specs.declared.limits.TheConstants.{MAX_LINE}
 use Rattle.bm_lines.specs.Print.{answer_text}
@@ -33,6 +33,11 @@ answer_to M (Asks k) = line.Answered k (step M k).0
 abbrev pub asked_next : State → Asked → State
 asked_next M (Asks k) = (step M k).1
 asked_next M _ = M
+
+-- whether memory may lack for it: it is a call that takes some, and nothing else refuses it
+abbrev pub asked_may_lack : State → Asked → Bool
+asked_may_lack M (Asks k) = may_lack_memory step M k
+asked_may_lack M _ = false
 
 -- the text of an answer, whether it begins with `refused`, and the number behind that word
 

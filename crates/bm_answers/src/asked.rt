@@ -1,6 +1,7 @@
 // What a line asks.
-ghost use Rattle.std.specs.Prelude.{◌≡◌, IfOk, List, ℕ};
+ghost use Rattle.std.specs.Prelude.{◌≡◌, IfOk, OnErr, List, ℕ};
 ghost use Rattle.bm_lines.specs.Held.{Holds};
+ghost use Rattle.bm_answers.specs.declared.asked.Asked.TheVariants.{Long};
 ghost use Rattle.bm_answers.specs.OneLine.{asked};
 
 use bm_base::Call;
@@ -27,9 +28,10 @@ pub fn asked_by(alloc: Global, line: &Line) -> Result<Asked, AllocError>
     asked_of(alloc, line.bytes.as_slice())
 }
 
-/// What the bytes of a line ask.
+/// What the bytes of a line ask. `Err` where memory was refused, and the line is not too long.
 pub fn asked_of(alloc: Global, line: &[u8]) -> Result<Asked, AllocError>
-    ensures { IfOk result (λ a. a ≡ asked line.now) }
+    ensures asked { IfOk result (λ a. a ≡ asked line.now) }
+    ensures not_long { OnErr result (asked line.now ≡ Long → ⊥) }
 {
     if line.len() > MAX_LINE {
         return Ok(Asked::Long);

@@ -1,8 +1,8 @@
 // The answer to what a line asks.
-ghost use Rattle.std.specs.Prelude.{◌≡◌, IfOk, OnOk, OnErr, string_bytes, true, false};
+ghost use Rattle.std.specs.Prelude.{◌≡◌, IfOk, OnOk, OnErr, IsTrue, string_bytes, true, false};
 ghost use Rattle.bm_base.specs.Answering.{wants_memory};
 ghost use Rattle.bm_answers.specs.declared.line_answer.LineAnswer.TheVariants.{Answered};
-ghost use Rattle.bm_answers.specs.OneLine.{answer_to, asked_next, text_of, is_refusal, number_of};
+ghost use Rattle.bm_answers.specs.OneLine.{answer_to, asked_next, asked_may_lack, text_of, is_refusal, number_of};
 
 use crate::asked::Asked;
 use bm_base::{Answer, Call};
@@ -68,7 +68,7 @@ fn number(answer: &Answer) -> u32
 }
 
 /// Makes the call that a line asks for, if there is one, by threads. `Err` where memory was refused: then
-/// the call has changed nothing.
+/// the call takes memory, nothing else refuses it, and it has changed nothing.
 pub fn make_call<H: Threads + Wait + Sync>(
     rt: &H,
     manager: &mut Manager,
@@ -78,6 +78,7 @@ pub fn make_call<H: Threads + Wait + Sync>(
     ensures memory { IfOk result (λ a. number_of a ≡ 14 → ⊥) }
     ensures next { OnOk result (manager.new ≡ asked_next manager.old asked) }
     ensures unchanged { OnErr result (manager.new ≡ manager.old) }
+    ensures lacked { OnErr result (IsTrue (asked_may_lack manager.old asked)) }
 {
     match asked {
         Asked::Long => Ok(LineAnswer::Long),
@@ -95,6 +96,7 @@ pub fn make_call_alone(manager: &mut Manager, asked: Asked) -> Result<LineAnswer
     ensures memory { IfOk result (λ a. number_of a ≡ 14 → ⊥) }
     ensures next { OnOk result (manager.new ≡ asked_next manager.old asked) }
     ensures unchanged { OnErr result (manager.new ≡ manager.old) }
+    ensures lacked { OnErr result (IsTrue (asked_may_lack manager.old asked)) }
 {
     match asked {
         Asked::Long => Ok(LineAnswer::Long),

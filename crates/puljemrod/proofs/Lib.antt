@@ -1,4 +1,5 @@
 mod AsBox
 mod Somes
 mod Lines
+mod Listed
 mod RowLists

@@ -1,8 +1,10 @@
 -- A line is answered where what it asks for is done.
-use Rattle.std.proofs.Common.{◌≡◌, ℕ, List, ap, ◌∙◌}
+use Rattle.std.proofs.Common.{◌≡◌, ℕ, List, IsTrue, Result, Ok, Err, ap, ◌∙◌}
+use Rattle.std.specs.Prelude.{OnErr}
 use Rattle.bm_base.specs.State.{State}
 use Rattle.bm_answers.specs.declared.asked.Asked.{Asked}
-use Rattle.bm_answers.specs.OneLine.{asked, answer_to, asked_next, text_of, number_of, line_text, line_next, line_number}
+use Rattle.bm_answers.specs.declared.asked.Asked.TheVariants.{Long}
+use Rattle.bm_answers.specs.OneLine.{asked, answer_to, asked_next, asked_may_lack, text_of, number_of, line_text, line_next, line_number}
 use Rattle.puljemrod.specs.declared.kept.Kept.{Kept}
 use Rattle.puljemrod.specs.Calls.{text_with, IsAsked, IsAnswered}
 
@@ -14,3 +16,11 @@ answered M line a k e p = record {
   text = ap (λ o. text_with o k.text.items) p.answer ∙ ap (λ x. text_of (answer_to M x)) e;
   no_memory = p.no_memory;
 }
+
+-- memory lacks for no line that is too long
+not_long : (M : State) (line : List ℕ) (a : Asked) → a ≡ asked line → IsTrue (asked_may_lack M a) → asked line ≡ Long → ⊥
+not_long M line a e may is = absurd (cc (may, ap (asked_may_lack M) (e ∙ is)))
+
+pub on_err_not_long : {T E : Type 0} (r : Result T E) (M : State) (line : List ℕ) (a : Asked) → a ≡ asked line → IsTrue (asked_may_lack M a) → OnErr r (asked line ≡ Long → ⊥)
+on_err_not_long (Ok x) M line a e may = tt
+on_err_not_long (Err x) M line a e may = not_long M line a e may

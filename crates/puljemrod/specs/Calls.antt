@@ -1,5 +1,5 @@
 -- What a call on a handle comes to: its code, and what is kept behind the handle.
-use Rattle.std.specs.Prelude.{◌≡◌, ◌⊎◌, ℕ, true, List, [], length, Option, Some, None}
+use Rattle.std.specs.Prelude.{◌≡◌, ◌⊎◌, ℕ, true, IsTrue, List, [], length, Option, Some, None}
 use Rattle.bm_base.specs.declared.config.Config.{Config}
 use Rattle.bm_base.specs.declared.call.Call.{Call}
 use Rattle.bm_base.specs.declared.call.Call.TheVariants.{Apply}
@@ -7,12 +7,13 @@ use Rattle.bm_base.specs.declared.event.Event.{Event}
 use Rattle.bm_base.specs.declared.refusal.Refusal.{Refusal}
 use Rattle.bm_base.specs.State.{State, first_state}
 use Rattle.bm_base.specs.Configuration.{config_refusal}
-use Rattle.bm_base.specs.Answering.{Refuses}
+use Rattle.bm_base.specs.Calls.{step}
+use Rattle.bm_base.specs.Answering.{Refuses, may_lack_memory}
 use Rattle.bm_base.specs.Refusals.{refusal_number}
 use Rattle.bm_answers.specs.declared.asked.Asked.{Asked}
-use Rattle.bm_answers.specs.declared.asked.Asked.TheVariants.{Asks}
+use Rattle.bm_answers.specs.declared.asked.Asked.TheVariants.{Asks, Long}
 use Rattle.bm_answers.specs.declared.line_answer.LineAnswer.{LineAnswer}
-use Rattle.bm_answers.specs.OneLine.{answer_to, asked_next, number_of, text_of, line_text, line_next, line_number}
+use Rattle.bm_answers.specs.OneLine.{asked, answer_to, asked_next, number_of, text_of, line_text, line_next, line_number}
 use Rattle.puljemrod.specs.declared.codes.TheConstants.{MEMORY, CLOSED, NO_TEXT}
 use Rattle.puljemrod.specs.declared.options.Options.{Options}
 use Rattle.puljemrod.specs.declared.kept.Kept.{Kept}
@@ -66,20 +67,30 @@ pub record IsAnswered (M : State) (line : List ℕ) (k : Kept) : Type 0 where
 abbrev pub IsTold : List ℕ → Kept → ℕ → ℕ → Type 0
 IsTold before k code len = ((code ≡ k.number) × (k.answer ≡ None) × (len ≡ length k.text.items)) ⊎ ((code ≡ NO_TEXT) × (len ≡ 0) × (k.text.items ≡ before))
 
--- A call on a line: memory was refused, and nothing is changed; or the line is answered.
+-- A call on a line: memory was refused for a line that is not too long, and nothing is changed; or the line is answered.
 abbrev pub IsLine : Kept → List ℕ → Kept → ℕ → ℕ → Type 0
-IsLine k line now code len = ((code ≡ MEMORY) × (now ≡ k) × (len ≡ 0)) ⊎ (IsAnswered k.manager line now × IsTold [] now code len)
+IsLine k line now code len = ((code ≡ MEMORY) × (now ≡ k) × (len ≡ 0) × (asked line ≡ Long → ⊥)) ⊎ (IsAnswered k.manager line now × IsTold [] now code len)
 
--- A call by its own function: memory was refused, and nothing is changed; or the call is made as the definition says.
+-- the call is made as the definition says
+abbrev pub IsMade : Kept → Call → Kept → ℕ → Type 0
+IsMade k c now code = IsAsked k.manager (Asks c) now × (code ≡ now.number)
+
+-- A call by its own function: memory was refused, which may only be where the call takes memory and nothing else refuses
+-- it, and nothing is changed; or the call is made.
 abbrev pub IsCall : Kept → Call → Kept → ℕ → Type 0
-IsCall k c now code = ((code ≡ MEMORY) × (now ≡ k)) ⊎ (IsAsked k.manager (Asks c) now × (code ≡ now.number))
+IsCall k c now code = ((code ≡ MEMORY) × (now ≡ k) × IsTrue (may_lack_memory step k.manager c)) ⊎ IsMade k c now code
 
--- The text of the last answer is asked for: state and answer stay as they are.
+-- The same of an event with a list, which is copied first: memory may be refused for the copy, whatever the event.
+abbrev pub IsListed : Kept → Call → Kept → ℕ → Type 0
+IsListed k c now code = ((code ≡ MEMORY) × (now ≡ k)) ⊎ IsMade k c now code
+
+-- The text of the last answer is asked for: state and answer stay as they are. A text that is made already is not refused,
+-- and where memory is refused nothing is changed.
 pub record IsText (k now : Kept) (code len : ℕ) : Type 0 where
   pub state : now.manager ≡ k.manager
   pub number : now.number ≡ k.number
   pub text : last_text now ≡ last_text k
-  pub told : IsTold k.text.items now code len
+  pub told : ((code ≡ k.number) × (now.answer ≡ None) × (len ≡ length now.text.items)) ⊎ ((code ≡ NO_TEXT) × (len ≡ 0) × (now ≡ k) × (k.answer ≡ None → ⊥))
 
 -- what a call makes of a closed handle, whose length of an answer stays as it was, and of an open one
 
@@ -97,3 +108,7 @@ AfterCall (Some k) c now code = (n : Kept) × (now ≡ Some n) × IsCall k c n c
 
 abbrev pub AfterEvent : Option Kept → Event → Option Kept → ℕ → Type 0
 AfterEvent old e now code = AfterCall old (Apply e) now code
+
+abbrev pub AfterListed : Option Kept → Event → Option Kept → ℕ → Type 0
+AfterListed None e now code = (code ≡ CLOSED) × (now ≡ None)
+AfterListed (Some k) e now code = (n : Kept) × (now ≡ Some n) × IsListed k (Apply e) n code

@@ -1,7 +1,7 @@
 // Calls by functions of their own, made on the manager of a handle.
 ghost use Rattle.std.specs.Prelude.{◌≡◌, IfOk};
 ghost use Rattle.bm_base.specs.declared.event.Event.{Event};
-ghost use Rattle.puljemrod.specs.Calls.{AfterCall, AfterEvent};
+ghost use Rattle.puljemrod.specs.Calls.{AfterCall, AfterEvent, AfterListed};
 
 use crate::codes::{CLOSED, MEMORY};
 use crate::handle::Slot;
@@ -29,7 +29,7 @@ pub fn apply(alloc: Global, slot: &mut Slot, event: Event) -> u32
 /// An event with a list, for whose copy memory may have been refused.
 pub fn apply_made(alloc: Global, slot: &mut Slot, event: Result<Event, AllocError>) -> u32
     ensures { (e : Event) → IfOk event (λ x. x ≡ e)
-        → AfterEvent slot.old.handle.kept e slot.new.handle.kept result }
+        → AfterListed slot.old.handle.kept e slot.new.handle.kept result }
 {
     match event {
         Ok(event) => apply(alloc, slot, event),

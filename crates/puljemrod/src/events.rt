@@ -1,7 +1,7 @@
 // The events, each by a function of its own.
 ghost use Rattle.std.specs.Prelude.{map};
 ghost use Rattle.bm_base.specs.declared.event.Event.TheVariants as event;
-ghost use Rattle.puljemrod.specs.Calls.{AfterEvent};
+ghost use Rattle.puljemrod.specs.Calls.{AfterEvent, AfterListed};
 ghost use Rattle.puljemrod.specs.Rows.{entry_of, remaining_of, stamp};
 
 use crate::calls::{apply, apply_made};
@@ -19,7 +19,7 @@ pub extern "C" fn puljemrod_register(
     rack: u32,
     storages: &[u32],
 ) -> u32
-    ensures { AfterEvent slot.old.handle.kept (event.Register node rack storages.now) slot.new.handle.kept result }
+    ensures { AfterListed slot.old.handle.kept (event.Register node rack storages.now) slot.new.handle.kept result }
 {
     apply_made(alloc, slot, register(alloc, node, rack, storages))
 }
@@ -70,7 +70,7 @@ pub extern "C" fn puljemrod_heartbeat(
     node: u32,
     remaining: &[RemainingRow],
 ) -> u32
-    ensures { AfterEvent slot.old.handle.kept (event.Heartbeat node (map remaining_of remaining.now)) slot.new.handle.kept result }
+    ensures { AfterListed slot.old.handle.kept (event.Heartbeat node (map remaining_of remaining.now)) slot.new.handle.kept result }
 {
     apply_made(alloc, slot, heartbeat(alloc, node, remaining))
 }
@@ -208,7 +208,7 @@ pub extern "C" fn puljemrod_full_report(
     storage: u32,
     entries: &[EntryRow],
 ) -> u32
-    ensures { AfterEvent slot.old.handle.kept (event.FullReport storage (map entry_of entries.now)) slot.new.handle.kept result }
+    ensures { AfterListed slot.old.handle.kept (event.FullReport storage (map entry_of entries.now)) slot.new.handle.kept result }
 {
     apply_made(alloc, slot, full_report(alloc, storage, entries))
 }

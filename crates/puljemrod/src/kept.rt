@@ -1,7 +1,9 @@
 // What an open handle leads to.
-ghost use Rattle.std.specs.Prelude.{◌≡◌, [], true, None, IfOk, IfErr, OnOk, OnErr};
+ghost use Rattle.std.specs.Prelude.{◌≡◌, [], true, None, IfOk, IfErr, OnOk, OnErr, IsTrue};
 ghost use Rattle.bm_base.specs.Configuration.{config_refusal};
 ghost use Rattle.bm_base.specs.Answering.{Refuses};
+ghost use Rattle.bm_answers.specs.declared.asked.Asked.TheVariants.{Long};
+ghost use Rattle.bm_answers.specs.OneLine.{asked, asked_may_lack};
 ghost use Rattle.puljemrod.specs.Calls.{config_of, last_text, IsFirst, IsAsked, IsAnswered, IsLine, IsCall, IsText};
 
 use crate::codes::{MEMORY, NO_TEXT};
@@ -56,6 +58,7 @@ fn answer_line(alloc: Global, kept: &mut Kept, line: &[u8]) -> Result<(), AllocE
     ensures answered { OnOk result (IsAnswered kept.old.manager line.now kept.new) }
     ensures no_text { OnOk result (kept.new.text.items ≡ []) }
     ensures unchanged { OnErr result (kept.new ≡ kept.old) }
+    ensures not_long { OnErr result (asked line.now ≡ Long → ⊥) }
 {
     let asked = asked_of(alloc, line)?;
     answer_asked(alloc, kept, asked)?;
@@ -76,6 +79,7 @@ pub fn take_call(alloc: Global, kept: &mut Kept, call: Call) -> u32
 fn answer_asked(alloc: Global, kept: &mut Kept, asked: Asked) -> Result<(), AllocError>
     ensures answered { OnOk result (IsAsked kept.old.manager asked kept.new) }
     ensures unchanged { OnErr result (kept.new ≡ kept.old) }
+    ensures lacked { OnErr result (IsTrue (asked_may_lack kept.old.manager asked)) }
 {
     let answer = make_call_alone(&mut kept.manager, asked)?;
     kept.number = answer.number();
@@ -106,7 +110,8 @@ fn try_text(alloc: Global, kept: &mut Kept) -> Result<(), AllocError>
     ensures number { kept.new.number ≡ kept.old.number }
     ensures text { last_text kept.new ≡ last_text kept.old }
     ensures made { OnOk result (kept.new.answer ≡ None) }
-    ensures not_made { OnErr result (kept.new.text.items ≡ kept.old.text.items) }
+    ensures unchanged { OnErr result (kept.new ≡ kept.old) }
+    ensures not_made { OnErr result (kept.old.answer ≡ None → ⊥) }
 {
     if let Some(answer) = &kept.answer {
         let text = answer.text(alloc)?;

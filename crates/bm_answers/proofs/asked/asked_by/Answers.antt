@@ -12,4 +12,4 @@ returns-then-line c = λ rest held. asked-long rest (rw c.if-line.true at held)
 pub returns : goal.returns
 returns c =
     IfOk-weaker _ (λ (a : Asked). a ≡ asked c.as_slice.result.now) (λ (a : Asked). (rest : List ℕ) → Holds c.args.line.now rest → a ≡ asked rest)
-    (λ a e rest held. let known = rw c.if-line.false at held in e ∙ ap asked (c.as_slice.ensures.value ∙ known.0)) c.asked_of.ensures
+    (λ a e rest held. let known = rw c.if-line.false at held in e ∙ ap asked (c.as_slice.ensures.value ∙ known.0)) c.asked_of.ensures.asked

@@ -1,4 +1,5 @@
-use Rattle.std.proofs.Common.{inl, refl, sym, ◌∙◌}
+use Rattle.std.proofs.Common.{◌≡◌, inl, refl, sym, ◌∙◌}
+use Rattle.puljemrod.proofs.Listed.{listed}
 use Rattle.puljemrod.proofs.Somes.{some_of}
 use Rattle.puljemrod.proofs.calls.apply_made.Goals as goal
 
@@ -6,3 +7,8 @@ pub returns-in-Err : goal.returns-in-Err
 returns-in-Err c = λ e none.
     let kept = some_of c.args.slot.now.handle.kept (sym c.args.slot.now.told ∙ c.if-slot.true) in
     rw kept.1 (kept.0, refl, inl (refl, refl))
+
+pub returns-in-Ok : goal.returns-in-Ok
+returns-in-Ok c = λ e is.
+    let same : c.in-Ok.event ≡ e = rw c.in-Ok.is at is in
+    listed c.args.slot.now.handle.kept e c.apply.new.slot.handle.kept c.apply.result (rw same at c.apply.ensures)
