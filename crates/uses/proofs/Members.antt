@@ -19,7 +19,7 @@ among_either x y (z ∷ zs) there =
       | inr later ↦ elim (among_either x y zs later) [ inl front ↦ inl (inr front) | inr last ↦ inr last ]
     ]
 
--- where a set had the slots of a list, and then one more came into it, it has those of the list with this one
+-- a set that holds the slots of a list, after one more is inserted, holds those and this one
 pub one_more : (x : ℕ) (xs before after : List ℕ) → ((slot : ℕ) → Among slot before ↔ Among slot xs) → Among x after
     → ((slot : ℕ) → slot ≢ x → Among slot after ↔ Among slot before) → (slot : ℕ) → Among slot after ↔ Among slot (xs ++ x ∷ [])
 one_more x xs before after same held others slot =

@@ -11,7 +11,7 @@ use Rattle.bm_base.specs.Refusals.{refusal_of}
 use Rattle.bm_base.specs.Answering.{Refuses}
 use Rattle.uses.specs.Turns.{StopsAmong, event_refusal}
 
--- a refusal is want of memory, or the definition's
+-- a refusal is for memory, or the definition's
 refused_so : (o : Option Refusal) (takes : Bool) (e : Refusal) → Refuses o takes e → (e ≡ Memory) ⊎ (o ≡ Some e)
 refused_so None true e h = inl h
 refused_so None false e h = absurd h
@@ -31,7 +31,7 @@ stops_at M N told i x d e takes inside is state cause = record {
       (subst (λ y. (e ≡ Memory) ⊎ (refusal_of N y ≡ Some e)) is (refused_so (refusal_of N x) takes e cause));
 }
 
--- behind an event that is taken
+-- after an event that is taken
 pub stops_behind : (M N : State) (told : List Event) (i : ℕ) (e : Refusal) → N ≡ fold after_event M (take (i + 1) told) → e ≡ Memory → StopsAmong M told e N
 stops_behind M N told i e state cause = record {
   taken = i + 1;

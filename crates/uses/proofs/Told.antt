@@ -1,11 +1,11 @@
--- What a locator that was told of a list knows of it.
+-- What a locator knows after it learned of a list of versions.
 use Rattle.std.proofs.Common.{◌≡◌, ◌≤◌, ℕ, List, [], ◌∷◌, ◌++◌, All, Option, Some, None, IfSome, length, arith, length-append, subst, refl}
 use Rattle.std.proofs.Math.Seq.{get_or-append_seam}
 use Rattle.bm_base.specs.State.{State}
 use Rattle.bm_base.specs.Versions.{Version, version}
 use Rattle.bm_view.specs.History.{last_of}
 
--- no answer is older than what was told last
+-- no answer is older than the version learned last
 pub last_told : (told : List (List Version)) (one : List Version) (n : ℕ) → All (λ known. (last_of known).calls ≤ n) (told ++ one ∷ []) → (last_of one).calls ≤ n
 last_told told one n h = subst (λ (l : List Version). (last_of l).calls ≤ n) (get_or-append_seam told one [] []) (h (length told) [] (omega (arith, length-append told (one ∷ []))))
 

@@ -1,11 +1,11 @@
--- What a reader may see that is told of versions.
+-- What a reader that learns of versions may see.
 use Rattle.std.specs.Prelude.{ℕ, ◌<◌, ◌≤◌, IfSome}
 use Rattle.uses.specs.declared.beside.Seen.{Seen}
 
--- it sees no version older than the one that it was told of
+-- it sees no version older than the one that it learned of
 abbrev pub IsNoOlder : Seen → Type 0
 IsNoOlder s = IfSome s.found (λ found. s.told ≤ found.calls)
 
--- it was told of a version behind so many calls
+-- it learned of the version after this number of calls
 abbrev pub IsToldAfter : ℕ → Seen → Type 0
 IsToldAfter calls s = calls < s.told

@@ -20,7 +20,7 @@ first_copy C live urgency block stamp =
 abbrev pub FitsOnTarget : Cluster → ℕ → Option Transfer → Type 0
 FitsOnTarget C len copy = IfSome copy (λ t. len ≤ remaining C t.target)
 
--- it goes to no node on which one of these storages stands
+-- it goes to no node of one of these storages
 abbrev pub GoesToAnotherNode : Cluster → List ℕ → Option Transfer → Type 0
 GoesToAnotherNode C live copy =
     IfSome copy (λ t. (holder node : ℕ) → has live holder ≡ true → node_of C holder ≡ Some node → has_storage C node t.target ≡ false)

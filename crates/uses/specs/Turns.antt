@@ -1,4 +1,4 @@
--- Where a turn ends, or a list of changes, that is refused.
+-- At which call a turn or a list of changes is refused.
 use Rattle.std.specs.Prelude.{◌≡◌, ◌⊎◌, ℕ, true, List, [], ◌∷◌, Option, Some, None, fold, take, drop}
 use Rattle.bm_base.specs.declared.event.Event.{Event}
 use Rattle.bm_base.specs.declared.refusal.Refusal.{Refusal}
@@ -13,7 +13,7 @@ abbrev pub next_refusal : State → List Event → Option Refusal
 next_refusal M [] = round_refusal M
 next_refusal M (e ∷ es) = refusal_of M e
 
--- So many of the events were taken, and then the next call was refused: by the definition, or for want of memory.
+-- The first events were taken, and then the next call was refused: by the definition, or for memory.
 pub record StopsAt (M : State) (told : List Event) (r : Refusal) (N : State) : Type 0 where
   pub taken : ℕ
   pub state : N ≡ fold after_event M (take taken told)
@@ -24,7 +24,7 @@ abbrev pub event_refusal : State → List Event → Option Refusal
 event_refusal M [] = None
 event_refusal M (e ∷ es) = refusal_of M e
 
--- So many of the events were taken, and no more: the next is refused by the definition, or memory lacked.
+-- Only the first events were taken: the next is refused by the definition, or for memory.
 pub record StopsAmong (M : State) (told : List Event) (r : Refusal) (N : State) : Type 0 where
   pub taken : ℕ
   pub state : N ≡ fold after_event M (take taken told)

@@ -1,4 +1,4 @@
-// Changes, and beside them a reader in a thread of its own, which is told of each version.
+// Changes, with a reader in a thread of its own that learns of each version.
 ghost use Rattle.std.specs.Prelude.{◌≡◌, ◌<◌, ◌≤◌, ◌⊎◌, fold, is_some, true, Some, All, IfOk, IfErr, IfSome, OnOk};
 ghost use Rattle.bm_base.specs.Calls.{after_event};
 ghost use Rattle.bm_base.specs.Refusals.{refusal_of};
@@ -17,25 +17,26 @@ use std::marker::{Brand, PhantomData};
 use std::sync::Wait;
 use std::thread::{Threads, join_mut};
 
-/// What a reader saw once it was told of a version.
+/// What a reader saw after it learned of a version.
 #[derive(Clone, Copy, Debug, PartialEq, Eq)]
 pub struct Seen {
-    /// The calls of the version that it was told of.
+    /// The number of calls of the version that it learned of.
     pub told: u64,
-    /// Where the block was in this version or in a later one.
+    /// The replicas of the block in this version or in a later one.
     pub found: Option<Located>,
 }
 
-/// What came of changes and of the reader beside them.
+/// The results of the changes and of the reader.
 #[derive(Debug, Drop)]
 pub struct SideBySide {
-    /// The changes stop at the first that is refused, and where memory lacks.
+    /// The changes stop at the first refusal, and when out of memory.
     pub changes: Result<(), Refusal>,
-    /// What was seen after each receipt, in the order in which they came.
+    /// What the reader saw after each receipt, in the order of receipts.
     pub seen: Result<Vec<Seen>, AllocError>,
 }
 
-/// Names what one `open_view` made, and the calls before the changes, for receipts that cross a channel. A call picks them.
+/// Names the view of one `open_view` and the calls before the changes, for receipts that cross a
+/// channel. A call picks them.
 trait Home {
     ghost use Rattle.std.specs.Prelude.{ℕ};
     ghost use Rattle.bm_view.specs.Holders.{Home};
@@ -72,8 +73,8 @@ fn make_notice<J: Home>(receipt: Receipt) -> Notice<J>
     }
 }
 
-/// Takes the events one after another, and publishes after each. A thread beside it has the locator learn each receipt that comes
-/// and then look for the block.
+/// Applies the events in their order, and publishes after each. In parallel, a thread has the locator
+/// learn each receipt that comes and then look the block up.
 pub fn apply_beside_reader<R: Threads + Wait + Sync>(
     rt: &R,
     alloc: Global,
@@ -97,7 +98,8 @@ pub fn apply_beside_reader<R: Threads + Wait + Sync>(
     in_two_threads::<Brand, R>(rt, alloc, manager, publisher, locator, events, id)
 }
 
-/// The reader is the first of the two: where no thread can be started it comes last, and finds all receipts.
+/// The reader is the first of the two: if no thread can be started it runs last, and finds all
+/// receipts.
 fn in_two_threads<J: Home + Send + Sync, R: Threads + Wait + Sync>(
     rt: &R,
     alloc: Global,
@@ -153,7 +155,7 @@ fn in_two_threads<J: Home + Send + Sync, R: Threads + Wait + Sync>(
     SideBySide { changes, seen }
 }
 
-/// At its end the sender goes, and with it the last receipt has been sent.
+/// At its end the sender is dropped, after the last receipt.
 fn apply_all<J: Home, R: Threads + Wait + Sync>(
     rt: &R,
     manager: &mut Manager,
@@ -191,7 +193,7 @@ fn publish_and_tell<J: Home, R: Threads + Wait + Sync>(
     ensures home { publisher.new.home ≡ J.home }
 {
     let receipt = manager.publish(rt, publisher)?;
-    // The receiver is there as long as the sender, so it is memory that lacks.
+    // The receiver lives as long as the sender, so only memory can be refused.
     match to.send(rt, make_notice::<J>(receipt)) {
         Ok(()) => Ok(()),
         Err(_) => Err(Refusal::Memory),

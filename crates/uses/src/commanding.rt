@@ -1,4 +1,4 @@
-// What the DataNodes are told, of what the shards found for a round.
+// The commands of a round, from what the shards found.
 ghost use Rattle.std.specs.Prelude.{◌≡◌, map, false, IfOk, IfErr};
 ghost use Rattle.std.specs.List.{All};
 ghost use Rattle.bm_base.specs.declared.refusal.Refusal.TheVariants.{Memory};
@@ -15,7 +15,8 @@ use bm_round::{choose, commands};
 use bm_topo::Topology;
 use std::alloc::Global;
 
-/// What every DataNode is told in a round. Each part is in order, as a shard finds it, and no block is wished for twice.
+/// The commands of a round for all DataNodes. Each part is in order, as a shard finds it, and no
+/// block is requested twice.
 pub fn commands_of_parts(
     alloc: Global,
     round: u64,

@@ -1,4 +1,4 @@
-// One more copy of a block: from where, and to where.
+// The source and the target of one more copy of a block.
 ghost use Rattle.std.specs.Prelude.{◌≡◌, [], IfOk, IfErr};
 ghost use Rattle.bm_base.specs.declared.refusal.Refusal.TheVariants.{Memory};
 ghost use Rattle.bm_place.specs.Found.{senders_with, targets_with};
@@ -9,7 +9,8 @@ use bm_place::{Scheduled, Streams, least_source, least_target};
 use bm_topo::Topology;
 use std::alloc::Global;
 
-/// The first copy of a round for a block with these live replicas, at this level; `None` where there is no source or no target.
+/// The first copy of a round for a block with these live replicas at this level. `None` if there is
+/// no source or no target.
 pub fn first_copy(
     alloc: Global,
     topology: &Topology,
@@ -29,7 +30,7 @@ pub fn first_copy(
     Ok(copy_by(live, level, block, stamp, topology, &streams, &scheduled))
 }
 
-/// The same by tables that no transfer has been added to.
+/// The same, by tables to which no transfer was added.
 fn copy_by(
     live: &[StorageId],
     level: Level,

@@ -1,4 +1,4 @@
-// A gate: how many pieces of work a call was.
+// A gate that counts the pieces of work of a call.
 ghost use Rattle.std.specs.Prelude.{◌≡◌, None, IfOk, IfErr, OnOk, OnErr};
 ghost use Rattle.bm_base.specs.Answering.{Refuses, takes_memory};
 ghost use Rattle.bm_base.specs.Calls.{after_event, done_by};
@@ -11,7 +11,7 @@ use std::sync::Wait;
 use std::sync::atomic::{AtomicU64, Ordering};
 use std::thread::Threads;
 
-/// Counts the pieces of work that pass, on whichever thread.
+/// Counts the pieces of work that pass, on any thread.
 #[derive(Drop)]
 pub struct Pieces {
     count: AtomicU64,
@@ -35,7 +35,8 @@ impl Gate for Pieces {
     }
 }
 
-/// Takes one event, and counts the pieces of its work. The gate changes nothing of what [`Manager::apply`] promises.
+/// Applies one event and counts the pieces of its work. The gate changes nothing of what
+/// [`Manager::apply`] promises.
 pub fn apply_counted<R: Threads + Wait + Sync>(
     rt: &R,
     manager: &mut Manager,

@@ -4,7 +4,8 @@ ghost use Rattle.std.specs.Prelude.{◌≡◌, ◌∷◌, [], IfOk};
 use bm_base::{Entry, Event, NodeId, Rack, Remaining, StorageId};
 use std::alloc::{AllocError, Global};
 
-/// What is told of a DataNode that comes with one storage: its rack, what is free on the storage, and what lies there.
+/// The events of a new DataNode with one storage: its registration, a heartbeat with the free
+/// bytes, and a full report of the storage's blocks.
 pub fn arrival(
     alloc: Global,
     node: NodeId,

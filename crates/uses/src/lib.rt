@@ -1,23 +1,24 @@
-//! Small callers of the library, each proved, for developers who build on it. Each stands in the page of the crate that it calls.
+//! Small proved callers of the library, for developers who build on it. The page of each crate
+//! quotes its caller.
 //!
 //! | You want | Look at | Page |
 //! |---|---|---|
 //! | events from lists of your own | `arrival` (`events.rt`) | `bm_base/CALLING.md` |
-//! | answers gone over, and printed as the tool does | `replica_lines` (`printing.rt`) | `bm_base/CALLING.md` |
-//! | a NameNode's loop: what was told, then a round, then the commands of each DataNode | `turn`, `for_node` (`name_node.rt`) | `bm_manager/CALLING.md` |
-//! | the answer to a "what if": which blocks are missing if a node dies | `missing_if_dead` (`what_if.rt`) | `bm_manager/CALLING.md` |
-//! | to go on after want of memory | `apply_or_free` (`memory.rt`) | `bm_manager/CALLING.md` |
-//! | a reader that is told of a version | `publish_and_look` (`looking.rt`) | `bm_view/CALLING.md` |
-//! | changes, and a reader beside them in a thread of its own | `apply_beside_reader` (`beside.rt`) | `bm_view/CALLING.md` |
+//! | to iterate over an answer and print it as the tool does | `replica_lines` (`printing.rt`) | `bm_base/CALLING.md` |
+//! | a NameNode's loop: events, then a round, then the commands of each DataNode | `turn`, `for_node` (`name_node.rt`) | `bm_manager/CALLING.md` |
+//! | to ask "what if": which blocks are missing if a node dies | `missing_if_dead` (`what_if.rt`) | `bm_manager/CALLING.md` |
+//! | to go on when out of memory | `apply_or_free` (`memory.rt`) | `bm_manager/CALLING.md` |
+//! | a reader that learns of a published version | `publish_and_look` (`looking.rt`) | `bm_view/CALLING.md` |
+//! | changes, with a reader in a thread of its own | `apply_beside_reader` (`beside.rt`) | `bm_view/CALLING.md` |
 //! | to read and write the tool's lines | `tidy_line` (`lines.rt`) | `bm_lines/CALLING.md` |
-//! | to look on at the work of a call | `apply_counted` (`counting.rt`) | `bm_crew/CALLING.md` |
-//! | which storages of a list still serve | `find_serving` (`storages.rt`) | `bm_topo/CALLING.md` |
-//! | from where and to where one more copy of a block is made | `first_copy` (`copying.rt`) | `bm_place/CALLING.md` |
-//! | what every DataNode is told, of what the shards found for a round | `commands_of_parts` (`commanding.rt`) | `bm_round/CALLING.md` |
-//! | a replica put into an arena | `put_replica` (`replicas.rt`) | `bm_arena/CALLING.md` |
-//! | a full report taken, or given up | `take_report` (`reporting.rt`) | `bm_report/CALLING.md` |
-//! | slots that are to be looked at, each once | `note_slots`, `in_order` (`slots.rt`) | `bm_queues/CALLING.md` |
-//! | an event on the cluster and on one shard: made on both, or on neither | `take_event` (`one_shard.rt`) | `bm_shard/CALLING.md` |
+//! | to count the pieces of work of a call | `apply_counted` (`counting.rt`) | `bm_crew/CALLING.md` |
+//! | which storages of a list are known and do not drain | `find_serving` (`storages.rt`) | `bm_topo/CALLING.md` |
+//! | the source and the target of one more copy of a block | `first_copy` (`copying.rt`) | `bm_place/CALLING.md` |
+//! | the commands of a round, from what the shards found | `commands_of_parts` (`commanding.rt`) | `bm_round/CALLING.md` |
+//! | to put a replica into an arena | `put_replica` (`replicas.rt`) | `bm_arena/CALLING.md` |
+//! | to take a full report, or none of it | `take_report` (`reporting.rt`) | `bm_report/CALLING.md` |
+//! | a set of slots, each once | `note_slots`, `in_order` (`slots.rt`) | `bm_queues/CALLING.md` |
+//! | an event on the cluster and on one shard: on both, or on neither | `take_event` (`one_shard.rt`) | `bm_shard/CALLING.md` |
 #![tactic(auto)]
 
 mod beside;

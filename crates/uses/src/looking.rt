@@ -1,4 +1,4 @@
-// A reader that is told of a version, and looks.
+// A reader that learns of a published version and looks a block up.
 ghost use Rattle.std.specs.Prelude.{◌≡◌, ◌≤◌};
 ghost use Rattle.bm_base.specs.Answering.{IfFound};
 ghost use Rattle.bm_view.specs.History.{last_of};
@@ -9,8 +9,8 @@ use bm_view::{Located, Locator, Publisher};
 use std::sync::Wait;
 use std::thread::Threads;
 
-/// Publishes the manager's state, tells the locator of it, and has it look for a block. What it answers is of this state or of a
-/// later one.
+/// Publishes the manager's state, lets the locator learn of it, and has it look a block up. The
+/// answer is of this state or of a later one.
 pub fn publish_and_look<R: Threads + Wait + Sync>(
     rt: &R,
     manager: &mut Manager,

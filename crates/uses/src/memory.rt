@@ -1,4 +1,5 @@
-// Want of memory: the refused call has changed nothing, so the caller frees what it can spare and makes the call again.
+// Out of memory: the refused call has changed nothing, so the caller frees what it can spare and
+// makes the call again.
 ghost use Rattle.std.specs.Prelude.{◌≡◌, ◌⊎◌, None, IfOk, IfErr, OnOk, OnErr};
 ghost use Rattle.bm_base.specs.Answering.{Refuses, takes_memory};
 ghost use Rattle.bm_base.specs.Calls.{after_event, done_by};
@@ -11,8 +12,8 @@ use bm_manager::Manager;
 use std::sync::Wait;
 use std::thread::Threads;
 
-/// Takes one event. Where memory lacks for it, what the caller can spare is freed, and the event is tried once more. The
-/// promises are those of [`Manager::apply`], as if the first try had not been.
+/// Applies one event. When out of memory, frees what the caller can spare and tries once more. The
+/// promises are those of [`Manager::apply`], as if there had been no first try.
 pub fn apply_or_free<R: Threads + Wait + Sync, S: Drop>(
     rt: &R,
     manager: &mut Manager,

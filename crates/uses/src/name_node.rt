@@ -1,4 +1,4 @@
-// A NameNode's loop: one turn of it, and what each DataNode is told.
+// A NameNode's loop: one turn of it, and the commands for each DataNode.
 ghost use Rattle.std.specs.Prelude.{◌≡◌, ◌==◌, false, fold, All, Contains, IfOk, IfErr, IfSome, IfNone, OnOk};
 ghost use Rattle.bm_base.specs.Calls.{after_event, counted};
 ghost use Rattle.bm_base.specs.Rounds.{whole_round};
@@ -11,10 +11,10 @@ use bm_manager::Manager;
 use std::sync::Wait;
 use std::thread::Threads;
 
-/// Takes what was told since the last turn, one event after another, and then a round. The DataNodes are to do what it
-/// commands, see [`for_node`]; what they have done is told in a later turn.
+/// Applies the events since the last turn in their order, and then makes a round. [`for_node`] gives
+/// the commands of one DataNode, which reports what it has done in a later turn.
 ///
-/// It stops at the first refusal. Then the events before it are taken, and no other.
+/// It stops at the first refusal. Then only the events before it have been applied.
 pub fn turn<R: Threads + Wait + Sync>(
     rt: &R,
     manager: &mut Manager,
@@ -34,7 +34,8 @@ pub fn turn<R: Threads + Wait + Sync>(
     manager.round(rt, &NoGate)
 }
 
-/// What a round commands one DataNode; the reply to its next heartbeat may carry it. `None` where that is nothing.
+/// The commands of a round for one DataNode, for the reply to its next heartbeat. `None` if there
+/// are none.
 pub fn for_node(commands: &Commands, node: NodeId) -> Option<&NodeCommands>
     ensures its_own { IfSome result (λ k. k.now.node ≡ node) }
     ensures commanded { IfSome result (λ k. Contains commands.now.nodes k.now) }

@@ -1,4 +1,4 @@
-// An event on the cluster and on one shard: made on both, or on neither.
+// An event on the cluster and on one shard: on both, or on neither.
 ghost use Rattle.std.specs.Prelude.{◌≡◌, ◌||◌, None, IfOk, IfErr, OnOk, OnErr};
 ghost use Rattle.bm_base.specs.Answering.{Refuses};
 ghost use Rattle.bm_base.specs.Calls.{done};
@@ -13,8 +13,8 @@ use bm_base::{Done, Event, Refusal};
 use bm_shard::Shard;
 use bm_topo::Topology;
 
-/// Takes an event: first the checks, then all memory, and then the change, which nothing refuses. Refused, it has changed nothing
-/// but room.
+/// Applies an event: first the checks, then all memory, then the change, which nothing refuses. A
+/// refused event has changed nothing but capacity.
 pub fn take_event(
     topology: &mut Topology,
     shard: &mut Shard,

@@ -1,4 +1,4 @@
-// Answers gone over, and printed with the tool's words.
+// Iterates over an answer and prints it with the tool's words.
 ghost use Rattle.std.specs.Prelude.{◌≡◌, IfOk, string_bytes};
 ghost use Rattle.std.specs.List.{flat_map};
 ghost use Rattle.uses.specs.Printing.{replica_line};

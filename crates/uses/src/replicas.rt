@@ -1,4 +1,4 @@
-// Replicas put into an arena.
+// Puts replicas into an arena.
 ghost use Rattle.std.specs.Prelude.{◌≡◌, ℕ, IfErr, OnOk, OnErr};
 ghost use Rattle.bm_base.specs.declared.refusal.Refusal.TheVariants.{Memory};
 ghost use Rattle.bm_base.specs.Map.{insert};
@@ -9,8 +9,8 @@ ghost use Rattle.bm_arena.specs.Holding.{replicas_of, blocks_of};
 use bm_arena::Arena;
 use bm_base::{BlockId, Marks, Refusal, StorageId};
 
-/// Puts a replica of a block on a storage, or gives the one that is there these marks. The storage has a head, as
-/// [`Arena::reserve_heads`] makes it.
+/// Puts a replica of a block on a storage, or sets the marks of the one that is there. The storage
+/// has a head, as [`Arena::reserve_heads`] makes it.
 pub fn put_replica(
     arena: &mut Arena,
     id: BlockId,

@@ -1,4 +1,4 @@
-// A full report taken, or given up.
+// A full report, applied as a whole or not at all.
 ghost use Rattle.std.specs.Prelude.{◌≡◌, ◌<◌, ◌+◌, None, length, IfOk, IfErr, OnOk, OnErr};
 ghost use Rattle.bm_base.specs.declared.refusal.Refusal.TheVariants.{Memory};
 ghost use Rattle.bm_base.specs.Events.{report};
@@ -13,8 +13,8 @@ use bm_base::{Entry, Part, Refusal, StorageId};
 use bm_report::{Applied, Report};
 use bm_topo::Topology;
 
-/// Takes a storage's full report into the arena of a shard's numbers, or gives it up where memory lacks; then nothing that is
-/// held has changed.
+/// Applies a storage's full report to the arena of a shard's numbers. When out of memory, nothing
+/// that the arena holds has changed.
 pub fn take_report(
     kept: &mut Report,
     arena: &mut Arena,

@@ -1,4 +1,4 @@
-// Slots that are to be looked at, each once.
+// A set of slots that are to be scanned, each once.
 ghost use Rattle.std.specs.Prelude.{◌≡◌, ◌<◌, ◌↔◌, ℕ, All, IfOk, IfErr};
 ghost use Rattle.bm_base.specs.declared.refusal.Refusal.TheVariants.{Memory};
 ghost use Rattle.bm_base.specs.SlotLists.{Among, Distinct};
@@ -7,7 +7,7 @@ use bm_base::Refusal;
 use bm_queues::SlotSet;
 use std::alloc::{AllocError, Global};
 
-/// The set of some slots below a bound, as [`bm_arena::Arena::slot_bound`] is one.
+/// The set of some slots. Each is below `bound`, for which [`bm_arena::Arena::slot_bound`] serves.
 pub fn note_slots(alloc: Global, slots: &[usize], bound: usize) -> Result<SlotSet, Refusal>
     requires { All (λ slot. slot < bound) slots.now }
     ensures members { IfOk result (λ set. (slot : ℕ)
@@ -22,7 +22,7 @@ pub fn note_slots(alloc: Global, slots: &[usize], bound: usize) -> Result<SlotSe
     Ok(set)
 }
 
-/// The slots of a set, in its order: that which came last is the first.
+/// The slots of a set, the one inserted last first.
 pub fn in_order(alloc: Global, set: &SlotSet) -> Result<Vec<usize>, AllocError>
     ensures slots { IfOk result (λ found. found.items ≡ set.now.slots) }
     ensures once { IfOk result (λ found. Distinct found.items) }

@@ -1,4 +1,4 @@
-// Storages that still serve: known ones, on nodes that do not drain.
+// Storages that still serve: known ones of nodes that do not drain.
 ghost use Rattle.std.specs.Prelude.{◌≡◌, ◌&&◌, not, filter, IfOk};
 ghost use Rattle.bm_base.specs.Refusals.{knows_storage};
 ghost use Rattle.bm_base.specs.Replicas.{is_draining};
@@ -7,7 +7,7 @@ use bm_base::StorageId;
 use bm_topo::Topology;
 use std::alloc::{AllocError, Global};
 
-/// Those of a list of storages that are known and stand on nodes that do not drain, in the order of the list.
+/// The storages of a list that are known and whose nodes do not drain, in the order of the list.
 pub fn find_serving(
     alloc: Global,
     topology: &Topology,

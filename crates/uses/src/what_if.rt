@@ -1,4 +1,4 @@
-// What would be if a node died: a manager made anew from the list of calls, which is told of the death.
+// What happens if a node dies: a second manager makes the same calls, and then applies the death.
 ghost use Rattle.std.specs.Prelude.{◌≡◌, ◌⊎◌, None, Some, IfOk, IfErr, OnOk};
 ghost use Rattle.bm_base.specs.State.{first_state};
 ghost use Rattle.bm_base.specs.Calls.{step, state_after, after_event};
@@ -14,17 +14,17 @@ use std::alloc::Global;
 use std::sync::Wait;
 use std::thread::Threads;
 
-/// The missing blocks, rising: those of which no replica is usable.
+/// The missing blocks, those without a usable replica, in ascending order.
 #[derive(Debug, Drop)]
 pub struct WhatIf {
-    /// As things are.
+    /// Before the death.
     pub as_is: Items<BlockId>,
-    /// If the node died.
+    /// After the death.
     pub if_dead: Items<BlockId>,
 }
 
-/// A manager that has made these calls. A call that the definition refuses has changed nothing; where memory lacked for one,
-/// there is no manager, but `Memory`.
+/// A manager that has made these calls. A call that the definition refuses has changed nothing.
+/// `Memory` if a call ran out of memory.
 pub fn replay<R: Threads + Wait + Sync>(
     rt: &R,
     alloc: Global,
@@ -53,8 +53,8 @@ fn make<R: Threads + Wait + Sync>(rt: &R, manager: &mut Manager, call: &Call) ->
     }
 }
 
-/// Which blocks are missing after these calls, and which would be if the node died then. It is refused as [`replay`] is, and where
-/// the death is: `UnknownNode`, and `CallsSpent`.
+/// The blocks that are missing after these calls, and those that would be if the node died then.
+/// Refused as [`replay`] is, and as the death is: `UnknownNode`, `CallsSpent`.
 pub fn missing_if_dead<R: Threads + Wait + Sync>(
     rt: &R,
     alloc: Global,
@@ -78,7 +78,7 @@ pub fn missing_if_dead<R: Threads + Wait + Sync>(
     before_and_behind(rt, &mut manager, node)
 }
 
-/// Which blocks are missing before the death of a node and behind it.
+/// The blocks that are missing before and after the death of a node.
 fn before_and_behind<R: Threads + Wait + Sync>(
     rt: &R,
     manager: &mut Manager,
