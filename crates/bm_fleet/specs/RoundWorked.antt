@@ -1,25 +1,16 @@
 -- What is made of shards one by one in a round, each beside its index.
-use Rattle.std.specs.Prelude.{◌≡◌, ◌<◌, ◌+◌, ◌^◌, ℕ, List, Some, IfErr, OnOk, option_map, slice_get}
-use Rattle.bm_base.specs.declared.refusal.Refusal.TheVariants.{Memory}
+use Rattle.std.specs.Prelude.{◌≡◌, ◌<◌, ◌+◌, ◌^◌, ℕ, List, Some, option_map, slice_get}
 use Rattle.bm_base.specs.declared.round.RoundPart.{RoundPart}
 use Rattle.bm_base.specs.declared.round.Chosen.{Chosen}
 use Rattle.bm_base.specs.State.{Cluster}
 use Rattle.bm_base.specs.RoundParts.{round_on_part}
 use Rattle.bm_shard.specs.Seen.{Seen, IsReadyForRound}
 use Rattle.bm_shard.specs.Standing.{StandsIn, next_part}
-use Rattle.bm_fleet.specs.Worked.{IsSame}
-use Rattle.bm_fleet.specs.declared.crewed.Prepared.{Prepared}
 
 -- a shard of which this is the next round
 pub record CanFind (C : Cluster) (r : ℕ) (s : ℕ × Seen) : Type 0 where
   pub next : r ≡ s.1.round + 1
   pub stands : StandsIn C s.1
-
--- a shard that was prepared for a round, and whether that was refused
-pub record IsPreparedForRound (chosen : Chosen) (s : ℕ × Seen) (made : ℕ × Prepared) : Type 0 where
-  pub same : IsSame s (made.0, made.1.shard)
-  pub ready : OnOk made.1.outcome (IsReadyForRound chosen made.1.shard)
-  pub refused : IfErr made.1.outcome (λ e. e ≡ Memory)
 
 -- what the shard found stands at its index, as far as it is needed to take the round
 abbrev pub HasPart : Cluster → List RoundPart → ℕ × Seen → Type 0

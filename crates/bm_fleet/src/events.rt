@@ -7,9 +7,9 @@ ghost use Rattle.bm_base.specs.Refusals.{first_of, cluster_checks, block_checks}
 ghost use Rattle.bm_base.specs.Answering.{Refuses, takes_memory};
 ghost use Rattle.bm_fleet.specs.Whole.{StandsIn, HasTaken};
 
-use crate::changing::change_all;
+use crate::event_on_all::change_all;
+use crate::event_on_one::change_own;
 use crate::fleet::Fleet;
-use crate::one_shard::change_own;
 use crate::workers::Workers;
 use bm_base::{Done, Event, Refusal};
 use bm_parts::events::block_of;
