@@ -1,42 +1,38 @@
 -- Shards that were prepared for an event, and shards that were changed by it, all together.
-use Rattle.std.specs.Prelude.{◌≡◌, ℕ, suc, ◌+◌, ◌≤◌, List, [], ◌∷◌, map, length, Ok, None}
+use Rattle.std.specs.Prelude.{◌≡◌, ℕ, suc, ◌+◌, ◌≤◌, List, [], ◌∷◌, map, length, Ok}
 use Rattle.std.specs.List.{All, AllZip}
 use Rattle.std.proofs.Common.{refl, sym, ap, subst, ◌∙◌, arith}
 use Rattle.std.proofs.lemmas.List.Elements.{All-nil, All-cons, All-head, All-tail}
 use Rattle.bm_base.specs.declared.event.Event.{Event}
-use Rattle.bm_base.specs.declared.event.Event.TheVariants.{AddBlock, DeleteBlock, SetReplication, Restamp, Received, Deleted, Corrupt}
 use Rattle.bm_base.specs.declared.event.Done.{Done}
 use Rattle.bm_base.specs.State.{Cluster, Holdings}
 use Rattle.bm_base.specs.Events.{change_cluster, change_holdings}
-use Rattle.bm_base.specs.Refusals.{first_of, block_checks}
 use Rattle.bm_base.specs.Calls.{done}
-use Rattle.bm_parts.specs.Parts.{block_of, change_part}
+use Rattle.bm_parts.specs.Parts.{change_part}
 use Rattle.bm_parts.specs.Whole.{EachPart, done_of_all}
 use Rattle.bm_parts.proofs.Changing.{whole_changes_by_event, done_adds_up}
 use Rattle.bm_shard.specs.Seen.{Seen, IsReadyFor}
-use Rattle.bm_fleet.specs.Worked.{Accepts, IsPrepared, CanCommit, IsCommitted}
+use Rattle.bm_fleet.specs.Worked.{IsPrepared, CanCommit, IsCommitted}
 use Rattle.bm_fleet.specs.Answers.{Asked, shard_answered, first_fault, done_of, IsFew}
 use Rattle.bm_fleet.specs.Whole.{parts_of, held_by, AreIndexed, AreShards, EachStandsIn, EachTook}
 use Rattle.bm_fleet.specs.declared.answers.Answered.{Answered}
 use Rattle.bm_fleet.proofs.Gathered.{prepared_same, prepared_ready}
-use Rattle.bm_fleet.proofs.Staying.{count_of, are_shards, same_all, same_stands}
+use Rattle.bm_fleet.proofs.Staying.{count_of, are_shards, same_stands}
 
 module _ (C : Cluster) (e : Event) where
   -- Prepared.
 
-  can_commit : (ss : List (ℕ × Seen)) → EachStandsIn C ss → All (Accepts e) ss → All (λ (s : ℕ × Seen). IsReadyFor e s.1) ss → All (CanCommit C e) ss
-  can_commit [] stands accepts ready = All-nil (CanCommit C e)
-  can_commit (s ∷ ss) stands accepts ready =
-      All-cons (CanCommit C e) s ss (record { accepts = All-head (Accepts e) s ss accepts; stands = stands.0; ready = All-head (λ (s : ℕ × Seen). IsReadyFor e s.1) s ss ready })
-      (can_commit ss stands.1 (All-tail (Accepts e) s ss accepts) (All-tail (λ (s : ℕ × Seen). IsReadyFor e s.1) s ss ready))
+  can_commit : (ss : List (ℕ × Seen)) → EachStandsIn C ss → All (λ (s : ℕ × Seen). IsReadyFor e s.1) ss → All (CanCommit C e) ss
+  can_commit [] stands ready = All-nil (CanCommit C e)
+  can_commit (s ∷ ss) stands ready =
+      All-cons (CanCommit C e) s ss (record { stands = stands.0; ready = All-head (λ (s : ℕ × Seen). IsReadyFor e s.1) s ss ready })
+      (can_commit ss stands.1 (All-tail (λ (s : ℕ × Seen). IsReadyFor e s.1) s ss ready))
 
   -- where none was refused, each may be changed
-  pub all_ready : (ss : List (ℕ × Seen)) (ps : List (ℕ × Asked (Unit {0}))) → AllZip (IsPrepared (IsReadyFor e)) ss ps → EachStandsIn C ss → All (Accepts e) ss → first_fault ps ≡ Ok tt
+  pub all_ready : (ss : List (ℕ × Seen)) (ps : List (ℕ × Asked (Unit {0}))) → AllZip (IsPrepared (IsReadyFor e)) ss ps → EachStandsIn C ss → first_fault ps ≡ Ok tt
       → All (CanCommit C e) (map shard_answered ps)
-  all_ready ss ps each stands accepts fine =
-      let same = prepared_same (IsReadyFor e) ss ps each in
-      can_commit (map shard_answered ps) (same_stands C ss (map shard_answered ps) same stands)
-      (same_all (Accepts e) (λ s t one h. ap (λ S. first_of (block_checks S.holdings e)) one.1.rest ∙ h) ss (map shard_answered ps) same accepts) (prepared_ready (IsReadyFor e) ss ps each fine)
+  all_ready ss ps each stands fine =
+      can_commit (map shard_answered ps) (same_stands C ss (map shard_answered ps) (prepared_same (IsReadyFor e) ss ps each) stands) (prepared_ready (IsReadyFor e) ss ps each fine)
 
   -- Changed.
 
@@ -114,19 +110,3 @@ module _ (C : Cluster) (e : Event) where
   pub now_done : (ss last : List (ℕ × Seen)) (cs : List (ℕ × Answered Done)) (d : Done) → AllZip (IsCommitted C e) ss cs → last ≡ map shard_answered cs → d ≡ done_of cs → AreShards (length ss) ss
       → d ≡ done (held_by ss) (held_by last)
   now_done ss last cs d each end told h = told ∙ (changed_shards (length ss) ss cs each h).2 ∙ ap (λ xs. done (held_by ss) (held_by xs)) (sym end)
-
--- an event on no block has no check on the blocks
-pub no_block_checks : (H : Holdings) (e : Event) → block_of e ≡ None → first_of (block_checks H e) ≡ None
-unfolding block_checks
-no_block_checks H (AddBlock b stamp repl) is = cc
-no_block_checks H (DeleteBlock b) is = cc
-no_block_checks H (SetReplication b repl) is = cc
-no_block_checks H (Restamp b stamp) is = cc
-no_block_checks H (Received s b stamp) is = cc
-no_block_checks H (Deleted s b) is = cc
-no_block_checks H (Corrupt s b) is = cc
-no_block_checks H e is = refl
-
-pub all_accept : (e : Event) (ss : List (ℕ × Seen)) → block_of e ≡ None → All (Accepts e) ss
-all_accept e [] is = All-nil (Accepts e)
-all_accept e (s ∷ ss) is = All-cons (Accepts e) s ss (no_block_checks s.1.holdings e is) (all_accept e ss is)

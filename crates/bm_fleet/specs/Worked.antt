@@ -1,5 +1,5 @@
 -- What is made of shards one by one, each beside its index.
-use Rattle.std.specs.Prelude.{◌≡◌, ◌<◌, ◌^◌, ℕ, suc, List, [], ◌∷◌, None, IfErr, OnOk}
+use Rattle.std.specs.Prelude.{◌≡◌, ◌<◌, ◌^◌, ℕ, suc, List, [], ◌∷◌, IfErr, OnOk}
 use Rattle.bm_base.specs.declared.config.Config.{Config}
 use Rattle.bm_base.specs.declared.event.Done.{Done}
 use Rattle.bm_base.specs.declared.event.Event.{Event}
@@ -7,7 +7,6 @@ use Rattle.bm_base.specs.declared.refusal.Refusal.TheVariants.{Memory}
 use Rattle.bm_base.specs.State.{Cluster, empty_holdings}
 use Rattle.bm_base.specs.Events.{change_cluster}
 use Rattle.bm_base.specs.Calls.{done}
-use Rattle.bm_base.specs.Refusals.{first_of, block_checks}
 use Rattle.bm_parts.specs.Parts.{change_part}
 use Rattle.bm_shard.specs.Seen.{Seen, IsReadyFor}
 use Rattle.bm_shard.specs.Bare.{HasNoneBare, HasNoSpareRoom}
@@ -38,10 +37,6 @@ pub record HasGivenUp (S : Seen) : Type 0 where
   pub bare : HasNoneBare S
   pub freed : HasNoSpareRoom S
 
--- no check on the blocks of this shard refuses the event
-abbrev pub Accepts : Event → ℕ × Seen → Type 0
-Accepts e s = first_of (block_checks s.1.holdings e) ≡ None
-
 -- the same shard in all but room, which is ready, or this was refused for want of memory
 pub record IsPrepared (IsReady : Seen → Type 0) (s : ℕ × Seen) (made : ℕ × Asked (Unit {0})) : Type 0 where
   pub same : IsSame s (made.0, made.1.shard)
@@ -50,7 +45,6 @@ pub record IsPrepared (IsReady : Seen → Type 0) (s : ℕ × Seen) (made : ℕ 
 
 -- a shard that may be changed
 pub record CanCommit (C : Cluster) (e : Event) (s : ℕ × Seen) : Type 0 where
-  pub accepts : Accepts e s
   pub stands : StandsIn C s.1
   pub ready : IsReadyFor e s.1
 

@@ -7,8 +7,7 @@ ghost use Rattle.bm_base.specs.Events.{change_cluster, change_holdings};
 ghost use Rattle.bm_base.specs.Refusals.{first_of, cluster_checks};
 ghost use Rattle.bm_base.specs.Calls.{done};
 ghost use Rattle.bm_parts.specs.Parts.{block_of};
-ghost use Rattle.bm_shard.specs.Seen.{IsReadyFor};
-ghost use Rattle.bm_fleet.specs.Worked.{Accepts, CanCommit, IsSame, IsPrepared, IsCommitted, HasGivenUp};
+ghost use Rattle.bm_fleet.specs.Worked.{CanCommit, IsSame, HasGivenUp};
 ghost use Rattle.bm_fleet.specs.Whole.{AreShards, EachStandsIn, EachTook, held_by};
 
 use crate::abort::abort_all;
@@ -34,7 +33,6 @@ pub(crate) fn change_all<W: Workers>(
 ) -> Result<Done, Refusal>
     requires cluster { first_of (cluster_checks topology.now.cluster event.now) ≡ None }
     requires every { block_of event.now ≡ None }
-    requires blocks { All (Accepts event.now) shards.old.items }
     requires multi { multi ≡ is_multi_rack (change_cluster topology.now.cluster event.now) }
     requires shards { AreShards (length shards.old.items) shards.old.items }
     requires standing { EachStandsIn topology.now.cluster shards.old.items }
@@ -70,8 +68,6 @@ fn prepare_for_event<W: Workers>(
     event: &Event,
     topology: &Topology,
 ) -> Result<PassRoom<Answered<Done>>, Refusal>
-    requires cluster { first_of (cluster_checks topology.now.cluster event.now) ≡ None }
-    requires blocks { All (Accepts event.now) shards.old.items }
     requires standing { EachStandsIn topology.now.cluster shards.old.items }
     ensures same { AllZip IsSame shards.old.items shards.new.items }
     ensures ready { OnOk result (All (CanCommit topology.now.cluster event.now) shards.new.items) }
@@ -81,14 +77,8 @@ fn prepare_for_event<W: Workers>(
     ensures refused { IfErr result (λ e. e ≡ Memory) }
 {
     let (preparing, back) = pass_room::<Asked<()>>(alloc, shards.len(), workers.count())?;
-    let work = |index: u32, mut shard: Shard| -> Asked<()>
-        ensures { IsPrepared (IsReadyFor event.entry.now) (index, shard) (index, result) }
-    {
-        let answer = shard.prepare(event, topology);
-        Answered { shard, answer }
-    };
     let items = mem::replace(shards, back);
-    let made = workers.prepare_all(preparing, items, &work);
+    let made = workers.prepare_all(preparing, items, event, topology);
     match gather_prepared(made, shards) {
         Ok(()) => pass_room::<Answered<Done>>(alloc, shards.len(), workers.count()),
         Err(refusal) => Err(refusal),
@@ -120,18 +110,7 @@ fn commit_and_gather<W: Workers>(
         → EachTook round pend shards.new.items }
 {
     let (committing, back) = room;
-    let work = |index: u32, mut shard: Shard| -> Answered<Done>
-        requires cluster { first_of (cluster_checks topology.now.cluster event.now) ≡ None }
-        requires every { block_of event.now ≡ None }
-        requires multi { multi ≡ is_multi_rack (change_cluster topology.now.cluster event.now) }
-        requires shard { CanCommit topology.now.cluster event.now (index, shard) }
-        ensures { IsCommitted topology.entry.now.cluster event.entry.now (index, shard)
-            (index, result) }
-    {
-        let answer = shard.commit(event, topology, multi);
-        Answered { shard, answer }
-    };
     let items = mem::replace(shards, back);
-    let made = workers.commit_all(committing, items, &work);
+    let made = workers.commit_all(committing, items, event, topology, multi);
     gather_done(made, shards)
 }

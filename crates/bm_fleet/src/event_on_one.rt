@@ -4,14 +4,13 @@ ghost use Rattle.bm_base.specs.Replicas.{is_multi_rack};
 ghost use Rattle.bm_base.specs.Shards.{shard_of};
 ghost use Rattle.bm_base.specs.Events.{change_cluster, change_holdings};
 ghost use Rattle.bm_base.specs.Calls.{done};
-ghost use Rattle.bm_base.specs.Refusals.{first_of, cluster_checks, block_checks};
+ghost use Rattle.bm_base.specs.Refusals.{first_of, cluster_checks};
 ghost use Rattle.bm_base.specs.Answering.{Refuses, takes_memory};
 ghost use Rattle.bm_parts.specs.Parts.{block_of};
 ghost use Rattle.bm_shard.specs.Seen.{Seen};
 ghost use Rattle.bm_shard.specs.Bare.{HasNoneBare};
 ghost use Rattle.bm_shard.specs.Standing.{StandsIn, IsSameButRoom};
 ghost use Rattle.bm_fleet.specs.Whole.{AreShards, EachStandsIn, EachTook, held_by};
-ghost use Rattle.bm_fleet.specs.Worked.{Accepts};
 ghost use Rattle.bm_fleet.specs.OneShard.{IsChanged, IsChangedAt, IsMadeAt};
 
 use bm_base::{BlockId, Done, Event, Refusal, shard_of};
@@ -29,7 +28,6 @@ pub(crate) fn change_own(
 ) -> Result<Done, Refusal>
     requires one { block_of event.now ≡ Some id }
     requires cluster { first_of (cluster_checks topology.now.cluster event.now) ≡ None }
-    requires blocks { first_of (block_checks (held_by shards.old.items) event.now) ≡ None }
     requires multi { multi ≡ is_multi_rack (change_cluster topology.now.cluster event.now) }
     requires shards { AreShards (length shards.old.items) shards.old.items }
     requires standing { EachStandsIn topology.now.cluster shards.old.items }
@@ -69,8 +67,6 @@ fn change_at(
 ) -> Result<Done, Refusal>
     requires place { place < length shards.old.items }
     requires cluster { first_of (cluster_checks topology.now.cluster event.now) ≡ None }
-    requires blocks { (s : ℕ × Seen) → slice_get shards.old.items place ≡ Some s
-        → Accepts event.now s }
     requires multi { multi ≡ is_multi_rack (change_cluster topology.now.cluster event.now) }
     requires standing { (s : ℕ × Seen) → slice_get shards.old.items place ≡ Some s
         → StandsIn topology.now.cluster s.1 }
@@ -93,7 +89,6 @@ fn change_shard(
     multi: bool,
 ) -> Result<Done, Refusal>
     requires cluster { first_of (cluster_checks topology.now.cluster event.now) ≡ None }
-    requires blocks { first_of (block_checks shard.old.holdings event.now) ≡ None }
     requires multi { multi ≡ is_multi_rack (change_cluster topology.now.cluster event.now) }
     requires standing { StandsIn topology.now.cluster shard.old }
     ensures changed { IfOk result (IsChanged topology.now.cluster event.now shard.old shard.new) }

@@ -18,6 +18,7 @@ mod queries;
 mod round;
 mod round_choice;
 mod round_parts;
+mod shard_work;
 mod table;
 mod threaded;
 mod workers;

@@ -5,13 +5,12 @@ ghost use Rattle.bm_base.specs.declared.refusal.Refusal.TheVariants.{Memory};
 ghost use Rattle.bm_base.specs.State.{limits_of};
 ghost use Rattle.bm_base.specs.Configuration.{config_refusal};
 ghost use Rattle.bm_fleet.specs.Whole.{StandsIn, HasTaken, AreShards, EachStandsIn, EachTook, held_by};
-ghost use Rattle.bm_shard.specs.Seen.{IsReadyForRound};
-ghost use Rattle.bm_fleet.specs.Worked.{IsSame, IsPrepared, HasGivenUp};
+ghost use Rattle.bm_fleet.specs.Worked.{IsSame, HasGivenUp};
 ghost use Rattle.bm_fleet.specs.Rounds.{commands_in, left_by_round};
 ghost use Rattle.bm_fleet.specs.RoundWorked.{HasPart, CanCommitRound, HasTakenRound};
 
 use crate::abort::abort_all;
-use crate::answers::{Answered, Asked, gather_prepared};
+use crate::answers::{Asked, gather_prepared};
 use crate::fleet::Fleet;
 use crate::pass_room::pass_room;
 use crate::round_parts::find_round;
@@ -122,21 +121,8 @@ fn take_round<W: Workers>(
 {
     match prepare_for_round(alloc, workers, shards, parts, chosen, topology) {
         Ok(committing) => {
-            let work = |index: u32, mut shard: Shard| -> Shard
-                requires { CanCommitRound topology.now.cluster parts.now chosen.now (index, shard) }
-                ensures { HasTakenRound topology.entry.now.cluster chosen.entry.now (index, shard)
-                    (index, result) }
-            {
-                match parts.get(index as usize) {
-                    Some(part) => {
-                        shard.round_commit(part, chosen, topology);
-                        shard
-                    }
-                    None => unreachable!(),
-                }
-            };
             let items = mem::replace(shards, Vec::new(alloc));
-            *shards = workers.commit_round_all(committing, items, &work);
+            *shards = workers.commit_round_all(committing, items, parts, chosen, topology);
             Ok(())
         }
         Err(refusal) => {
@@ -166,20 +152,8 @@ fn prepare_for_round<W: Workers>(
     ensures refused { IfErr result (λ e. e ≡ Memory) }
 {
     let (preparing, back) = pass_room::<Asked<()>>(alloc, shards.len(), workers.count())?;
-    let work = |index: u32, mut shard: Shard| -> Asked<()>
-        requires { HasPart topology.now.cluster parts.now (index, shard) }
-        ensures { IsPrepared (IsReadyForRound chosen.entry.now) (index, shard) (index, result) }
-    {
-        match parts.get(index as usize) {
-            Some(part) => {
-                let answer = shard.round_ready(part, chosen, topology);
-                Answered { shard, answer }
-            }
-            None => unreachable!(),
-        }
-    };
     let items = mem::replace(shards, back);
-    let made = workers.prepare_all(preparing, items, &work);
+    let made = workers.prepare_round_all(preparing, items, parts, chosen, topology);
     match gather_prepared(made, shards) {
         Ok(()) => Crew::ready::<Shard, Shard>(alloc, shards.len(), workers.count()),
         Err(refusal) => Err(refusal),

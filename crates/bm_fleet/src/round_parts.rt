@@ -8,12 +8,10 @@ ghost use Rattle.bm_base.specs.Configuration.{config_refusal};
 ghost use Rattle.bm_base.specs.Choices as choices;
 ghost use Rattle.bm_base.specs.declared.round.RoundPart.{RoundPart};
 ghost use Rattle.bm_parts.specs.Before.{part_before};
-ghost use Rattle.bm_shard.specs.Standing.{next_part};
-ghost use Rattle.bm_fleet.specs.Answers.{HasAnswered};
 ghost use Rattle.bm_fleet.specs.RoundWorked.{CanFind};
 ghost use Rattle.bm_fleet.specs.RoundChosen.{next_parts, next_parts_before, HasExcess, IsChosen};
 
-use crate::answers::{Answered, Asked, gather_answers};
+use crate::answers::{Asked, gather_answers};
 use crate::pass_room::pass_room;
 use crate::round_choice::{ChosenCommands, choice_of};
 use crate::workers::Workers;
@@ -100,17 +98,8 @@ fn find_parts<W: Workers>(
 {
     let answers = Vec::with_capacity(alloc, shards.len())?;
     let (asking, back) = pass_room::<Asked<RoundPart>>(alloc, shards.len(), workers.count())?;
-    let work = |index: u32, shard: Shard| -> Asked<RoundPart>
-        requires { CanFind topology.now.cluster round (index, shard) }
-        ensures { HasAnswered
-            (λ S. part_before bound (next_part topology.entry.now.cluster S)) (index, shard)
-            (index, result) }
-    {
-        let answer = shard.round_part_before(round, topology, bound);
-        Answered { shard, answer }
-    };
     let items = mem::replace(shards, back);
-    let found = workers.find_all(asking, items, &work);
+    let found = workers.find_all(asking, items, round, topology, bound);
     gather_answers(found, shards, answers)
 }
 

@@ -3,11 +3,11 @@ ghost use Rattle.std.specs.Prelude.{◌≡◌, length, IfOk, IfErr};
 ghost use Rattle.std.specs.List.{flat_map};
 ghost use Rattle.bm_base.specs.declared.refusal.Refusal.TheVariants.{Memory};
 ghost use Rattle.bm_base.specs.Versions as versions;
-ghost use Rattle.bm_fleet.specs.Answers.{HasAnswered, each_answer};
+ghost use Rattle.bm_fleet.specs.Answers.{each_answer};
 ghost use Rattle.bm_fleet.specs.Rows.{rows_of};
 ghost use Rattle.bm_fleet.specs.Whole.{AreShards, held_by};
 
-use crate::answers::{Answered, Asked, gather_answers};
+use crate::answers::{Asked, gather_answers};
 use crate::fleet::Fleet;
 use crate::pass_room::pass_room;
 use crate::workers::Workers;
@@ -64,14 +64,8 @@ fn gather_tables<W: Workers>(
 {
     let answers = Vec::with_capacity(alloc, shards.len())?;
     let (asking, back) = pass_room::<Asked<Rows>>(alloc, shards.len(), workers.count())?;
-    let work = |index: u32, shard: Shard| -> Asked<Rows>
-        ensures { HasAnswered rows_of (index, shard) (index, result) }
-    {
-        let answer = shard.table_rows();
-        Answered { shard, answer }
-    };
     let items = mem::replace(shards, back);
-    let made = workers.rows_of_all(asking, items, &work);
+    let made = workers.rows_of_all(asking, items);
     gather_answers(made, shards, answers)
 }
 

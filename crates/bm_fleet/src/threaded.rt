@@ -1,10 +1,15 @@
 // A crew of threads.
 use crate::answers::{Answered, Asked};
+use crate::shard_work::{
+    commit_one, commit_round_one, find_one, prepare_one, prepare_round_one, rows_of_one,
+};
 use crate::table::Rows;
 use crate::workers::Workers;
-use bm_base::{Done, RoundPart};
+use bm_base::{Chosen, Done, Event, RoundPart};
 use bm_crew::{Gate, Ready};
+use bm_parts::merge::Key;
 use bm_shard::Shard;
+use bm_topo::Topology;
 use std::marker::PhantomData;
 use std::sync::Wait;
 use std::thread::Threads;
@@ -60,8 +65,10 @@ impl<R: Threads + Wait> Workers for Threaded<R, &(dyn Gate + Sync)> {
         &self,
         ready: Ready<Shard, Asked<()>>,
         shards: Vec<(u32, Shard)>,
-        work: &(dyn Fn(u32, Shard) -> Asked<()> + Sync),
+        event: &Event,
+        topology: &Topology,
     ) -> Vec<(u32, Asked<()>)> {
+        let work = |_, shard| prepare_one(shard, event, topology);
         ready.run(&self.rt, shards, &work, &self.gate)
     }
 
@@ -69,8 +76,11 @@ impl<R: Threads + Wait> Workers for Threaded<R, &(dyn Gate + Sync)> {
         &self,
         ready: Ready<Shard, Answered<Done>>,
         shards: Vec<(u32, Shard)>,
-        work: &(dyn Fn(u32, Shard) -> Answered<Done> + Sync),
+        event: &Event,
+        topology: &Topology,
+        multi: bool,
     ) -> Vec<(u32, Answered<Done>)> {
+        let work = |_, shard| commit_one(shard, event, topology, multi);
         ready.run(&self.rt, shards, &work, &self.gate)
     }
 
@@ -78,8 +88,23 @@ impl<R: Threads + Wait> Workers for Threaded<R, &(dyn Gate + Sync)> {
         &self,
         ready: Ready<Shard, Asked<RoundPart>>,
         shards: Vec<(u32, Shard)>,
-        work: &(dyn Fn(u32, Shard) -> Asked<RoundPart> + Sync),
+        round: u64,
+        topology: &Topology,
+        bound: Option<Key>,
     ) -> Vec<(u32, Asked<RoundPart>)> {
+        let work = |_, shard| find_one(shard, round, topology, bound);
+        ready.run(&self.rt, shards, &work, &self.gate)
+    }
+
+    fn prepare_round_all(
+        &self,
+        ready: Ready<Shard, Asked<()>>,
+        shards: Vec<(u32, Shard)>,
+        parts: &[RoundPart],
+        chosen: &Chosen,
+        topology: &Topology,
+    ) -> Vec<(u32, Asked<()>)> {
+        let work = |index, shard| prepare_round_one(index, shard, parts, chosen, topology);
         ready.run(&self.rt, shards, &work, &self.gate)
     }
 
@@ -87,8 +112,11 @@ impl<R: Threads + Wait> Workers for Threaded<R, &(dyn Gate + Sync)> {
         &self,
         ready: Ready<Shard, Shard>,
         shards: Vec<(u32, Shard)>,
-        work: &(dyn Fn(u32, Shard) -> Shard + Sync),
+        parts: &[RoundPart],
+        chosen: &Chosen,
+        topology: &Topology,
     ) -> Vec<(u32, Shard)> {
+        let work = |index, shard| commit_round_one(index, shard, parts, chosen, topology);
         ready.run(&self.rt, shards, &work, &self.gate)
     }
 
@@ -96,8 +124,8 @@ impl<R: Threads + Wait> Workers for Threaded<R, &(dyn Gate + Sync)> {
         &self,
         ready: Ready<Shard, Asked<Rows>>,
         shards: Vec<(u32, Shard)>,
-        work: &(dyn Fn(u32, Shard) -> Asked<Rows> + Sync),
     ) -> Vec<(u32, Asked<Rows>)> {
+        let work = |_, shard| rows_of_one(shard);
         ready.run(&self.rt, shards, &work, &self.gate)
     }
 }

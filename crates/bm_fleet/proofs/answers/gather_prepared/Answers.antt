@@ -1,4 +1,4 @@
-use Rattle.std.proofs.Common.{arith, ◌∙◌, ◌∷◌, [], ap, sym, length-append}
+use Rattle.std.proofs.Common.{arith, ◌∙◌, ◌∷◌, [], sym, length-append}
 use Rattle.std.specs.Result.{result_and}
 use Rattle.std.specs.Prelude.{ℕ}
 use Rattle.bm_fleet.specs.Answers.{Asked, shard_answered}

@@ -3,24 +3,21 @@ use Rattle.bm_fleet.specs.Whole.{EachStandsIn, EachTook}
 use Rattle.bm_fleet.specs.Worked.{IsCommitted}
 use Rattle.bm_fleet.proofs.Fleets.{all_few, up_to_64, now_shards, now_held, now_done, stand_again, took_again}
 use Rattle.bm_fleet.proofs.Staying.{still_taken}
-use Rattle.bm_fleet.proofs.Told.{all_told}
 use Rattle.bm_fleet.proofs.event_on_all.commit_and_gather.Goals as goal
 
 pub gather_done-requires-clause-few : goal.gather_done-requires-clause-few
-gather_done-requires-clause-few g c =
-    let P = IsCommitted c.args.topology.now.cluster c.args.event.now in
-    all_few _ _ _ _ (all_told _ P (λ i x y h. h) _ _ c.commit_all-made.ensures.each)
+gather_done-requires-clause-few g c = all_few _ _ _ _ c.commit_all-made.ensures.each
 
 pub gather_done-requires-clause-shards : goal.gather_done-requires-clause-shards
 gather_done-requires-clause-shards g c =
     let P = IsCommitted c.args.topology.now.cluster c.args.event.now in
-    let each = still_taken P _ _ _ (ap (λ v. v.items) c.replace-items.ensures.value) (all_told _ P (λ i x y h. h) _ _ c.commit_all-made.ensures.each) in
+    let each = still_taken P _ _ _ (ap (λ v. v.items) c.replace-items.ensures.value) c.commit_all-made.ensures.each in
     up_to_64 _ _ _ _ each c.requires.shards
 
 pub returns : goal.returns
 returns g c =
     let P = IsCommitted c.args.topology.now.cluster c.args.event.now in
-    let each = still_taken P _ _ _ (ap (λ v. v.items) c.replace-items.ensures.value) (all_told _ P (λ i x y h. h) _ _ c.commit_all-made.ensures.each) in
+    let each = still_taken P _ _ _ (ap (λ v. v.items) c.replace-items.ensures.value) c.commit_all-made.ensures.each in
     record {
       done = now_done _ _ _ _ _ _ each c.gather_done.ensures.shards c.gather_done.ensures.done c.requires.shards;
       changed = now_held _ _ _ _ _ each c.gather_done.ensures.shards c.requires.shards;

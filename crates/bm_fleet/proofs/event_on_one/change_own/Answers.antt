@@ -1,11 +1,7 @@
 use Rattle.std.proofs.Common.{arith, ◌∙◌, ap}
 use Rattle.bm_base.specs.Shards.{shard_of}
-use Rattle.bm_base.specs.Refusals.{first_of}
-use Rattle.bm_fleet.proofs.OneOf.{at_end, at_place, stands_at}
+use Rattle.bm_fleet.proofs.OneOf.{at_end, stands_at}
 use Rattle.bm_fleet.proofs.event_on_one.change_own.Goals as goal
-
-pub change_at-requires-clause-blocks : goal.change_at-requires-clause-blocks
-change_at-requires-clause-blocks c = λ s there. ap first_of (at_place _ _ _ _ s c.requires.shards c.requires.one (c.index_of_shard-place.ensures ∙ ap (shard_of c.args.id) (omega (arith, c.len.ensures, c.args.shards.now.ok.0))) there) ∙ c.requires.blocks
 
 pub change_at-requires-clause-standing : goal.change_at-requires-clause-standing
 change_at-requires-clause-standing c = λ s there. stands_at _ _ _ s c.requires.standing there

@@ -7,7 +7,6 @@ use Rattle.bm_shard.specs.Seen.{Seen}
 use Rattle.bm_shard.specs.Standing.{next_part}
 use Rattle.bm_fleet.specs.Answers.{HasAnswered}
 use Rattle.bm_fleet.proofs.Staying.{still_taken}
-use Rattle.bm_fleet.proofs.Told.{all_told}
 use Rattle.bm_fleet.proofs.round_parts.find_parts.Goals as goal
 
 abbrev told : Cluster → Option (ℕ × ℕ) → Seen → RoundPart
@@ -16,5 +15,5 @@ told C bound S = part_before bound (next_part C S)
 pub returns : goal.returns
 returns g c =
     let f = told c.args.topology.now.cluster c.args.bound in
-    let all = c.gather_answers.ensures f c.args.shards.now.items (still_taken (HasAnswered f) _ _ _ (ap (λ v. v.items) c.replace-items.ensures.value) (all_told _ (HasAnswered f) (λ i x y h. h) _ _ c.find_all-found.ensures.each)) in
+    let all = c.gather_answers.ensures f c.args.shards.now.items (still_taken (HasAnswered f) _ _ _ (ap (λ v. v.items) c.replace-items.ensures.value) c.find_all-found.ensures.each) in
     record { shards = all.shards; parts = all.answers; refused = all.refused }

@@ -2,10 +2,9 @@ use Rattle.std.proofs.Common.{ap}
 use Rattle.bm_fleet.specs.Answers.{HasAnswered}
 use Rattle.bm_fleet.specs.Rows.{rows_of}
 use Rattle.bm_fleet.proofs.Staying.{still_taken}
-use Rattle.bm_fleet.proofs.Told.{all_told}
 use Rattle.bm_fleet.proofs.table.gather_tables.Goals as goal
 
 pub returns : goal.returns
 returns g c =
-    let all = c.gather_answers.ensures rows_of c.args.shards.now.items (still_taken (HasAnswered rows_of) _ _ _ (ap (λ v. v.items) c.replace-items.ensures.value) (all_told _ (HasAnswered rows_of) (λ i x y h. h) _ _ c.rows_of_all-made.ensures.each)) in
+    let all = c.gather_answers.ensures rows_of c.args.shards.now.items (still_taken (HasAnswered rows_of) _ _ _ (ap (λ v. v.items) c.replace-items.ensures.value) c.rows_of_all-made.ensures.each) in
     record { shards = all.shards; tables = all.answers; refused = all.refused }
