@@ -8,7 +8,7 @@ use Rattle.bm_base.specs.declared.event.Done.{Done}
 use Rattle.bm_base.specs.declared.refusal.Refusal.{Refusal}
 use Rattle.bm_base.specs.declared.refusal.Refusal.TheVariants.{Memory}
 use Rattle.bm_shard.specs.Seen.{Seen}
-use Rattle.bm_fleet.specs.Answers.{Asked, HasAnswered, shard_answered, fault_in, first_fault, done_of}
+use Rattle.bm_fleet.specs.Answers.{EachBecame, Asked, HasAnswered, shard_answered, fault_in, first_fault, done_of}
 use Rattle.bm_fleet.specs.Worked.{IsSame, IsPrepared}
 use Rattle.bm_fleet.specs.declared.answers.Answered.{Answered}
 
@@ -74,12 +74,12 @@ module _ {A : Type 0} where
   -- All of them.
 
   -- where each refusal is for want of memory, so is the first
-  pub memory_refused : (R : ℕ × Seen → ℕ × Asked A → Type 0) → ((s : ℕ × Seen) (m : ℕ × Asked A) → R s m → IfErr m.1.answer (λ e. e ≡ Memory))
-      → (ss : List (ℕ × Seen)) (fs : List (ℕ × Asked A)) (r : Refusal) → AllZip R ss fs → first_fault fs ≡ Err r → r ≡ Memory
+  pub memory_refused : (R : Seen → Asked A → Type 0) → ((S : Seen) (m : Asked A) → R S m → IfErr m.answer (λ e. e ≡ Memory))
+      → (ss : List (ℕ × Seen)) (fs : List (ℕ × Asked A)) (r : Refusal) → EachBecame R ss fs → first_fault fs ≡ Err r → r ≡ Memory
   memory_refused R by [] [] r each e = cc
   memory_refused R by [] (m ∷ fs) r each e = absurd each
   memory_refused R by (s ∷ ss) [] r each e = absurd each
-  memory_refused R by (s ∷ ss) (m ∷ fs) r each e = first m.1.answer (by s m each.0) (λ g. memory_refused R by ss fs r each.1 g) e
+  memory_refused R by (s ∷ ss) (m ∷ fs) r each e = first m.1.answer (by s.1 m.1 each.0.1) (λ g. memory_refused R by ss fs r each.1 g) e
     where
       first : (o : Result A Refusal) → IfErr o (λ e. e ≡ Memory) → (first_fault fs ≡ Err r → r ≡ Memory) → result_and (fault_in o) (first_fault fs) ≡ Err r → r ≡ Memory
       first (Ok a) h later g = later g
@@ -87,45 +87,45 @@ module _ {A : Type 0} where
 
   module _ (f : Seen → A) where
     -- no shard has changed
-    pub same_shards : (ss : List (ℕ × Seen)) (fs : List (ℕ × Asked A)) → AllZip (HasAnswered f) ss fs → map shard_answered fs ≡ ss
+    pub same_shards : (ss : List (ℕ × Seen)) (fs : List (ℕ × Asked A)) → EachBecame (HasAnswered f) ss fs → map shard_answered fs ≡ ss
     same_shards [] [] each = refl
     same_shards [] (m ∷ fs) each = absurd each
     same_shards (s ∷ ss) [] each = absurd each
-    same_shards (s ∷ ss) (m ∷ fs) each = λ j. (each.0.index j, each.0.shard j) ∷ same_shards ss fs each.1 j
+    same_shards (s ∷ ss) (m ∷ fs) each = λ j. (each.0.0 j, each.0.1.shard j) ∷ same_shards ss fs each.1 j
 
     answered_ok : (o : Result A Refusal) (n : A) → fault_in o ≡ Ok tt → IfOk o (λ a. a ≡ n) → result_ok o ≡ Some n
     answered_ok (Ok a) n e h = ap Some h
     answered_ok (Err r) n e h = cc
 
     -- where none was refused, the answers are those of the shards
-    pub all_answers : (ss : List (ℕ × Seen)) (fs : List (ℕ × Asked A)) → AllZip (HasAnswered f) ss fs → first_fault fs ≡ Ok tt → answers_in fs ≡ map (λ (s : ℕ × Seen). f s.1) ss
+    pub all_answers : (ss : List (ℕ × Seen)) (fs : List (ℕ × Asked A)) → EachBecame (HasAnswered f) ss fs → first_fault fs ≡ Ok tt → answers_in fs ≡ map (λ (s : ℕ × Seen). f s.1) ss
     all_answers [] [] each fine = refl
     all_answers [] (m ∷ fs) each fine = absurd each
     all_answers (s ∷ ss) [] each fine = absurd each
     all_answers (s ∷ ss) (m ∷ fs) each fine =
         let both = or_ok (fault_in m.1.answer) (first_fault fs) fine in
-        λ j. cons_option (answered_ok m.1.answer (f s.1) both.0 each.0.answer j) (all_answers ss fs each.1 both.1 j)
+        λ j. cons_option (answered_ok m.1.answer (f s.1) both.0 each.0.1.answer j) (all_answers ss fs each.1 both.1 j)
 
 -- Prepared, so that each is ready or was refused.
 module _ (IsReady : Seen → Type 0) where
-  pub prepared_same : (ss : List (ℕ × Seen)) (ps : List (ℕ × Asked (Unit {0}))) → AllZip (IsPrepared IsReady) ss ps → AllZip IsSame ss (map shard_answered ps)
+  pub prepared_same : (ss : List (ℕ × Seen)) (ps : List (ℕ × Asked (Unit {0}))) → EachBecame (IsPrepared IsReady) ss ps → AllZip IsSame ss (map shard_answered ps)
   prepared_same [] [] each = tt
   prepared_same [] (p ∷ ps) each = absurd each
   prepared_same (s ∷ ss) [] each = absurd each
-  prepared_same (s ∷ ss) (p ∷ ps) each = (each.0.same, prepared_same ss ps each.1)
+  prepared_same (s ∷ ss) (p ∷ ps) each = ((each.0.0, each.0.1.same), prepared_same ss ps each.1)
 
-  pub prepared_refused : (ss : List (ℕ × Seen)) (ps : List (ℕ × Asked (Unit {0}))) (r : Refusal) → AllZip (IsPrepared IsReady) ss ps → first_fault ps ≡ Err r → r ≡ Memory
+  pub prepared_refused : (ss : List (ℕ × Seen)) (ps : List (ℕ × Asked (Unit {0}))) (r : Refusal) → EachBecame (IsPrepared IsReady) ss ps → first_fault ps ≡ Err r → r ≡ Memory
   prepared_refused = memory_refused (IsPrepared IsReady) (λ s p h. h.refused)
 
   -- where none was refused, each is ready
-  pub prepared_ready : (ss : List (ℕ × Seen)) (ps : List (ℕ × Asked (Unit {0}))) → AllZip (IsPrepared IsReady) ss ps → first_fault ps ≡ Ok tt
+  pub prepared_ready : (ss : List (ℕ × Seen)) (ps : List (ℕ × Asked (Unit {0}))) → EachBecame (IsPrepared IsReady) ss ps → first_fault ps ≡ Ok tt
       → All (λ (s : ℕ × Seen). IsReady s.1) (map shard_answered ps)
   prepared_ready [] [] each fine = All-nil (λ (s : ℕ × Seen). IsReady s.1)
   prepared_ready [] (p ∷ ps) each fine = absurd each
   prepared_ready (s ∷ ss) [] each fine = absurd each
   prepared_ready (s ∷ ss) (p ∷ ps) each fine =
       let both = or_ok (fault_in p.1.answer) (first_fault ps) fine in
-      All-cons (λ (s : ℕ × Seen). IsReady s.1) (shard_answered p) (map shard_answered ps) (one p.1.answer both.0 each.0.ready) (prepared_ready ss ps each.1 both.1)
+      All-cons (λ (s : ℕ × Seen). IsReady s.1) (shard_answered p) (map shard_answered ps) (one p.1.answer both.0 each.0.1.ready) (prepared_ready ss ps each.1 both.1)
     where
       one : (o : Result (Unit {0}) Refusal) → fault_in o ≡ Ok tt → OnOk o (IsReady p.1.shard) → IsReady p.1.shard
       one (Ok x) e h = h

@@ -1,4 +1,3 @@
-pub mod Told
 pub mod Newly
 pub mod Staying
 pub mod Gathered

@@ -9,13 +9,11 @@ use Rattle.bm_base.specs.State.{Cluster, Holdings}
 use Rattle.bm_base.specs.Entries.{count_up}
 use Rattle.bm_base.specs.Shards.{shard_of, cut}
 use Rattle.bm_base.specs.Events.{change_cluster, change_holdings}
-use Rattle.bm_base.specs.Refusals.{block_checks}
 use Rattle.bm_base.specs.Calls.{done}
 use Rattle.bm_parts.specs.Parts.{block_of, change_part}
 use Rattle.bm_parts.specs.Whole.{whole_of, AreOwn}
 use Rattle.bm_parts.proofs.Wholes.{parts_again}
 use Rattle.bm_parts.proofs.OneShard.{same_cluster, one_block_changes_one_part, one_shard_is_enough}
-use Rattle.bm_parts.proofs.OwnShard.{own_shard_checks}
 use Rattle.bm_shard.specs.Seen.{Seen}
 use Rattle.bm_shard.specs.Standing.{StandsIn, IsSameButRoom}
 use Rattle.bm_fleet.specs.Whole.{parts_of, held_by, AreIndexed, AreShards, EachStandsIn, EachTook}

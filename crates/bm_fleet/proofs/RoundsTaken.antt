@@ -10,10 +10,11 @@ use Rattle.bm_base.specs.Rounds.{finished}
 use Rattle.bm_base.specs.RoundParts.{started_holdings, round_on_part}
 use Rattle.bm_parts.specs.Whole.{EachPart}
 use Rattle.bm_parts.proofs.Changing.{whole_changes_by_round}
+use Rattle.bm_crew.specs.Work.{IsResultOf}
 use Rattle.bm_shard.specs.Seen.{Seen, IsReadyForRound}
 use Rattle.bm_shard.specs.Standing.{next_part}
 use Rattle.bm_fleet.specs.Whole.{parts_of, held_by, AreIndexed, AreShards, EachStandsIn, EachTook}
-use Rattle.bm_fleet.specs.Answers.{Asked, shard_answered, first_fault}
+use Rattle.bm_fleet.specs.Answers.{EachBecame, Asked, shard_answered, first_fault}
 use Rattle.bm_fleet.specs.Worked.{IsSame, IsPrepared}
 use Rattle.bm_fleet.specs.RoundWorked.{HasPart, CanCommitRound, HasTakenRound}
 use Rattle.bm_fleet.proofs.Gathered.{prepared_same, prepared_ready}
@@ -34,7 +35,7 @@ module _ (C : Cluster) (chosen : Chosen) where
       (can_commit_round all ss (All-tail (HasPart C all) s ss has) stands.1 (All-tail IsCounted s ss few) (All-tail (λ (s : ℕ × Seen). IsReadyForRound chosen s.1) s ss ready))
 
   -- where none was refused, each may take the round
-  pub all_ready_for_round : (all : List RoundPart) (ss : List (ℕ × Seen)) (ps : List (ℕ × Asked (Unit {0}))) → AllZip (IsPrepared (IsReadyForRound chosen)) ss ps → All (HasPart C all) ss
+  pub all_ready_for_round : (all : List RoundPart) (ss : List (ℕ × Seen)) (ps : List (ℕ × Asked (Unit {0}))) → EachBecame (IsPrepared (IsReadyForRound chosen)) ss ps → All (HasPart C all) ss
       → EachStandsIn C ss → All IsCounted ss → first_fault ps ≡ Ok tt → All (CanCommitRound C all chosen) (map shard_answered ps)
   all_ready_for_round all ss ps each has stands few fine =
       let same = prepared_same (IsReadyForRound chosen) ss ps each in
@@ -45,19 +46,20 @@ module _ (C : Cluster) (chosen : Chosen) where
 
   -- Taken, of shards that are the same in all but room.
 
-  after_same : (s r t : ℕ × Seen) → IsSame s r → HasTakenRound C chosen r t → HasTakenRound C chosen s t
+  after_same : (s r t : ℕ × Seen) → IsSame s r → IsResultOf (λ _. HasTakenRound C chosen) r t → IsResultOf (λ _. HasTakenRound C chosen) s t
   after_same s r t same h =
-      let is = same.1.rest in
-      record {
-        index = h.index ∙ same.0;
-        holdings = h.holdings ∙ (λ j. round_on_part C (is j).pend ((is j).round + 1) (is j).holdings (is j).part.index (is j).part.shards chosen.transfers chosen.deletes);
-        stands = h.stands;
-        part = h.part ∙ ap (λ S. S.part) is;
-        round = h.round ∙ ap (λ S. S.round + 1) is;
-        pend = h.pend ∙ ap (λ S. S.pend) is;
-      }
+      let is = same.1.rest in (
+        h.0 ∙ same.0,
+        record {
+          holdings = h.1.holdings ∙ (λ j. round_on_part C (is j).pend ((is j).round + 1) (is j).holdings (is j).part.index (is j).part.shards chosen.transfers chosen.deletes);
+          stands = h.1.stands;
+          part = h.1.part ∙ ap (λ S. S.part) is;
+          round = h.1.round ∙ ap (λ S. S.round + 1) is;
+          pend = h.1.pend ∙ ap (λ S. S.pend) is;
+        },
+      )
 
-  pub all_after_same : (ss rs ts : List (ℕ × Seen)) → AllZip IsSame ss rs → AllZip (HasTakenRound C chosen) rs ts → AllZip (HasTakenRound C chosen) ss ts
+  pub all_after_same : (ss rs ts : List (ℕ × Seen)) → AllZip IsSame ss rs → EachBecame (HasTakenRound C chosen) rs ts → EachBecame (HasTakenRound C chosen) ss ts
   all_after_same [] [] [] same each = tt
   all_after_same [] [] (t ∷ ts) same each = absurd each
   all_after_same [] (r ∷ rs) ts same each = absurd same
@@ -67,35 +69,35 @@ module _ (C : Cluster) (chosen : Chosen) where
 
   -- All of them.
 
-  each_taken : (last pend shards index : ℕ) (ss ts : List (ℕ × Seen)) → AllZip (HasTakenRound C chosen) ss ts → AreIndexed shards index ss → EachTook last pend ss
+  each_taken : (last pend shards index : ℕ) (ss ts : List (ℕ × Seen)) → EachBecame (HasTakenRound C chosen) ss ts → AreIndexed shards index ss → EachTook last pend ss
       → EachPart (λ i P Q. Q ≡ round_on_part C pend (last + 1) P i shards chosen.transfers chosen.deletes) index (parts_of ss) (parts_of ts)
   each_taken last pend shards index [] [] each h took = tt
   each_taken last pend shards index [] (t ∷ ts) each h took = absurd each
   each_taken last pend shards index (s ∷ ss) [] each h took = absurd each
   each_taken last pend shards index (s ∷ ss) (t ∷ ts) each h took = (
-    each.0.holdings ∙ (λ j. round_on_part C (took.1 j) (took.0 j + 1) s.1.holdings (h.1 j).index (h.1 j).shards chosen.transfers chosen.deletes),
+    each.0.1.holdings ∙ (λ j. round_on_part C (took.1 j) (took.0 j + 1) s.1.holdings (h.1 j).index (h.1 j).shards chosen.transfers chosen.deletes),
     each_taken last pend shards (suc index) ss ts each.1 h.2 took.2,
   )
 
-  indexed_after : (shards index : ℕ) (ss ts : List (ℕ × Seen)) → AllZip (HasTakenRound C chosen) ss ts → AreIndexed shards index ss → AreIndexed shards index ts
+  indexed_after : (shards index : ℕ) (ss ts : List (ℕ × Seen)) → EachBecame (HasTakenRound C chosen) ss ts → AreIndexed shards index ss → AreIndexed shards index ts
   indexed_after shards index [] [] each h = tt
   indexed_after shards index [] (t ∷ ts) each h = absurd each
   indexed_after shards index (s ∷ ss) [] each h = absurd each
-  indexed_after shards index (s ∷ ss) (t ∷ ts) each h = (each.0.index ∙ h.0, each.0.part ∙ h.1, indexed_after shards (suc index) ss ts each.1 h.2)
+  indexed_after shards index (s ∷ ss) (t ∷ ts) each h = (each.0.0 ∙ h.0, each.0.1.part ∙ h.1, indexed_after shards (suc index) ss ts each.1 h.2)
 
-  pub stands_after : (ss ts : List (ℕ × Seen)) → AllZip (HasTakenRound C chosen) ss ts → EachStandsIn C ts
+  pub stands_after : (ss ts : List (ℕ × Seen)) → EachBecame (HasTakenRound C chosen) ss ts → EachStandsIn C ts
   stands_after [] [] each = tt
   stands_after [] (t ∷ ts) each = absurd each
   stands_after (s ∷ ss) [] each = absurd each
-  stands_after (s ∷ ss) (t ∷ ts) each = (each.0.stands, stands_after ss ts each.1)
+  stands_after (s ∷ ss) (t ∷ ts) each = (each.0.1.stands, stands_after ss ts each.1)
 
-  pub took_after : (last pend : ℕ) (ss ts : List (ℕ × Seen)) → AllZip (HasTakenRound C chosen) ss ts → EachTook last pend ss → EachTook (last + 1) pend ts
+  pub took_after : (last pend : ℕ) (ss ts : List (ℕ × Seen)) → EachBecame (HasTakenRound C chosen) ss ts → EachTook last pend ss → EachTook (last + 1) pend ts
   took_after last pend [] [] each took = tt
   took_after last pend [] (t ∷ ts) each took = absurd each
   took_after last pend (s ∷ ss) [] each took = absurd each
-  took_after last pend (s ∷ ss) (t ∷ ts) each took = (each.0.round ∙ ap (λ n. n + 1) took.0, each.0.pend ∙ took.1, took_after last pend ss ts each.1 took.2)
+  took_after last pend (s ∷ ss) (t ∷ ts) each took = (each.0.1.round ∙ ap (λ n. n + 1) took.0, each.0.1.pend ∙ took.1, took_after last pend ss ts each.1 took.2)
 
-  taken_shards : (last pend : ℕ) (ss ts : List (ℕ × Seen)) → AllZip (HasTakenRound C chosen) ss ts → AreShards (length ss) ss → EachTook last pend ss
+  taken_shards : (last pend : ℕ) (ss ts : List (ℕ × Seen)) → EachBecame (HasTakenRound C chosen) ss ts → AreShards (length ss) ss → EachTook last pend ss
       → AreShards (length ss) ts × (held_by ts ≡ finished (last + 1) (started_holdings C pend (last + 1) (held_by ss)) chosen.transfers chosen.deletes)
   taken_shards last pend ss ts each h took =
       let whole =
@@ -105,10 +107,10 @@ module _ (C : Cluster) (chosen : Chosen) where
         whole.0,
       )
 
-  pub are_after : (last pend : ℕ) (ss ts : List (ℕ × Seen)) → AllZip (HasTakenRound C chosen) ss ts → AreShards (length ss) ss → EachTook last pend ss → AreShards (length ts) ts
+  pub are_after : (last pend : ℕ) (ss ts : List (ℕ × Seen)) → EachBecame (HasTakenRound C chosen) ss ts → AreShards (length ss) ss → EachTook last pend ss → AreShards (length ts) ts
   are_after last pend ss ts each h took = are_shards (length ss) ts (taken_shards last pend ss ts each h took).0
 
-  pub held_after : (last pend : ℕ) (ss ts : List (ℕ × Seen)) → AllZip (HasTakenRound C chosen) ss ts → AreShards (length ss) ss → EachTook last pend ss
+  pub held_after : (last pend : ℕ) (ss ts : List (ℕ × Seen)) → EachBecame (HasTakenRound C chosen) ss ts → AreShards (length ss) ss → EachTook last pend ss
       → held_by ts ≡ finished (last + 1) (started_holdings C pend (last + 1) (held_by ss)) chosen.transfers chosen.deletes
   held_after last pend ss ts each h took = (taken_shards last pend ss ts each h took).1
 

@@ -14,6 +14,7 @@ use Rattle.bm_shard.specs.Seen.{Seen}
 use Rattle.bm_shard.specs.Bare.{HasNoneBare}
 use Rattle.bm_shard.specs.Standing.{StandsIn, IsSameButRoom}
 use Rattle.bm_fleet.specs.Whole.{parts_of, held_by, AreIndexed, AreShards, EachStandsIn, EachTook}
+use Rattle.bm_fleet.specs.Answers.{EachBecame}
 use Rattle.bm_fleet.specs.Worked.{IsSame}
 
 -- as many parts as shards
@@ -124,5 +125,5 @@ pub still_shards : (ss ts : List (ℕ × Seen)) → AllZip IsSame ss ts → AreS
 still_shards ss ts each h = are_shards (length ss) ts (same_shards (length ss) ss ts each h)
 
 -- what is so of shards that were taken out is so of those that they were
-pub still_taken : {U : Type 0} (R : ℕ × Seen → U → Type 0) (ss taken : List (ℕ × Seen)) (made : List U) → taken ≡ ss → AllZip R taken made → AllZip R ss made
-still_taken R ss taken made from each = subst (λ xs. AllZip R xs made) from each
+pub still_taken : {U : Type 0} (R : Seen → U → Type 0) (ss taken : List (ℕ × Seen)) (made : List (ℕ × U)) → taken ≡ ss → EachBecame R taken made → EachBecame R ss made
+still_taken R ss taken made from each = subst (λ xs. EachBecame R xs made) from each

@@ -1,22 +1,27 @@
 -- What shards answered that were worked one by one, each beside its index, and what is gathered of it.
 use Rattle.std.specs.Prelude.{◌≡◌, ℕ, ◌+◌, ◌<◌, ◌^◌, List, [], ◌∷◌, map, Result, Ok, Err, IfOk, IfErr, Vec}
 use Rattle.std.specs.Result.{result_and}
+use Rattle.std.specs.List.{AllZip}
 use Rattle.bm_base.specs.declared.event.Done.{Done}
 use Rattle.bm_base.specs.declared.refusal.Refusal.{Refusal}
 use Rattle.bm_base.specs.declared.refusal.Refusal.TheVariants.{Memory}
+use Rattle.bm_crew.specs.Work.{IsResultOf}
 use Rattle.bm_shard.specs.Seen.{Seen}
 use Rattle.bm_fleet.specs.declared.answers.Answered.{Answered}
+
+-- each shard stands beside its index still, and what came of it is so related to it
+abbrev pub EachBecame : {U : Type 0} → (Seen → U → Type 0) → List (ℕ × Seen) → List (ℕ × U) → Type 0
+EachBecame R ss us = AllZip (IsResultOf (λ _. R)) ss us
 
 -- a shard that answered, or refused
 abbrev pub Asked : Type 0 → Type 0
 Asked A = Answered (Result A Refusal)
 
 -- the same shard, and what is to be told of it, or that this was refused for want of memory
-pub record HasAnswered {A : Type 0} (f : Seen → A) (s : ℕ × Seen) (made : ℕ × Asked A) : Type 0 where
-  pub index : made.0 ≡ s.0
-  pub shard : made.1.shard ≡ s.1
-  pub answer : IfOk made.1.answer (λ a. a ≡ f s.1)
-  pub refused : IfErr made.1.answer (λ e. e ≡ Memory)
+pub record HasAnswered {A : Type 0} (f : Seen → A) (S : Seen) (made : Asked A) : Type 0 where
+  pub shard : made.shard ≡ S
+  pub answer : IfOk made.answer (λ a. a ≡ f S)
+  pub refused : IfErr made.answer (λ e. e ≡ Memory)
 
 -- what shards answer, where each answers f of itself
 abbrev pub each_answer : {A : Type 0} → (Seen → A) → List (ℕ × Seen) → List A

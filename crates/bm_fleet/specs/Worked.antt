@@ -38,23 +38,22 @@ pub record HasGivenUp (S : Seen) : Type 0 where
   pub freed : HasNoSpareRoom S
 
 -- the same shard in all but room, which is ready, or this was refused for want of memory
-pub record IsPrepared (IsReady : Seen → Type 0) (s : ℕ × Seen) (made : ℕ × Asked (Unit {0})) : Type 0 where
-  pub same : IsSame s (made.0, made.1.shard)
-  pub ready : OnOk made.1.answer (IsReady made.1.shard)
-  pub refused : IfErr made.1.answer (λ e. e ≡ Memory)
+pub record IsPrepared (IsReady : Seen → Type 0) (S : Seen) (made : Asked (Unit {0})) : Type 0 where
+  pub same : IsSameButRoom S made.shard
+  pub ready : OnOk made.answer (IsReady made.shard)
+  pub refused : IfErr made.answer (λ e. e ≡ Memory)
 
 -- a shard that may be changed
-pub record CanCommit (C : Cluster) (e : Event) (s : ℕ × Seen) : Type 0 where
-  pub stands : StandsIn C s.1
-  pub ready : IsReadyFor e s.1
+pub record CanCommit (C : Cluster) (e : Event) (S : Seen) : Type 0 where
+  pub stands : StandsIn C S
+  pub ready : IsReadyFor e S
 
 -- a shard that was changed, and what it answered
-pub record IsCommitted (C : Cluster) (e : Event) (s : ℕ × Seen) (made : ℕ × Answered Done) : Type 0 where
-  pub index : made.0 ≡ s.0
-  pub holdings : made.1.shard.holdings ≡ change_part C s.1.holdings s.1.part.index s.1.part.shards e
-  pub done : made.1.answer ≡ done s.1.holdings made.1.shard.holdings
-  pub few : (made.1.answer.added < 2 ^ 100) × (made.1.answer.removed < 2 ^ 100)
-  pub stands : StandsIn (change_cluster C e) made.1.shard
-  pub part : made.1.shard.part ≡ s.1.part
-  pub round : made.1.shard.round ≡ s.1.round
-  pub pend : made.1.shard.pend ≡ s.1.pend
+pub record IsCommitted (C : Cluster) (e : Event) (S : Seen) (made : Answered Done) : Type 0 where
+  pub holdings : made.shard.holdings ≡ change_part C S.holdings S.part.index S.part.shards e
+  pub done : made.answer ≡ done S.holdings made.shard.holdings
+  pub few : (made.answer.added < 2 ^ 100) × (made.answer.removed < 2 ^ 100)
+  pub stands : StandsIn (change_cluster C e) made.shard
+  pub part : made.shard.part ≡ S.part
+  pub round : made.shard.round ≡ S.round
+  pub pend : made.shard.pend ≡ S.pend

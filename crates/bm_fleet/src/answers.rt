@@ -1,9 +1,9 @@
 // Shards that the workers worked one by one, and what each answered. Nothing here takes memory.
 ghost use Rattle.std.specs.Prelude.{◌≡◌, ◌≤◌, ◌<◌, ◌+◌, ◌++◌, ℕ, [], List, map, length, vec_len, vec_capacity};
 ghost use Rattle.std.specs.Result.{result_and, result_ok};
-ghost use Rattle.std.specs.List.{All, AllZip, filter_map, cons_option};
+ghost use Rattle.std.specs.List.{All, filter_map, cons_option};
 ghost use Rattle.bm_shard.specs.Seen.{Seen};
-ghost use Rattle.bm_fleet.specs.Answers.{HasAnswered, HasGathered, shard_answered, fault_in, first_fault, done_of, IsFew};
+ghost use Rattle.bm_fleet.specs.Answers.{EachBecame, HasAnswered, HasGathered, shard_answered, fault_in, first_fault, done_of, IsFew};
 
 use bm_base::{Done, Refusal};
 use bm_shard::Shard;
@@ -27,7 +27,7 @@ pub(crate) fn gather_answers<A: Drop>(
 ) -> Result<Vec<A>, Refusal>
     requires back { (back.old.items ≡ []) × (vec_len asked ≤ vec_capacity back.old) }
     requires answers { (answers.items ≡ []) × (vec_len asked ≤ vec_capacity answers) }
-    ensures { (f : Seen → A) → (ss : List (ℕ × Seen)) → AllZip (HasAnswered f) ss asked.items
+    ensures { (f : Seen → A) → (ss : List (ℕ × Seen)) → EachBecame (HasAnswered f) ss asked.items
         → HasGathered f ss back.new.items result }
 {
     match split_answers(asked, back, &mut answers) {

@@ -1,4 +1,17 @@
 // The calling thread alone.
+ghost use Rattle.std.specs.Prelude.{◌≡◌, None};
+ghost use Rattle.bm_base.specs.Replicas.{is_multi_rack};
+ghost use Rattle.bm_base.specs.Events.{change_cluster};
+ghost use Rattle.bm_base.specs.Refusals.{first_of, cluster_checks};
+ghost use Rattle.bm_parts.specs.Before.{part_before};
+ghost use Rattle.bm_parts.specs.Parts.{block_of};
+ghost use Rattle.bm_shard.specs.Seen.{IsReadyFor, IsReadyForRound};
+ghost use Rattle.bm_shard.specs.Standing.{next_part};
+ghost use Rattle.bm_fleet.specs.Answers.{HasAnswered};
+ghost use Rattle.bm_fleet.specs.Rows.{rows_of};
+ghost use Rattle.bm_fleet.specs.Worked.{IsPrepared, CanCommit, IsCommitted};
+ghost use Rattle.bm_fleet.specs.RoundWorked.{CanFind, HasPart, CanCommitRound, HasTakenRound};
+
 use crate::answers::{Answered, Asked};
 use crate::shard_work::{
     commit_one, commit_round_one, find_one, prepare_one, prepare_round_one, rows_of_one,
@@ -27,7 +40,9 @@ impl Workers for CallingThread {
         event: &Event,
         topology: &Topology,
     ) -> Vec<(u32, Asked<()>)> {
-        let work = |_, shard| prepare_one(shard, event, topology);
+        let work = |_: u32, shard: Shard| -> Asked<()>
+            ensures { IsPrepared (IsReadyFor event.entry.now) shard result }
+        { prepare_one(shard, event, topology) };
         ready.run_alone(shards, &work)
     }
 
@@ -39,7 +54,13 @@ impl Workers for CallingThread {
         topology: &Topology,
         multi: bool,
     ) -> Vec<(u32, Answered<Done>)> {
-        let work = |_, shard| commit_one(shard, event, topology, multi);
+        let work = |_: u32, shard: Shard| -> Answered<Done>
+            requires cluster { first_of (cluster_checks topology.now.cluster event.now) ≡ None }
+            requires every { block_of event.now ≡ None }
+            requires multi { multi ≡ is_multi_rack (change_cluster topology.now.cluster event.now) }
+            requires shard { CanCommit topology.now.cluster event.now shard }
+            ensures { IsCommitted topology.entry.now.cluster event.entry.now shard result }
+        { commit_one(shard, event, topology, multi) };
         ready.run_alone(shards, &work)
     }
 
@@ -51,7 +72,11 @@ impl Workers for CallingThread {
         topology: &Topology,
         bound: Option<Key>,
     ) -> Vec<(u32, Asked<RoundPart>)> {
-        let work = |_, shard| find_one(shard, round, topology, bound);
+        let work = |_: u32, shard: Shard| -> Asked<RoundPart>
+            requires { CanFind topology.now.cluster round shard }
+            ensures { HasAnswered
+                (λ S. part_before bound (next_part topology.entry.now.cluster S)) shard result }
+        { find_one(shard, round, topology, bound) };
         ready.run_alone(shards, &work)
     }
 
@@ -63,7 +88,10 @@ impl Workers for CallingThread {
         chosen: &Chosen,
         topology: &Topology,
     ) -> Vec<(u32, Asked<()>)> {
-        let work = |index, shard| prepare_round_one(index, shard, parts, chosen, topology);
+        let work = |index: u32, shard: Shard| -> Asked<()>
+            requires { HasPart topology.now.cluster parts.now (index, shard) }
+            ensures { IsPrepared (IsReadyForRound chosen.entry.now) shard result }
+        { prepare_round_one(index, shard, parts, chosen, topology) };
         ready.run_alone(shards, &work)
     }
 
@@ -75,7 +103,10 @@ impl Workers for CallingThread {
         chosen: &Chosen,
         topology: &Topology,
     ) -> Vec<(u32, Shard)> {
-        let work = |index, shard| commit_round_one(index, shard, parts, chosen, topology);
+        let work = |index: u32, shard: Shard| -> Shard
+            requires { CanCommitRound topology.now.cluster parts.now chosen.now (index, shard) }
+            ensures { HasTakenRound topology.entry.now.cluster chosen.entry.now shard result }
+        { commit_round_one(index, shard, parts, chosen, topology) };
         ready.run_alone(shards, &work)
     }
 
@@ -84,7 +115,9 @@ impl Workers for CallingThread {
         ready: Ready<Shard, Asked<Rows>>,
         shards: Vec<(u32, Shard)>,
     ) -> Vec<(u32, Asked<Rows>)> {
-        let work = |_, shard| rows_of_one(shard);
+        let work = |_: u32, shard: Shard| -> Asked<Rows>
+            ensures { HasAnswered rows_of shard result }
+        { rows_of_one(shard) };
         ready.run_alone(shards, &work)
     }
 }

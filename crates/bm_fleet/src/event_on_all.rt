@@ -70,7 +70,7 @@ fn prepare_for_event<W: Workers>(
 ) -> Result<PassRoom<Answered<Done>>, Refusal>
     requires standing { EachStandsIn topology.now.cluster shards.old.items }
     ensures same { AllZip IsSame shards.old.items shards.new.items }
-    ensures ready { OnOk result (All (CanCommit topology.now.cluster event.now) shards.new.items) }
+    ensures ready { OnOk result (All (λ s. CanCommit topology.now.cluster event.now s.1) shards.new.items) }
     ensures room { IfOk result (λ r. r.0.room ≡ vec_len shards.new) }
     ensures back { IfOk result
         (λ r. (r.1.items ≡ []) × (vec_len shards.new ≤ vec_capacity r.1)) }
@@ -99,7 +99,7 @@ fn commit_and_gather<W: Workers>(
     requires cluster { first_of (cluster_checks topology.now.cluster event.now) ≡ None }
     requires every { block_of event.now ≡ None }
     requires multi { multi ≡ is_multi_rack (change_cluster topology.now.cluster event.now) }
-    requires ready { All (CanCommit topology.now.cluster event.now) shards.old.items }
+    requires ready { All (λ s. CanCommit topology.now.cluster event.now s.1) shards.old.items }
     requires shards { AreShards (length shards.old.items) shards.old.items }
     ensures done { result ≡ done (held_by shards.old.items) (held_by shards.new.items) }
     ensures changed { held_by shards.new.items

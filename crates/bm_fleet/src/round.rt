@@ -5,6 +5,7 @@ ghost use Rattle.bm_base.specs.declared.refusal.Refusal.TheVariants.{Memory};
 ghost use Rattle.bm_base.specs.State.{limits_of};
 ghost use Rattle.bm_base.specs.Configuration.{config_refusal};
 ghost use Rattle.bm_fleet.specs.Whole.{StandsIn, HasTaken, AreShards, EachStandsIn, EachTook, held_by};
+ghost use Rattle.bm_fleet.specs.Answers.{EachBecame};
 ghost use Rattle.bm_fleet.specs.Worked.{IsSame, HasGivenUp};
 ghost use Rattle.bm_fleet.specs.Rounds.{commands_in, left_by_round};
 ghost use Rattle.bm_fleet.specs.RoundWorked.{HasPart, CanCommitRound, HasTakenRound};
@@ -114,7 +115,7 @@ fn take_round<W: Workers>(
     requires standing { EachStandsIn topology.now.cluster shards.old.items }
     requires counted { All (λ s. s.1.round + 1 < 2 ^ 64) shards.old.items }
     ensures taken { OnOk result
-        (AllZip (HasTakenRound topology.now.cluster chosen.now) shards.old.items shards.new.items) }
+        (EachBecame (HasTakenRound topology.now.cluster chosen.now) shards.old.items shards.new.items) }
     ensures same { OnErr result (AllZip IsSame shards.old.items shards.new.items) }
     ensures given_up { OnErr result (All (λ s. HasGivenUp s.1) shards.new.items) }
     ensures refused { IfErr result (λ e. e ≡ Memory) }

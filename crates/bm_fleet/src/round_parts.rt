@@ -42,7 +42,7 @@ pub(crate) fn find_round<W: Workers>(
     topology: &Topology,
 ) -> Result<FoundRound, Refusal>
     requires config { config_refusal config.now ≡ None }
-    requires shards { All (CanFind topology.now.cluster round) shards.old.items }
+    requires shards { All (λ s. CanFind topology.now.cluster round s.1) shards.old.items }
     requires one_wish { has_repeats (map
         (λ w. w.block) (choices.merged_wishes (next_parts topology.now.cluster shards.old.items)))
         ≡ false }
@@ -90,7 +90,7 @@ fn find_parts<W: Workers>(
     topology: &Topology,
     bound: Option<Key>,
 ) -> Result<Vec<RoundPart>, Refusal>
-    requires shards { All (CanFind topology.now.cluster round) shards.old.items }
+    requires shards { All (λ s. CanFind topology.now.cluster round s.1) shards.old.items }
     ensures shards { shards.new.items ≡ shards.old.items }
     ensures parts { IfOk result
         (λ v. v.items ≡ next_parts_before bound topology.now.cluster shards.old.items) }

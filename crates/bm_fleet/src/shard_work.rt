@@ -1,16 +1,16 @@
 // What the workers do with one shard.
-ghost use Rattle.std.specs.Prelude.{◌≡◌, ◌+◌, ℕ, None};
+ghost use Rattle.std.specs.Prelude.{◌≡◌, None};
 ghost use Rattle.bm_base.specs.Replicas.{is_multi_rack};
 ghost use Rattle.bm_base.specs.Events.{change_cluster};
 ghost use Rattle.bm_base.specs.Refusals.{first_of, cluster_checks};
 ghost use Rattle.bm_parts.specs.Before.{part_before};
 ghost use Rattle.bm_parts.specs.Parts.{block_of};
 ghost use Rattle.bm_shard.specs.Seen.{IsReadyFor, IsReadyForRound};
-ghost use Rattle.bm_shard.specs.Standing.{StandsIn, next_part};
+ghost use Rattle.bm_shard.specs.Standing.{next_part};
 ghost use Rattle.bm_fleet.specs.Answers.{HasAnswered};
 ghost use Rattle.bm_fleet.specs.Rows.{rows_of};
-ghost use Rattle.bm_fleet.specs.Worked.{IsPrepared, IsCommitted};
-ghost use Rattle.bm_fleet.specs.RoundWorked.{HasPart, CanCommitRound, HasTakenRound};
+ghost use Rattle.bm_fleet.specs.Worked.{IsPrepared, CanCommit, IsCommitted};
+ghost use Rattle.bm_fleet.specs.RoundWorked.{CanFind, HasPart, CanCommitRound, HasTakenRound};
 
 use crate::answers::{Answered, Asked};
 use crate::table::Rows;
@@ -21,7 +21,7 @@ use bm_topo::Topology;
 
 /// Takes the memory of an event in one shard.
 pub(crate) fn prepare_one(mut shard: Shard, event: &Event, topology: &Topology) -> Asked<()>
-    ensures { (index : ℕ) → IsPrepared (IsReadyFor event.now) (index, shard) (index, result) }
+    ensures { IsPrepared (IsReadyFor event.now) shard result }
 {
     let answer = shard.prepare(event, topology);
     Answered { shard, answer }
@@ -37,10 +37,8 @@ pub(crate) fn commit_one(
     requires cluster { first_of (cluster_checks topology.now.cluster event.now) ≡ None }
     requires every { block_of event.now ≡ None }
     requires multi { multi ≡ is_multi_rack (change_cluster topology.now.cluster event.now) }
-    requires standing { StandsIn topology.now.cluster shard }
-    requires ready { IsReadyFor event.now shard }
-    ensures { (index : ℕ)
-        → IsCommitted topology.now.cluster event.now (index, shard) (index, result) }
+    requires shard { CanCommit topology.now.cluster event.now shard }
+    ensures { IsCommitted topology.now.cluster event.now shard result }
 {
     let answer = shard.commit(event, topology, multi);
     Answered { shard, answer }
@@ -53,11 +51,8 @@ pub(crate) fn find_one(
     topology: &Topology,
     bound: Option<Key>,
 ) -> Asked<RoundPart>
-    requires next { round ≡ shard.round + 1 }
-    requires standing { StandsIn topology.now.cluster shard }
-    ensures { (index : ℕ)
-        → HasAnswered (λ S. part_before bound (next_part topology.now.cluster S)) (index, shard)
-        (index, result) }
+    requires { CanFind topology.now.cluster round shard }
+    ensures { HasAnswered (λ S. part_before bound (next_part topology.now.cluster S)) shard result }
 {
     let answer = shard.round_part_before(round, topology, bound);
     Answered { shard, answer }
@@ -72,7 +67,7 @@ pub(crate) fn prepare_round_one(
     topology: &Topology,
 ) -> Asked<()>
     requires { HasPart topology.now.cluster parts.now (index, shard) }
-    ensures { IsPrepared (IsReadyForRound chosen.now) (index, shard) (index, result) }
+    ensures { IsPrepared (IsReadyForRound chosen.now) shard result }
 {
     match parts.get(index as usize) {
         Some(part) => {
@@ -92,7 +87,7 @@ pub(crate) fn commit_round_one(
     topology: &Topology,
 ) -> Shard
     requires { CanCommitRound topology.now.cluster parts.now chosen.now (index, shard) }
-    ensures { HasTakenRound topology.now.cluster chosen.now (index, shard) (index, result) }
+    ensures { HasTakenRound topology.now.cluster chosen.now shard result }
 {
     match parts.get(index as usize) {
         Some(part) => {
@@ -105,7 +100,7 @@ pub(crate) fn commit_round_one(
 
 /// Asks one shard for its rows.
 pub(crate) fn rows_of_one(shard: Shard) -> Asked<Rows>
-    ensures { (index : ℕ) → HasAnswered rows_of (index, shard) (index, result) }
+    ensures { HasAnswered rows_of shard result }
 {
     let answer = shard.table_rows();
     Answered { shard, answer }

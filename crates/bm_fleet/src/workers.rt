@@ -1,6 +1,6 @@
 // Who works the shards.
 ghost use Rattle.std.specs.Prelude.{◌≡◌, ◌<◌, ◌≤◌, None, vec_len};
-ghost use Rattle.std.specs.List.{All, AllZip};
+ghost use Rattle.std.specs.List.{All};
 ghost use Rattle.bm_base.specs.Replicas.{is_multi_rack};
 ghost use Rattle.bm_base.specs.Events.{change_cluster};
 ghost use Rattle.bm_base.specs.Refusals.{first_of, cluster_checks};
@@ -8,7 +8,7 @@ ghost use Rattle.bm_parts.specs.Before.{part_before};
 ghost use Rattle.bm_parts.specs.Parts.{block_of};
 ghost use Rattle.bm_shard.specs.Seen.{IsReadyFor, IsReadyForRound};
 ghost use Rattle.bm_shard.specs.Standing.{next_part};
-ghost use Rattle.bm_fleet.specs.Answers.{HasAnswered};
+ghost use Rattle.bm_fleet.specs.Answers.{EachBecame, HasAnswered};
 ghost use Rattle.bm_fleet.specs.Rows.{rows_of};
 ghost use Rattle.bm_fleet.specs.Worked.{IsPrepared, CanCommit, IsCommitted};
 ghost use Rattle.bm_fleet.specs.RoundWorked.{CanFind, HasPart, CanCommitRound, HasTakenRound};
@@ -42,7 +42,7 @@ pub trait Workers {
     ) -> Vec<(u32, Asked<()>)>
         requires room { vec_len shards ≤ ready.room }
         ensures len { vec_len result ≡ vec_len shards }
-        ensures each { AllZip (IsPrepared (IsReadyFor event.now)) shards.items
+        ensures each { EachBecame (IsPrepared (IsReadyFor event.now)) shards.items
             result.items };
 
     /// Changes all shards by an event on no block for which each is ready. Refuses nothing.
@@ -58,9 +58,9 @@ pub trait Workers {
         requires cluster { first_of (cluster_checks topology.now.cluster event.now) ≡ None }
         requires every { block_of event.now ≡ None }
         requires multi { multi ≡ is_multi_rack (change_cluster topology.now.cluster event.now) }
-        requires shards { All (CanCommit topology.now.cluster event.now) shards.items }
+        requires shards { All (λ s. CanCommit topology.now.cluster event.now s.1) shards.items }
         ensures len { vec_len result ≡ vec_len shards }
-        ensures each { AllZip (IsCommitted topology.now.cluster event.now) shards.items
+        ensures each { EachBecame (IsCommitted topology.now.cluster event.now) shards.items
             result.items };
 
     /// Finds what each shard has for its next round, with the wishes before a bound. No shard
@@ -74,10 +74,9 @@ pub trait Workers {
         bound: Option<Key>,
     ) -> Vec<(u32, Asked<RoundPart>)>
         requires room { vec_len shards ≤ ready.room }
-        requires shards { All (CanFind topology.now.cluster round) shards.items }
+        requires shards { All (λ s. CanFind topology.now.cluster round s.1) shards.items }
         ensures len { vec_len result ≡ vec_len shards }
-        ensures each { AllZip
-            (HasAnswered (λ S. part_before bound (next_part topology.now.cluster S))) shards.items
+        ensures each { EachBecame (HasAnswered (λ S. part_before bound (next_part topology.now.cluster S))) shards.items
             result.items };
 
     /// Prepares all shards for a round. Each is as it was but for room; it is ready for the round,
@@ -93,7 +92,7 @@ pub trait Workers {
         requires room { vec_len shards ≤ ready.room }
         requires shards { All (HasPart topology.now.cluster parts.now) shards.items }
         ensures len { vec_len result ≡ vec_len shards }
-        ensures each { AllZip (IsPrepared (IsReadyForRound chosen.now)) shards.items
+        ensures each { EachBecame (IsPrepared (IsReadyForRound chosen.now)) shards.items
             result.items };
 
     /// Takes the next round in each shard, each of which is ready for it. Refuses nothing.
@@ -108,7 +107,7 @@ pub trait Workers {
         requires room { vec_len shards ≤ ready.room }
         requires shards { All (CanCommitRound topology.now.cluster parts.now chosen.now) shards.items }
         ensures len { vec_len result ≡ vec_len shards }
-        ensures each { AllZip (HasTakenRound topology.now.cluster chosen.now) shards.items
+        ensures each { EachBecame (HasTakenRound topology.now.cluster chosen.now) shards.items
             result.items };
 
     /// Asks each shard for its rows. No shard changes.
@@ -119,5 +118,5 @@ pub trait Workers {
     ) -> Vec<(u32, Asked<Rows>)>
         requires room { vec_len shards ≤ ready.room }
         ensures len { vec_len result ≡ vec_len shards }
-        ensures each { AllZip (HasAnswered rows_of) shards.items result.items };
+        ensures each { EachBecame (HasAnswered rows_of) shards.items result.items };
 }

@@ -21,7 +21,7 @@ returns-in-Ok-clause-ready g c =
     let P = IsPrepared (IsReadyFor c.args.event.now) in
     let each = still_taken P _ _ _ (ap (λ v. v.items) c.replace-items.ensures.value) c.prepare_all-made.ensures.each in
     on_ok _ _
-    (subst (All (CanCommit c.args.topology.now.cluster c.args.event.now)) (sym c.gather_prepared.ensures.shards)
+    (subst (All (λ s. CanCommit c.args.topology.now.cluster c.args.event.now s.1)) (sym c.gather_prepared.ensures.shards)
     (all_ready c.args.topology.now.cluster c.args.event.now _ _ each c.requires.standing (sym c.gather_prepared.ensures.outcome ∙ c.in-Ok.is)))
 
 pub returns-in-Err-clause-same : goal.returns-in-Err-clause-same

@@ -2,7 +2,7 @@ use Rattle.std.specs.Prelude.{None}
 use Rattle.std.proofs.Common.{◌∙◌, ap}
 use Rattle.bm_base.specs.State.{limits_of}
 use Rattle.bm_base.specs.Choices.{chosen_transfers}
-use Rattle.bm_fleet.specs.RoundChosen.{next_parts}
+use Rattle.bm_fleet.specs.RoundChosen.{next_parts, next_parts_before}
 use Rattle.bm_fleet.proofs.Chosen.{uncut, cut, cut_wishes_sorted, cut_deletes_sorted, cut_once, cut_excess, cut_deletes}
 use Rattle.bm_fleet.proofs.round_parts.find_round.Goals as goal
 
@@ -33,18 +33,20 @@ pub choice_of-requires-2 : goal.choice_of-requires-2
 choice_of-requires-2 g c =
     let C = c.args.topology.now.cluster in
     let ss = c.args.shards.now.items in
-    let is = c.as_slice-3.ensures.value ∙ c.in_ok-parts-2.ensures.parts in
+    let is = c.as_slice-3.ensures.value ∙ c.in_ok-parts-2.ensures.parts ∙ ap (next_parts_before None C) c.find_parts.ensures.shards in
     record { wishes = cut_wishes_sorted C None ss _ is; deletes = cut_deletes_sorted C None ss _ is; one_wish = cut_once C None ss _ is c.requires.one_wish }
 
 pub returns-clause-excess : goal.returns-clause-excess
-returns-clause-excess g c = cut_excess c.args.topology.now.cluster None c.args.shards.now.items _ c.in_ok-parts-2.ensures.parts
+returns-clause-excess g c =
+    let C = c.args.topology.now.cluster in
+    cut_excess C None c.args.shards.now.items _ (c.in_ok-parts-2.ensures.parts ∙ ap (next_parts_before None C) c.find_parts.ensures.shards)
 
 pub returns-clause-chosen : goal.returns-clause-chosen
 returns-clause-chosen g c =
     let C = c.args.topology.now.cluster in
     let limits = limits_of c.args.config.now in
     let ss = c.args.shards.now.items in
-    let is = c.as_slice-3.ensures.value ∙ c.in_ok-parts-2.ensures.parts in
+    let is = c.as_slice-3.ensures.value ∙ c.in_ok-parts-2.ensures.parts ∙ ap (next_parts_before None C) c.find_parts.ensures.shards in
     record {
       transfers = c.in_ok-choice-2.ensures.transfers ∙ ap (chosen_transfers limits C) (cut C None ss _ is ∙ uncut (next_parts C ss));
       deletes = c.in_ok-choice-2.ensures.deletes ∙ cut_deletes C None ss _ is limits;
