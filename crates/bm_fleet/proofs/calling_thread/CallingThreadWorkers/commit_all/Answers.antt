@@ -2,6 +2,3 @@ use Rattle.bm_fleet.proofs.calling_thread.CallingThreadWorkers.commit_all.Goals 
 
 pub run_alone-requires-clause-accepts : goal.run_alone-requires-clause-accepts
 run_alone-requires-clause-accepts c k d lt = (c.requires.cluster, (c.requires.every, (c.requires.multi, c.requires.shards k d lt)))
-
-pub returns-clause-each : goal.returns-clause-each
-returns-clause-each c = c.run_alone.ensures.each

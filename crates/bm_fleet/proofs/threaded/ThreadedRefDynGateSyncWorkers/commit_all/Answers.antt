@@ -2,6 +2,3 @@ use Rattle.bm_fleet.proofs.threaded.ThreadedRefDynGateSyncWorkers.commit_all.Goa
 
 pub run-requires-clause-accepts : goal.run-requires-clause-accepts
 run-requires-clause-accepts g c _ _ k d lt = (c.requires.cluster, (c.requires.every, (c.requires.multi, c.requires.shards k d lt)))
-
-pub returns-clause-each : goal.returns-clause-each
-returns-clause-each g c = c.run.ensures.each

@@ -1,4 +1,0 @@
-use Rattle.bm_fleet.proofs.threaded.ThreadedRefDynGateSyncWorkers.prepare_round_all.Goals as goal
-
-pub returns-clause-each : goal.returns-clause-each
-returns-clause-each g c = c.run.ensures.each
