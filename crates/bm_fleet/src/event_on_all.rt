@@ -70,7 +70,8 @@ fn prepare_for_event<W: Workers>(
 ) -> Result<PassRoom<Answered<Done>>, Refusal>
     requires standing { EachStandsIn topology.now.cluster shards.old.items }
     ensures same { AllZip IsSame shards.old.items shards.new.items }
-    ensures ready { OnOk result (All (λ s. CanCommit topology.now.cluster event.now s.1) shards.new.items) }
+    ensures ready { OnOk result
+        (All (λ s. CanCommit topology.now.cluster event.now s.1) shards.new.items) }
     ensures room { IfOk result (λ r. r.0.room ≡ vec_len shards.new) }
     ensures back { IfOk result
         (λ r. (r.1.items ≡ []) × (vec_len shards.new ≤ vec_capacity r.1)) }

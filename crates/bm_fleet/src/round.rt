@@ -115,7 +115,8 @@ fn take_round<W: Workers>(
     requires standing { EachStandsIn topology.now.cluster shards.old.items }
     requires counted { All (λ s. s.1.round + 1 < 2 ^ 64) shards.old.items }
     ensures taken { OnOk result
-        (EachBecame (HasTakenRound topology.now.cluster chosen.now) shards.old.items shards.new.items) }
+        (EachBecame (HasTakenRound topology.now.cluster chosen.now) shards.old.items
+        shards.new.items) }
     ensures same { OnErr result (AllZip IsSame shards.old.items shards.new.items) }
     ensures given_up { OnErr result (All (λ s. HasGivenUp s.1) shards.new.items) }
     ensures refused { IfErr result (λ e. e ≡ Memory) }

@@ -76,8 +76,9 @@ pub trait Workers {
         requires room { vec_len shards ≤ ready.room }
         requires shards { All (λ s. CanFind topology.now.cluster round s.1) shards.items }
         ensures len { vec_len result ≡ vec_len shards }
-        ensures each { EachBecame (HasAnswered (λ S. part_before bound (next_part topology.now.cluster S))) shards.items
-            result.items };
+        ensures each { EachBecame
+            (HasAnswered (λ S. part_before bound (next_part topology.now.cluster S)))
+            shards.items result.items };
 
     /// Prepares all shards for a round. Each is as it was but for room; it is ready for the round,
     /// or it was refused.
