@@ -1,3 +1,2 @@
 mod AskedLemmas
 mod NoMemory
-mod Numbers

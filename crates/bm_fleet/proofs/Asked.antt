@@ -6,6 +6,7 @@ use Rattle.std.specs.Ordering.{nat_cmp}
 use Rattle.std.proofs.Common.{refl, sym, ap, subst, ◌∙◌}
 use Rattle.std.proofs.lemmas.List.Folds.{flat_map-map}
 use Rattle.bm_base.specs.declared.event.Event.{Event}
+use Rattle.bm_base.specs.declared.event.Event.TheVariants.{AddBlock, DeleteBlock, SetReplication, Restamp, Received, Deleted, Corrupt}
 use Rattle.bm_base.specs.declared.replica.Marks.{Marks}
 use Rattle.bm_base.specs.declared.replica.Replica.{Replica}
 use Rattle.bm_base.specs.declared.replica.ReplicaId.{ReplicaId}
@@ -27,7 +28,6 @@ use Rattle.bm_parts.proofs.Wholes.{whole_has_its_parts}
 use Rattle.bm_shard.specs.Seen.{Seen}
 use Rattle.bm_fleet.specs.Rows.{rows_of}
 use Rattle.bm_fleet.specs.Whole.{Whole, parts_of, held_by, AreShards, EachStandsIn, StandsIn}
-use Rattle.bm_fleet.proofs.Fleets.{no_block_checks}
 use Rattle.bm_fleet.proofs.Joins.{sorted_lists}
 use Rattle.bm_fleet.proofs.PartLists.{passing, passing_join, own_passing, own_missing, own_blocks_on, own_rows}
 use Rattle.bm_fleet.proofs.Staying.{count_of}
@@ -52,6 +52,18 @@ module _ (b : ℕ) (ss items : List (ℕ × Seen)) (P : Holdings) (F : Whole) (o
   own_check e on =
       ap (λ H. checked (first_of (block_checks H e))) own ∙ ap (λ cs. checked (first_of cs)) (own_shard_checks (held_by ss) e b (length ss) on)
       ∙ ap (λ H. checked (first_of (block_checks H e))) seen_as
+
+-- an event on no block has no check on the blocks
+no_block_checks : (H : Holdings) (e : Event) → block_of e ≡ None → first_of (block_checks H e) ≡ None
+unfolding block_checks
+no_block_checks H (AddBlock b stamp repl) is = cc
+no_block_checks H (DeleteBlock b) is = cc
+no_block_checks H (SetReplication b repl) is = cc
+no_block_checks H (Restamp b stamp) is = cc
+no_block_checks H (Received s b stamp) is = cc
+no_block_checks H (Deleted s b) is = cc
+no_block_checks H (Corrupt s b) is = cc
+no_block_checks H e is = refl
 
 pub no_check : (H : Holdings) (e : Event) → block_of e ≡ None → checked None ≡ checked (first_of (block_checks H e))
 no_check H e none = ap checked (sym (no_block_checks H e none))

@@ -1,9 +1,8 @@
 -- What is chosen of the parts of all shards.
-use Rattle.std.specs.Prelude.{◌≡◌, ℕ, ◌+◌, Bool, true, false, ◌==◌, ◌||◌, List, [], ◌∷◌, ◌++◌, map, filter, length, Option, Some, None, is_some}
+use Rattle.std.specs.Prelude.{◌≡◌, ℕ, ◌+◌, Bool, true, false, ◌==◌, ◌||◌, List, [], ◌∷◌, ◌++◌, map, filter, length, Option, None}
 use Rattle.std.specs.List.{flat_map}
-use Rattle.std.proofs.Common.{cond, refl, sym, ap, subst, ◌∙◌, true≢false}
+use Rattle.std.proofs.Common.{cond, refl, sym, ap, subst, ◌∙◌}
 use Rattle.bm_base.specs.declared.commands.Delete.{Delete}
-use Rattle.bm_base.specs.declared.commands.Transfer.{Transfer}
 use Rattle.bm_base.specs.declared.round.RoundPart.{RoundPart}
 use Rattle.bm_base.specs.declared.round.Wish.{Wish}
 use Rattle.bm_base.specs.Lists.{has, has_repeats}
@@ -50,19 +49,9 @@ once_left number p (x ∷ xs) once =
     by false other rest = rest
 
 -- where there is no bound, parts are whole
-uncut : (ps : List RoundPart) → map (part_before None) ps ≡ ps
+pub uncut : (ps : List RoundPart) → map (part_before None) ps ≡ ps
 uncut [] = refl
 uncut (p ∷ ps) = λ j. record p { wishes = filter_all p.wishes j } ∷ uncut ps j
-
--- What is chosen of parts with no bound, or of parts before one where that is what is chosen of all, is what is chosen of all.
-module _ (ts : List Transfer) (chosen : List RoundPart → List Transfer) (ps : List RoundPart) where
-  pub unbounded : (bound : Option (ℕ × ℕ)) → is_some bound ≡ false → ts ≡ chosen (map (part_before bound) ps) → ts ≡ chosen ps
-  unbounded None none is = is ∙ ap chosen (uncut ps)
-  unbounded (Some b) none is = absurd (true≢false none)
-
-  pub bounded : (bound : Option (ℕ × ℕ)) → is_some bound ≡ true → ((b : ℕ × ℕ) → ts ≡ chosen (map (part_before (Some b)) ps) → ts ≡ chosen ps) → ts ≡ chosen (map (part_before bound) ps) → ts ≡ chosen ps
-  bounded None some first is = absurd (true≢false (sym some))
-  bounded (Some b) some first is = first b is
 
 module _ (C : Cluster) where
   -- Each part is in order.

@@ -1,10 +1,8 @@
-pub mod Told
-pub mod OneMore
 pub mod Newly
 pub mod Staying
+pub mod Gathered
 pub mod Fleets
 pub mod OneOf
-pub mod FromAll
 pub mod Founds
 pub mod Chosen
 pub mod RoundsTaken

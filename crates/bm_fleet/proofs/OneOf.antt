@@ -9,13 +9,11 @@ use Rattle.bm_base.specs.State.{Cluster, Holdings}
 use Rattle.bm_base.specs.Entries.{count_up}
 use Rattle.bm_base.specs.Shards.{shard_of, cut}
 use Rattle.bm_base.specs.Events.{change_cluster, change_holdings}
-use Rattle.bm_base.specs.Refusals.{block_checks}
 use Rattle.bm_base.specs.Calls.{done}
 use Rattle.bm_parts.specs.Parts.{block_of, change_part}
 use Rattle.bm_parts.specs.Whole.{whole_of, AreOwn}
 use Rattle.bm_parts.proofs.Wholes.{parts_again}
 use Rattle.bm_parts.proofs.OneShard.{same_cluster, one_block_changes_one_part, one_shard_is_enough}
-use Rattle.bm_parts.proofs.OwnShard.{own_shard_checks}
 use Rattle.bm_shard.specs.Seen.{Seen}
 use Rattle.bm_shard.specs.Standing.{StandsIn, IsSameButRoom}
 use Rattle.bm_fleet.specs.Whole.{parts_of, held_by, AreIndexed, AreShards, EachStandsIn, EachTook}
@@ -89,13 +87,6 @@ pub own_holdings : (b place : ℕ) (ss : List (ℕ × Seen)) (s : ℕ × Seen) �
     → s.1.holdings ≡ cut (held_by ss) (shard_of b (length ss)) (length ss)
 own_holdings b place ss s h at there =
     sym (own_at (length ss) (parts_of ss) place s.1.holdings h.own (get_part ss place s there)) ∙ ap (λ k. cut (held_by ss) k (length ss)) at
-
--- the checks on the blocks are those of the block's own shard
-pub own_checks : (e : Event) (b : ℕ) (ss : List (ℕ × Seen)) (s : ℕ × Seen) → AreShards (length ss) ss → block_of e ≡ Some b → slice_get ss (shard_of b (length ss)) ≡ Some s
-    → block_checks s.1.holdings e ≡ block_checks (held_by ss) e
-own_checks e b ss s h is there =
-    ap (λ H. block_checks H e) (sym (own_at (length ss) (parts_of ss) (shard_of b (length ss)) s.1.holdings h.own (get_part ss (shard_of b (length ss)) s there)))
-    ∙ own_shard_checks (held_by ss) e b (length ss) is
 
 pub has_shard : (b : ℕ) (ss : List (ℕ × Seen)) → AreShards (length ss) ss → shard_of b (length ss) < length ss
 has_shard b ss h = omega (arith, h.some)
@@ -214,8 +205,3 @@ module _ (C : Cluster) (e : Event) (b place : ℕ) (ss ts : List (ℕ × Seen)) 
       by (Err x) made still =
           let here = subst (λ k. IsMadeAt IsSameButRoom k ss ts) at still in
           (tt, tt, (λ _. tt), still_are C e b ss ts h is here, still_took C e b ss ts h is here, still_held C e b ss ts h is here, still_stands C e b ss ts h is here)
-
--- at the place of an event's block
-pub at_place : (e : Event) (b place : ℕ) (ss : List (ℕ × Seen)) (s : ℕ × Seen) → AreShards (length ss) ss → block_of e ≡ Some b → place ≡ shard_of b (length ss) → slice_get ss place ≡ Some s
-    → block_checks s.1.holdings e ≡ block_checks (held_by ss) e
-at_place e b place ss s h is at there = own_checks e b ss s h is (ap (λ k. slice_get ss k) (sym at) ∙ there)

@@ -12,6 +12,7 @@ use Rattle.bm_base.specs.RoundParts.{started_holdings}
 use Rattle.bm_base.specs.Rounds.{commands_of, finished}
 use Rattle.bm_shard.specs.Seen.{Seen}
 use Rattle.bm_fleet.specs.Whole.{held_by, AreShards, EachStandsIn, EachTook}
+use Rattle.bm_fleet.specs.Answers.{EachBecame}
 use Rattle.bm_fleet.specs.Worked.{IsSame}
 use Rattle.bm_fleet.specs.Rounds.{commands_in, left_by_round}
 use Rattle.bm_fleet.specs.RoundWorked.{HasTakenRound}
@@ -21,9 +22,9 @@ use Rattle.bm_fleet.proofs.Staying.{still_shards, same_held, same_stands, same_t
 module _ (C : Cluster) (limits : RoundLimits) (last : ℕ) (ss : List (ℕ × Seen)) (h : AreShards (length ss) ss) (took : EachTook last limits.pend ss) where
   -- Taken.
   module _ (chosen : Chosen) (back ts : List (ℕ × Seen)) (o : Result (Unit {0}) Refusal) (u : Unit {0}) (from : back ≡ ss)
-      (done : OnOk o (AllZip (HasTakenRound C chosen) back ts)) (is : o ≡ Ok u) where
-    each : AllZip (HasTakenRound C chosen) ss ts
-    each = subst (λ (xs : List (ℕ × Seen)). AllZip (HasTakenRound C chosen) xs ts) from (subst (λ r. OnOk r (AllZip (HasTakenRound C chosen) back ts)) is done)
+      (done : OnOk o (EachBecame (HasTakenRound C chosen) back ts)) (is : o ≡ Ok u) where
+    each : EachBecame (HasTakenRound C chosen) ss ts
+    each = subst (λ (xs : List (ℕ × Seen)). EachBecame (HasTakenRound C chosen) xs ts) from (subst (λ r. OnOk r (EachBecame (HasTakenRound C chosen) back ts)) is done)
 
     pub end_shards : AreShards (length ts) ts
     end_shards = are_after C chosen last limits.pend ss ts each h took

@@ -1,11 +1,8 @@
 -- Shards that took a round.
-use Rattle.std.specs.Prelude.{◌≡◌, ℕ, suc, ◌+◌, ◌<◌, ◌^◌, List, [], ◌∷◌, map, length, Some, Result, Ok, Err, IfErr, OnOk, option_map, slice_get}
-use Rattle.std.specs.Result.{result_and}
+use Rattle.std.specs.Prelude.{◌≡◌, ℕ, suc, ◌+◌, ◌<◌, ◌^◌, List, [], ◌∷◌, map, length, Some, Ok, option_map, slice_get}
 use Rattle.std.specs.List.{All, AllZip}
-use Rattle.std.proofs.Common.{refl, sym, ap, subst, ◌∙◌}
+use Rattle.std.proofs.Common.{sym, ap, subst, ◌∙◌}
 use Rattle.std.proofs.lemmas.List.Elements.{All-nil, All-cons, All-head, All-tail}
-use Rattle.bm_base.specs.declared.refusal.Refusal.{Refusal}
-use Rattle.bm_base.specs.declared.refusal.Refusal.TheVariants.{Memory}
 use Rattle.bm_base.specs.declared.round.RoundPart.{RoundPart}
 use Rattle.bm_base.specs.declared.round.Chosen.{Chosen}
 use Rattle.bm_base.specs.State.{Cluster}
@@ -13,75 +10,56 @@ use Rattle.bm_base.specs.Rounds.{finished}
 use Rattle.bm_base.specs.RoundParts.{started_holdings, round_on_part}
 use Rattle.bm_parts.specs.Whole.{EachPart}
 use Rattle.bm_parts.proofs.Changing.{whole_changes_by_round}
+use Rattle.bm_crew.specs.Work.{IsResultOf}
 use Rattle.bm_shard.specs.Seen.{Seen, IsReadyForRound}
 use Rattle.bm_shard.specs.Standing.{next_part}
 use Rattle.bm_fleet.specs.Whole.{parts_of, held_by, AreIndexed, AreShards, EachStandsIn, EachTook}
-use Rattle.bm_fleet.specs.Worked.{IsSame}
-use Rattle.bm_fleet.specs.Gathered.{outcome_of, shard_of_prepared}
-use Rattle.bm_fleet.specs.RoundWorked.{HasPart, IsPreparedForRound, CanCommitRound, HasTakenRound}
-use Rattle.bm_fleet.specs.declared.crewed.Prepared.{Prepared}
-use Rattle.bm_fleet.proofs.Staying.{count_of, stands_still, are_shards}
-use Rattle.bm_fleet.proofs.OneMore.{same_err}
+use Rattle.bm_fleet.specs.Answers.{EachBecame, Asked, shard_answered, first_fault}
+use Rattle.bm_fleet.specs.Worked.{IsSame, IsPrepared}
+use Rattle.bm_fleet.specs.RoundWorked.{HasPart, CanCommitRound, HasTakenRound}
+use Rattle.bm_fleet.proofs.Gathered.{prepared_same, prepared_ready}
+use Rattle.bm_fleet.proofs.Staying.{count_of, are_shards, same_all, same_stands}
 
 module _ (C : Cluster) (chosen : Chosen) where
   -- Prepared.
 
-  pub prepared_for_round_same : (ss : List (ℕ × Seen)) (ps : List (ℕ × Prepared)) → AllZip (IsPreparedForRound chosen) ss ps → AllZip IsSame ss (map shard_of_prepared ps)
-  prepared_for_round_same [] [] each = tt
-  prepared_for_round_same [] (p ∷ ps) each = absurd each
-  prepared_for_round_same (s ∷ ss) [] each = absurd each
-  prepared_for_round_same (s ∷ ss) (p ∷ ps) each = (each.0.same, prepared_for_round_same ss ps each.1)
+  abbrev IsCounted : ℕ × Seen → Type 0
+  IsCounted s = s.1.round + 1 < 2 ^ 64
 
-  -- a refusal is for want of memory
-  pub prepared_for_round_refused : (ss : List (ℕ × Seen)) (ps : List (ℕ × Prepared)) (r : Refusal) → AllZip (IsPreparedForRound chosen) ss ps → outcome_of ps ≡ Err r → r ≡ Memory
-  prepared_for_round_refused [] [] r each e = cc
-  prepared_for_round_refused [] (p ∷ ps) r each e = absurd each
-  prepared_for_round_refused (s ∷ ss) [] r each e = absurd each
-  prepared_for_round_refused (s ∷ ss) (p ∷ ps) r each e = by p.1.outcome each.0.refused (λ g. prepared_for_round_refused ss ps r each.1 g) e
-    where
-      by : (o : Result (Unit {0}) Refusal) → IfErr o (λ e. e ≡ Memory) → (outcome_of ps ≡ Err r → r ≡ Memory) → result_and o (outcome_of ps) ≡ Err r → r ≡ Memory
-      by (Ok x) h later f = later f
-      by (Err x) h later f = sym (same_err x r f) ∙ h
+  can_commit_round : (all : List RoundPart) (ss : List (ℕ × Seen)) → All (HasPart C all) ss → EachStandsIn C ss → All IsCounted ss → All (λ (s : ℕ × Seen). IsReadyForRound chosen s.1) ss
+      → All (CanCommitRound C all chosen) ss
+  can_commit_round all [] has stands few ready = All-nil (CanCommitRound C all chosen)
+  can_commit_round all (s ∷ ss) has stands few ready =
+      All-cons (CanCommitRound C all chosen) s ss
+      (record { stands = stands.0; part = All-head (HasPart C all) s ss has; ready = All-head (λ (s : ℕ × Seen). IsReadyForRound chosen s.1) s ss ready; counted = All-head IsCounted s ss few })
+      (can_commit_round all ss (All-tail (HasPart C all) s ss has) stands.1 (All-tail IsCounted s ss few) (All-tail (λ (s : ℕ × Seen). IsReadyForRound chosen s.1) s ss ready))
 
   -- where none was refused, each may take the round
-  pub can_commit_round : (all : List RoundPart) (ss : List (ℕ × Seen)) (ps : List (ℕ × Prepared)) → AllZip (IsPreparedForRound chosen) ss ps → All (HasPart C all) ss → EachStandsIn C ss
-      → All (λ (s : ℕ × Seen). s.1.round + 1 < 2 ^ 64) ss → outcome_of ps ≡ Ok tt → All (CanCommitRound C all chosen) (map shard_of_prepared ps)
-  can_commit_round all [] [] each has stands few fine = All-nil (CanCommitRound C all chosen)
-  can_commit_round all [] (p ∷ ps) each has stands few fine = absurd each
-  can_commit_round all (s ∷ ss) [] each has stands few fine = absurd each
-  can_commit_round all (s ∷ ss) (p ∷ ps) each has stands few fine =
-      by p.1.outcome refl fine (can_commit_round all ss ps each.1 (All-tail (HasPart C all) s ss has) stands.1 (All-tail (λ (s : ℕ × Seen). s.1.round + 1 < 2 ^ 64) s ss few))
-    where
-      same : p.1.shard ≡ record s.1 { levels = p.1.shard.levels; room = p.1.shard.room }
-      same = each.0.same.1.rest
-
-      by : (o : Result (Unit {0}) Refusal) → p.1.outcome ≡ o → result_and o (outcome_of ps) ≡ Ok tt → (outcome_of ps ≡ Ok tt → All (CanCommitRound C all chosen) (map shard_of_prepared ps))
-          → All (CanCommitRound C all chosen) (shard_of_prepared p ∷ map shard_of_prepared ps)
-      by (Err r) is g rest = cc
-      by (Ok x) is g rest =
-          All-cons (CanCommitRound C all chosen) (shard_of_prepared p) (map shard_of_prepared ps)
-          (record {
-            stands = stands_still C s.1 p.1.shard each.0.same.1 stands.0;
-            part = ap (λ i. option_map (λ (p : RoundPart). p.excess) (slice_get all i)) each.0.same.0 ∙ All-head (HasPart C all) s ss has ∙ ap (λ S. Some (next_part C S).excess) (sym same);
-            ready = subst (λ o. OnOk o (IsReadyForRound chosen p.1.shard)) is each.0.ready;
-            counted = subst (λ n. n + 1 < 2 ^ 64) (sym (ap (λ S. S.round) same)) (All-head (λ (s : ℕ × Seen). s.1.round + 1 < 2 ^ 64) s ss few);
-          }) (rest g)
+  pub all_ready_for_round : (all : List RoundPart) (ss : List (ℕ × Seen)) (ps : List (ℕ × Asked (Unit {0}))) → EachBecame (IsPrepared (IsReadyForRound chosen)) ss ps → All (HasPart C all) ss
+      → EachStandsIn C ss → All IsCounted ss → first_fault ps ≡ Ok tt → All (CanCommitRound C all chosen) (map shard_answered ps)
+  all_ready_for_round all ss ps each has stands few fine =
+      let same = prepared_same (IsReadyForRound chosen) ss ps each in
+      can_commit_round all (map shard_answered ps)
+      (same_all (HasPart C all) (λ s t one h. ap (λ i. option_map (λ (p : RoundPart). p.excess) (slice_get all i)) one.0 ∙ h ∙ ap (λ S. Some (next_part C S).excess) (sym one.1.rest)) ss (map shard_answered ps) same has)
+      (same_stands C ss (map shard_answered ps) same stands)
+      (same_all IsCounted (λ s t one h. subst (λ n. n + 1 < 2 ^ 64) (sym (ap (λ S. S.round) one.1.rest)) h) ss (map shard_answered ps) same few) (prepared_ready (IsReadyForRound chosen) ss ps each fine)
 
   -- Taken, of shards that are the same in all but room.
 
-  after_same : (s r t : ℕ × Seen) → IsSame s r → HasTakenRound C chosen r t → HasTakenRound C chosen s t
+  after_same : (s r t : ℕ × Seen) → IsSame s r → IsResultOf (λ _. HasTakenRound C chosen) r t → IsResultOf (λ _. HasTakenRound C chosen) s t
   after_same s r t same h =
-      let is = same.1.rest in
-      record {
-        index = h.index ∙ same.0;
-        holdings = h.holdings ∙ (λ j. round_on_part C (is j).pend ((is j).round + 1) (is j).holdings (is j).part.index (is j).part.shards chosen.transfers chosen.deletes);
-        stands = h.stands;
-        part = h.part ∙ ap (λ S. S.part) is;
-        round = h.round ∙ ap (λ S. S.round + 1) is;
-        pend = h.pend ∙ ap (λ S. S.pend) is;
-      }
+      let is = same.1.rest in (
+        h.0 ∙ same.0,
+        record {
+          holdings = h.1.holdings ∙ (λ j. round_on_part C (is j).pend ((is j).round + 1) (is j).holdings (is j).part.index (is j).part.shards chosen.transfers chosen.deletes);
+          stands = h.1.stands;
+          part = h.1.part ∙ ap (λ S. S.part) is;
+          round = h.1.round ∙ ap (λ S. S.round + 1) is;
+          pend = h.1.pend ∙ ap (λ S. S.pend) is;
+        },
+      )
 
-  pub all_after_same : (ss rs ts : List (ℕ × Seen)) → AllZip IsSame ss rs → AllZip (HasTakenRound C chosen) rs ts → AllZip (HasTakenRound C chosen) ss ts
+  pub all_after_same : (ss rs ts : List (ℕ × Seen)) → AllZip IsSame ss rs → EachBecame (HasTakenRound C chosen) rs ts → EachBecame (HasTakenRound C chosen) ss ts
   all_after_same [] [] [] same each = tt
   all_after_same [] [] (t ∷ ts) same each = absurd each
   all_after_same [] (r ∷ rs) ts same each = absurd same
@@ -91,35 +69,35 @@ module _ (C : Cluster) (chosen : Chosen) where
 
   -- All of them.
 
-  each_taken : (last pend shards index : ℕ) (ss ts : List (ℕ × Seen)) → AllZip (HasTakenRound C chosen) ss ts → AreIndexed shards index ss → EachTook last pend ss
+  each_taken : (last pend shards index : ℕ) (ss ts : List (ℕ × Seen)) → EachBecame (HasTakenRound C chosen) ss ts → AreIndexed shards index ss → EachTook last pend ss
       → EachPart (λ i P Q. Q ≡ round_on_part C pend (last + 1) P i shards chosen.transfers chosen.deletes) index (parts_of ss) (parts_of ts)
   each_taken last pend shards index [] [] each h took = tt
   each_taken last pend shards index [] (t ∷ ts) each h took = absurd each
   each_taken last pend shards index (s ∷ ss) [] each h took = absurd each
   each_taken last pend shards index (s ∷ ss) (t ∷ ts) each h took = (
-    each.0.holdings ∙ (λ j. round_on_part C (took.1 j) (took.0 j + 1) s.1.holdings (h.1 j).index (h.1 j).shards chosen.transfers chosen.deletes),
+    each.0.1.holdings ∙ (λ j. round_on_part C (took.1 j) (took.0 j + 1) s.1.holdings (h.1 j).index (h.1 j).shards chosen.transfers chosen.deletes),
     each_taken last pend shards (suc index) ss ts each.1 h.2 took.2,
   )
 
-  indexed_after : (shards index : ℕ) (ss ts : List (ℕ × Seen)) → AllZip (HasTakenRound C chosen) ss ts → AreIndexed shards index ss → AreIndexed shards index ts
+  indexed_after : (shards index : ℕ) (ss ts : List (ℕ × Seen)) → EachBecame (HasTakenRound C chosen) ss ts → AreIndexed shards index ss → AreIndexed shards index ts
   indexed_after shards index [] [] each h = tt
   indexed_after shards index [] (t ∷ ts) each h = absurd each
   indexed_after shards index (s ∷ ss) [] each h = absurd each
-  indexed_after shards index (s ∷ ss) (t ∷ ts) each h = (each.0.index ∙ h.0, each.0.part ∙ h.1, indexed_after shards (suc index) ss ts each.1 h.2)
+  indexed_after shards index (s ∷ ss) (t ∷ ts) each h = (each.0.0 ∙ h.0, each.0.1.part ∙ h.1, indexed_after shards (suc index) ss ts each.1 h.2)
 
-  pub stands_after : (ss ts : List (ℕ × Seen)) → AllZip (HasTakenRound C chosen) ss ts → EachStandsIn C ts
+  pub stands_after : (ss ts : List (ℕ × Seen)) → EachBecame (HasTakenRound C chosen) ss ts → EachStandsIn C ts
   stands_after [] [] each = tt
   stands_after [] (t ∷ ts) each = absurd each
   stands_after (s ∷ ss) [] each = absurd each
-  stands_after (s ∷ ss) (t ∷ ts) each = (each.0.stands, stands_after ss ts each.1)
+  stands_after (s ∷ ss) (t ∷ ts) each = (each.0.1.stands, stands_after ss ts each.1)
 
-  pub took_after : (last pend : ℕ) (ss ts : List (ℕ × Seen)) → AllZip (HasTakenRound C chosen) ss ts → EachTook last pend ss → EachTook (last + 1) pend ts
+  pub took_after : (last pend : ℕ) (ss ts : List (ℕ × Seen)) → EachBecame (HasTakenRound C chosen) ss ts → EachTook last pend ss → EachTook (last + 1) pend ts
   took_after last pend [] [] each took = tt
   took_after last pend [] (t ∷ ts) each took = absurd each
   took_after last pend (s ∷ ss) [] each took = absurd each
-  took_after last pend (s ∷ ss) (t ∷ ts) each took = (each.0.round ∙ ap (λ n. n + 1) took.0, each.0.pend ∙ took.1, took_after last pend ss ts each.1 took.2)
+  took_after last pend (s ∷ ss) (t ∷ ts) each took = (each.0.1.round ∙ ap (λ n. n + 1) took.0, each.0.1.pend ∙ took.1, took_after last pend ss ts each.1 took.2)
 
-  taken_shards : (last pend : ℕ) (ss ts : List (ℕ × Seen)) → AllZip (HasTakenRound C chosen) ss ts → AreShards (length ss) ss → EachTook last pend ss
+  taken_shards : (last pend : ℕ) (ss ts : List (ℕ × Seen)) → EachBecame (HasTakenRound C chosen) ss ts → AreShards (length ss) ss → EachTook last pend ss
       → AreShards (length ss) ts × (held_by ts ≡ finished (last + 1) (started_holdings C pend (last + 1) (held_by ss)) chosen.transfers chosen.deletes)
   taken_shards last pend ss ts each h took =
       let whole =
@@ -129,10 +107,10 @@ module _ (C : Cluster) (chosen : Chosen) where
         whole.0,
       )
 
-  pub are_after : (last pend : ℕ) (ss ts : List (ℕ × Seen)) → AllZip (HasTakenRound C chosen) ss ts → AreShards (length ss) ss → EachTook last pend ss → AreShards (length ts) ts
+  pub are_after : (last pend : ℕ) (ss ts : List (ℕ × Seen)) → EachBecame (HasTakenRound C chosen) ss ts → AreShards (length ss) ss → EachTook last pend ss → AreShards (length ts) ts
   are_after last pend ss ts each h took = are_shards (length ss) ts (taken_shards last pend ss ts each h took).0
 
-  pub held_after : (last pend : ℕ) (ss ts : List (ℕ × Seen)) → AllZip (HasTakenRound C chosen) ss ts → AreShards (length ss) ss → EachTook last pend ss
+  pub held_after : (last pend : ℕ) (ss ts : List (ℕ × Seen)) → EachBecame (HasTakenRound C chosen) ss ts → AreShards (length ss) ss → EachTook last pend ss
       → held_by ts ≡ finished (last + 1) (started_holdings C pend (last + 1) (held_by ss)) chosen.transfers chosen.deletes
   held_after last pend ss ts each h took = (taken_shards last pend ss ts each h took).1
 

@@ -1,8 +1,9 @@
 -- Shards that stay the same in all but room.
 use Rattle.std.specs.Prelude.{◌≡◌, ℕ, zero, suc, List, [], ◌∷◌, length}
-use Rattle.std.specs.List.{AllZip}
+use Rattle.std.specs.List.{All, AllZip}
 use Rattle.std.proofs.Common.{refl, sym, ap, subst, ◌∙◌, get_or}
 use Rattle.std.proofs.Math.ListN.{set}
+use Rattle.std.proofs.lemmas.List.Elements.{All-nil, All-cons, All-head, All-tail}
 use Rattle.bm_base.specs.Map.{get}
 use Rattle.bm_base.specs.State.{Cluster, Holdings, replica_at}
 use Rattle.bm_base.specs.SlotLists.{Among}
@@ -13,6 +14,7 @@ use Rattle.bm_shard.specs.Seen.{Seen}
 use Rattle.bm_shard.specs.Bare.{HasNoneBare}
 use Rattle.bm_shard.specs.Standing.{StandsIn, IsSameButRoom}
 use Rattle.bm_fleet.specs.Whole.{parts_of, held_by, AreIndexed, AreShards, EachStandsIn, EachTook}
+use Rattle.bm_fleet.specs.Answers.{EachBecame}
 use Rattle.bm_fleet.specs.Worked.{IsSame}
 
 -- as many parts as shards
@@ -67,6 +69,13 @@ same_set (s ∷ ss) [] k d u each one = absurd each
 same_set (s ∷ ss) (r ∷ ts) zero d u each one = ((one.0 ∙ each.0.0, same_again s.1 r.1 u.1 each.0.1 one.1), each.1)
 same_set (s ∷ ss) (r ∷ ts) (suc k) d u each one = (each.0, same_set ss ts k d u each.1 one)
 
+-- what all of them hold, where room makes no difference to it, all hold still
+pub same_all : (Q : ℕ × Seen → Type 0) → ((s t : ℕ × Seen) → IsSame s t → Q s → Q t) → (ss ts : List (ℕ × Seen)) → AllZip IsSame ss ts → All Q ss → All Q ts
+same_all Q one [] [] each h = All-nil Q
+same_all Q one [] (t ∷ ts) each h = absurd each
+same_all Q one (s ∷ ss) [] each h = absurd each
+same_all Q one (s ∷ ss) (t ∷ ts) each h = All-cons Q t ts (one s t each.0 (All-head Q s ss h)) (same_all Q one ss ts each.1 (All-tail Q s ss h))
+
 pub same_parts : (ss ts : List (ℕ × Seen)) → AllZip IsSame ss ts → parts_of ts ≡ parts_of ss
 same_parts [] [] each = refl
 same_parts [] (t ∷ ts) each = absurd each
@@ -116,5 +125,5 @@ pub still_shards : (ss ts : List (ℕ × Seen)) → AllZip IsSame ss ts → AreS
 still_shards ss ts each h = are_shards (length ss) ts (same_shards (length ss) ss ts each h)
 
 -- what is so of shards that were taken out is so of those that they were
-pub still_taken : {U : Type 0} (R : ℕ × Seen → U → Type 0) (ss taken : List (ℕ × Seen)) (made : List U) → taken ≡ ss → AllZip R taken made → AllZip R ss made
-still_taken R ss taken made from each = subst (λ xs. AllZip R xs made) from each
+pub still_taken : {U : Type 0} (R : Seen → U → Type 0) (ss taken : List (ℕ × Seen)) (made : List (ℕ × U)) → taken ≡ ss → EachBecame R taken made → EachBecame R ss made
+still_taken R ss taken made from each = subst (λ xs. EachBecame R xs made) from each

@@ -1,8 +1,7 @@
 pub mod Whole
 pub mod Codes
+pub mod Answers
 pub mod Worked
-pub mod Gathered
-pub mod FromShards
 pub mod OneShard
 pub mod Rounds
 pub mod RoundWorked

@@ -1,25 +1,16 @@
 -- What is made of shards one by one in a round, each beside its index.
-use Rattle.std.specs.Prelude.{◌≡◌, ◌<◌, ◌+◌, ◌^◌, ℕ, List, Some, IfErr, OnOk, option_map, slice_get}
-use Rattle.bm_base.specs.declared.refusal.Refusal.TheVariants.{Memory}
+use Rattle.std.specs.Prelude.{◌≡◌, ◌<◌, ◌+◌, ◌^◌, ℕ, List, Some, option_map, slice_get}
 use Rattle.bm_base.specs.declared.round.RoundPart.{RoundPart}
 use Rattle.bm_base.specs.declared.round.Chosen.{Chosen}
 use Rattle.bm_base.specs.State.{Cluster}
 use Rattle.bm_base.specs.RoundParts.{round_on_part}
 use Rattle.bm_shard.specs.Seen.{Seen, IsReadyForRound}
 use Rattle.bm_shard.specs.Standing.{StandsIn, next_part}
-use Rattle.bm_fleet.specs.Worked.{IsSame}
-use Rattle.bm_fleet.specs.declared.crewed.Prepared.{Prepared}
 
 -- a shard of which this is the next round
-pub record CanFind (C : Cluster) (r : ℕ) (s : ℕ × Seen) : Type 0 where
-  pub next : r ≡ s.1.round + 1
-  pub stands : StandsIn C s.1
-
--- a shard that was prepared for a round, and whether that was refused
-pub record IsPreparedForRound (chosen : Chosen) (s : ℕ × Seen) (made : ℕ × Prepared) : Type 0 where
-  pub same : IsSame s (made.0, made.1.shard)
-  pub ready : OnOk made.1.outcome (IsReadyForRound chosen made.1.shard)
-  pub refused : IfErr made.1.outcome (λ e. e ≡ Memory)
+pub record CanFind (C : Cluster) (r : ℕ) (S : Seen) : Type 0 where
+  pub next : r ≡ S.round + 1
+  pub stands : StandsIn C S
 
 -- what the shard found stands at its index, as far as it is needed to take the round
 abbrev pub HasPart : Cluster → List RoundPart → ℕ × Seen → Type 0
@@ -33,10 +24,9 @@ pub record CanCommitRound (C : Cluster) (parts : List RoundPart) (chosen : Chose
   pub counted : s.1.round + 1 < 2 ^ 64
 
 -- a shard that took its next round
-pub record HasTakenRound (C : Cluster) (chosen : Chosen) (s made : ℕ × Seen) : Type 0 where
-  pub index : made.0 ≡ s.0
-  pub holdings : made.1.holdings ≡ round_on_part C s.1.pend (s.1.round + 1) s.1.holdings s.1.part.index s.1.part.shards chosen.transfers chosen.deletes
-  pub stands : StandsIn C made.1
-  pub part : made.1.part ≡ s.1.part
-  pub round : made.1.round ≡ s.1.round + 1
-  pub pend : made.1.pend ≡ s.1.pend
+pub record HasTakenRound (C : Cluster) (chosen : Chosen) (S made : Seen) : Type 0 where
+  pub holdings : made.holdings ≡ round_on_part C S.pend (S.round + 1) S.holdings S.part.index S.part.shards chosen.transfers chosen.deletes
+  pub stands : StandsIn C made
+  pub part : made.part ≡ S.part
+  pub round : made.round ≡ S.round + 1
+  pub pend : made.pend ≡ S.pend

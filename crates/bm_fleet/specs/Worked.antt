@@ -1,18 +1,18 @@
 -- What is made of shards one by one, each beside its index.
-use Rattle.std.specs.Prelude.{◌≡◌, ◌<◌, ◌^◌, ℕ, suc, List, [], ◌∷◌, None, IfErr, OnOk}
+use Rattle.std.specs.Prelude.{◌≡◌, ◌<◌, ◌^◌, ℕ, suc, List, [], ◌∷◌, IfErr, OnOk}
 use Rattle.bm_base.specs.declared.config.Config.{Config}
+use Rattle.bm_base.specs.declared.event.Done.{Done}
 use Rattle.bm_base.specs.declared.event.Event.{Event}
+use Rattle.bm_base.specs.declared.refusal.Refusal.TheVariants.{Memory}
 use Rattle.bm_base.specs.State.{Cluster, empty_holdings}
 use Rattle.bm_base.specs.Events.{change_cluster}
 use Rattle.bm_base.specs.Calls.{done}
-use Rattle.bm_base.specs.Refusals.{first_of, block_checks}
-use Rattle.bm_base.specs.Answering.{Refuses, takes_memory}
 use Rattle.bm_parts.specs.Parts.{change_part}
 use Rattle.bm_shard.specs.Seen.{Seen, IsReadyFor}
 use Rattle.bm_shard.specs.Bare.{HasNoneBare, HasNoSpareRoom}
 use Rattle.bm_shard.specs.Standing.{StandsIn, IsSameButRoom}
-use Rattle.bm_fleet.specs.declared.crewed.Prepared.{Prepared}
-use Rattle.bm_fleet.specs.declared.crewed.Committed.{Committed}
+use Rattle.bm_fleet.specs.declared.answers.Answered.{Answered}
+use Rattle.bm_fleet.specs.Answers.{Asked}
 
 -- a new shard of this index
 pub record IsNew (config : Config) (i : ℕ) (s : ℕ × Seen) : Type 0 where
@@ -37,29 +37,23 @@ pub record HasGivenUp (S : Seen) : Type 0 where
   pub bare : HasNoneBare S
   pub freed : HasNoSpareRoom S
 
--- no check on the blocks of this shard refuses the event
-abbrev pub Accepts : Event → ℕ × Seen → Type 0
-Accepts e s = first_of (block_checks s.1.holdings e) ≡ None
-
--- a shard that was prepared, and whether that was refused
-pub record IsPrepared (e : Event) (s : ℕ × Seen) (made : ℕ × Prepared) : Type 0 where
-  pub same : IsSame s (made.0, made.1.shard)
-  pub ready : OnOk made.1.outcome (IsReadyFor e made.1.shard)
-  pub refused : IfErr made.1.outcome (Refuses None (takes_memory e))
+-- the same shard in all but room, which is ready, or this was refused for want of memory
+pub record IsPrepared (IsReady : Seen → Type 0) (S : Seen) (made : Asked (Unit {0})) : Type 0 where
+  pub same : IsSameButRoom S made.shard
+  pub ready : OnOk made.answer (IsReady made.shard)
+  pub refused : IfErr made.answer (λ e. e ≡ Memory)
 
 -- a shard that may be changed
-pub record CanCommit (C : Cluster) (e : Event) (s : ℕ × Seen) : Type 0 where
-  pub accepts : Accepts e s
-  pub stands : StandsIn C s.1
-  pub ready : IsReadyFor e s.1
+pub record CanCommit (C : Cluster) (e : Event) (S : Seen) : Type 0 where
+  pub stands : StandsIn C S
+  pub ready : IsReadyFor e S
 
 -- a shard that was changed, and what it answered
-pub record IsCommitted (C : Cluster) (e : Event) (s : ℕ × Seen) (made : ℕ × Committed) : Type 0 where
-  pub index : made.0 ≡ s.0
-  pub holdings : made.1.shard.holdings ≡ change_part C s.1.holdings s.1.part.index s.1.part.shards e
-  pub done : made.1.done ≡ done s.1.holdings made.1.shard.holdings
-  pub few : (made.1.done.added < 2 ^ 100) × (made.1.done.removed < 2 ^ 100)
-  pub stands : StandsIn (change_cluster C e) made.1.shard
-  pub part : made.1.shard.part ≡ s.1.part
-  pub round : made.1.shard.round ≡ s.1.round
-  pub pend : made.1.shard.pend ≡ s.1.pend
+pub record IsCommitted (C : Cluster) (e : Event) (S : Seen) (made : Answered Done) : Type 0 where
+  pub holdings : made.shard.holdings ≡ change_part C S.holdings S.part.index S.part.shards e
+  pub done : made.answer ≡ done S.holdings made.shard.holdings
+  pub few : (made.answer.added < 2 ^ 100) × (made.answer.removed < 2 ^ 100)
+  pub stands : StandsIn (change_cluster C e) made.shard
+  pub part : made.shard.part ≡ S.part
+  pub round : made.shard.round ≡ S.round
+  pub pend : made.shard.pend ≡ S.pend

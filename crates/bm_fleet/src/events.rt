@@ -3,20 +3,20 @@ ghost use Rattle.std.specs.Prelude.{◌≡◌, ℕ, None, IfOk, IfErr, OnOk, OnE
 ghost use Rattle.bm_base.specs.Replicas.{is_multi_rack};
 ghost use Rattle.bm_base.specs.Events.{change_cluster, change_holdings};
 ghost use Rattle.bm_base.specs.Calls.{done};
-ghost use Rattle.bm_base.specs.Refusals.{first_of, cluster_checks, block_checks};
+ghost use Rattle.bm_base.specs.Refusals.{first_of, cluster_checks};
 ghost use Rattle.bm_base.specs.Answering.{Refuses, takes_memory};
 ghost use Rattle.bm_fleet.specs.Whole.{StandsIn, HasTaken};
 
-use crate::changing::change_all;
+use crate::event_on_all::change_all;
+use crate::event_on_one::change_own;
 use crate::fleet::Fleet;
-use crate::one_shard::change_own;
 use crate::workers::Workers;
 use bm_base::{Done, Event, Refusal};
 use bm_parts::events::block_of;
 use bm_topo::Topology;
 
 impl Fleet {
-    /// Changes the shards by an event that no check refuses. A heartbeat touches none; an event on a block touches the block's shard alone;
+    /// Changes the shards by an event that no check on the cluster refuses. A heartbeat touches none; an event on a block touches the block's shard alone;
     /// any other is made by the workers, on all shards or on none. `topology` is the cluster before
     /// the event, `multi` says whether the alive nodes stand on two racks or more after it. Answers how many replicas came and went.
     /// `Memory`, but for an event that takes no memory, and then nothing that is seen has changed but room.
@@ -29,7 +29,6 @@ impl Fleet {
         multi: bool,
     ) -> Result<Done, Refusal>
         requires cluster { first_of (cluster_checks topology.now.cluster event.now) ≡ None }
-        requires blocks { first_of (block_checks self.old.holdings event.now) ≡ None }
         requires multi { multi ≡ is_multi_rack (change_cluster topology.now.cluster event.now) }
         requires standing { StandsIn topology.now.cluster self.old }
         ensures done { IfOk result (λ d. d ≡ done self.old.holdings self.new.holdings) }

@@ -5,21 +5,20 @@
 //! ([`Fleet::round`]). The lists of all shards are gathered and sorted once.
 #![tactic(auto)]
 
-mod answered;
-mod asking;
+mod abort;
+mod answers;
 mod calling_thread;
-mod changing;
-mod crewed;
+mod event_on_all;
+mod event_on_one;
 mod events;
 mod fleet;
-mod gathering;
 mod lists;
-mod one_shard;
 mod pass_room;
+mod queries;
+mod round;
 mod round_choice;
-mod round_crewed;
-mod round_found;
-mod rounding;
+mod round_parts;
+mod shard_work;
 mod table;
 mod threaded;
 mod workers;

@@ -3,11 +3,11 @@ ghost use Rattle.std.specs.Prelude.{◌≡◌, length, IfOk, IfErr};
 ghost use Rattle.std.specs.List.{flat_map};
 ghost use Rattle.bm_base.specs.declared.refusal.Refusal.TheVariants.{Memory};
 ghost use Rattle.bm_base.specs.Versions as versions;
-ghost use Rattle.bm_fleet.specs.FromShards.{each_answer};
+ghost use Rattle.bm_fleet.specs.Answers.{each_answer};
 ghost use Rattle.bm_fleet.specs.Rows.{rows_of};
 ghost use Rattle.bm_fleet.specs.Whole.{AreShards, held_by};
 
-use crate::answered::{Answered, gather_answers};
+use crate::answers::{Asked, gather_answers};
 use crate::fleet::Fleet;
 use crate::pass_room::pass_room;
 use crate::workers::Workers;
@@ -63,7 +63,7 @@ fn gather_tables<W: Workers>(
     ensures refused { IfErr result (λ e. e ≡ Memory) }
 {
     let answers = Vec::with_capacity(alloc, shards.len())?;
-    let (asking, back) = pass_room::<Answered<Rows>>(alloc, shards.len(), workers.count())?;
+    let (asking, back) = pass_room::<Asked<Rows>>(alloc, shards.len(), workers.count())?;
     let items = mem::replace(shards, back);
     let made = workers.rows_of_all(asking, items);
     gather_answers(made, shards, answers)

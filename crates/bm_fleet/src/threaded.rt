@@ -5,18 +5,20 @@ ghost use Rattle.bm_base.specs.Events.{change_cluster};
 ghost use Rattle.bm_base.specs.Refusals.{first_of, cluster_checks};
 ghost use Rattle.bm_parts.specs.Before.{part_before};
 ghost use Rattle.bm_parts.specs.Parts.{block_of};
+ghost use Rattle.bm_shard.specs.Seen.{IsReadyFor, IsReadyForRound};
 ghost use Rattle.bm_shard.specs.Standing.{next_part};
-ghost use Rattle.bm_fleet.specs.FromShards.{HasAnswered};
+ghost use Rattle.bm_fleet.specs.Answers.{HasAnswered};
 ghost use Rattle.bm_fleet.specs.Rows.{rows_of};
-ghost use Rattle.bm_fleet.specs.Worked.{Accepts, IsPrepared, CanCommit, IsCommitted};
-ghost use Rattle.bm_fleet.specs.RoundWorked.{CanFind, HasPart, IsPreparedForRound, CanCommitRound, HasTakenRound};
+ghost use Rattle.bm_fleet.specs.Worked.{IsPrepared, CanCommit, IsCommitted};
+ghost use Rattle.bm_fleet.specs.RoundWorked.{CanFind, HasPart, CanCommitRound, HasTakenRound};
 
-use crate::answered::Answered;
-use crate::crewed::{Committed, Prepared, commit_one, prepare_one};
-use crate::round_crewed::{commit_round_one, find_one, prepare_round_one};
+use crate::answers::{Answered, Asked};
+use crate::shard_work::{
+    commit_one, commit_round_one, find_one, prepare_one, prepare_round_one, rows_of_one,
+};
 use crate::table::Rows;
 use crate::workers::Workers;
-use bm_base::{Chosen, Event, RoundPart};
+use bm_base::{Chosen, Done, Event, RoundPart};
 use bm_crew::{Gate, Ready};
 use bm_parts::merge::Key;
 use bm_shard::Shard;
@@ -74,81 +76,63 @@ impl<R: Threads + Wait> Workers for Threaded<R, &(dyn Gate + Sync)> {
 
     fn prepare_all(
         &self,
-        ready: Ready<Shard, Prepared>,
+        ready: Ready<Shard, Asked<()>>,
         shards: Vec<(u32, Shard)>,
         event: &Event,
         topology: &Topology,
-    ) -> Vec<(u32, Prepared)> {
-        let work = |index: u32, shard: Shard| -> Prepared
-            requires cluster { first_of (cluster_checks topology.now.cluster event.now) ≡ None }
-            requires blocks { Accepts event.now (index, shard) }
-            ensures { IsPrepared event.entry.now (index, shard) (index, result) }
-        {
-            let _ = index;
-            prepare_one(shard, event, topology)
-        };
+    ) -> Vec<(u32, Asked<()>)> {
+        let work = |_: u32, shard: Shard| -> Asked<()>
+            ensures { IsPrepared (IsReadyFor event.entry.now) shard result }
+        { prepare_one(shard, event, topology) };
         ready.run(&self.rt, shards, &work, &self.gate)
     }
 
     fn commit_all(
         &self,
-        ready: Ready<Shard, Committed>,
+        ready: Ready<Shard, Answered<Done>>,
         shards: Vec<(u32, Shard)>,
         event: &Event,
         topology: &Topology,
         multi: bool,
-    ) -> Vec<(u32, Committed)> {
-        let work = |index: u32, shard: Shard| -> Committed
+    ) -> Vec<(u32, Answered<Done>)> {
+        let work = |_: u32, shard: Shard| -> Answered<Done>
             requires cluster { first_of (cluster_checks topology.now.cluster event.now) ≡ None }
             requires every { block_of event.now ≡ None }
             requires multi { multi ≡ is_multi_rack (change_cluster topology.now.cluster event.now) }
-            requires shard { CanCommit topology.now.cluster event.now (index, shard) }
-            ensures { IsCommitted topology.entry.now.cluster event.entry.now (index, shard)
-                (index, result) }
-        {
-            let _ = index;
-            commit_one(shard, event, topology, multi)
-        };
+            requires shard { CanCommit topology.now.cluster event.now shard }
+            ensures { IsCommitted topology.entry.now.cluster event.entry.now shard result }
+        { commit_one(shard, event, topology, multi) };
         ready.run(&self.rt, shards, &work, &self.gate)
     }
 
     fn find_all(
         &self,
-        ready: Ready<Shard, Answered<RoundPart>>,
+        ready: Ready<Shard, Asked<RoundPart>>,
         shards: Vec<(u32, Shard)>,
         round: u64,
         topology: &Topology,
         bound: Option<Key>,
-    ) -> Vec<(u32, Answered<RoundPart>)> {
-        let work = |index: u32, shard: Shard| -> Answered<RoundPart>
-            requires { CanFind topology.now.cluster round (index, shard) }
+    ) -> Vec<(u32, Asked<RoundPart>)> {
+        let work = |_: u32, shard: Shard| -> Asked<RoundPart>
+            requires { CanFind topology.now.cluster round shard }
             ensures { HasAnswered
-                (λ S. part_before bound (next_part topology.entry.now.cluster S)) (index, shard)
-                (index, result) }
-        {
-            let _ = index;
-            find_one(shard, round, topology, bound)
-        };
+                (λ S. part_before bound (next_part topology.entry.now.cluster S)) shard result }
+        { find_one(shard, round, topology, bound) };
         ready.run(&self.rt, shards, &work, &self.gate)
     }
 
     fn prepare_round_all(
         &self,
-        ready: Ready<Shard, Prepared>,
+        ready: Ready<Shard, Asked<()>>,
         shards: Vec<(u32, Shard)>,
         parts: &[RoundPart],
         chosen: &Chosen,
         topology: &Topology,
-    ) -> Vec<(u32, Prepared)> {
-        let work = |index: u32, shard: Shard| -> Prepared
+    ) -> Vec<(u32, Asked<()>)> {
+        let work = |index: u32, shard: Shard| -> Asked<()>
             requires { HasPart topology.now.cluster parts.now (index, shard) }
-            ensures { IsPreparedForRound chosen.entry.now (index, shard) (index, result) }
-        {
-            match parts.get(index as usize) {
-                Some(part) => prepare_round_one(shard, part, chosen, topology),
-                None => unreachable!(),
-            }
-        };
+            ensures { IsPrepared (IsReadyForRound chosen.entry.now) shard result }
+        { prepare_round_one(index, shard, parts, chosen, topology) };
         ready.run(&self.rt, shards, &work, &self.gate)
     }
 
@@ -162,29 +146,19 @@ impl<R: Threads + Wait> Workers for Threaded<R, &(dyn Gate + Sync)> {
     ) -> Vec<(u32, Shard)> {
         let work = |index: u32, shard: Shard| -> Shard
             requires { CanCommitRound topology.now.cluster parts.now chosen.now (index, shard) }
-            ensures { HasTakenRound topology.entry.now.cluster chosen.entry.now (index, shard)
-                (index, result) }
-        {
-            match parts.get(index as usize) {
-                Some(part) => commit_round_one(shard, part, chosen, topology),
-                None => unreachable!(),
-            }
-        };
+            ensures { HasTakenRound topology.entry.now.cluster chosen.entry.now shard result }
+        { commit_round_one(index, shard, parts, chosen, topology) };
         ready.run(&self.rt, shards, &work, &self.gate)
     }
 
     fn rows_of_all(
         &self,
-        ready: Ready<Shard, Answered<Rows>>,
+        ready: Ready<Shard, Asked<Rows>>,
         shards: Vec<(u32, Shard)>,
-    ) -> Vec<(u32, Answered<Rows>)> {
-        let work = |index: u32, shard: Shard| -> Answered<Rows>
-            ensures { HasAnswered rows_of (index, shard) (index, result) }
-        {
-            let _ = index;
-            let answer = shard.table_rows();
-            Answered { shard, answer }
-        };
+    ) -> Vec<(u32, Asked<Rows>)> {
+        let work = |_: u32, shard: Shard| -> Asked<Rows>
+            ensures { HasAnswered rows_of shard result }
+        { rows_of_one(shard) };
         ready.run(&self.rt, shards, &work, &self.gate)
     }
 }

@@ -151,20 +151,6 @@ pub may_be_worked : (M : State) (a : Asked) (line : List ℕ) (now : State) → 
 unfolding line_next
 may_be_worked M a line now e h = rw (← e) h
 
--- what was written stands when it is flushed
-pub progress_keeps : (M : State) (start old new : Option (List ℕ)) (s : Session) (bytes : List ℕ) → Progress M start old s bytes → Keeps old new → Progress M start new s bytes
-progress_keeps M start old new s bytes p keeps = record {
-  lines = p.lines;
-  rest = p.rest;
-  splits = p.splits;
-  holds = p.holds;
-  state = p.state;
-  wrote = Appends-keeps start old new _ p.wrote keeps;
-  count = p.count;
-  refused = p.refused;
-  begun = p.begun;
-}
-
 -- a line that was not answered leaves what was written
 pub piece_fault_of_line : (M : State) (start old new : Option (List ℕ)) (state : State) (done piece : List ℕ) (before now : ℕ) (f : Fault) → LineFault old new before now f → Interrupted M start old state done piece
     → PieceFault M start new state done piece before now f

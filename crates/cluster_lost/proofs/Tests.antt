@@ -10,10 +10,6 @@ pub none_if_empty : {X : Type 0} (xs : List X) → (length xs == 0) ≡ not (lis
 none_if_empty [] = refl
 none_if_empty (x ∷ xs) = ne_eqb (length (x ∷ xs)) 0 (λ e. absurd (omega (arith, e)))
 
-pub not_not : (b : Bool) → not (not b) ≡ b
-not_not true = refl
-not_not false = refl
-
 turn_or : (a b c d : Bool) → ((a || c) || (b || d)) ≡ ((a || b) || (c || d))
 turn_or true b c d = refl
 turn_or false true true d = refl

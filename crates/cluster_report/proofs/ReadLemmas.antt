@@ -57,9 +57,6 @@ pub record Taken (M : State) (start : Option (List ℕ)) (input : List ℕ) (n :
   pub all : all_accepted M (lines_of input) ≡ (accepted && all_accepted N (lines_of rest))
   pub noted : (new : Option (List ℕ)) → Appends now new (notes_text n N (lines_of rest)) → Appends start new (notes_text 1 M (lines_of input))
 
-pub taken_none : (M : State) (start left : Option (List ℕ)) (input : List ℕ) → left ≡ Some input → Taken M start input 1 M true start left
-taken_none M start left input e = record { rest = input; left_is = e; state = refl; all = refl; noted = λ new h. h }
-
 and_more : (a b c : Bool) → (a && (b && c)) ≡ ((a && b) && c)
 and_more true b c = refl
 and_more false b c = refl

@@ -134,6 +134,3 @@ name_of-number names name h =
 -- a number keeps its name when more names come
 pub name_of-more : (names more : List Text) (number : ℕ) → number - 1 < length names → name_of (names ++ more) number ≡ name_of names number
 name_of-more names more number h = get_or_append_left names more [] (number - 1) h
-
-pub number_within : (names : List Text) (name : Text) → list_any (bytes_eq name) names ≡ true → name_number names name - 1 < length names
-number_within names name h = omega (arith, known_below (bytes_eq name) names h)

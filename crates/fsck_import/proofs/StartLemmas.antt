@@ -12,7 +12,6 @@ use Rattle.fsck_text.specs.declared.node.NodeLine.{NodeLine}
 use Rattle.fsck_text.specs.declared.node.NodeLine.TheVariants as node
 use Rattle.fsck_text.specs.declared.wrong.Wrong.{Wrong}
 use Rattle.fsck_files.specs.Numbers.{has_number, with_number}
-use Rattle.fsck_cluster.specs.Clusters.{no_cluster}
 use Rattle.fsck_cluster.specs.Names.{is_new, name_number}
 use Rattle.fsck_cluster.specs.NodeLists.{no_list, with_row_on, with_row, after_row, ended_row, compared, counted, ended_section, sectioned, with_status, named, with_node, on_rack, after_rack, after_drains, after_remaining, after_section, after_name, after_kind, read_as, after_line, at_end}
 use Rattle.fsck_cluster.specs.declared.cluster.Cluster.{Cluster}
@@ -25,9 +24,6 @@ use Rattle.fsck_import.specs.Laws.{IsFresh}
 use Rattle.fsck_import.specs.Starts.{after_node_lines}
 use Rattle.fsck_import.proofs.NameLemmas.{same_ok, err_is_not_ok, if_ok, if_not, came_of, map-push, new_position, with_new}
 use Rattle.fsck_import.proofs.BadLemmas.{node_number, count_push-names, has-last, has-with_either, in-count_up}
-
-pub no_cluster_fresh : IsFresh no_cluster
-no_cluster_fresh = record { nodes = refl; storages = refl; rows = refl; blocks = refl; bad = refl; draining = λ n h. absurd (true≢false (sym h)) }
 
 -- each node that drains is one of the nodes
 abbrev pub DrainsWithin : Cluster → Type 0

@@ -85,10 +85,6 @@ still_tells calls a b d tells kept = record { written = flushed a b d _ tells.wr
 pub all_flushed : (calls more : List Call) (a b c d : Option Text) → Written calls a b → Written more b c → Keeps c d → Tells (calls ++ more) a d
 all_flushed calls more a b c d first second kept = still_tells (calls ++ more) a c d (all_told (calls ++ more) a c (written_more calls more a b c first second)) kept
 
-take_none : {A : Type 0} (n : ℕ) → take {A = A} n [] ≡ []
-take_none zero = refl
-take_none (suc n) = refl
-
 take_next : {A : Type 0} (xs : List A) (i : ℕ) → take (suc i) xs ≡ take i xs ++ option_to_list (slice_get xs i)
 take_next {A} [] zero = refl
 take_next {A} [] (suc i) = sym (ap (λ (o : Option A). take (suc i) [] ++ option_to_list o) (slice_get_past {X = A} [] (suc i) (omega arith)))

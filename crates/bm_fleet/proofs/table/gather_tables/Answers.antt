@@ -1,5 +1,5 @@
 use Rattle.std.proofs.Common.{ap}
-use Rattle.bm_fleet.specs.FromShards.{HasAnswered}
+use Rattle.bm_fleet.specs.Answers.{HasAnswered}
 use Rattle.bm_fleet.specs.Rows.{rows_of}
 use Rattle.bm_fleet.proofs.Staying.{still_taken}
 use Rattle.bm_fleet.proofs.table.gather_tables.Goals as goal

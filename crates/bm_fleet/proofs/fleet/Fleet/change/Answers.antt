@@ -1,7 +1,6 @@
 use Rattle.std.proofs.Common.{subst, sym}
 use Rattle.bm_parts.proofs.OneShard.{nothing_done}
 use Rattle.bm_fleet.specs.Whole.{Whole, EachStandsIn, EachTook, StandsIn, HasTaken}
-use Rattle.bm_fleet.proofs.Fleets.{all_accept}
 use Rattle.bm_fleet.proofs.Heartbeats.{stands_heard, holdings_heard}
 use Rattle.bm_fleet.proofs.fleet.Fleet.change.Goals as goal
 
@@ -14,9 +13,6 @@ returns-in-Heartbeat-clause-changed g c = holdings_heard c.args.topology.now.clu
 pub returns-in-Heartbeat-clause-standing : goal.returns-in-Heartbeat-clause-standing
 returns-in-Heartbeat-clause-standing g c =
     stands_heard c.args.topology.now.cluster c.args.event.now c.in-Heartbeat.node c.in-Heartbeat.remaining c.args.self.now c.in-Heartbeat.is c.lawful.ensures c.requires.cluster c.requires.standing
-
-pub change_all-requires-clause-blocks : goal.change_all-requires-clause-blocks
-change_all-requires-clause-blocks g c = all_accept _ _ (sym c.in-None.ensures)
 
 pub change_all-requires-clause-standing : goal.change_all-requires-clause-standing
 unfolding StandsIn
