@@ -1,6 +1,6 @@
-/* The line tool in C: answers each line of standard input by a line of standard output, and then tells on
- * standard error how many lines it answered. Its words are shards, work, invalidate and pend, as many as are
- * given. */
+/* The line tool in C: answers each line of standard input by a line of standard output, and then
+ * prints on standard error how many lines it answered. Its arguments are shards, work, invalidate
+ * and pend, in this order; the last ones may be left out. */
 #include "puljemrod.h"
 
 #include <stdio.h>
@@ -20,13 +20,14 @@ static bool write_answer(puljemrod *manager) {
 
 static int answer_lines(puljemrod *manager) {
     char *line = NULL;
-    size_t room = 0, answered = 0, answer_len;
+    size_t capacity = 0, answered = 0, answer_len;
     ssize_t len;
     int status = 0;
-    while (status == 0 && (len = getline(&line, &room, stdin)) > 0) {
+    while (status == 0 && (len = getline(&line, &capacity, stdin)) > 0) {
         if (line[len - 1] == '\n') len--;
         uint32_t code = puljemrod_line(manager, line, (size_t)len, &answer_len);
-        if (code == PULJEMROD_MEMORY || code == PULJEMROD_NO_TEXT || !write_answer(manager)) status = 1;
+        if (code == PULJEMROD_MEMORY || code == PULJEMROD_NO_TEXT || !write_answer(manager))
+            status = 1;
         answered++;
     }
     free(line);

@@ -277,6 +277,11 @@ static void counts_of_events(void) {
     check(has_counts(&h, 1, 0), "counts of a report");
     puljemrod_storage_failed(&h, 21);
     check(has_counts(&h, 0, 1), "counts of a failed storage");
+    const puljemrod_entry entries[] = {{8, 8, 1, 64}};
+    left = 0;
+    uint32_t code = puljemrod_full_report(&h, 12, entries, 1);
+    left = -1;
+    check(code == PULJEMROD_MEMORY && has_counts(&h, 0, 1), "counts after an event refused for memory");
     puljemrod_storage_failed(&h, 22);
     check(has_counts(&h, 0, 0), "counts of a refused event");
     puljemrod_close(&h);
@@ -403,6 +408,10 @@ static void lists(void) {
     puljemrod_corrupt(&h, 11, 7);
     check(puljemrod_corrupt_replicas(&h, &count) == 0 && count == 1 && puljemrod_pair_rows(&h, 0, pair, 3) == 1
               && pair->block == 7 && pair->storage == 11, "corrupt");
+    check(puljemrod_places(&h, 7, &count) == 0 && count == 1 && puljemrod_number_rows(&h, 0, number, 3) == 1
+              && *number == 21, "places without the corrupt replica");
+    check(puljemrod_blocks_on(&h, 11, &count) == 0 && count == 1 && puljemrod_number_rows(&h, 0, number, 3) == 1
+              && *number == 7, "the block of a corrupt replica");
     puljemrod_storage_failed(&h, 11);
     puljemrod_storage_failed(&h, 21);
     check(puljemrod_missing_blocks(&h, &count) == 0 && count == 1 && puljemrod_number_rows(&h, 0, number, 3) == 1

@@ -3,10 +3,11 @@
 
 use crate::calls::{STAMP, Told, call_of};
 use bm_base::{
-    Answer, Call, Commands, Config, Delete, NodeCommands, Refusal, ReplicaId, StorageId, Transfer,
+    Answer, Call, Commands, Config, Delete, Items, NodeCommands, Refusal, ReplicaId, StorageId,
+    Transfer,
 };
 use bm_crew::{Gate, NoGate};
-use bm_manager::{Manager, answers_alike};
+use bm_manager::{Manager, answers_alike, answers_alike_alone};
 use std::alloc::Global;
 use std::process::Abort;
 use std::sync::Wait;
@@ -292,6 +293,18 @@ fn check_answers(rt: &impl Abort, answers: &[Answer], story: &[(Told<'_>, Must<'
     }
 }
 
+fn check_both(
+    rt: &impl Abort,
+    answered: Result<(Items<Answer>, Items<Answer>), Refusal>,
+    story: &[(Told<'_>, Must<'_>)],
+) {
+    let (answers, others) = answered.expect(rt, "memory");
+    check_answers(rt, answers.as_slice(), story);
+    check_answers(rt, others.as_slice(), story);
+    drop(others);
+    drop(answers);
+}
+
 fn check_story<R: Abort + Threads + Wait + Sync>(
     rt: &R,
     alloc: Global,
@@ -342,20 +355,11 @@ fn nine_of_twelve_replicas_are_too_many(rt: HostRuntime) {
 fn two_managers_answer_alike(rt: HostRuntime) {
     let alloc = rt.alloc();
     let calls = calls_of(&rt, alloc, ROUNDS.as_slice());
-    let (answers, others) = answers_alike(
-        alloc,
-        &rt,
-        &NoGate,
-        Config::standard(),
-        5,
-        4,
-        calls.as_slice(),
-    )
-    .expect(&rt, "memory");
-    check_answers(&rt, answers.as_slice(), ROUNDS.as_slice());
-    check_answers(&rt, others.as_slice(), ROUNDS.as_slice());
-    drop(others);
-    drop(answers);
+    let of_one = Config::standard();
+    let threaded = answers_alike(alloc, &rt, &NoGate, of_one, 5, 4, calls.as_slice());
+    check_both(&rt, threaded, ROUNDS.as_slice());
+    let alone = answers_alike_alone(alloc, &rt, &NoGate, config(3, 2), 5, calls.as_slice());
+    check_both(&rt, alone, ROUNDS.as_slice());
     drop(calls);
 }
 
