@@ -204,6 +204,30 @@ static void check_events_without_memory(puljemrod *handle) {
     check(are, "events without memory");
 }
 
+/* A heartbeat is refused only where the memory of earlier ones is too small for its list. Two of them leave that of
+ * two lists: one in the answer, and one for the next. */
+static void heartbeats_without_memory(void) {
+    puljemrod h = PULJEMROD_CLOSED_HANDLE;
+    const uint32_t storages[] = {11, 12};
+    static const puljemrod_remaining remaining[1000] = {{11, 500}, {12, 1000}, {11, 600}, {12, 700}, {11, 1}};
+    puljemrod_open(&h, &standard);
+    puljemrod_register(&h, 1, 1, storages, 2);
+    left = 0;
+    check(puljemrod_heartbeat(&h, 1, remaining, 2) == PULJEMROD_MEMORY, "the first heartbeat refused for memory");
+    left = -1;
+    bool are = puljemrod_heartbeat(&h, 1, remaining, 4) == 0 && puljemrod_heartbeat(&h, 1, remaining, 4) == 0;
+    left = 0;
+    for (unsigned at = 0; at < OPENS; at++) {
+        are = puljemrod_heartbeat(&h, 1, remaining + at % 2, 4) == 0 && are;
+        are = puljemrod_deleted(&h, 11, 5) == 0 && puljemrod_heartbeat(&h, 1, remaining, at % 4) == 0 && are;
+    }
+    are = puljemrod_heartbeat(&h, 2, remaining, 4) == 1 && puljemrod_heartbeat(&h, 1, remaining, 0) == 0 && are;
+    check(are, "heartbeats without memory");
+    check(puljemrod_heartbeat(&h, 1, remaining, 1000) == PULJEMROD_MEMORY, "a longer heartbeat refused for memory");
+    left = -1;
+    puljemrod_close(&h);
+}
+
 static void events(void) {
     puljemrod h = PULJEMROD_CLOSED_HANDLE;
     const uint32_t storages[] = {11, 12}, other[] = {21};
@@ -558,6 +582,7 @@ int main(void) {
     longest_line();
     more_lines_than_the_tool();
     events();
+    heartbeats_without_memory();
     counts_of_events();
     questions();
     rounds();

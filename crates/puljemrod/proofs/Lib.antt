@@ -1,4 +1,5 @@
 mod AsBox
+mod Beats
 mod Somes
 mod Lines
 mod Listed

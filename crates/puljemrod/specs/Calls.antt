@@ -1,9 +1,11 @@
 -- What a call on a handle comes to: its code, and what is kept behind the handle.
-use Rattle.std.specs.Prelude.{◌≡◌, ◌⊎◌, ℕ, true, IsTrue, List, [], length, Option, Some, None}
+use Rattle.std.specs.Prelude.{◌≡◌, ◌<◌, ◌⊎◌, ℕ, true, IsTrue, List, [], length, Option, Some, None}
 use Rattle.bm_base.specs.declared.config.Config.{Config}
 use Rattle.bm_base.specs.declared.call.Call.{Call}
 use Rattle.bm_base.specs.declared.call.Call.TheVariants.{Apply}
 use Rattle.bm_base.specs.declared.event.Event.{Event}
+use Rattle.bm_base.specs.declared.event.Event.TheVariants.{Heartbeat}
+use Rattle.bm_base.specs.declared.event.Remaining.{Remaining}
 use Rattle.bm_base.specs.declared.refusal.Refusal.{Refusal}
 use Rattle.bm_base.specs.State.{State, first_state}
 use Rattle.bm_base.specs.Configuration.{config_refusal}
@@ -84,6 +86,11 @@ IsCall k c now code = ((code ≡ MEMORY) × (now ≡ k) × IsTrue (may_lack_memo
 abbrev pub IsListed : Kept → Call → Kept → ℕ → Type 0
 IsListed k c now code = ((code ≡ MEMORY) × (now ≡ k)) ⊎ IsMade k c now code
 
+-- The same of a heartbeat, whose list is copied into memory that the handle keeps: memory may be refused only where that is
+-- too small for the list.
+abbrev pub IsBeat : Kept → ℕ → List Remaining → Kept → ℕ → Type 0
+IsBeat k node rs now code = ((code ≡ MEMORY) × (now ≡ k) × (k.spare < length rs)) ⊎ IsMade k (Apply (Heartbeat node rs)) now code
+
 -- The text of the last answer is asked for: state and answer stay as they are. A text that is made already is not refused,
 -- and where memory is refused nothing is changed.
 pub record IsText (k now : Kept) (code len : ℕ) : Type 0 where
@@ -112,3 +119,7 @@ AfterEvent old e now code = AfterCall old (Apply e) now code
 abbrev pub AfterListed : Option Kept → Event → Option Kept → ℕ → Type 0
 AfterListed None e now code = (code ≡ CLOSED) × (now ≡ None)
 AfterListed (Some k) e now code = (n : Kept) × (now ≡ Some n) × IsListed k (Apply e) n code
+
+abbrev pub AfterBeat : Option Kept → ℕ → List Remaining → Option Kept → ℕ → Type 0
+AfterBeat None node rs now code = (code ≡ CLOSED) × (now ≡ None)
+AfterBeat (Some k) node rs now code = (n : Kept) × (now ≡ Some n) × IsBeat k node rs n code

@@ -1,12 +1,14 @@
 // The events, each by a function of its own.
 ghost use Rattle.std.specs.Prelude.{map};
 ghost use Rattle.bm_base.specs.declared.event.Event.TheVariants as event;
-ghost use Rattle.puljemrod.specs.Calls.{AfterEvent, AfterListed};
+ghost use Rattle.puljemrod.specs.Calls.{AfterEvent, AfterListed, AfterBeat};
 ghost use Rattle.puljemrod.specs.Rows.{entry_of, remaining_of, stamp};
 
 use crate::calls::{apply, apply_made};
+use crate::codes::CLOSED;
 use crate::handle::Slot;
-use crate::rows::{EntryRow, RemainingRow, full_report, heartbeat, register, stamp};
+use crate::kept::take_heartbeat;
+use crate::rows::{EntryRow, RemainingRow, full_report, register, stamp};
 use bm_base::{BlockId, Event, NodeId, StorageId};
 use std::alloc::Global;
 
@@ -70,9 +72,14 @@ pub extern "C" fn puljemrod_heartbeat(
     node: u32,
     remaining: &[RemainingRow],
 ) -> u32
-    ensures { AfterListed slot.old.handle.kept (event.Heartbeat node (map remaining_of remaining.now)) slot.new.handle.kept result }
+    ensures { AfterBeat slot.old.handle.kept node (map remaining_of remaining.now) slot.new.handle.kept result }
 {
-    apply_made(alloc, slot, heartbeat(alloc, node, remaining))
+    let Some(mut kept) = slot.take(alloc) else {
+        return CLOSED;
+    };
+    let code = take_heartbeat(alloc, &mut kept, node, remaining);
+    slot.put(kept);
+    code
 }
 
 /// A new block, of which `repl` replicas are wanted.

@@ -1,17 +1,21 @@
 // What an open handle leads to.
-ghost use Rattle.std.specs.Prelude.{◌≡◌, [], true, None, IfOk, IfErr, OnOk, OnErr, IsTrue};
+ghost use Rattle.std.specs.Prelude.{◌≡◌, [], true, map, None, IfOk, IfErr, OnOk, OnErr, IsTrue};
 ghost use Rattle.bm_base.specs.Configuration.{config_refusal};
 ghost use Rattle.bm_base.specs.Answering.{Refuses};
 ghost use Rattle.bm_answers.specs.declared.asked.Asked.TheVariants.{Long};
 ghost use Rattle.bm_answers.specs.OneLine.{asked, asked_may_lack};
-ghost use Rattle.puljemrod.specs.Calls.{config_of, last_text, IsFirst, IsAsked, IsAnswered, IsLine, IsCall, IsText};
+ghost use Rattle.puljemrod.specs.Calls.{config_of, last_text, IsFirst, IsAsked, IsAnswered, IsLine, IsCall, IsBeat, IsText};
+ghost use Rattle.puljemrod.specs.Rows.{remaining_of};
 
 use crate::codes::{MEMORY, NO_TEXT};
 use crate::options::Options;
+use crate::rows::RemainingRow;
+use crate::spare::Spare;
 use bm_answers::{Asked, LineAnswer, asked_of, make_call_alone};
-use bm_base::{Call, HashSecret, Refusal};
+use bm_base::{Call, Event, HashSecret, NodeId, Refusal};
 use bm_manager::Manager;
 use std::alloc::{AllocError, Global};
+use std::mem;
 
 /// A manager, and its last answer.
 #[derive(Drop)]
@@ -23,6 +27,8 @@ pub struct Kept {
     pub answer: Option<LineAnswer>,
     /// The text of the answer, if it is made.
     pub text: Vec<u8>,
+    /// Memory for the list of the next heartbeat.
+    pub spare: Spare,
 }
 
 pub fn open(alloc: Global, options: &Options) -> Result<Box<Kept>, Refusal>
@@ -37,6 +43,7 @@ pub fn open(alloc: Global, options: &Options) -> Result<Box<Kept>, Refusal>
         number: 0,
         answer: None,
         text: Vec::new(alloc),
+        spare: Spare::new(alloc),
     };
     Ok(Box::new(alloc, kept)?)
 }
@@ -75,6 +82,23 @@ pub fn take_call(alloc: Global, kept: &mut Kept, call: Call) -> u32
     }
 }
 
+/// Makes a heartbeat, whose list is copied into memory of an earlier one, if that has room.
+pub fn take_heartbeat(alloc: Global, kept: &mut Kept, node: u32, rows: &[RemainingRow]) -> u32
+    ensures { IsBeat kept.old node (map remaining_of rows.now) kept.new result }
+{
+    match kept.spare.copy(alloc, rows) {
+        Ok(remaining) => {
+            let node = NodeId(node);
+            take_call(
+                alloc,
+                kept,
+                Call::Apply(Event::Heartbeat { node, remaining }),
+            )
+        }
+        Err(_refused) => MEMORY,
+    }
+}
+
 /// Makes the call that is asked for, and keeps the answer.
 fn answer_asked(alloc: Global, kept: &mut Kept, asked: Asked) -> Result<(), AllocError>
     ensures answered { OnOk result (IsAsked kept.old.manager asked kept.new) }
@@ -83,7 +107,8 @@ fn answer_asked(alloc: Global, kept: &mut Kept, asked: Asked) -> Result<(), Allo
 {
     let answer = make_call_alone(&mut kept.manager, asked)?;
     kept.number = answer.number();
-    kept.answer = Some(answer);
+    let before = mem::replace(&mut kept.answer, Some(answer));
+    kept.spare.take_back(before);
     kept.text = Vec::new(alloc);
     Ok(())
 }

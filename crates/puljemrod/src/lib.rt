@@ -23,6 +23,7 @@ mod options;
 mod parts;
 mod questions;
 mod rows;
+mod spare;
 mod told;
 
 use codes::{CLOSED, OPEN};

@@ -1,6 +1,6 @@
 // Events with a list, whose items C has as rows.
 ghost use Rattle.std.specs.Prelude.{◌≡◌, IfOk, map};
-ghost use Rattle.bm_base.specs.declared.event.Event.TheVariants.{Register, Heartbeat, FullReport};
+ghost use Rattle.bm_base.specs.declared.event.Event.TheVariants.{Register, FullReport};
 ghost use Rattle.puljemrod.specs.Rows.{entry_of, remaining_of};
 
 use bm_base::{BlockId, Entry, Event, Gen, Items, NodeId, Rack, Remaining, Stamp, StorageId};
@@ -35,16 +35,6 @@ pub fn register(alloc: Global, node: u32, rack: u32, storages: &[u32]) -> Result
     })
 }
 
-pub fn heartbeat(alloc: Global, node: u32, rows: &[RemainingRow]) -> Result<Event, AllocError>
-    ensures { IfOk result (λ event. event ≡ Heartbeat node (map remaining_of rows.now)) }
-{
-    let remaining = remaining_items(alloc, rows)?;
-    Ok(Event::Heartbeat {
-        node: NodeId(node),
-        remaining: Items::from_vec(remaining),
-    })
-}
-
 pub fn full_report(alloc: Global, storage: u32, rows: &[EntryRow]) -> Result<Event, AllocError>
     ensures { IfOk result (λ event. event ≡ FullReport storage (map entry_of rows.now)) }
 {
@@ -61,15 +51,13 @@ fn storage_of(number: &u32) -> StorageId
     StorageId(*number)
 }
 
-fn remaining_items(alloc: Global, rows: &[RemainingRow]) -> Result<Vec<Remaining>, AllocError>
-    ensures { IfOk result (λ v. v.items ≡ map remaining_of rows.now) }
+pub fn remaining_of(row: &RemainingRow) -> Remaining
+    ensures { result ≡ remaining_of row.now }
 {
-    rows.iter()
-        .map(|row| Remaining {
-            storage: StorageId(row.storage),
-            remaining: row.remaining,
-        })
-        .collect(alloc)
+    Remaining {
+        storage: StorageId(row.storage),
+        remaining: row.remaining,
+    }
 }
 
 fn entry_items(alloc: Global, rows: &[EntryRow]) -> Result<Vec<Entry>, AllocError>
