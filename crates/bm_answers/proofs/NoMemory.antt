@@ -1,4 +1,5 @@
--- No definition refuses for memory. So where a manager does, the call takes memory, and nothing else refuses it.
+-- No definition refuses for memory. So if a manager does, the call takes memory, and nothing else
+-- refuses it.
 use Rattle.std.proofs.Common.{◌≡◌, ℕ, Bool, true, false, not, nat_le, List, [], ◌∷◌, Option, None, Some, IsTrue, ◌⊎◌, inl, inr, ap, refl}
 use Rattle.bm_base.specs.declared.event.Event.{Event}
 use Rattle.bm_base.specs.declared.event.Event.TheVariants as event

@@ -23,7 +23,7 @@ asked_by (Some k) = Asks k
 unfoldable pub asked : List ℕ → Asked
 asked line = if nat_lt MAX_LINE (length line) then Long else asked_by (call_of line)
 
--- what is answered, and the state after it
+-- the answer, and the next state
 
 abbrev pub answer_to : State → Asked → LineAnswer
 answer_to M Long = line.Long
@@ -39,7 +39,7 @@ abbrev pub asked_may_lack : State → Asked → Bool
 asked_may_lack M (Asks k) = may_lack_memory step M k
 asked_may_lack M _ = false
 
--- the text of an answer, whether it begins with `refused`, and the number behind that word
+-- the text of an answer, whether it begins with `refused`, and the number after that word
 
 abbrev pub text_of : LineAnswer → List ℕ
 text_of line.Long = codes "refused 21 LongLine"

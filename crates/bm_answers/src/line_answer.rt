@@ -67,8 +67,8 @@ fn number(answer: &Answer) -> u32
     }
 }
 
-/// Makes the call that a line asks for, if there is one, by threads. `Err` where memory was refused: then
-/// the call takes memory, nothing else refuses it, and it has changed nothing.
+/// Makes the call that a line asks for, if there is one, by threads. `Err` if memory was refused:
+/// then the call takes memory, nothing else refuses it, and it has changed nothing.
 pub fn make_call<H: Threads + Wait + Sync>(
     rt: &H,
     manager: &mut Manager,

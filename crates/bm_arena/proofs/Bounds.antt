@@ -1,4 +1,4 @@
--- Each slot that is held lies below the bound, whatever a call does to the entries.
+-- Each slot that is held is below the bound, whatever a call does to the entries.
 use Rattle.std.proofs.Common.{◌≡◌, ℕ, ◌<◌, ◌+◌, max, get_or, set, [], Option, Some, None, IsSome, refl, subst, inl, inr, sym, ap, ◌∙◌, arith}
 use Rattle.std.specs.Option.{option_map}
 use Rattle.std.proofs.lemmas.Bool.{cases_eq, false≢true}

@@ -1,4 +1,4 @@
--- What dropping an entry without replicas leaves of an arena's invariant.
+-- An arena's invariant after an entry without replicas is dropped.
 use Rattle.std.proofs.Common.{◌≡◌, ◌≢◌, ℕ, List, [], ◌∷◌, map, length, get_or, set, false, cond, eqb, Option, Some, None, IsSomeAnd, refl, subst, inl, inr, sym, ap, ◌∙◌}
 use Rattle.std.specs.Option.{option_map}
 use Rattle.std.specs.Map.{lookup, keys_of}

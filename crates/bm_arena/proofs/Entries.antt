@@ -1,4 +1,4 @@
--- What a new entry without triplets, a new head and more room leave of an arena's invariant.
+-- An arena's invariant after a new entry without triplets, a new head and more capacity.
 use Rattle.std.proofs.Common.{◌≡◌, ◌≢◌, ◌⊎◌, ℕ, ◌<◌, List, [], ◌∷◌, ◌++◌, map, get_or, false, cond, eqb, Option, Some, None, refl, subst, inl, inr, sym, ap, ◌∙◌, arith, max, ◌+◌}
 use Rattle.std.specs.Option.{option_map}
 use Rattle.std.specs.Map.{lookup, keys_of}
@@ -245,7 +245,8 @@ module _ (old new : Slab Entry) (key : ℕ) (e : Entry) (empty : old.slots ≡ [
         };
       })
 
--- the same, from what the calls of `add_entry` say: the slab got room, the number was listed with the slot, and the entry was put there
+-- the same, from what the calls of `add_entry` say: the slab got room, the number was listed with
+-- the slot, and the entry was put there
 module _ (slots mid new : Slab Entry) (capacity key slot : ℕ) (e : Entry) (ids entries : List (ℕ × ℕ)) (heads : List (ℕ × Option ℕ)) (delimiter : ℕ)
     (grown : mid ≡ record slots { capacity = capacity }) (key_is : key ≡ mid.vacant_key) (slot_is : slot ≡ mid.vacant_key)
     (vacant : get mid key ≡ None) (up : Updates mid new key (Some e)) (bare : e.triplets.items ≡ [])

@@ -1,4 +1,4 @@
--- A storage's head at an index: what is found there, and what a write there leaves.
+-- A storage's head at an index: what a read finds, and the heads after a write.
 use Rattle.std.proofs.Common.{◌≡◌, ℕ, zero, suc, true, false, eqb, List, [], ◌∷◌, get_or, Option, Some, slice_get, position, refl, sym, ap, ◌∙◌, subst}
 use Rattle.std.specs.Prelude.{nat_eq}
 use Rattle.std.specs.Map.{set_value, keys_of}

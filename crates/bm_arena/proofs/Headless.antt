@@ -1,4 +1,4 @@
--- What dropping the head of an empty list leaves of an arena's invariant.
+-- An arena's invariant after the head of an empty list is dropped.
 use Rattle.std.proofs.Common.{◌≡◌, ◌≢◌, ℕ, ◌≤◌, ◌-◌, List, [], ◌∷◌, map, length, get_or, set, take, swap_remove, position, Bool, true, false, cond, eqb, Option, Some, None, IsSome, refl, subst, inl, inr, sym, ap, ◌∙◌, arith}
 use Rattle.std.specs.Option.{option_map, option_map_or, unwrap_or}
 use Rattle.std.specs.Map.{lookup, keys_of}

@@ -1,4 +1,4 @@
--- What is kept when it is set what is known of a block, and when a number gets an entry.
+-- What stays when the information on a block is set, and when a number gets an entry.
 use Rattle.std.proofs.Common.{◌≡◌, ◌≢◌, ℕ, Bool, true, false, cond, eqb, eq-eqb, eqb-true, Option, Some, None, is_some, IsSome, refl, subst, inl, inr, sym, ap, ◌∙◌}
 use Rattle.std.specs.Option.{option_map, option_and_then}
 use Rattle.std.proofs.lemmas.Bool.{cases_eq, false≢true}

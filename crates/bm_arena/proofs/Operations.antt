@@ -1,4 +1,5 @@
--- What linking a replica, taking one out and moving one to the front leave of an arena's lists, and of what is seen of it.
+-- An arena's lists, and what is seen of it, after a replica is linked, unlinked or moved to the
+-- front.
 use Rattle.std.proofs.Common.{◌≡◌, ◌≢◌, ℕ, List, [], ◌∷◌, ◌++◌, length, get_or, eqb, Option, Some, None, refl, subst, inl, inr, sym, ap, ◌∙◌}
 use Rattle.std.specs.Option.{option_map}
 use Rattle.std.specs.Map.{lookup, set_value, keys_of}

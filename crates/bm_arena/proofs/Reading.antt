@@ -1,4 +1,4 @@
--- What walking a list, making room and putting the delimiter rest on.
+-- What walking a list, reserving capacity and putting the delimiter depend on.
 use Rattle.std.proofs.Common.{◌≡◌, ℕ, zero, suc, ◌<◌, ◌≤◌, ◌+◌, map, List, [], ◌∷◌, length, get_or, eqb, Bool, true, false, not, is_some, Option, Some, None, IsSome, IsSomeAnd, refl, subst, inl, inr, sym, ap, ◌∙◌, arith}
 use Rattle.std.specs.Option.{option_map, option_and_then, option_map_or, unwrap_or}
 use Rattle.std.specs.Map.{lookup, keys_of}

@@ -1,5 +1,5 @@
--- What a contract sees of an arena, what its calls make of it, and what holds of it at all times.
--- Source: Hadoop 2's BlockInfo (triplets), BlocksMap, and the delimiter by which BlockManager compares a full report.
+-- What a contract sees of an arena, the effect of its calls, and its invariant. Source: Hadoop 2's
+-- BlockInfo (triplets), BlocksMap, and the delimiter by which BlockManager compares a full report.
 use Rattle.std.specs.Prelude.{◌≡◌, ◌↔◌, ℕ, ◌+◌, ◌^◌, ◌-◌, ◌==◌, ◌<◌, ◌≤◌, ◌≢◌, max, List, [], ◌∷◌, ◌++◌, length, map, nat_eq, nat_lt, Option, Some, None, IsSome, IsSomeAnd, if◌then◌else◌, slice_index_or, slice_set, false}
 use Rattle.std.specs.Option.{option_map, option_and_then, option_map_or, unwrap_or}
 use Rattle.std.specs.Map.{lookup, set_value, keys_of}
@@ -12,8 +12,9 @@ use Rattle.bm_arena.specs.declared.types.TheConstants.{TRIPLETS_IN_PLACE}
 use Rattle.bm_arena.specs.Triplets.{Block, change_block, fill_first}
 use Rattle.bm_base.specs.SlotLists.{Among, Distinct, without}
 
--- the block or nothing at each slot; each block's number with its slot; each storage with a head, and the slots of its list in order;
--- the slot that marks a place in a list; the count of list operations; one above the greatest slot that was held at any time
+-- the block or nothing at each slot; each block's number with its slot; each storage with a head,
+-- and the slots of its list in order; the slot that marks a position in a list; the number of list
+-- operations; one above the greatest slot that was ever held
 pub record Contents : Type 0 where
   pub blocks : List (Option Block)
   pub ids : List (ℕ × ℕ)
@@ -104,7 +105,7 @@ slot_of a id = lookup (nat_eq id) a.ids
 abbrev pub IsEntry : Contents → ℕ → Type 0
 IsEntry a slot = (id : ℕ) × (slot_of a id ≡ Some slot)
 
--- an entry with no block and no replica: it has room for as many as stand in place
+-- an entry with no block and no replica: it has its inline capacity
 abbrev pub empty_block : ℕ → Block
 empty_block id = record { id = id; info = None; replicas = []; room = TRIPLETS_IN_PLACE }
 
@@ -121,7 +122,7 @@ pub record IsAdded (old new : Contents) (id slot : ℕ) : Type 0 where
   pub delimiter : new.delimiter ≡ old.delimiter
   pub bound : new.bound ≡ max old.bound (slot + 1)
 
--- the slot that stands before x, where `before` stands before the first
+-- the slot before x, where `before` is before the first
 abbrev pub before_in : Option ℕ → ℕ → List ℕ → Option ℕ
 before_in before x [] = None
 before_in before x (y ∷ ys) = if y == x then before else before_in (Some y) x ys
@@ -137,7 +138,8 @@ room_at a slot = option_map_or (λ (b : Block). b.room) (block_at a slot) 0
 abbrev pub no_marks : Marks
 no_marks = record { tag = Good; excess = false; ordered = false }
 
--- only room changed: more storages may have a head, with no slot in their lists, and the delimiter's entry may have more room
+-- only capacity changed: more storages may have a head, with no slot in their lists, and the
+-- delimiter's entry may have more capacity
 pub record IsReserved (old new : Contents) : Type 0 where
   pub blocks : (slot : ℕ) → slot ≢ old.delimiter → block_at new slot ≡ block_at old slot
   pub marker : block_at new old.delimiter ≡ option_map (with_room (room_at new old.delimiter)) (block_at old old.delimiter)
@@ -150,7 +152,7 @@ pub record IsReserved (old new : Contents) : Type 0 where
   pub steps : new.steps ≡ old.steps
   pub bound : new.bound ≡ old.bound
 
--- the arena after the entry of a number was dropped: the last number takes its place
+-- the arena after the entry of a number was dropped: the last number takes its index
 abbrev pub dropped : Contents → ℕ → ℕ → Contents
 dropped a slot id = record a { blocks = slice_set a.blocks slot None; ids = swap_remove_entry (nat_eq id) a.ids }
 
@@ -158,7 +160,8 @@ dropped a slot id = record a { blocks = slice_set a.blocks slot None; ids = swap
 pub record IsLawful (a : Contents) : Type 0 where
   -- a list visits no slot twice
   pub distinct : (storage : ℕ) → Distinct (list_of a storage)
-  -- and visits just the slots that have a replica on its storage; the delimiter's slot is one member more while it is put
+  -- and visits just the slots that have a replica on its storage; the delimiter's slot is one
+  -- member more while it is put
   pub exact : (slot storage : ℕ) → Among slot (list_of a storage) ↔ IsSome (marks_at a slot storage)
   -- a block has at most one replica on a storage
   pub once : (slot : ℕ) (b : Block) → block_at a slot ≡ Some b → Distinct (map (λ (r : ℕ × Marks). r.0) b.replicas)
@@ -170,15 +173,16 @@ pub record IsLawful (a : Contents) : Type 0 where
   pub each : IsDistinct nat_eq (keys_of a.ids)
   -- the delimiter's slot is held
   pub marker : IsSome (block_at a a.delimiter)
-  -- each slot that is held lies below the bound
+  -- each slot that is held is below the bound
   pub bounded : (slot : ℕ) (b : Block) → block_at a slot ≡ Some b → slot < a.bound
 
--- what is known of a block beside its replicas
+-- what is known of a block, without its replicas
 abbrev pub known_of : Option Block → Option (ℕ × Option BlockInfo)
 known_of o = option_map (λ (b : Block). (b.id, b.info)) o
 
--- what a list operation keeps: all lists but the storage's, all blocks but the slot's, and of that block its number, what is
--- known of it, its replicas on other storages and how many fit; one step more is counted
+-- what a list operation keeps: all lists but the storage's, all blocks but the slot's, and of that
+-- block its number, what is known of it, its replicas on other storages and how many fit; one step
+-- more is counted
 pub record KeepsOthers (old new : Contents) (slot storage : ℕ) : Type 0 where
   pub lists : (other : ℕ) → other ≢ storage → list_of new other ≡ list_of old other
   pub heads : (other : ℕ) → HasHead old other → HasHead new other
@@ -191,8 +195,8 @@ pub record KeepsOthers (old new : Contents) (slot storage : ℕ) : Type 0 where
   pub bound : new.bound ≡ old.bound
   pub room : room_at new slot ≡ room_at old slot
 
--- what a change of the block in a slot keeps that is none of a list: all lists, all other blocks, how many replicas fit, and all
--- numbers with their slots
+-- what a change of the block in a slot keeps that is none of a list: all lists, all other blocks,
+-- how many replicas fit, and all numbers with their slots
 pub record KeepsAllBut (slot : ℕ) (old new : Contents) : Type 0 where
   pub lists : new.lists ≡ old.lists
   pub blocks : (other : ℕ) → other ≢ slot → block_at new other ≡ block_at old other
@@ -202,8 +206,9 @@ pub record KeepsAllBut (slot : ℕ) (old new : Contents) : Type 0 where
   pub steps : new.steps ≡ old.steps
   pub bound : new.bound ≡ old.bound
 
--- All entries stay, whatever replicas come, go or get other marks: each number keeps its slot, and each slot what is known of its
--- block and how many replicas fit there; a storage with a head keeps one.
+-- All entries stay, whatever replicas come, go or get other marks: each number keeps its slot, and
+-- each slot what is known of its block and how many replicas fit there; a storage with a head keeps
+-- one.
 pub record KeepsEntries (old new : Contents) : Type 0 where
   pub ids : new.ids ≡ old.ids
   pub known : (slot : ℕ) → known_of (block_at new slot) ≡ known_of (block_at old slot)

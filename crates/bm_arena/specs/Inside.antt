@@ -1,4 +1,4 @@
--- How an arena's fields stand for what a contract sees of it.
+-- How an arena's fields represent what a contract sees of it.
 use Rattle.std.specs.Prelude.{◌≡◌, ◌≢◌, ◌<◌, ◌≤◌, ℕ, List, map, length, nat_eq, Option, Some, None, slice_index_or}
 use Rattle.std.specs.Map.{lookup, keys_of}
 use Rattle.std.specs.List.{IsDistinct}
@@ -22,13 +22,14 @@ lists_from slots heads = map (λ h. (h.0, list_from slots h.0 h.1)) heads
 abbrev pub storages_of : Block → List ℕ
 storages_of b = map (λ r. r.0) b.replicas
 
--- the links of each storage with a head are a lawful list, each triplet's slot is in the list of its storage, and a block has one triplet of a storage
+-- the links of each storage with a head are a lawful list, each triplet's slot is in the list of
+-- its storage, and a block has one triplet of a storage
 pub record IsSound (slots : Slab Entry) (heads : List (ℕ × Option ℕ)) : Type 0 where
   pub lists : (storage : ℕ) (first : Option ℕ) → lookup (nat_eq storage) heads ≡ Some first → IsList (links_of slots storage) first (list_from slots storage first)
   pub complete : (slot storage : ℕ) (t : Triplet) → triplet_at slots slot storage ≡ Some t → (first : Option ℕ) × (lookup (nat_eq storage) heads ≡ Some first) × Among slot (list_from slots storage first)
   pub once : (slot : ℕ) (b : Block) → slice_index_or (seen_slots slots) slot None ≡ Some b → Distinct (storages_of b)
 
--- what is true of the entries of an arena with so many heads
+-- the invariant of the entries of an arena with this many heads
 pub record AreIds (blocks : List (Option Block)) (ids : List (ℕ × ℕ)) (delimiter heads : ℕ) : Type 0 where
   -- each number leads to its block
   pub there : (id slot : ℕ) → lookup (nat_eq id) ids ≡ Some slot → (slot ≢ delimiter) × (b : Block) × (slice_index_or blocks slot None ≡ Some b) × (b.id ≡ id)
@@ -36,7 +37,7 @@ pub record AreIds (blocks : List (Option Block)) (ids : List (ℕ × ℕ)) (deli
   pub known : (slot : ℕ) (b : Block) → slice_index_or blocks slot None ≡ Some b → slot ≢ delimiter → lookup (nat_eq b.id) ids ≡ Some slot
   -- no number is listed twice
   pub each : IsDistinct nat_eq (keys_of ids)
-  -- the delimiter has room for a triplet of each head
+  -- the delimiter has capacity for a triplet of each head
   pub marker : (b : Block) × (slice_index_or blocks delimiter None ≡ Some b) × (heads ≤ b.room)
   -- a link can name each slot that is held
   pub small : (slot : ℕ) (b : Block) → slice_index_or blocks slot None ≡ Some b → slot < end_of_links
@@ -45,13 +46,13 @@ pub record AreIds (blocks : List (Option Block)) (ids : List (ℕ × ℕ)) (deli
 abbrev pub AreUpTo : List (ℕ × ℕ) → ℕ → Type 0
 AreUpTo ids greatest = (id slot : ℕ) → lookup (nat_eq id) ids ≡ Some slot → id ≤ greatest
 
--- what is true of an arena's fields
+-- the invariant of an arena's fields
 pub record IsArena (slots : Slab Entry) (ids : List (ℕ × ℕ)) (heads : List (ℕ × Option ℕ)) (delimiter : ℕ) : Type 0 where
   pub sound : IsSound slots heads
   pub unique : IsDistinct nat_eq (keys_of heads)
   pub numbers : AreIds (seen_slots slots) ids delimiter (length heads)
 
--- each slot that is held lies below the bound
+-- each slot that is held is below the bound
 abbrev pub AllBelow : Slab Entry → ℕ → Type 0
 AllBelow slots bound = (slot : ℕ) (e : Entry) → get slots slot ≡ Some e → slot < bound
 

@@ -8,7 +8,8 @@ use Rattle.bm_base.specs.declared.replica.BlockInfo.{BlockInfo}
 use Rattle.bm_arena.specs.declared.types.Triplet.{Triplet}
 use Rattle.bm_arena.specs.declared.types.Entry.{Entry}
 
--- what is seen of a block: its number, what is known of it, each replica's storage and marks, and how many replicas fit
+-- what is seen of a block: its number, what is known of it, each replica's storage and marks, and
+-- how many replicas fit
 pub record Block : Type 0 where
   pub id : ℕ
   pub info : Option BlockInfo
@@ -46,11 +47,11 @@ with_triplet_marks marks t = record t { marks = marks }
 abbrev pub triplet_at : Slab Entry → ℕ → ℕ → Option Triplet
 triplet_at slots x storage = option_and_then (λ (e : Entry). find_triplet e.triplets.items storage) (get slots x)
 
--- an entry with other triplets in the same room
+-- an entry with other triplets in the same capacity
 abbrev pub with_triplets : Entry → List Triplet → Entry
 with_triplets e ts = record e { triplets = record e.triplets { items = ts } }
 
--- an entry with the same triplets in other room
+-- an entry with the same triplets in another capacity
 abbrev pub with_capacity : ℕ → Entry → Entry
 with_capacity room e = record e { triplets = record e.triplets { capacity = room } }
 
@@ -79,7 +80,7 @@ abbrev pub last_to_front : {X : Type 0} → List X → List X
 last_to_front [] = []
 last_to_front (x ∷ xs) = slice_index_or (x ∷ xs) (length xs) x ∷ take (length xs) (x ∷ xs)
 
--- the list, with its last element in the place of the first that passes the test
+-- the list, with its last element at the index of the first that passes the test
 abbrev pub fill_first : {X : Type 0} → (X → Bool) → List X → List X
 fill_first p [] = []
 fill_first p (x ∷ xs) = if p x then last_to_front xs else x ∷ fill_first p xs
@@ -87,7 +88,7 @@ fill_first p (x ∷ xs) = if p x then last_to_front xs else x ∷ fill_first p x
 abbrev pub is_of : ℕ → Triplet → Bool
 is_of storage t = t.storage == storage
 
--- the slab, with a storage's triplet taken out: the block's last triplet fills its place
+-- the slab without a storage's triplet: the block's last triplet takes its index
 abbrev pub removed : Slab Entry → ℕ → ℕ → Slab Entry
 removed slots x storage = at_slot (λ (e : Entry). with_triplets e (fill_first (is_of storage) e.triplets.items)) slots x
 

@@ -1,4 +1,4 @@
-// The arena: its fields, what a contract sees of them, and its making.
+// The arena: its fields, what a contract sees of them, and its constructors.
 ghost use Rattle.std.specs.Prelude.{◌≡◌, ◌≢◌, ◌+◌, ℕ, None, Some, [], IfOk, IfErr};
 ghost use Rattle.bm_base.specs.declared.refusal.Refusal.TheVariants.{Memory};
 ghost use Rattle.bm_base.specs.Map.{empty};
@@ -18,14 +18,17 @@ use std::marker::Model;
 /// The number of a slot of one arena. It stays the slot of its block until the entry is dropped.
 pub type Slot = usize;
 
-/// The blocks of one shard with their replicas, and for each storage the list of the slots of its blocks.
+/// The blocks of one shard with their replicas, and for each storage the list of the slots of its
+/// blocks.
 ///
-/// A contract sees it as `Contents`: the block in each slot, the slots of the block numbers, the list of each storage, the slot
-/// of the delimiter, the number of steps and a bound of the slots. Only `new`, `with_secret`, `reserve_heads`, `reserve_triplet` and `add_entry` take memory; every
-/// other call takes none and succeeds under its conditions. A refused call leaves what is seen as it was, but that a refused
-/// `reserve_heads` may leave heads with empty lists. A list operation takes a constant number of steps beside a look along the few
-/// replicas of the blocks that it touches. A look-up, a list operation and `add_entry` hash a number once at most, and a look-up of a
-/// number whose slot is as usual, or that is above all that were added, not at all.
+/// A contract sees it as `Contents`: the block in each slot, the slots of the block numbers, the
+/// list of each storage, the slot of the delimiter, the number of steps and a bound of the slots.
+/// Only `new`, `with_secret`, `reserve_heads`, `reserve_triplet` and `add_entry` take memory; every
+/// other call takes none and succeeds under its conditions. A refused call changes nothing that a
+/// contract sees, but a refused `reserve_heads` may leave heads with empty lists. A list operation
+/// takes a constant number of steps, and a scan of the few replicas of the blocks that it touches.
+/// A look-up, a list operation and `add_entry` hash a number once at most. A look-up does not hash
+/// a number whose slot is predicted right, or that is above all that were added.
 #[derive(Drop)]
 pub struct Arena {
     pub(crate) slots: Slab<Entry>,
@@ -33,10 +36,10 @@ pub struct Arena {
     pub(crate) ids: Numbers,
     // The first slot of each storage's list.
     pub(crate) heads: IndexMap<u32, SlotLink, HashSecret>,
-    // The index in `heads` of the storage whose list changed last: a hint, since most changes in a row
-    // are of one list.
+    // The index in `heads` of the storage whose list changed last: a hint, since most changes in a
+    // row are of one list.
     pub(crate) last_head: usize,
-    // The slot of an entry that is no block, and marks a place in a list.
+    // The slot of an entry that is no block, and marks a position in a list.
     pub(crate) delimiter: usize,
     pub(crate) steps: u64,
     // One above the greatest slot that was ever held.
@@ -66,7 +69,7 @@ impl Model for Arena {
     ghost invariant = { λ a. IsBoundedArena a.slots a.ids a.heads.entries a.delimiter a.bound };
 }
 
-// Counts one more, and stays at the last value.
+// The next number; the last value stays.
 pub(crate) fn count_up(steps: u64) -> u64
     ensures { result ≡ count_up steps }
 {
@@ -91,8 +94,8 @@ impl Arena {
         Arena::with_secret(alloc, HashSecret::none())
     }
 
-    /// The same, whose tables hash by this secret: for numbers that may have been chosen so that they share a place of a table. Nothing
-    /// that a contract sees depends on it. `Memory`.
+    /// The same, whose tables hash by this secret: for numbers that may have been chosen so that
+    /// they collide. Nothing that a contract sees depends on it. `Memory`.
     pub fn with_secret(alloc: Global, secret: HashSecret) -> Result<Arena, Refusal>
         ensures ids { IfOk result (λ a. a.ids ≡ []) }
         ensures lists { IfOk result (λ a. a.lists ≡ []) }
@@ -131,15 +134,15 @@ impl Arena {
         self.alloc
     }
 
-    /// Does nothing when it runs: an arena is lawful at all times, and this says so to the function that calls it.
+    /// For proofs alone: an arena is lawful at all times. Does nothing when it runs.
     pub fn lawful(&self)
         ensures { IsLawful self.now }
     {
         let _ = &self.slots;
     }
 
-    /// How many list operations there were since `new`: one for each link, unlink, move, delimiter put and delimiter taken. It
-    /// stays at its last value, 2^64 - 1.
+    /// The number of list operations since `new`: one for each link, unlink, move, delimiter put
+    /// and delimiter taken. It stays at its last value, 2^64 - 1.
     pub fn steps(&self) -> u64
         ensures { result ≡ self.now.steps }
     {

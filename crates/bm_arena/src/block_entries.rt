@@ -14,9 +14,9 @@ use bm_base::{BlockId, BlockInfo, Marks, Refusal, StorageId};
 use smallvec::SmallVec;
 
 impl Arena {
-    /// The slot of a block number: the one that it has, or a new one whose entry has neither block nor replica. A number that
-    /// has a slot is refused nothing. `Memory`, also where all 2^32 - 1 slots of an arena are held, since the slab may not grow
-    /// past what a link of 32 bits can name.
+    /// The slot of a block number: the one that it has, or a new one whose entry has neither block
+    /// nor replica. A known number is never refused. `Memory`, also if all 2^32 - 1 slots of an
+    /// arena are held, since the slab may not grow past what a link of 32 bits can name.
     pub fn add_entry(&mut self, id: BlockId) -> Result<Slot, Refusal>
         ensures there { IsSome (slot_of self.old id) → IsOk result }
         ensures known { IfOk result (λ slot. IsSome (slot_of self.old id)
@@ -46,8 +46,8 @@ impl Arena {
         Ok(slot)
     }
 
-    /// Drops the entry in `slot`, which has no replica. The entry that was last in the order of `slot_at` takes its place there.
-    /// Takes no memory.
+    /// Drops the entry in `slot`, which has no replica. The entry that was last in the order of
+    /// `slot_at` takes its index. Takes no memory.
     pub fn drop_entry(&mut self, slot: Slot)
         requires bare { IsSomeAnd (block_at self.old slot) (λ b. b.replicas ≡ []) }
         requires entry { slot ≢ self.old.delimiter }
@@ -66,8 +66,8 @@ impl Arena {
         }
     }
 
-    /// Makes room for one more replica of the block in `slot`, so that `link_front` has it. Where it has room, nothing is done;
-    /// so up to three replicas take no memory. `Memory`.
+    /// Reserves capacity for one more replica of the block in `slot`, for `link_front`. If it is
+    /// there already, nothing is done; so up to three replicas take no memory. `Memory`.
     pub fn reserve_triplet(&mut self, slot: Slot) -> Result<(), Refusal>
         requires { IsSome (block_at self.old slot) }
         ensures room { OnOk result (HasRoom self.new slot) }
@@ -93,7 +93,8 @@ impl Arena {
         Ok(links::reserve_triplets(&mut self.slots, slot, 1)?)
     }
 
-    /// Sets what is known of the block in `slot`: None where it is no known block. Nothing else changes. Takes no memory.
+    /// Sets what is known of the block in `slot`: None for an unknown block. Nothing else changes.
+    /// Takes no memory.
     pub fn set_info(&mut self, slot: Slot, info: Option<BlockInfo>)
         ensures after { self.new
             ≡ record self.old { blocks = change_block (with_info info) self.old.blocks slot } }
@@ -110,8 +111,8 @@ impl Arena {
         links::set_info(&mut self.slots, slot, info);
     }
 
-    /// Sets the marks of the replica on `storage` of the block in `slot`; where it has none, nothing changes. Nothing else
-    /// changes. Takes no memory.
+    /// Sets the marks of the replica on `storage` of the block in `slot`; without such a replica
+    /// nothing changes. Nothing else changes. Takes no memory.
     pub fn set_marks(&mut self, slot: Slot, storage: StorageId, marks: Marks)
         ensures after { self.new
             ≡ record self.old {
@@ -135,8 +136,9 @@ impl Arena {
         links::set_marks(&mut self.slots, slot, storage.0, marks);
     }
 
-    /// The same, with a guess of the place of that replica among the block's, from 0 on as `triplet_at` has them. Any guess will do: a
-    /// right one saves the look along all of them, and after a wrong one there is that look. Takes no memory.
+    /// The same, with a guess of that replica's index among the block's, from 0 on as `triplet_at`
+    /// has them. Any guess will do: a right one saves a scan of all of them, and after a wrong one
+    /// they are scanned. Takes no memory.
     pub fn set_marks_near(&mut self, slot: Slot, storage: StorageId, marks: Marks, guess: usize)
         ensures after { self.new
             ≡ record self.old {

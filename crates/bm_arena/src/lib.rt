@@ -1,8 +1,10 @@
-//! The arena under a shard: blocks with their replicas in a slab, and for each storage one doubly linked list of its blocks.
+//! The arena under a shard: blocks with their replicas in a slab, and for each storage one doubly
+//! linked list of its blocks.
 //!
-//! A block's replicas are triplets, as in Hadoop 2's BlockInfo: the storage, and the previous and the next block in that
-//! storage's list. So a list operation costs a constant number of steps, and a full report is compared by a delimiter that is
-//! put at the head of the list: what was reported is moved to the head, and what then stands behind the delimiter was not.
+//! A block's replicas are triplets, as in Hadoop 2's BlockInfo: the storage, and the previous and
+//! the next block in that storage's list. So a list operation costs a constant number of steps. A
+//! full report is compared by a delimiter that is put at the head of the list: reported blocks are
+//! moved to the head, and the blocks that are then after the delimiter were not reported.
 #![tactic(auto)]
 
 mod arena;

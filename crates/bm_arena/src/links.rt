@@ -1,4 +1,5 @@
-// Reads and writes of the triplets of one block, and the linking of one slot between its neighbours.
+// Reads and writes of the triplets of one block, and the linking of one slot between its
+// neighbours.
 ghost use Rattle.std.specs.Prelude.{OnSome, OnOk, OnErr, IsOk, IsSomeAnd, if◌then◌else◌, is_some, ◌≡◌, ◌<◌, ◌≤◌, slice_get, Some, None, IsSome, slice_set, position, ◌==◌};
 ghost use Rattle.std.specs.List.{position_or_len};
 ghost use Rattle.std.specs.Option.{option_map, option_and_then};
@@ -213,7 +214,7 @@ pub(crate) fn set_marks(slots: &mut Slab<Entry>, slot: usize, storage: u32, mark
     }
 }
 
-// The same, with a guess of the triplet's place.
+// The same, with a guess of the triplet's index.
 pub(crate) fn set_marks_near(
     slots: &mut Slab<Entry>,
     slot: usize,
@@ -267,7 +268,7 @@ pub(crate) fn detach(slots: &mut Slab<Entry>, first: &mut SlotLink, triplet: Tri
     }
 }
 
-// Adds a triplet to the block at a slot, which has room for it.
+// Adds a triplet to the block at a slot, which has capacity for it.
 pub(crate) fn add_triplet(slots: &mut Slab<Entry>, slot: usize, triplet: Triplet)
     requires { IsSomeAnd (get slots.old slot) (λ e. HasRoomFor e.triplets 1) }
     ensures { slots.new ≡ added slots.old slot triplet }
@@ -277,7 +278,7 @@ pub(crate) fn add_triplet(slots: &mut Slab<Entry>, slot: usize, triplet: Triplet
     }
 }
 
-// Takes a storage's triplet out of a block's: the last one fills its place.
+// Removes a storage's triplet from a block's: the last one takes its index.
 fn fill_place(triplets: &mut SmallVec<Triplet, TRIPLETS_IN_PLACE>, storage: u32) -> Option<Triplet>
     ensures found { result ≡ find_triplet triplets.old.items storage }
     ensures items { triplets.new.items ≡ fill_first (is_of storage) triplets.old.items }
@@ -289,7 +290,7 @@ fn fill_place(triplets: &mut SmallVec<Triplet, TRIPLETS_IN_PLACE>, storage: u32)
     }
 }
 
-// Takes a storage's triplet out of the block at a slot: the block's last triplet fills its place.
+// Removes a storage's triplet from the block at a slot: the block's last triplet takes its index.
 pub(crate) fn remove_triplet(slots: &mut Slab<Entry>, slot: usize, storage: u32) -> Option<Triplet>
     ensures found { result ≡ triplet_at slots.old slot storage }
     ensures slots { slots.new ≡ removed slots.old slot storage }
@@ -300,7 +301,7 @@ pub(crate) fn remove_triplet(slots: &mut Slab<Entry>, slot: usize, storage: u32)
     }
 }
 
-// Makes room for more triplets of the block at a slot.
+// Reserves capacity for more triplets of the block at a slot.
 pub(crate) fn reserve_triplets(
     slots: &mut Slab<Entry>,
     slot: usize,
@@ -322,7 +323,7 @@ pub(crate) fn reserve_triplets(
     }
 }
 
-// The storage and the marks of the triplet at place `i` of the block at a slot.
+// The storage and the marks of the triplet at index `i` of the block at a slot.
 pub(crate) fn replica_at(slots: &Slab<Entry>, slot: usize, i: usize) -> Option<(StorageId, Marks)>
     ensures { result ≡ option_and_then
         (λ e. option_map seen_triplet (slice_get e.triplets.items i)) (get slots.now slot) }

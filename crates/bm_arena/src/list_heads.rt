@@ -7,7 +7,7 @@ ghost use Rattle.std.specs.List.{IsDistinct};
 use bm_base::{HashSecret, SlotLink};
 use indexmap::IndexMap;
 
-// The head of a storage's list: the first slot, and the index at which the head is kept.
+// The head of a storage's list: the first slot, and the index of the head.
 #[derive(Clone, Copy)]
 pub(crate) struct Head {
     pub(crate) index: usize,

@@ -20,7 +20,8 @@ impl Arena {
         }
     }
 
-    /// The slot of a block number where it is as usual, with no look at the index; else None.
+    /// The slot of a block number if the prediction is right, without a read of the index; else
+    /// None.
     pub(crate) fn find_usual(&self, id: BlockId) -> Option<Slot>
         ensures { IfSome result (λ slot. slot_of self.now id ≡ Some slot) }
     {
@@ -59,7 +60,7 @@ impl Arena {
         BlockId(links::id_at(&self.slots, slot))
     }
 
-    /// What is known of the block in `slot`: None where it is no known block.
+    /// What is known of the block in `slot`: None for an unknown block.
     pub fn info(&self, slot: Slot) -> Option<BlockInfo>
         ensures { result ≡ option_and_then (λ b. b.info) (block_at self.now slot) }
     {
@@ -69,7 +70,8 @@ impl Arena {
         }
     }
 
-    /// What is known of the block in `slot`, and its replicas: the slot is looked at once for all. None where the slot is not held.
+    /// What is known of the block in `slot`, and its replicas, in one read of the slot. None for a
+    /// slot that is not held.
     #[inline]
     pub fn block(&self, slot: Slot) -> Option<(Option<BlockInfo>, &[Triplet])>
         ensures info { option_map (λ p. p.0) result
@@ -100,14 +102,16 @@ impl Arena {
         self.ids.len()
     }
 
-    /// The slot of the entry at place `i`, from 0 on; None from `count()` on. So a loop goes over all entries.
+    /// The slot of the entry at index `i`, from 0 on; None from `count()` on. So a loop can visit
+    /// all entries.
     pub fn slot_at(&self, i: usize) -> Option<Slot>
         ensures { result ≡ option_map (λ p. p.1) (slice_get self.now.ids i) }
     {
         self.ids.slot_at(i)
     }
 
-    /// The storage and the marks of the replica at place `i`, from 0 on, of the block in `slot`; None behind the last one.
+    /// The storage and the marks of the replica at index `i`, from 0 on, of the block in `slot`;
+    /// None after the last one.
     pub fn triplet_at(&self, slot: Slot, i: usize) -> Option<(StorageId, Marks)>
         ensures { result ≡ option_and_then (λ b. slice_get b.replicas i) (block_at self.now slot) }
     {
@@ -146,7 +150,8 @@ impl Arena {
         self.heads.contains_key(&storage.0)
     }
 
-    /// Whether one more replica of the block in `slot` needs no memory: the condition of `link_front`.
+    /// Whether one more replica of the block in `slot` needs no memory: the condition of
+    /// `link_front`.
     pub fn has_room(&self, slot: Slot) -> bool
         ensures { IsTrue result ↔ HasRoom self.now slot }
     {
@@ -173,7 +178,7 @@ impl Arena {
         }
     }
 
-    /// Whether no block is in a storage's list, as where it has no head: the condition of `drop_head`.
+    /// Whether no block is in a storage's list, also without a head: the condition of `drop_head`.
     pub fn is_list_empty(&self, storage: StorageId) -> bool
         ensures { IsTrue result ↔ (list_of self.now storage ≡ []) }
     {

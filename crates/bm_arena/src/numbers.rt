@@ -17,7 +17,8 @@ use std::marker::Model;
 
 /// The slot of each block number. A contract sees it as the list of the numbers with their slots.
 ///
-/// Numbers are mostly handed out in rising order, so a number above all that were added is told to be absent with no look at the index.
+/// New numbers are mostly ascending, so a number above all that were added is known to be absent
+/// without a read of the index.
 #[derive(Drop)]
 pub(crate) struct Numbers {
     index: IndexMap<u64, usize, HashSecret>,
@@ -65,7 +66,7 @@ impl Numbers {
         self.index.get(&id).copied()
     }
 
-    /// The slot at place `i`.
+    /// The slot at index `i`.
     pub(crate) fn slot_at(&self, i: usize) -> Option<usize>
         ensures { result ≡ option_map (λ p. p.1) (slice_get self.now i) }
     {
@@ -75,8 +76,8 @@ impl Numbers {
         }
     }
 
-    /// The slot of a number, and whether it is new: then it is the slot that the slab fills next, and there is room for it. The
-    /// number is hashed once.
+    /// The slot of a number, and whether it is new: then it is the slot that the slab fills next,
+    /// and there is capacity for it. The number is hashed once.
     pub(crate) fn slot_for(
         &mut self,
         slots: &mut Slab<Entry>,
@@ -101,7 +102,7 @@ impl Numbers {
         Ok((slot, is_new))
     }
 
-    /// Takes a number out: the last one takes its place.
+    /// Removes a number: the last one takes its index.
     pub(crate) fn remove(&mut self, id: u64)
         ensures list { self.new ≡ swap_remove_entry (nat_eq id) self.old }
         ensures found { (other : ℕ)

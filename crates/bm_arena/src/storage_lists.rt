@@ -1,4 +1,5 @@
-// The lists of storages: one doubly linked list of slots for each storage that has a head, through the triplets of the blocks.
+// The lists of storages: one doubly linked list of slots for each storage that has a head, through
+// the triplets of the blocks.
 ghost use Rattle.std.specs.Prelude.{nat_eq, slice_index, EachIndex, ◌≡◌, ◌≢◌, ℕ, None, Some, IsSome, [], ◌∷◌, IfErr, OnOk, IsOk};
 ghost use Rattle.std.specs.Option.{unwrap_or};
 ghost use Rattle.indexmap.specs.IndexMap.{swap_remove_entry};
@@ -17,9 +18,10 @@ use crate::{links, list_heads};
 use bm_base::{Marks, NO_LINK, Refusal, StorageId};
 
 impl Arena {
-    /// Makes a head for each of the storages, so that linking a block that has room, and putting the delimiter, take no memory.
-    /// A storage that has a head keeps it and its list; no storage beside those named gets one, also where it is refused. Where all
-    /// have heads nothing is done. `Memory`: then some of the storages may have got a head.
+    /// Makes a head for each of the storages, so that linking a block with capacity, and putting
+    /// the delimiter, take no memory. A storage that has a head keeps it and its list; no other
+    /// storage gets one, also if the call is refused. If all have heads nothing is done. `Memory`:
+    /// then some of the storages may have got a head.
     pub fn reserve_heads(&mut self, storages: &[StorageId]) -> Result<(), Refusal>
         ensures heads { OnOk result (EachIndex storages.now
             (λ k. HasHead self.new (slice_index storages.now k))) }
@@ -39,7 +41,7 @@ impl Arena {
         Ok(())
     }
 
-    // The delimiter gets room for one more triplet with each head.
+    // The delimiter gets capacity for one more triplet with each head.
     fn reserve_head(&mut self, storage: StorageId) -> Result<(), Refusal>
         ensures head { OnOk result (HasHead self.new storage) }
         ensures named { (other : ℕ) → other ≢ storage → HasHead self.new other
@@ -73,7 +75,8 @@ impl Arena {
         self.heads.swap_remove(&storage.0);
     }
 
-    /// Adds a replica of the block in `slot` on `storage`, and links the slot at the head of the storage's list. Takes no memory.
+    /// Adds a replica of the block in `slot` on `storage`, and links the slot at the head of the
+    /// storage's list. Takes no memory.
     pub fn link_front(&mut self, slot: Slot, storage: StorageId, marks: Marks)
         requires head { HasHead self.old storage }
         requires room { HasRoom self.old slot }
@@ -103,8 +106,8 @@ impl Arena {
         }
     }
 
-    /// Takes the block in `slot` out of a storage's list, and removes that replica: the block's last replica fills its place.
-    /// Takes no memory.
+    /// Removes the block in `slot` from a storage's list, and that replica: the block's last
+    /// replica takes its index. Takes no memory.
     pub fn unlink(&mut self, slot: Slot, storage: StorageId)
         requires { IsSome (marks_at self.old slot storage) }
         ensures after { self.new ≡ unlinked self.old slot storage }
@@ -127,7 +130,8 @@ impl Arena {
         }
     }
 
-    /// Moves the block in `slot` to the head of a storage's list, of which it has a replica. Takes no memory.
+    /// Moves the block in `slot`, which has a replica on the storage, to the head of the storage's
+    /// list. Takes no memory.
     pub fn move_front(&mut self, slot: Slot, storage: StorageId)
         requires { IsSome (marks_at self.old slot storage) }
         ensures after { self.new ≡ moved_front self.old slot storage }
@@ -178,8 +182,8 @@ impl Arena {
         self.unlink(slot, storage);
     }
 
-    /// The slot behind `slot` in a storage's list, or behind the delimiter where `slot` is None; None behind the last one. The
-    /// slot, or the delimiter, is in the list. Takes no memory.
+    /// The slot after `slot` in a storage's list, or after the delimiter if `slot` is None; None
+    /// after the last one. The slot, or the delimiter, is in the list. Takes no memory.
     pub fn next_after(&self, storage: StorageId, slot: Option<Slot>) -> Option<Slot>
         requires { IsSome (marks_at self.now (unwrap_or slot self.now.delimiter) storage) }
         ensures { result ≡ slot_after (unwrap_or slot self.now.delimiter)
@@ -192,8 +196,8 @@ impl Arena {
         }
     }
 
-    /// The slot before `slot` in a storage's list, in which it is; None before the first one. So the links back are the reverse of
-    /// those along the list. Takes no memory.
+    /// The slot before `slot` in a storage's list that has it; None before the first one. So the
+    /// links back are the reverse of those along the list. Takes no memory.
     pub fn previous_before(&self, storage: StorageId, slot: Slot) -> Option<Slot>
         requires { IsSome (marks_at self.now slot storage) }
         ensures { result ≡ slot_before slot (list_of self.now storage) }
@@ -204,8 +208,8 @@ impl Arena {
         }
     }
 
-    /// The slots of a storage's list, from its head on; none where it has no head. Between `put_delimiter` and `take_delimiter`
-    /// the delimiter's slot is among them. Takes no memory.
+    /// The slots of a storage's list, from its head on; none without a head. Between
+    /// `put_delimiter` and `take_delimiter` the delimiter's slot is among them. Takes no memory.
     pub fn walk(&self, storage: StorageId) -> Walk<'_>
         ensures { result ≡ list_of self.now storage }
     {

@@ -1,11 +1,12 @@
-// What stands in a slot: a block's entry with its triplets.
+// The content of a slot: a block's entry with its triplets.
 ghost use Rattle.std.specs.Prelude.{◌≡◌};
 ghost use Rattle.bm_arena.specs.Triplets.{seen_triplet};
 
 use bm_base::{BlockInfo, Marks, NO_LINK, SlotLink, StorageId, Tag};
 use smallvec::SmallVec;
 
-/// A replica of a block: its storage, the neighbours of the block in that storage's list, and its marks.
+/// A replica of a block: its storage, the neighbours of the block in that storage's list, and its
+/// marks.
 #[derive(Clone, Copy)]
 pub struct Triplet {
     pub(crate) storage: u32,
@@ -24,7 +25,7 @@ impl Triplet {
     }
 }
 
-// What fills the unused inline places of an entry.
+// Fills the unused inline elements of an entry.
 impl Default for Triplet {
     fn default() -> Triplet {
         Triplet {
@@ -43,7 +44,7 @@ pub(crate) const NO_MARKS: Marks = Marks {
     ordered: false,
 };
 
-/// How many replicas of a block stand in its entry itself; where it has more, they stand in memory of their own.
+/// The number of replicas that an entry holds inline; more of them are in memory of their own.
 pub(crate) const TRIPLETS_IN_PLACE: usize = 3;
 
 /// A block, or a number that is only reserved. The triplets are the first field: a write of a

@@ -1,9 +1,11 @@
-// Where the slots of most numbers are: a guess that a look-up tries before it asks the index. A wrong guess costs time alone.
+// Predicted slots of numbers: a guess that a look-up tries before the index. A wrong guess only
+// costs time.
 use crate::arena::Slot;
 
-/// Numbers that are handed out one after another get slots one after another, so that the slot of most numbers can be told from the
-/// number, with no look at the index. This keeps which number would have slot 0, and by how much the numbers of neighbouring
-/// slots differ: in one shard of several by as many as there are shards. Each entry that is added votes on it.
+/// Numbers that are handed out one after another get slots one after another, so that most slots
+/// can be predicted from the number, without a read of the index. This keeps the number that would
+/// have slot 0, and the stride between the numbers of neighbouring slots: with several shards their
+/// number. Each added entry votes on it.
 #[derive(Clone, Copy)]
 pub(crate) struct UsualSlots {
     // The number of slot 0, and how much greater the number of the next slot is: at least 1.
@@ -28,7 +30,8 @@ impl UsualSlots {
         }
     }
 
-    /// The slot of a number, of so many entries, if it is as usual; none where less than half of them are.
+    /// The predicted slot of a number, with this many entries; none if fewer than half of them are
+    /// predicted right.
     pub(crate) fn guess(&self, id: u64, entries: usize) -> Option<Slot> {
         if self.votes < entries as u64 / 2 {
             return None;

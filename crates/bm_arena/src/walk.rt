@@ -7,7 +7,8 @@ use bm_base::{NO_LINK, SlotLink};
 use slab::Slab;
 use std::marker::Model;
 
-/// The slots of a storage's list that are left. A contract sees it as the list of those slots. Takes no memory.
+/// The remaining slots of a storage's list. A contract sees it as the list of those slots. Takes no
+/// memory.
 #[derive(Drop)]
 pub struct Walk<'a> {
     pub(crate) slots: &'a Slab<Entry>,

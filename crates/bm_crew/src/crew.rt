@@ -19,10 +19,11 @@ use std::thread::Threads;
 #[derive(Clone, Copy, Debug)]
 pub struct Crew;
 
-/// A crew that is ready for one run of pieces `T` to results `U`, and has all memory that the run needs.
+/// A crew that is ready for one run of pieces `T` to results `U`, and has all memory that the run
+/// needs.
 ///
-/// Contracts see it as the number of items that it has room for, and the number of workers beside the calling thread.
-/// Each of these has room for as many results.
+/// Contracts see it as its capacity in items, and the number of workers next to the calling thread.
+/// Each worker has capacity for as many results.
 #[derive(Drop)]
 pub struct Ready<T, U> {
     room: usize,
@@ -46,9 +47,9 @@ impl<T, U> Model for Ready<T, U> {
 }
 
 impl Crew {
-    /// Takes all memory that a run of at most `n` items needs, room for `n` results at each worker among it. `workers`,
-    /// at least 1, counts the calling thread, so there is one helper less; none for a run of no items. Refuses with
-    /// `Memory` alone.
+    /// Takes all memory that a run of at most `n` items needs, with capacity for `n` results at
+    /// each worker. `workers`, at least 1, counts the calling thread, so there is one helper less;
+    /// a run of no items has none. Refuses with `Memory` alone.
     pub fn ready<T: Drop, U: Drop>(
         alloc: Global,
         n: usize,
@@ -81,12 +82,13 @@ impl Crew {
 }
 
 impl<T: Send + Drop, U: Send + Drop> Ready<T, U> {
-    /// Works each item, a shard with its piece, and gives the results in the order of items, each with its shard and
-    /// with what `work` promises for that shard and that piece.
+    /// Works each item, a shard with its piece. Returns the results in the order of items, each
+    /// with its shard and with what `work` promises for that shard and that piece.
     ///
-    /// Refuses nothing: at most as many items as the crew is ready for, and `work` may be called on each. Takes no
-    /// memory of the allocator; to start a thread takes some of the system's. A worker that cannot be started is left
-    /// out, and the others do its part. `gate.at(shard)` is called before the work of each piece.
+    /// Refuses nothing: there are at most as many items as the crew is ready for, and `work` may be
+    /// called on each. Asks the allocator for nothing; starting a thread takes memory of the
+    /// system. The others do the share of a worker that cannot be started. `gate.at(shard)` is
+    /// called before the work of each piece.
     pub fn run<R: Threads + Wait + Sync, F: Fn(u32, T) -> U + Sync, G: Gate + Sync>(
         self,
         rt: &R,
@@ -126,7 +128,8 @@ impl<T: Send + Drop, U: Send + Drop> Ready<T, U> {
 }
 
 impl<T: Drop, U: Drop> Ready<T, U> {
-    /// What [`Ready::run`] gives, by the calling thread alone: it needs no runtime, passes no gate, and returns.
+    /// Returns what [`Ready::run`] returns, by the calling thread alone: needs no runtime, passes
+    /// no gate, and terminates.
     pub fn run_alone<F: Fn(u32, T) -> U>(self, items: Vec<(u32, T)>, work: &F) -> Vec<(u32, U)>
         requires room { vec_len items ≤ self.room }
         requires accepts { All (λ item. F.pre work.now item.0 item.1) items.items }

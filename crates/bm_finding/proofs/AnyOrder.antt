@@ -1,4 +1,4 @@
--- The replicas of a block come to one map, in whatever order they are put.
+-- The replicas of a block make one map, in whatever order they are inserted.
 use Rattle.std.specs.Prelude.{◌≡◌, ℕ, Bool, true, false, ◌==◌, List, [], ◌∷◌, map, Option, Some, None, option_map}
 use Rattle.std.specs.Option.{option_map_or, option_or}
 use Rattle.std.specs.List.Sorted.{IsPermutation}

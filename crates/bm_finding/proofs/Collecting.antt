@@ -1,4 +1,4 @@
--- What is found of blocks one after another, where each block's list has just its own elements.
+-- The findings of blocks one after another, where each block's list has just its own elements.
 use Rattle.std.specs.Prelude.{◌≡◌, ℕ, Bool, true, false, ◌==◌, List, [], ◌∷◌, ◌++◌}
 use Rattle.std.specs.List.{flat_map, list_any, IsDistinct, AllByRecursion}
 use Rattle.std.proofs.Common.{inl, inr, sym, ap, ◌∙◌, ne_eqb}

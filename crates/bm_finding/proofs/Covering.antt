@@ -1,4 +1,4 @@
--- What a round finds of the blocks at which it looks is all that it finds.
+-- The findings of the scanned blocks are all findings.
 use Rattle.std.specs.Prelude.{◌≡◌, ◌≢◌, ℕ, Bool, true, false, nat_lt, if◌then◌else◌, List, [], ◌∷◌, map, Option, Some, None, IsSome, is_some, IsTrue, option_and_then}
 use Rattle.std.specs.List.Sorted.{IsPermutation}
 use Rattle.std.proofs.Common.{◌⊎◌, inl, inr, refl, sym, ap, subst, ◌∙◌}

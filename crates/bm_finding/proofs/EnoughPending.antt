@@ -1,4 +1,4 @@
--- A settled block with enough pending transfers wishes for no copy.
+-- A settled block with enough pending transfers has no wish.
 use Rattle.std.specs.Prelude.{◌≡◌, ℕ, ◌-◌, ◌≤◌, Bool, true, false, ◌&&◌, nat_lt, nat_le, if◌then◌else◌, [], length, Option, Some, None, option_and_then, is_some}
 use Rattle.std.specs.Option.{option_map_or}
 use Rattle.std.proofs.Common.{refl, sym, ap, ◌∙◌, arith}

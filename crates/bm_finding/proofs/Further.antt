@@ -1,4 +1,4 @@
--- What is found of one block more.
+-- The findings of one block more.
 use Rattle.std.specs.Prelude.{◌≡◌, ℕ, Bool, true, false, nat_le, length, map, filter, List, [], ◌∷◌, ◌++◌, Option, option_and_then, option_to_list}
 use Rattle.std.specs.Option.{option_map_or}
 use Rattle.std.specs.List.{flat_map}

@@ -1,4 +1,4 @@
--- What one block wishes for, by what is seen of it.
+-- The wish of one block, by what is seen of it.
 use Rattle.std.specs.Prelude.{◌≡◌, ℕ, nat_lt, if◌then◌else◌, true, length, Option, Some, None, option_and_then}
 use Rattle.std.proofs.Common.{refl}
 use Rattle.bm_base.specs.declared.level.Level.{Level}

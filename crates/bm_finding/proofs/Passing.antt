@@ -1,4 +1,4 @@
--- Of what is found of each block, and of what is gathered of all, the elements whose keys pass a test.
+-- Of the findings of each block, and of all, the elements whose keys pass a test.
 use Rattle.std.specs.Prelude.{◌≡◌, ℕ, Bool, true, false, ◌||◌, List, [], ◌∷◌, filter}
 use Rattle.std.specs.List.{list_any, IsDistinct, AllByRecursion}
 use Rattle.std.proofs.Common.{cond, refl, sym, ap, ◌∙◌, true≢false}

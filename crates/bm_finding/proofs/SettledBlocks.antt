@@ -1,4 +1,4 @@
--- What a round finds of a settled block: nothing but its wish.
+-- The only finding of a settled block is its wish.
 use Rattle.std.specs.Prelude.{◌≡◌, ℕ, Bool, true, false, not, ◌&&◌, ◌==◌, map, filter, List, [], ◌∷◌, ◌++◌, Option, Some, option_and_then, option_to_list}
 use Rattle.std.specs.Option.{option_map_or}
 use Rattle.std.specs.Ordering.{nat_cmp}
@@ -52,7 +52,8 @@ settled_there a pending lawful b slot here settled =
       few = few_at a pending lawful b slot k here found.2 at;
     }
 
--- those of a block's storages that pass, where a test of its replicas comes to one of their storages
+-- those of a block's storages that pass, where a test of its replicas comes to one of their
+-- storages
 storages_passing : (q : ℕ → Bool) (p : ℕ → Marks → Bool) (H : Holdings) (b : ℕ) → ((k : ReplicaId) (m : Marks) → k.block ≡ b → get H.replicas k ≡ Some m → p k.storage m ≡ q k.storage)
     → filter q (storages_where (λ _ _. true) H b) ≡ storages_where p H b
 unfolding storages_where

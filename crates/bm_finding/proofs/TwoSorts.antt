@@ -1,4 +1,5 @@
--- Deletes that are put in the order of their blocks, and then of their storages by a stable sort, stand by storage and block.
+-- Deletes that are sorted by block, and then by storage with a stable sort, are sorted by storage
+-- and block.
 use Rattle.std.specs.Prelude.{◌≡◌, ◌≤◌, ℕ, false, List}
 use Rattle.std.specs.declared.cmp.Ordering.{Ordering}
 use Rattle.std.specs.declared.cmp.Ordering.TheVariants.{Less, Equal, Greater}
@@ -11,7 +12,8 @@ use Rattle.bm_base.specs.declared.commands.Delete.{Delete}
 use Rattle.bm_base.specs.Ordered.{pair_cmp}
 use Rattle.bm_base.specs.RoundParts.{delete_key}
 
--- a pair is not less where its first number is not, and its second is not where both first ones are equal
+-- a pair is not less where its first number is not, and its second is not where both first ones are
+-- equal
 not_less : (a b c d : ℕ) → is_lt (nat_cmp a c) ≡ false → (c ≡ a → d ≤ b) → is_lt (ordering_then (nat_cmp a c) (nat_cmp b d)) ≡ false
 not_less a b c d first second = by (nat_cmp a c) refl first
   where

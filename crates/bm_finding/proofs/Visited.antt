@@ -1,4 +1,4 @@
--- The slots at which a round looks: each is met once, and no other block has anything to be found.
+-- The slots that a round scans: each occurs once, and no other block has findings.
 use Rattle.std.specs.Prelude.{◌≡◌, ◌≢◌, ℕ, Bool, true, false, not, ◌&&◌, List, [], ◌∷◌, ◌++◌, map, filter, Option, Some, None, option_and_then}
 use Rattle.std.specs.Option.{option_map_or}
 use Rattle.std.proofs.Common.{◌⊎◌, cond, inl, inr, refl, sym, ap, subst, ◌∙◌}
@@ -80,7 +80,7 @@ module _ (f : ℕ → ℕ) where
       same : (x y : ℕ) → Some x ≡ Some y → x ≡ y
       same x y e = cc
 
--- The slots at which a round looks.
+-- The slots that a round scans.
 
 -- where copies are wished for there is a level
 level_wishing : (o : Option Level) → wishes_copies o ≡ true → (l : Level) × (o ≡ Some l)

@@ -1,4 +1,4 @@
--- What is found of several blocks as a round begins, one block after another.
+-- The findings of several blocks as a round begins, one block after another.
 use Rattle.std.specs.Prelude.{◌≡◌, ℕ, List, Option, option_to_list}
 use Rattle.std.specs.List.{flat_map}
 use Rattle.std.specs.List.Sorted.{IsPermutation, IsSortedByKey}
@@ -18,7 +18,7 @@ use Rattle.bm_finding.specs.declared.visiting.Found.{Found}
 abbrev pub excess_at : Cluster → ℕ → ℕ → Holdings → ℕ → List ReplicaId
 excess_at C pend r H b = replicas_on (too_many C pend r H b) (entries (own_replicas (started_holdings C pend r H) b))
 
--- what a block wishes for then
+-- the wish of a block then
 abbrev pub wishes_at : Cluster → ℕ → ℕ → Holdings → ℕ → List Wish
 wishes_at C pend r H b = option_to_list (wish_in C (started_holdings C pend r H) b)
 
@@ -26,7 +26,7 @@ wishes_at C pend r H b = option_to_list (wish_in C (started_holdings C pend r H)
 abbrev pub deletes_at : Cluster → ℕ → ℕ → Holdings → ℕ → List Delete
 deletes_at C pend r H b = let G = started_holdings C pend r H in deletes_of (has_enough_live C G b) (entries (own_replicas G b))
 
--- what is found of these blocks, with the wishes before a bound
+-- the findings of these blocks, with the wishes before a bound
 pub record HasFound (C : Cluster) (pend r : ℕ) (H : Holdings) (bound : Option (ℕ × ℕ)) (bs : List ℕ) (f : Found) : Type 0 where
   pub excess : f.excess.items ≡ flat_map (excess_at C pend r H) bs
   pub wishes : f.wishes.items ≡ flat_map (λ b. wishes_before bound (wishes_at C pend r H b)) bs

@@ -21,14 +21,14 @@ own_replicas H b = keep H.replicas (λ q _. q.block == b)
 abbrev pub too_many : Cluster → ℕ → ℕ → Holdings → ℕ → List ℕ
 too_many C pend r H b = excess_in C (without_unordered_excess (without_expired pend r H)) b
 
--- what is seen of a block as round r begins: what is known of it, which replicas are too many (in whatever order), and all of them with
--- their marks
+-- the scan of a block as round r begins: what is known of it, which replicas are surplus (in
+-- whatever order), and all of them with their marks
 pub record IsLook (C : Cluster) (pend r : ℕ) (H : Holdings) (l : Look) : Type 0 where
   pub info : l.info ≡ get H.blocks l.id
   pub excess : (s : ℕ) → has l.excess.items s ≡ has (too_many C pend r H l.id) s
   pub replicas : l.replicas ≡ own_replicas (started_holdings C pend r H) l.id
 
--- on which storages live replicas stand, of these, and on which drained ones
+-- the storages of live replicas, of these, and of drained ones
 pub record AreUsable (C : Cluster) (es : List (ReplicaId × Marks)) (u : Usable) : Type 0 where
   pub live : u.live ≡ storages_in (is_live_on C) es
   pub drained : u.drained ≡ storages_in (is_drained_on C) es

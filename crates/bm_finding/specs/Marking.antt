@@ -10,7 +10,7 @@ use Rattle.bm_base.specs.Excess.{counted_again}
 abbrev pub marked_if : Bool → Marks → Marks
 marked_if t m = if t then record m { excess = true } else m
 
--- the replicas of a block, counted again, put one after another to those that are there
+-- the replicas of a block, counted again, inserted one after another
 abbrev pub put_on : ℕ → Map by_replica Marks → List (ℕ × Marks) → Map by_replica Marks
 put_on b m [] = m
 put_on b m (r ∷ rs) = put_on b (insert m (replica_at b r.0) (counted_again r.1)) rs

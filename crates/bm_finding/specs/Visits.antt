@@ -1,4 +1,4 @@
--- The slots at which a round looks.
+-- The slots that a round scans.
 use Rattle.std.specs.Prelude.{◌≡◌, ◌↔◌, ℕ, ◌-◌, Bool, false, not, ◌&&◌, nat_lt, nat_le, List, ◌++◌, filter, length, Option}
 use Rattle.std.specs.Option.{option_map_or}
 use Rattle.bm_base.specs.State.{Cluster}
@@ -21,11 +21,12 @@ AreMarked K a = (slot : ℕ) → IsUnsettled K slot ↔ (is_settled_at (block_at
 abbrev pub key_at : Kept → Contents → ℕ → ℕ × ℕ
 key_at K a slot = (option_map_or level_number (level_of_slot K slot) 5, id_at a slot)
 
--- a slot beside its key
+-- a slot with its key
 abbrev pub keyed_at : Kept → Contents → ℕ → (ℕ × ℕ) × ℕ
 keyed_at K a slot = (key_at K a slot, slot)
 
--- whether a transfer to the block at a slot is left on its way, and with those that are as many replicas are live as are wanted
+-- whether a transfer to the block at a slot stays pending, and with the pending ones as many
+-- replicas are live as are wanted
 abbrev pub has_enough_pending : Cluster → ℕ → ℕ → Contents → OnTheWay → ℕ → Bool
 has_enough_pending C pend r a p slot =
     let n = length (targets_left pend r p (id_at a slot)) in
@@ -35,7 +36,8 @@ has_enough_pending C pend r a p slot =
 abbrev pub is_told : Kept → Contents → Option (ℕ × ℕ) → (ℕ → Bool) → ℕ → Bool
 is_told K a bound has_enough slot = is_before bound (key_at K a slot) && (not (has K.unsettled.slots slot) && not (has_enough slot))
 
--- where a round looks to be told the wishes before a bound: at the unsettled slots, and at those before the bound of the settled ones at
--- a level at which copies are wished for, but for those that have enough pending transfers
+-- the slots that a round scans for the wishes before a bound: the unsettled ones, and of the
+-- settled ones at a level at which copies are wanted those before the bound without enough pending
+-- transfers
 abbrev pub visits : Kept → Contents → Option (ℕ × ℕ) → (ℕ → Bool) → List ℕ
 visits K a bound has_enough = K.unsettled.slots ++ filter (is_told K a bound has_enough) (wishing_slots K)

@@ -1,4 +1,4 @@
--- What one block wishes for.
+-- The wish of one block.
 use Rattle.std.specs.Prelude.{ℕ, ◌+◌, ◌-◌, ◌==◌, if◌then◌else◌, nat_lt, List, length, Option, Some, None, option_and_then}
 use Rattle.bm_base.specs.declared.level.Level.{Level}
 use Rattle.bm_base.specs.declared.level.Level.TheVariants.{BadlyDistributed, NoUsableReplica}
@@ -9,21 +9,22 @@ use Rattle.bm_base.specs.Replicas.{racks, is_multi_rack}
 use Rattle.bm_base.specs.Levels.{level, level_of}
 use Rattle.bm_base.specs.RoundParts.{wish_at}
 
--- what a block wishes for at its own level
+-- the wish of a block at its own level
 unfoldable pub wish_in : Cluster → Holdings → ℕ → Option Wish
 wish_in C H b = option_and_then (λ urgency. wish_at C H urgency b) (level C H b)
 
--- how many copies a block at a level wants, of which so many replicas are wanted, are live and are on their way
+-- the number of copies that a block at a level needs, by the numbers of wanted, live and pending
+-- ones
 abbrev pub count_at : Level → ℕ → ℕ → ℕ → ℕ
 count_at BadlyDistributed repl live pending = if pending == 0 then 1 else 0
 count_at NoUsableReplica repl live pending = 0
 count_at _ repl live pending = repl - (live + pending)
 
--- so many copies of a block, with all that a choice asks of it; none where it wants none
+-- n copies of a block, with all that a choice needs to know of it; none if it needs none
 abbrev pub wish_if : ℕ → Wish → Option Wish
 wish_if n w = if nat_lt 0 n then Some w else None
 
--- what a block wishes for that has these live, drained and other replicas, and transfers on their way
+-- the wish of a block with these live, drained and other replicas, and pending transfers
 abbrev pub wish_by : Cluster → ℕ → BlockInfo → List ℕ → List ℕ → List ℕ → List ℕ → Option Wish
 wish_by C b i live drained pairs pending =
     option_and_then (λ urgency. let n = count_at urgency i.repl (length live) (length pending) in

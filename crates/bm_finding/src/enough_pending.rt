@@ -13,10 +13,9 @@ use bm_base::{BlockId, Marks, StorageId};
 use bm_topo::Topology;
 
 impl<'a> Start<'a> {
-    /// Whether a transfer to the block at a slot stays on its way, and with those on their way as
-    /// many replicas are live as are wanted: if the block is settled, it wishes for no copy then,
-    /// at whichever level. Its replicas are scanned only where a transfer is on its way. Takes no
-    /// memory.
+    /// Whether a transfer to the block at a slot stays pending, and with the pending ones as many
+    /// replicas are live as are wanted: a settled block has no wish then, at whichever level. Its
+    /// replicas are scanned only if a transfer is pending. Takes no memory.
     pub(crate) fn has_enough_pending(&self, slot: Slot, id: BlockId) -> bool
         requires { id ≡ id_at self.now.arena.now slot }
         ensures { result
@@ -36,8 +35,8 @@ impl<'a> Start<'a> {
         }
     }
 
-    /// How many of a block's transfers the round leaves on their way. The block is not looked up
-    /// where no transfer is.
+    /// The number of a block's transfers that stay pending in the round. The block is not looked up
+    /// if no transfer is pending.
     fn count_left(&self, id: BlockId) -> usize
         ensures { result
             ≡ length (targets_left self.now.pend self.now.round self.now.pending.now id) }

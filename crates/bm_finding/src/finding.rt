@@ -19,18 +19,18 @@ use bm_pending::PendingTransfers;
 use bm_topo::Topology;
 use std::alloc::Global;
 
-/// What a shard finds as round `round` begins, where transfers are given up that were commanded `pend` rounds ago or earlier, in a
-/// cluster by which the levels are kept and in which each replica's storage is known. Of the wishes those before the bound are told, if
-/// there is one. An `Err` is want of memory.
+/// Finds a shard's part as round `round` begins. Transfers expire that were commanded `pend` rounds
+/// ago or earlier. The stored levels are those of the cluster, which knows each replica's storage.
+/// If there is a bound, only the wishes before it are returned. An `Err` is out of memory.
 ///
-/// It scans the blocks that are not settled, and those before the bound at a level at which copies
-/// are wished for, and iterates over the pending transfers once. So its cost does not grow with the
-/// number of the other blocks, but for one step of dense memory, and the comparison of a level and
-/// a number, for each that is at such a level. Of a settled block with a pending transfer the live
-/// replicas are counted first: it is left out where they and the pending transfers are as many as
-/// wanted. Each block that is scanned costs a few steps for each of its replicas; one with n of
-/// them, more than eight, costs O(n log n) steps besides: they are sorted, and each is searched for
-/// among those in excess. What is found is sorted.
+/// It scans the unsettled blocks, and those before the bound at a level at which copies are wanted,
+/// and iterates over the pending transfers once. So its cost does not grow with the number of the
+/// other blocks, but for one step of dense memory, and the comparison of a level and a number, for
+/// each at such a level. Of a settled block with a pending transfer the live replicas are counted
+/// first: it is left out if they and the pending transfers are as many as wanted. Each scanned
+/// block costs a few steps for each of its replicas; one with n of them, more than eight, costs O(n
+/// log n) steps: they are sorted, and each is searched for among those in excess. The result is
+/// sorted.
 pub fn find_round(
     alloc: Global,
     blocks: &LeveledBlocks,

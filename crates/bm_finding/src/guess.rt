@@ -1,4 +1,4 @@
-// A guess of which wishes a round needs.
+// A guess of the wishes that a round needs.
 ghost use Rattle.std.specs.Prelude.{◌<◌};
 
 use bm_arena::Slot;
@@ -8,20 +8,19 @@ use bm_parts::merge::Key;
 use bm_pending::PendingTransfers;
 use std::alloc::{AllocError, Global};
 
-/// So many slots at a level at which copies are wished for are to be there for each unsettled one, that a bound is worth while.
+/// A bound pays only if blocks that need copies outnumber unsettled ones by this factor.
 const WISHING_FOR_UNSETTLED: usize = 4;
 
 /// With this number of samples before the bound, it is off by about a tenth.
 const SAMPLES_BEFORE: usize = 128;
 
-/// A bound before which about so many blocks wish for copies: a block for which a transfer is on
-/// its way counts as one that wishes for none. `None` where not so many do, and where unsettled
-/// blocks are more than a quarter of those at a level at which copies are wished for: a round looks
-/// at all unsettled ones, bound or no bound, and at them twice where the wishes before a bound do
-/// not fill it. Only a guess, by about so many samples as are asked for, or up to four times as many
-/// if few of them would come before the bound, evenly spread over the slots at such a level: nothing
-/// but the time of a round may depend on it. It costs the same however many blocks there are, and
-/// takes no samples where no more than `most` are at such a level.
+/// A bound before which about `most` blocks have wishes; a block with a pending transfer counts as
+/// one without. `None` if fewer blocks have wishes, and if unsettled blocks are more than a quarter
+/// of those at a level at which copies are wanted: a round scans all unsettled ones, bound or no
+/// bound, and twice if the wishes before a bound do not fill it. Only a guess, from about `samples`
+/// samples, or up to four times as many if few of them come before the bound, evenly spread over
+/// the slots at such a level: nothing but the time of a round may depend on it. It costs the same
+/// however many blocks there are, and takes no samples if no more than `most` are at such a level.
 pub fn likely_bound(
     alloc: Global,
     blocks: &LeveledBlocks,

@@ -10,10 +10,10 @@ use bm_base::Level;
 use bm_levels::KeptLevels;
 use bm_parts::merge::Key;
 
-/// Stands for the level of a block that has none: one more than the greatest.
+/// Represents the level of a block that has none: one more than the greatest.
 const NO_LEVEL: u32 = 5;
 
-/// The level and the number of the block at a slot: what it may wish for stands at this key, if the slot is settled.
+/// The level and the number of the block at a slot: the key of its wish, if the slot is settled.
 pub(crate) fn key_of(kept: &KeptLevels, arena: &Arena, slot: Slot) -> Key
     ensures { result ≡ visits.key_at kept.now arena.now slot }
 {
@@ -32,7 +32,7 @@ pub(crate) fn key_at_level(_kept: &KeptLevels, arena: &Arena, slot: Slot, level:
     (level.number() as u64, number_of(arena, slot))
 }
 
-/// The number of the block at a slot; 0 where no block stands.
+/// The number of the block at a slot; 0 for a slot without a block.
 fn number_of(arena: &Arena, slot: Slot) -> u64
     ensures { result ≡ holding.id_at arena.now slot }
 {

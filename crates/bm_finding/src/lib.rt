@@ -1,10 +1,10 @@
-//! What a round finds in the blocks of a shard: transfers that are given up, replicas in excess, copies that are wished for, and
-//! replicas that are to be deleted.
+//! What a round finds in the blocks of a shard: expired transfers, replicas in excess, wishes, and
+//! replicas to be deleted.
 //!
-//! A round scans the blocks that are not settled and those at a level at which copies are wished
-//! for, never all blocks. Of a settled block it finds no more than a wish, and none where enough
-//! transfers are pending. Of any other one the replicas are marked again. What is found of a block
-//! is appended to what was found of the others. At last each list is sorted.
+//! A round scans the unsettled blocks and those at a level at which copies are wanted, never all
+//! blocks. A settled block has at most a wish, and none if enough transfers are pending. The
+//! replicas of any other one are marked again. The findings of each block are appended. In the end
+//! each list is sorted.
 #![tactic(auto)]
 
 mod enough_pending;

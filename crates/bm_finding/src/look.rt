@@ -20,21 +20,21 @@ use bm_place::{ExcessRoom, fill_excess};
 use bm_topo::Topology;
 use std::alloc::{AllocError, Global};
 
-/// What a round sees of one block as it begins. One block is looked at after another in the same memory.
+/// One block as a round begins. Blocks are scanned one after another in the same memory.
 #[derive(Drop)]
 pub(crate) struct Look {
     pub id: BlockId,
-    /// What is known of it; `None` where it is no known block.
+    /// What is known of it; `None` for an unknown block.
     pub info: Option<BlockInfo>,
-    /// The storages of its live replicas that are too many, in rising order.
+    /// The storages of its surplus live replicas, ascending.
     pub excess: Vec<StorageId>,
     /// All its replicas as the round chooses, those that are too many marked.
     pub replicas: ReplicaMap<Marks>,
     /// A scratch buffer for its storages where it is settled.
     pub storages: Vec<StorageId>,
-    /// Room for its replicas where it has more than a few: to put them in order.
+    /// A scratch buffer to sort its replicas, if it has more than a few.
     triplets: Vec<(StorageId, Marks)>,
-    /// Room for the choice of those that are too many.
+    /// Scratch buffers for the choice of excess.
     room: ExcessRoom,
 }
 
@@ -54,10 +54,10 @@ impl Look {
         }
     }
 
-    /// Looks at the block of a number with this slot, and tells on which storages its usable replicas stand: a few looks at each of its
-    /// replicas, and O(n log n) steps where it has n of them, more than eight. It takes memory only where more than four are live or
-    /// drained, where it has more replicas than each block before, or where some are too many and a list for them has to hold more than
-    /// at each block before.
+    /// Scans the block of a number with this slot, and returns the storages of its usable replicas:
+    /// a few reads of each of its replicas, and O(n log n) steps for n replicas, more than eight.
+    /// It takes memory only if more than four are live or drained, if it has more replicas than
+    /// each block before, or if a list of its surplus grows past its capacity.
     pub(crate) fn look_at(
         &mut self,
         alloc: Global,
@@ -91,7 +91,7 @@ impl Look {
         Ok(self.mark(alloc, topology, usable)?)
     }
 
-    /// Marks the replicas that are too many, and tells on which storages its usable ones stand then.
+    /// Marks the surplus replicas, and returns the storages of the usable ones after that.
     fn mark(
         &mut self,
         alloc: Global,
@@ -115,7 +115,7 @@ impl Look {
         usable_among(alloc, topology, self.replicas.entries())
     }
 
-    /// Puts the replicas that are too many behind those that are there.
+    /// Appends the surplus replicas.
     pub(crate) fn push_excess(&self, into: &mut Vec<ReplicaId>) -> Result<(), AllocError>
         requires { IsNonDecreasing self.now.excess.items }
         ensures { OnOk result (into.new.items ≡ into.old.items
@@ -130,7 +130,7 @@ impl Look {
         Ok(())
     }
 
-    /// Puts the replicas that are to be deleted behind those that are there, where enough of the block are live or not.
+    /// Appends the replicas that are to be deleted, whether enough of the block are live or not.
     pub(crate) fn push_deletes(
         &self,
         enough: bool,
@@ -151,8 +151,9 @@ impl Look {
     }
 }
 
-/// Puts those of these storages of one block's live replicas that are too many in the place of those that are there. It takes memory
-/// only where some are, and then only where `into` or a list of `room` has to hold more than ever before.
+/// Replaces the contents of `into` by the surplus among these storages of one block's live
+/// replicas. It takes memory only if there is a surplus, and then only if `into` or a list of
+/// `room` grows past its capacity.
 fn fill_surplus(
     into: &mut Vec<StorageId>,
     room: &mut ExcessRoom,
@@ -174,7 +175,7 @@ fn fill_surplus(
     }
 }
 
-/// Puts storages in rising order. Mostly there is one at most, and nothing is done.
+/// Sorts storages. Mostly there is one at most, and nothing is done.
 fn sort_storages(storages: &mut Vec<StorageId>)
     ensures moved { IsPermutation storages.old.items storages.new.items }
     ensures in_order { IsNonDecreasing storages.new.items }

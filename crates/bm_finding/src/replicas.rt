@@ -24,9 +24,9 @@ pub(crate) struct Usable {
     pub drained: StorageIds,
 }
 
-/// Puts the replicas at a slot in the place of those that are there, rising by storage. One in excess counts again where its deletion was
-/// not commanded. It takes O(n log n) steps for n of them: more than a few are put in order first, so that none has to move for another.
-/// `triplets` is room for these, of which what stood in it does not matter.
+/// Replaces the contents by the replicas at a slot, by ascending storage. One in excess counts
+/// again if its delete was not ordered. It takes O(n log n) steps for n of them: more than a few
+/// are sorted first, so that none has to move for another. `triplets` is a scratch buffer.
 pub(crate) fn fill_counted(
     into: &mut ReplicaMap<Marks>,
     triplets: &mut Vec<(StorageId, Marks)>,
@@ -43,7 +43,7 @@ pub(crate) fn fill_counted(
     put_in_order(into, triplets, arena, slot, block)
 }
 
-/// Puts the replicas at a slot to those that are there, in the order in which they were linked.
+/// Inserts the replicas at a slot in the order in which they were linked.
 fn put_as_linked(
     into: &mut ReplicaMap<Marks>,
     arena: &Arena,
@@ -60,7 +60,7 @@ fn put_as_linked(
     Ok(())
 }
 
-/// Puts the replicas at a slot to those that are there, in rising order of storage.
+/// Inserts the replicas at a slot by ascending storage.
 fn put_in_order(
     into: &mut ReplicaMap<Marks>,
     triplets: &mut Vec<(StorageId, Marks)>,
@@ -76,7 +76,7 @@ fn put_in_order(
     put_each(into, block, triplets.as_slice())
 }
 
-/// Puts the replicas at a slot, with their marks as they are, in the place of those that are there.
+/// Replaces the contents by the replicas at a slot, with their marks as they are.
 fn fill_triplets(
     into: &mut Vec<(StorageId, Marks)>,
     arena: &Arena,
@@ -93,7 +93,7 @@ fn fill_triplets(
     Ok(())
 }
 
-/// Puts these replicas of a block to those that are there, one after another.
+/// Inserts these replicas of a block one after another.
 fn put_each(
     into: &mut ReplicaMap<Marks>,
     block: BlockId,
@@ -118,7 +118,8 @@ fn clear(replicas: &mut ReplicaMap<Marks>)
     replicas.retain(|_| false);
 }
 
-/// Marks those on these storages, which are in rising order, as being in excess: both lists are gone over together. Takes no memory.
+/// Marks the replicas on these storages, which are sorted, as in excess: both lists are merged in
+/// one pass. Takes no memory.
 pub(crate) fn mark_on(replicas: &mut ReplicaMap<Marks>, excess: &[StorageId])
     requires { IsNonDecreasing excess.now }
     ensures { replicas.new
@@ -133,7 +134,7 @@ pub(crate) fn mark_on(replicas: &mut ReplicaMap<Marks>, excess: &[StorageId])
     }
 }
 
-/// On which storages live replicas stand, and on which drained ones, by one look at each.
+/// The storages of live replicas, and of drained ones, by one read of each.
 pub(crate) fn usable_among(
     alloc: Global,
     topology: &Topology,
@@ -155,7 +156,7 @@ pub(crate) fn usable_among(
     Ok(Usable { live, drained })
 }
 
-/// On which storages these replicas stand.
+/// The storages of these replicas.
 pub(crate) fn storages_of(
     alloc: Global,
     run: &[(ReplicaId, Marks)],
@@ -169,7 +170,7 @@ pub(crate) fn storages_of(
     Ok(storages)
 }
 
-/// On how many racks these storages stand, 2 for more.
+/// The number of racks of these storages, 2 for more.
 pub(crate) fn spread_of(topology: &Topology, storages: &[StorageId]) -> usize
     ensures { result ≡ spread (filter_map (replicas.rack_of topology.now.cluster) storages.now) }
 {
@@ -200,9 +201,10 @@ fn marked_if(is_excess: bool, marks: Marks) -> Marks
     }
 }
 
-/// Whether a storage is among these, which are in rising order. The place `near` is looked at first, and is then the place at which it
-/// stands or would: so of storages that are asked for in rising order each mostly takes two looks. Any place will do; elsewhere it takes
-/// O(log n) steps for n of them.
+/// Whether a storage is among these, which are sorted. The index `near` is compared first, and
+/// becomes the index of the storage, found or not: so each of several storages in ascending order
+/// mostly takes two comparisons. Any index will do; elsewhere it takes O(log n) steps for n of
+/// them.
 pub(crate) fn contains_near(storages: &[StorageId], storage: StorageId, near: &mut usize) -> bool
     requires { IsNonDecreasing storages.now }
     ensures { result ≡ has storages.now storage }
@@ -223,14 +225,14 @@ pub(crate) fn contains_near(storages: &[StorageId], storage: StorageId, near: &m
     found.is_ok()
 }
 
-/// Whether a storage stands at a place.
+/// Whether a storage is at an index.
 fn stands_at(storages: &[StorageId], storage: StorageId, at: usize) -> bool
     ensures { result ≡ true → has storages.now storage ≡ true }
 {
     at < storages.len() && storages[at] == storage
 }
 
-/// Whether a storage would stand at a place, between a lesser and a greater one.
+/// Whether a storage would be at an index, between a lesser and a greater one.
 fn is_missing_at(storages: &[StorageId], storage: StorageId, at: usize) -> bool
     requires { IsNonDecreasing storages.now }
     ensures { result ≡ true → has storages.now storage ≡ false }
@@ -241,7 +243,7 @@ fn is_missing_at(storages: &[StorageId], storage: StorageId, at: usize) -> bool
     (at == 0 || storages[at - 1] < storage) && (at == storages.len() || storage < storages[at])
 }
 
-/// The place that a search by halves tells.
+/// The index that a binary search returns, found or not.
 fn place_in(found: &Result<usize, usize>) -> usize {
     match found {
         Ok(place) => *place,

@@ -59,7 +59,7 @@ fn fill_storages(into: &mut Vec<StorageId>, triplets: &[Triplet]) -> Result<(), 
     Ok(())
 }
 
-/// Which of these storages stand on nodes that drain, and which do not.
+/// Splits storages into those on nodes that drain and the others.
 fn split_by_draining(
     alloc: Global,
     topology: &Topology,

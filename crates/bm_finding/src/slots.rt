@@ -11,8 +11,8 @@ use bm_base::{BlockId, Level};
 use bm_parts::merge::Key;
 use std::alloc::{AllocError, Global};
 
-/// The slots that are not settled, and the settled ones before the bound at a level at which copies
-/// are wished for that lack pending transfers; each of them once, beside its key.
+/// The unsettled slots, and the settled ones before the bound at a level at which copies are wanted
+/// that lack pending transfers; each of them once, with its key.
 pub(crate) fn slots_to_visit(alloc: Global, start: &Start) -> Result<Vec<(Key, Slot)>, AllocError>
     ensures { IfOk result (λ v. v.items
         ≡ map (visits.keyed_at start.now.kept.now start.now.arena.now)
@@ -31,8 +31,8 @@ pub(crate) fn slots_to_visit(alloc: Global, start: &Start) -> Result<Vec<(Key, S
     Ok(keyed)
 }
 
-/// Puts the settled slots of a level that come before the bound and lack pending transfers behind
-/// those that are there. The bound is compared first: mostly few slots come before it.
+/// Appends the settled slots of a level that come before the bound and lack pending transfers. The
+/// bound is compared first: mostly few slots come before it.
 fn push_settled(start: &Start, level: Level, into: &mut Vec<(Key, Slot)>) -> Result<(), AllocError>
     ensures { OnOk result (into.new.items ≡ into.old.items
         ++ map (visits.keyed_at start.now.kept.now start.now.arena.now)

@@ -25,8 +25,8 @@ pub(crate) fn sort_wishes(wishes: &mut Vec<Wish>) -> Result<(), AllocError>
     wishes.sort_by_key(|wish| (wish.level.number(), wish.block))
 }
 
-/// By storage and block. They are found block by block: so they are put in the order of blocks first, in which they mostly stand, and then in
-/// that of storages, of which there are few, where those of one stay in the order of blocks.
+/// By storage and block. They are found block by block. So they are sorted by blocks first, which
+/// is mostly their order, and then by storages with a stable sort, which has few runs.
 pub(crate) fn sort_deletes(deletes: &mut Vec<Delete>) -> Result<(), AllocError>
     ensures { OnOk result (IsInOrder by_pair parts.delete_key deletes.old.items deletes.new.items) }
 {

@@ -1,4 +1,4 @@
-// What is found of the blocks at which a round looks, one after another.
+// The scan of the blocks of a round, one after another.
 ghost use Rattle.std.specs.Prelude.{◌≡◌, ◌++◌, ◌∷◌, [], ℕ, List, map, not, Some, nat_le, false, IfOk, IfErr, OnOk};
 ghost use Rattle.std.specs.Option.{option_map_or};
 ghost use Rattle.bm_base.specs.declared.refusal.Refusal.TheVariants.{Memory};
@@ -33,7 +33,7 @@ pub(crate) struct Found {
     pub deletes: Vec<Delete>,
 }
 
-/// A round as it begins, with all that it looks at.
+/// A round as it begins, with all that it reads.
 #[derive(Clone, Copy)]
 pub(crate) struct Start<'a> {
     pub arena: &'a Arena,
@@ -43,12 +43,12 @@ pub(crate) struct Start<'a> {
     pub topology: &'a Topology,
     pub pend: u32,
     pub round: u64,
-    /// Of the wishes those before it are told, if there is one.
+    /// If there is a bound, only the wishes before it are returned.
     pub bound: Option<Key>,
 }
 
 impl<'a> Start<'a> {
-    /// Scans the blocks at these slots, each beside its key.
+    /// Scans the blocks at these slots, each with its key.
     pub(crate) fn visit_all(&self, alloc: Global, slots: &[(Key, Slot)]) -> Result<Found, Refusal>
         requires known { (slot : ℕ) → Among slot (values slots.now)
             → (id : ℕ) × (slot_of self.now.arena.now id ≡ Some slot) }
@@ -78,7 +78,7 @@ impl<'a> Start<'a> {
         self.kept.unsettled_count() == 0 || !self.kept.is_unsettled(slot)
     }
 
-    /// Scans the block at a slot, and appends what is found of it.
+    /// Scans the block at a slot, and appends its findings.
     fn visit(
         &self,
         alloc: Global,
@@ -114,7 +114,7 @@ impl<'a> Start<'a> {
     }
 }
 
-/// Whether as many replicas as are wanted are live; not of an unknown block.
+/// Whether as many replicas as are wanted are live; not for an unknown block.
 fn has_enough(info: Option<BlockInfo>, live: usize) -> bool
     ensures { result ≡ option_map_or (λ i. nat_le i.repl live) info false }
 {

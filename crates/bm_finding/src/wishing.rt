@@ -16,8 +16,8 @@ use std::alloc::{AllocError, Global};
 
 impl<'a> Start<'a> {
     /// Appends the wish of a block with these usable replicas, and replicas on these storages in
-    /// all: some copies at its level, if it has one and wants any, and only where that comes before
-    /// the bound. The pending transfers are counted only where it does.
+    /// all: copies at its level, if it needs any, and only if that comes before the bound. The
+    /// pending transfers are counted only if it does.
     pub(crate) fn push_wish(
         &self,
         alloc: Global,
@@ -68,7 +68,8 @@ impl<'a> Start<'a> {
         Ok(())
     }
 
-    /// The targets of a block's transfers that the round leaves on their way. The block is not looked up where no transfer is.
+    /// The targets of a block's transfers that stay pending in the round. The block is not looked
+    /// up if no transfer is pending.
     fn targets_left(&self, alloc: Global, id: BlockId) -> Result<StorageIds, Refusal>
         ensures targets { IfOk result
             (λ v. v ≡ targets_left self.now.pend self.now.round self.now.pending.now id) }
@@ -93,7 +94,8 @@ fn copy_of(alloc: Global, storages: &[StorageId]) -> Result<StorageIds, AllocErr
     Ok(copy)
 }
 
-/// The level of a block with live replicas on these storages. Only where enough are live their racks are looked up.
+/// The level of a block with live replicas on these storages. Their racks are looked up only if
+/// enough are live.
 fn level_among(topology: &Topology, repl: u32, live: &[StorageId], drained: usize) -> Option<Level>
     ensures { result ≡ levels.level_of (length live.now) drained repl
         (length (replicas.racks topology.now.cluster live.now))

@@ -1,4 +1,4 @@
--- What is asked of all shards, of one of them or of each.
+-- Questions to all shards, to one of them or to each.
 use Rattle.std.specs.Prelude.{◌≡◌, ℕ, ◌||◌, Bool, List, [], ◌∷◌, map, flat_map, length, Some, None}
 use Rattle.std.specs.List.{list_any}
 use Rattle.std.specs.List.Sorted.{IsPermutation, IsSortedByKey}
@@ -32,7 +32,8 @@ use Rattle.bm_fleet.proofs.Joins.{sorted_lists}
 use Rattle.bm_fleet.proofs.PartLists.{passing, passing_join, own_passing, own_missing, own_blocks_on, own_rows}
 use Rattle.bm_fleet.proofs.Staying.{count_of}
 
--- The shard of a block answers as all of them: `ss` is seen as F, and P is what the block's own shard holds.
+-- The shard of a block answers as all of them: `ss` is seen as F, and P is what the block's own
+-- shard holds.
 
 module _ (b : ℕ) (ss items : List (ℕ × Seen)) (P : Holdings) (F : Whole) (own : P ≡ cut (held_by ss) (shard_of b (length ss)) (length ss)) (is : ss ≡ items)
     (seen : record { holdings = held_by items; shards = items } ≡ F) where

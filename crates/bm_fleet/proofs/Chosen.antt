@@ -1,4 +1,4 @@
--- What is chosen of the parts of all shards.
+-- The choice from the parts of all shards.
 use Rattle.std.specs.Prelude.{◌≡◌, ℕ, ◌+◌, Bool, true, false, ◌==◌, ◌||◌, List, [], ◌∷◌, ◌++◌, map, filter, length, Option, None}
 use Rattle.std.specs.List.{flat_map}
 use Rattle.std.proofs.Common.{cond, refl, sym, ap, subst, ◌∙◌}

@@ -74,7 +74,8 @@ module _ (C : Cluster) (e : Event) where
   all_few (s ∷ ss) [] each = absurd each
   all_few (s ∷ ss) (c ∷ cs) each = All-cons IsFew c cs each.0.1.few (all_few ss cs each.1)
 
-  -- they have changed as the whole changes, and what they answered adds up to what the definition answers
+  -- they have changed as the whole changes, and what they answered adds up to what the definition
+  -- answers
   pub changed_shards : (shards : ℕ) (ss : List (ℕ × Seen)) (cs : List (ℕ × Answered Done)) → EachBecame (IsCommitted C e) ss cs → AreShards shards ss
       → AreShards shards (map shard_answered cs) × (held_by (map shard_answered cs) ≡ change_holdings C (held_by ss) e)
       × (done_of cs ≡ done (held_by ss) (held_by (map shard_answered cs)))

@@ -17,7 +17,7 @@ EachBecame R ss us = AllZip (IsResultOf (λ _. R)) ss us
 abbrev pub Asked : Type 0 → Type 0
 Asked A = Answered (Result A Refusal)
 
--- the same shard, and what is to be told of it, or that this was refused for want of memory
+-- the same shard, with its answer, or out of memory
 pub record HasAnswered {A : Type 0} (f : Seen → A) (S : Seen) (made : Asked A) : Type 0 where
   pub shard : made.shard ≡ S
   pub answer : IfOk made.answer (λ a. a ≡ f S)
@@ -27,7 +27,8 @@ pub record HasAnswered {A : Type 0} (f : Seen → A) (S : Seen) (made : Asked A)
 abbrev pub each_answer : {A : Type 0} → (Seen → A) → List (ℕ × Seen) → List A
 each_answer f ss = map (λ s. f s.1) ss
 
--- of shards that were each to answer f of itself: they come back as they were, with all their answers, or want of memory
+-- of shards that were each to answer f of itself: they come back unchanged, with all their answers,
+-- or out of memory
 pub record HasGathered {A G : Type 0} (f : Seen → A) (ss : List (ℕ × Seen)) (back : List (ℕ × Seen)) (made : Result (Vec A G) Refusal) : Type 0 where
   pub shards : back ≡ ss
   pub answers : IfOk made (λ v. v.items ≡ each_answer f ss)
@@ -50,6 +51,6 @@ abbrev pub done_of : List (ℕ × Answered Done) → Done
 done_of [] = record { added = 0; removed = 0 }
 done_of (c ∷ cs) = record { added = c.1.answer.added + (done_of cs).added; removed = c.1.answer.removed + (done_of cs).removed }
 
--- so few that the answers of 64 shards can be added up
+-- small enough that the answers of 64 shards can be added up
 abbrev pub IsFew : ℕ × Answered Done → Type 0
 IsFew c = (c.1.answer.added < 2 ^ 100) × (c.1.answer.removed < 2 ^ 100)

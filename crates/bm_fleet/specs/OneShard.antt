@@ -18,7 +18,7 @@ pub record IsChanged (C : Cluster) (e : Event) (S T : Seen) (d : Done) : Type 0 
   pub round : T.round ≡ S.round
   pub pend : T.pend ≡ S.pend
 
--- of shards, the one at this place became another, which is so related to it; all others stay
+-- the shard at this index became another one, in this relation to it; all others stay
 pub record IsMadeAt (R : Seen → Seen → Type 0) (place : ℕ) (old new : List (ℕ × Seen)) : Type 0 where
   pub shard : ℕ × Seen
   pub made : Seen
@@ -26,6 +26,6 @@ pub record IsMadeAt (R : Seen → Seen → Type 0) (place : ℕ) (old new : List
   pub now : new ≡ slice_set old place (shard.0, made)
   pub holds : R shard.1 made
 
--- so the one at this place changed as the event changes it, and this was answered
+-- the shard at this index changed as the event changes it, with this answer
 abbrev pub IsChangedAt : Cluster → Event → ℕ → List (ℕ × Seen) → List (ℕ × Seen) → Done → Type 0
 IsChangedAt C e place old new d = IsMadeAt (λ S T. IsChanged C e S T d) place old new

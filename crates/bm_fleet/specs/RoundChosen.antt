@@ -1,4 +1,4 @@
--- What is found and chosen for a round of all shards.
+-- The parts and the choice of a round of all shards.
 use Rattle.std.specs.Prelude.{◌≡◌, ℕ, List, map, Option}
 use Rattle.bm_base.specs.declared.replica.ReplicaId.{ReplicaId}
 use Rattle.bm_base.specs.declared.round.RoundPart.{RoundPart}
@@ -25,7 +25,7 @@ next_parts_before bound C ss = map (λ (s : ℕ × Seen). part_before bound (nex
 abbrev pub HasExcess : Cluster → List (ℕ × Seen) → List RoundPart → Type 0
 HasExcess C ss ps = map (λ (p : RoundPart). p.excess) ps ≡ next_excess C ss
 
--- what is chosen is what is chosen of all that the shards have, and commanded
+-- the choice is the one from all parts of the shards, with its commands
 pub record IsChosen (limits : RoundLimits) (C : Cluster) (r : ℕ) (ss : List (ℕ × Seen)) (c : ChosenCommands) : Type 0 where
   pub transfers : c.chosen.transfers ≡ chosen_transfers limits C (next_parts C ss)
   pub deletes : c.chosen.deletes ≡ chosen_deletes limits C (next_parts C ss)

@@ -1,4 +1,4 @@
--- What is made of shards one by one in a round, each beside its index.
+-- The work on shards one by one in a round, each with its index.
 use Rattle.std.specs.Prelude.{◌≡◌, ◌<◌, ◌+◌, ◌^◌, ℕ, List, Some, option_map, slice_get}
 use Rattle.bm_base.specs.declared.round.RoundPart.{RoundPart}
 use Rattle.bm_base.specs.declared.round.Chosen.{Chosen}
@@ -12,7 +12,7 @@ pub record CanFind (C : Cluster) (r : ℕ) (S : Seen) : Type 0 where
   pub next : r ≡ S.round + 1
   pub stands : StandsIn C S
 
--- what the shard found stands at its index, as far as it is needed to take the round
+-- the shard's part is at its index, as far as the round needs it
 abbrev pub HasPart : Cluster → List RoundPart → ℕ × Seen → Type 0
 HasPart C parts s = option_map (λ (p : RoundPart). p.excess) (slice_get parts s.0) ≡ Some (next_part C s.1).excess
 

@@ -1,4 +1,4 @@
--- A round of all shards: what it commands, and what it leaves.
+-- A round of all shards: its commands, and the holdings after it.
 use Rattle.std.specs.Prelude.{ℕ}
 use Rattle.bm_base.specs.declared.commands.Commands.{Commands}
 use Rattle.bm_base.specs.State.{RoundLimits, Cluster, Holdings}
@@ -11,6 +11,6 @@ use Rattle.bm_base.specs.Rounds.{commands_of, finished}
 abbrev pub commands_in : RoundLimits → Cluster → ℕ → Holdings → Commands
 commands_in limits C r H = let G = started_holdings C limits.pend r H in commands_of C r (transfers limits C G) (deletes limits C G)
 
--- what it leaves
+-- the holdings after it
 abbrev pub left_by_round : RoundLimits → Cluster → ℕ → Holdings → Holdings
 left_by_round limits C r H = let G = started_holdings C limits.pend r H in finished r G (transfers limits C G) (deletes limits C G)

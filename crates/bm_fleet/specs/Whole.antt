@@ -1,11 +1,11 @@
--- All shards of a manager, each beside its index, and what contracts see of them.
+-- All shards of a manager, each with its index, and what contracts see of them.
 use Rattle.std.specs.Prelude.{◌≡◌, ℕ, suc, ◌≤◌, List, [], ◌∷◌, map, length}
 use Rattle.bm_base.specs.State.{Cluster, Holdings}
 use Rattle.bm_parts.specs.Whole.{whole_of, AreOwn}
 use Rattle.bm_shard.specs.Seen.{Seen}
 use Rattle.bm_shard.specs.Standing as shard
 
--- what is seen of all shards: what they hold together, and each of them beside its index
+-- what is seen of all shards: what they hold together, and each of them with its index
 pub record Whole : Type 0 where
   pub holdings : Holdings
   pub shards : List (ℕ × Seen)
@@ -17,12 +17,12 @@ parts_of ss = map (λ s. s.1.holdings) ss
 abbrev pub held_by : List (ℕ × Seen) → Holdings
 held_by ss = whole_of (parts_of ss)
 
--- each stands beside its index, and is that one of so many
+-- each is paired with its index, and is that one of n
 abbrev pub AreIndexed : ℕ → ℕ → List (ℕ × Seen) → Type 0
 AreIndexed shards index [] = Unit {0}
 AreIndexed shards index (s ∷ ss) = (s.0 ≡ index) × (s.1.part ≡ record { index = index; shards = shards }) × AreIndexed shards (suc index) ss
 
--- so many shards, each with its own blocks alone
+-- n shards, each with its own blocks alone
 pub record AreShards (shards : ℕ) (ss : List (ℕ × Seen)) : Type 0 where
   pub indexed : AreIndexed shards 0 ss
   pub own : AreOwn shards 0 (parts_of ss)
@@ -35,7 +35,7 @@ abbrev pub EachStandsIn : Cluster → List (ℕ × Seen) → Type 0
 EachStandsIn C [] = Unit {0}
 EachStandsIn C (s ∷ ss) = shard.StandsIn C s.1 × EachStandsIn C ss
 
--- each has taken the rounds up to this one, and gives transfers up after so many
+-- each has taken the rounds up to this one, with this expiry of transfers
 abbrev pub EachTook : ℕ → ℕ → List (ℕ × Seen) → Type 0
 EachTook round pend [] = Unit {0}
 EachTook round pend (s ∷ ss) = (s.1.round ≡ round) × (s.1.pend ≡ pend) × EachTook round pend ss

@@ -1,4 +1,4 @@
--- What is made of shards one by one, each beside its index.
+-- The work on shards one by one, each with its index.
 use Rattle.std.specs.Prelude.{◌≡◌, ◌<◌, ◌^◌, ℕ, suc, List, [], ◌∷◌, IfErr, OnOk}
 use Rattle.bm_base.specs.declared.config.Config.{Config}
 use Rattle.bm_base.specs.declared.event.Done.{Done}
@@ -28,11 +28,12 @@ abbrev pub AreNew : Config → ℕ → List (ℕ × Seen) → Type 0
 AreNew config index [] = Unit {0}
 AreNew config index (s ∷ ss) = IsNew config index s × AreNew config (suc index) ss
 
--- the same shard, in all but room
+-- the same shard, in all but capacity
 abbrev pub IsSame : ℕ × Seen → ℕ × Seen → Type 0
 IsSame s t = (t.0 ≡ s.0) × IsSameButRoom s.1 t.1
 
--- what was made ready for an event or a round is given up: no number has an entry for nothing, no block room for transfers for nothing
+-- the reservations for an event or a round are given up: no number has an unused entry, no block
+-- unused capacity for transfers
 pub record HasGivenUp (S : Seen) : Type 0 where
   pub bare : HasNoneBare S
   pub freed : HasNoSpareRoom S

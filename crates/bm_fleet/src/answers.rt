@@ -18,8 +18,8 @@ pub struct Answered<A> {
 /// A shard that answered, or refused.
 pub type Asked<A> = Answered<Result<A, Refusal>>;
 
-/// Moves the shards into `back`, as they were, and returns what each answered, moved into `answers`,
-/// or the first refusal. Both lists have capacity for it.
+/// Moves the unchanged shards into `back`, and their answers into `answers`, or returns the first
+/// refusal. Both lists have the capacity.
 pub(crate) fn gather_answers<A: Drop>(
     asked: Vec<(u32, Asked<A>)>,
     back: &mut Vec<(u32, Shard)>,

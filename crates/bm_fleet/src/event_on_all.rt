@@ -21,8 +21,8 @@ use std::alloc::Global;
 use std::mem;
 
 /// Changes all shards by an event on no block, or none of them: the workers take the memory of the
-/// event in each shard, and then change each. `Memory`, and then nothing that is seen has changed
-/// but room.
+/// event in each shard, and then change each. `Memory`, and then a contract sees no change but of
+/// capacity.
 pub(crate) fn change_all<W: Workers>(
     alloc: Global,
     workers: &W,

@@ -17,8 +17,8 @@ use bm_base::{BlockId, Done, Event, Refusal, shard_of};
 use bm_shard::Shard;
 use bm_topo::Topology;
 
-/// Changes the shard of a block alone by an event on the block; the other shards are not looked at. `Memory`, but for an event that takes no
-/// memory, and then nothing that is seen has changed but room.
+/// Changes the shard of a block by an event on the block; no other shard is read. `Memory`, but for
+/// an event that takes no memory, and then a contract sees no change but of capacity.
 pub(crate) fn change_own(
     shards: &mut Vec<(u32, Shard)>,
     id: BlockId,
@@ -48,7 +48,7 @@ pub(crate) fn change_own(
     change_at(shards, place, event, topology, multi)
 }
 
-/// Where the shard of a block stands, of so many.
+/// The index of a block's shard among `count` shards.
 pub(crate) fn index_of_shard(id: BlockId, count: usize) -> usize
     requires some { 0 < count }
     requires few { count ≤ 64 }
@@ -57,7 +57,7 @@ pub(crate) fn index_of_shard(id: BlockId, count: usize) -> usize
     shard_of(id, count as u32) as usize
 }
 
-/// Changes the shard at a place by an event, or leaves it as it was in all but room.
+/// Changes the shard at an index by an event, or changes only its capacity.
 fn change_at(
     shards: &mut Vec<(u32, Shard)>,
     place: usize,
@@ -81,7 +81,7 @@ fn change_at(
     }
 }
 
-/// Changes a shard by an event, or leaves it as it was in all but room.
+/// Changes a shard by an event, or changes only its capacity.
 fn change_shard(
     shard: &mut Shard,
     event: &Event,

@@ -1,4 +1,4 @@
-// What all shards of a manager are together, and what a contract sees of them.
+// All shards of a manager, and what a contract sees of them.
 ghost use Rattle.std.specs.Prelude.{◌≡◌, ℕ, None, length, vec_len, IfOk, IfErr};
 ghost use Rattle.bm_base.specs.declared.refusal.Refusal.TheVariants.{Memory};
 ghost use Rattle.bm_base.specs.Configuration.{config_refusal};
@@ -11,10 +11,10 @@ use bm_shard::Shard;
 use std::alloc::Global;
 use std::marker::Model;
 
-/// All shards of a manager, each beside its index.
+/// All shards of a manager, each with its index.
 ///
-/// A contract sees what they hold together. That each is up to date in a cluster (`StandsIn`), and has taken all rounds (`HasTaken`), are
-/// facts about what is seen, which each call hands on to the next.
+/// A contract sees what they hold together. That each is up to date in a cluster (`StandsIn`), and
+/// has taken all rounds (`HasTaken`), are facts about that, which each call passes on to the next.
 #[derive(Drop)]
 pub struct Fleet {
     pub(crate) alloc: Global,
@@ -36,7 +36,7 @@ impl Model for Fleet {
 }
 
 impl Fleet {
-    /// As many empty shards as the configuration says, whose tables hash by this secret. `Memory`.
+    /// Empty shards, as many as configured, whose tables hash by this secret. `Memory`.
     #[tactic(auto, unfolding(crate::specs::Whole::StandsIn, crate::specs::Whole::HasTaken))]
     pub fn new(alloc: Global, config: &Config, secret: HashSecret) -> Result<Fleet, Refusal>
         requires { config_refusal config.now ≡ None }

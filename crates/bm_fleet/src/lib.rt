@@ -1,8 +1,9 @@
-//! All shards of a block manager, worked by a crew of threads or by the calling thread alone ([`Workers`]): what they
-//! hold together changes as the definitions change the whole.
+//! All shards of a block manager, worked by a crew of threads or by the calling thread alone
+//! ([`Workers`]). What they hold together changes as the definitions change the whole.
 //!
-//! An event on a block is made on the block's shard alone, any other on every shard or on none ([`Fleet::change`]); so is a round
-//! ([`Fleet::round`]). The lists of all shards are gathered and sorted once.
+//! An event on a block is made on the block's shard alone, any other on every shard or on none
+//! ([`Fleet::change`]); so is a round ([`Fleet::round`]). The lists of all shards are gathered and
+//! sorted once.
 #![tactic(auto)]
 
 mod abort;

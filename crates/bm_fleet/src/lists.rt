@@ -12,7 +12,7 @@ use bm_listing::{Wanted, replica_key};
 use bm_shard::Shard;
 use std::alloc::Global;
 
-/// The replicas that are wanted, by block and storage.
+/// The replicas of the given kind, by block and storage.
 pub(crate) fn replicas(
     alloc: Global,
     shards: &[(u32, Shard)],
@@ -45,7 +45,7 @@ fn gather_replicas(
     Ok(all)
 }
 
-/// The known blocks of which no replica is usable, rising.
+/// The known blocks without a usable replica, ascending.
 pub(crate) fn missing_blocks(
     alloc: Global,
     shards: &[(u32, Shard)],
@@ -73,7 +73,7 @@ fn gather_missing(alloc: Global, shards: &[(u32, Shard)]) -> Result<Vec<BlockId>
     Ok(all)
 }
 
-/// The blocks of all replicas on a storage, whatever their tags, rising.
+/// The blocks of all replicas on a storage, whatever their tags, ascending.
 pub(crate) fn blocks_on(
     alloc: Global,
     shards: &[(u32, Shard)],

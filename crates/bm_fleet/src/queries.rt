@@ -22,7 +22,7 @@ use bm_shard::Shard;
 use bm_topo::Topology;
 
 impl Fleet {
-    /// The first refusal of an event by what is known of its block. Asks the block's shard alone. Takes no memory.
+    /// The first refusal of an event by its block. Asks the block's shard alone. Takes no memory.
     pub fn check(&self, event: &Event) -> Result<(), Refusal>
         ensures { result ≡ checked (first_of (block_checks self.now.holdings event.now)) }
     {
@@ -59,7 +59,7 @@ impl Fleet {
         Ok(Items::from_vec(replica_keys(self.alloc, all.as_slice())?))
     }
 
-    /// The known blocks of which no replica is usable, rising. `Memory`.
+    /// The known blocks without a usable replica, ascending. `Memory`.
     #[tactic(auto, unfolding(crate::specs::Whole::StandsIn))]
     pub fn missing(&self, topology: &Topology) -> Result<Items<BlockId>, Refusal>
         requires { StandsIn topology.now.cluster self.now }
@@ -71,7 +71,7 @@ impl Fleet {
         Ok(Items::from_vec(all))
     }
 
-    /// The blocks of all replicas on a storage, whatever their tags, rising. `Memory`.
+    /// The blocks of all replicas on a storage, whatever their tags, ascending. `Memory`.
     pub fn blocks_on(&self, storage: StorageId) -> Result<Items<BlockId>, Refusal>
         ensures blocks { IfOk result (λ v. v ≡ queries.blocks_on self.now.holdings storage) }
         ensures refused { IfErr result (λ e. e ≡ Memory) }
@@ -80,7 +80,8 @@ impl Fleet {
         Ok(Items::from_vec(all))
     }
 
-    /// The storages of the block's good replicas, rising. Asks the block's shard alone. `UnknownBlock`; `Memory`.
+    /// The storages of the block's good replicas, ascending. Asks the block's shard alone.
+    /// `UnknownBlock`; `Memory`.
     pub fn places(&self, id: BlockId) -> Result<Items<StorageId>, Refusal>
         ensures known { OnOk result (block_refusal self.now.holdings id ≡ None) }
         ensures places { IfOk result (λ v. v ≡ queries.places self.now.holdings id) }
@@ -89,7 +90,8 @@ impl Fleet {
         own_shard(self.shards.as_slice(), id).places(id)
     }
 
-    /// How urgently the block wants replicas; `None` where it wants none. Asks the block's shard alone. `UnknownBlock`. Takes no memory.
+    /// How urgently the block needs replicas; `None` if it needs none. Asks the block's shard
+    /// alone. `UnknownBlock`. Takes no memory.
     #[tactic(auto, unfolding(crate::specs::Whole::StandsIn))]
     pub fn level(&self, id: BlockId) -> Result<Option<Level>, Refusal>
         ensures known { OnOk result (block_refusal self.now.holdings id ≡ None) }
@@ -100,8 +102,9 @@ impl Fleet {
         own_shard(self.shards.as_slice(), id).level(id)
     }
 
-    /// Whether some block holds a node back, so that it can't be taken away yet: a replica is drained there, and fewer are live than are
-    /// wanted. Looks at the blocks on the node's storages alone. Takes no memory.
+    /// Whether some block holds a node back, so that it can't be decommissioned yet: a replica is
+    /// drained there, and fewer are live than are wanted. Scans the blocks on the node's storages
+    /// alone. Takes no memory.
     pub fn holds_back(&self, node: NodeId, topology: &Topology) -> bool
         ensures { result ≡ asked.holds_back topology.now.cluster node self.now.holdings }
     {

@@ -24,9 +24,10 @@ use std::alloc::Global;
 use std::mem;
 
 impl Fleet {
-    /// Takes the round after `last` in all shards, or in none, and tells what it commands each DataNode: the
-    /// workers find what each shard has for it; of all that is chosen what is copied and deleted; then each shard is
-    /// made ready, and changed. `Memory`, and then nothing that is seen has changed but room.
+    /// Takes the round after `last` in all shards, or in none, and returns the commands of each
+    /// DataNode. The workers find each shard's part; transfers and deletes are chosen from all
+    /// parts; then each shard is prepared, and changed. `Memory`, and then a contract sees no
+    /// change but of capacity.
     #[tactic(auto, unfolding(crate::specs::Whole::StandsIn, crate::specs::Whole::HasTaken))]
     pub fn round<W: Workers>(
         &mut self,
@@ -62,7 +63,7 @@ impl Fleet {
     }
 }
 
-/// Takes the round after `last` in all shards, or in none, and tells what it commands.
+/// Takes the round after `last` in all shards, or in none, and returns its commands.
 fn round_all<W: Workers>(
     alloc: Global,
     workers: &W,
@@ -134,8 +135,8 @@ fn take_round<W: Workers>(
     }
 }
 
-/// Prepares all shards for their next round, and takes the memory of the pass in which they take it.
-/// After a refusal, those that were prepared stay prepared.
+/// Prepares all shards for their next round, and takes the memory of the pass in which they take
+/// it. After a refusal, those that were prepared stay prepared.
 fn prepare_for_round<W: Workers>(
     alloc: Global,
     workers: &W,

@@ -1,4 +1,4 @@
-// What is chosen for a round of all that the shards have, and commanded.
+// The choice of a round from the parts of all shards, and its commands.
 ghost use Rattle.std.specs.Prelude.{◌≡◌, map, false, IfOk, IfErr};
 ghost use Rattle.bm_base.specs.declared.refusal.Refusal.TheVariants.{Memory};
 ghost use Rattle.bm_base.specs.State.{limits_of};
@@ -20,7 +20,7 @@ pub(crate) struct ChosenCommands {
     pub commands: Commands,
 }
 
-/// What is chosen of these parts for a round, and what it commands.
+/// Chooses from these parts for a round, and makes the commands.
 pub(crate) fn choice_of(
     alloc: Global,
     parts: &[RoundPart],

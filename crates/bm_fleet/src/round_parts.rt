@@ -1,4 +1,4 @@
-// What all shards have for a round: of their first wishes, or of all.
+// The parts of all shards for a round: with their first wishes, or with all.
 ghost use Rattle.std.specs.Prelude.{◌≡◌, None, List, map, true, false, IfOk, IfErr};
 ghost use Rattle.std.specs.List.{All};
 ghost use Rattle.bm_base.specs.declared.refusal.Refusal.TheVariants.{Memory};
@@ -23,16 +23,16 @@ use bm_topo::Topology;
 use std::alloc::Global;
 use std::mem;
 
-/// What the shards have for their next round, of whose wishes the first may be there alone, and what is chosen of all.
+/// The parts of the shards for their next round, perhaps only with the first wishes, and the choice
+/// from them.
 #[derive(Drop)]
 pub(crate) struct FoundRound {
     pub parts: Vec<RoundPart>,
     pub choice: ChosenCommands,
 }
 
-/// Returns what the shards have for their next round, with what is chosen of all of it. Asks first for
-/// the wishes that the round is likely to need, and for all of them only where it can have further
-/// transfers. No shard changes.
+/// Collects each shard's part and chooses from them. Asks first for the wishes up to a bound; if
+/// the round is not full after that, asks for all. No shard changes.
 pub(crate) fn find_round<W: Workers>(
     alloc: Global,
     workers: &W,
@@ -81,7 +81,7 @@ fn is_of_all(chosen: &Chosen, bound: Option<Key>, topology: &Topology, config: &
     }
 }
 
-/// Returns what each shard has for its next round, with the wishes before a bound. No shard changes.
+/// Collects each shard's part, with the wishes before a bound. No shard changes.
 fn find_parts<W: Workers>(
     alloc: Global,
     workers: &W,
@@ -103,14 +103,15 @@ fn find_parts<W: Workers>(
     gather_answers(found, shards, answers)
 }
 
-/// For each transfer that a round may have, so many wishes are asked for first: some find no source, since towards the end few nodes may
-/// still send a copy. Where all nodes are alike, a round takes its last transfer from among 3 to 5 wishes for each.
+/// The number of wishes asked for first, for each transfer that a round may have. Some find no
+/// source, since in the end few nodes may still send a copy. With uniform nodes, a round uses 3 to
+/// 5 wishes for each of its last transfers.
 const WISHES_A_TRANSFER: u64 = 7;
 
-/// About so many blocks of all shards together are looked at to guess where so many wishes end.
+/// The number of blocks, of all shards together, that are sampled to guess the bound.
 const SAMPLES: usize = 1_024;
 
-/// A bound before which the shards are likely to wish for more copies than a round may have transfers.
+/// A bound before which the shards are likely to have more wishes than a round may have transfers.
 fn bound_of_shards(
     shards: &[(u32, Shard)],
     config: &Config,

@@ -23,7 +23,7 @@ pub type Row = (BlockId, Places);
 pub type Rows = Items<Row>;
 
 impl Fleet {
-    /// For each known block, rising, the first `MAX_PLACES` of its places: what readers see. The
+    /// For each known block, ascending, the first `MAX_PLACES` of its places: what readers see. The
     /// workers make the rows of each shard; those of several shards are sorted in one list.
     /// `Memory`. Nothing changes.
     pub fn table<W: Workers>(&mut self, workers: &W) -> Result<Vec<Row>, Refusal>

@@ -49,8 +49,8 @@ impl<R: Threads + Wait> Wait for RuntimeToken<R> {}
 
 unsafe impl<R: Threads + Wait> Sync for RuntimeToken<R> {}
 
-/// A crew of threads, each piece of whose work passes a gate: `G` is `&(dyn Gate + Sync)`, since a
-/// method of a trait cannot call a gate of a type parameter on other threads.
+/// A crew of threads. Each piece of work passes a gate: `G` is `&(dyn Gate + Sync)`, since a method
+/// of a trait cannot call a gate of a type parameter on other threads.
 #[derive(Clone, Copy)]
 pub struct Threaded<R: Threads + Wait, G> {
     rt: RuntimeToken<R>,

@@ -31,7 +31,7 @@ pub trait Workers {
     fn count(&self) -> usize
         ensures { 0 < result };
 
-    /// Prepares all shards. Each is as it was but for room; it is ready for the event, or it was
+    /// Prepares all shards. Each changes only its capacity; it is ready for the event, or it was
     /// refused.
     fn prepare_all(
         &self,
@@ -63,7 +63,7 @@ pub trait Workers {
         ensures each { EachBecame (IsCommitted topology.now.cluster event.now) shards.items
             result.items };
 
-    /// Finds what each shard has for its next round, with the wishes before a bound. No shard
+    /// Finds the part of each shard for its next round, with the wishes before a bound. No shard
     /// changes.
     fn find_all(
         &self,
@@ -80,7 +80,7 @@ pub trait Workers {
             (HasAnswered (λ S. part_before bound (next_part topology.now.cluster S)))
             shards.items result.items };
 
-    /// Prepares all shards for a round. Each is as it was but for room; it is ready for the round,
+    /// Prepares all shards for a round. Each changes only its capacity; it is ready for the round,
     /// or it was refused.
     fn prepare_round_all(
         &self,

@@ -113,7 +113,8 @@ changed_step f a b c slot n s m new lawful is before there after =
     written None = refl
     written (Some k) = refl
 
--- one more is changed where the change of the replica at the next place leaves its marks as they are
+-- one more is changed where the change of the replica at the next place leaves its marks as they
+-- are
 pub unchanged_step : (f : ℕ → Marks → Marks) (a b : Contents) (slot n s : ℕ) (m new : Marks) → new ≡ f s m → new ≡ m → replicas_at b slot ≡ changed_first f n (replicas_at a slot)
     → option_and_then (λ (k : Block). slice_get k.replicas n) (block_at b slot) ≡ Some (s, m)
     → replicas_at b slot ≡ changed_first f (n + 1) (replicas_at a slot)

@@ -1,4 +1,5 @@
--- Dropping marks at one unsettled slot after another, and marking one replica of a list after another.
+-- Marks dropped at one unsettled slot after another, and replicas of a list marked one after
+-- another.
 use Rattle.std.specs.Prelude.{◌≡◌, ◌≢◌, ℕ, zero, suc, true, ◌==◌, List, [], ◌∷◌, drop}
 use Rattle.std.specs.Option.{option_map_or}
 use Rattle.std.specs.List.{list_any}
@@ -12,7 +13,8 @@ use Rattle.bm_arena.specs.Holding.{replicas_at}
 use Rattle.bm_base.specs.Excess.{counted_again}
 use Rattle.bm_levels.specs.Changes.{all_changed, has_block}
 
--- where these slots are still to go, of all of them each that has gone has its new marks, and each other slot is as before
+-- where these slots are still to go, of all of them each that has gone has its new marks, and each
+-- other slot is as before
 pub IsBegun : Contents → Contents → List ℕ → List ℕ → Type 0
 IsBegun a now all left =
     (slot : ℕ) → (Among slot all × (Among slot left → ⊥) × (replicas_at now slot ≡ all_changed counted_again (replicas_at a slot))) ⊎ ((Among slot all → Among slot left) × (block_at now slot ≡ block_at a slot))

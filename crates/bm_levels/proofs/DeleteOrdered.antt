@@ -1,5 +1,5 @@
--- Whether the delete of a replica is ordered makes no difference to its block's level; and the block is not settled, before and after,
--- where the replica was not plain.
+-- A block's level does not depend on whether the delete of a replica is ordered; and the block is
+-- unsettled, before and after, if the replica had a mark.
 use Rattle.std.specs.Prelude.{◌≡◌, ◌↔◌, ℕ, ◌+◌, IsSome, Bool, true, false, not, ◌&&◌, ◌||◌, ◌==◌, List, [], ◌∷◌, map, filter, filter_map, length, Option, Some, None, option_map, option_and_then}
 use Rattle.std.specs.List.{list_any}
 use Rattle.std.proofs.Common.{cond, refl, sym, ap, subst, ◌∙◌, inl, inr}

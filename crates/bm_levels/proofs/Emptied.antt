@@ -1,4 +1,4 @@
--- Where the entry of a number with neither a block nor a replica is dropped, nothing that is held changes.
+-- Dropping an unused entry keeps all blocks and replicas.
 use Rattle.std.specs.Prelude.{◌≡◌, ◌≢◌, ◌↔◌, ℕ, IsSome, Bool, true, false, ◌==◌, if◌then◌else◌, [], Option, Some, None, option_and_then, IsSomeAnd}
 use Rattle.std.proofs.Common.{refl, sym, ap, subst, ◌∙◌, inl, inr}
 use Rattle.std.proofs.lemmas.Option.{same_Some}

@@ -1,4 +1,5 @@
--- Going over the unsettled slots and dropping marks at each, where the slot behind one is taken before its block is judged.
+-- An iteration over the unsettled slots that drops marks at each, and reads the next slot before
+-- the block is reclassified.
 use Rattle.std.specs.Prelude.{◌≡◌, ◌≢◌, ◌+◌, ◌<◌, ◌≤◌, ℕ, List, [], ◌∷◌, length, Option, Some, None}
 use Rattle.std.proofs.Common.{refl, sym, ap, subst, ◌∙◌, arith, inl, inr}
 use Rattle.bm_base.specs.Excess.{counted_again}
@@ -15,8 +16,8 @@ use Rattle.bm_levels.proofs.Beginning.{IsBegun, begun_none, begun_more, begun_al
 abbrev unsettled_in : Leveled → List ℕ
 unsettled_in v = v.kept.unsettled.slots
 
--- One stands at a slot, or at the end, after so many steps: the slots from there on are still to go, and no more steps are needed than
--- there are left.
+-- One stands at a slot, or at the end, after so many steps: the slots from there on are still to
+-- go, and no more steps are needed than there are left.
 pub record IsGoing (old now : Leveled) (at : Option ℕ) (step end : ℕ) : Type 0 where
   pub begun : IsBegun old.arena now.arena (unsettled_in old) (slots_from (unsettled_in now) at)
   pub once : Distinct (slots_from (unsettled_in now) at)

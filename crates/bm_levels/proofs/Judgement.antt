@@ -1,4 +1,4 @@
--- What was counted of the replicas at a slot decides how its block is judged.
+-- The counts of the replicas at a slot determine the status of its block.
 use Rattle.std.specs.Prelude.{◌≡◌, ℕ, ◌≤◌, ◌<◌, Bool, true, false, not, ◌&&◌, if◌then◌else◌, nat_le, nat_lt, List, [], length, map, filter_map, Option, Some, None, is_some, option_map, option_and_then}
 use Rattle.std.specs.Int.{from_bool}
 use Rattle.std.specs.Option.{option_map_or}
@@ -46,7 +46,8 @@ module _ (rack : ℕ → Option ℕ) (draining : ℕ → Bool) where
       apart true = refl
       apart false = refl
 
-  -- so many as are wanted are live on two racks among the first, and the rest is counted behind them
+  -- so many as are wanted are live on two racks among the first, and the rest is counted behind
+  -- them
   level_soon : (multi : Bool) (o : Option Block) (i : BlockInfo) (k : Count) (rs : List (ℕ × Marks)) → info_in o ≡ Some i
       → counted_on rack draining k rs ≡ counted_on rack draining none (listed o) → i.repl ≤ k.live → k.is_spread ≡ true → None ≡ level_by rack draining multi o
   level_soon multi o i k rs e f many spread =

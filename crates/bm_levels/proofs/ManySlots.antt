@@ -1,4 +1,5 @@
--- Where the replicas of several blocks changed and just these were judged anew, all that holds between calls holds again.
+-- If the replicas of several blocks changed and exactly these were reclassified, the invariant
+-- holds again.
 use Rattle.std.specs.Prelude.{◌≡◌, ◌≢◌, ◌↔◌, ℕ, ◌+◌, Bool, true, false, List, [], ◌∷◌, Option, Some, None, IsSome, is_some, option_and_then}
 use Rattle.std.proofs.Common.{refl, sym, ap, subst, ◌∙◌, inl, inr, ◌⊎◌, cond}
 use Rattle.std.proofs.lemmas.Bool.{cases_eq, eq-eqb, true≢false}

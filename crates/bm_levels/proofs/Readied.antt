@@ -68,7 +68,8 @@ module _ (old : Leveled) (a : Contents) (K : Kept) (alike : (slot : ℕ) → Are
   pub levels_alike : (C : Cluster) → AreLevels C old → AreLevels C (record { arena = a; kept = K })
   levels_alike C h z = (same z).level ∙ h z ∙ sym (alike_level C (block_at a z) (block_at old.arena z) (alike z))
 
--- made ready: a slot that was held is as before but for room, and one that was not holds an entry with nothing at most
+-- made ready: a slot that was held is as before but for room, and one that was not holds an entry
+-- with nothing at most
 module _ (a c : Contents) (lawful_a : IsLawful a) (lawful_c : IsLawful c) (prepared : IsPrepared a c) where
   held_there : (slot : ℕ) (k : Block) → block_at a slot ≡ Some k → AreAlike (block_at c slot) (block_at a slot)
   held_there slot k e = inl (k, room_at c slot, e, prepared.entries slot k e)

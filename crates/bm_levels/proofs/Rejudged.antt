@@ -1,4 +1,4 @@
--- Where nothing that is held changes, and slots are judged anew.
+-- Slots are reclassified while all blocks and replicas stay.
 use Rattle.std.specs.Prelude.{◌≡◌, ℕ, ◌+◌, Bool, true, false, Option, Some, None, IsSome, List, [], ◌∷◌, map, nat_eq, slice_get, suc, option_and_then}
 use Rattle.std.specs.Map.{lookup}
 use Rattle.std.specs.Cmp.{nat_eq_equiv}
@@ -69,7 +69,8 @@ led_unless v lawful h slot absent = elim (cases_eq slot v.arena.delimiter) [
     by differs None e = ap (option_and_then (λ (b : Block). b.info)) e
     by differs (Some k) e = absurd (absent (led_among v.arena.ids k.id slot (lawful.known slot k e differs)))
 
--- all slots to which numbers lead are judged, where the alive nodes stand on two racks or more, or do not
+-- all slots to which numbers lead are judged, where the alive nodes stand on two racks or more, or
+-- do not
 module _ (C : Cluster) (multi : Bool) (old : Leveled) (K : Kept)
     (judged : (slot : ℕ) → Among slot (slots_led old.arena) → IsJudged (rack_of C) (drains_then C None) multi (block_at old.arena slot) K slot)
     (others : (slot : ℕ) → (Among slot (slots_led old.arena) → ⊥) → IsSameAt old.kept K slot) where

@@ -50,7 +50,8 @@ block_absent a b none = get-blocks_of a b ∙ ap (λ o. option_and_then (λ x. i
 pub replica_absent : (a : Contents) (b s : ℕ) → slot_of a b ≡ None → get (replicas_of a) (replica_at b s) ≡ None
 replica_absent a b s none = get-replicas_of a (replica_at b s) ∙ ap (λ o. option_and_then (λ x. marks_at a x s) o) none
 
--- no replica is changed where none of the block is there, also where the change depends on the storage
+-- no replica is changed where none of the block is there, also where the change depends on the
+-- storage
 pub replicas_absent_by : (a : Contents) (b : ℕ) (f : ℕ → Marks → Marks) → slot_of a b ≡ None → replicas_of a ≡ revise (replicas_of a) (λ q m. if q.block == b then f q.storage m else m)
 replicas_absent_by a b f none =
     same_map (replicas_of a) (revise (replicas_of a) (λ q m. if q.block == b then f q.storage m else m)) (λ q.

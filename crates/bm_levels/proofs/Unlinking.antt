@@ -20,7 +20,8 @@ use Rattle.bm_levels.proofs.Leaving.{apart_from, led_by, leaving_none, leaving_o
 use Rattle.bm_levels.proofs.ManySlots.{leveled_many, levels_many}
 use Rattle.bm_levels.proofs.Bare.{heads_unlinked, bare_held, bare_elsewhere, some_before, same_numbers}
 
--- of all these slots, the first of the list of a storage in a, so many have gone in b, and these are left
+-- of all these slots, the first of the list of a storage in a, so many have gone in b, and these
+-- are left
 pub record AreUnlinked (s : ℕ) (all left : List ℕ) (a b : Contents) (n : ℕ) : Type 0 where
   pub leaving : IsLeaving (λ t. t == s) a b n
   pub list : (rest : List ℕ) → list_of a s ≡ all ++ rest → list_of b s ≡ left ++ rest
@@ -86,7 +87,8 @@ module _ (s : ℕ) (all left rest : List ℕ) (a b : Contents) (n x : ℕ) (h : 
 pub listed_in : (l slots rest : List ℕ) → l ≡ slots ++ rest → (slot : ℕ) → Among slot slots → Among slot l
 listed_in l slots rest e slot there = let P : List ℕ → Type 0 = λ l. Among slot l in subst P (sym e) (Among-left slot slots rest there)
 
--- The blocks at the first slots of a list are judged anew after their replicas have gone: all that holds between calls holds again.
+-- The blocks at the first slots of a list are judged anew after their replicas have gone: all that
+-- holds between calls holds again.
 module _ (rack : ℕ → Option ℕ) (draining : ℕ → Bool) (multi : Bool) (old : Leveled) (a : Contents) (K : Kept) (s : ℕ) (slots rest : List ℕ) (first : list_of old.arena s ≡ slots ++ rest)
     (lawful : IsLawful old.arena) (leveled : IsLeveled old)
     (others : (slot : ℕ) → (Among slot slots → ⊥) → block_at a slot ≡ block_at old.arena slot) (known : (slot : ℕ) → known_of (block_at a slot) ≡ known_of (block_at old.arena slot))
@@ -108,7 +110,8 @@ module _ (rack : ℕ → Option ℕ) (draining : ℕ → Bool) (multi : Bool) (o
   pub levels_first : AreLevelsBy rack draining multi old → AreLevelsBy rack draining multi (record { arena = a; kept = K })
   levels_first = levels_many rack draining multi old a K delimiter free known each (same old.arena.delimiter no_marker) leveled
 
--- The entries at these slots that are bare have gone, and before them the blocks at these slots alone changed.
+-- The entries at these slots that are bare have gone, and before them the blocks at these slots
+-- alone changed.
 pub bare_taken : (a m c : Contents) (slots : List ℕ) → m.ids ≡ a.ids → ((slot : ℕ) → (Among slot slots → ⊥) → block_at m slot ≡ block_at a slot) → KeepsSlots m c → blocks_of c ≡ blocks_of m
     → replicas_of c ≡ replicas_of m → HasNoneBareAt slots m c → MakesNoneBare a c
 bare_taken a m c slots ids others kept blocks replicas none b bare =

@@ -1,4 +1,4 @@
--- The cluster as an event leaves it: what is said of levels and judgements by it.
+-- The cluster after an event: levels and statuses by it.
 use Rattle.std.specs.Prelude.{◌≡◌, ◌⊎◌, ℕ, Bool, List, Option, Some, slice_get, slice_index_or}
 use Rattle.bm_base.specs.declared.level.Level.{Level}
 use Rattle.bm_base.specs.SlotLists.{Among}
@@ -12,7 +12,8 @@ use Rattle.bm_levels.specs.Kept.{Kept, IsJudged, IsJudgedAs, IsSameAt}
 use Rattle.bm_levels.specs.Leveled.{Leveled}
 use Rattle.bm_levels.specs.LevelsBy.{AreLevelsBy, IsOff}
 
--- the rack of a storage, whether it stands on a node that drains after the event, and whether it is one of a node
+-- the rack of a storage, whether it is on a node that drains after the event, and whether it is one
+-- of a node
 abbrev pub rack_around : Around → ℕ → Option ℕ
 rack_around A = rack_of A.topology.now.cluster
 
@@ -26,7 +27,7 @@ is_on_node A node = has_storage A.topology.now.cluster node
 abbrev pub level_around : Around → Option Block → Option Level
 level_around A o = level_by (rack_around A) (drains_around A) A.multi o
 
--- what a block is judged, and what the blocks at these slots are, each at its place
+-- the status of a block, and of the blocks at these slots, index by index
 abbrev pub IsJudgedAsAround : Around → Option Block → Judged → Type 0
 IsJudgedAsAround A o j = IsJudgedAs (rack_around A) (drains_around A) A.multi o j
 
@@ -34,19 +35,19 @@ abbrev pub AreJudgedAsAround : Around → Contents → List ℕ → List Judged 
 AreJudgedAsAround A a slots js =
     (i slot : ℕ) (default : Judged) → slice_get slots i ≡ Some slot → IsJudgedAsAround A (block_at a slot) (slice_index_or js i default)
 
--- a slot is kept as its block is judged, and so is each of these
+-- a slot has the status of its block, and so has each of these
 abbrev pub IsJudgedAround : Around → Option Block → Kept → ℕ → Type 0
 IsJudgedAround A o K slot = IsJudged (rack_around A) (drains_around A) A.multi o K slot
 
 abbrev pub AreJudgedAround : Around → Contents → List ℕ → Kept → Type 0
 AreJudgedAround A a slots K = (slot : ℕ) → Among slot slots → IsJudgedAround A (block_at a slot) K slot
 
--- so is each slot, or it is kept as before and the list of a storage does not have it
+-- so has each slot, or its status is as before and it is not in the list of a storage
 abbrev pub AreJudgedOfStorage : Around → ℕ → Contents → Kept → Kept → Type 0
 AreJudgedOfStorage A storage a old new =
     (slot : ℕ) → IsJudgedAround A (block_at a slot) new slot ⊎ (IsSameAt old new slot × (Among slot (list_of a storage) → ⊥))
 
--- so is each slot, or it is kept as before and no list of a node's storages has it
+-- so has each slot, or its status is as before and it is in no list of a node's storages
 abbrev pub AreJudgedOfNode : Around → ℕ → Contents → Kept → Kept → Type 0
 AreJudgedOfNode A node a old new =
     (slot : ℕ) → IsJudgedAround A (block_at a slot) new slot ⊎ (IsSameAt old new slot × IsOff A.topology.now.cluster node a slot)

@@ -1,4 +1,5 @@
--- Entries with neither a block nor a replica: a number has such a one only while an event that is prepared may need it.
+-- Unused entries, with neither a block nor a replica: a number has one only while a prepared event
+-- may need it.
 use Rattle.std.specs.Prelude.{◌≡◌, ◌≢◌, ℕ, Bool, false, List, [], None, Some, IsSome, IsTrue}
 use Rattle.bm_base.specs.Map.{get}
 use Rattle.bm_base.specs.State.{replica_at}
@@ -16,19 +17,19 @@ pub record IsBare (a : Contents) (b : ℕ) : Type 0 where
 abbrev pub HasNoEmptyEntry : Contents → ℕ → Type 0
 HasNoEmptyEntry a b = (slot : ℕ) → slot_of a b ≡ Some slot → replicas_at a slot ≢ []
 
--- no number is bare
+-- no number has an unused entry
 abbrev pub HasNoneBare : Contents → Type 0
 HasNoneBare a = (b : ℕ) → IsBare a b → ⊥
 
--- none of these numbers is bare
+-- none of these numbers has an unused entry
 abbrev pub HasNoneBareOf : (ℕ → Bool) → Contents → Type 0
 HasNoneBareOf these a = (b : ℕ) → IsTrue (these b) → IsBare a b → ⊥
 
--- none of the numbers that had their entries at these slots is bare
+-- none of the numbers that had their entries at these slots has an unused entry
 abbrev pub HasNoneBareAt : List ℕ → Contents → Contents → Type 0
 HasNoneBareAt slots old new = (b slot : ℕ) → Among slot slots → slot_of old b ≡ Some slot → IsBare new b → ⊥
 
--- no number is bare that was not
+-- no number has a new unused entry
 abbrev pub MakesNoneBare : Contents → Contents → Type 0
 MakesNoneBare old new = (b : ℕ) → IsBare new b → IsBare old b
 

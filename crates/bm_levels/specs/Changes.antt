@@ -22,7 +22,7 @@ changed Deleted m = as_stray m
 changed Restamped m = as_restamped m
 changed RoundBegun m = counted_again m
 
--- what is held as a round begins: a replica in excess counts again where its delete was not ordered
+-- the holdings as a round begins: a replica in excess counts again if its delete was not ordered
 abbrev pub at_round_start : Contents → Holdings
 at_round_start a = without_unordered_excess (holdings_of a)
 
@@ -34,7 +34,7 @@ all_changed f rs = map (λ r. (r.0, f r.1)) rs
 abbrev pub each_changed : (ℕ → Marks → Marks) → List (ℕ × Marks) → List (ℕ × Marks)
 each_changed f rs = map (λ r. (r.0, f r.0 r.1)) rs
 
--- what is known of a block, with another stamp, or with so many replicas wanted
+-- what is known of a block, with another stamp, or with another number of wanted replicas
 abbrev pub with_stamp : Stamp → BlockInfo → BlockInfo
 with_stamp stamp i = record i { stamp = stamp }
 
@@ -58,7 +58,7 @@ has_storage ps s = list_any (λ p. p.storage == s) ps
 abbrev pub AreOfBlock : ℕ → List ReplicaId → Type 0
 AreOfBlock b ps = (i : ℕ) (d : ReplicaId) → i < length ps → (slice_index_or ps i d).block ≡ b
 
--- they stand by rising storage, or at least those of each block do
+-- they are sorted by storage, or at least those of each block are
 abbrev pub AreByStorage : List ReplicaId → Type 0
 AreByStorage ps = IsNonDecreasingBy (λ p. p.storage) ps
 

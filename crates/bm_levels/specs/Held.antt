@@ -1,4 +1,4 @@
--- What blocks and replicas at the slots of an arena come to as holdings.
+-- The holdings of the blocks and replicas at the slots of an arena.
 use Rattle.std.specs.Prelude.{ℕ}
 use Rattle.bm_base.specs.Map.{Map}
 use Rattle.bm_base.specs.State.{Holdings, by_replica}

@@ -1,4 +1,5 @@
--- How urgent a block is, and whether a round has to look at it, said of the replicas at its slot, in any order.
+-- How urgent a block is, and whether a round has to scan it, by the replicas at its slot, in any
+-- order.
 use Rattle.std.specs.Prelude.{ℕ, Bool, true, false, not, ◌&&◌, ◌==◌, if◌then◌else◌, nat_le, List, map, filter, filter_map, length, Option, Some, None, option_and_then}
 use Rattle.std.specs.Option.{option_map_or}
 use Rattle.std.specs.List.{list_any}
@@ -21,15 +22,15 @@ drains_then C (Some t) s = option_map_or (λ n. if n == t.node then t.drains els
 abbrev pub storages_at : (ℕ → Marks → Bool) → List (ℕ × Marks) → List ℕ
 storages_at p rs = map (λ r. r.0) (filter (λ r. p r.0 r.1) rs)
 
--- live and drained replicas, where these storages stand on nodes that drain
+-- live and drained replicas, if these storages are on nodes that drain
 abbrev pub is_live_by : (ℕ → Bool) → ℕ → Marks → Bool
 is_live_by draining s m = is_usable m && not (draining s)
 
 abbrev pub is_drained_by : (ℕ → Bool) → ℕ → Marks → Bool
 is_drained_by draining s m = is_usable m && draining s
 
--- The level of the block at a slot, where storages stand on these racks and nodes that drain, and the alive nodes on two racks or more;
--- none where there is no known block.
+-- The level of the block at a slot, given the racks of storages, the storages on nodes that drain,
+-- and whether the alive nodes are on two racks or more; none without a known block.
 unfoldable pub level_by : (ℕ → Option ℕ) → (ℕ → Bool) → Bool → Option Block → Option Level
 level_by rack draining multi o =
     option_and_then (λ (k : Block). option_and_then (λ (i : BlockInfo).
@@ -44,8 +45,8 @@ level_in C o = level_by (rack_of C) (is_draining C) (is_multi_rack C) o
 abbrev pub is_plain : Marks → Bool
 is_plain m = is_good m.tag && not m.excess && not m.ordered
 
--- Whether a round need not look at the block at a slot: all replicas are good ones with no mark, and there are no more of them than
--- are wanted.
+-- Whether a round need not scan the block at a slot: all replicas are good ones with no mark, and
+-- there are no more of them than are wanted.
 unfoldable pub is_settled_at : Option Block → Bool
 is_settled_at o =
     option_map_or (λ (k : Block). not (list_any (λ r. not (is_plain r.1)) k.replicas) && option_map_or (λ (i : BlockInfo). nat_le (length k.replicas) i.repl) k.info true) o true

@@ -5,7 +5,7 @@ use Rattle.bm_base.specs.Map.{get, len}
 use Rattle.bm_arena.specs.Contents.{Contents, HasHead, list_of}
 use Rattle.bm_arena.specs.Holding.{replicas_of, blocks_of}
 
--- so many replicas left, all of storages that pass
+-- n replicas left, all of storages that pass
 pub record IsLeaving (leaves : ℕ → Bool) (old new : Contents) (n : ℕ) : Type 0 where
   -- the blocks stay
   pub blocks : blocks_of new ≡ blocks_of old
@@ -14,7 +14,7 @@ pub record IsLeaving (leaves : ℕ → Bool) (old new : Contents) (n : ℕ) : Ty
   pub others : (q : ReplicaId) → leaves q.storage ≡ false → get (replicas_of new) q ≡ get (replicas_of old) q
   pub count : n + len (replicas_of new) ≡ len (replicas_of old)
 
--- so many left, all of one storage
+-- n left, all of one storage
 abbrev pub IsLeavingStorage : ℕ → Contents → Contents → ℕ → Type 0
 IsLeavingStorage storage old new n = IsLeaving (λ s. s == storage) old new n
 

@@ -1,4 +1,4 @@
--- Blocks and replicas in an arena, with what is kept of each block beside them.
+-- Blocks and replicas in an arena, with the stored status of each block.
 use Rattle.std.specs.Prelude.{◌≡◌, ◌↔◌, ℕ, ◌+◌, false, None, IsSome}
 use Rattle.bm_base.specs.State.{Cluster}
 use Rattle.bm_arena.specs.Contents.{Contents, block_at, marks_at}
@@ -15,7 +15,7 @@ pub record IsLeveled (v : Leveled) : Type 0 where
   -- no list has the delimiter in it, and it is no known block
   pub free : (storage : ℕ) → marks_at v.arena v.arena.delimiter storage ≡ None
   pub blank : info_at v.arena v.arena.delimiter ≡ None
-  -- there is room for every slot that is held
+  -- there is capacity for every slot that is held
   pub room : (slot : ℕ) → IsSome (block_at v.arena slot) → HasRoomFor v.kept (slot + 1)
   -- the unsettled slots are just those of the blocks that are not settled
   pub unsettled : (slot : ℕ) → IsUnsettled v.kept slot ↔ (is_settled_at (block_at v.arena slot) ≡ false)

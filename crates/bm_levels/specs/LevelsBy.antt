@@ -12,12 +12,13 @@ use Rattle.bm_levels.specs.Judged.{level_by}
 use Rattle.bm_levels.specs.Kept.{level_of_slot}
 use Rattle.bm_levels.specs.Leveled.{Leveled}
 
--- the level of each slot is that of its block, where storages stand on these racks and on nodes that drain, and the alive nodes on two
--- racks or more
+-- the level of each slot is that of its block, given the racks of storages, the storages on nodes
+-- that drain, and whether the alive nodes are on two racks or more
 abbrev pub AreLevelsBy : (ℕ → Option ℕ) → (ℕ → Bool) → Bool → Leveled → Type 0
 AreLevelsBy rack draining multi v = (slot : ℕ) → level_of_slot v.kept slot ≡ level_by rack draining multi (block_at v.arena slot)
 
--- the same by the racks and the draining nodes of a cluster, where it is said apart whether its alive nodes stand on two racks or more
+-- the same by the racks and the draining nodes of a cluster; whether its alive nodes are on two
+-- racks or more is given apart
 abbrev pub AreLevelsWith : Cluster → Bool → Leveled → Type 0
 AreLevelsWith C multi v = AreLevelsBy (rack_of C) (is_draining C) multi v
 
@@ -26,7 +27,7 @@ abbrev pub KeepsAllLevels : Leveled → Leveled → Type 0
 KeepsAllLevels old new =
     (rack : ℕ → Option ℕ) (draining : ℕ → Bool) (multi : Bool) → AreLevelsBy rack draining multi old → AreLevelsBy rack draining multi new
 
--- the storage of each replica that is held stands in D on the rack that it stands on in C, and drains in D if it does in C
+-- the storage of each replica is on the same rack in D as in C, and drains in D if it does in C
 pub record IsSameForHeld (C D : Cluster) (a : Contents) : Type 0 where
   pub rack : (q : ReplicaId) → IsSome (get (replicas_of a) q) → rack_of D q.storage ≡ rack_of C q.storage
   pub draining : (q : ReplicaId) → IsSome (get (replicas_of a) q) → is_draining D q.storage ≡ is_draining C q.storage

@@ -1,4 +1,4 @@
-// The cluster as an event leaves it, as far as levels depend on it.
+// The cluster after an event, as far as levels depend on it.
 ghost use Rattle.std.specs.Prelude.{◌≡◌, None, false, option_map};
 ghost use Rattle.std.specs.Option.{option_map_or};
 ghost use Rattle.bm_base.specs.Replicas as replicas;
@@ -15,19 +15,20 @@ pub(crate) struct Turning {
     pub drains: bool,
 }
 
-/// The cluster as an event leaves it: the one before, with what the event changes for replicas that stay.
+/// The cluster after an event: the one before, with what the event changes for the remaining
+/// replicas.
 #[derive(Clone, Copy)]
 pub(crate) struct Around<'a> {
     /// The cluster before the event.
     pub topology: &'a Topology,
     /// The node whose draining the event changes.
     pub turning: Option<Turning>,
-    /// Whether the alive nodes stand on two racks or more after it.
+    /// Whether the alive nodes are on two racks or more after it.
     pub multi: bool,
 }
 
 impl<'a> Around<'a> {
-    /// The cluster that an event leaves as it is.
+    /// The unchanged cluster.
     pub(crate) fn still(topology: &'a Topology) -> Around<'a>
         ensures topology { result.topology.now ≡ topology.now }
         ensures turning { result.turning ≡ None }

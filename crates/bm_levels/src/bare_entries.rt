@@ -1,4 +1,4 @@
-// Entries that nothing needs any more: those of numbers with neither a block nor a replica.
+// Unused entries: those of numbers with neither a block nor a replica.
 ghost use Rattle.std.specs.Prelude.{◌≡◌, ◌≢◌, ℕ, [], Some, None, IsSomeAnd};
 ghost use Rattle.bm_base.specs.State.{Cluster};
 ghost use Rattle.bm_arena.specs.Contents.{block_at, slot_of};
@@ -11,7 +11,7 @@ use crate::leveled::LeveledBlocks;
 use bm_arena::Slot;
 
 impl LeveledBlocks {
-    /// Drops the entries at these slots that have neither a block nor a replica. Nothing that is held changes. Takes no memory.
+    /// Drops the unused entries at these slots. All blocks and replicas stay. Takes no memory.
     pub fn drop_bare(&mut self, slots: &[Slot])
         ensures blocks { blocks_of self.new.arena ≡ blocks_of self.old.arena }
         ensures replicas { replicas_of self.new.arena ≡ replicas_of self.old.arena }
@@ -53,7 +53,7 @@ impl LeveledBlocks {
         }
     }
 
-    /// Drops the entry of a number that has neither a block nor a replica; others stay. Takes no memory.
+    /// Drops the entry of a number if it is unused; others stay. Takes no memory.
     pub fn drop_if_bare(&mut self, slot: Slot)
         requires { (id : ℕ) × (slot_of self.old.arena id ≡ Some slot) }
         ensures blocks { blocks_of self.new.arena ≡ blocks_of self.old.arena }

@@ -30,8 +30,8 @@ impl LeveledBlocks {
         }
     }
 
-    /// The block is not known any more, and its replicas are stray; a number without replicas has no entry any more. Goes over the
-    /// block's own replicas. Takes no memory.
+    /// Makes a block unknown, and its replicas stray; a number without replicas loses its entry.
+    /// Scans the block's replicas. Takes no memory.
     #[tactic(auto, unfolding(crate::specs::Changes::changed))]
     pub fn delete_block(&mut self, topology: &Topology, id: BlockId)
         ensures blocks { blocks_of self.new.arena ≡ remove (blocks_of self.old.arena) id }
@@ -47,7 +47,8 @@ impl LeveledBlocks {
         }
     }
 
-    /// So many replicas of the block are wanted from now on; nothing changes where it is not known. Takes no memory.
+    /// Sets the number of wanted replicas of a block; nothing changes for an unknown one. Takes no
+    /// memory.
     pub fn set_replication(&mut self, topology: &Topology, id: BlockId, repl: u32)
         ensures blocks { blocks_of self.new.arena
             ≡ revise_at (blocks_of self.old.arena) id (with_repl repl) }
@@ -61,8 +62,8 @@ impl LeveledBlocks {
         }
     }
 
-    /// The block has another stamp, if it is known; its good replicas are stale, and none is in excess. Goes over the block's own
-    /// replicas. Takes no memory.
+    /// Sets the stamp of a known block; its good replicas become stale, and none is in excess.
+    /// Scans the block's replicas. Takes no memory.
     #[tactic(auto, unfolding(crate::specs::Changes::changed))]
     pub fn restamp(&mut self, topology: &Topology, id: BlockId, stamp: Stamp)
         ensures blocks { blocks_of self.new.arena
@@ -100,8 +101,8 @@ impl LeveledBlocks {
         }
     }
 
-    /// The replica leaves, if it is there; a number with neither block nor replica left has no entry any more. Answers whether one
-    /// left. Takes no memory.
+    /// Removes a replica, if it exists; a number with neither block nor replica loses its entry.
+    /// Returns whether one left. Takes no memory.
     pub fn remove_replica(&mut self, topology: &Topology, storage: StorageId, id: BlockId) -> bool
         ensures replicas { replicas_of self.new.arena
             ≡ remove (replicas_of self.old.arena) (replica_at id storage) }
@@ -138,7 +139,8 @@ impl LeveledBlocks {
         self.arena.marks(slot, storage)
     }
 
-    /// Changes the marks of all replicas of the block at the slot of a number, and what is known of it.
+    /// Changes the marks of all replicas of the block at the slot of a number, and what is known of
+    /// it.
     fn change_block(
         &mut self,
         topology: &Topology,

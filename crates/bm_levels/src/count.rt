@@ -1,4 +1,4 @@
-// What the replicas of one block come to, counted one after another.
+// The counts of one block's replicas, made one after another.
 ghost use Rattle.std.specs.Prelude.{◌≡◌, ◌<◌, ◌-◌, ◌^◌};
 ghost use Rattle.bm_levels.specs.Judged as judged;
 ghost use Rattle.bm_levels.specs.Counted as counted;
@@ -7,14 +7,14 @@ ghost use Rattle.bm_levels.specs.Around.{rack_around, drains_around};
 use crate::around::Around;
 use bm_base::{Marks, Rack, StorageId};
 
-/// What the replicas of a block come to, as far as they were looked at.
+/// The counts of a block's replicas, as far as they were scanned.
 #[derive(Clone, Copy)]
 pub(crate) struct Count {
     pub live: usize,
     pub drained: usize,
-    /// The rack of the first live replica that stands on one.
+    /// The rack of the first live replica that has one.
     pub first: Option<Rack>,
-    /// Whether another rack was seen behind it.
+    /// Whether another rack came after it.
     pub is_spread: bool,
     /// All are good, not in excess and not ordered to be deleted.
     pub is_plain: bool,
@@ -33,7 +33,7 @@ impl Count {
         }
     }
 
-    /// One more replica.
+    /// Counts one more replica.
     #[inline]
     #[tactic(auto, unfolding(crate::specs::Counted::one_more))]
     pub(crate) fn add(&mut self, around: &Around<'_>, storage: StorageId, marks: Marks)
@@ -58,7 +58,7 @@ impl Count {
         self.see(spot.rack);
     }
 
-    /// A live replica stands on this rack.
+    /// Counts the rack of a live replica.
     #[tactic(auto, unfolding(crate::specs::Counted::seen))]
     fn see(&mut self, rack: Rack)
         ensures { self.new ≡ counted.seen self.old rack }
@@ -69,7 +69,7 @@ impl Count {
         }
     }
 
-    /// On how many racks the live ones stand: none, one, or two for more.
+    /// The number of racks of the live ones: none, one, or two for more.
     #[tactic(auto, unfolding(crate::specs::Counted::racks_of))]
     pub(crate) fn racks(&self) -> usize
         ensures { result ≡ counted.racks_of self.now }

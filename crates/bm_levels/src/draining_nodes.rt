@@ -15,8 +15,9 @@ use bm_base::{NodeId, StorageId};
 use bm_topo::Topology;
 
 impl LeveledBlocks {
-    /// A node begins or ceases to drain: the blocks with a replica on its storages are judged anew. Nothing that is held changes.
-    /// Takes no memory. A look at each storage of the cluster, and at the blocks on those of the node.
+    /// A node begins or ceases to drain: the blocks with a replica on its storages are
+    /// reclassified. All blocks and replicas stay. Takes no memory. Reads each storage of the
+    /// cluster, and the blocks on those of the node.
     pub fn set_draining(&mut self, topology: &Topology, node: NodeId, drains: bool)
         ensures arena { self.new.arena ≡ self.old.arena }
         ensures levels { AreLevels topology.now.cluster self.old
@@ -33,7 +34,7 @@ impl LeveledBlocks {
 }
 
 impl KeptLevels {
-    /// Judges anew the blocks with a replica on the storages of a node.
+    /// Reclassifies the blocks with a replica on the storages of a node.
     fn judge_node(&mut self, arena: &Arena, node: NodeId, around: &Around<'_>)
         requires { (slot storage : ℕ) → Among slot (list_of arena.now storage)
             → HasRoomFor self.old (slot + 1) }
@@ -49,7 +50,7 @@ impl KeptLevels {
         }
     }
 
-    /// Judges anew the blocks with a replica on a storage.
+    /// Reclassifies the blocks with a replica on a storage.
     fn judge_list(&mut self, arena: &Arena, storage: StorageId, around: &Around<'_>)
         requires { HasRoomForEach self.old (list_of arena.now storage) }
         ensures each { AreJudgedOfStorage around.now storage arena.now self.old self.new }

@@ -48,7 +48,7 @@ impl FirstSlots {
         first
     }
 
-    /// Goes one slot on along a list, and adds that slot; nothing at the end.
+    /// Steps along a list, and adds the next slot; does nothing at the end.
     pub(crate) fn follow(&mut self, walk: &mut Walk<'_>)
         requires { length self.old < 64 }
         ensures whole { self.new ++ walk.new ≡ self.old ++ walk.old }

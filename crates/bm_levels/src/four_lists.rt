@@ -1,4 +1,4 @@
-// The lists of a node's storages taken apart side by side: what is read of one list does not wait for what is read of another.
+// The lists of a node's storages taken apart in step, so that their cache misses overlap.
 ghost use Rattle.std.specs.Prelude.{◌≡◌, ◌==◌, ◌||◌, ◌≤◌, ◌+◌, ◌^◌, false};
 ghost use Rattle.bm_levels.specs.Bare.{MakesNoneBare};
 ghost use Rattle.bm_levels.specs.Leaving.{IsLeaving, IsLeavingStorage, HasFirstSlots, MakesNoHead};
@@ -33,7 +33,7 @@ impl Four {
         }
     }
 
-    /// Leaves the first out, and takes one more in; that one alone, where it begins anew.
+    /// Drops the first storage, and adds one; only that one, if it begins again.
     fn follow(&mut self, storage: StorageId, begins: bool)
         ensures { self.new.fourth ≡ storage }
     {
@@ -91,7 +91,7 @@ fn is_one_of(storage: StorageId, a: StorageId, b: StorageId, c: StorageId) -> bo
 }
 
 impl LeveledBlocks {
-    /// Takes out replicas on the storages of a node, four storages at a time; answers how many left.
+    /// Removes replicas on the storages of a node, four storages at a time. Returns how many left.
     pub(crate) fn clear_abreast(&mut self, around: &Around<'_>, node: NodeId) -> u128
         ensures left { IsLeaving (is_on_node around.now node) self.old.arena self.new.arena result }
         ensures few { result ≤ 2 ^ 99 }
@@ -119,7 +119,8 @@ impl LeveledBlocks {
         removed
     }
 
-    /// Takes out replicas on those of four storages that are a node's, in turn some on each; answers how many left.
+    /// Removes replicas on those of four storages that are a node's, in turn some on each. Returns
+    /// how many left.
     fn clear_four(&mut self, around: &Around<'_>, node: NodeId, four: &Four) -> u128
         ensures left { IsLeaving (is_on_node around.now node) self.old.arena self.new.arena result }
         ensures few { result ≤ 2 ^ 66 + 256 }
@@ -140,8 +141,8 @@ impl LeveledBlocks {
         removed
     }
 
-    /// Takes out the replicas of these first blocks in the lists of four storages, on those that are
-    /// a node's; answers how many left.
+    /// Removes the replicas of these first blocks in the lists of four storages, on those that are
+    /// a node's. Returns how many left.
     fn remove_first_of_four(
         &mut self,
         around: &Around<'_>,

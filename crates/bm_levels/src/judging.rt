@@ -1,4 +1,4 @@
-// The judgement of one block.
+// The classification of one block.
 ghost use Rattle.std.specs.Prelude.{◌≡◌, length, map, true};
 ghost use Rattle.std.specs.Option.{option_map_or};
 ghost use Rattle.bm_arena.specs.Contents.{block_at};
@@ -12,24 +12,24 @@ use crate::count::Count;
 use bm_arena::{Arena, Slot, Triplet};
 use bm_base::{Level, level_of};
 
-/// What is kept of a block beside its replicas.
+/// The status of a block: what is stored with its slot.
 #[derive(Clone, Copy, Debug, PartialEq, Eq)]
 pub(crate) struct Judged {
     /// How urgently it wants replicas.
     pub level: Option<Level>,
-    /// Whether a round need not look at it.
+    /// Whether a round need not scan it.
     pub is_settled: bool,
 }
 
-/// Whether two are judged alike.
+/// Whether two statuses are equal.
 pub(crate) fn are_alike(a: Judged, b: Judged) -> bool
     ensures { result ≡ true → a ≡ b }
 {
     a == b
 }
 
-/// Judges the block at a slot, of which the count of its replicas was read: with one look at each replica, or at the first
-/// ones where they decide it.
+/// Classifies the block at a slot, given the number of its replicas. Scans each replica once, or
+/// only the first ones if they decide.
 pub(crate) fn judge(arena: &Arena, slot: Slot, replicas: usize, around: &Around<'_>) -> Judged
     requires { replicas ≡ option_map_or (λ b. length b.replicas) (block_at arena.now slot) 0 }
     ensures level { result.level ≡ level_around around.now (block_at arena.now slot) }
@@ -61,8 +61,9 @@ pub(crate) fn judge(arena: &Arena, slot: Slot, replicas: usize, around: &Around<
     }
 }
 
-/// Counts the replicas of a block. Where it has more than are wanted, it stops when so many as are wanted are live on two racks: the
-/// block has no level then and is not settled, whatever the other replicas are.
+/// Counts the replicas of a block. If it has more than are wanted, it stops when as many as are
+/// wanted are live on two racks: the block has no level then and is unsettled, whatever the other
+/// replicas are.
 fn count(around: &Around<'_>, triplets: &[Triplet], wanted: usize) -> Count
     ensures { IsCountOf (rack_around around.now) (drains_around around.now) wanted
         (map seen_triplet triplets.now) result }

@@ -1,4 +1,4 @@
-// Many blocks judged anew, some at a time: reads of memory that do not depend on one another do not wait for one another.
+// Many blocks reclassified, a chunk at a time, so that cache misses overlap.
 ghost use Rattle.std.specs.Prelude.{◌≡◌, ◌<◌, ◌≤◌, ℕ, length, slice_get, slice_index_or, Some, true};
 ghost use Rattle.std.specs.Option.{option_map_or};
 ghost use Rattle.bm_arena.specs.Contents.{block_at};
@@ -10,17 +10,17 @@ use crate::judging::{Judged, are_alike, judge};
 use crate::kept::KeptLevels;
 use bm_arena::{Arena, Slot};
 
-/// So many blocks are judged together.
+/// The number of blocks in a chunk.
 pub(crate) const CHUNK: usize = 64;
 
-/// What was not judged.
+/// Fills unused elements.
 const NOT_JUDGED: Judged = Judged {
     level: None,
     is_settled: true,
 };
 
-/// How many replicas the blocks at the slots of a chunk have. A read is so short that the processor has many cache misses under
-/// way at once; a judgement is too long for that, and finds the blocks' entries near.
+/// The numbers of replicas of the blocks of a chunk. A read is so short that many cache misses
+/// overlap; a classification is too long for that, and then finds the blocks' entries in the cache.
 fn count_ahead(arena: &Arena, chunk: &[Slot]) -> [usize; CHUNK]
     requires { length chunk.now ≤ 64 }
     ensures { (i slot : ℕ) → slice_get chunk.now i ≡ Some slot
@@ -34,7 +34,7 @@ fn count_ahead(arena: &Arena, chunk: &[Slot]) -> [usize; CHUNK]
     counts
 }
 
-/// Judges the blocks at the slots of a chunk.
+/// Classifies the blocks at the slots of a chunk.
 fn judge_ahead(arena: &Arena, chunk: &[Slot], around: &Around<'_>) -> [Judged; CHUNK]
     requires { length chunk.now ≤ 64 }
     ensures { AreJudgedAsAround around.now arena.now chunk.now result }
@@ -48,7 +48,7 @@ fn judge_ahead(arena: &Arena, chunk: &[Slot], around: &Around<'_>) -> [Judged; C
 }
 
 impl KeptLevels {
-    /// Judges the blocks at these slots anew.
+    /// Reclassifies the blocks at these slots.
     pub(crate) fn judge_all(&mut self, arena: &Arena, slots: &[Slot], around: &Around<'_>)
         requires room { HasRoomForEach self.old slots.now }
         ensures judged { AreJudgedAround around.now arena.now slots.now self.new }
@@ -63,7 +63,8 @@ impl KeptLevels {
         }
     }
 
-    /// Judges the blocks at the slots of a chunk anew: each is judged and what is kept of it looked at before anything changes.
+    /// Reclassifies the blocks of a chunk. All are classified, and their old statuses read, before
+    /// anything changes.
     fn judge_chunk(&mut self, arena: &Arena, chunk: &[Slot], around: &Around<'_>)
         requires few { length chunk.now ≤ 64 }
         requires room { HasRoomForEach self.old chunk.now }
@@ -80,7 +81,8 @@ impl KeptLevels {
         }
     }
 
-    /// Whether the blocks at the slots of a chunk were judged as is kept of them. All are looked at, whatever comes out of the first.
+    /// Whether all blocks of a chunk have the stored status. All are compared, whatever the first
+    /// gives.
     fn keeps_all(&self, chunk: &[Slot], judged: &[Judged]) -> bool
         requires few { length chunk.now ≤ length judged.now }
         requires room { HasRoomForEach self.now chunk.now }

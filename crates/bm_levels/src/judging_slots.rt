@@ -1,4 +1,4 @@
-// Blocks judged anew, by their slots.
+// Blocks reclassified, by their slots.
 ghost use Rattle.std.specs.Prelude.{ℕ, ◌≢◌};
 ghost use Rattle.bm_arena.specs.Contents.{block_at};
 ghost use Rattle.bm_levels.specs.Kept.{HasRoomAt, HasRoomForEach, KeepsRoom, IsJudgedIn, AreJudgedIn, IsKeptAs, IsSameAt, IsSameOutside, slots_led, KeepsAhead};
@@ -11,7 +11,7 @@ use bm_arena::{Arena, Slot};
 use bm_topo::Topology;
 
 impl KeptLevels {
-    /// Judges the block at a slot anew.
+    /// Reclassifies the block at a slot.
     pub(crate) fn judge(&mut self, arena: &Arena, slot: Slot, around: &Around<'_>)
         requires room { HasRoomAt self.old slot }
         ensures judged { IsJudgedAround around.now (block_at arena.now slot) self.new slot }
@@ -22,8 +22,8 @@ impl KeptLevels {
         self.keep(slot, judge(arena, slot, arena.triplet_count(slot), around));
     }
 
-    /// Judges the block at a slot anew, of which it is known what was kept. To look at that before the block changes lets reads of
-    /// memory not wait for one another.
+    /// The same, with the old status read by the caller before the change, so that the two cache
+    /// misses overlap.
     pub(crate) fn judge_from(&mut self, arena: &Arena, slot: Slot, around: &Around<'_>, was: Judged)
         requires room { HasRoomAt self.old slot }
         requires was { IsKeptAs self.old slot was }
@@ -38,7 +38,7 @@ impl KeptLevels {
         self.keep(slot, judged);
     }
 
-    /// Judges the block at a slot anew, in a cluster that stays as it is.
+    /// Reclassifies the block at a slot, in an unchanged cluster.
     #[tactic(auto, unfolding(crate::specs::Judged::drains_then))]
     pub(crate) fn judge_in(&mut self, topology: &Topology, arena: &Arena, slot: Slot)
         requires room { HasRoomAt self.old slot }
@@ -50,7 +50,7 @@ impl KeptLevels {
         self.judge(arena, slot, &Around::still(topology));
     }
 
-    /// Judges the block at a slot anew, of which it is known what was kept, in a cluster that stays as it is.
+    /// The same, with the old status read by the caller before the change.
     #[tactic(auto, unfolding(crate::specs::Judged::drains_then))]
     pub(crate) fn judge_from_in(
         &mut self,
@@ -68,7 +68,7 @@ impl KeptLevels {
         self.judge_from(arena, slot, &Around::still(topology), was);
     }
 
-    /// Judges the blocks at these slots anew, in a cluster that stays as it is.
+    /// Reclassifies the blocks at these slots, in an unchanged cluster.
     #[tactic(auto, unfolding(crate::specs::Judged::drains_then))]
     pub(crate) fn judge_all_in(&mut self, topology: &Topology, arena: &Arena, slots: &[Slot])
         requires room { HasRoomForEach self.old slots.now }
@@ -79,7 +79,7 @@ impl KeptLevels {
         self.judge_all(arena, slots, &Around::still(topology));
     }
 
-    /// Judges all blocks anew: where the alive nodes come to stand on two racks, or no longer do.
+    /// Reclassifies all blocks: when the alive nodes get onto two racks, or back onto one.
     pub(crate) fn judge_each(&mut self, arena: &Arena, around: &Around<'_>)
         requires { HasRoomForEach self.old (slots_led arena.now) }
         ensures judged { AreJudgedAround around.now arena.now (slots_led arena.now) self.new }

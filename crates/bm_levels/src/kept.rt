@@ -1,4 +1,4 @@
-// What is kept of the blocks of a shard beside their replicas.
+// The status of each block of a shard: its level, and whether it is settled.
 ghost use Rattle.std.specs.Prelude.{◌≡◌, true, ◌≢◌, ℕ, ◌+◌, ◌≤◌, None, length, IfOk, IfErr, OnOk, IsOk};
 ghost use Rattle.bm_base.specs.declared.refusal.Refusal.TheVariants.{Memory};
 ghost use Rattle.bm_base.specs.declared.level.Level.{Level};
@@ -12,13 +12,13 @@ use bm_queues::{LevelLists, SlotSet};
 use std::alloc::Global;
 use std::marker::Model;
 
-/// Room is made for so many slots more than are asked for.
+/// The number of slots reserved beyond a requested bound.
 const AHEAD: usize = 255;
 
-/// From here on room is made for just the slots that are asked for: what links can name is near.
+/// From this bound on exactly the requested slots are reserved, since the limit of links is near.
 const FAR: usize = 1 << 31;
 
-/// Below which bound room is made, where it is asked for below this one.
+/// Rounds a requested bound up, so that growth is amortized.
 fn ahead_of(bound: usize) -> usize
     ensures enough { bound ≤ result }
     ensures few { result ≤ bound + 255 }
@@ -26,10 +26,12 @@ fn ahead_of(bound: usize) -> usize
     if bound < FAR { bound + AHEAD } else { bound }
 }
 
-/// The level of each block, the blocks of each level, and the set of the blocks that are not settled, all by the slots of an arena.
+/// The level of each block, the blocks of each level, and the set of unsettled blocks, all by slots
+/// of an arena.
 ///
-/// A block is settled if all its replicas are good ones with no mark, and no more of them are there than are wanted: a round marks
-/// none of them and deletes none. Blocks that wait for a delete that was ordered stay unsettled until it is reported.
+/// A block is settled if all its replicas are good ones with no mark, and no more of them exist
+/// than are wanted: a round marks none of them and deletes none. Blocks that wait for an ordered
+/// delete stay unsettled until it is reported.
 #[derive(Drop)]
 pub struct KeptLevels {
     pub(crate) levels: LevelLists,
@@ -60,8 +62,8 @@ impl KeptLevels {
         })
     }
 
-    /// Makes room for all slots below a bound, and for some more, so that it is not made for each slot alone; no call but this takes
-    /// memory.
+    /// Reserves all slots below a bound, and some more, so that growth is amortized. Only this call
+    /// takes memory.
     pub fn grow_to(&mut self, bound: usize) -> Result<(), Refusal>
         ensures room { OnOk result (HasRoomFor self.new bound) }
         ensures kept { KeepsRoom self.old self.new }
@@ -77,7 +79,7 @@ impl KeptLevels {
         self.grow(ahead_of(bound))
     }
 
-    /// Whether there is room for all slots below a bound.
+    /// Whether there is capacity for all slots below a bound.
     fn has_room_for(&self, bound: usize) -> bool
         ensures there { result ≡ true → HasRoomFor self.now bound }
         ensures lacking { HasRoomFor self.now bound → result ≡ true }
@@ -85,7 +87,7 @@ impl KeptLevels {
         bound <= self.levels.room() && bound <= self.unsettled.room()
     }
 
-    /// Makes room for all slots below a bound, and no more.
+    /// Reserves all slots below a bound, and no more.
     fn grow(&mut self, bound: usize) -> Result<(), Refusal>
         ensures room { OnOk result (HasRoomFor self.new bound) }
         ensures kept { KeepsRoom self.old self.new }
@@ -97,7 +99,7 @@ impl KeptLevels {
         self.unsettled.grow_to(bound)
     }
 
-    /// Keeps what the block at a slot was judged.
+    /// Sets the status of the block at a slot.
     pub(crate) fn keep(&mut self, slot: Slot, judged: Judged)
         requires room { HasRoomAt self.old slot }
         ensures kept { IsKeptAs self.new slot judged }
@@ -113,7 +115,7 @@ impl KeptLevels {
         }
     }
 
-    /// What is kept of the block at a slot.
+    /// The status of the block at a slot.
     pub(crate) fn kept_at(&self, slot: Slot) -> Judged
         requires room { HasRoomAt self.now slot }
         ensures { IsKeptAs self.now slot result }
@@ -144,7 +146,7 @@ impl KeptLevels {
         self.levels.slots(level)
     }
 
-    /// How many slots are at a level at which copies are wished for.
+    /// The number of slots at a level at which copies are wanted.
     pub fn wishing_count(&self) -> usize
         ensures { result ≡ length (wishing_slots self.now) }
     {
@@ -155,8 +157,9 @@ impl KeptLevels {
             + self.levels.slots(Level::BadlyDistributed).len()
     }
 
-    /// Does nothing: a caller has by it that a level's list has just the slots at the level, each once, that no slot is twice
-    /// unsettled, and that just the slots at a level at which copies are wished for are wishing, each once.
+    /// For proofs alone: the list of a level has exactly its slots, each once; no slot is unsettled
+    /// twice; and the slots that need copies are exactly those at a level at which copies are
+    /// wanted, each once.
     pub fn lawful(&self)
         ensures listed { (level : Level) → AreSlotsAt self.now level (slots_at self.now level) }
         ensures once { (level : Level) → Distinct (slots_at self.now level) }

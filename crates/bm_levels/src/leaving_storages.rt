@@ -17,8 +17,9 @@ use bm_base::{NodeId, StorageId};
 use bm_topo::Topology;
 
 impl LeveledBlocks {
-    /// The replicas on a storage leave, and its list; answers how many. Entries with neither block nor replica go, and the blocks
-    /// that lose a replica are judged anew. Takes no memory. One step for each of the replicas.
+    /// Removes the replicas on a storage, and its list. Returns how many. Unused entries are
+    /// dropped, and the blocks that lose a replica are reclassified. Takes no memory. One step for
+    /// each of the replicas.
     pub fn forget_storage(&mut self, topology: &Topology, storage: StorageId) -> u128
         ensures blocks { blocks_of self.new.arena ≡ blocks_of self.old.arena }
         ensures replicas { replicas_of self.new.arena
@@ -37,10 +38,10 @@ impl LeveledBlocks {
         removed as u128
     }
 
-    /// The replicas on all storages of a node leave, and their lists; answers how many. `multi` says whether the alive nodes stand on two
-    /// racks or more without it: where they did not before, or no longer do, all blocks are judged anew, else those that lose a replica.
-    /// Entries with neither block nor replica go. Takes no memory. A look at each storage of the cluster, and one step for each of the
-    /// replicas.
+    /// Removes the replicas on all storages of a node, and their lists. Returns how many. `multi`
+    /// tells whether the alive nodes are on two racks or more without it. If that changes, all
+    /// blocks are reclassified, else those that lose a replica. Unused entries are dropped. Takes
+    /// no memory. Reads each storage of the cluster, and takes one step for each of the replicas.
     pub fn forget_node(&mut self, topology: &Topology, node: NodeId, multi: bool) -> u128
         requires multi { multi
             ≡ replicas.is_multi_rack (events.without_node topology.now.cluster node) }

@@ -17,8 +17,8 @@ use bm_topo::Topology;
 use std::alloc::Global;
 use std::marker::Model;
 
-/// The blocks and replicas of a shard in an arena, and beside them the level of each block and the set of the blocks that are not
-/// settled.
+/// The blocks and replicas of a shard in an arena, with the level of each block and the set of
+/// unsettled blocks.
 #[derive(Drop)]
 pub struct LeveledBlocks {
     pub(crate) arena: Arena,
@@ -50,7 +50,8 @@ impl LeveledBlocks {
         Ok(LeveledBlocks { arena, kept })
     }
 
-    /// Gives a number an entry, with room for what is kept of its block. Nothing that is held changes. `Memory`.
+    /// Gives a number an entry, with capacity for its block's status. All blocks and replicas stay.
+    /// `Memory`.
     pub fn ready_block(&mut self, id: BlockId) -> Result<(), Refusal>
         ensures entry { OnOk result (IsSome (slot_of self.new.arena id)) }
         ensures blocks { blocks_of self.new.arena ≡ blocks_of self.old.arena }
@@ -77,7 +78,8 @@ impl LeveledBlocks {
         Ok(())
     }
 
-    /// Changes what is known of the block at the slot of a number; `None` makes it unknown. Takes no memory.
+    /// Changes what is known of the block at the slot of a number; `None` makes it unknown. Takes
+    /// no memory.
     pub fn set_info(&mut self, topology: &Topology, slot: Slot, info: Option<BlockInfo>)
         requires { (id : ℕ) × (slot_of self.old.arena id ≡ Some slot) }
         ensures blocks { (id : ℕ) → slot_of self.old.arena id ≡ Some slot
@@ -91,7 +93,8 @@ impl LeveledBlocks {
         self.kept.judge_in(topology, &self.arena, slot);
     }
 
-    /// Changes the marks of the replica on a storage of the block at the slot of a number. Takes no memory.
+    /// Changes the marks of the replica on a storage of the block at the slot of a number. Takes no
+    /// memory.
     pub fn set_marks(&mut self, topology: &Topology, slot: Slot, storage: StorageId, marks: Marks)
         requires slot { (id : ℕ) × (slot_of self.old.arena id ≡ Some slot) }
         requires replica { IsSome (marks_at self.old.arena slot storage) }
@@ -125,22 +128,22 @@ impl LeveledBlocks {
         self.kept.judge_from_in(topology, &self.arena, slot, was);
     }
 
-    /// Does nothing: a caller has by it that the unsettled slots are just those of blocks that are not settled, that a slot without a
-    /// known block has no level, and that the delimiter is in no list.
+    /// For proofs alone: the unsettled slots are exactly those of unsettled blocks, a slot without
+    /// a known block has no level, and the delimiter is in no list.
     pub fn lawful(&self)
         ensures { IsLeveled self.now }
     {
         let _ = &self.arena;
     }
 
-    /// The arena, to be looked at.
+    /// The arena, to be read.
     pub fn arena(&self) -> &Arena
         ensures { result.now ≡ self.now.arena }
     {
         &self.arena
     }
 
-    /// The levels and the unsettled slots, to be looked at.
+    /// The levels and the unsettled slots, to be read.
     pub fn kept_levels(&self) -> &KeptLevels
         ensures { result.now ≡ self.now.kept }
     {
@@ -154,8 +157,8 @@ impl LeveledBlocks {
         self.arena.find(id)
     }
 
-    /// How urgently the block of a number wants replicas; `None` where it wants none, or is not known. A look at what is kept, not
-    /// at the replicas.
+    /// How urgently the block of a number needs replicas; `None` if it needs none, or is unknown.
+    /// Reads the stored level, not the replicas.
     #[tactic(auto, using(crate::proofs::Levels::level_is_at_slot))]
     pub fn level(&self, id: BlockId) -> Option<Level>
         ensures { (C : Cluster) → AreLevels C self.now → (pending : Map by_replica ℕ)

@@ -1,8 +1,9 @@
-//! How urgent the blocks of a shard are, and at which of them a round has to look.
+//! How urgent the blocks of a shard are, and which of them a round has to scan.
 //!
-//! The blocks and replicas of a shard stand in an arena. Beside it stand, by the slots of the arena, the level of each block, the blocks of
-//! each level, and the set of the blocks that are not settled: those of which a round may mark or delete a replica. Where the replicas of
-//! a block change, the block is judged anew from its own replicas, with one look at each of them. Nothing here takes memory but `new`,
+//! The blocks and replicas of a shard are in an arena. Parallel to it, by slots of the arena, are
+//! the level of each block, the blocks of each level, and the set of unsettled blocks: those of
+//! which a round may mark or delete a replica. When the replicas of a block change, the block is
+//! reclassified from its own replicas, with one read of each. Nothing here takes memory but `new`,
 //! `grow_to`, `ready_block` and `ready_report`.
 #![tactic(auto)]
 

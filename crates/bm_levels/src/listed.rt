@@ -15,7 +15,7 @@ pub(crate) fn count_of_block(listed: &[ReplicaId], block: BlockId) -> usize
     other_block_in(listed, block).unwrap_or(listed.len())
 }
 
-/// The place of the first of another block.
+/// The index of the first replica of another block.
 fn other_block_in(listed: &[ReplicaId], block: BlockId) -> Option<usize>
     ensures { result ≡ position (λ q. not (q.block == block)) listed.now }
 {
@@ -33,8 +33,9 @@ pub(crate) fn with_excess(marks: Marks) -> Marks
     }
 }
 
-/// Whether a list has a replica on a storage. The place `near` is looked at first, and is then the place behind it: so of storages that
-/// are asked for in rising order, all of the list, each takes one look. Elsewhere it is a search by halves.
+/// Whether a list has a replica on a storage. The index `near` is compared first, and is then the
+/// index after it: so storages in ascending order, all of the list, take one comparison each.
+/// Elsewhere it is a binary search.
 fn is_listed(listed: &[ReplicaId], storage: StorageId, near: &mut usize) -> bool
     requires { AreByStorage listed.now }
     ensures { result ≡ has_storage listed.now storage }
@@ -48,14 +49,14 @@ fn is_listed(listed: &[ReplicaId], storage: StorageId, near: &mut usize) -> bool
     found.is_ok()
 }
 
-/// Whether the replica at a place of a list is on a storage.
+/// Whether the replica at an index of a list is on a storage.
 fn stands_at(listed: &[ReplicaId], storage: StorageId, at: usize) -> bool
     ensures { result ≡ true → has_storage listed.now storage ≡ true }
 {
     at < listed.len() && listed[at].storage == storage
 }
 
-/// The place behind the one that a search by halves tells.
+/// The index after the one that a binary search returns.
 fn place_behind(found: &Result<usize, usize>) -> usize {
     match found {
         Ok(place) => place.wrapping_add(1),
@@ -63,8 +64,9 @@ fn place_behind(found: &Result<usize, usize>) -> usize {
     }
 }
 
-/// The replicas of the block at a slot are in excess whose storages are in a list. Goes once over the block's replicas, and looks for
-/// each in the list, where they stand in one order at the next place. Takes no memory.
+/// Marks as excess the replicas of the block at a slot whose storages are in a list. Iterates once
+/// over the block's replicas, and searches the list for each, at the next index if both have the
+/// same order. Takes no memory.
 pub(crate) fn mark_listed(arena: &mut Arena, slot: Slot, listed: &[ReplicaId])
     requires { AreByStorage listed.now }
     ensures replicas { replicas_at arena.new slot

@@ -52,8 +52,8 @@ fn tag_after_restamp(tag: Tag) -> Tag
     }
 }
 
-/// Changes the marks of each replica of the block at a slot; nothing else changes. Marks that stay as they are are not written again.
-/// Answers whether any did not stay. Takes no memory.
+/// Changes the marks of each replica of the block at a slot; nothing else changes. Unchanged marks
+/// are not written again. Returns whether any changed. Takes no memory.
 pub(crate) fn change_marks(arena: &mut Arena, slot: Slot, change: MarkChange) -> bool
     ensures replicas { replicas_at arena.new slot
         ≡ all_changed (changed change) (replicas_at arena.old slot) }

@@ -1,4 +1,4 @@
-// The list of a storage taken apart, some blocks at a time: reads of memory that do not depend on one another do not wait for one another.
+// The list of a storage taken apart, some blocks at a time, so that cache misses overlap.
 ghost use Rattle.std.specs.Prelude.{◌≡◌, ◌<◌, ◌≤◌, ◌+◌, ℕ, [], length, take, None};
 ghost use Rattle.bm_arena.specs.Contents.{block_at, known_of, list_of, marks_at, HasHead};
 ghost use Rattle.bm_arena.specs.Holding.{replicas_of, blocks_of};
@@ -53,7 +53,8 @@ impl LeveledBlocks {
         removed
     }
 
-    /// Takes out the replicas on a storage of some blocks, the first ones in its list; answers how many left.
+    /// Removes the replicas on a storage of some blocks, the first ones in its list. Returns how
+    /// many left.
     fn remove_some(&mut self, around: &Around<'_>, storage: StorageId) -> usize
         ensures left { IsLeavingStorage storage self.old.arena self.new.arena result }
         ensures list { length (list_of self.old.arena storage)
@@ -69,8 +70,8 @@ impl LeveledBlocks {
         slots.len()
     }
 
-    /// Takes out the replicas on a storage of the first blocks in its list, and drops their entries that have neither a block nor
-    /// another replica.
+    /// Removes the replicas on a storage of the first blocks in its list, and drops their unused
+    /// entries.
     pub(crate) fn remove_first(&mut self, around: &Around<'_>, storage: StorageId, slots: &[Slot])
         requires { HasFirstSlots self.old.arena storage slots.now }
         ensures left { IsLeavingStorage storage self.old.arena self.new.arena (length slots.now) }
@@ -83,7 +84,8 @@ impl LeveledBlocks {
         self.drop_each(slots);
     }
 
-    /// Takes out the replicas on a storage of the first blocks in its list, and judges these blocks anew.
+    /// Removes the replicas on a storage of the first blocks in its list, and reclassifies these
+    /// blocks.
     fn remove_listed(&mut self, around: &Around<'_>, storage: StorageId, slots: &[Slot])
         requires { HasFirstSlots self.old.arena storage slots.now }
         ensures left { IsLeavingStorage storage self.old.arena self.new.arena (length slots.now) }

@@ -1,4 +1,4 @@
-// Racks that come and go: the alive nodes come to stand on two racks or more, or no longer do.
+// Racks that come and go: the alive nodes get onto two racks or more, or back onto one.
 ghost use Rattle.std.specs.Prelude.{◌≡◌};
 ghost use Rattle.bm_base.specs.State.{Cluster};
 ghost use Rattle.bm_base.specs.Replicas as replicas;
@@ -10,8 +10,8 @@ use crate::leveled::LeveledBlocks;
 use bm_topo::Topology;
 
 impl LeveledBlocks {
-    /// The cluster changes otherwise for no replica that is held: all blocks are judged anew where the alive nodes come to stand on two
-    /// racks or more, or no longer do. Takes no memory.
+    /// The cluster changes in no other way for the replicas: all blocks are reclassified if the
+    /// alive nodes get onto two racks or more, or back onto one. Takes no memory.
     pub fn judge_for_racks(&mut self, topology: &Topology, multi: bool)
         ensures arena { self.new.arena ≡ self.old.arena }
         ensures levels { (D : Cluster) → multi ≡ replicas.is_multi_rack D
@@ -23,7 +23,7 @@ impl LeveledBlocks {
         self.arena().lawful();
     }
 
-    /// Judges all blocks anew where the alive nodes come to stand on two racks or more, or no longer do.
+    /// Reclassifies all blocks if the alive nodes get onto two racks or more, or back onto one.
     pub(crate) fn judge_racks(&mut self, topology: &Topology, multi: bool)
         ensures arena { self.new.arena ≡ self.old.arena }
         ensures levels { AreLevels topology.now.cluster self.old

@@ -1,4 +1,5 @@
-// Full reports and notices of received replicas: made ready or given up, and made, with the levels of the blocks that they change.
+// Full reports and notices of received replicas: prepared, given up or applied, with the levels of
+// the changed blocks.
 ghost use Rattle.std.specs.Prelude.{◌≡◌, ◌==◌, ◌<◌, ◌≤◌, ◌^◌, ◌∷◌, [], ℕ, length, take, IfErr, OnOk, OnErr};
 ghost use Rattle.bm_base.specs.declared.refusal.Refusal.TheVariants.{Memory};
 ghost use Rattle.bm_base.specs.SlotLists.{Among};
@@ -21,8 +22,9 @@ use bm_report::{Applied, Report};
 use bm_topo::Topology;
 
 impl LeveledBlocks {
-    /// Finds the slot of each number of the part that the entries name, gives an entry to a number that has none, and makes all room that
-    /// the end of the report needs. Nothing that is held changes. `Memory`: then the report is given up, and no new entry stays.
+    /// Finds the slot of each number of the part that the entries name, gives an entry to a new
+    /// number, and reserves all that the end of the report needs. All blocks and replicas stay.
+    /// `Memory`: then the report is given up, and no new entry stays.
     pub fn ready_report(
         &mut self,
         report: &mut Report,
@@ -88,8 +90,8 @@ impl LeveledBlocks {
         Ok(())
     }
 
-    /// Gives up a report that was made ready: the entries of the numbers that it names which have neither a block nor a replica
-    /// go, and it names none any more. Nothing that is held changes. Takes no memory.
+    /// Gives up a prepared report: unused entries of its numbers are dropped, and it names none any
+    /// more. All blocks and replicas stay. Takes no memory.
     pub fn abort_report(&mut self, report: &mut Report)
         ensures told { told report.new ≡ [] }
         ensures blocks { blocks_of self.new.arena ≡ blocks_of self.old.arena }
@@ -103,8 +105,8 @@ impl LeveledBlocks {
         self.arena.lawful();
     }
 
-    /// A replica of a block was received on a storage, for which its number was looked up: it is
-    /// there, and leaves the other storages of the node. Takes no memory.
+    /// Adds a received replica of a block, after its look-up, and removes those on the other
+    /// storages of the node. Takes no memory.
     pub fn receive(
         &mut self,
         report: &Report,
@@ -128,8 +130,8 @@ impl LeveledBlocks {
         applied
     }
 
-    /// Makes the replicas on a storage those of the report that was made ready, and judges the blocks that changed: none where all that
-    /// is named stands already. Takes no memory.
+    /// Makes the replicas on a storage those of the prepared report, and reclassifies the blocks
+    /// that changed: none if the report is unchanged. Takes no memory.
     pub fn apply_report(
         &mut self,
         report: &mut Report,

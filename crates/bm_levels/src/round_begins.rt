@@ -18,14 +18,15 @@ use bm_arena::Slot;
 use bm_base::{BlockId, ReplicaId};
 use bm_topo::Topology;
 
-/// So many surplus replicas of one block, or fewer, are marked one after another.
+/// Up to this number of surplus replicas of one block are marked one after another.
 const FEW: usize = 2;
 
 impl LeveledBlocks {
-    /// As a round begins: marks of excess whose delete was not ordered are dropped, and the replicas of `surplus` are in excess. Goes
-    /// once over the replicas of the unsettled blocks. Of `surplus` it looks up each, or where there are more than two of a block that
-    /// block once, and goes over its replicas and those listed together; only blocks whose marks change are judged anew,
-    /// and settled blocks are not looked at. Takes no memory.
+    /// As a round begins: drops the marks of excess whose delete was not ordered, and marks the
+    /// replicas of `surplus` as excess. Iterates once over the replicas of the unsettled blocks.
+    /// Looks up each replica of `surplus`. If a block has more than two, it looks that block up
+    /// once, and iterates over its replicas and the listed ones together. Only blocks whose marks
+    /// change are reclassified, and settled blocks are not scanned. Takes no memory.
     pub fn mark_excess_anew(&mut self, topology: &Topology, surplus: &[ReplicaId])
         requires surplus { surplus.now
             ≡ parts.surplus topology.now.cluster (at_round_start self.old.arena) }
@@ -41,8 +42,8 @@ impl LeveledBlocks {
         self.mark_surplus(topology, surplus);
     }
 
-    /// Marks of excess whose delete was not ordered are dropped at each unsettled slot. A slot leaves the set where its block is settled
-    /// then; so the one behind it is taken before.
+    /// Drops the marks of excess whose delete was not ordered at each unsettled slot. A slot leaves
+    /// the set if its block is settled then; so the next one is read before.
     fn begin_marks(&mut self, topology: &Topology)
         ensures begun { (slot : ℕ) → IsUnsettled self.old.kept slot
             → replicas_at self.new.arena slot
@@ -62,7 +63,8 @@ impl LeveledBlocks {
         }
     }
 
-    /// Marks of excess whose delete was not ordered are dropped at an unsettled slot; its block is judged anew where there is one.
+    /// Drops the marks of excess whose delete was not ordered at an unsettled slot; its block is
+    /// reclassified if there was one.
     fn begin_at(&mut self, topology: &Topology, slot: Slot)
         requires { IsUnsettled self.old.kept slot }
         ensures begun { replicas_at self.new.arena slot
@@ -79,7 +81,7 @@ impl LeveledBlocks {
         }
     }
 
-    /// The replicas of a list are in excess, as far as they are there. Those of one block stand side by side.
+    /// Marks the existing replicas of a list as excess. Those of one block are contiguous.
     fn mark_surplus(&mut self, topology: &Topology, surplus: &[ReplicaId])
         requires { AreInOrder surplus.now }
         ensures replicas { replicas_of self.new.arena
@@ -99,8 +101,8 @@ impl LeveledBlocks {
         }
     }
 
-    /// The replicas of a list, which are of one block, are in excess, as far as they are there: one after another where they are few, as
-    /// nearly always.
+    /// Marks the existing replicas of a list, all of one block, as excess: one after another if
+    /// they are few, as is nearly always so.
     fn mark_group(&mut self, topology: &Topology, block: BlockId, group: &[ReplicaId])
         requires block { AreOfBlock block group.now }
         requires order { AreByStorage group.now }
@@ -120,7 +122,7 @@ impl LeveledBlocks {
         }
     }
 
-    /// The same, where there are some: the block is looked up, gone over and judged once.
+    /// The same for several: the block is looked up, scanned and reclassified once.
     fn mark_together(&mut self, topology: &Topology, block: BlockId, group: &[ReplicaId])
         requires some { 0 < length group.now }
         requires block { AreOfBlock block group.now }
@@ -142,7 +144,8 @@ impl LeveledBlocks {
         self.kept.judge_in(topology, &self.arena, slot);
     }
 
-    /// The replicas of a list are in excess, as far as they are there: each is looked up, and its block judged anew.
+    /// Marks the existing replicas of a list as excess: each is looked up, and its block
+    /// reclassified.
     fn mark_each(&mut self, topology: &Topology, listed: &[ReplicaId])
         ensures replicas { replicas_of self.new.arena
             ≡ revise (replicas_of self.old.arena)

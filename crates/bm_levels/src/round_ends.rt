@@ -15,9 +15,10 @@ use bm_base::{BlockId, Delete, Marks, Part, StorageId, shard_of};
 use bm_topo::Topology;
 
 impl LeveledBlocks {
-    /// As a round ends: the replicas of the part's own numbers that are commanded to be deleted are ordered. Each delete takes a look-up
-    /// of its block, and a look at the place among the block's replicas at which the one before it stood, or else along all of them; the
-    /// block is judged anew only where the replica counted fully. Takes no memory.
+    /// As a round ends: orders the commanded deletes of the part's own numbers. Each delete takes a
+    /// look-up of its block, and a read at the index of the replica before it, or else a scan of
+    /// all the block's replicas. The block is reclassified only if the replica was unmarked. Takes
+    /// no memory.
     pub fn mark_ordered(&mut self, topology: &Topology, deletes: &[Delete], part: Part)
         requires part { part.index < part.shards }
         ensures replicas { replicas_of self.new.arena
@@ -35,8 +36,9 @@ impl LeveledBlocks {
         }
     }
 
-    /// The delete of a replica is ordered, if it is there. `guess` is a guess of its place among those of its block, and is then that place:
-    /// the next delete is mostly of the same storage, and blocks of a storage mostly have their replicas in one order.
+    /// Orders the delete of a replica, if it exists. `guess` is a guess of its index in its block,
+    /// and is then that index: the next delete is mostly of the same storage, and blocks of a
+    /// storage mostly have their replicas in one order.
     fn mark_one_ordered(
         &mut self,
         topology: &Topology,
@@ -59,8 +61,9 @@ impl LeveledBlocks {
         }
     }
 
-    /// The delete of the replica on a storage of the block at a slot is ordered, which has these marks, with a guess of its place. Whether it
-    /// was ordered makes no difference to the block's level; and none to whether the block is settled, where the replica had some mark before.
+    /// Marks the replica's delete as ordered. The level does not depend on that, and a replica that
+    /// was already marked was unsettled before, so the block is reclassified only if the replica
+    /// was unmarked.
     fn order_delete(
         &mut self,
         topology: &Topology,
@@ -98,7 +101,8 @@ fn with_order(marks: Marks) -> Marks
     }
 }
 
-/// The place of the replica on a storage among those of the block at a slot: the guess, where it is right; 0 where there is none.
+/// The index of the replica on a storage in the block at a slot: the guess, if it is right; 0 if
+/// there is none.
 fn place_of(arena: &Arena, slot: Slot, storage: StorageId, guess: usize) -> usize {
     if is_at(arena, slot, storage, guess) {
         return guess;
@@ -111,7 +115,7 @@ fn place_of(arena: &Arena, slot: Slot, storage: StorageId, guess: usize) -> usiz
     0
 }
 
-/// Whether the replica at a place among those of the block at a slot is on a storage.
+/// Whether the replica at an index of the block at a slot is on a storage.
 fn is_at(arena: &Arena, slot: Slot, storage: StorageId, place: usize) -> bool {
     match arena.triplet_at(slot, place) {
         Some((found, _)) => found == storage,
@@ -119,7 +123,7 @@ fn is_at(arena: &Arena, slot: Slot, storage: StorageId, place: usize) -> bool {
     }
 }
 
-/// The marks of the replica on a storage of the block at a slot, which most likely stands at a place among those of the block.
+/// The marks of the replica on a storage of the block at a slot, most likely at this index.
 fn marks_near(arena: &Arena, slot: Slot, storage: StorageId, place: usize) -> Option<Marks>
     ensures { result ≡ marks_at arena.now slot storage }
 {

@@ -1,4 +1,4 @@
-// The slots at which a round has to look.
+// The slots that a round has to scan.
 ghost use Rattle.std.specs.Prelude.{◌≡◌, ◌∷◌, length, Some};
 ghost use Rattle.bm_base.specs.Lists.{has};
 ghost use Rattle.bm_base.specs.SlotLists.{Distinct};
@@ -25,8 +25,8 @@ impl KeptLevels {
         self.unsettled.first()
     }
 
-    /// The slot behind an unsettled one. From there on those are to come that stand behind it: the slot itself may be judged without
-    /// a change to them.
+    /// The next unsettled slot. `slot` may then be removed or inserted again without a change to
+    /// the rest of the iteration.
     pub(crate) fn next_unsettled(&self, slot: Slot) -> Option<Slot>
         requires { IsUnsettled self.now slot }
         ensures on { IsOn result self.now.unsettled.slots }
@@ -38,7 +38,7 @@ impl KeptLevels {
         self.unsettled.next(slot)
     }
 
-    /// Whether a round has to look at a slot.
+    /// Whether a round has to scan a slot.
     pub fn is_unsettled(&self, slot: Slot) -> bool
         ensures { result ≡ has self.now.unsettled.slots slot }
     {

@@ -1,4 +1,5 @@
--- The object that asks for a call has whole numbers below 2^64, plain names, and nests three deep at most.
+-- The object that asks for a call has whole numbers below 2^64, plain names, and nests three deep
+-- at most.
 use Rattle.std.proofs.Common.{◌≡◌, ℕ, suc, ◌==◌, ◌<◌, ◌≤◌, ◌^◌, Bool, true, false, All, List, [], ◌∷◌, refl, arith}
 use Rattle.json.specs.Print.{escape_byte, quoted}
 use Rattle.serde_json.specs.Data.{Data, array, Items, depth, items_depth, members_depth}

@@ -1,4 +1,4 @@
--- Lists of values, and what each stands for.
+-- Lists of values, and the item that each represents.
 use Rattle.std.proofs.Common.{◌≡◌, ℕ, List, [], ◌∷◌, Option, refl, ap}
 use Rattle.std.specs.Prelude.{Some, None, map, option_and_then}
 use Rattle.serde_json.specs.Data.{Data}

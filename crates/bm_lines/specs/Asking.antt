@@ -1,5 +1,5 @@
--- The line that asks for a call, without its line end: its op, and then the fields of that op in the order of docs/FORMATS.md,
--- with no space.
+-- The line that asks for a call, without its line end: its op, and then the fields of that op in
+-- the order of docs/FORMATS.md, with no space.
 use Rattle.std.specs.Prelude.{ℕ, ◌==◌, Bool, true, false, List, [], ◌∷◌, ◌++◌, if◌then◌else◌, codes, decimal}
 use Rattle.std.specs.List.{flat_map}
 use Rattle.bm_base.specs.declared.replica.Stamp.{Stamp}
@@ -46,7 +46,7 @@ call_op (call.Retired node) = codes "retired"
 call_op call.Calls = []
 call_op call.Rounds = []
 
--- Fields, each behind another: a name, and a number or a list.
+-- Fields, one after another: a name, and a number or a list.
 
 abbrev pub number_text : List ℕ → ℕ → List ℕ
 number_text name n = codes ",\"" ++ (name ++ (codes "\":" ++ decimal n))

@@ -1,4 +1,4 @@
--- What the buffer of a line says of the bytes since the last line end.
+-- The buffer of a line, by the bytes since the last line end.
 use Rattle.std.specs.Prelude.{◌≡◌, ℕ, ◌<◌, ◌≤◌, Bool, true, false, ◌||◌, nat_lt, List, length}
 use Rattle.bm_lines.specs.declared.line.Line.{Line}
 use Rattle.bm_lines.specs.declared.limits.TheConstants.{MAX_LINE}

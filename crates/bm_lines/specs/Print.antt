@@ -18,7 +18,7 @@ use Rattle.bm_base.specs.declared.call.Answer.TheVariants as answer
 use Rattle.bm_base.specs.Refusals.{refusal_number}
 use Rattle.bm_base.specs.Names.{refusal_name, tag_name}
 
--- Items, each behind a semicolon and a space.
+-- Items, each after a semicolon and a space.
 
 abbrev pub number_item : ℕ → List ℕ
 number_item n = codes "; " ++ decimal n

@@ -1,8 +1,9 @@
-//! The lines of the tool, for every program that reads or writes them: the bytes of an input cut into lines, a line read as a call,
-//! the line that asks for a call, and the line of an answer.
+//! The lines of the tool, for every program that reads or writes them: the bytes of an input cut
+//! into lines, a line read as a call, the line that asks for a call, and the line of an answer.
 //!
-//! `specs/` says what the lines of an input are (`Lines`), which call a line asks for (`CallOf`), which line asks for a call
-//! (`Asking`) and what is printed for an answer (`Print`). `CALLING.md` has a caller.
+//! `specs/` defines the lines of an input (`Lines`), the call that a line asks for (`CallOf`), the
+//! line that asks for a call (`Asking`) and the text of an answer (`Print`). `CALLING.md` has a
+//! caller.
 #![tactic(auto)]
 
 mod limits;

@@ -8,7 +8,8 @@ use std::alloc::{AllocError, Global};
 
 pub const LINE_END: u8 = b'\n';
 
-/// The bytes of a line so far, or that there are too many. It never holds more than the longest line.
+/// The bytes of a line so far, or that there are too many. It never holds more than the longest
+/// line.
 #[derive(Drop)]
 pub struct Line {
     pub bytes: Vec<u8>,
@@ -63,7 +64,7 @@ impl Line {
     }
 }
 
-/// Where the first line end stands.
+/// The index of the first line end.
 pub fn line_end(bytes: &[u8]) -> Option<usize>
     ensures none { IfNone result (IsPart bytes.now) }
     ensures part { IfSome result (λ at. IsPart (take at bytes.now)) }

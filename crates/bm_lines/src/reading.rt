@@ -1,4 +1,5 @@
-// A line as a call: read by its bytes where it is in canonical form, else by the value that `serde_json` reads of it.
+// A line as a call: read by its bytes where it is in canonical form, else by the value that
+// `serde_json` reads of it.
 
 mod call;
 mod fields;

@@ -18,9 +18,10 @@ pub fn has_op(call: &Call) -> bool
     !matches!(call, Call::Calls | Call::Rounds)
 }
 
-/// The line that asks for the call, without its line end. It may be longer than a line may be (`MAX_LINE`) where the call has a long
-/// list, and then the tool answers `refused 21 LongLine`: the caller sees to its length. An item of a report takes at most 86 bytes with
-/// its comma, so 48,000 entries fit in any case.
+/// The line that asks for the call, without its line end. It may be longer than `MAX_LINE` if the
+/// call has a long list, and then the tool answers `refused 21 LongLine`: the caller has to watch
+/// its length. An item of a report takes at most 86 bytes with its comma, so 48,000 entries always
+/// fit.
 pub fn line_of(alloc: Global, call: &Call) -> Result<String, AllocError>
     requires { has_op call.now ≡ true }
     ensures text { IfOk result (λ s. string_bytes s ≡ line_text call.now) }

@@ -1,4 +1,4 @@
--- Going over a list by places.
+-- Iteration over a list by indices.
 use Rattle.std.proofs.Common.{◌≡◌, ℕ, zero, suc, ◌+◌, ◌<◌, ◌≤◌, List, [], ◌∷◌, length, drop, Some, None, ap, sym, ◌∙◌, arith, drop_of_length-le}
 use Rattle.std.specs.Prelude.{slice_get}
 use Rattle.std.proofs.lemmas.List.{length-map}

@@ -1,4 +1,4 @@
--- Numbers that are sorted: of what stands in a rising list, each once, it is the list.
+-- Sorted numbers: an ascending list is determined by its members, if each occurs once.
 use Rattle.std.proofs.Common.{◌≡◌, ℕ, Bool, true, false, cond, List, [], ◌∷◌, map, filter, Ordering, Equal, refl, sym, ap, subst, inl, inr, ◌∙◌, T}
 use Rattle.std.specs.Prelude.{◌==◌}
 use Rattle.std.specs.Ordering.{nat_cmp, eq_by_cmp, is_lt, ordering_then}

@@ -1,4 +1,4 @@
--- Slots with blocks of their own: the numbers of these, and what is found by them.
+-- Slots with blocks of their own: their numbers, and what is found by them.
 use Rattle.std.proofs.Common.{◌≡◌, ◌≢◌, ℕ, List, [], ◌∷◌, map, length, get_or, Option, Some, None, is_some, refl, sym, ap, subst, inl, inr, ◌∙◌, ◌<◌, arith, zero, suc}
 use Rattle.std.specs.Prelude.{IsSome}
 use Rattle.std.specs.Option.{option_map_or}

@@ -1,4 +1,4 @@
--- A node is held back just where a block waits in the list of one of its storages, while it drains.
+-- A node is held back exactly if a block waits in the list of one of its storages, while it drains.
 use Rattle.std.proofs.Common.{◌≡◌, ℕ, Bool, true, false, not, ◌&&◌, List, [], ◌∷◌, length, Option, Some, None, is_some, refl, sym, ap, inl, inr, ◌∙◌, arith}
 use Rattle.std.specs.Prelude.{nat_lt, nat_le, option_and_then}
 use Rattle.std.specs.Option.{option_map_or}

@@ -1,4 +1,5 @@
--- What is come upon at the slots of an arena, in their order, and the rising lists that are made of it.
+-- The elements found at the slots of an arena, in their order, and the ascending lists made of
+-- them.
 use Rattle.std.specs.Prelude.{◌≡◌, ℕ, Bool, true, false, ◌&&◌, nat_lt, List, [], length, map, filter, flat_map, Option, Some, is_some}
 use Rattle.std.specs.Option.{option_map_or, unwrap_or}
 use Rattle.std.specs.List.{list_any}
@@ -33,7 +34,7 @@ listed_at p o = option_map_or (λ (b : Block). map (shown b.id) (filter (λ r. p
 abbrev pub listed_on : (Marks → Bool) → Contents → List ℕ → List Replica
 listed_on p a slots = flat_map (λ slot. listed_at p (block_at a slot)) slots
 
--- the replicas of a map that pass, rising
+-- the replicas of a map that pass, ascending
 abbrev pub replicas_passing : (Marks → Bool) → Map by_replica Marks → List Replica
 replicas_passing p m = map (λ e. record { block = e.0.block; storage = e.0.storage; tag = e.1.tag }) (filter (λ e. p e.1) (entries m))
 
@@ -57,7 +58,7 @@ waits_for C a n storage = (has_storage C n storage && is_draining C storage) && 
 abbrev pub known_on : Contents → List ℕ → List (ℕ × ℕ)
 known_on a slots = map (λ slot. (id_at a slot, slot)) (filter (λ slot. is_some (info_at a slot)) slots)
 
--- a block's number stands beside its slot
+-- a block's number is paired with its slot
 abbrev pub HasItsSlot : Contents → ℕ × ℕ → Type 0
 HasItsSlot a e = slot_of a e.0 ≡ Some e.1
 

@@ -11,7 +11,8 @@ use bm_base::{BlockId, Items, Level, Refusal, StorageId};
 use bm_levels::LeveledBlocks;
 use std::alloc::Global;
 
-/// The blocks of all replicas on a storage, whatever their tags, rising. Walks the storage's list alone. May answer `Memory`.
+/// The blocks of all replicas on a storage, whatever their tags, ascending. Walks the storage's
+/// list alone. May answer `Memory`.
 pub fn blocks_on(
     alloc: Global,
     blocks: &LeveledBlocks,
@@ -33,7 +34,8 @@ pub fn blocks_on(
     Ok(Items::from_vec(ids))
 }
 
-/// The known blocks of which no replica is usable, rising. Walks the list of that level alone. May answer `Memory`.
+/// The known blocks without a usable replica, ascending. Walks the list of that level alone. May
+/// answer `Memory`.
 pub fn missing_blocks(alloc: Global, blocks: &LeveledBlocks) -> Result<Items<BlockId>, Refusal>
     ensures missing { (C : Cluster) → AreLevels C blocks.now → (pending : Map by_replica ℕ)
         → IfOk result (λ v. v ≡ queries.missing_blocks C (holdings_with blocks.now.arena pending)) }

@@ -38,7 +38,8 @@ fn live_count(topology: &Topology, arena: &Arena, slot: Slot) -> usize
     count
 }
 
-/// Whether fewer replicas of the block at a slot are live than are wanted; not where it is no known block.
+/// Whether fewer replicas of the block at a slot are live than are wanted; not if the block is
+/// unknown.
 fn lacks_live(topology: &Topology, arena: &Arena, slot: Slot) -> bool
     ensures { result ≡ lacks_live topology.now.cluster (block_at arena.now slot) }
 {
@@ -84,8 +85,9 @@ fn waits_for(topology: &Topology, arena: &Arena, node: NodeId, storage: StorageI
     }
 }
 
-/// Whether a block holds a node back: it has a drained replica there, and fewer live ones than are wanted. Walks the lists of the
-/// node's storages alone, and those only where it drains. Takes no memory.
+/// Whether a block holds a node back: it has a drained replica there, and fewer live ones than are
+/// wanted. Walks the lists of the node's storages alone, and those only if it drains. Takes no
+/// memory.
 pub fn is_held_back(blocks: &LeveledBlocks, topology: &Topology, node: NodeId) -> bool
     ensures { (pending : Map by_replica ℕ)
         → result ≡ holds_back topology.now.cluster node (holdings_with blocks.now.arena pending) }

@@ -1,7 +1,8 @@
-//! What can be asked of a shard's blocks and replicas, whose arena is in no order: what is asked for is gathered, and then sorted.
+//! The queries of a shard's blocks and replicas. The arena has no order, so the answer is gathered,
+//! and then sorted.
 //!
-//! Only calls that answer with a list take memory. A call about one block or one storage looks at the replicas there alone; one about a node looks at
-//! the blocks on its storages.
+//! Only calls that return a list take memory. A call about one block or one storage scans the
+//! replicas there alone; one about a node scans the blocks on its storages.
 #![tactic(auto)]
 
 mod blocks;

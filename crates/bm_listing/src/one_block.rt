@@ -1,4 +1,4 @@
-// What is asked of one block, at its own replicas alone.
+// Queries of one block, at its own replicas alone.
 ghost use Rattle.std.specs.Prelude.{◌≡◌, ◌++◌, ℕ, IfOk, IfErr, OnOk};
 ghost use Rattle.std.specs.List.{list_any};
 ghost use Rattle.bm_base.specs.declared.refusal.Refusal.TheVariants.{Memory};
@@ -16,7 +16,7 @@ use bm_base::{BlockId, Items, Refusal, StorageId};
 use bm_levels::LeveledBlocks;
 use std::alloc::Global;
 
-/// Puts the storages of the good replicas at a slot behind those that are there.
+/// Appends the storages of the good replicas at a slot.
 pub(crate) fn push_good(arena: &Arena, slot: Slot, into: &mut Vec<StorageId>) -> Result<(), Refusal>
     ensures items { OnOk result (into.new.items ≡ into.old.items
         ++ storages_at (λ _ m. replicas.is_good m.tag) (replicas_at arena.now slot)) }
@@ -32,7 +32,7 @@ pub(crate) fn push_good(arena: &Arena, slot: Slot, into: &mut Vec<StorageId>) ->
     Ok(())
 }
 
-/// The storages of the block's good replicas, rising. May answer `Memory`.
+/// The storages of the block's good replicas, ascending. May answer `Memory`.
 pub fn places(
     alloc: Global,
     blocks: &LeveledBlocks,

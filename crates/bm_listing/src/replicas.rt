@@ -34,7 +34,7 @@ fn wants(wanted: Wanted, marks: Marks) -> bool
     }
 }
 
-/// Puts the replicas at a slot that are wanted behind those that are there.
+/// Appends the replicas at a slot that are of the given kind.
 fn push_replicas(
     arena: &Arena,
     slot: Slot,
@@ -61,7 +61,7 @@ fn push_replicas(
     Ok(())
 }
 
-/// The replicas that are wanted, in the order of the arena.
+/// The replicas of the given kind, in the order of the arena.
 fn gather(alloc: Global, arena: &Arena, wanted: Wanted) -> Result<Vec<Replica>, Refusal>
     ensures items { IfOk result
         (λ v. v.items ≡ listed_on (wants wanted) arena.now (slots_led arena.now)) }
@@ -98,7 +98,7 @@ pub fn replica_keys(alloc: Global, replicas: &[Replica]) -> Result<Vec<ReplicaId
     Ok(keys)
 }
 
-/// The replicas that are wanted, by block and storage. May answer `Memory`.
+/// The replicas of the given kind, by block and storage. May answer `Memory`.
 #[tactic(auto, unfolding(bm_levels::specs::Held::holdings_with))]
 pub fn list_replicas(
     alloc: Global,

@@ -19,7 +19,7 @@ use bm_base::{BlockId, Items, Places, Refusal, StorageId};
 use bm_levels::LeveledBlocks;
 use std::alloc::Global;
 
-/// Puts the block at a slot, where it is known, with the slot behind those that are there.
+/// Appends the block at a slot, with the slot, if it is known.
 fn push_known(arena: &Arena, slot: Slot, into: &mut Vec<(BlockId, Slot)>) -> Result<(), Refusal>
     requires { IsSome (block_at arena.now slot) }
     ensures items { OnOk result (into.new.items ≡ into.old.items
@@ -47,7 +47,7 @@ fn gathered_blocks(alloc: Global, arena: &Arena) -> Result<Vec<(BlockId, Slot)>,
     Ok(known)
 }
 
-/// The known blocks with their slots, rising.
+/// The known blocks with their slots, ascending.
 fn known_blocks(alloc: Global, arena: &Arena) -> Result<Vec<(BlockId, Slot)>, Refusal>
     ensures blocks { IfOk result
         (λ v. v.items ≡ map (with_slot arena.now) (keys (blocks_of arena.now))) }
@@ -60,7 +60,7 @@ fn known_blocks(alloc: Global, arena: &Arena) -> Result<Vec<(BlockId, Slot)>, Re
     Ok(known)
 }
 
-/// The first of a block's places. `storages` is room for all of them.
+/// The first of a block's places. `storages` is a scratch buffer.
 fn first_places(
     arena: &Arena,
     id: BlockId,
@@ -80,7 +80,8 @@ fn first_places(
     Ok(Places::first_of(storages.as_slice()))
 }
 
-/// For each known block, rising, the first of its places. Each row is made once, at its own place. May answer `Memory`.
+/// For each known block, ascending, the first of its places. Each row is made once, in its place.
+/// May answer `Memory`.
 pub fn table_rows(
     alloc: Global,
     blocks: &LeveledBlocks,

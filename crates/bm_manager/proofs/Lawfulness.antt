@@ -1,4 +1,4 @@
--- What a manager is made of is a lawful state.
+-- The parts of a manager are a lawful state.
 use Rattle.std.proofs.Common.{◌≡◌, ℕ, ◌+◌, ◌<◌, None, sym, ap, subst, ◌∙◌}
 use Rattle.bm_base.specs.declared.config.Config.{Config}
 use Rattle.bm_base.specs.declared.event.Event.{Event}

@@ -1,4 +1,4 @@
--- A whole round is the fleet's, of the state that a manager is.
+-- A whole round of the shards is a round of the manager's state.
 use Rattle.std.proofs.Common.{◌≡◌, ◌+◌, Result, Ok, Err, refl, sym, ap, subst, ◌∙◌}
 use Rattle.std.specs.Prelude.{IfOk, OnOk}
 use Rattle.bm_base.specs.declared.refusal.Refusal.{Refusal}

@@ -16,7 +16,7 @@ use Rattle.bm_base.specs.Refusals.{refusal_of, round_refusal, node_refusal, stor
 use Rattle.bm_base.specs.Rounds.{whole_round}
 use Rattle.bm_base.specs.Answering.{Refuses, MayAnswer, state_left, call_takes_memory, is_refused, wants_memory}
 
--- a call whose definition refuses by o, and else answers x.0 and leaves x.1
+-- a call whose definition refuses by o, and else answers x.0 with next state x.1
 module _ (M : State) (k : Call) (o : Option Refusal) (x : Answer × State) (s : step M k ≡ refused_or M o x) where
   pub ok_answer : (a : Answer) → o ≡ None → a ≡ x.0 → MayAnswer step M k a
   ok_answer a none is = inl (is ∙ sym (ap (λ y. y.0) (s ∙ ap (λ q. refused_or M q x) none)))
@@ -45,7 +45,7 @@ module _ (M : State) (k : Call) (o : Option Refusal) (x : Answer × State) (s : 
   pub err_left : (N : State) (r : Refusal) → Refuses o (call_takes_memory k) r → N ≡ M → N ≡ state_left step M k (answer.Refused r)
   err_left N r h is = is ∙ err_left_by o (call_takes_memory k) refl r h
 
--- a call that the definition never refuses: its answer, and want of memory
+-- a call that the definition never refuses: its answer, and out of memory
 pub step_answer : (M : State) (k : Call) (a : Answer) (x : Answer × State) → step M k ≡ x → a ≡ x.0 → MayAnswer step M k a
 step_answer M k a x s is = inl (is ∙ sym (ap (λ y. y.0) s))
 

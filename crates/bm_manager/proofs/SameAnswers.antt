@@ -8,7 +8,7 @@ use Rattle.bm_base.specs.Answering.{MayAnswer, MayAnswerAll, state_left, wants_m
 use Rattle.bm_manager.specs.Alike.{AreAlike}
 
 module _ (step : State → Call → Answer × State) where
-  -- an answer that lacks no memory is the step's, and leaves what the step leaves
+  -- an answer other than out of memory is the step's, and so is the next state
   the_steps : (M : State) (k : Call) (x : Answer) → MayAnswer step M k x → wants_memory x ≡ false → x ≡ (step M k).0
   the_steps M k x (inl is) e = is
   the_steps M k x (inr h) e = let lacks : true ≡ false = ap wants_memory (sym h.1) ∙ e in cc

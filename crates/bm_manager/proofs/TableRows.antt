@@ -1,4 +1,4 @@
--- The rows of a table rise by the numbers of their blocks.
+-- The rows of a table are ascending by the numbers of their blocks.
 use Rattle.std.specs.Prelude.{◌≡◌, ◌<◌, ℕ, List, [], ◌∷◌, map, take, AllPairs, T}
 use Rattle.std.specs.List.{All}
 use Rattle.std.specs.FinMap.{is_sorted}

@@ -3,8 +3,9 @@ use Rattle.std.specs.Prelude.{◌≡◌, ◌||◌, IsTrue, ◌⊎◌, List, [], 
 use Rattle.bm_base.specs.declared.call.Answer.{Answer}
 use Rattle.bm_base.specs.Answering.{wants_memory}
 
--- Place by place the answers are equal, up to the first place at which memory lacked in one of the two lists. From there on
--- nothing is said: one of the two has left out a call that the other one may have made.
+-- The answers are equal pairwise, up to the first index at which one of the two lists is out of
+-- memory. After that they may differ: one of the two has skipped a call that the other one may have
+-- made.
 abbrev pub AreAlike : List Answer → List Answer → Type 0
 AreAlike [] [] = Unit {0}
 AreAlike (x ∷ xs) (y ∷ ys) = IsTrue (wants_memory x || wants_memory y) ⊎ ((x ≡ y) × AreAlike xs ys)

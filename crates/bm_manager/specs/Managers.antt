@@ -1,4 +1,5 @@
--- What holds of the parts of a manager: its configuration, its cluster, its shards and its two numbers.
+-- The invariant of the parts of a manager: its configuration, its cluster, its shards and its two
+-- numbers.
 use Rattle.std.specs.Prelude.{◌≡◌, ℕ, None}
 use Rattle.bm_base.specs.declared.config.Config.{Config}
 use Rattle.bm_base.specs.State.{Cluster, Holdings, State, limits_of}

@@ -14,11 +14,12 @@ use std::alloc::Global;
 use std::sync::Wait;
 use std::thread::Threads;
 
-/// Makes the calls on a manager of this configuration, and on a second one with other shards and workers. Returns the
-/// answers of both, which are equal up to the first call that ran out of memory.
+/// Makes the calls on a manager of this configuration, and on a second one with other shards and
+/// workers. Returns the answers of both, which are equal up to the first call that ran out of
+/// memory.
 ///
-/// Both are a run of the definition from the same state. The refusals are those of [`Manager::new`] for either
-/// configuration, and `Memory`.
+/// Both are a run of the definition from the same state. The refusals are those of [`Manager::new`]
+/// for either configuration, and `Memory`.
 pub fn answers_alike<R: Threads + Wait + Sync>(
     alloc: Global,
     rt: &R,
@@ -47,7 +48,8 @@ pub fn answers_alike<R: Threads + Wait + Sync>(
     Ok((answers, other_answers))
 }
 
-/// [`answers_alike`], where the second manager has this number of shards, and the calling thread alone works its calls.
+/// [`answers_alike`], where the second manager has `shards` shards, and the calling thread alone
+/// works its calls.
 pub fn answers_alike_alone<R: Threads + Wait + Sync>(
     alloc: Global,
     rt: &R,

@@ -1,4 +1,4 @@
-// What can be asked of a manager. No question changes anything, and none counts as an accepted call.
+// The queries of a manager. No query changes anything, and none counts as an accepted call.
 ghost use Rattle.std.specs.Prelude.{◌≡◌, true, false, None, IfOk, IfErr, OnOk};
 ghost use Rattle.bm_base.specs.Queries as queries;
 ghost use Rattle.bm_base.specs.Levels as levels;
@@ -48,7 +48,8 @@ impl Manager {
         self.fleet.excess()
     }
 
-    /// The blocks of all replicas on a storage, whatever their tags, rising. `UnknownStorage`; `Memory`.
+    /// The blocks of all replicas on a storage, whatever their tags, ascending. `UnknownStorage`;
+    /// `Memory`.
     #[tactic(auto, unfolding(bm_base::specs::Refusals::storage_refusal))]
     pub fn blocks_on(&self, storage: StorageId) -> Result<Items<BlockId>, Refusal>
         ensures known { OnOk result (storage_refusal self.now.cluster storage ≡ None) }
@@ -61,7 +62,7 @@ impl Manager {
         self.fleet.blocks_on(storage)
     }
 
-    /// The known blocks of which no replica is usable, rising. `Memory`.
+    /// The known blocks without a usable replica, ascending. `Memory`.
     pub fn missing(&self) -> Result<Items<BlockId>, Refusal>
         ensures missing { IfOk result
             (λ v. v ≡ queries.missing_blocks self.now.cluster self.now.holdings) }
@@ -70,7 +71,8 @@ impl Manager {
         self.fleet.missing(&self.topology)
     }
 
-    /// The storages of the block's good replicas, in excess or not, rising. `UnknownBlock`; `Memory`.
+    /// The storages of the block's good replicas, in excess or not, ascending. `UnknownBlock`;
+    /// `Memory`.
     pub fn places(&self, id: BlockId) -> Result<Items<StorageId>, Refusal>
         ensures known { OnOk result (block_refusal self.now.holdings id ≡ None) }
         ensures places { IfOk result (λ v. v ≡ queries.places self.now.holdings id) }
@@ -79,8 +81,8 @@ impl Manager {
         self.fleet.places(id)
     }
 
-    /// Whether a node can be taken away: it drains, and each block with a drained replica on it has as many live ones as are
-    /// wanted. `UnknownNode`. Takes no memory.
+    /// Whether a node is decommissioned and can be switched off: it drains, and each block with a
+    /// drained replica on it has as many live ones as are wanted. `UnknownNode`. Takes no memory.
     #[tactic(auto, unfolding(bm_base::specs::Refusals::node_refusal, bm_base::specs::Queries::is_retired, bm_parts::specs::QueryLaws::holds_back))]
     pub fn retired(&self, node: NodeId) -> Result<bool, Refusal>
         ensures known { OnOk result (node_refusal self.now.cluster node ≡ None) }
@@ -94,7 +96,8 @@ impl Manager {
         }
     }
 
-    /// How urgently the block wants replicas; `None` where it wants none. `UnknownBlock`. Takes no memory.
+    /// How urgently the block needs replicas; `None` if it needs none. `UnknownBlock`. Takes no
+    /// memory.
     pub fn level(&self, id: BlockId) -> Result<Option<Level>, Refusal>
         ensures known { OnOk result (block_refusal self.now.holdings id ≡ None) }
         ensures level { IfOk result (λ l. l ≡ levels.level self.now.cluster self.now.holdings id) }

@@ -13,8 +13,8 @@ use std::sync::Wait;
 use std::thread::Threads;
 
 impl Manager {
-    /// Makes one call. Its answer is the definition's, or, where the definition refuses nothing and the call is one that
-    /// takes memory, `Memory`; a call refused for want of memory leaves the state as it was.
+    /// Makes one call. Its answer is the definition's. If the definition refuses nothing and the
+    /// call takes memory, it may also be `Memory`, and then the state is as before.
     pub fn answer<R: Threads + Wait + Sync>(
         &mut self,
         rt: &R,
@@ -87,9 +87,10 @@ impl Manager {
         }
     }
 
-    /// Makes the calls one after another, and gives the answer of each: a run of the definition, in which a call that was
-    /// refused for want of memory is passed over. An `Err` comes before the first call, where there is no room for the answers.
-    /// Whatever the calls and the answers are, the state that they leave is lawful.
+    /// Makes the calls one after another, and returns the answer of each: a run of the definition
+    /// that skips the calls that ran out of memory. An `Err` comes before the first call, if the
+    /// list of answers cannot be allocated. Whatever the calls and the answers are, the next state
+    /// is lawful.
     pub fn answer_all<R: Threads + Wait + Sync>(
         &mut self,
         rt: &R,

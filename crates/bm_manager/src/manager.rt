@@ -16,11 +16,12 @@ use std::marker::Model;
 use std::sync::Wait;
 use std::thread::Threads;
 
-/// Knows on which storages every block lies, and decides about replication for a cluster.
+/// Knows on which storages every block is, and decides about replication for a cluster.
 ///
-/// A contract sees it as the state of the definitions: the limits of its configuration, the cluster, the blocks and their
-/// replicas, the round and the number of accepted calls. The blocks are cut into shards, and a call that concerns all of them is
-/// worked by a crew of threads, or by the calling thread alone; none of this shows in an answer.
+/// A contract sees it as the state of the definitions: the limits of its configuration, the
+/// cluster, the blocks and their replicas, the round and the number of accepted calls. The blocks
+/// are cut into shards, and a call that concerns all of them is worked by a crew of threads, or by
+/// the calling thread alone; no answer depends on that.
 ///
 /// ```text
 /// let mut manager = Manager::new(alloc, Config::standard())?;
@@ -30,8 +31,8 @@ use std::thread::Threads;
 /// let commands = manager.round(&rt, &NoGate)?;
 /// ```
 ///
-/// A refused call has changed nothing; after `Err(Memory)` the same call may be made again. The work of each shard in a call
-/// passes the gate that the call is given; `NoGate` lets it through at once.
+/// A refused call has changed nothing; after `Err(Memory)` the same call may be made again. The
+/// work of each shard in a call passes the call's gate; `NoGate` lets it through at once.
 #[derive(Drop)]
 pub struct Manager {
     pub(crate) alloc: Global,
@@ -57,9 +58,10 @@ impl Model for Manager {
 }
 
 impl Manager {
-    /// An empty manager: no node, no block, and the numbers of the configuration. `BadConfig` where the configuration is
-    /// outside its ranges; `Memory`. Its tables hash by no secret, so numbers can be chosen that make calls slow: where they may come
-    /// from somebody who would, take [`Manager::with_secret`].
+    /// An empty manager: no node, no block, and the numbers of the configuration. `BadConfig` if
+    /// the configuration is outside its ranges; `Memory`. Its tables hash by no secret, so numbers
+    /// can be chosen that make calls slow: if they may come from an attacker, use
+    /// [`Manager::with_secret`].
     pub fn new(alloc: Global, config: Config) -> Result<Manager, Refusal>
         ensures allowed { OnOk result (config_refusal config ≡ None) }
         ensures state { IfOk result (λ m. m ≡ first_state config) }
@@ -89,12 +91,14 @@ impl Manager {
         })
     }
 
-    /// Takes one event. The refusals are those of its variant in their order, then `CallsSpent` where the number of accepted
-    /// calls is at its last value, then `Memory`; a refused event changes nothing. Heartbeat, DeleteBlock, SetReplication,
-    /// Restamp, Deleted and Corrupt take no memory, so they are accepted where no check refuses them.
+    /// Takes one event. The refusals are those of its variant in their order, then `CallsSpent` if
+    /// the number of accepted calls is at its last value, then `Memory`; a refused event changes
+    /// nothing. Heartbeat, DeleteBlock, SetReplication, Restamp, Deleted and Corrupt take no
+    /// memory, so they are accepted if no check refuses them.
     ///
-    /// Register, Dead, StorageFailed, FullReport, Drain and Undrain are worked by the crew, as rounds are, so these calls may
-    /// wait for other threads; AddBlock and Received touch one shard. All memory is taken before the first change.
+    /// Register, Dead, StorageFailed, FullReport, Drain and Undrain are worked by the crew, as
+    /// rounds are, so these calls may wait for other threads; AddBlock and Received touch one
+    /// shard. All memory is taken before the first change.
     pub fn apply<R: Threads + Wait + Sync>(
         &mut self,
         rt: &R,
@@ -112,7 +116,7 @@ impl Manager {
         self.apply_by(&workers, event)
     }
 
-    /// [`Manager::apply`] by the calling thread alone, however many workers are configured: it needs
+    /// [`Manager::apply`] by the calling thread alone, however many workers are configured: needs
     /// no runtime, passes no gate and waits for no thread.
     pub fn apply_alone(&mut self, event: &Event) -> Result<Done, Refusal>
         ensures accepted { OnOk result (refusal_of self.old event.now ≡ None) }
@@ -156,12 +160,13 @@ impl Manager {
         }
     }
 
-    /// Does nothing when it runs: the state is lawful at all times, and this says so to the function that calls it.
+    /// For proofs alone: the state is lawful at all times. Does nothing when it runs.
     ///
-    /// Replicas, and transfers on their way, are on storages of alive nodes; only alive nodes drain; a node has one replica of a
-    /// block at most; a replica is stray just where its block is not known; only good ones are in excess; what is on its way is of a
-    /// known block; there are at most `MAX_NODES` nodes and `MAX_STORAGES` storages, and of each block 1 to `MAX_REPLICATION`
-    /// replicas are wanted; and the numbers fit their types.
+    /// Replicas, and pending transfers, are on storages of alive nodes; only alive nodes drain; a
+    /// node has one replica of a block at most; a replica is stray exactly if its block is unknown;
+    /// only good ones are in excess; pending transfers are of known blocks. There are at most
+    /// `MAX_NODES` nodes and `MAX_STORAGES` storages, and 1 to `MAX_REPLICATION` replicas of each
+    /// block are wanted. The numbers fit their types.
     pub fn lawful(&self)
         ensures { IsLawful self.now }
     {

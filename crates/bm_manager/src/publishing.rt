@@ -1,4 +1,4 @@
-// What readers beside a manager see of it.
+// Versions of a manager's state for readers.
 ghost use Rattle.std.specs.Prelude.{◌≡◌, ◌≤◌, ◌++◌, ◌∷◌, [], IfOk, IfErr, OnOk, OnErr};
 ghost use Rattle.bm_base.specs.declared.refusal.Refusal.TheVariants.{Memory};
 ghost use Rattle.bm_base.specs.Versions.{version};
@@ -13,16 +13,19 @@ use std::sync::{Arc, Wait};
 use std::thread::Threads;
 
 impl Manager {
-    /// Publishes a version of the manager's state to the readers of a view: the number of accepted calls, and for each known block,
-    /// rising, the first `MAX_PLACES` storages of its good replicas. It is made whole before it is shown; it is no call, so it is not
-    /// counted. The last version that the publisher has shown was taken after no more calls, as it is where one publisher serves one
-    /// manager.
+    /// Publishes a version of the manager's state to the readers of a view: the number of accepted
+    /// calls, and for each known block, ascending, the first `MAX_PLACES` storages of its good
+    /// replicas. The version is made whole before it is published; publishing is no call, so it is
+    /// not counted. The publisher's last version has no more calls, as is the case if one publisher
+    /// serves one manager.
     ///
-    /// The rows are made by the crew, and the publisher waits for readers of the version before the last, so the call may wait for other
-    /// threads; no reader waits for it. The cost grows with the known blocks and their replicas.
+    /// The crew makes the rows, and the publisher waits for readers of the version before the last,
+    /// so the call may wait for other threads; no reader waits for it. The cost grows with the
+    /// known blocks and their replicas.
     ///
     /// # Errors
-    /// `Memory`, also where the count of an `Arc` is full. Then the publisher's list of versions stays.
+    /// `Memory`, also if the count of an `Arc` is full. Then the publisher's list of versions
+    /// stays.
     pub fn publish<R: Threads + Wait + Sync>(
         &mut self,
         rt: &R,

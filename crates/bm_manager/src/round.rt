@@ -15,17 +15,19 @@ use std::sync::Wait;
 use std::thread::Threads;
 
 impl Manager {
-    /// Takes one round: the round number grows by one, transfers that are too old are given up, and the live replicas that are
-    /// too many are marked. Then blocks are copied from and to the storages that are chosen, the most urgent first, at most
-    /// `work` for each alive node in all; and the stray replicas, those in excess, and the corrupt ones of blocks of which enough
-    /// replicas are live are ordered to be deleted, at most `invalidate` for each node. What each DataNode is to do is answered.
-    /// `RoundsSpent`; `CallsSpent`; `Memory`; a refused round changes nothing.
+    /// Takes one round: the round number grows by one, expired transfers leave, and surplus live
+    /// replicas are marked. Then copies are commanded from chosen sources to chosen targets, the
+    /// most urgent blocks first, at most `work` for each alive node in all. Stray replicas, those
+    /// in excess, and corrupt ones of blocks with enough live replicas are ordered to be deleted,
+    /// at most `invalidate` for each node. Returns the commands of each DataNode. `RoundsSpent`;
+    /// `CallsSpent`; `Memory`; a refused round changes nothing.
     ///
-    /// No round commands the delete of a known block's last good replica. Where a round commands the delete of a replica of a known
-    /// block, as many replicas of the block as are wanted, one at least, are live after the round, and the delete of none of them is
-    /// commanded.
+    /// No round commands the delete of a known block's last good replica. If a round commands the
+    /// delete of a replica of a known block, then the block has as many live replicas after the
+    /// round as are wanted, at least one, and the delete of none of these is commanded.
     ///
-    /// A round is worked by the crew, so the call may wait for other threads. All memory is taken before the first change.
+    /// A round is worked by the crew, so the call may wait for other threads. All memory is taken
+    /// before the first change.
     pub fn round<R: Threads + Wait + Sync>(
         &mut self,
         rt: &R,
@@ -43,7 +45,7 @@ impl Manager {
         self.round_by(&workers)
     }
 
-    /// [`Manager::round`] by the calling thread alone, however many workers are configured: it needs
+    /// [`Manager::round`] by the calling thread alone, however many workers are configured: needs
     /// no runtime, passes no gate and waits for no thread.
     pub fn round_alone(&mut self) -> Result<Commands, Refusal>
         ensures accepted { OnOk result (round_refusal self.old ≡ None) }

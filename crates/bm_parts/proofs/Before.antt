@@ -1,4 +1,4 @@
--- What is merged of the parts before a bound is what is merged of the parts, before it.
+-- Merging the parts before a bound gives the merged parts, before it.
 use Rattle.std.proofs.Common.{◌≡◌, ℕ, Bool, true, false, cond, List, [], ◌∷◌, ◌++◌, map, filter, flat_map, Option, Some, None, refl, sym, ap, ◌∙◌, true≢false, T}
 use Rattle.std.specs.Prelude.{option_and_then}
 use Rattle.std.specs.Ordering.{eq_by_cmp}

@@ -1,4 +1,4 @@
--- Racks and draining of the storages that a death, or a storage's failure, leaves.
+-- Racks and draining of the storages that remain after a death, or after a storage's failure.
 use Rattle.std.proofs.Common.{◌≡◌, ◌≢◌, ℕ, false, not, Option, Some, None, is_some, refl, ap, ◌∙◌}
 use Rattle.std.specs.Prelude.{◌==◌, option_and_then}
 use Rattle.std.specs.Option.{option_map_or}

@@ -1,4 +1,4 @@
--- What is chosen of the parts is what is chosen of the whole.
+-- The choice from the parts is the choice from the whole.
 use Rattle.std.proofs.Common.{◌≡◌, ℕ, ◌+◌, ◌≤◌, [], sym, ap, ◌∙◌, mod-lt}
 use Rattle.std.proofs.lemmas.List.Folds.{flat_map-map}
 use Rattle.bm_base.specs.declared.commands.Delete.{Delete}

@@ -1,4 +1,4 @@
--- What is so of a block by what is held of it alone; and an event on another block leaves it.
+-- Properties of a block that depend only on its own replicas; an event on another block keeps them.
 use Rattle.std.proofs.Common.{◌≡◌, ◌≢◌, ℕ, ◌+◌, ◌%◌, Bool, true, false, List, Some, length, sym, ap, ◌∙◌, arith, mod-eq_of_lt, refl}
 use Rattle.std.specs.Prelude.{if◌then◌else◌, option_and_then}
 use Rattle.bm_base.specs.declared.commands.Transfer.{Transfer}

@@ -19,7 +19,8 @@ use Rattle.bm_base.proofs.Maps.{each_entry, passes_entry}
 use Rattle.bm_parts.proofs.Filters.{filtered_alike, fewer_passing, map_filter, any_shown}
 use Rattle.bm_parts.proofs.PartMaps.{part, part_same}
 
--- Storages of replicas that are left, where a test of what is left comes to a test of what was there.
+-- Storages of replicas that are left, where a test of what is left comes to a test of what was
+-- there.
 module _ (H : Holdings) (gone : ℕ → Bool) (p q : ℕ → Marks → Bool) (b : ℕ) (same : (s : ℕ) (m : Marks) → get H.replicas (replica_at b s) ≡ Some m → (not (gone s) && p s m) ≡ q s m) where
   at_entry : (k : ReplicaId) (m : Marks) (t : Bool) → (k.block == b) ≡ t → get H.replicas k ≡ Some m → (not (gone k.storage) && (t && p k.storage m)) ≡ (t && q k.storage m)
   at_entry k m true e is = same k.storage m (ap (λ c. get H.replicas (replica_at c k.storage)) (sym (eqb-true k.block b e)) ∙ is)
@@ -52,7 +53,8 @@ none_leaves H = λ i. record H { replicas = all_kept H.replicas i; pending = all
 pub each_where : (P : ℕ → Type 0) (p : ℕ → Marks → Bool) (H : Holdings) (b : ℕ) → ((s : ℕ) (m : Marks) → get H.replicas (replica_at b s) ≡ Some m → p s m ≡ true → P s) → Each P (storages_where p H b)
 each_where P p H b holds = each_then (HasOne p H b) P (storages_where p H b) (each_storage p H b) (λ s one. holds s one.0 one.1 one.2)
 
--- where none of the block's usable replicas stands on a storage that passes, the storage of each fails
+-- where none of the block's usable replicas stands on a storage that passes, the storage of each
+-- fails
 pub usable_fails : (t : ℕ → Bool) (H : Holdings) (b s : ℕ) (m : Marks) → list_any t (usable H b) ≡ false → get H.replicas (replica_at b s) ≡ Some m → is_usable m ≡ true → t s ≡ false
 unfolding storages_where
 usable_fails t H b s m none there can = by_test (t s) refl

@@ -1,4 +1,4 @@
--- The first wishes of a part: a round that may command few transfers need not be told all of them.
+-- The first wishes of a part: a round that may command few transfers does not need all of them.
 use Rattle.std.specs.Prelude.{ℕ, Bool, true, List, filter, Option, Some, None}
 use Rattle.std.specs.Ordering.{is_lt}
 use Rattle.bm_base.specs.declared.round.RoundPart.{RoundPart}

@@ -12,7 +12,7 @@ use Rattle.bm_parts.specs.Whole.{whole_of, AreOwn, EachPart, done_of_all}
 abbrev pub AreChangedBy : Cluster → Event → ℕ → List Holdings → List Holdings → Type 0
 AreChangedBy C e shards Ps Qs = EachPart (λ index P Q. Q ≡ change_part C P index shards e) 0 Ps Qs
 
--- the whole of parts, each with its own blocks alone, as many as there are shards
+-- the whole of parts, each with its own blocks alone, one for each shard
 abbrev pub IsWholeOf : Holdings → ℕ → List Holdings → Type 0
 IsWholeOf H shards Ps = (whole_of Ps ≡ H) × AreOwn shards 0 Ps × (shards ≡ length Ps)
 
@@ -28,14 +28,15 @@ done_adds_up =
     (C : Cluster) (e : Event) (shards : ℕ) (Ps Qs : List Holdings) → 1 ≤ shards → shards ≡ length Ps → AreOwn shards 0 Ps → AreChangedBy C e shards Ps Qs
     → done_of_all Ps Qs ≡ done (whole_of Ps) (whole_of Qs)
 
--- what an event on one block makes of a part: the change, where the block is the part's; else nothing
+-- the effect of an event on one block on a part: the change, if the block is the part's; else
+-- nothing
 abbrev pub one_block_changes_one_part : Type 0
 one_block_changes_one_part =
     (C : Cluster) (P : Holdings) (e : Event) (b index shards : ℕ) → block_of e ≡ Some b
     → change_part C P index shards e ≡ (if shard_of b shards == index then change_holdings C P e else P)
 
--- An event on one block, made on the part of the block's shard alone, is made on the whole; and as many replicas come and go in
--- that part as in the whole.
+-- An event on one block, made on the part of the block's shard alone, is made on the whole; and as
+-- many replicas come and go in that part as in the whole.
 abbrev pub one_shard_is_enough : Type 0
 one_shard_is_enough =
     (C : Cluster) (e : Event) (b shards : ℕ) (Ps : List Holdings) (P : Holdings) → 1 ≤ shards → shards ≡ length Ps → AreOwn shards 0 Ps → block_of e ≡ Some b

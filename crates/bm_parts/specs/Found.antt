@@ -1,5 +1,5 @@
--- What a round finds in holdings, said by what stands in each of its lists: a list that rises and has just these elements is the
--- list, in whatever order they were come upon.
+-- What a round finds in holdings, by the elements of each of its lists: an ascending list with
+-- exactly these elements is the list, in whatever order they were found.
 use Rattle.std.specs.Prelude.{◌≡◌, ℕ, ◌-◌, true, nat_le, List, map, Some, IsSome, T}
 use Rattle.std.specs.Ordering.{eq_by_cmp}
 use Rattle.std.specs.FinMap.{is_sorted}
@@ -17,7 +17,7 @@ use Rattle.bm_base.specs.Deletes.{is_deletable}
 use Rattle.bm_base.specs.Ordered.{by_pair}
 use Rattle.bm_base.specs.RoundParts.{started_holdings, wish_at, wish_key, delete_key, round_part}
 
--- the keys rise, each element is as said, and for each that is as said one with its key is there
+-- the keys are ascending, each element passes, and for each that passes one with its key is there
 pub record IsGathered {K X : Type 0} (o : Order K) (key : X → K) (P : X → Type 0) (xs : List X) : Type 0 where
   pub rises : T (is_sorted o.cmp (map (λ x. (key x, x)) xs))
   pub only : All P xs
@@ -31,7 +31,7 @@ IsExpired pend r H q = (t : ℕ) × (get H.pending q ≡ Some t) × (nat_le pend
 abbrev pub IsTooMany : Cluster → Holdings → ReplicaId → Type 0
 IsTooMany C H q = IsSome (get H.replicas q) × (has (excess_in C H q.block) q.storage ≡ true)
 
--- what a block wishes for at its level
+-- the wish of a block at its level
 abbrev pub IsWished : Cluster → Holdings → Wish → Type 0
 IsWished C H w = wish_at C H w.level w.block ≡ Some w
 
@@ -40,7 +40,7 @@ abbrev pub IsToDelete : Cluster → Holdings → Delete → Type 0
 IsToDelete C H d =
     (contains_key C.storages d.storage ≡ true) × ((m : Marks) × (get H.replicas (replica_at d.block d.storage) ≡ Some m) × (is_deletable C H (replica_at d.block d.storage) m ≡ true))
 
--- each list of what is found as round r begins
+-- each list of the part as round r begins
 pub record IsFound (C : Cluster) (pend r : ℕ) (H : Holdings) (p : RoundPart) : Type 0 where
   pub expired : IsGathered by_replica (λ (q : ReplicaId). q) (IsExpired pend r H) p.expired
   pub excess : IsGathered by_replica (λ (q : ReplicaId). q) (IsTooMany C (without_unordered_excess (without_expired pend r H))) p.excess

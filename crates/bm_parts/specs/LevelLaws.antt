@@ -1,4 +1,4 @@
--- What events and rounds leave of levels: which blocks a shard need not judge anew.
+-- What events and rounds keep of levels: which blocks a shard need not reclassify.
 use Rattle.std.specs.Prelude.{◌≡◌, ◌≢◌, ℕ, false, ◌==◌, List, Some, None, IsSome}
 use Rattle.std.specs.List.{list_any}
 use Rattle.bm_base.specs.declared.commands.Transfer.{Transfer}
@@ -24,23 +24,23 @@ IsRacked C H = (q : ReplicaId) → IsSome (get H.replicas q) → IsSome (rack_of
 
 -- One block.
 
--- a block's level is of what is known of it and of its own replicas, whatever else is held
+-- a block's level depends only on what is known of it and on its own replicas
 abbrev pub level_is_of_its_block : Type 0
 level_is_of_its_block =
     (C : Cluster) (H G : Holdings) (b : ℕ) → get G.blocks b ≡ get H.blocks b → ((s : ℕ) → get G.replicas (replica_at b s) ≡ get H.replicas (replica_at b s))
     → level C G b ≡ level C H b
 
--- an event on one block leaves the levels of all others
+-- an event on one block keeps the levels of all others
 abbrev pub event_leaves_other_levels : Type 0
 event_leaves_other_levels = (C : Cluster) (H : Holdings) (e : Event) (b c : ℕ) → block_of e ≡ Some b → c ≢ b → level C (change_holdings C H e) c ≡ level C H c
 
--- the end of a round leaves every level as the start of it made it
+-- the end of a round keeps every level as the start of it made it
 abbrev pub round_end_leaves_levels : Type 0
 round_end_leaves_levels = (C : Cluster) (r : ℕ) (G : Holdings) (ts : List Transfer) (ds : List Delete) (b : ℕ) → level C (finished r G ts ds) b ≡ level C G b
 
 -- Heartbeats.
 
--- a heartbeat leaves racks, and which nodes drain
+-- a heartbeat keeps racks, and which nodes drain
 abbrev pub heartbeat_leaves_racks : Type 0
 heartbeat_leaves_racks =
     (C : Cluster) (rs : List Remaining)
@@ -52,13 +52,14 @@ heartbeat_leaves_levels = (C : Cluster) (rs : List Remaining) (H : Holdings) (b 
 
 -- Nodes and storages that come and go.
 
--- a new node leaves every level, where the cluster has several racks as before
+-- a new node keeps every level, if the cluster has several racks as before
 abbrev pub register_leaves_levels : Type 0
 register_leaves_levels =
     (C : Cluster) (H : Holdings) (n rack : ℕ) (ss : List ℕ) (b : ℕ) → contains_key C.nodes n ≡ false → list_any (knows_storage C) ss ≡ false → IsRacked C H
     → is_multi_rack (register C n rack ss) ≡ is_multi_rack C → level (register C n rack ss) H b ≡ level C H b
 
--- a death leaves the levels of blocks with no usable replica there, where the cluster has several racks as before
+-- a death keeps the levels of blocks with no usable replica there, if the cluster has several racks
+-- as before
 abbrev pub death_leaves_levels : Type 0
 death_leaves_levels =
     (C : Cluster) (H : Holdings) (n b : ℕ) → list_any (has_storage C n) (usable H b) ≡ false → is_multi_rack (without_node C n) ≡ is_multi_rack C
@@ -70,7 +71,7 @@ failure_leaves_levels = (C : Cluster) (H : Holdings) (t b : ℕ) → has (usable
 
 -- Nodes that drain.
 
--- a node that begins to drain leaves the levels of blocks with no usable replica there
+-- a node that begins to drain keeps the levels of blocks with no usable replica there
 abbrev pub drain_leaves_levels : Type 0
 drain_leaves_levels = (C : Cluster) (H : Holdings) (n b : ℕ) → list_any (has_storage C n) (usable H b) ≡ false → level (drain C n) (begun_to_drain C H n) b ≡ level C H b
 

@@ -1,4 +1,5 @@
--- The parts into which blocks are cut by their numbers, the whole of them, and what a round finds in each.
+-- The parts into which blocks are cut by their numbers, the whole of them, and what a round finds
+-- in each.
 pub mod Parts
 pub mod Whole
 pub mod Settled

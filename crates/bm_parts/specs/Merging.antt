@@ -3,7 +3,8 @@ use Rattle.std.specs.Prelude.{ℕ, List, [], ◌∷◌, map, flat_map, Vec, T}
 use Rattle.std.specs.FinMap.{put, is_sorted}
 use Rattle.bm_base.specs.Ordered.{pair_cmp}
 
--- the entries of the second list put into the first, one after another: each in its place, of equal keys the last counts
+-- the entries of the second list inserted into the first, one after another; of equal keys the last
+-- counts
 abbrev pub put_all : {X : Type 0} → List ((ℕ × ℕ) × X) → List ((ℕ × ℕ) × X) → List ((ℕ × ℕ) × X)
 put_all es [] = es
 put_all es (f ∷ fs) = put_all (put pair_cmp f.0 f.1 es) fs
@@ -16,7 +17,7 @@ as_lists vs = map (λ v. v.items) vs
 abbrev pub items_of_all : {X A : Type 0} → List (Vec X A) → List X
 items_of_all vs = flat_map (λ v. v.items) vs
 
--- the keys of each list rise
+-- the keys of each list are ascending
 abbrev pub AreSorted : {X : Type 0} → List (List ((ℕ × ℕ) × X)) → Type 0
 AreSorted [] = Unit {0}
 AreSorted (es ∷ lists) = T (is_sorted pair_cmp es) × AreSorted lists

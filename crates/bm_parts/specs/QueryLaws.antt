@@ -51,7 +51,7 @@ held_back_by_some_part = (C : Cluster) (n : ℕ) (H : Holdings) (shards : ℕ) �
 abbrev pub retired_by_all_parts : Type 0
 retired_by_all_parts = (C : Cluster) (n : ℕ) (H : Holdings) (shards : ℕ) → 1 ≤ shards → is_retired C H n ≡ (drains C n && not (list_any (holds_back C n) (parts H shards)))
 
--- What is asked of one block is asked of its shard.
+-- A query of one block is answered by its shard.
 
 abbrev pub own_shard_answers : Type 0
 own_shard_answers =

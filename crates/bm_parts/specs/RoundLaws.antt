@@ -1,4 +1,5 @@
--- Rounds over parts: what each part finds, what is chosen of all of them, and what each part is left with.
+-- Rounds over parts: what each part finds, what is chosen from all of them, and each part after
+-- that.
 use Rattle.std.specs.Prelude.{◌≡◌, ℕ, ◌+◌, ◌≤◌, List, length, map}
 use Rattle.bm_base.specs.declared.commands.Transfer.{Transfer}
 use Rattle.bm_base.specs.declared.commands.Delete.{Delete}
@@ -17,7 +18,7 @@ use Rattle.bm_parts.specs.EventLaws.{IsWholeOf}
 abbrev pub round_parts : Cluster → ℕ → ℕ → Holdings → ℕ → List RoundPart
 round_parts C pend r H shards = map (round_part C pend r) (parts H shards)
 
--- parts, each of which a round left as it leaves it, where these transfers and deletes were chosen
+-- parts, each as a round leaves it in which these transfers and deletes were chosen
 abbrev pub AreLeftBy : Cluster → ℕ → ℕ → List Transfer → List Delete → ℕ → List Holdings → List Holdings → Type 0
 AreLeftBy C pend r ts ds shards Ps Qs = EachPart (λ index P Q. Q ≡ round_on_part C pend r P index shards ts ds) 0 Ps Qs
 
@@ -26,13 +27,13 @@ abbrev pub start_cuts_to_start : Type 0
 start_cuts_to_start =
     (C : Cluster) (pend r : ℕ) (H : Holdings) (index shards : ℕ) → cut (started_holdings C pend r H) index shards ≡ started_holdings C pend r (cut H index shards)
 
--- and ends in each part as in the whole, where each part is told of its own transfers and deletes alone
+-- and ends in each part as in the whole, if each part gets its own transfers and deletes alone
 abbrev pub end_cuts_to_end : Type 0
 end_cuts_to_end =
     (C : Cluster) (pend r : ℕ) (H : Holdings) (ts : List Transfer) (ds : List Delete) (index shards : ℕ)
     → cut (finished r (started_holdings C pend r H) ts ds) index shards ≡ round_on_part C pend r (cut H index shards) index shards ts ds
 
--- the wishes of the parts, in order, are those of the whole
+-- the wishes of the parts, sorted, are those of the whole
 abbrev pub wishes_join : Type 0
 wishes_join =
     (C : Cluster) (pend r : ℕ) (H : Holdings) (shards : ℕ) → 1 ≤ shards → merged_wishes (round_parts C pend r H shards) ≡ wishes_by_block C (started_holdings C pend r H)
@@ -54,7 +55,8 @@ parts_choose_deletes =
     (limits : RoundLimits) (C : Cluster) (r : ℕ) (H : Holdings) (shards : ℕ) → 1 ≤ shards
     → chosen_deletes limits C (round_parts C limits.pend r H shards) ≡ deletes limits C (started_holdings C limits.pend r H)
 
--- the whole round in these words: it commands what is chosen of the parts, and leaves what these transfers and deletes leave
+-- the whole round in these words: it commands what is chosen from the parts, and has the state
+-- after these transfers and deletes
 abbrev pub whole_round_is : Type 0
 whole_round_is =
     (M : State) (shards : ℕ) → 1 ≤ shards
@@ -64,7 +66,7 @@ whole_round_is =
     whole_round M
     ≡ (commands_of M.cluster (M.round + 1) ts ds, record M { round = M.round + 1; holdings = finished (M.round + 1) (started_holdings M.cluster M.limits.pend (M.round + 1) M.holdings) ts ds })
 
--- where a round leaves each part as said, it leaves the whole so
+-- if a round leaves each part so, it leaves the whole so
 abbrev pub whole_changes_by_round : Type 0
 whole_changes_by_round =
     (C : Cluster) (pend r : ℕ) (ts : List Transfer) (ds : List Delete) (shards : ℕ) (Ps Qs : List Holdings) → 1 ≤ shards → shards ≡ length Ps → AreOwn shards 0 Ps

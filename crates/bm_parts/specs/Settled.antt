@@ -21,12 +21,13 @@ use Rattle.bm_base.specs.RoundParts.{started_holdings}
 abbrev pub plain : Marks
 plain = record { tag = Good; excess = false; ordered = false }
 
--- All replicas of the block are good ones with no mark, and there are no more of them than are wanted, whichever nodes drain.
+-- All replicas of the block are good ones with no mark, and there are no more of them than are
+-- wanted, whichever nodes drain.
 pub record IsSettled (H : Holdings) (b : ℕ) : Type 0 where
   pub all_plain : (q : ReplicaId) (m : Marks) → q.block ≡ b → get H.replicas q ≡ Some m → m ≡ plain
   pub few : (i : BlockInfo) → get H.blocks b ≡ Some i → length (usable H b) ≤ i.repl
 
--- a round marks none of its replicas, and leaves which of them are live and drained, and its level
+-- a round marks none of its replicas, and keeps which of them are live and drained, and its level
 abbrev pub settled_is_left : Type 0
 settled_is_left =
     (C : Cluster) (pend r : ℕ) (H : Holdings) (b : ℕ) → IsSettled H b → let G = started_holdings C pend r H in
@@ -40,7 +41,7 @@ settled_is_kept =
 
 -- Which changes leave a block settled.
 
--- it is settled by what is known of it and by its own replicas, whatever else is held
+-- whether it is settled depends only on what is known of it and on its own replicas
 abbrev pub settled_is_of_its_block : Type 0
 settled_is_of_its_block =
     (H G : Holdings) (b : ℕ) → get G.blocks b ≡ get H.blocks b → ((s : ℕ) → get G.replicas (replica_at b s) ≡ get H.replicas (replica_at b s)) → IsSettled H b → IsSettled G b
@@ -53,7 +54,7 @@ leaving_keeps_settled = (H : Holdings) (gone : ℕ → Bool) (b : ℕ) → IsSet
 abbrev pub drain_keeps_settled : Type 0
 drain_keeps_settled = (C : Cluster) (H : Holdings) (n b : ℕ) → IsSettled H b → IsSettled (begun_to_drain C H n) b
 
--- and a round that deletes none of its replicas leaves it settled
+-- and a round that deletes none of its replicas keeps it settled
 abbrev pub round_keeps_settled : Type 0
 round_keeps_settled =
     (C : Cluster) (pend r : ℕ) (H : Holdings) (ts : List Transfer) (ds : List Delete) (b : ℕ) → list_any (λ d. d.block == b) ds ≡ false → IsSettled H b

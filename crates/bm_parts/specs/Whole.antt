@@ -7,7 +7,7 @@ use Rattle.bm_base.specs.Calls.{done}
 use Rattle.bm_base.specs.Entries.{count_up}
 use Rattle.bm_base.specs.Shards.{cut}
 
--- what the one holds beside what the other holds
+-- the union of two holdings
 unfoldable pub beside : Holdings → Holdings → Holdings
 beside P Q = record {
   blocks = insert_all Q.blocks (entries P.blocks);
@@ -20,7 +20,7 @@ abbrev pub whole_of : List Holdings → Holdings
 whole_of [] = empty_holdings
 whole_of (P ∷ Ps) = beside P (whole_of Ps)
 
--- the parts of so many shards, from this index on
+-- the parts of n shards, from this index on
 abbrev pub parts_from : Holdings → ℕ → ℕ → ℕ → List Holdings
 parts_from H shards index n = map (λ i. cut H i shards) (count_up index n)
 
@@ -33,7 +33,7 @@ abbrev pub AreOwn : ℕ → ℕ → List Holdings → Type 0
 AreOwn shards index [] = Unit {0}
 AreOwn shards index (P ∷ Ps) = (cut P index shards ≡ P) × AreOwn shards (suc index) Ps
 
--- of two lists of parts, each beside the other's at the same index, from this index on
+-- of two lists of parts, pairwise at the same index, from this index on
 abbrev pub EachPart : (ℕ → Holdings → Holdings → Type 0) → ℕ → List Holdings → List Holdings → Type 0
 EachPart R index [] [] = Unit {0}
 EachPart R index (P ∷ Ps) (Q ∷ Qs) = R index P Q × EachPart R (suc index) Ps Qs

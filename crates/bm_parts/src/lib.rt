@@ -1,17 +1,20 @@
-//! Blocks cut into parts by their numbers: how what is done to parts, found in them and asked of them joins to the whole.
+//! Blocks cut into parts by their numbers: how changes, findings and answers of parts join to those
+//! of the whole.
 //!
-//! A shard holds the blocks whose number modulo the number of shards is its index, with their replicas and their transfers on
-//! their way. `specs/` says what a part is, what an event and a round make of one, and what the whole of parts is.
+//! A shard holds the blocks whose number modulo the number of shards is its index, with their
+//! replicas and their pending transfers. `specs/` defines a part, the effect of an event and a
+//! round on it, and the whole of parts.
 //!
 //! - `whole`: parts put together
 //! - `events`, `rounds`: changes of parts, and of the whole
 //! - `queries`: answers of parts, joined
-//! - `settled`: blocks at which a round need not look
-//! - `levels`: events on the cluster after which a shard need not judge its blocks anew
-//! - `placed`: where replicas stand, and which are in excess
+//! - `settled`: blocks that a round need not scan
+//! - `levels`: events on the cluster after which a shard need not reclassify its blocks
+//! - `placed`: the storages of replicas, and which are in excess
 //! - `merge`: sorted lists merged into one
 //!
-//! Only the functions of `merge` and `events::block_of` do something; the contract of each other is a law.
+//! Only the functions of `merge` and `events::block_of` compute something; the contract of each
+//! other is a law.
 #![tactic(auto)]
 
 pub mod events;

@@ -1,4 +1,5 @@
-// Sorted lists merged into one, by halves: of k lists with n entries in all each entry is copied about log k times.
+// Sorted lists merged pairwise: of k lists with n entries in all each entry is copied about log k
+// times.
 ghost use Rattle.std.specs.Prelude.{◌≡◌, ◌≤◌, [], T, IfOk};
 ghost use Rattle.std.specs.FinMap.{is_sorted};
 ghost use Rattle.bm_base.specs.Ordered.{pair_cmp};
@@ -10,7 +11,7 @@ use std::cmp::Ordering;
 /// What entries are sorted by: the first number, and then the second.
 pub type Key = (u64, u64);
 
-/// The entries of all these lists, each of which rises, in rising order. Of equal keys the last counts.
+/// The entries of all these ascending lists, in ascending order. Of equal keys the last counts.
 pub fn merge_all<V: Copy>(
     alloc: Global,
     lists: &[Vec<(Key, V)>],
@@ -32,7 +33,7 @@ pub fn merge_all<V: Copy>(
     merge_two(alloc, front.as_slice(), back.as_slice())
 }
 
-/// The entries of both lists, each of which rises, in rising order. Of equal keys the later list's counts.
+/// The entries of both ascending lists, in ascending order. Of equal keys the later list's counts.
 fn merge_two<V: Copy>(
     alloc: Global,
     low: &[(Key, V)],

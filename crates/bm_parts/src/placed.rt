@@ -3,17 +3,18 @@
 
 ghost use Rattle.bm_parts.specs.PlacedLaws as law;
 
-/// Replicas of lawful holdings are on known storages, a node has at most one of a block, and only good ones are in excess.
+/// Replicas of lawful holdings are on known storages, a node has at most one of a block, and only
+/// good ones are in excess.
 pub fn lawful_is_placed()
     ensures { law.lawful_is_placed }
 {}
 
-/// An event that the cluster does not refuse leaves the replicas of a part so.
+/// An event that the cluster does not refuse keeps that of the replicas of a part.
 pub fn event_keeps_placed()
     ensures { law.event_keeps_placed }
 {}
 
-/// So does a report of a known storage, whatever it tells.
+/// So does a report of a known storage, whatever its entries.
 pub fn report_keeps_placed()
     ensures { law.report_keeps_placed }
 {}

@@ -13,12 +13,12 @@ pub fn marked_replicas_join()
     ensures { law.marked_replicas_join }
 {}
 
-/// The missing blocks of the parts, rising, are those of the whole.
+/// The missing blocks of the parts, ascending, are those of the whole.
 pub fn missing_join()
     ensures { law.missing_join }
 {}
 
-/// The blocks of the parts' replicas on a storage, rising, are those of the whole's.
+/// The blocks of the parts' replicas on a storage, ascending, are those of the whole's.
 pub fn blocks_on_join()
     ensures { law.blocks_on_join }
 {}
@@ -38,12 +38,14 @@ pub fn retired_by_all_parts()
     ensures { law.retired_by_all_parts }
 {}
 
-/// The part of a block's shard says of the block what the whole says: whether it is known, its places, its level.
+/// The part of a block's shard answers for the block what the whole answers: whether it is known,
+/// its places, its level.
 pub fn own_shard_answers()
     ensures { law.own_shard_answers }
 {}
 
-/// The part of a block's shard refuses an event on the block where the whole does, and for the same reasons.
+/// The part of a block's shard refuses an event on the block if the whole does, and for the same
+/// reasons.
 pub fn own_shard_checks()
     ensures { law.own_shard_checks }
 {}

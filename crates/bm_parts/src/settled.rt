@@ -3,7 +3,8 @@
 
 ghost use Rattle.bm_parts.specs.Settled as law;
 
-/// The start of a round marks no replica of a settled block, and leaves its live and drained replicas and its level.
+/// The start of a round marks no replica of a settled block, and keeps its live and drained
+/// replicas and its level.
 pub fn settled_is_left()
     ensures { law.settled_is_left }
 {}
@@ -13,7 +14,7 @@ pub fn settled_is_kept()
     ensures { law.settled_is_kept }
 {}
 
-/// Whether a block is settled is of what is known of it and of its own replicas, whatever else is held.
+/// Whether a block is settled depends only on what is known of it and on its own replicas.
 pub fn settled_is_of_its_block()
     ensures { law.settled_is_of_its_block }
 {}
@@ -28,7 +29,7 @@ pub fn drain_keeps_settled()
     ensures { law.drain_keeps_settled }
 {}
 
-/// A round that deletes none of its replicas leaves a settled block settled.
+/// A round that deletes none of its replicas keeps a settled block settled.
 pub fn round_keeps_settled()
     ensures { law.round_keeps_settled }
 {}

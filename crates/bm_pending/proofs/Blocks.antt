@@ -1,4 +1,4 @@
--- The targets and the room of each block, where one block changes.
+-- The targets and the capacity of each block, where one block changes.
 use Rattle.std.specs.Prelude.{◌≡◌, ◌≢◌, ◌≤◌, ◌+◌, ◌||◌, ◌++◌, ℕ, Bool, true, false, cond, List, [], ◌∷◌, length, filter, map, not, ◌==◌, nat_eq, Option, None, Some, option_map}
 use Rattle.std.specs.Option.{option_map_or}
 use Rattle.std.specs.Ordering.{nat_cmp}
@@ -38,7 +38,7 @@ module _ (es : List (ℕ × Targets)) (b : ℕ) where
       by true e = let zero_room : room_at es q ≡ 0 = ap (room_at es) (sym (eqb-true b q e)) ∙ ap room_or none in omega (arith, zero_room)
       by false e = omega arith
 
-  -- a block that was there has other targets, which take no room
+  -- a known block has other targets, within its capacity
   pub freed-rooms : (v w : Targets) → Some v ≡ lookup (nat_eq b) es → room_in v ≤ room_in w → (q : ℕ) → room_at es q ≤ room_or (cond (nat_eq b q) (Some w) (lookup (nat_eq q) es))
   freed-rooms v w here less q = by (nat_eq b q) refl
     where
@@ -65,7 +65,7 @@ module _ (es : List (ℕ × Targets)) (b : ℕ) where
 fewer : {X : Type 0} (p : X → Bool) (xs : List X) → length (filter p xs) ≤ length xs
 fewer p xs = omega (arith, length-filter p xs, count_by-le-length p xs)
 
--- targets that are taken out leave no less room
+-- removing targets keeps at least the spare capacity
 pub filtered-room : (v w : Targets) (p : ℕ × ℕ → Bool) → w.items ≡ filter p v.items → w.capacity ≡ v.capacity → room_in v ≤ room_in w
 filtered-room v w p items capacity = omega (arith, subst (λ xs. length xs ≤ length v.items) (sym items) (fewer p v.items), capacity)
 
@@ -77,7 +77,7 @@ length-put k v (e ∷ es) = elim (nat_cmp k e.0) as (λ r. length (by_order r ((
   | Greater ↦ omega (arith, length-put k v es)
 ]
 
--- a target that is put takes at most one place
+-- adding a target takes capacity for one at most
 pub put-room : (v w : Targets) (storage round : ℕ) → w.items ≡ put nat_cmp storage round v.items → w.capacity ≡ v.capacity → room_in v ≤ room_in w + 1
 put-room v w storage round items capacity = let more : length w.items ≤ length v.items + 1 = subst (λ xs. length xs ≤ length v.items + 1) (sym items) (length-put storage round v.items) in omega (arith, more, capacity)
 
@@ -122,7 +122,7 @@ module _ (es fs : List (ℕ × Targets)) (unique : IsDistinct nat_eq (keys_of es
           by true e = sym (nil_from_length v.items (eqb-true (length v.items) 0 e))
           by false e = refl
 
-  -- the room of a block with a target stays
+  -- a block with a target keeps its capacity
   pub shed-kept : (q : ℕ) → targets_at es q ≢ [] → room_at fs q ≡ room_at es q
   shed-kept q some = ap room_or (looked_left q) ∙ chosen (lookup (nat_eq q) es) some
     where
@@ -134,7 +134,7 @@ module _ (es fs : List (ℕ × Targets)) (unique : IsDistinct nat_eq (keys_of es
           by true e = absurd (h (nil_from_length v.items (eqb-true (length v.items) 0 e)))
           by false e = refl
 
-  -- that of others goes
+  -- others lose theirs
   pub shed-freed : (q : ℕ) → targets_at es q ≡ [] → room_at fs q ≡ 0
   shed-freed q none = ap room_or (looked_left q) ∙ chosen (lookup (nat_eq q) es) none
     where

@@ -1,4 +1,4 @@
--- The places of blocks.
+-- The indices of blocks.
 use Rattle.std.proofs.Common.{◌≡◌, ℕ, Bool, true, false, cond, ◌||◌, List, [], ◌∷◌, map, Option, Some, None, is_some, refl, sym, ap, ◌∙◌, nat_eq}
 use Rattle.std.specs.Prelude.{◌==◌, IsSome, slice_get, option_map}
 use Rattle.std.specs.Option.{option_map_or}
@@ -15,7 +15,7 @@ use Rattle.bm_pending.specs.Inside.{Targets, map_of, rooms_of}
 use Rattle.bm_pending.specs.OnTheWay.{OnTheWay, blocks_in}
 use Rattle.bm_pending.proofs.Seeing.{get-map_of}
 
--- what is seen of the places
+-- what is seen of the indices
 pub places-seen : (es : List (ℕ × Targets)) → map (λ (e : ℕ × ℕ). e.0) (rooms_of es) ≡ keys_of es
 places-seen [] = refl
 places-seen (e ∷ es) = ap (λ ks. e.0 ∷ ks) (places-seen es)
@@ -28,7 +28,7 @@ has-keys (e ∷ es) b = ap (λ t. t || has (keys_of es) b) (eqb_turned e.0 b) �
     by true rest = refl
     by false rest = rest
 
--- a block with a transfer has a place
+-- a block with a transfer has an index
 pub place-had : (es : List (ℕ × Targets)) (q : ReplicaId) → IsSome (get (map_of es) q) → has (keys_of es) q.block ≡ true
 place-had es q some = has-keys es q.block ∙ by (lookup (nat_eq q.block) es) (sym (ap is_some (get-map_of es q)) ∙ some)
   where
@@ -36,11 +36,11 @@ place-had es q some = has-keys es q.block ∙ by (lookup (nat_eq q.block) es) (s
     by None e = absurd (false≢true e)
     by (Some v) e = refl
 
--- the blocks at their places are the keys
+-- the blocks in the order of their indices are the keys
 pub keys-seen : (es : List (ℕ × Targets)) (p : OnTheWay) → record { map = map_of es; rooms = rooms_of es } ≡ p → keys_of es ≡ blocks_in p
 keys-seen es p view = sym (places-seen es) ∙ ap (λ (p : OnTheWay). blocks_in p) view
 
--- so is the one at a place
+-- so is the one at an index
 pub place-seen : (es : List (ℕ × Targets)) (p : OnTheWay) → record { map = map_of es; rooms = rooms_of es } ≡ p → (o : Option (ℕ × Targets)) (i : ℕ) → o ≡ slice_get es i
     → option_map (λ (e : ℕ × Targets). e.0) o ≡ slice_get (blocks_in p) i
 place-seen es p view o i e = ap (option_map (λ (e : ℕ × Targets). e.0)) e ∙ sym (slice_get-map (λ (e : ℕ × Targets). e.0) es i) ∙ ap (λ ks. slice_get ks i) (keys-seen es p view)

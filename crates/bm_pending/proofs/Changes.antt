@@ -29,7 +29,7 @@ opened : {X : Type 0} (f : X → ℕ) (o : Option X) → unwrap_or (option_map f
 opened f None = refl
 opened f (Some x) = refl
 
--- the room that is seen of a block
+-- what is seen of a block's capacity
 pub room-seen : (m : Map by_replica ℕ) (es : List (ℕ × Targets)) (b : ℕ) → room (record { map = m; rooms = rooms_of es }) b ≡ room_at es b
 room-seen m es b = ap (λ o. unwrap_or o 0) (lookup-map_values room_in (nat_eq b) es) ∙ opened room_in (lookup (nat_eq b) es)
 
@@ -126,7 +126,7 @@ module _ (es fs : List (ℕ × Targets)) (p : ℕ → ℕ → Bool) (changed : (
   pub rising-kept : IsPending fs
   rising-kept = record { rising = λ q. subst (λ xs. T (is_sorted nat_cmp xs)) (sym (changed q)) (is_sorted-filter p (targets_at es q) (rise q)) }
 
--- What is seen of the room.
+-- What is seen of the capacity.
 
 abbrev pub shown : List (ℕ × Targets) → OnTheWay
 shown es = record { map = map_of es; rooms = rooms_of es }

@@ -1,4 +1,4 @@
--- The transfers block by block, where the blocks rise, are the entries of a map.
+-- The transfers block by block, with ascending blocks, are the entries of a map.
 use Rattle.std.specs.Prelude.{◌≡◌, ◌<◌, ◌≤◌, ℕ, suc, Bool, true, false, cond, ◌==◌, ◌||◌, ◌++◌, List, [], ◌∷◌, length, map, filter, nat_eq, Option, None, Some, slice_index_or, ⊤, T}
 use Rattle.std.specs.Ordering.{nat_cmp, eq_by_cmp, is_lt, ordering_then}
 use Rattle.std.specs.declared.cmp.Ordering.TheVariants.{Less}
@@ -22,7 +22,7 @@ use Rattle.bm_pending.proofs.Seeing.{get-map_of}
 use Rattle.bm_pending.proofs.Changes.{is_sorted-filter, get-kept}
 use Rattle.bm_pending.proofs.Ordered.{transfers_to, find-transfers_to, is_sorted-transfers_to}
 
--- Numbers that strictly rise.
+-- Strictly ascending numbers.
 
 Above : ℕ → List ℕ → Type 0
 Above k [] = ⊤
@@ -48,7 +48,7 @@ rising_from [] up d = tt
 rising_from (k ∷ ks) up d =
     (above_from k ks (λ j n lt. up 0 (suc j) n (omega arith) (omega (arith, lt))) d.0, rising_from ks (λ i j n le lt. up (suc i) (suc j) n (omega (arith, le)) (omega (arith, lt))) d.1)
 
--- The transfers of blocks in turn, each with targets that rise.
+-- The transfers of blocks in turn, each with ascending targets.
 
 module _ (targets : ℕ → List (ℕ × ℕ)) (rise : (b : ℕ) → T (is_sorted nat_cmp (targets b))) where
   abbrev transfers_of : List ℕ → List (ReplicaId × ℕ)

@@ -6,7 +6,7 @@ use Rattle.std.proofs.Common.{ap, subst, ◌∙◌, arith}
 use Rattle.std.proofs.lemmas.List.{take_all, drop_all, append-nil}
 use Rattle.smallvec.specs.SmallVec.{SmallVec}
 
--- what `retain` leaves, where the closure keeps no state and leaves each element as it was
+-- what `retain` keeps, if the closure has no state and changes no element
 module _ {S X : Type 0} (R : S → X → Bool → S → X → Type 0) (test : X → Bool) (s : S) (says : (x : X) (b : Bool) (t : S) (y : X) → R s x b t y → (b ≡ test x) × (y ≡ x) × (t ≡ s)) where
   pub filter-RetainsInTurn : (xs ys : List X) → RetainsInTurn R s xs ys → ys ≡ filter test xs
   filter-RetainsInTurn [] ys h = h

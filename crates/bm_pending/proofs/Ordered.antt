@@ -1,4 +1,4 @@
--- The transfers of a block stand together among all, by the order of its targets.
+-- The transfers of a block are contiguous among all, in the order of its targets.
 use Rattle.std.specs.Prelude.{◌≡◌, ◌≢◌, ℕ, Bool, true, false, cond, ◌==◌, List, [], ◌∷◌, length, map, filter, Option, None, Some, option_and_then, T}
 use Rattle.std.specs.Ordering.{nat_cmp, ordering_then, is_lt}
 use Rattle.std.specs.Cmp.{tied_itself, nat_cmp_total}

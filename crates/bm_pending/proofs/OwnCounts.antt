@@ -17,7 +17,7 @@ count_of b ts = length (filter (λ t. t.block == b) ts)
 abbrev pub own : Part → List Transfer → List Transfer
 own part ts = own_transfers part.index part.shards ts
 
--- what is counted of these transfers, and the room for them
+-- the counts of these transfers, and the capacity for them
 pub record HasCounted (part : Part) (start p : OnTheWay) (es : List (ℕ × ℕ)) (xs : List Transfer) : Type 0 where
   pub map : p.map ≡ start.map
   pub rooms : (b : ℕ) → room start b ≤ room p b

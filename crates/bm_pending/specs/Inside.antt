@@ -1,4 +1,4 @@
--- How the entries of the blocks stand for the transfers on their way.
+-- How the entries of the map represent the pending transfers.
 use Rattle.std.specs.Prelude.{ℕ, ◌-◌, not, ◌==◌, List, [], ◌∷◌, length, map, filter, nat_eq, T}
 use Rattle.std.specs.Option.{option_map_or}
 use Rattle.std.specs.Ordering.{nat_cmp}
@@ -13,7 +13,7 @@ use Rattle.bm_base.specs.Excess.{is_expired}
 abbrev pub Targets : Type 0
 Targets = SmallVec (ℕ × ℕ)
 
--- the transfers of one block in the place of those that were there
+-- the transfers of one block replaced by these
 unfoldable pub with_block : ℕ → List (ℕ × ℕ) → Map by_replica ℕ → Map by_replica ℕ
 with_block b [] m = keep m (λ q _. not (q.block == b))
 with_block b (t ∷ ts) m = insert (with_block b ts m) (replica_at b t.0) t.1
@@ -46,6 +46,6 @@ room_at es b = option_map_or room_in (lookup (nat_eq b) es) 0
 abbrev pub rooms_of : List (ℕ × Targets) → List (ℕ × ℕ)
 rooms_of es = map (λ e. (e.0, room_in e.1)) es
 
--- the targets of each block rise
+-- the targets of each block are ascending
 pub record IsPending (es : List (ℕ × Targets)) : Type 0 where
   pub rising : (b : ℕ) → T (is_sorted nat_cmp (targets_at es b))

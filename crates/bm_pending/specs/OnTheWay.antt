@@ -1,5 +1,4 @@
--- What a contract sees of the transfers on their way.
--- Source: Hadoop 2's PendingReplicationBlocks.
+-- What a contract sees of the pending transfers. Source: Hadoop 2's PendingReplicationBlocks.
 use Rattle.std.specs.Prelude.{ℕ, ◌==◌, nat_eq, List, map, filter}
 use Rattle.std.specs.Option.{unwrap_or}
 use Rattle.std.specs.Map.{lookup}
@@ -11,18 +10,18 @@ use Rattle.bm_base.specs.Excess.{is_expired}
 pub record OnTheWay : Type 0 where
   -- by block and target, the round in which the transfer was commanded
   pub map : Map by_replica ℕ
-  -- for how many more transfers of a block there is room
+  -- the number of further transfers of a block that there is capacity for
   pub rooms : List (ℕ × ℕ)
 
 -- how many more transfers of the block need no memory
 abbrev pub room : OnTheWay → ℕ → ℕ
 room p b = unwrap_or (lookup (nat_eq b) p.rooms) 0
 
--- the blocks with room or a transfer, at their places
+-- the blocks with capacity or a transfer, by index
 abbrev pub blocks_in : OnTheWay → List ℕ
 blocks_in p = map (λ e. e.0) p.rooms
 
--- the targets of a block's transfers, rising
+-- the targets of a block's transfers, ascending
 abbrev pub targets_of : OnTheWay → ℕ → List ℕ
 targets_of p b = map (λ e. e.0.storage) (filter (λ e. e.0.block == b) (entries p.map))
 

@@ -1,9 +1,9 @@
--- The transfers that a round leaves on their way.
+-- The transfers that remain pending after a round.
 use Rattle.std.specs.Prelude.{ℕ, not, ◌==◌, List, map, filter}
 use Rattle.bm_base.specs.Map.{entries, keep}
 use Rattle.bm_base.specs.Excess.{is_expired}
 use Rattle.bm_pending.specs.OnTheWay.{OnTheWay}
 
--- the targets of a block's transfers that are not given up as round r begins, rising
+-- the targets of a block's transfers that have not expired as round r begins, ascending
 abbrev pub targets_left : ℕ → ℕ → OnTheWay → ℕ → List ℕ
 targets_left pend r p b = map (λ e. e.0.storage) (filter (λ e. e.0.block == b) (entries (keep p.map (λ _ t. not (is_expired pend r t)))))

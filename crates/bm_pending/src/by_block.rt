@@ -1,4 +1,4 @@
-// The blocks with their targets: what is changed, and what is looked up.
+// The map of blocks to their targets: changes and look-ups.
 ghost use Rattle.std.specs.Prelude.{◌≡◌, ◌≢◌, ◌≤◌, ◌<◌, ◌+◌, ℕ, [], not, ◌==◌, nat_eq, filter, cond, OnOk, IfErr, IsOk, T};
 ghost use Rattle.std.specs.Ordering.{nat_cmp};
 ghost use Rattle.std.specs.FinMap as list;
@@ -15,10 +15,10 @@ use indexmap::IndexMap;
 use smallvec::SmallVec;
 use std::alloc::Global;
 
-/// Each block with its targets, which strictly rise, and the rounds of their commands.
+/// Each block with its targets, strictly ascending, and the rounds of their commands.
 pub(crate) type Blocks = IndexMap<u64, Targets, HashSecret>;
 
-/// Makes room for so many more targets of a block.
+/// Reserves capacity for `additional` more targets of a block.
 pub(crate) fn reserve_in(
     blocks: &mut Blocks,
     alloc: Global,
@@ -119,7 +119,7 @@ pub(crate) fn drop_empty_rooms(blocks: &mut Blocks)
     ensures freed { (q : ℕ) → targets_at blocks.old.entries q ≡ []
         → room_at blocks.new.entries q ≡ 0 }
 {
-    // Reads nothing, and says that each block stands once.
+    // For proofs alone: each block occurs once.
     let _ = blocks.iter();
     blocks.retain(|_, targets| !targets.is_empty());
 }

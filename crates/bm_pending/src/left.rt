@@ -1,4 +1,4 @@
-// The targets of a block that a round leaves on their way.
+// The targets of a block that remain pending after a round.
 ghost use Rattle.std.specs.Prelude.{◌≡◌, count_by, not, IfOk};
 ghost use Rattle.bm_base.specs.Excess.{is_expired};
 ghost use Rattle.bm_pending.specs.Inside.{storages_left};
@@ -7,7 +7,7 @@ use crate::targets::is_expired;
 use bm_base::{StorageId, StorageIds};
 use std::alloc::{AllocError, Global};
 
-/// The targets whose transfers are not given up, rising.
+/// The targets whose transfers have not expired, ascending.
 pub(crate) fn left_among(
     alloc: Global,
     targets: &[(u32, u64)],

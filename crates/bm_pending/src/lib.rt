@@ -1,7 +1,9 @@
-//! The transfers on their way: copies of blocks that were commanded and not yet reported, each with the round of its command.
+//! The pending transfers: copies of blocks that were commanded and not yet reported, each with the
+//! round of its command.
 //!
-//! They stand by block, as in Hadoop 2's PendingReplicationBlocks: those of one block are found by one hash, and are changed and
-//! taken out without memory. Room is made before: `reserve` for a block, and then so many inserts.
+//! They are grouped by block, as in Hadoop 2's PendingReplicationBlocks: one hash finds those of a
+//! block, and changing or removing them takes no memory. Capacity is reserved first: `reserve` for
+//! a block, and then as many inserts.
 #![tactic(auto)]
 
 mod by_block;

@@ -16,7 +16,7 @@ use crate::targets::is_expired;
 use bm_base::{BlockId, Refusal, ReplicaId, StorageId};
 use std::alloc::Global;
 
-/// Puts the storages behind those that are there. An `Err` changes nothing.
+/// Appends the storages. An `Err` changes nothing.
 pub(crate) fn push_storages(
     targets: &[(u32, u64)],
     into: &mut Vec<StorageId>,
@@ -42,7 +42,7 @@ fn replica_id(block: u64, storage: u32) -> ReplicaId
     }
 }
 
-/// The numbers of the blocks, rising.
+/// The numbers of the blocks, ascending.
 fn numbers_in(blocks: &Blocks, alloc: Global) -> Result<Vec<u64>, Refusal>
     ensures rising { IfOk result (λ v. IsNonDecreasing v.items) }
     ensures distinct { IfOk result (λ v. IsDistinct nat_eq v.items) }
@@ -55,7 +55,7 @@ fn numbers_in(blocks: &Blocks, alloc: Global) -> Result<Vec<u64>, Refusal>
     Ok(numbers)
 }
 
-/// Puts the transfers of a block behind those that are there.
+/// Appends the transfers of a block.
 fn push_transfers(
     targets: &[(u32, u64)],
     block: u64,
@@ -94,7 +94,7 @@ fn has_expired(targets: &[(u32, u64)], pend: u32, round: u64) -> bool
         .any(|target| is_expired(target.1, pend, round))
 }
 
-/// The numbers of the blocks with a transfer that is given up, rising.
+/// The numbers of the blocks with an expired transfer, ascending.
 fn expiring_in(blocks: &Blocks, alloc: Global, pend: u32, round: u64) -> Result<Vec<u64>, Refusal>
     ensures rising { IfOk result (λ v. IsNonDecreasing v.items) }
     ensures distinct { IfOk result (λ v. IsDistinct nat_eq v.items) }
@@ -112,7 +112,7 @@ fn expiring_in(blocks: &Blocks, alloc: Global, pend: u32, round: u64) -> Result<
     Ok(numbers)
 }
 
-/// Puts the transfers of a block that are given up behind those that are there.
+/// Appends the expired transfers of a block.
 fn push_expired(
     targets: &[(u32, u64)],
     block: u64,

@@ -1,4 +1,4 @@
-// Room for the transfers that were chosen of a part's own blocks.
+// Capacity for the chosen transfers of a part's own blocks.
 ghost use Rattle.std.specs.Prelude.{◌≡◌, ◌≤◌, ◌<◌, ℕ, ◌==◌, length, filter, suc, cond, nat_eq, OnOk, IfOk, IfErr};
 ghost use Rattle.bm_base.specs.declared.refusal.Refusal.TheVariants.{Memory};
 ghost use Rattle.bm_base.specs.RoundParts.{own_transfers};
@@ -10,7 +10,7 @@ use bm_base::{BlockId, HashSecret, Part, Refusal, Transfer, shard_of};
 use indexmap::IndexMap;
 
 impl PendingTransfers {
-    /// Makes room for these transfers, as far as they are of the part's own blocks: for each block as many as are its. A few
+    /// Reserves capacity for those of these transfers that are of the part's own blocks. A few
     /// hashes for each of them. `Memory`.
     pub fn reserve_own(&mut self, transfers: &[Transfer], part: Part) -> Result<(), Refusal>
         requires part { part.index < part.shards }
@@ -32,7 +32,7 @@ impl PendingTransfers {
     }
 }
 
-/// One more of a block is counted. Answers how many there are now.
+/// Counts one more transfer of a block. Returns the count.
 fn count_one(counts: &mut IndexMap<u64, usize, HashSecret>, id: BlockId) -> Result<usize, Refusal>
     requires { count_at counts.old.entries id < 18446744073709551615 }
     ensures counted { IfOk result (λ n. n ≡ suc (count_at counts.old.entries id)) }

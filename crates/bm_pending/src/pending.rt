@@ -1,4 +1,4 @@
-// The transfers on their way: the fields, what a contract sees of them, and the calls.
+// The pending transfers: the fields, what a contract sees of them, and the calls.
 ghost use Rattle.std.specs.Prelude.{◌≡◌, ◌≢◌, ◌≤◌, ◌<◌, ◌+◌, ◌++◌, [], length, ℕ, not, ◌==◌, if◌then◌else◌, OnOk, OnErr, IfOk, IfErr, IsOk, IsSome, true, nat_eq, slice_get, vec_len, vec_capacity};
 ghost use Rattle.std.specs.List.{IsDistinct};
 ghost use Rattle.bm_base.specs.declared.refusal.Refusal.TheVariants.{Memory};
@@ -21,12 +21,13 @@ use indexmap::IndexMap;
 use std::alloc::Global;
 use std::marker::Model;
 
-/// The transfers on their way, by block.
+/// The pending transfers, by block.
 ///
-/// A contract sees them as a map from block and target storage to the round of the command, and for each block how many more of its
-/// transfers need no memory. Only `reserve`, `reserve_own` and the calls that answer with a list take memory. A call on one block is one hash,
-/// but for `reserve` of a block that is not there, and a look along its few targets. A block whose last transfer is taken out
-/// keeps its room until `drop_empty_rooms`, which is to be called at the end of each round.
+/// A contract sees a map from block and target storage to the round of the command, and for each
+/// block how many more of its transfers need no memory. Only `reserve`, `reserve_own` and the calls
+/// that return a list take memory. A call on one block costs one hash and a scan of its few
+/// targets; `reserve` of a new block may cost more. A block whose last transfer is removed keeps
+/// its capacity until `drop_empty_rooms`, which is to be called at the end of each round.
 #[derive(Drop)]
 pub struct PendingTransfers {
     pub(crate) by_block: Blocks,
@@ -48,7 +49,7 @@ impl Model for PendingTransfers {
 }
 
 impl PendingTransfers {
-    /// No transfer, and no room, in a table that hashes by this secret. Takes no memory.
+    /// No transfer, and no capacity, in a table that hashes by this secret. Takes no memory.
     pub fn new(alloc: Global, secret: HashSecret) -> Self
         ensures map { result.map ≡ map.empty }
         ensures room { (block : ℕ) → room result block ≡ 0 }
@@ -59,8 +60,8 @@ impl PendingTransfers {
         }
     }
 
-    /// Makes room for so many more transfers of a block. May answer `Memory`, but not where one or more
-    /// are asked for and there is room for so many already.
+    /// Reserves capacity for `additional` more transfers of a block. May answer `Memory`, but not
+    /// if `additional` is positive and there is capacity already.
     pub fn reserve(&mut self, block: BlockId, additional: usize) -> Result<(), Refusal>
         ensures map { self.new.map ≡ self.old.map }
         ensures room { OnOk result (additional ≤ room self.new block) }
@@ -90,7 +91,7 @@ impl PendingTransfers {
         drop_in(&mut self.by_block, block.0, storage.0);
     }
 
-    /// Takes the transfers of a block out, and gives its room up. Takes no memory.
+    /// Removes the transfers of a block, and releases its capacity. Takes no memory.
     pub fn remove_block(&mut self, block: BlockId)
         ensures map { self.new.map ≡ map.keep self.old.map (λ q _. not (q.block == block)) }
         ensures rooms { (other : ℕ)
@@ -99,7 +100,8 @@ impl PendingTransfers {
         drop_block(&mut self.by_block, block.0);
     }
 
-    /// Takes the transfers out that were commanded `pend` rounds ago or earlier, in one pass over the blocks. Takes no memory.
+    /// Removes the transfers that were commanded `pend` rounds ago or earlier, in one pass over the
+    /// blocks. Takes no memory.
     pub fn drop_expired(&mut self, pend: u32, round: u64)
         ensures map { self.new.map ≡ map.keep self.old.map (λ _ t. not (is_expired pend round t)) }
         ensures rooms { (other : ℕ) → room self.old other ≤ room self.new other }
@@ -107,8 +109,8 @@ impl PendingTransfers {
         drop_expired_in(&mut self.by_block, pend, round);
     }
 
-    /// Takes the transfers to these storages out, in one pass over the blocks, each target compared with each of the storages. Takes no
-    /// memory.
+    /// Removes the transfers to these storages, in one pass over the blocks, each target compared
+    /// with each storage. Takes no memory.
     pub fn drop_storages(&mut self, storages: &[StorageId])
         ensures map { self.new.map
             ≡ map.keep self.old.map (λ q _. not (has storages.now q.storage)) }
@@ -117,7 +119,8 @@ impl PendingTransfers {
         drop_storages_in(&mut self.by_block, storages);
     }
 
-    /// Gives up the room of the blocks with no transfer, in one pass over the blocks. Takes no memory.
+    /// Releases the capacity of the blocks without a transfer, in one pass over the blocks. Takes
+    /// no memory.
     pub fn drop_empty_rooms(&mut self)
         ensures map { self.new.map ≡ self.old.map }
         ensures kept { (block : ℕ) → targets_of self.old block ≢ []
@@ -148,15 +151,15 @@ impl PendingTransfers {
         targets_in(&self.by_block, block.0).len()
     }
 
-    /// How many blocks have room or a transfer: `block_at` has one at each place below.
+    /// The number of blocks with capacity or a transfer: `block_at` has one at each index below.
     pub fn count(&self) -> usize
         ensures { result ≡ length (blocks_in self.now) }
     {
         self.by_block.len()
     }
 
-    /// The block at a place, from 0 on; `None` from `count()` on. `remove` leaves all places as they are, so a caller can go over them
-    /// and take transfers out on the way.
+    /// The block at an index, from 0 on; `None` from `count()` on. `remove` changes no index, so a
+    /// caller can remove transfers while it iterates.
     pub fn block_at(&self, place: usize) -> Option<BlockId>
         ensures { result ≡ slice_get (blocks_in self.now) place }
     {
@@ -166,17 +169,18 @@ impl PendingTransfers {
         }
     }
 
-    /// Does nothing: a caller has by it that the block of each transfer stands at a place, and no block at two.
+    /// For proofs alone: the block of each transfer has an index, and no block has two. Does
+    /// nothing.
     pub fn lawful(&self)
         ensures listed { (q : ReplicaId) → IsSome (map.get self.now.map q)
             → has (blocks_in self.now) q.block ≡ true }
         ensures once { IsDistinct nat_eq (blocks_in self.now) }
     {
-        // Reads nothing, and says that each block stands once.
+        // For proofs alone: each block occurs once.
         let _ = self.by_block.len();
     }
 
-    /// Puts the targets of a block's transfers, rising, behind what is there. May answer `Memory`, and then nothing is put.
+    /// Appends the targets of a block's transfers, ascending. On `Memory` nothing is appended.
     pub fn push_targets(&self, block: BlockId, into: &mut Vec<StorageId>) -> Result<(), Refusal>
         ensures items { OnOk result (into.new.items ≡ into.old.items ++ targets_of self.now block) }
         ensures succeeds { vec_len into.old + length (targets_of self.now block) ≤ vec_capacity
@@ -187,7 +191,8 @@ impl PendingTransfers {
         push_storages(targets_in(&self.by_block, block.0), into)
     }
 
-    /// The targets of a block's transfers that `drop_expired` leaves, rising. May answer `Memory`, but not for up to four.
+    /// The targets of the transfers of a block that `drop_expired` keeps, ascending. May answer
+    /// `Memory`, but not for up to four.
     pub fn targets_left(
         &self,
         alloc: Global,
@@ -202,7 +207,7 @@ impl PendingTransfers {
         Ok(left)
     }
 
-    /// How many of a block's transfers `drop_expired` leaves. Takes no memory.
+    /// The number of transfers of a block that `drop_expired` keeps. Takes no memory.
     pub fn count_left(&self, block: BlockId, pend: u32, round: u64) -> usize
         ensures { result ≡ length (remaining.targets_left pend round self.now block) }
     {
@@ -217,7 +222,7 @@ impl PendingTransfers {
         entries_in(&self.by_block, alloc)
     }
 
-    /// The transfers that `drop_expired` takes out, by block and then by target. May answer `Memory`.
+    /// The transfers that `drop_expired` removes, by block and then by target. May answer `Memory`.
     pub fn expired_transfers(
         &self,
         alloc: Global,

@@ -1,4 +1,5 @@
-// The transfers of one block: the target storages, which strictly rise, each with the round of its command.
+// The transfers of one block: the target storages, strictly ascending, each with the round of its
+// command.
 ghost use Rattle.std.specs.Prelude.{◌≡◌, ◌==◌, not, filter, map, length, T};
 ghost use Rattle.std.specs.Ordering.{nat_cmp};
 ghost use Rattle.std.specs.FinMap as list;
@@ -11,7 +12,7 @@ use bm_base::sorted::place;
 use smallvec::SmallVec;
 use std::cmp::Ordering;
 
-/// Two targets stand in place, as most blocks have no more; a third takes an allocation.
+/// Two targets are stored inline, as most blocks have no more; a third takes an allocation.
 pub(crate) type Targets = SmallVec<(u32, u64), 2>;
 
 /// Sets the round of a storage. Takes no memory.

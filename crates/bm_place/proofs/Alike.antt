@@ -1,4 +1,4 @@
--- Targets that are alike, and which of them goes before.
+-- Targets of one node, and which of them is better.
 use Rattle.std.specs.Bool.{beq}
 use Rattle.std.specs.Option.{option_eq}
 use Rattle.std.specs.Ordering.{is_lt, nat_cmp, ordering_then}

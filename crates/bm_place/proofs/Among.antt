@@ -1,4 +1,4 @@
--- Elements of a list and their places.
+-- Elements of a list and their indices.
 use Rattle.std.specs.Prelude.{slice_get}
 use Rattle.std.specs.List.Sorted.{IsPermutation}
 use Rattle.std.proofs.Common.{◌≡◌, ◌≤◌, ◌<◌, ◌-◌, ℕ, zero, suc, List, [], ◌∷◌, take, drop, get_or, Some, inl, inr, sym, ap, ◌∙◌, arith}

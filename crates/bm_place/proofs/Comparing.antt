@@ -1,4 +1,4 @@
--- Those that are left, looked up: what is in excess first among them, and those that are left when one is out.
+-- The remaining ones, looked up: the first in excess among them, and the rest without it.
 use Rattle.std.specs.Prelude.{option_map}
 use Rattle.std.proofs.Common.{◌≡◌, ◌≤◌, ◌==◌, ℕ, Bool, true, false, cond, not, List, [], ◌∷◌, map, drop, filter, length, count_by, Option, None, refl, sym, ap, ◌∙◌, arith}
 use Rattle.std.proofs.lemmas.List.{at_drop_all}

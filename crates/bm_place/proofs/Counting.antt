@@ -1,4 +1,5 @@
--- The tables of sources and targets say what is counted of each storage, and one transfer more keeps them true.
+-- The tables of sources and targets have the counts of each storage, and one more transfer keeps
+-- them right.
 use Rattle.std.specs.Prelude.{unwrap_or, option_map, if◌then◌else◌}
 use Rattle.std.proofs.Common.{◌≡◌, ◌<◌, ◌≤◌, nat_lt, subst, ℕ, ◌+◌, Bool, true, false, cond, ◌||◌, List, [], ◌∷◌, ◌++◌, map, sum_by, count_by, Option, Some, None, is_some, refl, sym, ap, ◌∙◌, ◌==◌, arith}
 use Rattle.std.specs.Ordering.{eq_by_cmp, nat_cmp}
@@ -66,7 +67,7 @@ target_more C sent target len s =
     either true = refl
     either false = refl
 
--- so many bytes more are sent to a storage
+-- n bytes more are scheduled to a storage
 pub targets-more : (C : Cluster) (sent : ℕ → ℕ) (target len : ℕ)
     → revise_at (target_table C sent) target (λ t. record t { scheduled = t.scheduled + len }) ≡ target_table C (λ s. sent s + cond (target == s) len 0)
 targets-more C sent target len =

@@ -1,4 +1,4 @@
--- The first targets of the nodes, by node, stand for all of them.
+-- The best targets of the nodes suffice in place of all targets.
 use Rattle.std.specs.Prelude.{◌⊎◌}
 use Rattle.std.specs.Ordering.{eq_by_cmp, nat_cmp}
 use Rattle.std.specs.Option.{option_map_or}

@@ -1,4 +1,4 @@
--- A scan over the foremost targets finds what a scan over all finds.
+-- A scan of the best targets finds what a scan of all finds.
 use Rattle.std.specs.Prelude.{option_map, nat_le, ◌||◌}
 use Rattle.std.specs.Ordering.{is_lt, nat_cmp, ordering_then, ordering_reverse}
 use Rattle.std.specs.FinMap.{nat_cmp-IsAntisymmetric}

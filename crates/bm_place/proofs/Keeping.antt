@@ -1,4 +1,4 @@
--- What is true of a table of storages and its foremost targets, when it is made.
+-- The invariant of a table of storages and its best targets, when it is made.
 use Rattle.std.specs.Prelude.{◌⊎◌, option_map, option_and_then}
 use Rattle.std.specs.List.Sorted.{IsPermutation}
 use Rattle.std.specs.Option.{option_map_or}

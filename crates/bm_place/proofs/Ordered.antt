@@ -1,4 +1,4 @@
--- Targets that stand in order, and one that is put among them.
+-- Sorted targets, and one that is inserted.
 use Rattle.std.specs.Prelude.{◌⊎◌, slice_get}
 use Rattle.std.specs.List.{count_by}
 use Rattle.std.specs.List.Sorted.{IsPermutation, IsSorted}
@@ -236,7 +236,8 @@ behind_at i [] c d h at there = cc
 behind_at zero (b ∷ cs) c d h at there = subst (λ b. goes_before d b ≡ false) (same_Some b c at) (h.0 d there).order
 behind_at (suc i) (b ∷ cs) c d h at there = behind_at i cs c d h.1 at there
 
--- What is true while others move up: what is left to do makes of them now what all makes of them as they were.
+-- What is true while others move up: what is left to do makes of them now what all makes of them as
+-- they were.
 pub record IsMovedTo (t : Target) (place : ℕ) (before : List Target) (i : ℕ) (now : List Target) : Type 0 where
   pub within : i < length now
   pub same : put_back t i now ≡ put_back t place before

@@ -1,4 +1,5 @@
--- One pass over storages in order finds what is in excess: first those whose rack holds another as they are passed, then those that are kept.
+-- One pass over sorted storages finds the excess: first those whose rack holds another at that
+-- moment, then those that are kept.
 use Rattle.std.specs.Prelude.{option_map, slice_get}
 use Rattle.std.specs.Option.{option_map_or}
 use Rattle.std.specs.List.Sorted.{IsSorted}
@@ -85,7 +86,8 @@ module _ (C : Cluster) where
       less true n m e f = grind (arith, e, f)
       less false n m e f = grind (arith, e, f)
 
-  -- one with another on its rack, or one of those without, goes first where none goes before it in its class
+  -- one with another on its rack, or one of those without, goes first where none goes before it in
+  -- its class
   after_mate : (a b : Bool) (o : Ordering) → b ≡ true → (a ≡ true → is_lt o ≡ false) → is_lt (ordering_then (nat_cmp (cond a 0 1) (cond b 0 1)) o) ≡ false
   after_mate true true o e f = f refl
   after_mate false true o e f = refl

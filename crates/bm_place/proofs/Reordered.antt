@@ -1,4 +1,4 @@
--- What is in excess does not depend on the order in which the candidates are named.
+-- The excess does not depend on the order of the candidates.
 use Rattle.std.specs.Option.{option_map_or}
 use Rattle.std.proofs.Common.{◌≡◌, ◌≤◌, ◌+◌, ◌==◌, ℕ, zero, suc, Bool, true, false, cond, not, ◌&&◌, ◌||◌, nat_lt, List, [], ◌∷◌, filter, length, count_by, Option, Some, None, refl, sym, ap, subst, ◌∙◌, arith, true≢false}
 use Rattle.std.specs.declared.cmp.Ordering.{Ordering}

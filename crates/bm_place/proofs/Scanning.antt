@@ -1,4 +1,4 @@
--- A scan that starts from a target ends at one that goes before all that pass.
+-- A scan that starts from a target ends at one that comes before all that pass.
 use Rattle.std.specs.Prelude.{◌⊎◌}
 use Rattle.std.specs.List.{cons_option}
 use Rattle.std.proofs.Common.{◌≡◌, Bool, true, false, cond, ◌&&◌, List, [], ◌∷◌, Option, Some, None, refl, inl, inr, sym, ap, subst, ◌∙◌}

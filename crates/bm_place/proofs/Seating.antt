@@ -1,4 +1,4 @@
--- The storages of a table stand among those that are put by their nodes.
+-- The storages of a table are among those sorted by their nodes.
 use Rattle.std.specs.Prelude.{filter_map, slice_get, nat_lt, nat_le}
 use Rattle.std.specs.List.{cons_option}
 use Rattle.std.specs.List.Sorted.{IsPermutation, IsPartitionPoint}

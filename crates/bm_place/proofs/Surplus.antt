@@ -1,4 +1,5 @@
--- What is in excess: the scan of those that are left ends at the first, the racks are counted, and one choice follows another.
+-- Excess: the scan of the remaining ones ends at the first, the racks are counted, and one choice
+-- follows another.
 use Rattle.std.specs.Prelude.{option_map}
 use Rattle.std.specs.Option.{option_map_or}
 use Rattle.std.proofs.Common.{append-nil, append_assoc, arith}

@@ -1,4 +1,4 @@
--- What it says of a target that it is the least of those that may be taken.
+-- What it implies that a target is the least eligible one.
 use Rattle.std.specs.Prelude.{◌||◌}
 use Rattle.std.specs.Option.{option_map_or, IfSome}
 use Rattle.std.specs.List.{list_any}

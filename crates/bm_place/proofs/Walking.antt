@@ -1,4 +1,4 @@
--- A walk along the foremost targets in their order may end before the last of them.
+-- A walk along the sorted best targets may end before the last of them.
 use Rattle.std.specs.Prelude.{slice_get, nat_le}
 use Rattle.std.specs.Option.{IfSome}
 use Rattle.std.specs.Ordering.{is_lt, nat_cmp, ordering_then}
@@ -89,7 +89,8 @@ module _ (C : Cluster) (w : Standing) (urgency : Level) (barred : List ℕ) (len
   pub ends_behind : (cs : List Target) (i : ℕ) (best : Option Target) → length cs ≤ i → scan order may best (drop i cs) ≡ scan order may None cs → scan order may None cs ≡ best
   ends_behind cs i best all inv = sym inv ∙ at_drop_all (λ xs. scan order may best xs) cs i all
 
--- What is true on the way along the foremost targets: what is left makes of the best so far what all make of none, and does not go before it.
+-- What is true on the way along the foremost targets: what is left makes of the best so far what
+-- all make of none, and does not go before it.
 pub record IsWalked (R : Target → Target → Ordering) (p : Target → Bool) (cs : List Target) (i : ℕ) (best : Option Target) : Type 0 where
   pub scanned : scan R p best (drop i cs) ≡ scan R p None cs
   pub behind : (d : Target) → IsAmong (drop i cs) d → IfSome best (λ b. goes_before d b ≡ false)

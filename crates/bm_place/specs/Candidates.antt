@@ -1,4 +1,4 @@
--- Replicas that may be in excess, by how many stand on each rack.
+-- Replicas that may be in excess, by the counts of racks.
 use Rattle.std.specs.Prelude.{◌≡◌, ℕ, Bool, List, count_by}
 use Rattle.std.specs.declared.cmp.Ordering.{Ordering}
 use Rattle.std.specs.Ordering.{nat_cmp, ordering_then}
@@ -9,11 +9,11 @@ use Rattle.bm_place.specs.declared.compared.Candidate.{Candidate}
 use Rattle.bm_place.specs.Standing.{is_rack}
 use Rattle.bm_place.specs.Tables.{count_at}
 
--- whether a storage stands on rack r
+-- whether a storage is on rack r
 abbrev pub is_on : Cluster → ℕ → ℕ → Bool
 is_on C r s = is_rack r (rack_of C s)
 
--- the counts say for every rack how many of these storages stand on it; 0 where none does
+-- the counts have for every rack the number of these storages on it; 0 for none
 abbrev pub CountsRacks : Cluster → List ℕ → Map by_number ℕ → Type 0
 CountsRacks C ss counts = (r : ℕ) → count_at counts r ≡ count_by (is_on C r) ss
 

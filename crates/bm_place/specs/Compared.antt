@@ -12,10 +12,10 @@ use Rattle.bm_place.specs.Standing.{is_rack}
 abbrev pub holder_at : Cluster → ℕ → Holder
 holder_at C s = record { storage = s; rack = rack_of C s; remaining = remaining C s }
 
--- how many of these stand on rack r
+-- the number of these on rack r
 abbrev pub count_among : List Holder → ℕ → ℕ
 count_among hs r = count_by (λ h. is_rack r h.rack) hs
 
--- one of these as a candidate: class 0 where two or more of them stand on its rack, else 1
+-- one of these as a candidate: class 0 if two or more of them are on its rack, else 1
 abbrev pub candidate_among : List Holder → Holder → Candidate
 candidate_among hs h = record { class = if option_map_or (λ r. nat_lt 1 (count_among hs r)) h.rack false then 0 else 1; remaining = h.remaining; storage = h.storage }

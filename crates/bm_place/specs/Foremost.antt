@@ -1,4 +1,4 @@
--- The targets that go before the others of their nodes.
+-- The best targets of the nodes.
 use Rattle.std.specs.Prelude.{◌≡◌, ◌≤◌, ℕ, zero, suc, Bool, true, false, ◌&&◌, ◌==◌, ◌⊎◌, if◌then◌else◌, List, [], ◌∷◌, Option, Some, None}
 use Rattle.std.specs.declared.cmp.Ordering.{Ordering}
 use Rattle.std.specs.Ordering.{nat_cmp, ordering_then, is_lt}
@@ -18,15 +18,16 @@ IsAmong (x ∷ xs) y = (x ≡ y) ⊎ IsAmong xs y
 abbrev pub are_alike : Target → Target → Bool
 are_alike s t = option_eq (λ m n. m == n) s.node t.node && option_eq (λ m n. m == n) s.rack t.rack && beq s.is_draining t.is_draining
 
--- which of two targets that are alike goes before: more room, then the lesser storage; `cmp_targets` of one rack
+-- which of two targets of one node is better: more free bytes, then the lesser storage;
+-- `cmp_targets` of one rack
 abbrev pub cmp_alike : Target → Target → Ordering
 cmp_alike s t = ordering_then (nat_cmp (room_on t) (room_on s)) (nat_cmp s.storage t.storage)
 
--- whether the first goes before the second
+-- whether the first is better than the second
 abbrev pub goes_before : Target → Target → Bool
 goes_before s t = is_lt (cmp_alike s t)
 
--- another than the best so far, if it is like the target and goes before the best; else that
+-- the other one, if it is of the target's node and better than the best so far; else that
 abbrev pub better_of : Target → Target → Option Target → Target
 better_of best t None = best
 better_of best t (Some c) = if are_alike c t && goes_before c best then c else best
@@ -45,7 +46,7 @@ abbrev pub with_firsts : Map by_number Target → List Target → Map by_number 
 with_firsts firsts [] = firsts
 with_firsts firsts (t ∷ ts) = with_firsts (with_first firsts t) ts
 
--- a target among others: behind those that go before it
+-- a target inserted after those that are better
 abbrev pub with_in_order : List Target → Target → List Target
 with_in_order [] t = t ∷ []
 with_in_order (c ∷ cs) t = if goes_before c t then c ∷ with_in_order cs t else t ∷ c ∷ cs
@@ -59,28 +60,28 @@ pub record AreFirstsInOrder (ts cs : List Target) : Type 0 where
   pub same : IsPermutation (firsts_of ts) cs
   pub in_order : IsSorted cmp_alike cs
 
--- a target in the place of the one at a place, and from there behind those that go before it
+-- the target at an index replaced, and moved back after those that are better
 abbrev pub put_back : Target → ℕ → List Target → List Target
 put_back t i [] = []
 put_back t zero (c ∷ cs) = with_in_order cs t
 put_back t (suc i) (c ∷ cs) = c ∷ put_back t i cs
 
--- that a target may stand for another: they are alike, and the other does not go before it
+-- that a target may replace another: they are of one node, and the other is not better
 pub record StandsFor (c t : Target) : Type 0 where
   pub alike : are_alike c t ≡ true
   pub before : goes_before t c ≡ false
 
--- that d may stand behind c: it does not go before it, and they are not alike
+-- that d may come after c: it is not better, and of another node
 pub record IsBehind (d c : Target) : Type 0 where
   pub order : goes_before d c ≡ false
   pub other : are_alike c d ≡ false
 
--- that these targets stand in order, no two of them alike
+-- that these targets are sorted, no two of them of one node
 abbrev pub IsInOrder : List Target → Type 0
 IsInOrder [] = Unit {0}
 IsInOrder (c ∷ cs) = ((d : Target) → IsAmong cs d → IsBehind d c) × IsInOrder cs
 
--- Some targets of a table of storages that stand for all of them.
+-- Some targets of a table of storages that suffice in place of all of them.
 pub record AreForemost (rows : Map by_number Target) (cs : List Target) : Type 0 where
   -- they are of the table
   pub known : (c : Target) → IsAmong cs c → get rows c.storage ≡ Some c
@@ -88,10 +89,10 @@ pub record AreForemost (rows : Map by_number Target) (cs : List Target) : Type 0
   pub first : (t : Target) → get rows t.storage ≡ Some t → (c : Target) × IsAmong cs c × StandsFor c t
   -- no more is sent to a storage than remains on it
   pub within : (c : Target) → IsAmong cs c → c.scheduled ≤ c.remaining
-  -- they stand in order
+  -- they are sorted
   pub ordered : IsInOrder cs
 
--- What is true of a table of storages and its foremost targets.
+-- The invariant of a table of storages and its best targets.
 pub record IsKept (rows : Map by_number Target) (cs : List Target) : Type 0 where
   -- each row is at the number of its storage, and no more is sent to a storage than remains on it
   pub at_storage : (s : ℕ) (t : Target) → get rows s ≡ Some t → t.storage ≡ s

@@ -15,19 +15,21 @@ use Rattle.bm_place.specs.Tables.{count_at}
 use Rattle.bm_place.specs.Sources.{Senders, sender_table, transfers_by, streams_by, max_transfers, TakesDrained}
 use Rattle.bm_place.specs.Targets.{target_table, LeavesRack}
 
--- the source that was found among these storages, where `sends` says of how many transfers each node is the source
+-- the source that was found among these storages, where `sends` has the number of transfers of each
+-- node
 pub record IsLeastSource (C : Cluster) (sends : ℕ → ℕ) (urgency : Level) (usable : List ℕ) (found : Option ℕ) : Type 0 where
   -- the one that the definition chooses
   pub choice : found ≡ least_source_by C (streams_by C sends) urgency usable
-  -- it may send, and none that may goes before it
+  -- it may send, and none that may comes before it
   pub least : IsLeastOf (source_cmp C (streams_by C sends)) (λ s. nat_lt (streams_by C sends s) (stream_limit urgency (is_draining C s))) usable found
   pub drained_first : TakesDrained C (streams_by C sends) usable found
 
--- the target that was found among the storages of a cluster, where `sent` says how many bytes are sent to each
+-- the target that was found among the storages of a cluster, where `sent` has the bytes scheduled
+-- to each
 pub record IsLeastTarget (C : Cluster) (sent : ℕ → ℕ) (urgency : Level) (holders barred : List ℕ) (len : ℕ) (found : Option ℕ) : Type 0 where
   -- the one that the definition chooses
   pub choice : found ≡ least_target_by C sent urgency holders barred len
-  -- it may be taken, and none that may goes before it
+  -- it is eligible, and no eligible one comes before it
   pub least : IsLeastOf (target_cmp C sent holders) (is_target C sent urgency holders barred len) (keys C.storages) found
   pub room : IfSome found (λ s. len + sent s ≤ remaining C s)
   pub unbarred_node : IfSome found (λ s. (b n : ℕ) → has barred b ≡ true → node_of C b ≡ Some n → has_storage C n s ≡ false)
@@ -46,7 +48,7 @@ targets_with C chosen = target_table C (scheduled_to chosen)
 abbrev pub IsCountable : Senders → ℕ → Type 0
 IsCountable S s = IfSome (get S.nodes s) (λ n. count_at S.counts n < max_transfers)
 
--- so many bytes more fit on a storage, if it is there
+-- n bytes more fit on a known storage
 abbrev pub HasRoomFor : Map by_number Target → ℕ → ℕ → Type 0
 HasRoomFor rows len s = IfSome (get rows s) (λ t. len + t.scheduled ≤ t.remaining)
 
@@ -63,6 +65,6 @@ pub record IsFoundTarget (C : Cluster) (rows : Map by_number Target) (sent : ℕ
   -- the length fits on it by the table
   pub fits : IfSome found (HasRoomFor rows len)
 
--- so many bytes more are sent to a storage
+-- n bytes more are scheduled to a storage
 abbrev pub with_sent : Map by_number Target → ℕ → ℕ → Map by_number Target
 with_sent rows s len = revise_at rows s (λ t. record t { scheduled = t.scheduled + len })

@@ -4,7 +4,7 @@ pub mod Tables
 pub mod Sources
 pub mod Targets
 pub mod Found
--- Words of the bodies: the same as in bm_base, said of rows and counts.
+-- Words of the bodies: the same as in bm_base, for rows and counts.
 pub mod Scan
 pub mod Few
 pub mod Standing

@@ -1,4 +1,4 @@
--- Storages with a live replica, looked up and put in order, which are gone over once.
+-- Storages with a live replica, looked up and sorted, for a single pass.
 use Rattle.std.specs.Prelude.{◌≡◌, ℕ, false, List, map}
 use Rattle.std.specs.declared.cmp.Ordering.{Ordering}
 use Rattle.std.specs.Ordering.{nat_cmp, ordering_then}
@@ -10,11 +10,12 @@ use Rattle.bm_place.specs.declared.compared.Holder.{Holder}
 use Rattle.bm_place.specs.Candidates.{CountsRacks}
 use Rattle.bm_place.specs.Compared.{holder_at}
 
--- Which is in excess before which where they are of one class: one with fewer remaining bytes, then the greater number.
+-- The order of excess within a class: one with fewer remaining bytes, then the greater number.
 abbrev pub cmp_in_class : Holder → Holder → Ordering
 cmp_in_class g h = ordering_then (nat_cmp g.remaining h.remaining) (nat_cmp h.storage g.storage)
 
--- these storages, looked up, stand in that order, each once, and the counts say how many of them stand on each rack
+-- these storages, looked up, are in that order, each once, and the counts have the number of them
+-- on each rack
 pub record AreReady (C : Cluster) (ss : List ℕ) (holders : List Holder) (counts : Map by_number ℕ) : Type 0 where
   pub looked_up : holders ≡ map (holder_at C) ss
   pub in_order : IsSorted cmp_in_class holders

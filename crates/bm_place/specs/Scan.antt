@@ -1,4 +1,4 @@
--- Going over a list once, keeping the least so far of the elements that pass.
+-- A scan of a list that keeps the least so far of the elements that pass.
 use Rattle.std.specs.Prelude.{Bool, true, ◌&&◌, if◌then◌else◌, List, [], ◌∷◌, Option, Some, None}
 use Rattle.std.specs.declared.cmp.Ordering.{Ordering}
 use Rattle.std.specs.Ordering.{is_lt}

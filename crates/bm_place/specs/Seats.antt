@@ -1,4 +1,4 @@
--- The storages of a table of storages beside their nodes.
+-- The storages of a table of storages, each with its node.
 use Rattle.std.specs.Prelude.{◌≡◌, ℕ, List, map, Option, Some}
 use Rattle.std.specs.Option.{option_map_or}
 use Rattle.std.specs.List.Sorted.{IsNonDecreasingBy}
@@ -7,7 +7,7 @@ use Rattle.bm_place.specs.declared.scheduled.Target.{Target}
 use Rattle.bm_place.specs.declared.seats.Seat.{Seat}
 use Rattle.bm_place.specs.Foremost.{IsAmong, IsKept}
 
--- the storage of a target beside its node
+-- the storage of a target with its node
 abbrev pub seat_of : Target → Seat
 seat_of t = record { node = t.node; storage = t.storage }
 
@@ -27,7 +27,7 @@ AreByNode seats = IsNonDecreasingBy (λ (e : Seat). number_of e.node) seats
 abbrev pub AreSeated : Map by_number Target → List Seat → Type 0
 AreSeated rows seats = (s : ℕ) (t : Target) → get rows s ≡ Some t → IsAmong seats (seat_of t)
 
--- What is true of a table of storages, its foremost targets, and its storages by their nodes.
+-- The invariant of a table of storages, its best targets, and its storages by their nodes.
 pub record IsIndexed (rows : Map by_number Target) (cs : List Target) (seats : List Seat) : Type 0 where
   pub kept : IsKept rows cs
   pub seated : AreSeated rows seats

@@ -15,7 +15,7 @@ use Rattle.bm_base.specs.Transfers.{node_number, source_rank, stream_limit}
 use Rattle.bm_place.specs.declared.source.Source.{Source}
 use Rattle.bm_place.specs.Tables.{table}
 
--- what a table of sources says
+-- the content of a table of sources
 pub record Senders : Type 0 where
   -- by storage: its node
   pub nodes : Map by_number ℕ
@@ -26,7 +26,7 @@ pub record Senders : Type 0 where
 abbrev pub max_transfers : ℕ
 max_transfers = 256000
 
--- the table of a cluster, where `sends` says for each node of how many transfers it is the source
+-- the table of a cluster, where `sends` has the number of transfers of each node
 abbrev pub sender_table : Cluster → (ℕ → ℕ) → Senders
 sender_table C sends = record { nodes = table (node_number C) (keys C.storages); counts = table sends (map (node_number C) (keys C.storages)) }
 
@@ -34,7 +34,8 @@ sender_table C sends = record { nodes = table (node_number C) (keys C.storages);
 unfoldable pub transfers_by : Cluster → List Transfer → ℕ → ℕ
 transfers_by C chosen n = count_by (λ t. has_storage C n t.source) chosen
 
--- of how many transfers the node of a storage is the source, where `sends` says it for each node; 0 for an unknown storage
+-- the number of transfers that the node of a storage sends, where `sends` has it for each node; 0
+-- for an unknown storage
 abbrev pub streams_by : Cluster → (ℕ → ℕ) → ℕ → ℕ
 streams_by C sends s = option_map_or sends (node_of C s) 0
 
@@ -42,22 +43,23 @@ streams_by C sends s = option_map_or sends (node_of C s) 0
 unfoldable pub with_one_from : ℕ → Senders → Senders
 with_one_from s S = option_map_or (λ n. record S { counts = revise_at S.counts n (λ k. k + 1) }) (get S.nodes s) S
 
--- a storage as a source, where `streams` says of how many transfers its node is the source
+-- a storage as a source, where `streams` has the number of transfers that its node sends
 abbrev pub source_at : Cluster → (ℕ → ℕ) → ℕ → Source
 source_at C streams s = record { is_drained = is_draining C s; streams = streams s; node = node_number C s; storage = s }
 
--- which goes before which: the same on rows as `source_cmp`
+-- the order of sources: the same on rows as `source_cmp`
 abbrev pub cmp_sources : Source → Source → Ordering
 cmp_sources s t =
     ordering_then (nat_cmp (source_rank s.is_drained) (source_rank t.is_drained))
     (ordering_then (nat_cmp s.streams t.streams) (ordering_then (nat_cmp s.node t.node) (nat_cmp s.storage t.storage)))
 
--- whether its node may be the source of one more transfer at a level: the same on rows as the test of `least_source_by`
+-- whether its node may send one more transfer at a level: the same on rows as the test of
+-- `least_source_by`
 abbrev pub may_send : Level → Source → Bool
 may_send urgency s = nat_lt s.streams (stream_limit urgency s.is_drained)
 
--- where one of the storages stands on a node that drains and is the source of fewer than four transfers, what was found stands on
--- a node that drains
+-- if one of the storages is on a node that drains and sends fewer than four transfers, the result
+-- is on a node that drains
 abbrev pub TakesDrained : Cluster → (ℕ → ℕ) → List ℕ → Option ℕ → Type 0
 TakesDrained C streams usable found =
     (s : ℕ) → has usable s ≡ true → is_draining C s ≡ true → streams s < 4 → option_map_or (is_draining C) found false ≡ true

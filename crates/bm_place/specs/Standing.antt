@@ -8,7 +8,7 @@ use Rattle.bm_place.specs.declared.few.Few.TheVariants.{Nothing, One, Two}
 use Rattle.bm_place.specs.declared.standing.Standing.{Standing}
 pub use Rattle.bm_place.specs.Few.{with_number, are_two, is_one}
 
--- the numbers seen with a rack, if it is known
+-- the numbers so far with a rack, if it is known
 abbrev pub with_known : Few → Option ℕ → Few
 with_known seen None = seen
 with_known seen (Some r) = with_number seen r
@@ -40,6 +40,6 @@ class_on (One r) two rack = if is_rack r rack then 1 else 0
 class_on (Two p q) true rack = if is_rack p rack || is_rack q rack then 0 else 1
 class_on _ two rack = 0
 
--- the class of a target on a rack, where the block is held as w says: the same as `class_of`
+-- the class of a target on a rack, where w holds the block: the same as `class_of`
 abbrev pub class_in : Standing → Option ℕ → ℕ
 class_in w rack = class_on w.racks (are_two w.storages) rack

@@ -14,6 +14,6 @@ table f ks = insert_all empty (listed f ks)
 abbrev pub nothing_yet : ℕ → ℕ
 nothing_yet = λ _. 0
 
--- the count at a number; 0 where none stands
+-- the count of a number; 0 if it has none
 unfoldable pub count_at : Map by_number ℕ → ℕ → ℕ
 count_at counts k = unwrap_or (get counts k) 0

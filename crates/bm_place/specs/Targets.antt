@@ -19,7 +19,7 @@ use Rattle.bm_place.specs.declared.standing.Standing.{Standing}
 use Rattle.bm_place.specs.Standing.{class_in, is_one}
 use Rattle.bm_place.specs.Tables.{table}
 
--- a storage of the cluster as a target, where `sent` says for each storage how many bytes are sent to it
+-- a storage of the cluster as a target, where `sent` has the bytes scheduled to each storage
 abbrev pub target_at : Cluster → (ℕ → ℕ) → ℕ → Target
 target_at C sent s = record { storage = s; node = node_of C s; rack = rack_of C s; is_draining = is_draining C s; remaining = remaining C s; scheduled = sent s }
 
@@ -27,20 +27,21 @@ target_at C sent s = record { storage = s; node = node_of C s; rack = rack_of C 
 abbrev pub target_table : Cluster → (ℕ → ℕ) → Map by_number Target
 target_table C sent = table (target_at C sent) (keys C.storages)
 
--- the remaining bytes beside those that are sent to it: the same on rows as `room`
+-- the remaining bytes less those scheduled to it: the same on rows as `room`
 abbrev pub room_on : Target → ℕ
 room_on t = t.remaining - t.scheduled
 
--- which goes before which, where the block is held as w says: the same on rows as `target_cmp`
+-- the order of targets, where w holds the block: the same on rows as `target_cmp`
 abbrev pub cmp_targets : Standing → Target → Target → Ordering
 cmp_targets w s t =
     ordering_then (nat_cmp (class_in w s.rack) (class_in w t.rack)) (ordering_then (nat_cmp (room_on t) (room_on s)) (nat_cmp s.storage t.storage))
 
--- whether its node does not drain, the length fits, and, for a badly distributed block that is held on one rack, the rack is another
+-- whether its node does not drain, the length fits, and a badly distributed block that is held on
+-- one rack would get to another one
 abbrev pub is_open : Standing → Level → ℕ → Target → Bool
 is_open w urgency len t = not t.is_draining && nat_le (len + t.scheduled) t.remaining && not (is_at BadlyDistributed (Some urgency) && is_one w.racks && (class_in w t.rack == 1))
 
--- whether it stands on the node of one of these storages: the same on rows as `is_barred`
+-- whether it is on the node of one of these storages: the same on rows as `is_barred`
 unfoldable pub is_barred_by : Cluster → List ℕ → Target → Bool
 is_barred_by C barred t = list_any (λ b. option_map_or (λ n. option_map_or (λ m. m == n) t.node false) (node_of C b) false) barred
 
@@ -55,11 +56,12 @@ coded_target =
     (λ t. (t.storage, (t.node, (t.rack, (t.is_draining, (t.remaining, t.scheduled))))))
     (λ u. record { storage = u.0; node = u.1.0; rack = u.1.1.0; is_draining = u.1.1.1.0; remaining = u.1.1.1.1.0; scheduled = u.1.1.1.1.1 }) (λ _. refl)
 
--- whether a storage stands on none of the racks of these
+-- whether a storage is on none of the racks of these
 abbrev pub is_off_racks : Cluster → List ℕ → ℕ → Bool
 is_off_racks C holders s = not (is_on_racks C (racks C holders) s)
 
--- where the block is held on one rack, and a storage off that rack may be taken, what was found is off that rack
+-- if the block is held on one rack, and a storage off that rack is eligible, the result is off that
+-- rack
 abbrev pub LeavesRack : Cluster → (ℕ → ℕ) → Level → List ℕ → List ℕ → ℕ → Option ℕ → Type 0
 LeavesRack C sent urgency holders barred len found =
     length (racks C holders) ≡ 1 → (t : ℕ) → has (keys C.storages) t ≡ true → is_target C sent urgency holders barred len t ≡ true → is_off_racks C holders t ≡ true

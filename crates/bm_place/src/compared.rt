@@ -1,4 +1,4 @@
-// What is in excess where few replicas are live: each is looked up once, and then they are compared with one another.
+// Excess among few live replicas: each is looked up once, and then compared with the others.
 ghost use Rattle.std.specs.Prelude.{◌≡◌, ◌++◌, false, nat_lt, ℕ, List, map, option_map, OnOk};
 ghost use Rattle.std.specs.Option.{option_map_or};
 ghost use Rattle.bm_base.specs.Excess as excess;
@@ -20,7 +20,8 @@ pub struct Holder {
     pub remaining: u64,
 }
 
-/// A replica that may be in excess, in the order of choice except that of two storages the greater comes first.
+/// A replica that may be in excess, in the order of choice, but of two storages the greater comes
+/// first.
 #[derive(Clone, Copy)]
 pub struct Candidate {
     /// 0 where the rack holds another candidate, else 1.
@@ -29,8 +30,8 @@ pub struct Candidate {
     pub storage: StorageId,
 }
 
-/// Puts so many of these storages, one after another, each of those that are left the one that is in excess before all others, behind
-/// those that are there. `holders` is room, of which what stood in it does not matter.
+/// Appends the `surplus` first storages in the order of excess, one after another. `holders` is
+/// scratch space.
 pub(crate) fn push_of_few(
     into: &mut Vec<StorageId>,
     holders: &mut Vec<Holder>,
@@ -52,7 +53,7 @@ pub(crate) fn push_of_few(
     Ok(())
 }
 
-/// Puts these storages, looked up, in the place of those that are there.
+/// Replaces the contents by these storages, looked up.
 pub(crate) fn fill_holders(
     holders: &mut Vec<Holder>,
     live: &[StorageId],
@@ -107,7 +108,7 @@ fn candidate_among(holders: &[Holder], holder: &Holder) -> Candidate
     }
 }
 
-/// Whether two or more of these stand on this rack; not on none.
+/// Whether two or more of these are on this rack; not on none.
 fn has_two(holders: &[Holder], rack: Option<Rack>) -> bool
     ensures { result ≡ option_map_or
         (λ r. nat_lt 1 (compared.count_among holders.now r)) rack false }

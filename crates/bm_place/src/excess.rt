@@ -10,22 +10,23 @@ use bm_base::{NumberMap, Refusal, StorageId};
 use bm_topo::Topology;
 use std::alloc::{AllocError, Global};
 
-/// Up to this number of live replicas, each is compared with the others, which takes less time than to sort them and count their racks.
+/// Up to this number of live replicas are compared pairwise, which is faster than to sort them and
+/// count their racks.
 const FEW: usize = 8;
 
-/// Room for the choice of what is in excess, used again from block to block.
+/// Scratch buffers for the choice of excess, used again from block to block.
 #[derive(Drop)]
 pub struct ExcessRoom {
     /// Where few are live: those that are left, looked up. Where more are: all, in order.
     holders: Vec<Holder>,
     /// Where more are: those that had their rack for themselves when the pass reached them.
     kept: Vec<StorageId>,
-    /// Where more are: how many of those that are left stand on each rack.
+    /// For many replicas: the number of remaining ones on each rack.
     racks: NumberMap<usize>,
 }
 
 impl ExcessRoom {
-    /// Room for none. Takes no memory.
+    /// Empty buffers. Takes no memory.
     pub fn new(alloc: Global) -> ExcessRoom {
         ExcessRoom {
             holders: Vec::new(alloc),
@@ -35,13 +36,14 @@ impl ExcessRoom {
     }
 }
 
-/// The storages of those of a block's live replicas that are in excess where `repl` are wanted, in the order of choice. They are
-/// chosen one after another: first one whose rack holds another of those that are left, then one on whose storage fewer bytes
-/// remain, then the greater storage. An unknown storage has no rack and no remaining bytes. `live` names each storage once.
+/// The storages of those of a block's live replicas that are in excess where `repl` are wanted, in
+/// the order of choice. They are chosen one after another: first one whose rack holds another
+/// remaining one, then one on whose storage fewer bytes remain, then the greater storage. An
+/// unknown storage has no rack and no remaining bytes. `live` names each storage once.
 ///
-/// Each replica is looked up once. Up to eight are compared with one another. More of them, n, are sorted, their racks are
-/// counted, and one pass chooses, in O(n log n) steps. Where none is in excess it takes no memory; else `Memory` where a growth of
-/// its lists is refused.
+/// Each replica is looked up once. Up to eight are compared with one another. More of them, n, are
+/// sorted, their racks are counted, and one pass chooses, in O(n log n) steps. If none is in excess
+/// it takes no memory; else `Memory` where a list cannot grow.
 pub fn excess_of(
     alloc: Global,
     live: &[StorageId],
@@ -59,11 +61,12 @@ pub fn excess_of(
     Ok(chosen)
 }
 
-/// Replaces the contents of `into` by what [`excess_of`] answers, in the same steps. `room` may have been used for any block
-/// before.
+/// Replaces the contents of `into` by what [`excess_of`] returns, in the same steps. `room` is
+/// scratch space and may have been used for any block before.
 ///
-/// It takes memory only where some are in excess, and then only where `into` or a list of `room` has to hold more than ever
-/// before. `Memory` where such a growth is refused; what `into` holds then is not said.
+/// It takes memory only if some are in excess, and then only if `into` or a list of `room` grows
+/// past its capacity. `Memory` where such a growth is refused; then the contents of `into` are
+/// unspecified.
 pub fn fill_excess(
     into: &mut Vec<StorageId>,
     room: &mut ExcessRoom,
@@ -87,7 +90,8 @@ pub fn fill_excess(
     Ok(push_of_many(into, room, live, surplus, topology)?)
 }
 
-/// Appends the `surplus` first of these storages in the order of choice: sorts them and passes over them once.
+/// Appends the `surplus` first of these storages in the order of choice: sorts them and iterates
+/// once.
 fn push_of_many(
     into: &mut Vec<StorageId>,
     room: &mut ExcessRoom,

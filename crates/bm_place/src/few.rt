@@ -1,10 +1,11 @@
-// The different numbers of a list, as far as two: on how many racks a block stands, and whether two storages hold it.
+// The different numbers of a list, up to two: on how many racks a block is, and whether two
+// storages hold it.
 ghost use Rattle.std.specs.Prelude.{◌≡◌};
 ghost use Rattle.bm_place.specs.Few as numbers;
 
 use std::cmp::Ordering;
 
-/// The different numbers seen so far. Of two the lesser comes first.
+/// The different numbers so far. Of two the lesser comes first.
 #[derive(Clone, Copy)]
 pub enum Few {
     Nothing,

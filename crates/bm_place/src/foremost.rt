@@ -11,8 +11,8 @@ use crate::seats::Seat;
 use bm_base::{NumberMap, StorageId};
 use std::alloc::{AllocError, Global};
 
-/// Of the targets of each node the one that goes before the others, in their order. Iterates over
-/// them once, by a look-up or two each, and sorts those of the nodes.
+/// The best target of each node, sorted. Iterates over the targets once, with a look-up or two
+/// each, and sorts those of the nodes.
 pub fn foremost_of(alloc: Global, rows: &[(u64, Target)]) -> Result<Vec<Target>, AllocError>
     ensures { IfOk result (λ v. nodes.AreFirstsInOrder (table.values rows.now) v.items) }
 {
@@ -22,7 +22,7 @@ pub fn foremost_of(alloc: Global, rows: &[(u64, Target)]) -> Result<Vec<Target>,
     Ok(foremost)
 }
 
-/// By node the one of its targets that goes before the others.
+/// The best target of each node, by node.
 fn firsts_of(alloc: Global, rows: &[(u64, Target)]) -> Result<NumberMap<Target>, AllocError>
     ensures { IfOk result (λ m. m.map ≡ nodes.with_firsts table.empty (table.values rows.now)) }
 {
@@ -33,7 +33,8 @@ fn firsts_of(alloc: Global, rows: &[(u64, Target)]) -> Result<NumberMap<Target>,
     Ok(firsts)
 }
 
-/// Enters a target where its node has none, or in the place of its node's, where it goes before that; nothing for one with no node.
+/// Inserts a target if its node has none, or replaces its node's if it is better; ignores one
+/// without a node.
 fn enter(firsts: &mut NumberMap<Target>, target: &Target) -> Result<(), AllocError>
     ensures { OnOk result (firsts.new.map ≡ nodes.with_first firsts.old.map target.now) }
 {
@@ -71,7 +72,7 @@ fn sort_targets(targets: &mut Vec<Target>)
     });
 }
 
-/// Of a target and the rows of some storages the one of the target's node that goes before the others. Looks up each storage once.
+/// The best of a target and the rows of some storages of its node. Looks up each storage once.
 pub fn foremost_beside(target: Target, rows: &NumberMap<Target>, near: &[Seat]) -> Target
     ensures { scanned.scan nodes.cmp_alike (λ c. nodes.are_alike c target) (Some target)
         (filter_map (λ e. table.get rows.now.map e.storage) near.now) ≡ Some result }
@@ -83,7 +84,7 @@ pub fn foremost_beside(target: Target, rows: &NumberMap<Target>, near: &[Seat]) 
     best
 }
 
-/// The other one, if it is of the target's node and goes before the best so far; else that.
+/// The other one, if it is of the target's node and better than the best so far; else that.
 fn better_of(best: &Target, target: &Target, other: Option<Target>) -> Target
     ensures { result ≡ nodes.better_of best.now target.now other }
 {
@@ -93,14 +94,14 @@ fn better_of(best: &Target, target: &Target, other: Option<Target>) -> Target
     }
 }
 
-/// The place of the target of this storage.
+/// The index of the target of this storage.
 pub fn place_of(foremost: &[Target], storage: StorageId) -> Option<usize>
     ensures { result ≡ position (λ c. c.storage == storage) foremost.now }
 {
     foremost.iter().position(|other| other.storage == storage)
 }
 
-/// Puts another target in the place of the one at a place, and from there behind those that go before it. Those move up.
+/// Replaces the target at `place` and moves it back to its sorted position.
 pub fn put_back(foremost: &mut Vec<Target>, place: usize, target: &Target)
     requires { place < length foremost.old.items }
     ensures { foremost.new.items ≡ nodes.put_back target.now place foremost.old.items }
@@ -120,7 +121,8 @@ fn are_alike(one: &Target, other: &Target) -> bool
     one.node == other.node && one.rack == other.rack && one.is_draining == other.is_draining
 }
 
-/// Whether a target goes before another of its node: it has more room, or as much and the lesser storage.
+/// Whether a target is better than another of its node: it has more free bytes, or as many and the
+/// lesser storage.
 fn goes_before(one: &Target, other: &Target) -> bool
     ensures { result ≡ nodes.goes_before one.now other.now }
 {
@@ -130,7 +132,7 @@ fn goes_before(one: &Target, other: &Target) -> bool
         .is_lt()
 }
 
-/// The remaining bytes beside those that are sent to it.
+/// Its remaining bytes less those scheduled to it.
 pub fn room_on(target: &Target) -> u64
     ensures { result ≡ targets.room_on target.now }
 {

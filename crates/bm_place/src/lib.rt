@@ -1,9 +1,10 @@
-//! Placement: which replicas of a block are in excess, and from where and to where its next copy is made.
+//! Placement: which replicas of a block are in excess, and the source and target of its next copy.
 //!
-//! A round makes both tables, [`Streams`] and [`Scheduled`], once of the cluster. For each copy that is wished for it asks
-//! [`least_source`] and [`least_target`], and where both answer it adds the transfer to both tables. Usable replicas are the good
-//! ones that are not in excess: on a node that drains they are drained, elsewhere live. The storages handed in are of the
-//! cluster, and a list names a storage once.
+//! A round makes both tables, [`Streams`] and [`Scheduled`], once from the cluster. For each wanted
+//! copy it asks [`least_source`] and [`least_target`], and if both answer it adds the transfer to
+//! both tables. Usable replicas are the good ones that are not in excess: on a node that drains
+//! they are drained, elsewhere live. The given storages are in the cluster, and a list names a
+//! storage once.
 #![tactic(auto)]
 
 mod compared;

@@ -1,4 +1,4 @@
-// What is in excess where more than a few replicas are live: they are put in order, and gone over once.
+// Excess among many live replicas: they are sorted, and then passed over once.
 ghost use Rattle.std.specs.Prelude.{◌≡◌, ◌+◌, ◌-◌, ◌++◌, ◌&&◌, if◌then◌else◌, false, nat_lt, take, ℕ, List, OnOk, IfOk};
 ghost use Rattle.std.specs.Option.{option_map_or};
 ghost use Rattle.std.specs.List.Sorted.{IsPermutation, IsSorted};
@@ -14,8 +14,8 @@ use crate::compared::Holder;
 use bm_base::{NumberMap, Rack, StorageId};
 use std::alloc::AllocError;
 
-/// Puts them in the order of choice of those that are of one class: first one on whose storage fewer bytes remain, then the greater
-/// storage. Takes no memory.
+/// Sorts them by the order of choice within a class: first one on whose storage fewer bytes remain,
+/// then the greater storage. Takes no memory.
 pub(crate) fn sort_holders(holders: &mut Vec<Holder>)
     ensures moved { IsPermutation holders.old.items holders.new.items }
     ensures in_order { IsSorted pass.cmp_in_class holders.new.items }
@@ -27,7 +27,7 @@ pub(crate) fn sort_holders(holders: &mut Vec<Holder>)
     });
 }
 
-/// How many of these stand on each rack, in the place of what was counted before.
+/// Counts these by rack, replacing the counts before.
 pub(crate) fn count_racks(
     counts: &mut NumberMap<usize>,
     holders: &[Holder],
@@ -63,8 +63,8 @@ fn count_on(counts: &NumberMap<usize>, rack: Rack) -> usize
     }
 }
 
-/// Puts so many of these storages, which are in order with their racks counted, in the order of choice behind those that are there. Goes
-/// over them once. `kept` is room, of which what stood in it does not matter.
+/// Appends `surplus` of these storages, which are sorted with their racks counted, in the order of
+/// choice. Iterates once. `kept` is scratch space.
 pub(crate) fn push_in_order(
     into: &mut Vec<StorageId>,
     kept: &mut Vec<StorageId>,
@@ -81,9 +81,10 @@ pub(crate) fn push_in_order(
     into.extend_from_slice(kept)
 }
 
-/// Goes over these storages in order. One whose rack counts more than one is chosen, and the rack counts one fewer from then on; each
-/// other is kept. It ends as soon as there are so many. Answers how many are still to be chosen: these are the first of those that are
-/// kept, since a rack that once counts one holds no other later.
+/// Iterates over these storages in order. One whose rack counts more than one is chosen, and the
+/// rack then counts one fewer; each other is kept. Ends as soon as enough are chosen. Returns how
+/// many are still to be chosen: these are the first kept ones, since a rack that counts one never
+/// counts more later.
 fn push_rack_mates(
     into: &mut Vec<StorageId>,
     kept: &mut Vec<StorageId>,
@@ -128,7 +129,7 @@ fn lower_if_more(racks: &mut NumberMap<usize>, rack: Option<Rack>) -> bool
     }
 }
 
-/// So many fewer stand on a rack.
+/// Counts `gone` fewer on a rack.
 fn lower(counts: &mut NumberMap<usize>, rack: Rack, gone: usize)
     ensures { counts.new.map ≡ map.revise_at counts.old.map rack (λ n. n - gone) }
 {

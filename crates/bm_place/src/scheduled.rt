@@ -1,4 +1,4 @@
-// What is sent to each storage in a round.
+// The bytes scheduled to each storage in a round.
 ghost use Rattle.std.specs.Prelude.{◌≡◌, ◌≤◌, ◌+◌, ◌==◌, false, if◌then◌else◌, ℕ, List, [], ◌∷◌, ◌++◌, IfOk, IfErr};
 ghost use Rattle.std.specs.Option.{IfSome};
 ghost use Rattle.bm_base.specs.declared.refusal.Refusal.TheVariants.{Memory};
@@ -20,7 +20,8 @@ use bm_topo::Topology;
 use std::alloc::{AllocError, Global};
 use std::marker::Model;
 
-/// A storage as a target: where it stands, whether its node drains, its remaining bytes, and how many are sent to it.
+/// A storage as a target: its node and rack, whether its node drains, its remaining bytes, and the
+/// bytes scheduled to it.
 #[derive(Clone, Copy)]
 pub struct Target {
     pub storage: StorageId,
@@ -31,16 +32,18 @@ pub struct Target {
     pub scheduled: u64,
 }
 
-/// How many bytes are sent to each storage in a round, beside where it stands.
+/// The bytes scheduled to each storage in a round, with the storage's node and rack.
 ///
-/// Made once for a round: it keeps what the cluster was when it was made, and knows nothing of transfers of earlier rounds. A
-/// contract sees a table with a row for each storage: the storage, its node and rack, whether the node drains, its remaining
-/// bytes and the bytes that are sent to it. Beside these rows it keeps what saves going over all of them.
+/// Made once for a round: it has the cluster as it was then, and no transfers of earlier rounds. A
+/// contract sees a table with a row for each storage: the storage, its node and rack, whether the
+/// node drains, its remaining bytes and the bytes scheduled to it. It also keeps the best target of
+/// each node, so that a choice need not scan all rows.
 #[derive(Drop)]
 pub struct Scheduled {
     pub(crate) rows: NumberMap<Target>,
-    /// Of the storages of each node the one with most room, and of these the least: no other is the target of a copy. They stand in
-    /// this order too, so that the first that will do is the target.
+    /// The best storage of each node: the one with most free bytes, and of these the least. No
+    /// other is the target of a copy. They are sorted by the same order, so the first eligible one
+    /// is the target.
     foremost: Vec<Target>,
     /// All storages, sorted by their nodes.
     seats: Vec<Seat>,
@@ -65,8 +68,9 @@ impl Model for Scheduled {
 }
 
 impl Scheduled {
-    /// Nothing is sent yet to any storage of the cluster. `Memory` where a growth of the tables is refused. Goes over the
-    /// storages of the cluster once, by a few look-ups each, and sorts them by their nodes, and one of each node by room.
+    /// Nothing is scheduled yet to any storage of the cluster. `Memory` where a table cannot grow.
+    /// Iterates over the storages of the cluster once, with a few look-ups each, and sorts them by
+    /// their nodes, and one of each node by free bytes.
     pub fn new(alloc: Global, topology: &Topology) -> Result<Scheduled, Refusal>
         ensures none_yet { IfOk result
             (λ t. t ≡ targets.target_table topology.now.cluster nothing_yet) }
@@ -84,9 +88,10 @@ impl Scheduled {
         })
     }
 
-    /// Counts `len` bytes more as sent to `target`, which has room for them, as what [`least_target`](crate::least_target) just
-    /// found for this length; nothing for an unknown storage. A few look-ups, one for each storage of the node, and goes once over the
-    /// foremost storages that go before the target, and over those behind which it moves. Takes no memory.
+    /// Counts `len` bytes more as scheduled to `target`, where they fit, as to the target that
+    /// [`least_target`](crate::least_target) just found for this length; ignores an unknown
+    /// storage. A few look-ups, one for each storage of the node, and a scan of the best targets
+    /// before it and of those that it moves past. Takes no memory.
     pub fn add(&mut self, target: StorageId, len: u64)
         requires fits { HasRoomFor self.old len target }
         ensures after { self.new ≡ with_sent self.old target len }
@@ -100,7 +105,8 @@ impl Scheduled {
         renew(&mut self.foremost, &self.rows, &self.seats, target);
     }
 
-    /// The foremost storage of each node: of its storages the one with most room, and of these the least. In this order too.
+    /// The best storage of each node: the one with most free bytes, and of these the least. Sorted
+    /// by the same order.
     pub(crate) fn foremost(&self) -> &[Target]
         ensures { AreForemost self.now result.now }
     {
@@ -108,7 +114,7 @@ impl Scheduled {
     }
 }
 
-/// The storages of a cluster, by rising number, to none of which anything is sent yet.
+/// The storages of a cluster, by ascending number, with nothing scheduled yet.
 fn rows_of(alloc: Global, topology: &Topology) -> Result<NumberMap<Target>, AllocError>
     ensures { IfOk result
         (λ rows. rows.map ≡ targets.target_table topology.now.cluster nothing_yet) }
@@ -124,7 +130,7 @@ fn rows_of(alloc: Global, topology: &Topology) -> Result<NumberMap<Target>, Allo
     Ok(rows)
 }
 
-/// So many bytes more are sent to a storage, if it is there.
+/// Counts `len` bytes more as scheduled to a known storage.
 fn add_to(rows: &mut NumberMap<Target>, target: StorageId, len: u64)
     requires { HasRoomFor rows.old.map len target }
     ensures { rows.new.map ≡ with_sent rows.old.map target len }
@@ -135,8 +141,8 @@ fn add_to(rows: &mut NumberMap<Target>, target: StorageId, len: u64)
     }
 }
 
-/// The foremost storages, where more bytes were sent to one: in its place comes what is foremost on its node now, and moves back
-/// behind those that go before it. Any other storage of the node goes before none of them still.
+/// Updates the node's best target after bytes were scheduled to it: takes the node's new best and
+/// restores the order. If another storage of the node was scheduled to, its best is unchanged.
 fn renew(foremost: &mut Vec<Target>, rows: &NumberMap<Target>, seats: &[Seat], target: StorageId)
     ensures { (old : map.Map map.by_number Target) (len : ℕ)
         → IsKept old foremost.old.items → HasRoomFor old len target

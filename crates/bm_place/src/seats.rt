@@ -9,7 +9,7 @@ use crate::scheduled::Target;
 use bm_base::{NodeId, StorageId};
 use std::alloc::{AllocError, Global};
 
-/// A storage beside its node.
+/// A storage with its node.
 #[derive(Clone, Copy)]
 pub struct Seat {
     pub node: Option<NodeId>,
@@ -40,7 +40,7 @@ fn seats_in_row_order(alloc: Global, rows: &[(u64, Target)]) -> Result<Vec<Seat>
     Ok(seats)
 }
 
-/// Those of some storages, sorted by their nodes, among which all of this node are: by binary search.
+/// A part of the storages, sorted by node, that has all of this node: by binary search.
 pub fn seats_near(seats: &[Seat], node: Option<NodeId>) -> &[Seat]
     ensures { seating.AreByNode seats.now → (e : Seat)
         → IsAmong seats.now e → e.node ≡ node → IsAmong result.now e }

@@ -13,8 +13,8 @@ use crate::streams::Streams;
 use bm_base::{Level, NodeId, StorageId};
 use bm_topo::Topology;
 
-/// A storage as a source, in the order of choice: whether its node drains, of how many transfers the node is the source, the
-/// node, the storage.
+/// A storage as a source, in the order of choice: whether its node drains, the number of transfers
+/// that the node sends, the node, the storage.
 #[derive(Clone, Copy)]
 pub struct Source {
     pub is_drained: bool,
@@ -23,13 +23,14 @@ pub struct Source {
     pub storage: StorageId,
 }
 
-/// The source of a copy of a block at this level, among the storages of its usable replicas: one whose node drains, since it is to
-/// be emptied; then one whose node is the source of the fewest transfers, then of the lesser node,
-/// then the lesser storage. `None` only where no node of these may send one more: at the highest level a node may be the source
-/// of 4 transfers in a round, at others of 2, and one that drains of 4 at each.
+/// The source of a copy of a block at this level, among the storages of its usable replicas: one
+/// whose node drains, since it is to be emptied; then one whose node sends the fewest transfers,
+/// then of the lesser node, then the lesser storage. `None` only if no node of these may send one
+/// more: at the highest level a node may send 4 transfers in a round, at others 2, and one that
+/// drains 4 at each.
 ///
-/// `streams` was made of the same cluster; else nothing is said of the answer. Looks at each usable replica once, by four
-/// look-ups. Takes no memory.
+/// `streams` was made from the same cluster; else the answer is unspecified. Scans each usable
+/// replica once, with four look-ups. Takes no memory.
 pub fn least_source(
     usable: &[StorageId],
     level: Level,

@@ -14,7 +14,7 @@ pub struct Standing {
 }
 
 impl Standing {
-    /// Of these storages. Goes over them once, and takes no memory.
+    /// The racks and storages of these. Iterates once, and takes no memory.
     #[tactic(auto, unfolding(crate::specs::Standing::standing_of))]
     pub fn of(held: &[StorageId], topology: &Topology) -> Standing
         ensures { result ≡ places.standing_of topology.now.cluster held.now }
@@ -42,8 +42,9 @@ impl Standing {
         }
     }
 
-    /// The class of a target on this rack, 0 before 1. Where the block is held on one rack, another rack is better; where it is
-    /// held by two storages on two racks, one of these racks is; else every rack is as good.
+    /// The class of a target on this rack, 0 before 1. If the block is held on one rack, another
+    /// rack is better; if two storages on two racks hold it, one of these racks is; else every rack
+    /// is as good.
     pub fn class_of(&self, rack: Option<Rack>) -> u32
         ensures { result ≡ places.class_on self.now.racks (places.are_two self.now.storages) rack }
     {

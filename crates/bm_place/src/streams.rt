@@ -16,9 +16,9 @@ use bm_topo::Topology;
 use std::alloc::{AllocError, Global};
 use std::marker::Model;
 
-/// Of how many transfers each node is the source in a round.
+/// The number of transfers that each node sends in a round.
 ///
-/// Made once for a round: it keeps what the cluster was when it was made, and knows nothing of transfers of earlier rounds. A
+/// Made once for a round: it has the cluster as it was then, and no transfers of earlier rounds. A
 /// contract sees for each storage its node, and a count for each of these nodes.
 #[derive(Drop)]
 pub struct Streams {
@@ -37,7 +37,8 @@ impl Model for Streams {
 }
 
 impl Streams {
-    /// No node is a source yet. `Memory` where a growth of the tables is refused. Looks up each storage of the cluster once.
+    /// No node sends yet. `Memory` where a table cannot grow. Looks up each storage of the cluster
+    /// once.
     pub fn new(alloc: Global, topology: &Topology) -> Result<Streams, Refusal>
         ensures none_yet { IfOk result
             (λ t. t ≡ sources.sender_table topology.now.cluster tables.nothing_yet) }
@@ -60,8 +61,9 @@ impl Streams {
         Ok(Streams { nodes, counts })
     }
 
-    /// Counts one transfer more for the node of `source`; nothing for an unknown storage. The node is the source of fewer than
-    /// 256,000 so far, as that of what [`least_source`](crate::least_source) just found. Two look-ups. Takes no memory.
+    /// Counts one transfer more for the node of `source`; ignores an unknown storage. The node
+    /// sends fewer than 256,000 so far, as that of the source that
+    /// [`least_source`](crate::least_source) just found. Two look-ups. Takes no memory.
     pub fn add(&mut self, source: StorageId)
         requires countable { IsCountable self.old source }
         ensures after { self.new ≡ sources.with_one_from source self.old }
@@ -89,8 +91,8 @@ impl Streams {
     }
 }
 
-/// Enters a node that is the source of no transfer. `last` is the node that was entered last, if there
-/// is one: the storages of a node mostly have adjacent numbers.
+/// Inserts a node that sends no transfer. `last` is the node that was inserted last, if there is
+/// one: the storages of a node mostly have adjacent numbers.
 #[tactic(auto, using(crate::proofs::Tables::same_inserted))]
 fn enter(counts: &mut NumberMap<u32>, node: NodeId, last: Option<NodeId>) -> Result<(), AllocError>
     requires { IfSome last (λ n. map.get counts.old.map n ≡ Some 0) }
@@ -102,7 +104,7 @@ fn enter(counts: &mut NumberMap<u32>, node: NodeId, last: Option<NodeId>) -> Res
     }
 }
 
-/// Counts one more transfer from a node, if it is there.
+/// Counts one more transfer from a known node.
 fn add_one(counts: &mut NumberMap<u32>, node: NodeId)
     requires { tables.count_at counts.old.map node < sources.max_transfers }
     ensures { counts.new.map ≡ map.revise_at counts.old.map node (λ k. k + 1) }

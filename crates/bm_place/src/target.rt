@@ -14,18 +14,21 @@ use crate::standing::Standing;
 use bm_base::{Level, StorageId};
 use bm_topo::Topology;
 
-/// The storage to which a block of `len` bytes is copied at this level. `held` are the storages that hold a live replica of
-/// the block or will, `barred` those on whose nodes no copy may be put; an unknown one has no rack, and bars nothing.
+/// The storage to which a block of `len` bytes is copied at this level. `held` are the storages
+/// that hold a live replica of the block or will, `barred` those on whose nodes no copy may be put;
+/// an unknown one has no rack, and excludes nothing.
 ///
-/// A storage may be taken where `len` fits beside the bytes that are sent to it already, and its node does not drain and is not
-/// barred. Where `held` stands on one rack, another rack goes first, and for a badly distributed block no other may be taken;
-/// where `held` is just two storages on two racks, these racks go first. Then more room, then the lesser storage. `None` only
-/// where none may be taken.
+/// A storage is eligible if `len` fits with the bytes scheduled to it, and its node does not drain
+/// and is not excluded. If `held` is on one rack, another rack goes first, and for a badly
+/// distributed block no other is eligible; if `held` is just two storages on two racks, these racks
+/// go first. Then more free bytes, then the lesser storage. `None` only if none is eligible.
 ///
-/// `scheduled` was made of the same cluster; else nothing is said of the answer. It goes over `held` once, by a look-up each, and
-/// then over the foremost storages of the nodes, from the one with most room on, to the first of the better class that may be taken,
-/// or where the length fits no longer. At each of them room, class and whether the node drains take constant time, and whether the
-/// node is barred is asked last, only where the storage would be taken, by a look-up for each of `barred`. Takes no memory.
+/// `scheduled` was made from the same cluster; else the answer is unspecified. It iterates over
+/// `held` once, with a look-up each, and then over the best targets of the nodes, from the one with
+/// most free bytes on, to the first eligible one of the better class, or until the length fits no
+/// longer. For each of them, free bytes, class and whether the node drains take constant time.
+/// Whether the node is excluded is tested last, only if the storage would be taken, with a look-up
+/// for each of `barred`. Takes no memory.
 pub fn least_target(
     held: &[StorageId],
     barred: &[StorageId],
@@ -45,8 +48,8 @@ pub fn least_target(
     least_fitting(held, barred, len, level, topology, scheduled)
 }
 
-/// The same, in the order of the foremost storages: it ends at the first of the better class that may be taken, and where no
-/// further one has room.
+/// The same, in the order of the best targets: it ends at the first eligible one of the better
+/// class, and where no further one has enough free bytes.
 fn least_fitting(
     held: &[StorageId],
     barred: &[StorageId],
@@ -104,8 +107,8 @@ fn is_taken(
         && !is_barred(target, topology, barred)
 }
 
-/// Whether the node does not drain, the length fits, and, for a badly distributed block that is held on one rack, the rack is
-/// another.
+/// Whether the node does not drain, the length fits, and a badly distributed block that is held on
+/// one rack would get to another one.
 fn is_open(target: &Target, standing: &Standing, len: u64, level: Level) -> bool
     ensures { result ≡ targets.is_open standing.now level len target.now }
 {
@@ -120,7 +123,8 @@ fn is_open(target: &Target, standing: &Standing, len: u64, level: Level) -> bool
         && standing.class_of(target.rack) == 1)
 }
 
-/// Whether a target comes before the best so far. Where it does not go before that, it does so by its class alone.
+/// Whether it beats the best so far. Targets come in order of free bytes, so only a better class
+/// can.
 fn is_better(target: &Target, best: &Option<Target>, standing: &Standing) -> bool
     requires { IfSome best.now (λ b. nodes.goes_before target.now b ≡ false) }
     ensures { result ≡ scanned.is_better (targets.cmp_targets standing.now) best.now target.now }
@@ -131,7 +135,7 @@ fn is_better(target: &Target, best: &Option<Target>, standing: &Standing) -> boo
     }
 }
 
-/// Whether a target stands on the node of one of these storages.
+/// Whether a target is on the node of one of these storages.
 #[tactic(auto, unfolding(crate::specs::Targets::is_barred_by))]
 fn is_barred(target: &Target, topology: &Topology, barred: &[StorageId]) -> bool
     ensures { result ≡ targets.is_barred_by topology.now.cluster barred.now target.now }

@@ -1,4 +1,4 @@
--- Lemmas on the chain of one list: what a write of a few links leaves of it.
+-- Lemmas on the chain of one list: what remains of it after a few links are written.
 use Rattle.std.proofs.Common.{◌≡◌, ◌≢◌, ◌⊎◌, ℕ, zero, suc, ◌<◌, ◌≤◌, ◌+◌, eqb, List, [], ◌∷◌, length, Option, Some, inl, inr, subst, sym, ap, ◌∙◌, refl, arith}
 use Rattle.std.proofs.lemmas.Bool.{cases_Bool, eq-eqb, ne_eqb, eqb-true, eqb-false}
 use Rattle.std.proofs.lemmas.Option.{none-some, same_Some}
@@ -10,7 +10,7 @@ use Rattle.bm_base.proofs.SlotLists.{apart}
 abbrev pub Off : ℕ → ℕ → List ℕ → Type 0
 Off k cell xs = (z : ℕ) → Among z xs → cell ≢ k + z
 
--- a slot that stands not behind
+-- a slot that is not after another
 off_slot : (k y : ℕ) (ys : List ℕ) → (Among y ys → ⊥) → Off k (k + y) ys
 off_slot k y ys absent z there e =
     let same : z ≡ y = omega (arith, e) in
@@ -104,11 +104,11 @@ Chain-front k next new back new_back l x (y ∷ ys) low chain distinct fresh hea
       ),
     )
 
--- a slot x of a list taken out: the cell p before it leads to the slot behind it, which links back to p
+-- removing slot x of a list: the cell p before it links to the slot after it, which links back to p
 module _ (k : ℕ) (next new back new_back : ℕ → Option ℕ) (x p : ℕ) (own : back x ≡ Some p)
     (joined : new p ≡ next (k + x)) (rest : (c : ℕ) → c ≢ p → c ≢ k + x → new c ≡ next c)
     (ahead : (y : ℕ) → y ≢ x → next (k + x) ≡ Some y → new_back y ≡ Some p) (others : (z : ℕ) → z ≢ x → next (k + x) ≢ Some z → new_back z ≡ back z) where
-  -- what stood behind x
+  -- the slots after x
   Chain-past : (zs : List ℕ) → Chain k next back (k + x) zs → Distinct zs → (Among x zs → ⊥) → Off k p zs → Chain k new new_back p zs
   Chain-past [] chain distinct fresh off = joined ∙ chain
   Chain-past (z ∷ zs) chain distinct fresh off =

@@ -1,4 +1,5 @@
--- What links that hold lists are like, and what unlinking a slot and linking one at the front leave of them.
+-- Properties of links that hold lists, and what unlinking a slot or linking one at the front does
+-- to them.
 use Rattle.std.proofs.Common.{◌≡◌, ◌≢◌, ◌⊎◌, ℕ, zero, suc, ◌<◌, ◌≤◌, ◌+◌, ◌-◌, List, [], ◌∷◌, ◌++◌, length, get_or, set, take, replicate, Option, Some, None, inl, inr, subst, sym, ap, ◌∙◌, refl, arith}
 use Rattle.std.proofs.lemmas.Bool.{cases_eq, cases_lt, eq-eqb, ne_eqb}
 use Rattle.std.proofs.lemmas.Option.{none-some, same_Some}
@@ -97,7 +98,7 @@ module _ (k : ℕ) (next back : List (Option ℕ)) (f : ℕ → List ℕ) (held 
       let found = held.complete y b some in
       listed_below found.0 x found.1 (next_among k (link_at next) (link_at back) found.0 (f found.0) y x (held.chain found.0 found.1) found.2 is)
 
-  -- next links lead to slots below the room
+  -- next links lead to slots below the capacity
   pub ahead : (c x : ℕ) → link_at next c ≡ Some x → x < length back
   ahead c x is =
       elim (cases_lt c k) [
@@ -221,7 +222,7 @@ module _ (k : ℕ) (next back : List (Option ℕ)) (f : ℕ → List ℕ) (held 
           | inr differs ↦ other-chain l low differs
         ]
 
-    -- what a back link of the new ones tells
+    -- the meaning of a new back link
     told : (y : ℕ) → y ≢ x → (o : Option ℕ) → after ≡ o → (Among y (f home.0) × (link_at cut_back y ≡ Some p)) ⊎ (link_at cut_back y ≡ link_at back y)
     told y differs None none = inr (cut_back-others y differs (λ e. none-some y (sym none ∙ e)))
     told y differs (Some w) some =
@@ -424,7 +425,7 @@ module _ (k : ℕ) (next back : List (Option ℕ)) (f : ℕ → List ℕ) (held 
       let cell : k + (c - k) ≡ c = omega (arith, far) in
       ap (link_at next) (sym cell) ∙ held.clear (c - k) (get_or_past back (c - k) None (omega (arith, far, more)))
 
-  -- what a growth to n slots leaves
+  -- the lists after a growth to n slots
   pub grown : (n : ℕ) → length back < n → k + n ≤ end_of_links → (next' back' : List (Option ℕ)) → length next' ≡ k + n
       → next' ≡ take (k + n) next ++ replicate (k + n - length next) None → back' ≡ take n back ++ replicate (n - length back) None → HoldLists k next' back' f
   grown n more small next' back' len is is_back =

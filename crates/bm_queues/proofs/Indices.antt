@@ -29,7 +29,7 @@ among_at (x ∷ xs) (suc i) low = inr (among_at xs i (omega (arith, low)))
 pub among_here : (x : ℕ) (xs : List ℕ) (i : ℕ) → i < length xs → get_or xs i 0 ≡ x → Among x xs
 among_here x xs i low is = let P : ℕ → Type 0 = λ y. Among y xs in subst P is (among_at xs i low)
 
--- no slot stands at two places
+-- no slot has two indices
 abbrev pub AreApart : List ℕ → Type 0
 AreApart xs = (i j : ℕ) → i < length xs → j < length xs → get_or xs i 0 ≡ get_or xs j 0 → i ≡ j
 
@@ -123,7 +123,7 @@ module _ (xs : List ℕ) (apart : AreApart xs) (i : ℕ) (low : i < length xs) w
   pub after-index : slot_after z (reverse xs) ≡ first_of (reverse (take i xs))
   after-index = ap (slot_after z) cut-reverse ∙ after-cut z (reverse (drop (i + 1) xs)) (reverse (take i xs)) not-later
 
--- A slot taken out, to whose place the last one comes.
+-- A slot is removed, and the last one takes its index.
 
 module _ (xs : List ℕ) (apart : AreApart xs) (slot place : ℕ) (low : place < length xs) (at : get_or xs place 0 ≡ slot) where
   abbrev last : ℕ
@@ -206,7 +206,7 @@ module _ (xs : List ℕ) (apart : AreApart xs) (slot place : ℕ) (low : place <
   taken-rest i below =
       take-take (i + 1) last (set xs place (get_or xs last slot)) (omega (arith, below, low)) ∙ take-set-le (i + 1) xs place (get_or xs last slot) (omega (arith, below))
 
-  -- it leaves what is to come, if it was left behind
+  -- the slots still to come stay the same, if it was left behind
   pub rest-from : (p : Option ℕ) → IsPast slot p (reverse xs) → slots_from (reverse rest) p ≡ slots_from (reverse xs) p
   rest-from None past = refl
   rest-from (Some y) past =

@@ -1,4 +1,4 @@
--- Level lists in arrays: that they are lawful, and that a growth and a change of level keep them so.
+-- The invariant of level lists in arrays, and that a growth and a change of level keep it.
 use Rattle.std.proofs.Common.{◌≡◌, ◌≢◌, ◌⊎◌, ℕ, zero, suc, ◌<◌, ◌≤◌, ◌+◌, ◌-◌, ◌++◌, List, [], ◌∷◌, length, get_or, set, map, take, reverse, replicate, Option, Some, None, inl, inr, subst, sym, ap, ◌∙◌, refl, arith}
 use Rattle.std.specs.Prelude.{if◌then◌else◌, ◌==◌, ◌↔◌, option_and_then}
 use Rattle.std.specs.List.{swap_remove, All}
@@ -54,7 +54,7 @@ level_with (suc (suc (suc (suc (suc n))))) h = absurd (omega (arith, h))
 cases_level : (l m : Level) → (l ≡ m) ⊎ (level_number l ≢ level_number m)
 cases_level l m = elim (cases_eq (level_number l) (level_number m)) [ inl same ↦ inl (same_level l m same) | inr apart ↦ inr apart ]
 
--- a slot that has a level lies below the room
+-- a slot that has a level is below the capacity
 pub held_below : (levels : List (Option Level)) (slot : ℕ) (l : Level) → get_or levels slot None ≡ Some l → slot < length levels
 held_below levels slot l is =
     elim (below_or_past slot (length levels)) [
@@ -74,7 +74,7 @@ map-replicate : {A B : Type 0} (f : A → B) (k : ℕ) (x : A) → map f (replic
 map-replicate f zero x = refl
 map-replicate f (suc k) x = ap (λ ys. f x ∷ ys) (map-replicate f k x)
 
--- cells of slots without a level behind the others
+-- cells of slots without a level after the others
 module _ (cells new : List Cell) (n k : ℕ) (o : Option Level) (none : o ≡ None) (is : new ≡ take n cells ++ replicate (n - k) (record { level = o; index = 0 })) (few : length cells ≤ n) where
   mapped : {B : Type 0} (f : Cell → B) → map f new ≡ map f cells ++ replicate (n - k) (f (record { level = o; index = 0 }))
   mapped f =
@@ -143,7 +143,7 @@ module _ (levels : List (Option Level)) (indices : List ℕ) (arrays : List (Lis
     small = are.small;
   }
 
-  -- going on by the slot behind visits the slots of a level
+  -- following `next` visits the slots of a level
   pub visited-levels : (l : Level) → visited v l ≡ slots_of v l
   visited-levels l =
       let lawful = lawful-levels in
@@ -161,7 +161,7 @@ module _ (levels : List (Option Level)) (indices : List ℕ) (arrays : List (Lis
     small = (let len = length-append levels (replicate k None) in let none : Option Level = None in let new = length-replicate k none in omega (arith, fits, len, new));
   }
 
-  -- the slot behind one that has a level
+  -- the next slot after one that has a level
   module _ (slot : ℕ) (l : Level) (is : level_in levels slot ≡ Some l) where
     behind-slot : next_of v slot ≡ first_of (reverse (take (get_or indices slot 0) (array_of arrays l)))
     behind-slot =
@@ -221,7 +221,7 @@ module _ (levels : List (Option Level)) (indices : List ℕ) (arrays : List (Lis
     other-index : (s : ℕ) → s ≢ last → get_or (set indices last place) s 0 ≡ get_or indices s 0
     other-index s differs = get_or-set_other indices last s place 0 differs
 
-    -- what is at an index of the rest
+    -- the element at an index of the rest
     moved : (i : ℕ) → i < end → (s : ℕ) × (get_or rest i 0 ≡ s) × (s ≢ slot) × (level_in levels s ≡ Some l) × (((s ≡ last) × (i ≡ place)) ⊎ ((s ≢ last) × (get_or indices s 0 ≡ i)))
     moved i below =
         elim (cases_eq i place) [
@@ -403,7 +403,7 @@ module _ (levels : List (Option Level)) (indices : List ℕ) (arrays : List (Lis
       index-now : get_or (set indices slot (length ys)) slot 0 ≡ length ys
       index-now = get_or-set_same indices slot (length ys) 0 (omega (arith, below, long))
 
-      -- what is at an index of an array
+      -- the element at an index of an array
       abbrev AtIndex : Level → ℕ → ℕ → Type 0
       AtIndex m i s = (level_in (set levels slot (Some l)) s ≡ Some m) × (get_or (set indices slot (length ys)) s 0 ≡ i)
 
@@ -488,7 +488,7 @@ level-set levels slot level below other =
       | inr differs ↦ rw (ne_eqb other slot differs) (get_or-set_other levels slot other level None differs)
     ]
 
--- the slot behind a slot of a level, as `next` has it
+-- the next slot after a slot of a level, as `next` returns it
 pub goes-on : (v : Levels) → IsLawful v → (slot : ℕ) (r : Option ℕ) → r ≡ next_of v slot → (l : Level) → level_at v slot ≡ Some l → GoesOn slot r (slots_of v l)
 goes-on v lawful slot r is l at =
     let behind : r ≡ slot_after slot (slots_of v l) = is ∙ ap (option_and_then (λ m. slot_after slot (slots_of v m))) at in

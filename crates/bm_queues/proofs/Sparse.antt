@@ -1,4 +1,4 @@
--- A dense list of slots with a place for each slot: what its members are, before and after a change.
+-- A dense list of slots with an index for each slot: its members, before and after a change.
 use Rattle.std.proofs.Common.{◌≡◌, ◌≢◌, ◌⊎◌, ℕ, ◌<◌, ◌≤◌, ◌++◌, List, [], ◌∷◌, length, get_or, set, inl, inr, subst, sym, ap, ◌∙◌, refl, arith}
 use Rattle.std.specs.Prelude.{◌↔◌, Option, Some, None, IsTrue, is_some}
 use Rattle.std.specs.Option.{IfSome}
@@ -10,7 +10,7 @@ use Rattle.bm_queues.proofs.Indices.{place_among, among_here, distinct_apart}
 use Rattle.bm_queues.specs.Members.{IsLawful}
 use Rattle.bm_queues.specs.Sparse.{AreSparse}
 
--- Slots of a list, and their places.
+-- Slots of a list, and their indices.
 
 pub among_front : (x y : ℕ) (xs : List ℕ) → Among x xs → Among x (xs ++ y ∷ [])
 among_front x y [] there = absurd there
@@ -28,13 +28,13 @@ among_either x y (z ∷ zs) there =
       | inr later ↦ elim (among_either x y zs later) [ inl front ↦ inl (inr front) | inr last ↦ inr last ]
     ]
 
--- whether a place was found for a slot
+-- whether an index was found for a slot
 pub found_or : (o : Option ℕ) (slot : ℕ) (xs : List ℕ) → IfSome o (λ place. (place < length xs) × (get_or xs place 0 ≡ slot)) → (o ≡ None → Among slot xs → ⊥) → IsTrue (is_some o) ↔ Among slot xs
 found_or None slot xs found absent = (λ h. absurd (false≢true h), λ there. absurd (absent refl there))
 found_or (Some place) slot xs found absent = (λ h. among_here slot xs place found.0 found.1, λ there. refl)
 
 module _ (order places : List ℕ) (capacity : ℕ) (are : AreSparse order places capacity) where
-  -- a slot has one place
+  -- a slot has one index
   pub one_place : (i j : ℕ) → i < length order → j < length order → get_or order i 0 ≡ get_or order j 0 → i ≡ j
   one_place i j low_i low_j same = sym (are.placed i low_i) ∙ ap (λ x. get_or places x 0) same ∙ are.placed j low_j
 
@@ -50,7 +50,7 @@ module _ (order places : List ℕ) (capacity : ℕ) (are : AreSparse order place
   pub lawful_members : IsLawful (record { slots = order; room = length places })
   lawful_members = record { distinct = distinct_members; below = below_room; small = are.small }
 
-  -- there is room for all members, and for one more where a slot is none
+  -- there is capacity for all members, and for one more if a slot is none
   pub members_fit : length order ≤ length places
   members_fit = length-distinct_below (length places) order distinct_members below_room
 
@@ -61,7 +61,7 @@ module _ (order places : List ℕ) (capacity : ℕ) (are : AreSparse order place
       (λ x there. elim there [ inl here ↦ (let P : ℕ → Type 0 = λ y. y < length places in subst P (sym here) inside) | inr later ↦ below_room x later ]) in
       omega (arith, all)
 
-  -- a slot that does not stand at its place is no member
+  -- a slot that is not at its index is no member
   pub absent_at : (slot : ℕ) → (get_or places slot 0 < length order → get_or order (get_or places slot 0) 0 ≢ slot) → Among slot order → ⊥
   absent_at slot other there =
       let found = place_among slot order there in

@@ -1,10 +1,10 @@
--- Going over a list of slots by the slot behind each.
+-- Iteration over a list of slots by `next`.
 use Rattle.std.proofs.Common.{◌≡◌, ◌≢◌, ◌⊎◌, ℕ, zero, suc, ◌<◌, ◌≤◌, List, [], ◌∷◌, length, Option, inl, inr, subst, sym, ap, ◌∙◌, refl, arith}
 use Rattle.std.proofs.lemmas.Bool.{eq-eqb, ne_eqb}
 use Rattle.bm_base.specs.SlotLists.{Among, Distinct, first_of, slot_after}
 use Rattle.bm_queues.specs.Links.{walk}
 
--- by a function that gives the slot behind each of the slots, all are visited, in their order
+-- a function that returns the next slot of each slot visits all of them, in their order
 pub walk-after : (behind : ℕ → Option ℕ) (xs : List ℕ) (n : ℕ) → Distinct xs → ((x : ℕ) → Among x xs → behind x ≡ slot_after x xs) → length xs ≤ n → walk behind n (first_of xs) ≡ xs
 walk-after behind [] zero distinct is fits = refl
 walk-after behind [] (suc n) distinct is fits = refl

@@ -1,4 +1,5 @@
--- Going over a list of slots, also while slots that were left behind are taken out or put to the front.
+-- Iteration over a list of slots, also while slots that were left behind are removed or moved to
+-- the front.
 use Rattle.std.proofs.Common.{◌≡◌, ◌≢◌, ℕ, eqb, List, [], ◌∷◌, Option, Some, None, inl, inr, subst, sym, ap, ◌∙◌, refl}
 use Rattle.std.specs.Option.{IfSome}
 use Rattle.std.proofs.lemmas.Bool.{cases_Bool, eq-eqb, ne_eqb, eqb-true, eqb-false}
@@ -77,7 +78,7 @@ pub on-without : (x : ℕ) (xs : List ℕ) (at : Option ℕ) → IsPast x at xs 
 on-without x xs None past on = tt
 on-without x xs (Some z) past on = Among-without_other x z xs on (λ e. past.0 (ap Some e))
 
--- What the first slot and the slot behind a slot say, as the calls have it.
+-- What the first slot and the next slot are, in the words of the calls.
 
 module _ (xs : List ℕ) (r : Option ℕ) where
   pub all-from : r ≡ first_of xs → slots_from xs r ≡ xs

@@ -1,4 +1,4 @@
--- How the cells of slots, and an array for each level, stand for level lists.
+-- How the cells of slots, and an array for each level, represent level lists.
 use Rattle.std.specs.Prelude.{◌≡◌, ℕ, ◌+◌, ◌<◌, ◌≤◌, List, [], length, map, reverse, Option, Some, None, slice_index_or, vec_capacity}
 use Rattle.std.specs.List.{All}
 use Rattle.std.specs.declared.vec.Vec.{Vec}
@@ -18,7 +18,7 @@ module _ {Z : Type 0} where
   abbrev pub arrays_in : List (Vec ℕ Z) → List (List ℕ)
   arrays_in arrays = map (λ (v : Vec ℕ Z). v.items) arrays
 
-  -- each array can have so many slots
+  -- each array has this capacity
   abbrev pub HaveRoom : List (Vec ℕ Z) → ℕ → Type 0
   HaveRoom arrays bound = All (λ (v : Vec ℕ Z). bound ≤ vec_capacity v) arrays
 
@@ -40,5 +40,5 @@ pub record AreDense (levels : List (Option Level)) (indices : List ℕ) (arrays 
   -- and each slot that has a level is in the array of that
   pub inside : (l : Level) (slot : ℕ) → level_in levels slot ≡ Some l → slice_index_or indices slot 0 < length (array_of arrays l)
   pub there : (l : Level) (slot : ℕ) → level_in levels slot ≡ Some l → slice_index_or (array_of arrays l) (slice_index_or indices slot 0) 0 ≡ slot
-  -- 32 bits can name all slots that there is room for
+  -- 32 bits can name all slots below the capacity
   pub small : length levels + 1 ≤ end_of_links

@@ -7,7 +7,8 @@ use Rattle.bm_base.specs.SlotLists.{Among, Distinct, first_of, slot_after}
 use Rattle.bm_base.specs.SlotLinks.{end_of_links}
 use Rattle.bm_queues.specs.Links.{walk}
 
--- the level of each slot that there is room for, and by number of level the slots that have it, in order from the front
+-- the level of each slot below the capacity, and by number of level its slots, in order from the
+-- front
 pub record Levels : Type 0 where
   pub levels : List (Option Level)
   pub lists : List (List ℕ)
@@ -18,15 +19,15 @@ level_at v slot = slice_index_or v.levels slot None
 abbrev pub slots_of : Levels → Level → List ℕ
 slots_of v level = slice_index_or v.lists (level_number level) []
 
--- the slot behind a slot in the list of its level
+-- the next slot in the list of a slot's level
 abbrev pub next_of : Levels → ℕ → Option ℕ
 next_of v slot = option_and_then (λ l. slot_after slot (slots_of v l)) (level_at v slot)
 
--- room for so many slots: those that are new have no level
+-- the capacity grown to n slots: new slots have no level
 abbrev pub with_room : Levels → ℕ → Levels
 with_room v room = record v { levels = v.levels ++ replicate (room - length v.levels) None }
 
--- the slots that are met from the first of a level on, each by the one behind it
+-- the slots that following `next` from the first slot of a level visits
 abbrev pub visited : Levels → Level → List ℕ
 visited v l = walk (next_of v) (length (slots_of v l)) (first_of (slots_of v l))
 
@@ -38,7 +39,7 @@ pub record IsLawful (v : Levels) : Type 0 where
   pub distinct : (l : Level) → Distinct (slots_of v l)
   -- and has just the slots of its level
   pub exact : (l : Level) (slot : ℕ) → Among slot (slots_of v l) ↔ (level_at v slot ≡ Some l)
-  -- which lie below the room
+  -- they are below the capacity
   pub below : (l : Level) (slot : ℕ) → Among slot (slots_of v l) → slot < length v.levels
-  -- links can name all slots that there is room for
+  -- links can name all slots below the capacity
   pub small : length v.levels + 1 ≤ end_of_links

@@ -1,5 +1,6 @@
--- How links stand for lists of slots. A cell is a head, numbered from 0 on, or a slot, numbered behind the k heads: slot x is
--- cell k + x. `next` holds for each cell the slot behind it, `back` for each slot the cell before it, if it is in a list.
+-- How links represent lists of slots. A cell is a head, numbered from 0 on, or a slot: slot x is
+-- cell k + x, after the k heads. `next` has for each cell the slot after it, `back` for each slot
+-- the cell before it, if it is in a list.
 use Rattle.std.specs.Prelude.{◌≡◌, ℕ, zero, suc, ◌+◌, ◌<◌, ◌≤◌, List, [], ◌∷◌, length, Option, Some, None, slice_index_or, slice_set}
 use Rattle.bm_base.specs.SlotLinks.{end_of_links}
 use Rattle.bm_base.specs.SlotLists.{Among, Distinct}
@@ -7,13 +8,14 @@ use Rattle.bm_base.specs.SlotLists.{Among, Distinct}
 abbrev pub link_at : List (Option ℕ) → ℕ → Option ℕ
 link_at links i = slice_index_or links i None
 
--- the slots met from `start` on by the links behind each slot, at most so many
+-- the slots visited from `start` on by the next links, at most n
 abbrev pub walk : (ℕ → Option ℕ) → ℕ → Option ℕ → List ℕ
 walk behind zero start = []
 walk behind (suc n) None = []
 walk behind (suc n) (Some x) = x ∷ walk behind n (behind x)
 
--- the slots are those met behind a cell until a next link is None, and each links back to the cell before
+-- the slots are those visited after a cell until a next link is None, and each links back to the
+-- cell before
 abbrev pub Chain : ℕ → (ℕ → Option ℕ) → (ℕ → Option ℕ) → ℕ → List ℕ → Type 0
 Chain k next back cell [] = next cell ≡ None
 Chain k next back cell (x ∷ xs) = (next cell ≡ Some x) × (back x ≡ Some cell) × Chain k next back (k + x) xs
@@ -27,7 +29,8 @@ pub record HoldLists (k : ℕ) (next back : List (Option ℕ)) (lists : ℕ → 
   pub size : k + length back ≤ length next
   pub small : k + length back ≤ end_of_links
   pub chain : (l : ℕ) → l < k → Chain k (link_at next) (link_at back) l (lists l)
-  -- these two follow, and are kept at hand: a list has no slot twice, and a slot is in one list at most
+  -- these two follow, and are stated for convenience: a list has no slot twice, and a slot is in
+  -- one list at most
   pub distinct : (l : ℕ) → l < k → Distinct (lists l)
   pub once : (l m x : ℕ) → l < k → m < k → Among x (lists l) → Among x (lists m) → l ≡ m
   -- a slot that links back is in a list

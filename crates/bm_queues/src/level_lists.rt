@@ -13,18 +13,21 @@ use bm_base::{Level, Refusal, fits_link};
 use std::alloc::Global;
 use std::marker::Model;
 
-/// The level of a slot, or none, and its index in the array of that level; any number where it has none.
+/// The level of a slot, or none, and its index in the array of that level; any number where it has
+/// none.
 #[derive(Clone, Copy)]
 pub(crate) struct Cell {
     level: LevelByte,
     index: u32,
 }
 
-/// For each slot below the room a level or none, and for each level the list of its slots.
+/// For each slot below the capacity a level or none, and for each level the list of its slots.
 ///
-/// A contract sees it as `Levels`. The list of a level is an array, and its front is the end of the array. So a change of level writes
-/// to the cells of two slots and to two arrays. Only `new` and `grow_to` take memory, 28 bytes a slot: 8 for its cell, and 4 in the
-/// array of each level. Every other call takes none and succeeds. Each call but `grow_to` is a constant number of steps.
+/// A contract sees it as `Levels`. The list of a level is an array, and the end of the array is the
+/// front of the list. So a change of level writes to the cells of two slots and to two arrays. Only
+/// `new` and `grow_to` take memory, 28 bytes a slot: 8 for its cell, and 4 in the array of each
+/// level. Every other call takes none and succeeds. Each call but `grow_to` is a constant number of
+/// steps.
 #[derive(Drop)]
 pub struct LevelLists {
     cells: Vec<Cell>,
@@ -46,7 +49,7 @@ impl Model for LevelLists {
 }
 
 impl LevelLists {
-    /// Room for no slot, and five empty lists. May answer `Memory`.
+    /// Capacity for no slot, and five empty lists. May answer `Memory`.
     pub fn new(alloc: Global) -> Result<LevelLists, Refusal>
         ensures levels { IfOk result (λ a. a.levels ≡ []) }
         ensures lists { IfOk result (λ a. a.lists ≡ [] ∷ [] ∷ [] ∷ [] ∷ [] ∷ []) }
@@ -59,8 +62,9 @@ impl LevelLists {
         })
     }
 
-    /// Says to the function that calls it that level lists are lawful at all times, also what `slots` gives, and that going from the first
-    /// slot of a level to the next, and so on, visits just its slots, each once and in order. It does nothing when it runs.
+    /// For proofs alone: the invariant of level lists, the content of `slots`, and that following
+    /// `next` from the first slot of a level visits its slots, each once and in order. It does
+    /// nothing when it runs.
     pub fn lawful(&self)
         ensures lawful { IsLawful self.now }
         ensures exact { (l : Level) (slot : ℕ)
@@ -71,15 +75,16 @@ impl LevelLists {
         let _ = &self.cells;
     }
 
-    /// How many slots there is room for: the condition of the calls on a slot.
+    /// The capacity in slots: the condition of the calls on a slot.
     pub fn room(&self) -> usize
         ensures { result ≡ length self.now.levels }
     {
         self.cells.len()
     }
 
-    /// Makes room for the slots below `room`; those that are new have no level. Where there is room already, nothing
-    /// changes. May answer `Memory`, also where 32 bits could not name them all; capacity that the arrays gained is kept then.
+    /// Grows the capacity to the slots below `room`; new slots have no level. If the capacity is
+    /// there already, nothing changes. May answer `Memory`, also where 32 bits could not name all
+    /// slots; capacity that the arrays gained is kept then.
     pub fn grow_to(&mut self, room: usize) -> Result<(), Refusal>
         ensures after { OnOk result (self.new ≡ with_room self.old room) }
         ensures room { OnOk result (room ≤ length self.new.levels) }
@@ -105,8 +110,9 @@ impl LevelLists {
         Ok(())
     }
 
-    /// Gives a slot a level, or none: it leaves the list that it is in, whose first slot comes to its place, and stands at the front of
-    /// that of its new level. Where it has the level nothing changes. Takes no memory.
+    /// Gives a slot a level, or none. It leaves its list, where the first slot takes its index, and
+    /// becomes the first slot of its new level. If it has the level already nothing changes. Takes
+    /// no memory.
     pub fn set(&mut self, slot: usize, level: Option<Level>)
         requires { slot < length self.old.levels }
         ensures same { level_at self.old slot ≡ level → self.new ≡ self.old }
@@ -197,7 +203,8 @@ impl LevelLists {
         self.arrays[level.number() as usize].as_slice()
     }
 
-    /// The first slot of a level; none where its list is empty. All its slots are to come from there on.
+    /// The first slot of a level; none if its list is empty. An iteration over the level begins
+    /// with it.
     pub fn first(&self, level: Level) -> Option<usize>
         ensures slot { result ≡ first_of (slots_of self.now level) }
         ensures on { IsOn result (slots_of self.now level) }
@@ -207,9 +214,9 @@ impl LevelLists {
         Some(*first as usize)
     }
 
-    /// The slot behind a slot in the list of its level; none behind the last one, and where it has no level. From there on those
-    /// slots of the level are to come that stand behind it: the slot itself was left behind, and may change its level without
-    /// a change to them.
+    /// The next slot in the list of a slot's level; none after the last one, and where the slot has
+    /// no level. A caller that iterates may change the level of the slot that it has left: the
+    /// slots still to come stay the same.
     pub fn next(&self, slot: usize) -> Option<usize>
         requires { slot < length self.now.levels }
         ensures slot { result ≡ next_of self.now slot }

@@ -1,8 +1,9 @@
-//! Lists over slots: for each level the list of the slots that have it, and two kinds of sets of slots.
+//! Lists over slots: for each level the list of its slots, and two kinds of sets of slots.
 //!
-//! The list of a level is an array, whose end is the front, and one kind of set is a doubly linked list through arrays by slot: both may
-//! be changed behind a caller that iterates over them. The members of the other kind are an array too. A change of any is a constant
-//! number of steps and takes no memory, and a caller that reads the slots of a level, or of a set, reads no other.
+//! The list of a level is an array, whose end is the front. One kind of set is a doubly linked list
+//! through arrays by slot. Both may be changed behind a caller that iterates over them. The other
+//! kind keeps its members in an array too. Each change is a constant number of steps and takes no
+//! memory. A caller that reads the slots of a level, or of a set, reads no other.
 #![tactic(auto)]
 
 mod arrays;

@@ -1,4 +1,4 @@
-// Doubly linked lists over slots, as many as there are heads: `SlotSet` is built on one.
+// Doubly linked lists over slots, one for each head: `SlotSet` is built on one.
 ghost use Rattle.std.specs.Prelude.{◌≡◌, ◌<◌, ◌≤◌, ℕ, ◌∷◌, ◌==◌, ◌+◌, ◌↔◌, if◌then◌else◌, length, nat_lt, IfOk, OnOk, OnErr, IsOk, IsTrue, Some, None};
 ghost use Rattle.bm_base.specs.SlotLinks.{end_of_links};
 ghost use Rattle.bm_base.specs.SlotLists.{Among, without, first_of, slot_after};
@@ -9,14 +9,15 @@ use crate::walk::Walk;
 use bm_base::{END_OF_LINKS, NO_LINK, SlotLink};
 use std::alloc::{AllocError, Global};
 
-/// Lists of slots. Each slot below the room is in one list or in none; each operation on one slot is a constant number of steps.
+/// Lists of slots. Each slot below the capacity is in one list or in none; each operation on one
+/// slot is a constant number of steps.
 ///
-/// A cell is a head or a slot: slot `x` is the cell behind the heads by `x`. So the first slot of a list and any other one
-/// are linked and unlinked alike. It takes eight bytes a slot.
+/// A cell is a head or a slot: slot `x` is the cell number `x` after the heads. So the first slot
+/// of a list and any other one are linked and unlinked alike. It takes eight bytes a slot.
 #[derive(Drop)]
 pub(crate) struct SlotLists {
     pub(crate) heads: usize,
-    // The slot behind each cell.
+    // The slot after each cell.
     pub(crate) next: Vec<SlotLink>,
     // The cell before each slot; none where the slot is in no list.
     pub(crate) previous: Vec<SlotLink>,
@@ -32,7 +33,8 @@ fn set_previous(previous: &mut Vec<SlotLink>, at: SlotLink, to: SlotLink)
     }
 }
 
-// Whether links can name all cells of so many heads and slots. Past this want of memory is answered with no growth refused.
+// Whether links can name all cells of this many heads and slots. If not, the call is out of memory
+// without a refused growth.
 fn fits_links(heads: usize, room: usize) -> bool
     requires { heads ≤ end_of_links }
     ensures { IsTrue result ↔ (heads + room ≤ end_of_links) }
@@ -41,7 +43,7 @@ fn fits_links(heads: usize, room: usize) -> bool
 }
 
 impl SlotLists {
-    /// Empty lists, and room for no slot.
+    /// Empty lists, and capacity for no slot.
     pub(crate) fn new(alloc: Global, heads: usize) -> Result<SlotLists, AllocError>
         requires { heads < end_of_links }
         ensures heads { IfOk result (λ q. q.heads ≡ heads) }
@@ -57,14 +59,14 @@ impl SlotLists {
         })
     }
 
-    /// How many slots there is room for.
+    /// The capacity in slots.
     pub(crate) fn room(&self) -> usize
         ensures { result ≡ room_of self.now }
     {
         self.previous.len()
     }
 
-    /// Makes room for so many slots.
+    /// Grows the capacity to the slots below `room`.
     pub(crate) fn grow_to(&mut self, room: usize) -> Result<(), AllocError>
         requires lawful { AreLinked self.old }
         ensures heads { self.new.heads ≡ self.old.heads }
@@ -137,7 +139,7 @@ impl SlotLists {
         self.next[list].slot()
     }
 
-    /// The slot behind a slot in the list that it is in; none behind the last one, and where it is in no list.
+    /// The next slot in a slot's list; none after the last one, and where the slot is in no list.
     pub(crate) fn next(&self, slot: usize) -> Option<usize>
         requires lawful { AreLinked self.now }
         requires slot { slot < room_of self.now }

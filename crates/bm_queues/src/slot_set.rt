@@ -11,10 +11,11 @@ use bm_base::Refusal;
 use std::alloc::Global;
 use std::marker::Model;
 
-/// A set of slots below the room.
+/// A set of slots below the capacity.
 ///
-/// A contract sees it as `Members`. Only `new` and `grow_to` take memory, eight bytes a slot and four for the head; every other
-/// call takes none and succeeds. Each call is a constant number of steps, but for `grow_to`; going over a walk is a step a slot.
+/// A contract sees it as `Members`. Only `new` and `grow_to` take memory, eight bytes a slot and
+/// four for the head; every other call takes none and succeeds. Each call but `grow_to` is a
+/// constant number of steps, and so is each step of a walk.
 #[derive(Drop)]
 pub struct SlotSet {
     lists: SlotLists,
@@ -38,7 +39,7 @@ impl Model for SlotSet {
 }
 
 impl SlotSet {
-    /// No slot, and room for none. May answer `Memory`.
+    /// No slot, and no capacity. May answer `Memory`.
     pub fn new(alloc: Global) -> Result<SlotSet, Refusal>
         ensures slots { IfOk result (λ a. a.slots ≡ []) }
         ensures room { IfOk result (λ a. a.room ≡ 0) }
@@ -48,8 +49,8 @@ impl SlotSet {
         Ok(SlotSet { lists, count: 0 })
     }
 
-    /// Says to the function that calls it that a set is lawful at all times, and that going from the first slot to the next, and
-    /// so on, visits just its slots, each once and in order. It does nothing when it runs.
+    /// For proofs alone: the invariant of a set, and that following `next` from the first slot
+    /// visits its slots, each once and in order. It does nothing when it runs.
     pub fn lawful(&self)
         ensures lawful { IsLawful self.now }
         ensures visited { visited self.now ≡ self.now.slots }
@@ -57,15 +58,15 @@ impl SlotSet {
         let _ = &self.lists;
     }
 
-    /// How many slots there is room for: the condition of the calls on a slot.
+    /// The capacity in slots: the condition of the calls on a slot.
     pub fn room(&self) -> usize
         ensures { result ≡ self.now.room }
     {
         self.lists.room()
     }
 
-    /// Makes room for the slots below `room`. Where there is room already, nothing changes. May answer `Memory`, also where
-    /// a link of 32 bits could not name them all.
+    /// Grows the capacity to the slots below `room`. If it is there already, nothing changes. May
+    /// answer `Memory`, also where a link of 32 bits could not name all slots.
     pub fn grow_to(&mut self, room: usize) -> Result<(), Refusal>
         ensures after { OnOk result (self.new ≡ with_room self.old room) }
         ensures slots { self.new.slots ≡ self.old.slots }
@@ -144,8 +145,9 @@ impl SlotSet {
         self.lists.first(0)
     }
 
-    /// The slot behind a slot; none behind the last one, and where it is not in the set. From there on those slots are to come
-    /// that stand behind it: the slot itself was left behind, and may be taken out, or put in again, without a change to them.
+    /// The next slot after a slot; none after the last one, and where the slot is not in the set. A
+    /// caller that iterates may remove the slot that it has left, or insert it again: the slots
+    /// still to come stay the same.
     pub fn next(&self, slot: usize) -> Option<usize>
         requires { slot < self.now.room }
         ensures slot { result ≡ slot_after slot self.now.slots }

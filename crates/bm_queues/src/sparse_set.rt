@@ -1,4 +1,5 @@
-// A set of slots whose members stand densely, so that one who goes over them does not wait for each to learn of the next.
+// A set of slots whose members are in one array, so that an iteration does not wait for each member
+// to learn of the next.
 ghost use Rattle.std.specs.Prelude.{◌≡◌, ◌≢◌, ℕ, ◌<◌, ◌≤◌, IsTrue, ◌↔◌, [], ◌∷◌, ◌++◌, length, slice_index_or, Some, None, IfErr, OnOk, OnErr, IsOk};
 ghost use Rattle.std.specs.List.Sorted.{IsPermutation};
 ghost use Rattle.std.specs.Option.{IfSome};
@@ -10,15 +11,16 @@ use bm_base::{Refusal, fits_link};
 use std::alloc::Global;
 use std::marker::Model;
 
-/// A set of slots below the room, whose members can be read by place.
+/// A set of slots below the capacity, whose members can be read by index.
 ///
-/// A contract sees it as `Members`, the members in the order of their places. Only `grow_to` takes memory, eight bytes a slot;
-/// every other call takes none and succeeds. Each call is a constant number of steps, but for `grow_to`.
+/// A contract sees it as `Members`, the members in the order of their indices. Only `grow_to` takes
+/// memory, eight bytes a slot; every other call takes none and succeeds. Each call but `grow_to` is
+/// a constant number of steps.
 #[derive(Drop)]
 pub struct SparseSet {
     // The members.
     order: Vec<u32>,
-    // For each member its place among them; for any other slot some number.
+    // For each member its index; for any other slot some number.
     places: Vec<u32>,
 }
 
@@ -35,7 +37,7 @@ impl Model for SparseSet {
 }
 
 impl SparseSet {
-    /// No slot, and room for none.
+    /// No slot, and no capacity.
     pub fn new(alloc: Global) -> SparseSet
         ensures slots { result.slots ≡ [] }
         ensures room { result.room ≡ 0 }
@@ -46,22 +48,22 @@ impl SparseSet {
         }
     }
 
-    /// Says to the function that calls it that a set is lawful at all times. It does nothing when it runs.
+    /// For proofs alone: the invariant of a set. It does nothing when it runs.
     pub fn lawful(&self)
         ensures { IsLawful self.now }
     {
         let _ = &self.order;
     }
 
-    /// How many slots there is room for: the condition of the calls on a slot.
+    /// The capacity in slots: the condition of the calls on a slot.
     pub fn room(&self) -> usize
         ensures { result ≡ self.now.room }
     {
         self.places.len()
     }
 
-    /// Makes room for the slots below `room`. Where there is room already, nothing changes. May answer `Memory`, also where
-    /// 32 bits could not name them all.
+    /// Grows the capacity to the slots below `room`. If it is there already, nothing changes. May
+    /// answer `Memory`, also where 32 bits could not name all slots.
     pub fn grow_to(&mut self, room: usize) -> Result<(), Refusal>
         ensures after { OnOk result (self.new ≡ with_room self.old room) }
         ensures slots { self.new.slots ≡ self.old.slots }
@@ -81,7 +83,7 @@ impl SparseSet {
         Ok(())
     }
 
-    /// Puts a slot behind the members; where it is one nothing changes. Takes no memory.
+    /// Appends a slot to the members; if it is one already nothing changes. Takes no memory.
     pub fn insert(&mut self, slot: usize)
         requires { slot < self.old.room }
         ensures same { Among slot self.old.slots → self.new ≡ self.old }
@@ -99,7 +101,7 @@ impl SparseSet {
         self.order.push_reserved(slot as u32);
     }
 
-    /// Takes a slot out, if it is a member; the last member comes to its place. Takes no memory.
+    /// Removes a slot, if it is a member; the last member takes its index. Takes no memory.
     pub fn remove(&mut self, slot: usize)
         requires { slot < self.old.room }
         ensures same { (Among slot self.old.slots → ⊥) → self.new ≡ self.old }
@@ -125,7 +127,7 @@ impl SparseSet {
         self.place_of(slot).is_some()
     }
 
-    /// The members, each at its place.
+    /// The members, by index.
     pub fn members(&self) -> &[u32]
         ensures members { result.now ≡ self.now.slots }
         ensures few { length result.now ≤ self.now.room }
@@ -133,7 +135,7 @@ impl SparseSet {
         &self.order
     }
 
-    /// The place of a slot among the members; none where it is no member.
+    /// The index of a slot among the members; none if it is no member.
     fn place_of(&self, slot: usize) -> Option<usize>
         requires { slot < self.now.room }
         ensures found { IfSome result (λ place. (place < length self.now.slots)

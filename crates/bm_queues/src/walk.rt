@@ -6,13 +6,13 @@ ghost use Rattle.std.specs.Iterator.{YieldsFirst, item_count};
 use bm_base::{NO_LINK, SlotLink};
 use std::marker::Model;
 
-/// The slots of a list that are left. A contract sees it as the list of those slots. Takes no memory.
+/// The remaining slots of a list. A contract sees it as the list of those slots. Takes no memory.
 #[derive(Drop)]
 pub struct Walk<'a> {
-    // The slot behind each slot.
+    // The slot after each slot.
     pub(crate) links: &'a [SlotLink],
     pub(crate) next: SlotLink,
-    // At most so many slots are left.
+    // An upper bound on the number of remaining slots.
     pub(crate) left: usize,
 }
 

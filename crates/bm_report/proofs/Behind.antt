@@ -1,4 +1,4 @@
--- What stands behind the delimiter, as slots are linked and moved before it.
+-- The slots after the delimiter, as slots are linked and moved before it.
 use Rattle.std.proofs.Common.{◌≡◌, ◌≢◌, ℕ, List, [], ◌∷◌, eqb, false, refl, inl, inr, sym, ◌∙◌}
 use Rattle.std.proofs.lemmas.Bool.{cases_Bool, eqb-true, ne_eqb}
 use Rattle.bm_base.specs.SlotLists.{Among, Distinct, without}

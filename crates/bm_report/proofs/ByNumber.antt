@@ -1,4 +1,4 @@
--- Numbers entered, and their lost excess dropped, one after another, each with the slot that it has.
+-- Numbers entered, and their lost excess dropped, one after another, each with its slot.
 use Rattle.std.proofs.Common.{◌≡◌, ℕ, ◌≤◌, List, [], ◌∷◌, ◌++◌, length, map, Option, Some, None, refl, subst, inl, inr, sym, ap, ◌∙◌, arith, length-append}
 use Rattle.std.proofs.Common.{Bool, true, false, ◌||◌, cond, eqb}
 use Rattle.std.specs.Prelude.{nat_eq, filter, ◌==◌, IsTrue, IsSomeAnd}

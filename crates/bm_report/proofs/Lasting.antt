@@ -1,4 +1,5 @@
--- A full report keeps that a node has at most one replica of a block, and that only good replicas are in excess.
+-- A full report keeps that a node has at most one replica of a block, and that only good replicas
+-- are in excess.
 use Rattle.std.proofs.Common.{◌≡◌, ℕ, Bool, true, false, cond, ◌&&◌, List, [], ◌∷◌, map, Option, Some, None, is_some, IsSome, IsTrue, refl, subst, inl, inr, sym, ap, ◌∙◌, eqb, eqb-true}
 use Rattle.std.specs.Prelude.{◌==◌}
 use Rattle.std.specs.Option.{option_map}

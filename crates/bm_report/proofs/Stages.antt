@@ -1,4 +1,5 @@
--- The stages of a report: the delimiter put, blocks entered, what was not reported swept out, the delimiter taken, lost excess dropped.
+-- The stages of a report: the delimiter put, blocks entered, unreported ones swept out, the
+-- delimiter taken, lost excess dropped.
 use Rattle.std.proofs.Common.{◌≡◌, ◌≢◌, ℕ, ◌<◌, ◌≤◌, Bool, true, false, cond, List, [], ◌∷◌, length, map, Option, Some, None, is_some, IsSome, refl, subst, inl, inr, sym, ap, ◌∙◌, arith, eqb, eq-eqb, eqb-true, ne_eqb}
 use Rattle.std.specs.Prelude.{◌==◌, nat_eq, IsSomeAnd, ◌⊎◌}
 use Rattle.std.specs.List.{list_any}

@@ -17,7 +17,8 @@ use Rattle.bm_report.specs.Midway.{AreHere, HaveRoom, IsOncePerNode, IsEntered, 
 use Rattle.bm_report.proofs.Chaining.{entered-none, counted-none, entered-append, counted-append, here-framed, room-framed}
 use Rattle.bm_report.proofs.Once.{once-entered_all}
 
--- Some of the named blocks are entered, and the rest is to be: what stands now, and what comes of it in the end.
+-- Some of the named blocks are entered, and the rest is to be: what stands now, and what comes of
+-- it in the end.
 pub record IsUnderway (C : Cluster) (s : ℕ) (all rest : List Named) (first now : Contents) (t u : Tally) : Type 0 where
   pub here : AreHere now rest
   pub room : HaveRoom now s rest

@@ -1,4 +1,4 @@
--- What a shard is told by the entries of a report, and what a look-up of its numbers leaves as it was.
+-- The reported blocks of a shard, and what a look-up of its numbers keeps.
 use Rattle.std.specs.Prelude.{◌≡◌, ◌≢◌, ℕ, ◌≤◌, List, IsSome, Some}
 use Rattle.bm_base.specs.declared.ids.Part.{Part}
 use Rattle.bm_base.specs.declared.event.Entry.{Entry}
@@ -8,15 +8,16 @@ use Rattle.bm_arena.specs.Triplets.{Block}
 use Rattle.bm_arena.specs.Contents.{Contents, block_at, slot_of, marks_at, list_of, room_at, with_room, HasHead, HasRoom}
 use Rattle.bm_arena.specs.Holding.{replicas_of, blocks_of}
 
--- what is told of a shard's numbers
+-- the reported blocks of a shard's numbers
 abbrev pub of_part : Part → List Told → List Told
 of_part part ts = told_of part.index part.shards ts
 
--- what the entries of a report tell of a shard's numbers, in their order, repeats included
+-- the reported blocks of a shard's numbers by the entries of a report, in their order, repeats
+-- included
 abbrev pub told_to : Part → List Entry → List Told
 told_to part es = of_part part (expanded es)
 
--- numbers may have got slots, and slots room: all that is held stays
+-- numbers may have got slots, and slots capacity: all blocks and replicas stay
 pub record IsPrepared (old new : Contents) : Type 0 where
   pub replicas : replicas_of new ≡ replicas_of old
   pub blocks : blocks_of new ≡ blocks_of old
@@ -28,7 +29,7 @@ pub record IsPrepared (old new : Contents) : Type 0 where
   pub held : (slot : ℕ) → IsSome (block_at old slot) → IsSome (block_at new slot)
   pub marks : (slot t : ℕ) → IsSome (block_at old slot) → marks_at new slot t ≡ marks_at old slot t
   pub room : (slot : ℕ) → slot ≢ old.delimiter → HasRoom old slot → HasRoom new slot
-  -- what a slot holds stays there, its replicas in their order, but for more room
+  -- the content of a slot stays, its replicas in their order, but for more capacity
   pub entries : (slot : ℕ) (b : Block) → block_at old slot ≡ Some b → block_at new slot ≡ Some (with_room (room_at new slot) b)
   pub grows : (slot : ℕ) → room_at old slot ≤ room_at new slot
   pub bound : old.bound ≤ new.bound

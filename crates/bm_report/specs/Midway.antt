@@ -1,4 +1,4 @@
--- A full report while it runs: which marks a replica has, which maps and lists there are, what is counted.
+-- A full report while it runs: the marks of a replica, the maps and lists, and the counts.
 use Rattle.std.specs.Prelude.{◌≡◌, ℕ, zero, suc, ◌+◌, ◌≤◌, ◌<◌, ◌^◌, ◌*◌, Bool, true, false, not, ◌&&◌, ◌||◌, ◌==◌, if◌then◌else◌, List, [], ◌∷◌, length, map, Option, Some, None, IsSome, ◌⊎◌}
 use Rattle.std.specs.Option.{option_map_or}
 use Rattle.bm_base.specs.declared.replica.ReplicaId.{ReplicaId}
@@ -18,8 +18,9 @@ use Rattle.bm_report.specs.declared.types.Named.{Named}
 use Rattle.bm_report.specs.declared.tally.Tally.{Tally}
 use Rattle.bm_arena.specs.Holding.{replicas_of, blocks_of, info_at, id_at}
 
--- The marks of a reported replica while the report runs. The mark "in excess" says that it was so before the report, also
--- where it is not good now; so a block that is named again finds what was before the report.
+-- The marks of a reported replica while the report runs. The mark "in excess" means that it was so
+-- before the report, also if it is not good now; so a block that is named again finds the state
+-- before the report.
 abbrev pub reported_tag : Option BlockInfo → Bool → Stamp → Tag
 reported_tag info was_bad stamp = option_map_or (λ (i : BlockInfo). if was_bad then Bad else if same_stamp stamp i.stamp then Good else Stale) info Stray
 
@@ -30,14 +31,15 @@ midway_marks info was stamp = record {
   ordered = false;
 }
 
--- The marks after the report: a good replica alone stays in excess. The mark of a replica that is not good any more is lost excess.
+-- The marks after the report: only a good replica stays in excess. The mark of one that is no
+-- longer good is lost excess.
 abbrev pub without_lost_excess : Marks → Marks
 without_lost_excess m = record m { excess = is_good m.tag && m.excess }
 
 abbrev pub is_excess_good : Marks → Bool
 is_excess_good m = not (m.excess && not (is_good m.tag))
 
--- the replica p is there with marks m, and leaves the other storages of its node
+-- the replica p is added with marks m, and those on the other storages of its node leave
 abbrev pub entered_at : Cluster → Map by_replica Marks → ReplicaId → Marks → Map by_replica Marks
 entered_at C K p m = insert (keep K (λ q _. not (replaces C p q))) p m
 
@@ -66,7 +68,7 @@ IsOncePerNode C K = (p q : ReplicaId) → IsSome (get K p) → IsSome (get K q) 
 abbrev pub IsExcessGood : Map by_replica Marks → Type 0
 IsExcessGood K = (p : ReplicaId) (m : Marks) → get K p ≡ Some m → is_excess_good m ≡ true
 
--- the slots that stand behind the delimiter
+-- the slots after the delimiter
 abbrev pub after : ℕ → List ℕ → List ℕ
 after d [] = []
 after d (x ∷ xs) = if x == d then xs else after d xs
@@ -94,22 +96,23 @@ lost_excess_out_all s (n ∷ ns) K = lost_excess_out_all s ns (lost_excess_out_o
 abbrev pub told_of : Named → Told
 told_of n = record { id = n.id; stamp = n.stamp }
 
--- so many steps more
+-- n steps more
 abbrev pub count_ups : ℕ → ℕ → ℕ
 count_ups zero n = n
 count_ups (suc k) n = count_up (count_ups k n)
 
--- each named block stands in its slot
+-- each named block is in its slot
 abbrev pub AreHere : Contents → List Named → Type 0
 AreHere a [] = Unit {0}
 AreHere a (n ∷ ns) = (slot_of a n.id ≡ Some n.slot) × AreHere a ns
 
--- a block that is not on s has room for it
+-- a block that is not on s has capacity for it
 abbrev pub HaveRoom : Contents → ℕ → List Named → Type 0
 HaveRoom a s [] = Unit {0}
 HaveRoom a s (n ∷ ns) = (marks_at a n.slot s ≡ None → HasRoom a n.slot) × HaveRoom a s ns
 
--- a named block is on s with just the marks that entering it gives, so that entering it changes no block
+-- a named block is on s with exactly the marks that entering it gives, so that entering it changes
+-- no block
 abbrev pub Stands : Contents → ℕ → Named → Type 0
 Stands a s n = marks_at a n.slot s ≡ Some (midway_marks (info_at a n.slot) (marks_at a n.slot s) n.stamp)
 
@@ -139,7 +142,7 @@ pub record IsEntered (C : Cluster) (s : ℕ) (ns : List Named) (old new : Conten
   pub frame : IsFramed s old new
   pub others : (slot : ℕ) → (Among slot (map slot_in ns) → ⊥) → block_at new slot ≡ block_at old slot
 
--- what is counted meanwhile
+-- the counts meanwhile
 pub record IsCounted (C : Cluster) (s : ℕ) (ns : List Named) (old new : Contents) (before after : Tally) : Type 0 where
   pub rises : (n : ℕ) → old.steps ≡ count_ups before.steps n → new.steps ≡ count_ups after.steps n
   pub steps : after.steps + before.removed ≡ before.steps + after.removed + length ns
@@ -149,7 +152,7 @@ pub record IsCounted (C : Cluster) (s : ℕ) (ns : List Named) (old new : Conten
   pub few_removed : after.removed ≤ before.removed + length ns
   pub good : after.has_lost_excess ≡ false → (before.has_lost_excess ≡ false) × (IsExcessGood (replicas_of old) → IsExcessGood (replicas_of new))
 
--- what a tally is after a block was moved, or linked and perhaps taken from a sister storage
+-- the counts after a block was moved, or linked and perhaps removed from a sibling storage
 abbrev pub moved_tally : Tally → Bool → Tally
 moved_tally t is_excess_good = record t { steps = t.steps + 1; has_lost_excess = t.has_lost_excess || not is_excess_good }
 
@@ -164,7 +167,7 @@ linked_tally t has_left is_excess_good = record {
 abbrev pub swept_tally : Tally → Tally
 swept_tally t = record t { removed = t.removed + 1; steps = t.steps + 1 }
 
--- a tally whose counts have room for so many blocks more
+-- counts that can count n blocks more without overflow
 pub record IsSmall (t : Tally) (n : ℕ) : Type 0 where
   pub added : t.added + 2 * n < 2 ^ 128
   pub removed : t.removed + 2 * n < 2 ^ 128
@@ -177,7 +180,7 @@ pub record IsListed (old new : Contents) (before after : List ℕ) : Type 0 wher
   pub only : (slot : ℕ) → Among slot after → Among slot before ⊎ IsEntry old slot
   pub ids : new.ids ≡ old.ids
 
--- the slots xs, which stand behind the delimiter first, were taken out of the list of s
+-- the slots xs, the first after the delimiter, were removed from the list of s
 pub record IsSwept (s : ℕ) (xs : List ℕ) (old new : Contents) (t u : Tally) : Type 0 where
   pub replicas : replicas_of new ≡ out_all s (map (id_at old) xs) (replicas_of old)
   pub ids : new.ids ≡ old.ids

@@ -1,4 +1,4 @@
--- What a report keeps from its look-up to its end, and what has to stand before it is applied.
+-- What a report keeps from its look-up to its end, and the conditions for applying it.
 use Rattle.std.specs.Prelude.{◌≡◌, ℕ, ◌+◌, ◌≤◌, List, [], ◌∷◌, map, length, IsTrue, IsSome, IsSomeAnd, Some, None}
 use Rattle.std.specs.Option.{unwrap_or}
 use Rattle.bm_base.specs.declared.replica.ReplicaId.{ReplicaId}
@@ -25,43 +25,43 @@ pub record Looked : Type 0 where
   -- how many slots can be listed in all with no memory taken
   pub room : ℕ
 
--- what is told by the numbers that it names
+-- the reported blocks of its numbers
 abbrev pub told : Looked → List Told
 told r = map told_of r.named
 
--- The numbers were looked up in this arena, for storage s: the slots are theirs, each block has room
--- for a replica on s, and s has a head. A notice needs no more.
+-- The numbers were looked up in this arena, for storage s: the slots are theirs, each block has
+-- capacity for a replica on s, and s has a head. A notice needs no more.
 pub record IsLookedUp (r : Looked) (a : Contents) (s : ℕ) : Type 0 where
   pub here : AreHere a r.named
   pub room : HaveRoom a s r.named
   pub head : HasHead a s
 
--- For a full report, all slots that may change can be listed besides.
+-- For a full report, there is also capacity to list all slots that may change.
 pub record IsReady (r : Looked) (a : Contents) (s : ℕ) : Type 0 where
   pub looked_up : IsLookedUp r a s
   pub space : length r.changed + length r.named + length (list_of a s) ≤ r.room
 
--- the slot is that of a number that is told
+-- the slot is that of a reported number
 abbrev pub IsToldAt : Contents → List Told → ℕ → Type 0
 IsToldAt a ts slot = (b : ℕ) × IsTrue (is_named ts b) × (slot_of a b ≡ Some slot)
 
--- a number has an entry, which has a replica on s or room for one
+-- a number has an entry, with a replica on s or capacity for one
 abbrev pub HasPlace : Contents → ℕ → ℕ → Type 0
 HasPlace a s b = IsSomeAnd (slot_of a b) (λ slot. marks_at a slot s ≡ None → HasRoom a slot)
 
--- each number that is told has a place, and s has a head
+-- each reported number has an entry, and s has a head
 pub record HasPlaces (a : Contents) (s : ℕ) (ts : List Told) : Type 0 where
   pub places : (b : ℕ) → IsTrue (is_named ts b) → HasPlace a s b
   pub head : HasHead a s
 
--- a number has a replica on s, and so does each number that is told
+-- a number has a replica on s, and so does each reported number
 abbrev pub HasReplica : Contents → ℕ → ℕ → Type 0
 HasReplica a s b = IsSome (get (replicas_of a) (replica_at b s))
 
 abbrev pub HaveReplicas : Contents → ℕ → List Told → Type 0
 HaveReplicas a s ts = (b : ℕ) → IsTrue (is_named ts b) → HasReplica a s b
 
--- each replica on s that is told is there with just the marks with which it is entered
+-- each reported replica on s is there with exactly the marks with which it is entered
 abbrev pub StandAlready : Holdings → ℕ → List Told → Type 0
 StandAlready H s [] = Unit {0}
 StandAlready H s (t ∷ ts) = (get H.replicas (replica_at t.id s) ≡ Some (entered H (replica_at t.id s) t.stamp)) × StandAlready H s ts
@@ -70,14 +70,14 @@ StandAlready H s (t ∷ ts) = (get H.replicas (replica_at t.id s) ≡ Some (ente
 abbrev pub HasGoodExcess : Map by_replica Marks → Type 0
 HasGoodExcess K = (p : ReplicaId) (m : Marks) → get K p ≡ Some m → IsTrue m.excess → IsTrue (is_good m.tag)
 
--- a number that is told, with the slot that it has in this arena
+-- a reported number, with the slot that it has in this arena
 abbrev pub named_in : Contents → Told → Named
 named_in a t = record { id = t.id; slot = unwrap_or (slot_of a t.id) 0; stamp = t.stamp }
 
 abbrev pub named_of : Contents → List Told → List Named
 named_of a ts = map (named_in a) ts
 
--- numbers can be entered one after another: each has its place, and the counts have room for them
+-- numbers can be entered one after another: each has its entry, and the counts do not overflow
 pub record CanBeEntered (C : Cluster) (s : ℕ) (ts : List Told) (a : Contents) (t : Tally) : Type 0 where
   pub here : AreHere a (named_of a ts)
   pub room : HaveRoom a s (named_of a ts)

@@ -9,8 +9,8 @@ use Rattle.bm_arena.specs.Holding.{replicas_of, blocks_of, holdings_of}
 use Rattle.bm_report.specs.declared.types.Applied.{Applied}
 use Rattle.bm_report.specs.Midway.{count_ups}
 
--- A replica of block b with this stamp was received on storage s: it is there, and leaves the other storages of the node. Only that
--- block changes, and the delimiter stays where it is.
+-- A replica of block b with this stamp was received on storage s: it is added, and those on the
+-- other storages of the node leave. Only that block changes, and the delimiter stays where it is.
 pub record HasReceived (C : Cluster) (s b : ℕ) (stamp : Stamp) (old new : Contents) (r : Applied) : Type 0 where
   pub replicas : replicas_of new ≡ (enter C (holdings_of old) (replica_at b s) stamp).replicas
   pub blocks : blocks_of new ≡ blocks_of old

@@ -1,4 +1,4 @@
-// Numbers of a report entered, and their lost excess dropped, one after another, each looked up anew: no slots are kept.
+// Numbers of a report entered one after another, each looked up again: no slots are kept.
 ghost use Rattle.std.specs.Prelude.{◌≡◌, ◌<◌, ◌+◌, ◌^◌, ◌∷◌, [], length, false, IsSome};
 ghost use Rattle.bm_base.specs.Entries.{told_by};
 ghost use Rattle.bm_arena.specs.Contents.{marks_at};
@@ -141,7 +141,8 @@ fn drop_lost_excess_of_entries(arena: &mut Arena, storage: StorageId, entries: &
     }
 }
 
-/// Drops the lost excess of all blocks that the entries name, where there is some: a good replica alone stays in excess.
+/// Drops the lost excess of all named blocks, if there is some: only a good replica stays in
+/// excess.
 pub(crate) fn drop_lost_excess_by_number(
     arena: &mut Arena,
     storage: StorageId,
@@ -160,7 +161,7 @@ pub(crate) fn drop_lost_excess_by_number(
     }
 }
 
-/// Unlinks the blocks that stand behind the delimiter.
+/// Unlinks the blocks after the delimiter.
 pub(crate) fn sweep_behind(arena: &mut Arena, storage: StorageId, tally: &mut Tally)
     requires put { IsSome (marks_at arena.old arena.old.delimiter storage) }
     requires removed { tally.old.removed + length (behind arena.old storage) < 2 ^ 127 }

@@ -15,7 +15,8 @@ use bm_arena::Arena;
 use bm_base::{Marks, StorageId};
 use bm_topo::Topology;
 
-/// Enters a block that a report names, of which the marks on the storage are known: whether its replicas are others then.
+/// Adds or moves one reported block, given its present marks there. Returns whether its replicas or
+/// marks changed.
 pub(crate) fn enter(
     arena: &mut Arena,
     topology: &Topology,
@@ -54,7 +55,8 @@ pub(crate) fn enter(
     }
 }
 
-/// Moves a block that is on the storage to the head of its list and sets its marks: whether they were others.
+/// Moves a block that is on the storage to the head of its list and sets its marks. Returns whether
+/// they changed.
 pub(crate) fn move_known(
     arena: &mut Arena,
     named: &Named,
@@ -83,8 +85,8 @@ pub(crate) fn move_known(
     true
 }
 
-/// Links a block that is not on the storage at the head of its list, and unlinks it from another storage of the node: whether it
-/// was on one.
+/// Links a new block at the head of the storage's list, and unlinks it from another storage of the
+/// node. Returns whether it was on one.
 pub(crate) fn link_new(
     arena: &mut Arena,
     topology: &Topology,

@@ -1,7 +1,8 @@
-// Entering all blocks that a report names, chunk by chunk.
+// Enters all blocks that a report names, chunk by chunk.
 //
-// The cost of a report is waiting for memory: so the marks of a chunk's blocks are read first, in reads that do not wait for one
-// another, and the moves and links that follow find the blocks' entries near.
+// The cost of a report is waiting for memory. So the marks of a chunk's blocks are read first, with
+// overlapping cache misses, and the moves and links after that find the blocks' entries in the
+// cache.
 ghost use Rattle.std.specs.Prelude.{◌≡◌, ◌≤◌, ◌<◌, ◌+◌, ◌≢◌, ◌∷◌, [], ℕ, ◌⊎◌, length, map, slice_get, slice_index_or, vec_len, vec_capacity, true, false, None, Some};
 ghost use Rattle.bm_base.specs.SlotLists.{Among};
 ghost use Rattle.bm_arena.specs.Contents.{block_at, slot_of, marks_at, HasHead, HasRoom};
@@ -17,7 +18,7 @@ use bm_arena::{Arena, Slot};
 use bm_base::{Marks, StorageId};
 use bm_topo::Topology;
 
-/// So many blocks are looked at together.
+/// The number of blocks in a chunk.
 pub(crate) const CHUNK: usize = 64;
 
 /// The marks on the storage of each block of a chunk.

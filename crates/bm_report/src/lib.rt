@@ -1,11 +1,13 @@
-//! Full block reports, compared by the delimiter as in Hadoop 2's BlockManager, and the notices of single replicas.
+//! Full block reports, compared by the delimiter as in Hadoop 2's BlockManager, and the notices of
+//! single replicas.
 //!
 //! A report is taken in two steps. `ready`, or `ready_one` for a notice, finds or makes the entries
 //! of its numbers and reserves all memory, and may be refused it; then `apply_full`,
 //! `apply_received` or `abort` takes none and succeeds. A `Report` keeps the slots in between, so
-//! that a number that has an entry is hashed at most twice, reads 64 numbers ahead, and lists
-//! the slots that change; a shard holds one. The free functions keep nothing and look each number up again.
-//! What an arena holds as blocks and replicas is said by two finite maps.
+//! that a known number is hashed at most twice, reads 64 numbers ahead, and lists the slots that
+//! change; a shard holds one. The free functions keep nothing and look each number up again.
+//!
+//! Contracts describe the blocks and replicas of an arena by two finite maps.
 #![tactic(auto)]
 
 mod aborting;

@@ -31,8 +31,8 @@ fn slot_for(arena: &mut Arena, id: BlockId) -> Result<Slot, Refusal>
     arena.add_entry(id)
 }
 
-/// Looks up one number, and reserves a replica on the storage. After an `Err` it has no new entry
-/// that is not named.
+/// Looks up one number, and reserves a replica on the storage. After an `Err` every new entry is
+/// named.
 fn look_up_one(
     arena: &mut Arena,
     storage: StorageId,
@@ -61,8 +61,8 @@ fn look_up_one(
     Ok(())
 }
 
-/// Looks up the numbers of an entry that are of the part, and makes room: from one to the next, so that numbers of other shards cost
-/// nothing.
+/// Looks up the numbers of an entry that are of the part, and reserves capacity. It steps from one
+/// to the next, so numbers of other shards cost nothing.
 fn look_up_run(
     arena: &mut Arena,
     storage: StorageId,
@@ -96,8 +96,9 @@ fn look_up_run(
     Ok(())
 }
 
-/// Finds the slots of all numbers of the part that a report names, in order, each time a number is named; gives an entry to a
-/// number that has none, and room for a replica on the storage to a block that has none there.
+/// Finds the slots of all numbers of the part that a report names, in order, repeats included.
+/// Gives an entry to a new number, and capacity for a replica on the storage to a block that has
+/// none there.
 fn look_up_all(
     arena: &mut Arena,
     storage: StorageId,
@@ -126,10 +127,10 @@ fn look_up_all(
     Ok(())
 }
 
-/// At the first of each chunk of entries of a report, in the only shard: reads what the arena has of
-/// the chunk's numbers, of a run only the first, and makes room to name those that are known with
-/// the reported stamp. A read is so short that the processor has many cache misses under way at
-/// once; a look-up is too long for that. One of several shards would divide each number once more.
+/// At the first of each chunk of entries of a report, with a single shard: reads the arena's
+/// entries of the chunk's numbers, of a run only the first, and reserves capacity to name those
+/// that are known with the reported stamp. A read is so short that many cache misses overlap; a
+/// look-up is too long for that. With several shards each number would cost one more division.
 fn read_ahead(
     arena: &Arena,
     entries: &[Entry],
@@ -174,8 +175,8 @@ fn is_known(arena: &Arena, entry: &Entry) -> bool {
 }
 
 /// Looks up all numbers of the part that a report of a storage names, and reserves what `apply`
-/// needs next to `changed`. A number that has an entry is hashed at most twice, and a new one three
-/// times. Nothing that is held changes. `Memory`.
+/// needs besides `changed`. A known number is hashed at most twice, and a new one three times. All
+/// blocks and replicas stay. `Memory`.
 pub(crate) fn look_up(
     arena: &mut Arena,
     storage: StorageId,
@@ -201,7 +202,8 @@ pub(crate) fn look_up(
     look_up_all(arena, storage, entries, part, named)
 }
 
-/// Looks up one number alone, and reserves what a notice of it needs. Nothing that is held changes. `Memory`.
+/// Looks up one number, and reserves what a notice of it needs. All blocks and replicas stay.
+/// `Memory`.
 pub(crate) fn look_up_alone(
     arena: &mut Arena,
     storage: StorageId,

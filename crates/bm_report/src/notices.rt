@@ -22,7 +22,7 @@ const NOTHING: Applied = Applied {
     steps: 0,
 };
 
-/// A replica that was received is there, and leaves the other storages of the node.
+/// Adds a received replica, and removes those on the other storages of the node.
 pub(crate) fn receive(
     arena: &mut Arena,
     topology: &Topology,
@@ -62,8 +62,9 @@ fn applied_link(has_left: bool) -> Applied
     }
 }
 
-/// A replica of the block `id` was received on a storage, for which the number was made ready: it is there, and leaves the other
-/// storages of the node. Only that block changes. The number is looked up anew. Takes no memory.
+/// Adds a received replica of the block `id`, for which the number was made ready, and removes
+/// those on the other storages of the node. Only that block changes. Looks the number up again.
+/// Takes no memory.
 pub fn apply_received(
     arena: &mut Arena,
     topology: &Topology,
@@ -82,7 +83,8 @@ pub fn apply_received(
     }
 }
 
-/// A replica of the block `id` on a storage was deleted: it leaves, if it is there. Only that block changes. Takes no memory.
+/// Removes a replica of the block `id` from a storage, if it is there. Only that block changes.
+/// Takes no memory.
 pub fn apply_deleted(arena: &mut Arena, storage: StorageId, id: BlockId) -> Applied
     ensures replicas { replicas_of arena.new
         ≡ remove (replicas_of arena.old) (replica_at id storage) }

@@ -23,9 +23,10 @@ use bm_topo::Topology;
 use std::alloc::Global;
 use std::marker::Model;
 
-/// What a shard keeps of a report between `ready` and its end: the slots of the numbers that it names, so that a number that
-/// has an entry is hashed at most twice, and a list of the slots that change, with its room. A contract sees both as lists. Only `ready`
-/// takes memory; a shard keeps one `Report` for all its reports, so that its room is taken once.
+/// What a shard keeps of a report between `ready` and its end: the slots of its numbers, so that a
+/// known number is hashed at most twice, and a list of the slots that change, with its capacity. A
+/// contract sees both as lists. Only `ready` takes memory; a shard keeps one `Report` for all its
+/// reports, so that its capacity is allocated once.
 #[derive(Drop)]
 pub struct Report {
     named: Vec<Named>,
@@ -63,10 +64,10 @@ impl Report {
         }
     }
 
-    /// Finds the slot of each number of the part that the entries name, in order, repeats included; gives an entry to a number
-    /// that has none; and makes all room that the end of the report needs. The numbers of other shards are stepped over, not
-    /// visited. Nothing that is held changes, and what was looked up before is forgotten. `Memory`: then `abort` drops the
-    /// entries that are new.
+    /// Finds the slot of each number of the part that the entries name, in order, repeats included;
+    /// gives an entry to a new number; and reserves all that the end of the report needs. The
+    /// numbers of other shards are skipped without a step each. All blocks and replicas stay, and
+    /// an earlier look-up is forgotten. `Memory`: then `abort` drops the new entries.
     pub fn ready(
         &mut self,
         arena: &mut Arena,
@@ -125,10 +126,11 @@ impl Report {
         self.named[0].slot
     }
 
-    /// Makes the replicas on a storage those of the report that was made ready, and lists the slots whose replicas or marks
-    /// changed: none where all that is named stands already and nothing leaves. Takes no memory.
+    /// Makes the replicas on a storage those of the prepared report, and lists the slots whose
+    /// replicas or marks changed: none if the report is unchanged. Takes no memory.
     ///
-    /// The list steps: one for each number that is named, one for each replica that leaves, and two for the delimiter.
+    /// The list steps: one for each named number, one for each replica that leaves, and two for the
+    /// delimiter.
     pub fn apply_full(
         &mut self,
         arena: &mut Arena,
@@ -177,9 +179,8 @@ impl Report {
         )
     }
 
-    /// A replica of the block `id` was received on a storage, for which its number was looked up:
-    /// it is there, and leaves the other storages of the node. Only that block changes. Takes no
-    /// memory.
+    /// Adds a received replica of the block `id`, after its look-up, and removes those on the other
+    /// storages of the node. Only that block changes. Takes no memory.
     pub fn apply_received(
         &self,
         arena: &mut Arena,
@@ -196,8 +197,8 @@ impl Report {
         receive(arena, topology, storage, &self.named[0])
     }
 
-    /// Gives up what was looked up: drops the entries of the numbers that it names which have neither a block nor a replica, and
-    /// forgets them. Nothing that is held changes. Takes no memory.
+    /// Gives up what was looked up: drops the unused entries of its numbers, without a block and
+    /// replicas, and forgets them. All blocks and replicas stay. Takes no memory.
     pub fn abort(&mut self, arena: &mut Arena)
         ensures told { told self.new ≡ [] }
         ensures replicas { replicas_of arena.new ≡ replicas_of arena.old }
@@ -219,8 +220,9 @@ impl Report {
         self.changed.clear();
     }
 
-    /// The slots whose replicas or marks changed by `apply_full`, in any order. One may stand twice, and that of a block which the
-    /// report names more than once, with different stamps, may stand there although its marks are in the end what they were.
+    /// The slots whose replicas or marks `apply_full` changed, in any order. One may occur twice.
+    /// The slot of a block that the report names more than once, with different stamps, may occur
+    /// although its marks are the same in the end.
     pub fn changed_slots(&self) -> &[Slot]
         ensures { result.now ≡ self.now.changed }
     {
@@ -236,8 +238,8 @@ impl Report {
     }
 }
 
-/// For how many slots a list of those that change needs room: for so many that are named, and for all that the arena has. `Memory` where
-/// that is no length of a list. Takes no memory.
+/// Upper bound on the changed slots: those reported plus those swept. `Memory` if it overflows.
+/// Takes no memory.
 fn room_to_list(named: usize, slots: usize) -> Result<usize, Refusal>
     ensures room { IfOk result (λ room. room ≡ named + slots) }
     ensures fits { IsOk result ↔ (named + slots < 2 ^ 64) }

@@ -1,4 +1,4 @@
-// Room for the replicas that a report may bring.
+// Capacity for the replicas that a report may bring.
 ghost use Rattle.std.specs.Prelude.{◌≡◌, ℕ, IsSome, IfErr, IsOk, OnOk, None};
 ghost use Rattle.bm_base.specs.declared.refusal.Refusal.TheVariants.{Memory};
 ghost use Rattle.bm_arena.specs.Contents.{block_at, slot_of, marks_at, HasRoom};
@@ -7,7 +7,7 @@ ghost use Rattle.bm_report.specs.Expanded.{IsPrepared};
 use bm_arena::{Arena, Slot};
 use bm_base::{Refusal, StorageId};
 
-/// Makes room for a replica on the storage, unless the block has one there.
+/// Reserves capacity for a replica on the storage, unless the block has one there.
 pub(crate) fn make_room(arena: &mut Arena, slot: Slot, storage: StorageId) -> Result<(), Refusal>
     requires held { IsSome (block_at arena.old slot) }
     ensures kept { IsPrepared arena.old arena.new }

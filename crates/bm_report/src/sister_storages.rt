@@ -1,4 +1,5 @@
-// Storages of one node: a node keeps one replica of a block, so a new one takes the place of one on a sister storage.
+// Sibling storages: a node keeps one replica of a block, so a new one replaces one on a sibling
+// storage.
 ghost use Rattle.std.specs.Prelude.{◌≡◌, ℕ, true, None, Some, IsSome, IfSome, IfNone};
 ghost use Rattle.bm_base.specs.Replicas as replicas;
 ghost use Rattle.bm_arena.specs.Contents.{marks_at};

@@ -1,6 +1,6 @@
 // A full report without a `Report`: nothing is kept between the look-up of its numbers and its end.
-//
-// Only tests make these calls; they stay, and `by_number.rt` for them, as part of this crate's public surface.
+// Only tests make these calls; they stay, and `by_number.rt` for them, as part of this crate's
+// public surface.
 ghost use Rattle.std.specs.Prelude.{◌≡◌, ◌<◌, ◌≤◌, ◌+◌, ℕ, length, None, Some, OnOk, IfErr, IsTrue, false, ◌≢◌};
 ghost use Rattle.bm_base.specs.declared.refusal.Refusal.TheVariants.{Memory};
 ghost use Rattle.bm_base.specs.declared.limits.TheConstants.{MAX_NUMBERS};
@@ -21,9 +21,9 @@ use bm_arena::Arena;
 use bm_base::{Entry, Part, Refusal, StorageId};
 use bm_topo::Topology;
 
-/// Gives an entry to each number of the part that the entries name and that has none, and makes all room that `apply_full`, or
-/// `apply_received` of one of the numbers, needs. Nothing that is held changes. `Memory`: then `abort` drops the entries that are
-/// new.
+/// Gives an entry to each new number of the part that the entries name, and reserves all that
+/// `apply_full`, or `apply_received` of one of the numbers, needs. All blocks and replicas stay.
+/// `Memory`: then `abort` drops the new entries.
 pub fn ready(
     arena: &mut Arena,
     storage: StorageId,
@@ -42,10 +42,12 @@ pub fn ready(
     Ok(())
 }
 
-/// Makes the replicas on a storage those of a full report, for which its numbers of the part were made ready. Each number is looked
-/// up anew, one after another, and no slots are listed: a shard takes `Report`, which is faster. Takes no memory.
+/// Makes the replicas on a storage those of a full report, for which its numbers of the part were
+/// made ready. Each number is looked up again, and no slots are listed: a shard uses `Report`,
+/// which is faster. Takes no memory.
 ///
-/// The list steps: one for each number of the part that is named, one for each replica that leaves, and two for the delimiter.
+/// The list steps: one for each named number of the part, one for each replica that leaves, and two
+/// for the delimiter.
 pub fn apply_full(
     arena: &mut Arena,
     topology: &Topology,
@@ -86,7 +88,7 @@ pub fn apply_full(
         has_lost_excess: false,
     };
     arena.lawful();
-    // No list is longer, so the counts have room.
+    // No list is longer, so the counts do not overflow.
     let _bound = arena.slot_bound();
     arena.put_delimiter(storage);
     enter_entries(arena, topology, storage, entries, part, &mut tally);

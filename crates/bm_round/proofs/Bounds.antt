@@ -1,4 +1,4 @@
--- How much is chosen: so many transfers in all, so many deletes of each node.
+-- Bounds on what is chosen: n transfers in all, n deletes for each node.
 use Rattle.std.proofs.Common.{◌≡◌, ℕ, zero, suc, ◌≤◌, ◌<◌, Bool, true, false, cond, List, [], ◌∷◌, ◌++◌, filter, flat_map, take, length, Option, Some, None, refl, sym, ap, subst, ◌∙◌, arith, append-nil}
 use Rattle.std.specs.Prelude.{◌==◌, ◌*◌, if◌then◌else◌, nat_le, option_to_list}
 use Rattle.std.specs.Option.{option_map_or}
@@ -70,7 +70,7 @@ each_taken P zero xs h = tt
 each_taken P (suc n) [] h = tt
 each_taken P (suc n) (x ∷ xs) h = (h.0, each_taken P n xs h.1)
 
--- a storage stands on one node
+-- a storage is on one node
 one_node : (o : Option ℕ) (n k : ℕ) → (k == n) ≡ false → option_map_or (λ m. m == k) o false ≡ true → option_map_or (λ m. m == n) o false ≡ false
 one_node None n k apart here = refl
 one_node (Some m) n k apart here = ap (λ j. j == n) (eqb-true m k here) ∙ apart

@@ -119,7 +119,7 @@ module _ (limits : RoundLimits) (C : Cluster) where
       block_of (nat_le (limits.work * len C.nodes) (length chosen)) w _ t
       (of_block w (least_source C chosen w.level (sources_by w)) (λ _. least_target C chosen w.level (holders_by chosen w) (barred_by chosen w) w.stamp.len) t) e
 
-  -- what is chosen for a wish leaves the targets of other blocks
+  -- choices for a wish keep the targets of other blocks
   other_one : (chosen : List Transfer) (w : Wish) (b : ℕ) (o : Option Transfer) → (w.block == b) ≡ false → ((t : Transfer) → o ≡ Some t → t.block ≡ w.block)
       → targets_of (chosen ++ option_to_list o) b ≡ targets_of chosen b
   other_one chosen w b None other of = ap (λ ts. targets_of ts b) (append-nil chosen)
@@ -144,7 +144,7 @@ module _ (limits : RoundLimits) (C : Cluster) where
       let two = none_has (v.block == w.block) (has (map (λ (u : Wish). u.block) vs) w.block) apart in
       (other_block n chosen w v.block (equal_back v.block w.block false two.0) ∙ fresh.0, fresh_past n chosen w vs two.1 fresh.1)
 
-  -- one wish more is worked off
+  -- one more wish is done
   pub wish_done : (chosen : List Transfer) (w : Wish) (ws : List Wish)
       → transfers_over limits C (transfers_over limits C chosen (replicate w.count w)) (one_by_one ws) ≡ transfers_over limits C chosen (one_by_one (w ∷ ws))
   unfolding one_by_one

@@ -1,4 +1,4 @@
--- Where the wishes before a bound make as many transfers as a round may have, all wishes make no others.
+-- If the wishes before a bound fill the round, all wishes give the same transfers.
 use Rattle.std.proofs.Common.{◌≡◌, ℕ, Bool, true, false, cond, List, [], ◌∷◌, ◌++◌, map, filter, flat_map, replicate, length, Some, refl, sym, ap, ◌∙◌, T, true≢false, append_assoc}
 use Rattle.std.specs.Prelude.{◌*◌, nat_le}
 use Rattle.std.specs.declared.cmp.Ordering.{Ordering}
@@ -21,7 +21,7 @@ use Rattle.bm_parts.proofs.Filters.{filter_none}
 use Rattle.bm_round.proofs.Keyed.{merged_wishes_rise}
 use Rattle.bm_round.proofs.Copying.{over_append, full_stays}
 
--- Those before a bound stand first.
+-- Those before a bound come first.
 
 less_is : (o : Ordering) → is_lt o ≡ true → o ≡ Less
 less_is Less e = refl

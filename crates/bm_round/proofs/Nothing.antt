@@ -1,4 +1,4 @@
--- Where nothing is to be deleted, no delete is chosen; and where nothing is chosen, no node is told anything.
+-- If nothing is deletable no delete is chosen; if nothing is chosen no node gets a command.
 use Rattle.std.proofs.Common.{◌≡◌, ℕ, zero, suc, true, false, cond, List, [], ◌∷◌, ◌++◌, map, filter, flat_map, take, length, refl, sym, ap, subst, ◌∙◌}
 use Rattle.std.specs.Prelude.{◌==◌}
 use Rattle.std.proofs.lemmas.Bool.{eqb-true}

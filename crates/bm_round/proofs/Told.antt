@@ -1,4 +1,4 @@
--- What each node is told.
+-- The commands of each node.
 use Rattle.std.proofs.Common.{◌≡◌, ℕ, Bool, true, false, cond, List, [], ◌∷◌, map, filter, refl, sym, subst, T}
 use Rattle.std.specs.List.{All}
 use Rattle.std.specs.Ordering.{is_lt, nat_cmp}
@@ -19,7 +19,7 @@ module _ {X : Type 0} (number : X → ℕ) where
   abbrev numbered : List X → List (ℕ × X)
   numbered xs = map (λ x. (number x, x)) xs
 
-  -- what is made of rising numbers, each of its own, and passes a test, rises
+  -- a filtered map of ascending numbers is ascending, if each result has its number
   module _ (f : ℕ → X) (own : (n : ℕ) → number (f n) ≡ n) (p : X → Bool) where
     below_kept : (m : ℕ) (ns : List ℕ) → T (below_all nat_cmp m (map (λ n. (n, n)) ns)) → T (below_all nat_cmp m (numbered (filter p (map f ns))))
     below_kept m [] h = tt

@@ -22,7 +22,7 @@ IsChosenOf limits C parts ts = ts ≡ chosen_transfers limits C parts
 abbrev pub with_copies : RoundLimits → Cluster → List Transfer → Wish → List Transfer
 with_copies limits C chosen w = transfers_over limits C chosen (replicate w.count w)
 
--- on the storages of each node there are no more deletes than so many
+-- no node has more than n deletes on its storages
 abbrev pub HasFewDeletes : Cluster → ℕ → List Delete → Type 0
 HasFewDeletes C most ds = (n : ℕ) → length (filter (λ d. has_storage C n d.storage) ds) ≤ most
 
@@ -30,7 +30,7 @@ HasFewDeletes C most ds = (n : ℕ) → length (filter (λ d. has_storage C n d.
 abbrev pub commands_by_node : Cluster → List Transfer → List Delete → List NodeCommands
 commands_by_node C ts ds = map (node_commands C ts ds) (keys C.nodes)
 
--- of these deletes the first so many on the storages of a node, and those of each alive node
+-- the first n of these deletes on the storages of a node, and the same for each alive node
 abbrev pub first_commands : ℕ → Cluster → List Delete → ℕ → NodeCommands
 first_commands most C ds n = let k = node_commands C [] ds n in record k { deletes = take most k.deletes }
 
@@ -41,18 +41,18 @@ first_by_node most C ds = map (first_commands most C ds) (keys C.nodes)
 abbrev pub deletes_of_all : List NodeCommands → List Delete
 deletes_of_all ks = flat_map (λ k. k.deletes) ks
 
--- they stand by rising number of their nodes, each node once
+-- they are sorted by node number, and each node occurs once
 abbrev pub RiseByNode : List NodeCommands → Type 0
 RiseByNode ks = T (is_sorted nat_cmp (map (λ k. (k.node, k)) ks))
 
--- the node is told something
+-- the node has a command
 abbrev pub HasCommands : NodeCommands → Type 0
 HasCommands k = has_commands k ≡ true
 
--- each transfer has its source on the node that is told of it
+-- each transfer has its source on the node that gets the command
 abbrev pub SendsItsOwn : Cluster → NodeCommands → Type 0
 SendsItsOwn C k = All (λ t. has_storage C k.node t.source ≡ true) k.transfers
 
--- each delete is on a storage of the node that is told of it
+-- each delete is on a storage of the node that gets the command
 abbrev pub DeletesItsOwn : Cluster → NodeCommands → Type 0
 DeletesItsOwn C k = All (λ d. has_storage C k.node d.storage ≡ true) k.deletes

@@ -6,7 +6,7 @@ use Rattle.bm_base.specs.declared.round.Wish.{Wish}
 use Rattle.bm_base.specs.Lists.{has}
 use Rattle.bm_base.specs.Choices.{sources_by}
 
--- a transfer of what one of these wishes for: its block with its stamp, from a storage of which the wish says that a copy may be
--- made from it
+-- a transfer for one of these wishes: of its block with its stamp, from one of the wish's
+-- sources
 abbrev pub IsCopyOf : List Wish → Transfer → Type 0
 IsCopyOf ws t = (w : Wish) × Contains ws w × (t.block ≡ w.block) × (t.stamp ≡ w.stamp) × (has (sources_by w) t.source ≡ true)

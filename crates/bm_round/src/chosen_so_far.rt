@@ -1,4 +1,4 @@
-// What is chosen so far in a round, with the tables by which the next transfer is chosen.
+// The transfers chosen so far in a round, with the tables from which the next one is chosen.
 ghost use Rattle.std.specs.Prelude.{◌≡◌, ◌*◌, ◌++◌, ◌∷◌, [], nat_le, length, IfOk, IfErr, OnOk};
 ghost use Rattle.bm_base.specs.declared.refusal.Refusal.TheVariants.{Memory};
 ghost use Rattle.bm_base.specs.Map as map;
@@ -18,9 +18,10 @@ pub(crate) struct ChosenSoFar {
     pub transfers: Vec<Transfer>,
     pub streams: Streams,
     pub scheduled: Scheduled,
-    /// Of the present wish: the storages from which a copy may be made; those that hold a live replica of the block or will; and those on whose
-    /// nodes no copy of it may be put. All three are emptied and filled anew for each wish, so that they take memory only where
-    /// one is longer than all before.
+    /// For the current wish: the storages that may be the source; those that hold a live replica
+    /// of the block or will; and those on whose nodes no copy may be put. The three lists are
+    /// cleared and filled again for each wish, so they allocate only where one grows past its
+    /// capacity.
     pub sources: Vec<StorageId>,
     pub held: Vec<StorageId>,
     pub barred: Vec<StorageId>,
@@ -53,7 +54,7 @@ impl ChosenSoFar {
         is_full_count(self.transfers.len(), config, topology)
     }
 
-    /// Turns to a wish, for whose block nothing was chosen yet.
+    /// Begins a wish, for whose block nothing has been chosen yet.
     pub fn turn_to(&mut self, wish: &Wish) -> Result<(), Refusal>
         ensures sources { OnOk result (self.new.sources.items ≡ choices.sources_by wish.now) }
         ensures held { OnOk result (self.new.held.items ≡ wish.now.live ++ wish.now.pending) }
@@ -75,7 +76,7 @@ impl ChosenSoFar {
         Ok(())
     }
 
-    /// Adds a transfer for the present wish. Its node may send one more, and its length fits.
+    /// Adds a transfer for the current wish. Its node may send one more, and its length fits.
     pub fn add(&mut self, transfer: Transfer) -> Result<(), Refusal>
         requires countable { IsCountable self.old.streams transfer.source }
         requires fits { HasRoomFor self.old.scheduled transfer.stamp.len transfer.target }
@@ -102,7 +103,7 @@ impl ChosenSoFar {
     }
 }
 
-/// Whether so many transfers are as many as a round may have.
+/// Whether a round may have no more transfers than `count`.
 pub(crate) fn is_full_count(count: usize, config: &Config, topology: &Topology) -> bool
     ensures { result ≡ nat_le (config.now.work * map.len topology.now.cluster.nodes) count }
 {

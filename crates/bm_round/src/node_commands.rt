@@ -10,10 +10,11 @@ use bm_base::{Chosen, Commands, Delete, Items, NodeCommands, Refusal, Transfer};
 use bm_topo::Topology;
 use std::alloc::{AllocError, Global};
 
-/// What each DataNode is commanded in a round: the transfers whose source stands on it, in the order of choice, and the deletes on
-/// its storages, in the order in which they stand. Nodes come by rising number, those without a command not; what is chosen for a
-/// storage that is not of the cluster is commanded to none. `Memory` where a growth of a list is refused; nothing else is refused.
-/// Looks at each transfer and each delete once, by two binary searches, and at no node where there is neither.
+/// Groups a round's commands by DataNode: the transfers whose source is on it, in the order of
+/// choice, and the deletes on its storages, in their order. Nodes are in ascending order, and those
+/// without a command are left out. Commands for storages outside the cluster are ignored. `Memory`
+/// where a list cannot grow; nothing else is refused. Scans each transfer and each delete once,
+/// with two binary searches, and no node where there is neither.
 #[tactic(auto, unfolding(bm_base::specs::Rounds::commands_of))]
 pub fn commands(
     alloc: Global,
@@ -40,7 +41,7 @@ pub fn commands(
     })
 }
 
-/// The nodes that have a command, with all that they are told. No node is looked at where nothing was chosen.
+/// The nodes that have a command, with their commands. Scans no node where nothing was chosen.
 fn nodes_with_commands(
     alloc: Global,
     transfers: &[Transfer],

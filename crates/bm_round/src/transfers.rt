@@ -17,8 +17,8 @@ use bm_place::{least_source, least_target};
 use bm_topo::Topology;
 use std::alloc::Global;
 
-/// The transfers for wishes, wish by wish, each as often as copies are wished for. Ends as soon as the round has as many as it
-/// may; makes no table of the cluster where nothing is wished for.
+/// Chooses the transfers, wish by wish, once for each missing copy. Ends as soon as the round
+/// is full; makes no table of the cluster where there is no wish.
 pub(crate) fn choose_transfers(
     alloc: Global,
     wishes: &[&Wish],
@@ -45,8 +45,8 @@ pub(crate) fn choose_transfers(
     Ok(transfers)
 }
 
-/// The transfers for the copies of one wish, for whose block nothing was chosen yet. Where one copy finds no source or no
-/// target, no later one does.
+/// Chooses the transfers for one wish, for whose block nothing has been chosen yet. Where one
+/// copy has no source or no target, no later one does.
 fn choose_copies(
     wish: &Wish,
     topology: &Topology,
@@ -71,7 +71,7 @@ fn choose_copies(
     Ok(())
 }
 
-/// The transfer for one more copy of a wish. A target is looked for only where there is a source.
+/// The transfer for one more copy. A target is searched for only where there is a source.
 #[tactic(auto, unfolding(bm_base::specs::Choices::transfer_by))]
 fn next_copy(
     wish: &Wish,

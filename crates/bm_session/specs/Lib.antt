@@ -1,4 +1,4 @@
--- The definitions of a run: what is written for the lines of an input, and what stands written where the run ends.
+-- The definitions of a run: the output for the lines of an input, and the output when the run ends.
 pub mod Ends
 pub mod Counted
 pub mod Text

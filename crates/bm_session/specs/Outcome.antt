@@ -1,4 +1,4 @@
--- What a run that read an input leaves.
+-- The output of a run that read an input.
 use Rattle.std.specs.Prelude.{◌≡◌, ℕ, ◌+◌, ◌<◌, ◌≤◌, ◌⊎◌, List, [], ◌++◌, length, take, Option, Some, None, Result, MatchResult, Bool, true, IfErr}
 use Rattle.std.specs.Io.KnownBytes.{Appends, IsAtEnd}
 use Rattle.bm_base.specs.declared.config.Config.{Config}
@@ -24,8 +24,9 @@ pub record Finished (config : Config) (input : List ℕ) (left old new : Option 
   pub wrote : Appends old new (text config input)
   pub counted : IsSummary (first_state config) (lines_of input) summary
 
--- Memory was refused. The input is what was read before, and the last piece, which is no longer than what the last read gave: all
--- lines whose end was read before are answered, of those whose end is in the piece some first ones, and no more is written.
+-- Memory was refused. The input is what was read before, and the last piece, which is no longer
+-- than the last read. All lines that ended before the piece are answered, of those that end in it
+-- some first ones, and no more is written.
 pub record WantsMemory (config : Config) (input : List ℕ) (last : ℕ) (old new : Option (List ℕ)) : Type 0 where
   pub done : List ℕ
   pub piece : List ℕ
@@ -35,7 +36,7 @@ pub record WantsMemory (config : Config) (input : List ℕ) (last : ℕ) (old ne
   pub answered : ℕ
   pub written : Answered (first_state config) old new done piece answered
 
--- what stands written after each fault, where the last read gave so many bytes
+-- the output after each fault, with this length of the last read
 abbrev pub Faulted : Config → List ℕ → ℕ → Option (List ℕ) → Option (List ℕ) → Fault → Type 0
 Faulted config input last old new fault.Config = (input ≡ []) × (new ≡ old)
 Faulted config input last old new fault.Read = (length input ≤ MAX_BYTES) × (length (lines_of input) ≤ MAX_LINES) × Appends old new (texts (first_state config) (whole_lines input))
@@ -66,7 +67,7 @@ ConfigOfFault config _ = config_refusal config ≡ None
 abbrev pub ChecksConfig : Config → Result Summary Fault → Type 0
 ChecksConfig config result = MatchResult result (λ _. config_refusal config ≡ None) (ConfigOfFault config)
 
--- Where a read fails, all that was written before is flushed, if it was so at the start. That it is flushed before each read, and
--- not on the way out alone, no clause about the end of a run can say.
+-- After a read error, all output so far is flushed, if it was so at the start. That it is flushed
+-- before each read, and not only at the end, no clause about the end of a run can state.
 abbrev pub IsFlushedAtRead : Bool → Bool → Result Summary Fault → Type 0
 IsFlushedAtRead old new result = IfErr result (λ f. f ≡ fault.Read → old ≡ true → new ≡ true)

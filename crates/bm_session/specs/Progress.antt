@@ -1,4 +1,4 @@
--- How far a run has come, and what stands written when it ends.
+-- The progress of a run, and the output when it ends.
 use Rattle.std.specs.Prelude.{◌≡◌, ℕ, ◌+◌, ◌<◌, ◌≤◌, ◌⊎◌, List, ◌++◌, length, take, Option}
 use Rattle.std.specs.Io.KnownBytes.{Appends}
 use Rattle.bm_base.specs.State.{State}
@@ -24,8 +24,8 @@ pub record Progress (M : State) (start now : Option (List ℕ)) (s : Session) (b
   pub refused : s.refused ≡ refusals M lines
   pub begun : 0 < length rest → length lines < MAX_LINES
 
--- The first n lines are answered, each by a whole line, and no more is written: all lines whose end was read before the piece,
--- and of those whose end is in the piece some first ones.
+-- The first n lines are answered, each by a whole line, and no more is written: all lines that
+-- ended before the piece, and of those that end in it some first ones.
 pub record Answered (M : State) (start now : Option (List ℕ)) (done piece : List ℕ) (n : ℕ) : Type 0 where
   pub no_fewer : length (whole_lines done) ≤ n
   pub no_more : n ≤ length (whole_lines (done ++ piece))
@@ -35,8 +35,8 @@ pub record Answered (M : State) (start now : Option (List ℕ)) (done piece : Li
 abbrev pub MayBeWorked : State → List ℕ → State → Type 0
 MayBeWorked M line now = (now ≡ M) ⊎ (now ≡ line_next M line)
 
--- Memory was refused within the piece. What was worked is what is answered, and at most one line more: the one at which memory was
--- refused. So no answer to a line before it is lost.
+-- Memory was refused within the piece. The worked lines are the answered ones, and at most one
+-- more: the one at which memory was refused. So no answer to an earlier line is lost.
 pub record Interrupted (M : State) (start now : Option (List ℕ)) (state : State) (done piece : List ℕ) : Type 0 where
   pub answered : ℕ
   pub written : Answered M start now done piece answered
@@ -54,7 +54,7 @@ LineFault old new before now Write = now ≡ before + 1
 LineFault old new before now Memory = (now ≡ before) × (new ≡ old)
 LineFault old new before now TooMuch = ⊥
 
--- why a piece behind these bytes was not all taken
+-- why a piece after these bytes was not all taken
 abbrev pub PieceFault : State → Option (List ℕ) → Option (List ℕ) → State → List ℕ → List ℕ → ℕ → ℕ → Fault → Type 0
 PieceFault M start new state done piece before now Config = ⊥
 PieceFault M start new state done piece before now Read = ⊥
@@ -62,7 +62,7 @@ PieceFault M start new state done piece before now Write = now ≡ before + 1
 PieceFault M start new state done piece before now Memory = (now ≡ before) × Interrupted M start new state done piece
 PieceFault M start new state done piece before now TooMuch = (now ≡ before) × Overflows M start new (done ++ piece)
 
--- what is counted of the lines
+-- the counts of lines
 pub record IsSummary (M : State) (lines : List (List ℕ)) (summary : Summary) : Type 0 where
   pub lines_read : summary.lines ≡ length lines
   pub lines_few : summary.lines ≤ MAX_LINES

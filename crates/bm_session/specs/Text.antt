@@ -1,5 +1,5 @@
--- What is written for an input: its lines are read as calls, the calls are made one after another from the first state, and
--- each answer is a line.
+-- The output for an input: its lines are read as calls, the calls are made one after another from
+-- the first state, and each answer is a line.
 use Rattle.std.specs.Prelude.{ℕ, ◌+◌, List, [], ◌∷◌, ◌++◌, if◌then◌else◌}
 use Rattle.bm_base.specs.declared.config.Config.{Config}
 use Rattle.bm_base.specs.State.{State, first_state}

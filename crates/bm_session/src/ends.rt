@@ -7,7 +7,8 @@ ghost use Rattle.bm_session.specs.Ends.{Counts};
 use std::io;
 use std::io::{Read, Write};
 
-/// Where bytes come from. A read is allowed only where none has failed before: so whoever reads has to stop at the first failure.
+/// A source of bytes. A read is allowed only if none has failed before: so a reader has to stop at
+/// the first failure.
 pub trait Source {
     /// The bytes that are left, where they are known.
     ghost remaining: { Self → Option (List ℕ) };

@@ -2,8 +2,8 @@
 //! to a writer. The program `bm_tool` calls it on the standard streams; any other program or test
 //! can call it on bytes in memory or on streams of its own.
 //!
-//! `run` is the whole of it. `specs/` says which text answers an input (`Text`), what was written
-//! where a run ends early (`Outcome`), and how readers and writers count their failures (`Ends`,
+//! `run` is the whole of it. `specs/` defines the text that answers an input (`Text`), the output
+//! if a run ends early (`Outcome`), and how readers and writers count their failures (`Ends`,
 //! `Counted`).
 #![tactic(auto)]
 

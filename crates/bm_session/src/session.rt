@@ -82,7 +82,7 @@ impl Session {
         Ok(())
     }
 
-    /// Takes the bytes up to the first line end, and gives back those behind it.
+    /// Takes the bytes up to the first line end, and returns the rest.
     fn take_line<'p, W: Sink, H: Threads + Wait + Sync>(
         &mut self,
         rt: &H,
@@ -116,7 +116,7 @@ impl Session {
         }
     }
 
-    /// Answers all lines whose end is in the piece, flushes, and keeps the rest.
+    /// Answers all lines that end in the piece, flushes, and keeps the rest.
     pub fn take_piece<W: Sink, H: Threads + Wait + Sync>(
         &mut self,
         rt: &H,

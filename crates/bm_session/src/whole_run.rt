@@ -14,9 +14,11 @@ use std::random::RandomSource;
 use std::sync::Wait;
 use std::thread::Threads;
 
-/// Answers each line of the input by a line of the output. The tables hash by a secret that is drawn here, so that no lines can be made that
-/// are slow for the places of their numbers; no clause speaks of it, since no answer depends on it. A call on all shards is worked by a crew of as many threads as the
-/// configuration has workers, of which the calling one waits for the others: so the clauses say what holds where a run returns.
+/// Answers each line of the input by a line of the output. The tables hash by a secret that is
+/// drawn here, so that nobody can make slow lines by colliding numbers; no clause speaks of it,
+/// since no answer depends on it. A crew of threads works a call on all shards, as many as the
+/// configuration has workers, and the calling one waits for the others: so the clauses state what
+/// holds if a run returns.
 pub fn run<R: Source, W: Sink, H: Threads + Wait + RandomSource + Sync>(
     rt: &H,
     alloc: Global,
@@ -28,10 +30,10 @@ pub fn run<R: Source, W: Sink, H: Threads + Wait + RandomSource + Sync>(
     requires writes { W.faults writer.old ≡ 0 }
     // The configuration is refused exactly where it is outside its ranges.
     ensures config { ChecksConfig config.now result }
-    // Where the reader tells its bytes, what is written is their text.
+    // If the reader counts its bytes, the output is their text.
     ensures text { OnOk result (IfSome (R.remaining reader.old) (λ input.
         Appends (W.contents writer.old) (W.contents writer.new) (text config.now input))) }
-    // What was read, and what stands written for it.
+    // The input read, and the output for it.
     ensures leaves { (input : List ℕ)
         × Consumes (R.remaining reader.old) (R.remaining reader.new) input
         × Leaves config.now input (R.remaining reader.new) (R.last reader.new)
@@ -39,7 +41,8 @@ pub fn run<R: Source, W: Sink, H: Threads + Wait + RandomSource + Sync>(
     ensures flushed { OnOk result (W.is_flushed writer.new ≡ true) }
     // Where a read fails, no answer to what was read before is held back.
     ensures at_reads { IsFlushedAtRead (W.is_flushed writer.old) (W.is_flushed writer.new) result }
-    // A fault of the reader or the writer comes only where a read, or a write or the flush, failed.
+    // A fault of the reader or the writer comes only after a failed read, or a failed write or
+    // flush.
     ensures cause { HasCause (R.faults reader.old) (R.faults reader.new)
         (W.faults writer.old) (W.faults writer.new) result }
 {

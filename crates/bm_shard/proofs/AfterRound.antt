@@ -1,4 +1,4 @@
--- What a round leaves of what is seen.
+-- What is seen of a shard after a round.
 use Rattle.std.proofs.Common.{◌≡◌, ℕ, not, List, map, refl, ap, subst, ◌∙◌}
 use Rattle.std.specs.Prelude.{true, if◌then◌else◌}
 use Rattle.bm_base.specs.declared.commands.Transfer.{Transfer}

@@ -1,4 +1,4 @@
--- Numbers with neither a block nor a replica that have an entry: what is seen of them, and where none are left.
+-- Numbers with an unused entry: what is seen of them, and when none are left.
 use Rattle.std.proofs.Common.{◌≡◌, ℕ, Bool, true, false, cond, List, [], ◌∷◌, map, take, drop, Option, Some, None, Result, Ok, Err, is_some, refl, sym, ap, subst, inl, inr, ◌∙◌}
 use Rattle.std.specs.Prelude.{◌≢◌, ◌==◌, ◌||◌, IsTrue, OnErr, option_map}
 use Rattle.std.proofs.lemmas.Bool.{cases_eq, eqb-true, eq-eqb, false≢true}
@@ -127,8 +127,8 @@ none_received C H a c s b stamp lawful ids others is only n bare =
           differs (sym (only n (bare_elsewhere a c n led.0 here led.1 (others led.0 apart) bare)))
     ]
 
--- Where none but the numbers of a report were bare, and the slots that it swept have no bare entry any more, none is: the other slots that
--- it changed are those of its numbers.
+-- Where none but the numbers of a report were bare, and the slots that it swept have no bare entry
+-- any more, none is: the other slots that it changed are those of its numbers.
 pub none_reported : (C : Cluster) (H : Holdings) (s : ℕ) (ns : List Named) (a m c : Contents) (changed : List ℕ) (came : ℕ) → IsLawful a → m.ids ≡ a.ids
     → levels.IsSameBeside changed a m → ((slot : ℕ) → Among slot (take came changed) → IsToldAt a (map told_of ns) slot) → replicas_of m ≡ (report C H s (map told_of ns)).replicas
     → ((n : ℕ) → levels.IsBare a n → IsTrue (is_named (map told_of ns) n)) → levels.MakesNoneBare m c

@@ -1,4 +1,5 @@
--- An event that changes blocks, replicas and transfers, with the levels of the blocks: what is seen of it.
+-- An event that changes blocks, replicas and transfers, with the levels of the blocks: what is seen
+-- of it.
 use Rattle.std.proofs.Common.{◌≡◌, ℕ, refl, sym, ap, subst, ◌∙◌}
 use Rattle.bm_base.specs.declared.ids.Part.{Part}
 use Rattle.bm_base.specs.declared.event.Done.{Done}
@@ -35,7 +36,8 @@ module _ (C D : Cluster) (v w : Leveled) (P Q : Map by_replica ℕ) (lawful_v : 
   changed_seen to answer before seen is answers =
       subst (λ s. HasChanged C D s (seen_of w Q part round pend room') (to s.holdings) answer) seen (has_changed (to (holdings_with v.arena P)) answer is answers)
 
--- A shard that stands in a cluster does so still where only room changed; and so what an event makes of it then, it makes of what was.
+-- A shard that stands in a cluster does so still where only room changed; and so what an event
+-- makes of it then, it makes of what was.
 
 pub stands_still : (C : Cluster) (old mid : Seen) → StandsIn C old → IsSameButRoom old mid → StandsIn C mid
 stands_still C old mid stands same =

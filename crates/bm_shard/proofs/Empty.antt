@@ -1,4 +1,4 @@
--- Nothing stands anywhere where there is nothing.
+-- The empty holdings have no block and no replica anywhere.
 use Rattle.std.proofs.Common.{◌≡◌, Option, Some, None, sym, ap, subst, ◌∙◌}
 use Rattle.std.specs.Prelude.{IsSome}
 use Rattle.std.proofs.lemmas.Bool.{false≢true}

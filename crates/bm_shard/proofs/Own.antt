@@ -1,4 +1,4 @@
--- An event on one block changes the shard of its number, and leaves the others.
+-- An event on one block changes the shard of its number, and no other.
 use Rattle.std.proofs.Common.{◌≡◌, ℕ, Bool, true, false, Option, Some, None, refl, ap, subst, sym, ◌∙◌, true≢false, arith}
 use Rattle.std.specs.Prelude.{if◌then◌else◌, ◌==◌, ◌<◌, ◌^◌}
 use Rattle.std.specs.Option.{option_map_or}

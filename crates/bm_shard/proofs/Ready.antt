@@ -1,4 +1,4 @@
--- What is made ready.
+-- The reservations of events and rounds.
 use Rattle.std.proofs.Common.{◌≡◌, ℕ, List, false, true≢false, sym, ap, subst}
 use Rattle.bm_base.specs.declared.event.Event.{Event}
 use Rattle.bm_base.specs.declared.event.Event.TheVariants.{AddBlock, Received, FullReport}

@@ -1,4 +1,4 @@
--- Where the blocks and replicas stay, so does all that is seen but for room.
+-- If the blocks and replicas stay, so does all that is seen but capacity.
 use Rattle.std.proofs.Common.{◌≡◌, ℕ, refl, sym, ap, subst, ◌∙◌}
 use Rattle.bm_base.specs.declared.ids.Part.{Part}
 use Rattle.bm_base.specs.Map.{Map, get}

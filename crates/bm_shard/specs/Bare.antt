@@ -1,5 +1,6 @@
--- Numbers that have an entry while nothing is held of them: only an event that is prepared may need such entries. And blocks that
--- have room for transfers while none is on its way: only a round that is made ready may need such room.
+-- Numbers with an unused entry, without a block and replicas: only a prepared event may need such
+-- entries. And blocks with capacity for transfers without pending ones: only a prepared round may
+-- need it.
 use Rattle.std.specs.Prelude.{◌≡◌, ◌==◌, ℕ, Bool, false, [], IsTrue, None, nat_eq}
 use Rattle.std.specs.Option.{unwrap_or}
 use Rattle.std.specs.Map.{lookup}
@@ -24,7 +25,7 @@ pub record IsBare (S : Seen) (b : ℕ) : Type 0 where
 abbrev pub HasNoneBare : Seen → Type 0
 HasNoneBare S = (b : ℕ) → IsBare S b → ⊥
 
--- only these numbers are bare
+-- only these numbers have unused entries
 abbrev pub HasBareOnly : (ℕ → Bool) → Seen → Type 0
 HasBareOnly these S = (b : ℕ) → IsBare S b → IsTrue (these b)
 
@@ -35,6 +36,6 @@ may_enter part (Received s b stamp) n = b == n
 may_enter part (FullReport s es) n = is_named (told_of part.index part.shards (expanded es)) n
 may_enter part _ n = false
 
--- a block with no transfer on its way has no room for any
+-- a block without a pending transfer has no capacity for any
 abbrev pub HasNoSpareRoom : Seen → Type 0
 HasNoSpareRoom S = (b : ℕ) → pending_targets S.holdings b ≡ [] → unwrap_or (lookup (nat_eq b) S.room.transfers) 0 ≡ 0

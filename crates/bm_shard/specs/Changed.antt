@@ -1,4 +1,4 @@
--- What an event makes of what is seen of a shard.
+-- The effect of an event on what is seen of a shard.
 use Rattle.std.specs.Prelude.{◌≡◌, ℕ, Bool, true, ◌==◌}
 use Rattle.std.specs.Option.{option_map_or}
 use Rattle.bm_base.specs.declared.ids.Part.{Part}
@@ -12,7 +12,7 @@ use Rattle.bm_base.specs.Levels.{level}
 use Rattle.bm_base.specs.Calls.{done}
 use Rattle.bm_shard.specs.Seen.{Seen}
 
--- the levels that are kept are those of this cluster
+-- the stored levels are those of this cluster
 abbrev pub HasLevels : Cluster → Seen → Type 0
 HasLevels C S = (b : ℕ) → get S.levels b ≡ level C S.holdings b
 
@@ -20,8 +20,8 @@ HasLevels C S = (b : ℕ) → get S.levels b ≡ level C S.holdings b
 unfoldable pub owns : Part → Event → Bool
 owns part e = option_map_or (λ b. shard_of b part.shards == part.index) (block_of e) true
 
--- The holdings are now these, so many replicas came and went, and levels that were right in one cluster are right in the other; all
--- else but room stays.
+-- The holdings are now these, the given numbers of replicas came and went, and levels that were
+-- right in one cluster are right in the other; all else but capacity stays.
 pub record HasChanged (C D : Cluster) (old new : Seen) (to : Holdings) (answer : Done) : Type 0 where
   pub holdings : new.holdings ≡ to
   pub done : answer ≡ done old.holdings to

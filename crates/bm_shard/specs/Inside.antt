@@ -1,4 +1,4 @@
--- How the fields of a shard stand for what is seen of it.
+-- How the fields of a shard represent what is seen of it.
 use Rattle.std.specs.Prelude.{◌≡◌, ◌==◌, ℕ, ◌<◌, Bool, false, IsTrue, List, [], ◌∷◌, map, Option, Some, None}
 use Rattle.std.specs.Option.{option_map_or}
 use Rattle.bm_base.specs.declared.level.Level.{Level}
@@ -54,7 +54,7 @@ HasPrepared (prepared.Notice s) r a = IsLookedUp r a s
 HasPrepared (prepared.Report s) r a = IsReady r a s × (r.changed ≡ [])
 HasPrepared _ r a = Unit {0}
 
--- What holds between calls: only for what was prepared does a number have an entry with neither a block nor a replica.
+-- The invariant between calls: only what was prepared has an unused entry.
 pub record IsShard (part : Part) (v : Leveled) (r : Looked) (p : Prepared) : Type 0 where
   pub index : part.index < part.shards
   pub ready : HasPrepared p r v.arena

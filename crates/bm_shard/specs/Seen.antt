@@ -14,7 +14,7 @@ use Rattle.bm_base.specs.SlotLists.{Among}
 use Rattle.bm_base.specs.RoundParts.{own_transfers}
 use Rattle.bm_parts.specs.Parts.{told_of}
 
--- What was looked up, of a storage: what is told of the one number of a notice, or of the numbers of a full report.
+-- What was looked up for a storage: the reported block of a notice, or those of a full report.
 pub data LookUp : Type 0 where
   NoticeOf : (storage : ℕ) → (told : List Told) → LookUp
   ReportOf : (storage : ℕ) → (told : List Told) → LookUp
@@ -27,7 +27,7 @@ pub record Room : Type 0 where
   pub lists : List ℕ
   -- the notice or report that was looked up
   pub report : Option LookUp
-  -- blocks with how many more of their transfers there is room for
+  -- blocks with the number of further transfers that there is capacity for
   pub transfers : List (ℕ × ℕ)
 
 pub record Seen : Type 0 where
@@ -37,7 +37,7 @@ pub record Seen : Type 0 where
   -- the number of the last round, and after how many rounds a transfer is given up
   pub round : ℕ
   pub pend : ℕ
-  -- the level of each known block that has one, as it is kept
+  -- the stored level of each known block that has one
   pub levels : Map by_number Level
   pub room : Room
 
@@ -55,7 +55,7 @@ takes_room (Received s b stamp) = true
 takes_room (FullReport s es) = true
 takes_room _ = false
 
--- and for what was chosen in a round: each block has room for its transfers
+-- and for what a round chose: each block has capacity for its transfers
 unfoldable pub IsReadyForRound : Chosen → Seen → Type 0
 IsReadyForRound chosen S =
     (b : ℕ) → length (filter (λ t. t.block == b) (own_transfers S.part.index S.part.shards chosen.transfers)) ≤ unwrap_or (lookup (nat_eq b) S.room.transfers) 0

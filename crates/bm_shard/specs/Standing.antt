@@ -1,4 +1,4 @@
--- What holds of a shard beside the cluster in which it stands.
+-- Invariants of a shard together with its cluster.
 use Rattle.std.specs.Prelude.{◌≡◌, ◌+◌}
 use Rattle.bm_base.specs.declared.round.RoundPart.{RoundPart}
 use Rattle.bm_base.specs.State.{Cluster}
@@ -7,12 +7,13 @@ use Rattle.bm_parts.specs.PlacedLaws.{IsPlaced}
 use Rattle.bm_shard.specs.Seen.{Seen}
 use Rattle.bm_shard.specs.Changed.{HasLevels}
 
--- the levels that are kept are those of this cluster, and replicas stand where they may
+-- the stored levels are those of this cluster, and replicas are where they may be
 pub record StandsIn (C : Cluster) (S : Seen) : Type 0 where
   pub levels : HasLevels C S
   pub placed : IsPlaced C S.holdings
 
--- The same in all but room. The levels are kept by slots, which may change; where they were right in a cluster, they are the same too.
+-- The same in all but capacity. Levels are stored by slots, which may change; if they were right in
+-- a cluster, they are the same too.
 pub record IsSameButRoom (old new : Seen) : Type 0 where
   pub rest : new ≡ record old { levels = new.levels; room = new.room }
   pub levels : (C : Cluster) → StandsIn C old → new.levels ≡ old.levels

@@ -10,8 +10,8 @@ use bm_arena::Arena;
 use bm_base::{BlockId, StorageId};
 use bm_pending::PendingTransfers;
 
-/// Takes out the transfers to a storage whose blocks have a replica there: a look at each block with transfers, none at the replicas
-/// of the storage. Takes no memory.
+/// Removes the transfers to a storage whose blocks have a replica there: reads each block with
+/// transfers, and none of the storage's replicas. Takes no memory.
 pub(crate) fn drop_arrived(pending: &mut PendingTransfers, arena: &Arena, storage: StorageId)
     ensures { pending.new.map
         ≡ keep pending.old.map (λ q _. not (has_arrived arena.now storage q)) }
@@ -22,7 +22,7 @@ pub(crate) fn drop_arrived(pending: &mut PendingTransfers, arena: &Arena, storag
     }
 }
 
-/// Takes out the transfer to a storage of the block at a place.
+/// Removes the transfer to a storage of the block at an index.
 fn drop_arrived_at(pending: &mut PendingTransfers, arena: &Arena, storage: StorageId, place: usize)
     ensures places { blocks_in pending.new ≡ blocks_in pending.old }
     ensures map { (b : ℕ) → slice_get (blocks_in pending.old) place ≡ Some b
@@ -34,7 +34,7 @@ fn drop_arrived_at(pending: &mut PendingTransfers, arena: &Arena, storage: Stora
     }
 }
 
-/// Takes out the transfer of a block to a storage, where it is there and the block has a replica on the storage.
+/// Removes the transfer of a block to a storage, if it exists and the block has a replica there.
 fn drop_if_arrived(
     pending: &mut PendingTransfers,
     arena: &Arena,

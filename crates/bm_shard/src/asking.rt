@@ -1,4 +1,4 @@
-// What can be asked of a shard. No question changes anything.
+// The queries of a shard. No query changes anything.
 ghost use Rattle.std.specs.Prelude.{◌≡◌, true, false, None, IfOk, IfErr, OnOk};
 ghost use Rattle.bm_base.specs.declared.refusal.Refusal.TheVariants.{Memory};
 ghost use Rattle.bm_base.specs.State.{Cluster};
@@ -20,7 +20,7 @@ use bm_listing::{
 use bm_topo::Topology;
 
 impl Shard {
-    /// The replicas that are wanted, by block and storage. `Memory`.
+    /// The replicas of the given kind, by block and storage. `Memory`.
     pub fn list_replicas(&self, wanted: Wanted) -> Result<Vec<Replica>, Refusal>
         ensures replicas { IfOk result
             (λ v. v.items ≡ replicas_passing (wants wanted) self.now.holdings.replicas) }
@@ -55,7 +55,7 @@ impl Shard {
         Ok(Items::from_vec(replica_keys(self.alloc, all.as_slice())?))
     }
 
-    /// The known blocks of which no replica is usable, rising. `Memory`.
+    /// The known blocks without a usable replica, ascending. `Memory`.
     pub fn missing(&self) -> Result<Items<BlockId>, Refusal>
         ensures missing { (C : Cluster) → StandsIn C self.now
             → IfOk result (λ v. v ≡ queries.missing_blocks C self.now.holdings) }
@@ -66,7 +66,7 @@ impl Shard {
         missing_blocks(self.alloc, &self.blocks)
     }
 
-    /// The blocks of all replicas on a storage, whatever their tags, rising. `Memory`.
+    /// The blocks of all replicas on a storage, whatever their tags, ascending. `Memory`.
     pub fn blocks_on(&self, storage: StorageId) -> Result<Items<BlockId>, Refusal>
         ensures blocks { IfOk result (λ v. v ≡ queries.blocks_on self.now.holdings storage) }
         ensures refused { IfErr result (λ e. e ≡ Memory) }
@@ -74,7 +74,8 @@ impl Shard {
         blocks_on(self.alloc, &self.blocks, storage)
     }
 
-    /// The storages of the block's good replicas, in excess or not, rising. `UnknownBlock`; `Memory`.
+    /// The storages of the block's good replicas, in excess or not, ascending. `UnknownBlock`;
+    /// `Memory`.
     #[tactic(auto, unfolding(bm_base::specs::Refusals::block_refusal))]
     pub fn places(&self, id: BlockId) -> Result<Items<StorageId>, Refusal>
         ensures known { OnOk result (block_refusal self.now.holdings id ≡ None) }
@@ -87,7 +88,8 @@ impl Shard {
         places(self.alloc, &self.blocks, id)
     }
 
-    /// For each known block, rising, the first `MAX_PLACES` of its places: what readers see of it. `Memory`.
+    /// For each known block, ascending, the first `MAX_PLACES` of its places: what readers see.
+    /// `Memory`.
     pub fn table_rows(&self) -> Result<Items<(BlockId, Places)>, Refusal>
         ensures rows { IfOk result (λ v. v ≡ versions.table self.now.holdings) }
         ensures refused { IfErr result (λ e. e ≡ Memory) }
@@ -95,7 +97,8 @@ impl Shard {
         table_rows(self.alloc, &self.blocks)
     }
 
-    /// How urgently the block wants replicas; `None` where it wants none. `UnknownBlock`. Takes no memory.
+    /// How urgently the block needs replicas; `None` if it needs none. `UnknownBlock`. Takes no
+    /// memory.
     #[tactic(auto, unfolding(bm_base::specs::Refusals::block_refusal))]
     pub fn level(&self, id: BlockId) -> Result<Option<Level>, Refusal>
         ensures known { OnOk result (block_refusal self.now.holdings id ≡ None) }
@@ -111,8 +114,9 @@ impl Shard {
         Ok(self.blocks.level(id))
     }
 
-    /// Whether a block of the shard holds a node back, so that it can't be taken away yet: a replica is drained there, and fewer are
-    /// live than are wanted. Looks at the blocks on the node's storages alone. Takes no memory.
+    /// Whether a block of the shard holds a node back, so that it can't be decommissioned yet: a
+    /// replica is drained there, and fewer are live than are wanted. Scans the blocks on the node's
+    /// storages alone. Takes no memory.
     pub fn holds_back(&self, node: NodeId, topology: &Topology) -> bool
         ensures { result ≡ holds_back topology.now.cluster node self.now.holdings }
     {

@@ -9,8 +9,9 @@ use bm_base::{BlockId, BlockInfo, Event, MAX_REPLICATION, Refusal, Stamp};
 use bm_listing::{is_still_stored, knows_block};
 
 impl Shard {
-    /// The first check on the blocks that refuses the event: `UnknownBlock`, `BlockKnown`, `StillStored`, `BadReplication`,
-    /// `OldGeneration`. An event on one block is asked of the shard of its number; other events have no such check. Takes no memory.
+    /// The first check on the blocks that refuses the event: `UnknownBlock`, `BlockKnown`,
+    /// `StillStored`, `BadReplication`, `OldGeneration`. An event on one block is checked by the
+    /// shard of its number; other events have no such check. Takes no memory.
     #[tactic(auto, unfolding(bm_base::specs::Refusals::block_checks))]
     pub fn check(&self, event: &Event) -> Result<(), Refusal>
         ensures { result ≡ checked (first_of (block_checks self.now.holdings event.now)) }

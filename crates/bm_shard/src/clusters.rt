@@ -17,9 +17,10 @@ use bm_pending::PendingTransfers;
 use bm_topo::Topology;
 
 impl Shard {
-    /// A node leaves with its storages: their replicas and the transfers to them leave. `multi` says whether the alive nodes stand on
-    /// two racks or more without it. A look at each storage of the cluster, one step for each of the replicas, and one pass over the
-    /// transfers for each storage of the node.
+    /// A node leaves with its storages: their replicas and the transfers to them leave. `multi`
+    /// tells whether the alive nodes are on two racks or more without it. Costs a read of each
+    /// storage of the cluster, one step for each of the replicas, and one pass over the transfers
+    /// for each storage of the node.
     pub(crate) fn forget_node(&mut self, topology: &Topology, node: NodeId, multi: bool) -> Done
         requires multi { multi
             ≡ replicas.is_multi_rack (events.without_node topology.now.cluster node) }
@@ -41,7 +42,8 @@ impl Shard {
         Done { added: 0, removed }
     }
 
-    /// A storage fails: its replicas and the transfers to it leave. One step for each of the replicas, and one pass over the transfers.
+    /// A storage fails: its replicas and the transfers to it leave. Costs one step for each of the
+    /// replicas, and one pass over the transfers.
     pub(crate) fn forget_storage(&mut self, topology: &Topology, storage: StorageId) -> Done
         requires none { HasNoneBare self.old }
         ensures changed { HasChanged topology.now.cluster
@@ -80,7 +82,8 @@ impl Shard {
         NOTHING
     }
 
-    /// A node is there with its storages, which hold nothing yet. `multi` says whether the alive nodes stand on two racks or more with it.
+    /// A node comes with its storages, which are empty. `multi` tells whether the alive nodes are
+    /// on two racks or more with it.
     pub(crate) fn register(
         &mut self,
         topology: &Topology,
@@ -113,7 +116,7 @@ impl Shard {
         NOTHING
     }
 
-    /// A node tells how many bytes remain on its storages: nothing changes.
+    /// A node reports the remaining bytes of its storages: nothing changes.
     pub(crate) fn hear(&mut self, topology: &Topology, remaining: &[Remaining]) -> Done
         requires none { HasNoneBare self.old }
         ensures changed { HasChanged topology.now.cluster

@@ -19,9 +19,11 @@ use bm_parts::events::block_of;
 use bm_topo::Topology;
 
 impl Shard {
-    /// Changes the shard by an event that no check on the cluster refuses, in the room that [`Shard::prepare`] made. `topology` is the cluster
-    /// before the event, `multi` says whether the alive nodes stand on two racks or more after it. Answers how many replicas came and went.
-    /// An event on a block of another shard changes nothing. What was prepared for another event is given up. Takes no memory.
+    /// Changes the shard by an event that no check on the cluster refuses, in the capacity that
+    /// [`Shard::prepare`] reserved. `topology` is the cluster before the event, `multi` tells
+    /// whether the alive nodes are on two racks or more after it. Returns how many replicas came
+    /// and went. An event on a block of another shard changes nothing. What was prepared for
+    /// another event is given up. Takes no memory.
     pub fn commit(&mut self, event: &Event, topology: &Topology, multi: bool) -> Done
         requires cluster { first_of (cluster_checks topology.now.cluster event.now) ≡ None }
         requires multi { multi ≡ is_multi_rack (change_cluster topology.now.cluster event.now) }
@@ -104,7 +106,7 @@ impl Shard {
     }
 }
 
-/// Whether an event needs what was made ready for it. Before any other, what was prepared is given up.
+/// Whether an event needs a reservation. Any other event first gives up what was prepared.
 fn takes_room(event: &Event) -> bool
     ensures { result ≡ takes_room event.now }
 {

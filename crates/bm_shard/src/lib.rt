@@ -1,9 +1,10 @@
-//! One shard of a block manager: the blocks of its numbers, their replicas on the storages of the cluster, the transfers of
-//! them that are on their way, and how urgently each block wants replicas.
+//! One shard of a block manager: the blocks of its numbers, their replicas on the storages of the
+//! cluster, their pending transfers, and how urgently each block needs replicas.
 //!
-//! An event is checked ([`Shard::check`]), all its memory is taken ([`Shard::prepare`]), and then it is made ([`Shard::commit`]), which
-//! refuses nothing; or it is given up ([`Shard::abort`]). So is a round: [`Shard::round_part`] finds what all shards choose from,
-//! [`Shard::round_ready`] takes the memory, [`Shard::round_commit`] ends it.
+//! An event is checked ([`Shard::check`]), all its memory is taken ([`Shard::prepare`]), and then
+//! it is made ([`Shard::commit`]), which refuses nothing; or it is given up ([`Shard::abort`]). So
+//! is a round: [`Shard::round_part`] finds what all shards choose from, [`Shard::round_ready`]
+//! takes the memory, [`Shard::round_commit`] ends it.
 #![tactic(auto)]
 
 mod arriving;

@@ -18,7 +18,8 @@ pub(crate) const NOTHING: Done = Done {
 };
 
 impl Shard {
-    /// A file has a new block. Its number has its entry, whatever was prepared; what was prepared besides is given up.
+    /// A file has a new block. Its number has its entry, whatever was prepared; other preparations
+    /// are given up.
     pub(crate) fn add_block(
         &mut self,
         topology: &Topology,
@@ -42,7 +43,8 @@ impl Shard {
         NOTHING
     }
 
-    /// A block is deleted: its replicas are stray, and its transfers leave. One look at each of its replicas.
+    /// A block is deleted: its replicas become stray, and its transfers leave. One scan of its
+    /// replicas.
     pub(crate) fn delete_block(&mut self, topology: &Topology, id: BlockId) -> Done
         requires none { HasNoneBare self.old }
         ensures changed { HasChanged topology.now.cluster topology.now.cluster self.old self.new
@@ -58,7 +60,7 @@ impl Shard {
         NOTHING
     }
 
-    /// So many replicas of a block are wanted from now on.
+    /// Sets the number of wanted replicas of a block.
     pub(crate) fn set_replication(&mut self, topology: &Topology, id: BlockId, repl: u32) -> Done
         requires none { HasNoneBare self.old }
         ensures changed { HasChanged topology.now.cluster topology.now.cluster self.old self.new
@@ -73,7 +75,8 @@ impl Shard {
         NOTHING
     }
 
-    /// A block has another stamp: its good replicas are stale, and its transfers leave. One look at each of its replicas.
+    /// A block gets another stamp: its good replicas become stale, and its transfers leave. One
+    /// scan of its replicas.
     pub(crate) fn restamp(&mut self, topology: &Topology, id: BlockId, stamp: Stamp) -> Done
         requires none { HasNoneBare self.old }
         ensures changed { HasChanged topology.now.cluster topology.now.cluster self.old self.new

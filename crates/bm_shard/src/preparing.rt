@@ -21,9 +21,10 @@ use bm_report::Report;
 use bm_topo::Topology;
 
 impl Shard {
-    /// Takes the memory that [`Shard::commit`] of the event needs. Nothing else that is seen changes, whether it is refused or
-    /// not, where the shard stands in some cluster; and it may be called again: what was prepared before is given up. `Memory`, where a block
-    /// is added, a replica received or a storage reports; other events take none.
+    /// Takes the memory that [`Shard::commit`] of the event needs. A contract sees no other change,
+    /// whether it is refused or not, if the shard is up to date in some cluster. It may be called
+    /// again: what was prepared before is given up. `Memory`, if a block is added, a replica
+    /// received or a storage reports; other events take none.
     #[tactic(auto, unfolding(crate::specs::Seen::IsReadyFor))]
     pub fn prepare(&mut self, event: &Event, topology: &Topology) -> Result<(), Refusal>
         ensures ready { OnOk result (IsReadyFor event.now self.new) }
@@ -98,7 +99,7 @@ impl Shard {
         Ok(())
     }
 
-    /// Looks up what a report tells of a part.
+    /// Looks up the numbers of a report that are of this part.
     fn ready_report(
         &mut self,
         storage: StorageId,
@@ -127,8 +128,9 @@ impl Shard {
         Ok(())
     }
 
-    /// Gives up what was prepared: entries that were made for it and have neither a block nor a replica go. Nothing that is seen changes
-    /// but room, where the shard stands in some cluster. Takes no memory.
+    /// Gives up what was prepared: entries that were made for it and have neither a block nor a
+    /// replica are dropped. A contract sees no change but of capacity, if the shard is up to date
+    /// in some cluster. Takes no memory.
     pub fn abort(&mut self)
         ensures same { IsSameButRoom self.old self.new }
         ensures bare { HasNoneBare self.new }
@@ -143,8 +145,8 @@ impl Shard {
     }
 }
 
-/// Drops the entries that were made for what was prepared and have neither a block nor a replica. Nothing that is held changes. Takes no
-/// memory.
+/// Drops the entries that were made for what was prepared and have neither a block nor a replica.
+/// All blocks and replicas stay. Takes no memory.
 pub(crate) fn drop_prepared(blocks: &mut LeveledBlocks, report: &mut Report, prepared: Prepared)
     ensures blocks { blocks_of blocks.new.arena ≡ blocks_of blocks.old.arena }
     ensures replicas { replicas_of blocks.new.arena ≡ replicas_of blocks.old.arena }

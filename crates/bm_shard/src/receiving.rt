@@ -25,8 +25,8 @@ fn done_of(applied: Applied) -> Done
 }
 
 impl Shard {
-    /// A replica was received on a storage, as was looked up: it is there, those on the other storages of the node leave, and its
-    /// transfer has arrived.
+    /// A replica was received on a storage, after its look-up: it is added, those on the other
+    /// storages of the node leave, and its transfer has arrived.
     pub(crate) fn receive(
         &mut self,
         topology: &Topology,
@@ -53,8 +53,9 @@ impl Shard {
         done_of(applied)
     }
 
-    /// A storage reported all its replicas, as was looked up: they are there, others on it leave, and the transfers of those that
-    /// came have arrived. One step for each number that is named and each replica that leaves, and a look at each block with transfers.
+    /// A storage reported all its replicas, after their look-up: they are added, others on it
+    /// leave, and the transfers of those that came have arrived. Costs one step for each named
+    /// number and each replica that leaves, and a read of each block with transfers.
     pub(crate) fn report(&mut self, topology: &Topology, storage: StorageId) -> Done
         requires ready { (ts : List Told) × (self.old.room.report ≡ Some (ReportOf storage ts)) }
         requires placed { IsPlaced topology.now.cluster self.old.holdings }

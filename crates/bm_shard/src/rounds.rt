@@ -15,9 +15,10 @@ use bm_parts::merge::Key;
 use bm_topo::Topology;
 
 impl Shard {
-    /// What the shard finds as its next round begins: the transfers that are given up, the replicas that are too many, what blocks
-    /// wish for, and the replicas that are to be deleted, each list in order. It looks at the transfers, at the blocks of levels 0 to 3 and
-    /// at those that are not settled, and at no others; blocks that wait for an ordered delete are looked at until it is reported. `Memory`.
+    /// Finds the shard's part as its next round begins: expired transfers, surplus replicas,
+    /// wishes, and the replicas to be deleted, each list sorted. Scans the transfers, the blocks of
+    /// levels 0 to 3 and the unsettled ones, and no others; blocks that wait for an ordered delete
+    /// are scanned until it is reported. `Memory`.
     pub fn round_part(&self, round: u64, topology: &Topology) -> Result<RoundPart, Refusal>
         requires next { round ≡ self.now.round + 1 }
         requires standing { StandsIn topology.now.cluster self.now }
@@ -27,8 +28,8 @@ impl Shard {
         self.round_part_before(round, topology, None)
     }
 
-    /// The same, but of the wishes those alone that come before a bound, if there is one, by level and block. Of the settled blocks no
-    /// other is looked at.
+    /// The same, but only with the wishes before a bound, if there is one, by level and block.
+    /// Other settled blocks are not scanned.
     pub fn round_part_before(
         &self,
         round: u64,
@@ -54,8 +55,8 @@ impl Shard {
         )
     }
 
-    /// A bound before which about so many blocks wish for copies; `None` where not so many do. Only a guess, by about so many samples:
-    /// nothing but the time of a round may depend on it. `Memory`.
+    /// A bound before which about `most` blocks have wishes; `None` if fewer do. Only a guess, from
+    /// about `samples` samples: nothing but the time of a round may depend on it. `Memory`.
     pub fn likely_bound(&self, most: usize, samples: usize) -> Result<Option<Key>, Refusal>
         ensures refused { IfErr result (λ e. e ≡ Memory) }
     {
@@ -63,7 +64,8 @@ impl Shard {
         Ok(bound)
     }
 
-    /// Takes the memory that [`Shard::round_commit`] needs. Where the shard stands in some cluster, nothing else that is seen changes. `Memory`.
+    /// Takes the memory that [`Shard::round_commit`] needs. A contract sees no other change, if the
+    /// shard is up to date in some cluster. `Memory`.
     pub fn round_ready(
         &mut self,
         part: &RoundPart,
@@ -81,9 +83,10 @@ impl Shard {
             .reserve_own(chosen.transfers.as_slice(), self.part)
     }
 
-    /// Takes the shard's next round, of which this was chosen of all shards: transfers that are too old leave, excess is marked
-    /// anew, and of what was chosen the shard's own deletes are ordered and its own transfers are on their way. Every shard takes every
-    /// round, also one of which nothing was chosen. What was prepared for an event is given up. Takes no memory.
+    /// Takes the shard's next round, in which all shards together chose this: expired transfers
+    /// leave, excess is marked again from scratch, the shard's own chosen deletes are ordered and
+    /// its own chosen transfers become pending. Every shard takes every round, also one in which
+    /// nothing was chosen. What was prepared for an event is given up. Takes no memory.
     pub fn round_commit(&mut self, part: &RoundPart, chosen: &Chosen, topology: &Topology)
         requires standing { StandsIn topology.now.cluster self.old }
         requires part { part.now.excess ≡ (next_part topology.now.cluster self.old).excess }
@@ -138,7 +141,8 @@ impl Shard {
         self.round = round;
     }
 
-    /// Gives up what was made ready for a round. Where the shard stands in some cluster, nothing that is seen changes but room. Takes no memory.
+    /// Gives up what was reserved for a round. A contract sees no change but of capacity, if the
+    /// shard is up to date in some cluster. Takes no memory.
     pub fn round_abort(&mut self)
         ensures same { IsSameButRoom self.old self.new }
         ensures entries { self.new.room.entries ≡ self.old.room.entries }

@@ -1,4 +1,4 @@
-// What a shard has, and what a contract sees of it.
+// The fields of a shard, and what a contract sees of them.
 ghost use Rattle.std.specs.Prelude.{◌≡◌, ◌<◌, ℕ, IfOk, IfErr};
 ghost use Rattle.bm_base.specs.declared.refusal.Refusal.TheVariants.{Memory};
 ghost use Rattle.bm_base.specs.State.{Cluster, empty_holdings};
@@ -24,10 +24,12 @@ pub(crate) enum Prepared {
     Report(StorageId),
 }
 
-/// One shard: the blocks of the numbers `index` modulo `shards`, their replicas, their transfers, and the level of each block.
+/// One shard: the blocks of the numbers `index` modulo `shards`, their replicas, their transfers,
+/// and the level of each block.
 ///
-/// A contract sees the holdings of the definitions, cut to the shard, and the levels as they are kept. That the levels are those of a cluster is a fact
-/// about both (`StandsIn`), which each call hands on to the next.
+/// A contract sees the holdings of the definitions, cut to the shard, and the stored levels. That
+/// these are the levels of a cluster is a fact about both (`StandsIn`), which each call passes on
+/// to the next.
 #[derive(Drop)]
 pub struct Shard {
     pub(crate) alloc: Global,
@@ -68,7 +70,8 @@ impl Model for Shard {
 }
 
 impl Shard {
-    /// An empty shard, of an index below the number of shards, whose tables hash by no secret. `Memory`.
+    /// An empty shard, of an index below the number of shards, whose tables hash by no secret.
+    /// `Memory`.
     pub fn new(alloc: Global, index: u32, config: &Config) -> Result<Shard, Refusal>
         requires { index < config.now.shards }
         ensures empty { IfOk result (λ s. s.holdings ≡ empty_holdings) }
@@ -83,7 +86,8 @@ impl Shard {
         Shard::with_secret(alloc, index, config, HashSecret::none())
     }
 
-    /// The same, whose tables hash by this secret: for numbers that may have been chosen so that they share a place of a table. `Memory`.
+    /// The same, whose tables hash by this secret: for numbers that may have been chosen so that
+    /// they collide. `Memory`.
     pub fn with_secret(
         alloc: Global,
         index: u32,

@@ -1,4 +1,4 @@
--- What is found for an option is the text that the words give, and otherwise its standard text.
+-- The text found for an option is the one that the words give, and otherwise its default.
 use Rattle.std.proofs.Common.{◌≡◌, ◌∙◌, ap, Bool, true, false, List, [], ◌∷◌, ◌++◌, fold, Option, Some, None, refl, sym}
 use Rattle.std.specs.Prelude.{find, slice_get}
 use Rattle.std.specs.List.{list_any}

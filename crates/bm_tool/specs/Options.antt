@@ -1,5 +1,6 @@
--- What the words of a command line make of the configuration. How the words are read (an option's name and its value, by two words
--- or by one with `=`) and when they are refused is said by the definitions of the crate that reads them, clap: `walk` and `fault_of`.
+-- The configuration by the words of a command line. The definitions of the crate clap, which reads
+-- them, state how the words are read (an option's name and its value, by two words or by one with
+-- `=`) and when they are refused: `walk` and `fault_of`.
 use Rattle.std.specs.Prelude.{◌≡◌, ◌⊎◌, ⊤, ◌<◌, ◌^◌, ℕ, List, [], ◌∷◌, Option, Some, codes, pos}
 use Rattle.std.specs.Option.{option_map_or}
 use Rattle.std.specs.Str.Parse.{IsNumeral, digits_value, without_leading_plus}
@@ -42,7 +43,7 @@ options = option_rule (codes "shards") (codes "1") 64
 abbrev pub tool : App
 tool = record { top = record (new_shape (codes "bm_tool")) { rules = options }; subs = [] }
 
--- what the words give, without the values that stand for options that they do not name
+-- what the words give, without the default values of other options
 abbrev pub rows_given : List Text → List Row
 rows_given words =
     (settled (built tool).top.rules (walk (built tool).top.rules (names_of (built tool)) nothing_held (argument_words tool words)).held).rows
@@ -73,7 +74,8 @@ configured_by words = record standard {
   pend = number_for (codes "pend") standard.pend words;
 }
 
--- why there is no configuration: help is asked for, or the words are refused; none where they are taken
+-- why there is no configuration: help is asked for, or the words are refused; none if they are
+-- accepted
 abbrev pub refusals_of : List Text → Kinds
 refusals_of words = fault_of tool words
 
@@ -84,7 +86,7 @@ IsOfRun (Faulted fault) = ⊤
 IsOfRun Helped = ⊥
 IsOfRun Misused = ⊥
 
--- how the program ends on words that are refused for these reasons: it runs only where there is none, and else the end tells a
--- reason, or that memory lacked
+-- the end of the program on words that are refused for these reasons: it runs only if there is
+-- none, and else the end has a reason, or out of memory
 abbrev pub EndsBy : Kinds → End → Type 0
 EndsBy reasons end = ((reasons ≡ []) × IsOfRun end) ⊎ ((k : ErrorKind) × IsAmong k (OutOfMemory ∷ reasons) × (end ≡ end_of k))

@@ -1,4 +1,4 @@
--- What standard error says of a fault, without its line end, and the exit status.
+-- The text of a fault on standard error, without its line end, and the exit status.
 use Rattle.std.specs.Prelude.{ℕ, List, codes}
 use Rattle.clap.specs.declared.error.kind.ErrorKind.{ErrorKind}
 use Rattle.clap.specs.declared.error.kind.ErrorKind.TheVariants as kind

@@ -1,5 +1,5 @@
-//! The line tool: reads one JSON object a line from standard input, makes the call that it asks for, and writes one line
-//! of text for it to standard output.
+//! The line tool: reads one JSON object a line from standard input, makes the call that it asks
+//! for, and writes one line of text for it to standard output.
 #![tactic(auto)]
 
 ghost use Rattle.std.specs.Prelude.{◌≡◌, map, string_bytes};
@@ -68,7 +68,7 @@ fn run_of_words<R: Input + Print + Eprint + AllocGlobal + Threads + Wait + Rando
     }
 }
 
-/// Says why there is no run.
+/// Writes why there is no run.
 fn tell_error<R: Print + Eprint>(rt: &R, error: &Error) -> End
     ensures { result ≡ end_of (kind_of error.now) }
 {
@@ -101,7 +101,7 @@ fn run_on_streams<R: Input + Print + AllocGlobal + Threads + Wait + RandomSource
     };
     let mut writer = Counted::new(buffered);
     let result = run(rt, rt.alloc(), &mut reader, &mut writer, config);
-    // What was answered before a fault goes out too.
+    // The answers before a fault are written too.
     let flushed = writer.into_inner().flush();
     match result {
         Ok(_) if flushed.is_err() => Err(Fault::Write),

@@ -8,9 +8,9 @@ use bm_base::Config;
 use clap::{Arg, ArgAction, ArgMatches, Command, Error, value_parser};
 use std::alloc::{AllocError, Global};
 
-/// The configuration that the words of a command line name, the program's name first: each option at most once, a whole number
-/// within its range. What is not named is standard, and both numbers begin at 0. An `Err` is a request for help, a command line
-/// that is refused, or want of memory.
+/// The configuration that the words of a command line name, the program's name first: each option
+/// at most once, a whole number within its range. Other options have their defaults, and both
+/// numbers begin at 0. An `Err` is a request for help, a refused command line, or out of memory.
 pub fn config_of(alloc: Global, words: &[String]) -> Result<Config, Error>
     ensures exact { IfOk result (λ c. c ≡ configured_by (map string_bytes words.now)) }
     ensures allowed { IfOk result (λ c. config_refusal c ≡ None) }
@@ -98,7 +98,7 @@ fn config_from(matches: &ArgMatches<'_>) -> Config
     }
 }
 
-/// The number that was found for an option; `standard` where none was found, which a default value rules out.
+/// The number of an option; `standard` if it has none, which a default value rules out.
 fn number(matches: &ArgMatches<'_>, name: &str, standard: u32) -> u32
     ensures { IsNumberOf (found_of matches.now) name.now result }
 {

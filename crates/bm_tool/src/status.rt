@@ -1,4 +1,4 @@
-// How the program ends: what standard error says of a fault, and the exit status.
+// The end of the program: the text of a fault on standard error, and the exit status.
 ghost use Rattle.std.specs.Prelude.{◌≡◌};
 ghost use Rattle.bm_tool.specs.Status.{fault_text, status_of};
 
@@ -28,7 +28,7 @@ pub fn status_of(end: End) -> u8
     }
 }
 
-/// What standard error says of a fault.
+/// The text of a fault on standard error.
 pub fn fault_text(fault: Fault) -> &'static str
     ensures { result.now ≡ fault_text fault }
 {

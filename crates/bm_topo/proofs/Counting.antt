@@ -92,7 +92,7 @@ module _ {X : Type 0} (m : Map by_number X) (k : ℕ) where
         | false ↦ λ t. refl
       ] refl)
 
-  -- what is put in its place is put beside the others
+  -- the replacement is added to the others
   pub insert_others : (v : X) → insert m k v ≡ insert (remove m k) k v
   insert_others v =
       same_map (insert m k v) (insert (remove m k) k v) (λ q.
@@ -176,7 +176,7 @@ unchanged : (v : Option ℕ) → option_map (λ x. x) v ≡ v
 unchanged None = refl
 unchanged (Some x) = refl
 
--- where a node leaves that was there
+-- if a known node leaves
 module _ (racks nodes : Map by_number ℕ) (n v : ℕ) (there : get nodes n ≡ Some v) (counts : CountsRacks racks nodes) where
   left_on : (r : ℕ) → on_rack nodes r ≡ on_rack (remove nodes n) r + cond (v == r) 1 0
   left_on r = on_rack-remove nodes n r ∙ ap (λ w. on_rack (remove nodes n) r + passes (λ x. x == r) w) there

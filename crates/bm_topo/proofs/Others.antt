@@ -1,4 +1,4 @@
--- The other nodes than one: the rack of the first of them, and where a node stands that is put in.
+-- All nodes but one: the rack of the first of them, and the index of an inserted node.
 use Rattle.std.proofs.Common.{◌≡◌, ℕ, Bool, true, false, cond, ◌||◌, List, [], ◌∷◌, map, Option, Some, None, refl, ap, ◌∙◌, Less, Equal, Greater}
 use Rattle.std.specs.Prelude.{◌==◌}
 use Rattle.std.specs.List.{list_any}

@@ -1,4 +1,4 @@
--- An entry at a place of a map is what the map has at its key.
+-- An entry at an index of a map is the map's entry at its key.
 use Rattle.std.specs.Prelude.{slice_get}
 use Rattle.std.proofs.Common.{◌≡◌, ℕ, zero, suc, List, [], ◌∷◌, Some, subst}
 use Rattle.std.proofs.lemmas.Option.{same_Some}

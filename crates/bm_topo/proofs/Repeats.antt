@@ -1,4 +1,4 @@
--- Whether a number stands twice in a list, told from the first part of it in order and from what follows.
+-- Whether a list has duplicates, decided by its sorted first part and what follows.
 use Rattle.std.proofs.Common.{◌≡◌, ℕ, ◌<◌, ◌≤◌, Bool, true, false, ltb, List, [], ◌∷◌, ◌++◌, length, get_or, Result, Ok, Err, is_ok, MatchResult, arith, refl, sym, ap, ◌∙◌}
 use Rattle.std.specs.Prelude.{◌==◌, ◌||◌}
 use Rattle.std.specs.Ordering.{nat_cmp}
@@ -68,13 +68,13 @@ has_repeats-append (x ∷ xs) ys = grind (arith, list_any-append (λ y. y == x) 
 pub has_repeats-split : (xs front back : List ℕ) (r b : Bool) → xs ≡ front ++ back → r ≡ (has_repeats front || list_any (has front) back) → r ≡ b → has_repeats xs ≡ (b || has_repeats back)
 has_repeats-split xs front back r b e told is = ap has_repeats e ∙ has_repeats-append front back ∙ ap (λ a. a || has_repeats back) (sym told ∙ is)
 
--- numbers that rise
+-- ascending numbers
 pub no_repeats-rising : (xs : List ℕ) → IsStrictlyIncreasing xs → has_repeats xs ≡ false
 no_repeats-rising xs up = no_repeats_from_distinct xs (IsDistinct-from_apart same xs (λ i j d lt within.
     let below : get_or xs i d < get_or xs j d = below_from_sorted xs i j d (sorted_from_strictly_increasing xs up) lt within in
     ne_eqb (get_or xs i d) (get_or xs j d) (λ e. omega (arith, below, e))))
 
--- a number at two places
+-- a number at two indices
 pub repeats_from_alike : (xs : List ℕ) (i j d : ℕ) → i < j → j < length xs → get_or xs i d ≡ get_or xs j d → has_repeats xs ≡ true
 repeats_from_alike xs i j d lt within e = elim (has_repeats xs) as (λ b. has_repeats xs ≡ b → b ≡ true) [
   | true ↦ λ _. refl
@@ -85,7 +85,7 @@ any_moved : (xs ys zs : List ℕ) → IsPermutation xs ys → list_any (has xs) 
 any_moved xs ys [] p = refl
 any_moved xs ys (z ∷ zs) p = grind (arith, list_any-IsPermutation (λ y. y == z) xs ys p, any_moved xs ys zs p)
 
--- what a part in order tells of the part
+-- what a sorted part implies about the part
 pub twice_in_part : (part sorted others : List ℕ) (r : Bool) → IsPermutation part sorted → r ≡ has_repeats sorted → r ≡ true → r ≡ (has_repeats part || list_any (has part) others)
 twice_in_part part sorted others r p e t = t ∙ sym (ap (λ b. b || list_any (has part) others) (has_repeats-moved part sorted p ∙ sym e ∙ t))
 
@@ -99,7 +99,7 @@ apart xs x i below above k within =
       | false ↦ λ f. let lt = above k (ltb-false k i f) within in ne_eqb (get_or xs k 0) x (λ e. omega (arith, lt, e))
     ] refl
 
--- what a search by halves tells
+-- what a binary search implies
 pub has_from_search : (xs : List ℕ) (x : ℕ) (r : Result ℕ ℕ) → IsBinarySearchResult (λ y. nat_cmp y x) xs r → IsNonDecreasing xs → is_ok r ≡ has xs x
 has_from_search xs x r s up =
     elim r as (λ r. MatchResult r (λ i. (i < length xs) × (get_or xs i 0 ≡ x)) (λ i. (i ≤ length xs) × ((k : ℕ) → k < i → get_or xs k 0 < x) × ((k : ℕ) → i ≤ k → k < length xs → x < get_or xs k 0)) → is_ok r ≡ has xs x) [

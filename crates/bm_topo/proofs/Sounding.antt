@@ -102,7 +102,7 @@ none_left old new n s i is e here =
 pub not_left : (draining left : Set by_number) (n : ℕ) → left ≡ remove draining n → contains_key left n ≡ false
 not_left draining left n is = ap (λ d. contains_key d n) is ∙ ap is_some (get-remove draining n n ∙ ap (λ b. cond b None (get draining n)) (key_itself by_number n))
 
--- where a node leaves that has no storage and does not drain
+-- if a node leaves that has no storage and does not drain
 pub sound-left : (nodes racks rest left : Map by_number ℕ) (draining : Set by_number) (storages : Map by_number StorageInfo) (n v : ℕ) → get nodes n ≡ Some v → rest ≡ remove nodes n → left ≡ without_one racks v (on_rack nodes v)
     → ((s : ℕ) (i : StorageInfo) → get storages s ≡ Some i → i.node ≢ n) → contains_key draining n ≡ false
     → IsSound nodes racks draining storages → IsSound rest left draining storages
@@ -143,7 +143,7 @@ sound-undrained nodes racks draining left storages n is h = record {
   lawful = subst (λ d. IsLawfulCluster (cluster_of nodes d storages)) (sym is) (ceased_to_drain (cluster_of nodes draining storages) n h.lawful);
 }
 
--- What the checks of a registration say.
+-- What the checks of a registration imply.
 
 none_here : {X : Type 0} (b : Bool) (x : X) (r : Option X) → cond b (Some x) r ≡ None → (b ≡ false) × (r ≡ None)
 none_here true x r h = cc
@@ -198,7 +198,7 @@ len-set_remaining (r ∷ rs) m =
     let one = len-revise_at m r.storage (λ i. record i { remaining = r.remaining }) in
     omega (arith, rest, one)
 
--- a test of the storage that is looked at is one of what is known of it
+-- a test of the looked-up storage is one of what is known of it
 same_test : (n : ℕ) (v : Option StorageInfo) → option_and_then (λ x. cond (not (x.node == n)) (Some x) None) v
     ≡ option_and_then (λ x. cond (not (option_map_or (λ m. m == n) (option_map (λ i. i.node) v) false)) (Some x) None) v
 same_test n None = refl

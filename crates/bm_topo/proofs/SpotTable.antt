@@ -1,4 +1,4 @@
--- The spots of a topology: they stay right where a heartbeat is told, and each is right once it is set.
+-- The spots of a topology: a heartbeat keeps them right, and each is right once it is set.
 use Rattle.std.proofs.Common.{◌≡◌, ℕ, ◌<◌, ◌+◌, false, List, length, Some, None, inl, inr, refl, sym, ap, subst, ◌∙◌, arith, get_or, get_or-set_same}
 use Rattle.std.specs.Prelude.{slice_get, slice_set, option_map, option_and_then}
 use Rattle.std.specs.Option.{option_map_or}
@@ -65,7 +65,7 @@ set_next C spots i p room before here k q below at =
           before k q less (slice_get-get_or spots k q inside ∙ ap Some same)
     ]
 
--- what is read at a place of the entries is in the map
+-- an entry read at an index is in the map
 pub entry_there : {X : Type 0} (m : Map by_number X) (es : List (ℕ × X)) (i : ℕ) (e : ℕ × X) → es ≡ entries m → i < length es → e ≡ get_or es i e → get m e.0 ≡ Some e.1
 entry_there m es i e is below read = get_at m i e (ap (λ xs. slice_get xs i) (sym is) ∙ slice_get_read es (length es) i e refl below read)
 

@@ -1,4 +1,4 @@
--- Nodes stand on two racks or more just where not all of them stand on the rack of one of them.
+-- Nodes are on two racks or more exactly if not all of them are on the rack of one of them.
 use Rattle.std.proofs.Common.{◌≡◌, ℕ, suc, ◌+◌, ◌<◌, ◌≤◌, true, false, cond, ◌||◌, List, [], ◌∷◌, length, map, count_by, Some, arith, refl, sym, ap, ◌∙◌}
 use Rattle.std.specs.Prelude.{◌==◌, nat_lt}
 use Rattle.std.specs.List.{list_any}

@@ -1,4 +1,4 @@
--- How many nodes stand on each rack: what a topology counts.
+-- The number of nodes on each rack: what a topology counts.
 use Rattle.std.specs.Prelude.{◌≡◌, ℕ, zero, suc, Bool, ◌==◌, nat_lt, if◌then◌else◌, ◌-◌, List, [], ◌∷◌, length, count_by, Option, Some, None}
 use Rattle.bm_base.specs.Map.{Map, by_number, entries, get, remove, revise_at, values}
 use Rattle.bm_base.specs.Lists.{distinct}
@@ -7,7 +7,7 @@ use Rattle.bm_base.specs.Lists.{distinct}
 abbrev pub racks_of : Map by_number ℕ → List ℕ
 racks_of nodes = values (entries nodes)
 
--- how many nodes stand on rack r
+-- the number of nodes on rack r
 unfoldable pub on_rack : Map by_number ℕ → ℕ → ℕ
 on_rack nodes r = count_by (λ x. x == r) (racks_of nodes)
 
@@ -15,11 +15,11 @@ abbrev pub some_positive : ℕ → Option ℕ
 some_positive zero = None
 some_positive (suc n) = Some (suc n)
 
--- `racks` has just the racks on which nodes stand, each with the number of its nodes
+-- `racks` has exactly the racks with nodes, each with the number of its nodes
 abbrev pub CountsRacks : Map by_number ℕ → Map by_number ℕ → Type 0
 CountsRacks racks nodes = (r : ℕ) → get racks r ≡ some_positive (on_rack nodes r)
 
--- whether nodes stand on two racks or more
+-- whether nodes are on two racks or more
 unfoldable pub is_multi : Map by_number ℕ → Bool
 is_multi nodes = nat_lt 1 (length (distinct (racks_of nodes)))
 

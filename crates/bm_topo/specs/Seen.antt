@@ -1,4 +1,5 @@
--- What contracts see of a topology: the cluster of the definitions, and the room for registrations and for draining.
+-- What contracts see of a topology: the cluster of the definitions, and the spare capacity for
+-- registrations and for draining.
 use Rattle.std.specs.Prelude.{◌≡◌, ℕ, ◌+◌, ◌≤◌, Bool, true, false, length, refl}
 use Rattle.std.specs.Coded.{Coded, code_by, coded×, coded_ℕ}
 use Rattle.bm_base.specs.declared.event.Event.{Event}
@@ -9,7 +10,7 @@ use Rattle.bm_base.specs.State.{Cluster}
 use Rattle.bm_base.specs.Codes.{coded_cluster}
 use Rattle.bm_topo.specs.Racks.{racks_of}
 
--- for how many further nodes, nodes that drain, racks and storages there is room
+-- the numbers of further nodes, nodes that drain, racks and storages that need no memory
 pub record Room : Type 0 where
   pub nodes : ℕ
   pub draining : ℕ
@@ -29,18 +30,18 @@ grows_cluster (Register n rack ss) = true
 grows_cluster (Drain n) = true
 grows_cluster _ = false
 
--- whether the room suffices for an event
+-- whether the spare capacity suffices for an event
 abbrev pub IsReadyFor : Event → Room → Type 0
 IsReadyFor (Register n rack ss) room = (1 ≤ room.nodes) × (1 ≤ room.racks) × (length ss ≤ room.storages)
 IsReadyFor (Drain n) room = 1 ≤ room.draining
 IsReadyFor _ room = Unit {0}
 
--- whether there is as much room as before, or more
+-- whether there is as much spare capacity as before, or more
 abbrev pub IsNoLess : Room → Room → Type 0
 IsNoLess before after = (before.nodes ≤ after.nodes) × (before.draining ≤ after.draining) × (before.racks ≤ after.racks) × (before.storages ≤ after.storages)
 
--- whether as many nodes, nodes that drain, racks on which nodes stand, and storages can be had without memory, those that are there among them:
--- nothing was taken, and nothing given back
+-- whether the capacity for nodes, nodes that drain, racks and storages, used and spare, is the
+-- same: no memory was taken or released
 pub record IsSameCapacity (before after : Seen) : Type 0 where
   pub nodes : len after.cluster.nodes + after.room.nodes ≡ len before.cluster.nodes + before.room.nodes
   pub draining : len after.cluster.draining + after.room.draining ≡ len before.cluster.draining + before.room.draining

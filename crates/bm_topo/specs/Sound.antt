@@ -16,5 +16,5 @@ pub record IsSound (nodes racks : Map by_number ℕ) (draining : Set by_number) 
   pub node_ids : HasSmallKeys nodes
   pub storage_ids : HasSmallKeys storages
   pub counted : CountsRacks racks nodes
-  -- each storage stands on an alive node, only alive nodes drain, and the limits are kept
+  -- each storage is on an alive node, only alive nodes drain, and the limits are kept
   pub lawful : IsLawfulCluster (cluster_of nodes draining storages)

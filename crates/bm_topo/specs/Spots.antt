@@ -15,7 +15,7 @@ pub record IsSpot (C : Cluster) (p : Spot) : Type 0 where
 abbrev pub AreSpots : Cluster → List Spot → ℕ → Type 0
 AreSpots C spots n = (k : ℕ) (p : Spot) → k < n → slice_get spots k ≡ Some p → IsSpot C p
 
--- of a whole table the first n are, and it has a place for each storage that there can be
+-- the first n of a whole table are, and the table has an index for each possible storage
 pub record HasSpots (C : Cluster) (spots : List Spot) (n : ℕ) : Type 0 where
   pub whole : length spots ≡ MAX_STORAGES
   pub few : n ≤ MAX_STORAGES

@@ -1,4 +1,5 @@
-// What events change in the cluster: room is made first, so that the change itself takes no memory.
+// How events change the cluster: capacity is reserved first, so that the change itself takes no
+// memory.
 ghost use Rattle.std.specs.Prelude.{◌≡◌, ◌≢◌, ℕ, ◌≤◌, ◌+◌, true, false, length, Some, None, IfErr, IsOk, OnOk};
 ghost use Rattle.bm_base.specs.declared.storage.StorageInfo.{StorageInfo};
 ghost use Rattle.bm_base.specs.Map as map;
@@ -14,9 +15,10 @@ use bm_base::{Event, NodeId, Rack, Refusal, Remaining, StorageId};
 use std::alloc::AllocError;
 
 impl Topology {
-    /// Makes the room that the event's [`Topology::commit`] needs, where [`Topology::check`] passed. Only a registration and a node
-    /// that drains need room in the cluster, so only they can answer `Memory`, and not where there is room already: then nothing
-    /// changes. The cluster stays as it is, and so does room that was made before.
+    /// Reserves the capacity that the event's [`Topology::commit`] needs, after [`Topology::check`]
+    /// passed. Only a registration and a node that drains need capacity in the cluster, so only
+    /// they can answer `Memory`, and not if the capacity is there already: then nothing changes.
+    /// The cluster stays as it is, and so does capacity that was reserved before.
     pub fn prepare(&mut self, event: &Event) -> Result<(), Refusal>
         requires { first_of (cluster_checks self.old.cluster event.now) ≡ None }
         ensures ready { OnOk result (IsReadyFor event.now self.new.room) }
@@ -34,7 +36,7 @@ impl Topology {
         }
     }
 
-    /// Makes room for one node, on any rack, with so many storages.
+    /// Reserves capacity for one node, on any rack, with `storages` storages.
     fn reserve(&mut self, storages: usize) -> Result<(), AllocError>
         ensures nodes { OnOk result (1 ≤ self.new.room.nodes) }
         ensures racks { OnOk result (1 ≤ self.new.room.racks) }
@@ -52,8 +54,9 @@ impl Topology {
         self.storages.reserve(storages)
     }
 
-    /// Changes the cluster by an event that no check on the cluster refuses, in the room that [`Topology::prepare`] of this
-    /// event made. Takes no memory, and gives none back: what leaves the cluster leaves its room.
+    /// Changes the cluster by an event that no check on the cluster refuses, in the capacity that
+    /// [`Topology::prepare`] of this event reserved. Takes no memory, and releases none: what
+    /// leaves the cluster leaves its capacity.
     #[tactic(auto, unfolding(bm_base::specs::Events::change_cluster))]
     pub fn commit(&mut self, event: &Event)
         requires accepted { first_of (cluster_checks self.old.cluster event.now) ≡ None }
@@ -99,7 +102,8 @@ impl Topology {
         }
     }
 
-    /// Gives up what was prepared. Nothing changes: room that was made is kept for events to come. It may be left out.
+    /// Gives up what was prepared. Nothing changes: reserved capacity is kept for later events. The
+    /// call may be left out.
     pub fn abort(&mut self)
         ensures { self.new ≡ self.old }
     {}
@@ -177,7 +181,7 @@ impl Topology {
         self.storages.remove(u64::from(storage.0));
     }
 
-    /// Sets the remaining bytes of storages that are there, one after another.
+    /// Sets the remaining bytes of known storages, one after another.
     fn set_remaining(&mut self, remaining: &[Remaining])
         ensures after { self.new.cluster ≡ events.heartbeat self.old.cluster remaining.now }
         ensures no_growth { IsSameCapacity self.old self.new }

@@ -17,7 +17,7 @@ use bm_base::{
     Remaining, StorageId,
 };
 
-/// Of a list up to this length each storage is compared with those behind it.
+/// In a list up to this length each storage is compared with those after it.
 const FEW: usize = 256;
 
 /// How many storages of a longer list are put in order at a time, on the stack.
@@ -129,8 +129,9 @@ impl Topology {
         }
     }
 
-    /// The first check of an event on the cluster that fails: `UnknownNode`, `NodeKnown`, `UnknownStorage`, `StorageKnown`,
-    /// `TooMany`, `NotItsStorage`, as the event's variant names them. Takes no memory.
+    /// The first check of an event on the cluster that fails: `UnknownNode`, `NodeKnown`,
+    /// `UnknownStorage`, `StorageKnown`, `TooMany`, `NotItsStorage`, as the event's variant names
+    /// them. Takes no memory.
     #[tactic(auto, unfolding(bm_base::specs::Refusals::cluster_checks))]
     pub fn check(&self, event: &Event) -> Result<(), Refusal>
         ensures refusal { result ≡ checked (first_of (cluster_checks self.now.cluster event.now)) }
@@ -177,8 +178,8 @@ impl Topology {
     }
 }
 
-/// Whether a storage stands twice in a list. A long one is not compared storage by storage, which would take as many steps as its
-/// length times itself; no memory is taken.
+/// Whether a list has duplicates. A long list is not compared pairwise, which would take quadratic
+/// time. Takes no memory.
 fn has_repeats(storages: &[StorageId]) -> bool
     ensures { result ≡ lists.has_repeats storages.now }
 {
@@ -202,8 +203,8 @@ fn has_repeats_among_few(storages: &[StorageId]) -> bool
     false
 }
 
-/// Puts one part of the list after another in order, and looks for all that follows it there. It stays a function of its own: in the
-/// place of its call, each check of any event would touch all of its room on the stack.
+/// Sorts one part of the list after another, and searches the sorted part for all that follows. It
+/// stays a function of its own: inlined, each check of any event would touch its whole stack frame.
 #[inline(never)]
 fn has_repeats_among_many(storages: &[StorageId]) -> bool
     ensures { result ≡ lists.has_repeats storages.now }
@@ -220,7 +221,7 @@ fn has_repeats_among_many(storages: &[StorageId]) -> bool
     false
 }
 
-/// Whether a storage stands twice in a part of a list, or in it and in what follows.
+/// Whether a storage occurs twice in a part of a list, or in it and in what follows.
 fn stands_twice(part: &[StorageId], others: &[StorageId], ordered: &mut [StorageId]) -> bool
     requires { length ordered.old ≡ length part.now }
     ensures { result ≡ (lists.has_repeats part.now || list_any (lists.has part.now) others.now) }

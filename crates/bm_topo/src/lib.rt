@@ -1,4 +1,5 @@
-//! The cluster: which DataNodes are alive, on which racks they stand, which storages they have and how much is free there.
+//! The cluster: which DataNodes are alive, on which racks they are, which storages they have and
+//! how much is free there.
 #![tactic(auto)]
 
 mod changes;

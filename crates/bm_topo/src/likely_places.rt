@@ -1,12 +1,15 @@
-// About where in the tables of the cluster a storage and a node stand: so a look-up is direct, however the numbers lie. Only guesses.
+// Hints for the indices of storages and nodes in the tables of the cluster: they make a look-up
+// direct, whatever the numbers are. They are only guesses.
 use bm_base::{Rack, StorageInfo};
 
-/// The most notes for storages, and for nodes: two for each that there can be. Numbers of the same hash share a note.
+/// The most hints for storages, and for nodes: two for each possible one. Numbers with the same
+/// hash share a hint.
 const STORAGE_NOTES: usize = 8_192;
 
 const NODE_NOTES: usize = 512;
 
-/// A number is hashed by one of these factors: 2^64 divided by the golden ratio, and the first odd ones of the round constants of SHA-512.
+/// A number is hashed by one of these factors: 2^64 divided by the golden ratio, and the first odd
+/// ones of the round constants of SHA-512.
 const FACTORS: [u64; 16] = [
     0x9E37_79B9_7F4A_7C15,
     0x7137_4491_23EF_65CD,
@@ -34,7 +37,7 @@ struct Hash {
     shift: u32,
 }
 
-/// Where storages, nodes and nodes that drain are likely to stand among theirs.
+/// Hints for the indices of storages, of nodes, and of nodes that drain.
 #[derive(Clone, Copy)]
 pub(crate) struct LikelyPlaces {
     storage_hash: Hash,
@@ -57,7 +60,7 @@ impl LikelyPlaces {
         }
     }
 
-    /// Notes where these stand.
+    /// Fills the hints from the tables.
     pub(crate) fn note(
         &mut self,
         storages: &[(u64, StorageInfo)],
@@ -69,24 +72,25 @@ impl LikelyPlaces {
         note_places(&mut self.draining, self.node_hash, nodes, draining);
     }
 
-    /// Where a storage is likely to stand among the storages.
+    /// The hint for a storage's index.
     #[inline]
     pub(crate) fn of_storage(&self, number: u64) -> usize {
         noted_place(&self.storages, self.storage_hash, number)
     }
 
-    /// Where a node is likely to stand among the nodes.
+    /// The hint for a node's index.
     pub(crate) fn of_node(&self, number: u64) -> usize {
         noted_place(&self.nodes, self.node_hash, number)
     }
 
-    /// Where a node is likely to stand, or would stand, among those that drain.
+    /// The hint for a node's index among those that drain, also if it does not drain.
     pub(crate) fn of_draining(&self, number: u64) -> usize {
         noted_place(&self.draining, self.node_hash, number)
     }
 }
 
-/// The hash of n numbers by this factor: from two to four notes for each, so that few notes mean few cache lines.
+/// The hash of n numbers by this factor: two to four hints for each, so that few hints mean few
+/// cache lines.
 fn hash_for(count: usize, factor: u64) -> Hash {
     let above = (count as u64).wrapping_sub(1).leading_zeros();
     Hash {
@@ -95,8 +99,8 @@ fn hash_for(count: usize, factor: u64) -> Hash {
     }
 }
 
-/// Notes the places by the first of the factors by which three quarters find their own note, and else by the one by which most do.
-/// Answers the hash.
+/// Fills the hints with the first factor under which at least three quarters of the numbers find
+/// themselves, or else the best one. Returns the hash.
 fn note_evenly<V: Copy>(notes: &mut [u16], entries: &[(u64, V)]) -> Hash {
     let mut best = hash_for(entries.len(), FACTORS[0]);
     let mut most = 0;
@@ -116,8 +120,8 @@ fn note_evenly<V: Copy>(notes: &mut [u16], entries: &[(u64, V)]) -> Hash {
     best
 }
 
-/// Notes where these numbers stand in a table that has no other: both rise, so that one step leads on where a number has passed it. Of two that
-/// share a note the later one stands there.
+/// Records each number's index in `table`. Both are sorted, so one pass suffices. On a collision
+/// the later number wins.
 fn note_places<V: Copy, W: Copy>(
     notes: &mut [u16],
     hash: Hash,
@@ -137,7 +141,7 @@ fn note_places<V: Copy, W: Copy>(
     }
 }
 
-/// How many of these stand where their note says.
+/// The number of entries whose hint is right.
 fn count_found<V: Copy>(notes: &[u16], hash: Hash, entries: &[(u64, V)]) -> usize {
     let mut count = 0usize;
     for (number, _) in entries {
@@ -150,7 +154,7 @@ fn count_found<V: Copy>(notes: &[u16], hash: Hash, entries: &[(u64, V)]) -> usiz
     count
 }
 
-/// The place that is noted for a number.
+/// The hint for a number.
 #[inline]
 fn noted_place(notes: &[u16], hash: Hash, number: u64) -> usize {
     match notes.get(hash.note_of(number)) {

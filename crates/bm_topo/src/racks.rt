@@ -1,4 +1,5 @@
-// How the nodes stand on racks. The racks are counted as nodes come and go, so nothing here goes over the nodes.
+// The racks of the nodes. Racks are counted as nodes come and go, so nothing here iterates over the
+// nodes.
 ghost use Rattle.std.specs.Prelude.{◌≡◌};
 ghost use Rattle.bm_base.specs.Map as map;
 ghost use Rattle.bm_base.specs.Replicas as replicas;
@@ -9,7 +10,7 @@ use crate::topology::Topology;
 use bm_base::{Event, NodeId, Rack};
 
 impl Topology {
-    /// Whether the alive nodes stand on two racks or more. Takes no memory.
+    /// Whether the alive nodes are on two racks or more. Takes no memory.
     #[tactic(auto, unfolding(bm_base::specs::Replicas::is_multi_rack))]
     pub fn multi_rack(&self) -> bool
         ensures { result ≡ replicas.is_multi_rack self.now.cluster }
@@ -17,7 +18,8 @@ impl Topology {
         self.racks.len() > 1
     }
 
-    /// Whether the alive nodes will stand on two racks or more once the event is committed. Takes no memory.
+    /// Whether the alive nodes will be on two racks or more once the event is committed. Takes no
+    /// memory.
     #[tactic(auto, unfolding(bm_base::specs::Events::change_cluster, bm_base::specs::Events::register, bm_base::specs::Events::without_node, bm_base::specs::Events::without_storage, bm_base::specs::Events::heartbeat, bm_base::specs::Events::drain, bm_base::specs::Events::undrain, bm_base::specs::Replicas::is_multi_rack, crate::specs::Racks::is_multi))]
     pub fn multi_after(&self, event: &Event) -> bool
         ensures { result ≡ replicas.is_multi_rack (change_cluster self.now.cluster event.now) }
@@ -40,7 +42,7 @@ impl Topology {
         }
     }
 
-    /// Whether the other nodes and this one, on this rack, stand on two racks or more.
+    /// Whether the other nodes and this one, on this rack, are on two racks or more.
     fn is_multi_with(&self, node: NodeId, rack: Rack) -> bool
         ensures { result ≡ is_multi (map.insert self.now.cluster.nodes node rack) }
     {
@@ -57,7 +59,7 @@ impl Topology {
         }
     }
 
-    /// How many nodes stand on a rack.
+    /// The number of nodes on a rack.
     pub(crate) fn count_on(&self, rack: Rack) -> u32
         ensures { result ≡ on_rack self.now.cluster.nodes rack }
     {
@@ -67,7 +69,7 @@ impl Topology {
         }
     }
 
-    /// How many other nodes than this one stand on a rack.
+    /// The number of nodes on a rack, this one not counted.
     fn others_on(&self, node: NodeId, rack: Rack) -> u32
         ensures { result ≡ on_rack (map.remove self.now.cluster.nodes node) rack }
     {

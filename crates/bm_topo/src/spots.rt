@@ -1,5 +1,5 @@
-// Where each storage is, in one table beside that of the storages and at the same places: its node, the rack and whether the node
-// drains. So one look answers all that a replica is judged by.
+// Where each storage is, in a table parallel to that of the storages: its node, the rack and
+// whether the node drains. So one read answers all that a replica's classification needs.
 ghost use Rattle.std.specs.Prelude.{◌≡◌, ◌≤◌, ◌<◌, true, length, Some};
 ghost use Rattle.bm_base.specs.Map as map;
 ghost use Rattle.bm_base.specs.Lawful.{IsLawfulCluster};
@@ -16,13 +16,13 @@ pub struct Spot {
     pub storage: StorageId,
     /// Its node.
     pub node: NodeId,
-    /// The rack on which its node stands.
+    /// The rack of its node.
     pub rack: Rack,
     /// Whether its node drains.
     pub drains: bool,
 }
 
-/// What fills the places behind the last storage.
+/// Fills the indices after the last storage.
 const NO_SPOT: Spot = Spot {
     storage: StorageId(0),
     node: NodeId(0),
@@ -30,7 +30,7 @@ const NO_SPOT: Spot = Spot {
     drains: false,
 };
 
-/// As many spots as there can be storages, so that a change of the cluster takes no memory for them.
+/// A spot for each possible storage, so that a change of the cluster takes no memory for them.
 pub(crate) fn no_spots() -> [Spot; MAX_STORAGES]
     ensures { length result ≡ 4096 }
 {
@@ -66,7 +66,7 @@ pub(crate) fn spot_on(
     }
 }
 
-/// Sets the spot of each storage, at the place at which the table of the storages has it.
+/// Sets the spot of each storage, at its index in the table of the storages.
 pub(crate) fn set_spots(
     spots: &mut [Spot],
     storages: &NumberMap<StorageInfo>,

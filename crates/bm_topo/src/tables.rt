@@ -1,4 +1,4 @@
-// Changes of one table, in the room that was made.
+// Changes of one table, in reserved capacity.
 ghost use Rattle.std.specs.Prelude.{◌≡◌, ◌≤◌, ◌==◌, not, length};
 ghost use Rattle.bm_base.specs.Map as map;
 ghost use Rattle.bm_base.specs.Table.{capacity};
@@ -34,7 +34,7 @@ pub(crate) fn drop_storages(storages: &mut NumberMap<StorageInfo>, node: NodeId)
     storages.retain(|(_, info)| info.node != node);
 }
 
-/// One of so many nodes leaves a rack.
+/// One of `count` nodes leaves a rack.
 #[tactic(auto, unfolding(crate::specs::Racks::without_one))]
 pub(crate) fn leave_rack(racks: &mut NumberMap<u32>, rack: Rack, count: u32)
     requires { 1 ≤ count }
@@ -48,7 +48,7 @@ pub(crate) fn leave_rack(racks: &mut NumberMap<u32>, rack: Rack, count: u32)
     }
 }
 
-/// Sets the remaining bytes of storages that are there, one after another.
+/// Sets the remaining bytes of known storages, one after another.
 pub(crate) fn set_remaining(storages: &mut NumberMap<StorageInfo>, remaining: &[Remaining])
     ensures after { storages.new.map ≡ events.set_remaining storages.old.map remaining.now }
     ensures no_growth { capacity storages.new ≡ capacity storages.old }

@@ -21,7 +21,7 @@ use std::marker::Model;
 pub struct Location {
     /// Its node; `None` where the storage is not known.
     pub node: Option<NodeId>,
-    /// The rack on which its node stands.
+    /// The rack of its node.
     pub rack: Option<Rack>,
     /// Whether its node drains.
     pub drains: bool,
@@ -29,22 +29,24 @@ pub struct Location {
     pub remaining: u64,
 }
 
-/// The alive DataNodes with their racks, those of them that drain, and their storages with what is free there.
+/// The alive DataNodes with their racks, those of them that drain, and their storages with their
+/// free bytes.
 ///
-/// A contract sees the cluster of the definitions, and for how many further nodes, racks, storages and nodes that drain there is
-/// room. Where a storage is takes one look at its spot most often, else a binary search, in at most `MAX_NODES` nodes and
-/// `MAX_STORAGES` storages; no look-up takes memory.
+/// A contract sees the cluster of the definitions, and the spare capacity for nodes, racks,
+/// storages and nodes that drain. Where a storage is mostly takes one read of its spot, else a
+/// binary search, in at most `MAX_NODES` nodes and `MAX_STORAGES` storages; no look-up takes
+/// memory.
 #[derive(Drop)]
 pub struct Topology {
     pub(crate) nodes: NumberMap<Rack>,
     /// The alive nodes that drain.
     pub(crate) draining: NumberMap<()>,
-    /// For each rack on which nodes stand, how many.
+    /// For each rack with nodes, their number.
     pub(crate) racks: NumberMap<u32>,
     pub(crate) storages: NumberMap<StorageInfo>,
-    // About where in these tables each number stands.
+    // Hints for the indices in these tables.
     pub(crate) places: LikelyPlaces,
-    // Where the storages are, each at its place in their table.
+    // Where the storages are, each at its index in their table.
     pub(crate) spots: [Spot; MAX_STORAGES],
     // How many spots are set: 0 while the cluster changes.
     pub(crate) spot_count: usize,
@@ -78,7 +80,7 @@ impl Model for Topology {
 }
 
 impl Topology {
-    /// An empty cluster, with no room. Takes no memory yet, so it succeeds.
+    /// An empty cluster, with no capacity. Takes no memory yet, so it succeeds.
     #[tactic(auto, unfolding(bm_base::specs::State::empty_cluster))]
     pub fn new(alloc: Global) -> Result<Topology, Refusal>
         ensures empty { IfOk result (λ t. t.cluster ≡ state.empty_cluster) }
@@ -96,15 +98,15 @@ impl Topology {
         })
     }
 
-    /// Does nothing when it runs: says to the function that calls it that each storage stands on an alive node, that only alive nodes
-    /// drain, and that the limits are kept.
+    /// For proofs alone: each storage is on an alive node, only alive nodes drain, and the limits
+    /// are kept. Does nothing when it runs.
     pub fn lawful(&self)
         ensures { IsLawfulCluster self.now.cluster }
     {
         let _ = &self.nodes;
     }
 
-    /// What is known of a storage: one look where it is likely to stand, and else a look-up.
+    /// What is known of a storage: one read at the hint, and else a look-up.
     fn info_of(&self, storage: StorageId) -> Option<StorageInfo>
         ensures { result ≡ map.get self.now.cluster.storages storage }
     {
@@ -118,7 +120,7 @@ impl Topology {
         self.storages.get(number)
     }
 
-    /// Notes where the storages and the nodes stand, and sets the spots. Takes no memory.
+    /// Fills the hints for storages and nodes, and sets the spots. Takes no memory.
     pub(crate) fn note_places(&mut self)
         ensures { self.new ≡ self.old }
     {
@@ -137,7 +139,7 @@ impl Topology {
         self.spot_count = self.storages.len();
     }
 
-    /// The rack of a node, if it is alive: two looks where it is likely to stand, and else a look-up.
+    /// The rack of a node, if it is alive: two reads at the hint, and else a look-up.
     pub(crate) fn rack_of_node(&self, node: NodeId) -> Option<Rack>
         ensures { result ≡ map.get self.now.cluster.nodes node }
     {
@@ -171,7 +173,7 @@ impl Topology {
         self.find_spot(storage)
     }
 
-    /// The same by look-ups, where the storage does not stand where it is likely to.
+    /// The same by look-ups, where the hint is wrong.
     #[inline(never)]
     fn find_spot(&self, storage: StorageId) -> Option<Spot>
         ensures node { option_map (λ p. p.node) result ≡ replicas.node_of self.now.cluster storage }
@@ -234,7 +236,7 @@ impl Topology {
         }
     }
 
-    /// The rack on which the node of a storage stands; `None` where the storage is not known.
+    /// The rack of a storage's node; `None` for an unknown storage.
     pub fn rack_of(&self, storage: StorageId) -> Option<Rack>
         ensures { result ≡ replicas.rack_of self.now.cluster storage }
     {
@@ -244,7 +246,7 @@ impl Topology {
         }
     }
 
-    /// Whether a storage stands on a node that drains; not where the storage is not known.
+    /// Whether a storage is on a node that drains; not for an unknown storage.
     pub fn is_draining(&self, storage: StorageId) -> bool
         ensures { result ≡ replicas.is_draining self.now.cluster storage }
     {
@@ -291,7 +293,8 @@ impl Topology {
         }
     }
 
-    /// The free bytes of a storage that the last heartbeat told, 0 before the first; `None` where the storage is not known.
+    /// The free bytes of a storage by the last heartbeat, 0 before the first; `None` for an unknown
+    /// storage.
     pub fn remaining(&self, storage: StorageId) -> Option<u64>
         ensures { result ≡ option_map
             (λ i. i.remaining) (map.get self.now.cluster.storages storage) }
@@ -318,7 +321,7 @@ impl Topology {
         self.storages.len() as u32
     }
 
-    /// The storage at a place in the rising order of their numbers, from 0 on; `None` past the last.
+    /// The storage at an index, in ascending order of numbers, from 0 on; `None` past the last.
     #[tactic(auto, unfolding(bm_base::specs::Map::keys))]
     pub fn storage_at(&self, place: u32) -> Option<StorageId>
         ensures { result ≡ slice_get (map.keys self.now.cluster.storages) place }
@@ -329,7 +332,7 @@ impl Topology {
         }
     }
 
-    /// The node at a place in the rising order of their numbers, from 0 on; `None` past the last.
+    /// The node at an index, in ascending order of numbers, from 0 on; `None` past the last.
     #[tactic(auto, unfolding(bm_base::specs::Map::keys))]
     pub fn node_at(&self, place: u32) -> Option<NodeId>
         ensures { result ≡ slice_get (map.keys self.now.cluster.nodes) place }

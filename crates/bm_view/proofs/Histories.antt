@@ -87,7 +87,7 @@ settles xs v shown pre close some =
     subst (λ log. IsPrefix (versions all) (shown_in log)) (sym same) (versions_shown_in all))
     (cases_lt (length shown) (length all))
 
--- what was told begins what is shown, unless that is older
+-- what was told is a prefix of the current value, unless that is older
 pub told_begins : (told shown both : List Entry) → IsPrefix told both → IsPrefix shown both → IsSettled told → length told ≤ length shown + 1 → 0 < length shown → IsPrefix (versions told) (shown_in shown)
 told_begins told shown both p q whole close some =
     ⊎_elim

@@ -1,4 +1,4 @@
--- What a search by block number finds among rows that rise.
+-- What a search by block number finds among sorted rows.
 use Rattle.std.proofs.Common.{◌≡◌, ◌≢◌, ℕ, zero, suc, ◌<◌, ◌≤◌, List, [], ◌∷◌, length, get_or, Result, Ok, Err, MatchResult, refl, ap, sym, arith}
 use Rattle.std.specs.List.Sorted.{IsSearchInRange, IsBinarySearchResult, IsNonDecreasingBy}
 use Rattle.std.specs.Ordering.{nat_cmp, ordering_index}
@@ -7,7 +7,7 @@ use Rattle.std.proofs.lemmas.Bool.Decides.{nat_tests}
 use Rattle.bm_base.specs.Versions.{Row}
 use Rattle.bm_view.specs.Version.{RisesById, places_in}
 
--- the row at a place is the one that a look-up of its number finds
+-- the row at an index is the one that a look-up of its number finds
 pub places_in-at : (rows : List Row) (at : ℕ) (d : Row) (id : ℕ) → RisesById rows → at < length rows → (get_or rows at d).0 ≡ id → places_in rows id ≡ (get_or rows at d).1
 places_in-at [] at d id rises within is = absurd (omega arith)
 places_in-at (r ∷ rs) zero d id rises within is = grind (arith, nat_tests)

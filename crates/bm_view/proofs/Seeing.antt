@@ -28,7 +28,7 @@ later (Some s) x w home list saw sees =
       now = subst (λ w. HasSeen w x.home (shown_in x.log)) (sym sees.1) (refl, prefix_self (shown_in x.log));
     }
 
--- all that was told begins a longer list
+-- all that was told is a prefix of a longer list
 pub all_begin : (told : List (List Version)) (now longer : List Version) → All (λ known. IsPrefix known now) told → IsPrefix now longer → All (λ known. IsPrefix known longer) told
 all_begin told now longer h p = λ k d lt. prefix_trans _ now longer (h k d lt) p
 

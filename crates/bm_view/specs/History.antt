@@ -1,4 +1,4 @@
--- The one list of versions, and where it stands in a journal.
+-- The one list of versions, and its position in a journal.
 use Rattle.std.specs.Prelude.{ℕ, ◌+◌, ◌-◌, ◌<◌, ◌≤◌, Bool, true, false, List, [], ◌∷◌, length, slice_index_or}
 use Rattle.std.specs.List.Sorted.{IsNonDecreasingBy}
 use mathlib.Core.List.{IsPrefix}
@@ -10,7 +10,7 @@ use Rattle.bm_view.specs.Version.{opening}
 abbrev pub last_of : List Version → Version
 last_of list = slice_index_or list (length list - 1) opening
 
--- the last version is of so many calls at most
+-- the last version has at most n calls
 abbrev pub EndsBy : ℕ → List Version → Type 0
 EndsBy calls list = (last_of list).calls ≤ calls
 
@@ -28,14 +28,15 @@ abbrev pub versions : List Entry → List Version
 versions [] = []
 versions (e ∷ es) = put_if e.done e.table (versions es)
 
--- The list of a reader that finds the table of the last entry: the versions that were settled before, and then that one,
--- whether it is settled yet or not.
+-- The list of a reader that finds the table of the last entry: the versions that were settled
+-- before, and then that one, settled or not.
 abbrev pub shown_in : List Entry → List Version
 shown_in [] = []
 shown_in (e ∷ []) = e.table ∷ []
 shown_in (e ∷ f ∷ es) = put_if e.done e.table (shown_in (f ∷ es))
 
--- A journal that may be told: its versions begin the list of each reader that finds what came with this journal, or with the
--- journal just before its last entry. So of a journal that ends with a settlement.
+-- A journal that may be told: its versions are a prefix of the list of each reader that finds the
+-- value of this journal, or of the journal just before its last entry. A journal that ends with a
+-- settlement is one.
 abbrev pub IsSettled : List Entry → Type 0
 IsSettled told = (shown : List Entry) → IsPrefix shown told → length told ≤ length shown + 1 → 0 < length shown → IsPrefix (versions told) (shown_in shown)

@@ -1,8 +1,9 @@
--- The journal of proposals, as lines in a log of the crate `logbook`, with cells beside it.
+-- The journal of proposals, as lines in a log of the crate `logbook`, next to its cells.
 --
--- Anyone may have a pen of a cell that is away. A line is written with a pen, which brings its cell home; so each pen writes
--- one line. A line names the pen of the next line of its journal. So only the owner of a journal's last pen can go on with it,
--- and while that pen's cell is away, the owner knows the whole journal.
+-- Anyone may have a pen of a cell that is away. A line is written with a pen, which brings its cell
+-- home; so each pen writes one line. A line names the pen of the next line of its journal. So only
+-- the owner of a journal's last pen can extend it, and while that pen's cell is away, the owner
+-- knows the whole journal.
 use Rattle.std.specs.Prelude.{◌≡◌, ℕ, ◌<◌, ◌==◌, Bool, true, false, List, [], ◌∷◌, ◌++◌, length}
 use Rattle.logbook.specs.Pages.{Cell, cell, Step, View, Book, Named, nib, may_make}
 use Rattle.bm_view.specs.declared.journal.Entry.{Entry}
@@ -11,7 +12,7 @@ use Rattle.bm_base.specs.Versions.{Version}
 use Rattle.bm_view.specs.Version.{opening}
 use Rattle.bm_view.specs.Holders.{Home}
 
--- what is to be shown; and, behind a proposal, that nothing was shown
+-- what is to be published; and, after a proposal, that nothing was published
 abbrev pub proposed : Version → Entry
 proposed v = record { done = false; table = v }
 
@@ -72,7 +73,7 @@ pub record IsKept (cells : List Cell) (lines : List Line) : Type 0 where
 abbrev pub Reserves : Step Line → View Line ℕ → ℕ → View Line ℕ → Type 0
 Reserves s v found w = (key : ℕ) × (w.1.0 ≡ nib may_make key 0)
 
--- The line was written behind all that had been seen; what came between is of other journals.
+-- The line was written after all that had been seen; lines between are of other journals.
 abbrev pub Enters : Step Line → View Line ℕ → ℕ → View Line ℕ → Type 0
 Enters s v found w =
     (between : List Line) × (w.0 ≡ (v.0 ++ between) ++ s.ask ∷ []) × (chain s.ask.by between ≡ []) × (tip s.ask.by between ≡ s.ask.by)

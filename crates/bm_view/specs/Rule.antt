@@ -1,5 +1,5 @@
--- What the rule of `left_right` says: what a seat saw once begins what is shown. A seat is a locator or the publisher; its view
--- is the evidence that what it saw last came with.
+-- The rule of `left_right`: what a seat saw once is a prefix of the current value. A seat is a
+-- locator or the publisher; its view is the evidence of what it saw last.
 use Rattle.std.specs.Prelude.{◌≡◌, ℕ, List, Option, Some, None}
 use mathlib.Core.Option.{some}
 use mathlib.Core.List.{IsPrefix}
@@ -18,7 +18,7 @@ pub record Extends (early late : Evidence) : Type 0 where
   pub home : early.home ≡ late.home
   pub list : IsPrefix (shown_in early.log) (shown_in late.log)
 
--- what a seat saw begins what is shown, if it saw anything
+-- what a seat saw is a prefix of the current value, if it saw anything
 abbrev pub BeginsShown : Option Evidence → Evidence → Type 0
 BeginsShown None shown = Unit {0}
 BeginsShown (Some seen) shown = Extends seen shown
@@ -27,7 +27,7 @@ BeginsShown (Some seen) shown = Extends seen shown
 abbrev pub Kept : Evidence → List (Option Evidence) → Type 0
 Kept shown views = (seat : ℕ) (v : Option Evidence) → get_elem? views seat ≡ some v → BeginsShown v shown
 
--- A seat with this view reads what is shown, which is its view afterwards.
+-- A seat with this view reads the current value, which is its view afterwards.
 abbrev pub Sees : Option Evidence → Evidence → Option Evidence → Type 0
 Sees v shown w = BeginsShown v shown × (w ≡ Some shown)
 

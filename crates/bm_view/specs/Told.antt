@@ -1,4 +1,5 @@
--- The lists that a locator was told of: those that the value before had, and then the one that was told last.
+-- The lists that a locator was told of: those of the value before, and then the one that was told
+-- last.
 use Rattle.std.specs.Prelude.{List, [], ◌∷◌, ◌++◌, Option, Some, None}
 use Rattle.core.specs.declared.snapshot.Snapshot.{Snapshot}
 use Rattle.bm_base.specs.Versions.{Version}

@@ -4,7 +4,7 @@ ghost use Rattle.std.specs.Prelude.{◌≡◌, ◌+◌, ◌<◌, ◌↔◌, IfOk
 use std::alloc::{AllocError, Global};
 use std::marker::Model;
 
-/// How many proposals there were. A contract sees the number, which no width bounds.
+/// The number of proposals so far. A contract sees the number, which has no upper limit.
 #[derive(Drop)]
 pub struct Count {
     /// The number, but for full turns of this u64.
@@ -40,7 +40,7 @@ impl Count {
         })
     }
 
-    /// One more. It takes memory once in 2^64 numbers.
+    /// The next number. It takes memory once in 2^64 numbers.
     pub fn next(&self) -> Result<Count, AllocError>
         ensures { IfOk result (λ c. c ≡ self.now + 1) }
     {

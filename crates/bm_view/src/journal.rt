@@ -1,12 +1,14 @@
 //! The journal of proposals. It has no bytes that anyone reads; its entries exist in proofs alone.
 //!
-//! Each publish adds two entries: the version that is about to be shown (proposed), and then what became of it: the
-//! version again, as done, or an entry that is not done, where it could not be shown. The versions of the entries that
-//! are done are the one list of which publisher, receipts and locators hold beginnings.
+//! Each publish adds two entries: the version that is about to be published (proposed), and the
+//! outcome: the version again, as done, or an entry that is not done, where it could not be
+//! published. The versions of the done entries are the one list of which publisher, receipts and
+//! locators hold prefixes.
 //!
-//! An entry is written with a pen of the crate `logbook`, which one owner has and which is used up by it. Each line names
-//! the pen of the next one. So the lines from one pen on are written by one owner: these are a journal, and what its owner
-//! knows of it is all that there is. No step has to look whether someone else wrote.
+//! An entry is written with a pen of the crate `logbook`, which has one owner and is used up by it.
+//! Each line names the pen of the next one. So all lines after a pen are written by one owner:
+//! these are a journal, and its owner knows all of it. No step has to check whether someone else
+//! wrote.
 ghost use Rattle.std.specs.Prelude.{◌≡◌, ◌<◌, ◌++◌, ◌∷◌, [], List, length};
 ghost use mathlib.Core.List.{IsPrefix};
 ghost use Rattle.logbook.specs.Pages.{nib, may_write};
@@ -26,8 +28,8 @@ pub struct Entry {
     pub table: Table,
 }
 
-/// An entry, and what it was written with. No value of it is made. A number is the key of a cell of `logbook`, which a
-/// pen of that key writes.
+/// An entry, and what it was written with. No value of it is made. A number is the key of a cell of
+/// `logbook`, which a pen of that key writes.
 pub struct Line {
     /// The pen of the first line of this journal.
     pub first: u64,
@@ -86,7 +88,7 @@ impl Play<Line, u64> for Enter {
     ghost then = { Enters };
 }
 
-/// What a line is to say. It has one byte, for proofs alone.
+/// The content of a line to be written. It has one byte, for proofs alone.
 #[derive(Drop)]
 pub struct Wanted {
     first: Snapshot<Word<Line, u64, JournalRule>>,
@@ -96,7 +98,7 @@ pub struct Wanted {
     table: Snapshot<Table>,
 }
 
-/// A step asks for the line that is wanted.
+/// A step asks for that line.
 pub struct AsWanted;
 
 impl Plain<Wanted, Line, u64> for AsWanted {
@@ -167,7 +169,7 @@ impl Evidence {
 /// The right to write a journal. A contract sees the whole journal.
 #[derive(Drop)]
 pub struct Journal {
-    /// The word that steps of `logbook` are taken on. Its value says nothing. It lies here alone, so no thread shares it.
+    /// The word that steps of `logbook` act on. Its value means nothing. No thread shares it.
     head: Word<Line, u64, JournalRule>,
     /// The word of the first pen: it names the journal.
     first: Word<Line, u64, JournalRule>,

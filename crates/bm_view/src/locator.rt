@@ -17,19 +17,21 @@ use core::mem::replace_with;
 use std::alloc::Global;
 use std::marker::Model;
 
-/// Where a block was after so many calls.
+/// Where a block was after a number of calls.
 #[derive(Clone, Copy, Debug, PartialEq, Eq)]
 pub struct Located {
     /// The calls of the version that this was read from.
     pub calls: u64,
-    /// Where that version has the block, at most `MAX_PLACES` storages; none where it has no row of it.
+    /// The storages of the block in that version, at most `MAX_PLACES`; none if it has no row of
+    /// the block.
     pub places: Places,
 }
 
-/// Says where a block is. It takes no memory and waits for no one.
+/// Answers where a block is. It takes no memory and waits for no one.
 ///
-/// A contract sees the list of versions up to the one that it answered from last, the lists that it was told of by
-/// receipts, and the call of `open_view`. Its list goes on from each list that it was told of.
+/// A contract sees the list of versions up to the one that it answered from last, the lists that it
+/// was told of by receipts, and the call of `open_view`. Its list has each list that it was told of
+/// as a prefix.
 #[derive(Drop)]
 pub struct Locator {
     seat: Seat,
@@ -65,7 +67,7 @@ impl Model for Locator {
         × All (λ known. IsPrefix known (versions l.heard.log)) l.told };
 }
 
-// A reader, and how many proposals the longest journal has that it was told of.
+// A reader, and the length in proposals of the longest journal that it was told of.
 #[derive(Drop)]
 struct Seat {
     reader: VersionReader,
@@ -76,11 +78,11 @@ struct Seat {
 struct Glimpse {
     found: Located,
     evidence: Evidence,
-    // Whether it is of a proposal before one that was told of.
+    // Whether it is from a proposal before one that was told.
     is_older: bool,
 }
 
-// Takes what is shown. The reader comes back where `left_right` refuses to enter.
+// Enters and reads the current table. Returns the reader where `left_right` refuses to enter.
 fn enter(reader: VersionReader) -> Result<VersionReading, VersionReader>
     ensures { MatchResult result
         (λ r. Sees (sight reader.place) r.part.value (sight r.place))
@@ -145,8 +147,8 @@ impl Locator {
         }
     }
 
-    /// Takes in what was published up to the receipt, which stems from the same call of `open_view`. From now on no answer
-    /// is older.
+    /// Learns what was published up to the receipt, which is from the same call of `open_view`.
+    /// After that no answer is older.
     pub fn learn(&mut self, receipt: Receipt)
         requires { receipt.home ≡ self.old.home }
         ensures same { (self.new.home ≡ self.old.home) × (self.new.list ≡ self.old.list) }
@@ -161,12 +163,13 @@ impl Locator {
         }
     }
 
-    /// Where the block is in the version that is shown. A block without a row there has no places.
+    /// Where the block is in the current version. A block without a row has no places.
     ///
-    /// It is `None` where the publisher has ended, which is tested and no clause says, and then the list stays. (It would be `None` too if what is shown were of
-    /// an earlier proposal than the last version of a receipt that was learnt. That does not happen, since a receipt is made
-    /// after its version is shown. But the contracts of `left_right` do not say of which table a reader is once it has
-    /// entered, so no proof ties what it finds to what was entered into the journal by then.)
+    /// It is `None` if the publisher has ended, and then the list stays; tests show that, no clause
+    /// does. It would be `None` too if the current table were of an earlier proposal than the last
+    /// version of a learnt receipt. That does not happen, since a receipt is made after its version
+    /// is published. But the contracts of `left_right` do not say which table a reader has once it
+    /// has entered. So no proof ties what it reads to what was in the journal by then.
     pub fn locate(&mut self, id: BlockId) -> Option<Located>
         ensures same { (self.new.home ≡ self.old.home) × (self.new.told ≡ self.old.told) }
         ensures none { IfNone result (self.new.list ≡ self.old.list) }

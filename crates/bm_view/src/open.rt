@@ -29,8 +29,8 @@ fn first_table(alloc: Global) -> Result<Arc<Table>, AllocError>
     Ok(Arc::new(alloc, Table::new(0, Vec::new(alloc)))?)
 }
 
-// Makes a writer with room for so many readers, and shows the opening version by it: so its own view says what is shown,
-// and each locator can be told that.
+// Makes a writer with capacity for `readers` readers, and publishes the opening version. So its own
+// view is the current one, and each locator can be told that.
 fn open_writer<R: Wait>(
     rt: &R,
     alloc: Global,
@@ -59,7 +59,7 @@ fn open_writer<R: Wait>(
     }
 }
 
-// Makes so many locators, each told what the writer has seen.
+// Makes `readers` locators, each told what the writer has seen.
 fn make_locators(
     alloc: Global,
     writer: &mut VersionWriter,
@@ -82,8 +82,8 @@ fn make_locators(
     Ok(locators)
 }
 
-/// Makes a publisher and so many locators, 0 to 16. The opening version, which has no calls and no rows, is published: it
-/// is the list of each of them. The locators may go to other threads.
+/// Makes a publisher and `readers` locators, 0 to 16. The opening version, which has no calls and
+/// no rows, is published: it is the list of each of them. The locators may go to other threads.
 ///
 /// # Errors
 /// `BadConfig` over 16 readers, and else `Memory`.

@@ -19,8 +19,8 @@ use std::alloc::{AllocError, Global};
 use std::marker::Model;
 use std::sync::{Arc, Wait};
 
-/// Publishes versions to the locators that `open_view` made with it. A contract sees the list of the versions that were
-/// published, the opening version first, and the call of `open_view`.
+/// Publishes versions to the locators that `open_view` made with it. A contract sees the list of
+/// the published versions, the opening version first, and the call of `open_view`.
 ///
 /// It is not `Drop`: end it by `end`.
 pub struct Publisher {
@@ -49,7 +49,7 @@ impl Model for Publisher {
         × IsHistory (versions p.journal.log) };
 }
 
-// Shows what goes on from what is shown. At `Err` the value before is shown.
+// Publishes a successor of the current value. On `Err` readers keep the current one.
 pub(crate) fn show<R: Wait>(
     mut writer: VersionWriter,
     next: (&R, Shown),
@@ -88,11 +88,12 @@ impl Publisher {
         self.calls
     }
 
-    /// Publishes one version more, which has no fewer calls than the one before. It waits for locators that are reading
-    /// what was shown before that one.
+    /// Publishes one more version, which has no fewer calls than the one before. It waits for
+    /// locators that still read the version before that.
     ///
     /// # Errors
-    /// `Memory`, also where the count of the `Arc` is full. Then the list stays, and the table is not handed back.
+    /// `Memory`, also if the count of the `Arc` is full. Then the list stays, and the table is not
+    /// returned.
     pub fn publish<R: Wait>(&mut self, rt: &R, table: Arc<Table>) -> Result<Receipt, Refusal>
         requires { (last_of self.old.list).calls ≤ (arc_value table).calls }
         ensures home { self.new.home ≡ self.old.home }
@@ -120,8 +121,8 @@ impl Publisher {
         Ok(Receipt::new(self.journal.evidence(), receipt, calls))
     }
 
-    /// Ends it. From now on its locators answer `None`, which is tested and no clause says. It waits for those that are reading, takes no memory and refuses
-    /// nothing.
+    /// Ends it. After that its locators answer `None`, which tests show and no clause. It waits for
+    /// those that are reading, takes no memory and refuses nothing.
     pub fn end<R: Wait>(self, rt: &R) {
         let Publisher {
             writer,

@@ -1,4 +1,4 @@
-//! What a publish tells: up to where the list of versions goes by now.
+//! What a publish returns: a prefix of the list of versions.
 ghost use Rattle.std.specs.Prelude.{◌≡◌, ◌*◌, length};
 ghost use Rattle.bm_view.specs.History.{last_of, versions, IsHistory, IsSettled};
 
@@ -6,8 +6,9 @@ use crate::count::Count;
 use crate::journal::Evidence;
 use std::marker::Model;
 
-/// Says which versions were published, for locators to learn. It may go to another thread. A contract sees the list of
-/// these versions, and which call of `open_view` it stems from; at run time there are two numbers.
+/// Names the versions published so far, for locators to learn. It may go to another thread. A
+/// contract sees the list of these versions, and the call of `open_view`; at run time there are two
+/// numbers.
 #[derive(Drop)]
 pub struct Receipt {
     /// The journal as it was once the last version was settled. It has no bytes.

@@ -1,5 +1,6 @@
-//! The rule of what is shown: what a seat has seen once stays a beginning of it. A seat is a locator, or the publisher.
-//! The structs here have no values: they name what a step tells the seat that takes it.
+//! The rule of the current value: what a seat has seen once stays a prefix of it. A seat is a
+//! locator, or the publisher. The structs here have no values: they name what a step tells the seat
+//! that takes it.
 ghost use Rattle.std.specs.Prelude.{◌≡◌, None, Some};
 ghost use Rattle.bm_view.specs.Rule.{Kept, Sees};
 
@@ -19,14 +20,14 @@ impl Protocol<Shown, Option<Evidence>> for GrowingList {
     ghost first = { None };
 }
 
-/// A locator reads: it sees what is shown, which goes on from what it saw before.
+/// A locator reads the current value, which extends what it saw before.
 pub struct See;
 
 impl Outcome<Shown, Option<Evidence>> for See {
     ghost then = { λ v x y w. Sees v y w };
 }
 
-/// The publisher shows the next version: it has seen that.
+/// The publisher publishes the next version: it has seen that.
 pub struct Show;
 
 impl Outcome<Shown, Option<Evidence>> for Show {

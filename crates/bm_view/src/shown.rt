@@ -11,7 +11,8 @@ use std::alloc::AllocError;
 use std::marker::Model;
 use std::sync::Arc;
 
-/// What readers find. `left_right` keeps two of them; both lead to one table. A contract sees the evidence.
+/// What readers find. `left_right` keeps two of them; both refer to one table. A contract sees the
+/// evidence.
 #[derive(Drop)]
 pub struct Shown {
     table: Arc<Table>,
@@ -52,7 +53,7 @@ impl Shown {
         }
     }
 
-    // One more that leads to the same table.
+    // One more reference to the same table.
     pub fn again(&self) -> Result<Shown, AllocError>
         ensures { IfOk result (λ s. s ≡ self.now) }
     {
@@ -83,7 +84,7 @@ impl Shown {
     }
 }
 
-// An operation on what is shown is what is shown next.
+// An operation replaces the current value by itself.
 impl Absorb<Shown> for Shown {
     type State = Evidence;
 

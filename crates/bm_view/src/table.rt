@@ -5,8 +5,8 @@ ghost use Rattle.bm_view.specs.Version.{RisesById, places_in};
 use bm_base::{BlockId, Places};
 use std::marker::Model;
 
-/// How many calls were accepted, and where each block was then. It never changes. A contract sees the number and the
-/// list of rows.
+/// How many calls were accepted, and where each block was then. It never changes. A contract sees
+/// the number and the list of rows.
 #[derive(Drop)]
 pub struct Table {
     calls: u64,
@@ -25,8 +25,8 @@ impl Model for Table {
 }
 
 impl Table {
-    /// The version after so many accepted calls, any u64, with these rows, which stand by rising block number. A row without
-    /// places says as much of a block as no row. Takes no memory.
+    /// The version after `calls` accepted calls, any u64, with these rows, sorted by block number.
+    /// A row without places means the same as no row. Takes no memory.
     pub fn new(calls: u64, rows: Vec<(BlockId, Places)>) -> Table
         requires { RisesById rows.items }
         ensures { result ≡ record { calls = calls; rows = rows.items } }

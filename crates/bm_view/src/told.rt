@@ -1,4 +1,5 @@
-//! The lists that a locator was told of. They stand in proofs; at run time there is one byte, whether there are any.
+//! The lists that a locator was told of. They exist in proofs; at run time one byte says whether
+//! there are any.
 ghost use Rattle.std.specs.Prelude.{◌≡◌, ◌++◌, ◌∷◌, []};
 ghost use Rattle.bm_view.specs.History.{versions};
 
@@ -6,8 +7,8 @@ use crate::journal::Evidence;
 use core::snapshot::Snapshot;
 use std::marker::Model;
 
-/// Some lists of versions, in the order in which they were told. A contract sees the list of them. A `Snapshot` keeps what
-/// a value was for proofs alone: so each `Told` holds the one before it.
+/// Some lists of versions, in the order in which they were told. A contract sees these lists. A
+/// `Snapshot` keeps an earlier value for proofs alone: so each `Told` holds the one before it.
 #[derive(Drop)]
 pub struct Told {
     last: Option<(Snapshot<Told>, Evidence)>,

@@ -18,7 +18,7 @@ use Rattle.bm_base.proofs.Ties.{number_tie}
 use Rattle.bm_base.proofs.Clusters.{eqb_turned}
 use Rattle.bm_base.proofs.Listed.{any_map, any_filter, filter_filter, same_again}
 use Rattle.cluster_lost.specs.Losses.{after_losses, is_missing, is_lost, has_replica, has_replica_left, lost_blocks, AreMissing}
-use Rattle.cluster_lost.proofs.Tests.{none_if_empty, not_not}
+use Rattle.cluster_lost.proofs.Tests.{none_if_empty}
 use Rattle.cluster_lost.proofs.Left.{left_law, blocks_stay, missing_is_unusable}
 
 by_tie : (p : ℕ → Bool) (x b : ℕ) (rest : Bool) (t : Bool) → (x == b) ≡ t → ((p x && t) || (p b && rest)) ≡ (p b && (t || rest))

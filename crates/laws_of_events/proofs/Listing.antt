@@ -119,7 +119,8 @@ places_listed H b s = (
 
 -- Missing blocks.
 
--- the level of a block of which at least one replica is wanted is that of a missing one just where none is usable
+-- the level of a block of which at least one replica is wanted is that of a missing one just where
+-- none is usable
 no_usable_level : (n d repl racks : ℕ) (multi : Bool) → is_at NoUsableReplica (level_of n d repl racks multi) ≡ true → (n ≡ 0) × (d ≡ 0)
 unfolding level_of
 no_usable_level n d repl racks multi h = by_enough (nat_le repl n) (nat_lt 1 repl && (racks == 1) && multi) h

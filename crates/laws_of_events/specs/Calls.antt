@@ -39,7 +39,8 @@ pub record IsNextRound (M N : State) : Type 0 where
 abbrev pub round_is_counted : Type 0
 round_is_counted = (M : State) → round_refusal M ≡ None → IsNextRound M (step M call.Round).1
 
--- Where memory may lack, a refused answer of whatever kind leaves the state, and any other is that of the step.
+-- Where memory may lack, a refused answer of whatever kind leaves the state, and any other is that
+-- of the step.
 
 abbrev pub refused_answer_leaves_state : Type 0
 refused_answer_leaves_state = (M : State) (k : Call) (a : Answer) → MayAnswer step M k a → IsTrue (is_refused a) → state_left step M k a ≡ M

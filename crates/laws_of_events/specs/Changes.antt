@@ -146,7 +146,8 @@ corrupt_replica_is_bad =
     × ((p : ReplicaId) → p ≢ replica_at b s → get (held_after M (Corrupt s b)).replicas p ≡ get M.holdings.replicas p)
     × ((held_after M (Corrupt s b)).pending ≡ M.holdings.pending)
 
--- the transfers to a storage of what its report names have arrived; the others are on their way still
+-- the transfers to a storage of what its report names have arrived; the others are on their way
+-- still
 abbrev pub report_ends_transfers : Type 0
 report_ends_transfers =
     (M : State) (s : ℕ) (es : List Entry)
@@ -160,7 +161,8 @@ received_ends_transfer =
     → (get (held_after M (Received s b stamp)).pending (replica_at b s) ≡ None)
     × ((p : ReplicaId) → p ≢ replica_at b s → get (held_after M (Received s b stamp)).pending p ≡ get M.holdings.pending p)
 
--- a report leaves the replicas on other storages of blocks that it does not name, also of its own node
+-- a report leaves the replicas on other storages of blocks that it does not name, also of its own
+-- node
 abbrev pub report_leaves_unnamed_blocks : Type 0
 report_leaves_unnamed_blocks =
     (M : State) (s : ℕ) (es : List Entry) (p : ReplicaId) → p.storage ≢ s → has (numbers_of es) p.block ≡ false → get (held_after M (FullReport s es)).replicas p ≡ get M.holdings.replicas p

@@ -90,7 +90,8 @@ no_transfer_to_draining =
 
 -- Taking a node away.
 
--- a node is retired where it drains and each known block that has a usable replica on it has as many live ones as are wanted
+-- a node is retired where it drains and each known block that has a usable replica on it has as
+-- many live ones as are wanted
 abbrev pub retired_is_said_plainly : Type 0
 retired_is_said_plainly =
     (C : Cluster) (H : Holdings) (n : ℕ)
@@ -98,8 +99,8 @@ retired_is_said_plainly =
     ↔ (IsTrue (drains C n)
     × ((b s : ℕ) (i : BlockInfo) → get H.blocks b ≡ Some i → IsOn C n s → IsHeld H (replica_at b s) (λ m. (m.tag ≡ Good) × (m.excess ≡ false)) → i.repl ≤ length (live C H b)))
 
--- Where the query answers yes, the node may die: each block has the live replicas that it had, one of which too few are live
--- has all its usable ones too, and none is missing that was not.
+-- Where the query answers yes, the node may die: each block has the live replicas that it had, one
+-- of which too few are live has all its usable ones too, and none is missing that was not.
 pub record NothingIsMissed (M N : State) : Type 0 where
   pub live_stay : (b : ℕ) → live N.cluster N.holdings b ≡ live M.cluster M.holdings b
   pub usable_stay : (b : ℕ) (i : BlockInfo) → get M.holdings.blocks b ≡ Some i → length (live M.cluster M.holdings b) < i.repl → usable N.holdings b ≡ usable M.holdings b

@@ -43,7 +43,8 @@ abbrev pub answered_calls_lead_to_lawful : Type 0
 answered_calls_lead_to_lawful =
     (c : Config) (ks : List Call) (answers : List Answer) → HasFittingStart c → FitCalls ks → MayAnswerAll step (first_state c) ks answers → IsLawful (state_left_by step (first_state c) ks answers)
 
--- Whatever numbers calls bring, the state that they lead to is lawful but for the sizes of its numbers.
+-- Whatever numbers calls bring, the state that they lead to is lawful but for the sizes of its
+-- numbers.
 
 abbrev pub calls_lead_to_orderly : Type 0
 calls_lead_to_orderly = (c : Config) (ks : List Call) → IsOrderly (state_after (first_state c) ks)

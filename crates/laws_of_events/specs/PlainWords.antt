@@ -1,4 +1,5 @@
--- What holds after every list of calls, said with no word of the state machine but the state itself.
+-- What holds after every list of calls, said with no word of the state machine but the state
+-- itself.
 use Rattle.std.specs.Prelude.{◌≡◌, ◌≢◌, ℕ, ◌≤◌, IsTrue, IsSome, List, Some, None}
 use Rattle.bm_base.specs.declared.config.Config.{Config}
 use Rattle.bm_base.specs.declared.call.Call.{Call}

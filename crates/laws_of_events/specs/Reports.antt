@@ -68,10 +68,10 @@ abbrev pub after_each_received : State → ℕ → List Told → State
 after_each_received M s [] = M
 after_each_received M s (t ∷ ts) = after_each_received (after_event M (Received s t.id t.stamp)) s ts
 
--- A full report of some entries, followed by a received notice for each number of the others, leaves
--- the same state as one full report of all entries. Only the number of calls differs, since each
--- notice is a call. The condition is that the storage holds no replica that the other entries name.
--- A number may be named twice: the last stamp counts.
+-- A full report of some entries, followed by a received notice for each number of the others,
+-- leaves the same state as one full report of all entries. Only the number of calls differs, since
+-- each notice is a call. The condition is that the storage holds no replica that the other entries
+-- name. A number may be named twice: the last stamp counts.
 abbrev pub report_in_parts : Type 0
 report_in_parts =
     (M : State) (s : ℕ) (front behind : List Entry) → ((b : ℕ) → IsTrue (has (numbers_of behind) b) → get M.holdings.replicas (replica_at b s) ≡ None)

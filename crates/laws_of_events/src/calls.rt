@@ -1,9 +1,9 @@
-// What each kind of call leaves of a state.
+// The state after each kind of call.
 #![tactic(auto)]
 
 ghost use Rattle.laws_of_events.specs.Calls as law;
 
-/// A query leaves the state as it was, whether it is refused or not.
+/// A query keeps the state, refused or not.
 pub fn query_leaves_state()
     ensures { law.query_leaves_state }
 {}
@@ -13,18 +13,19 @@ pub fn event_is_counted()
     ensures { law.event_is_counted }
 {}
 
-/// An accepted round counts as one call and raises the round number by one; the cluster and the blocks stay, and no
-/// replica comes, goes or gets another tag.
+/// An accepted round counts as one call and raises the round number by one; the cluster and the
+/// blocks stay, and no replica comes, goes or gets another tag.
 pub fn round_is_counted()
     ensures { law.round_is_counted }
 {}
 
-/// Where memory may lack, an answer that refuses leaves the state, whether it is the step's refusal or want of memory.
+/// A refusing answer keeps the state, be it the step's refusal or out of memory.
 pub fn refused_answer_leaves_state()
     ensures { law.refused_answer_leaves_state }
 {}
 
-/// Where memory may lack, an answer that refuses nothing is the step's, and so is the state that it leaves.
+/// An answer other than a refusal is the step's, and so is the next state, also if memory is
+/// limited.
 pub fn other_answer_is_the_steps()
     ensures { law.other_answer_is_the_steps }
 {}

@@ -1,10 +1,11 @@
-// What each event changes, and what it leaves.
+// What each event changes, and what it keeps.
 #![tactic(auto)]
 
 ghost use Rattle.bm_base.specs.AllStates.{InLawfulStates, AfterAllCalls};
 ghost use Rattle.laws_of_events.specs.Changes as law;
 
-/// A node that registers is there with its rack and its storages, on which nothing remains yet; all else stays.
+/// A registered node exists with its rack and its storages, which have no remaining bytes yet; all
+/// else stays.
 pub fn registered_node_is_there()
     ensures { law.registered_node_is_there }
 {}
@@ -19,27 +20,28 @@ pub fn failed_storage_leaves()
     ensures { law.failed_storage_leaves }
 {}
 
-/// Of several values that a heartbeat tells for a storage the last one counts.
+/// Of several values that a heartbeat reports for a storage the last one counts.
 pub fn last_heartbeat_counts()
     ensures { law.last_heartbeat_counts }
 {}
 
-/// Storages of which a heartbeat tells nothing stay as they were.
+/// Storages that a heartbeat does not name stay as they were.
 pub fn heartbeat_leaves_others()
     ensures { law.heartbeat_leaves_others }
 {}
 
-/// What an event answers adds up: so many replicas more, and so many fewer, are there after it.
+/// The answer of an event adds up: after it there are `added` more replicas, and `removed` fewer.
 pub fn counts_add_up()
     ensures { law.counts_add_up }
 {}
 
-/// An event on one block leaves everything that is held of any other: its information, replicas and transfers.
+/// An event on one block keeps everything of any other: its information, replicas and transfers.
 pub fn event_leaves_other_blocks()
     ensures { law.event_leaves_other_blocks }
 {}
 
-/// A block that is added is known, with its stamp and the number of replicas wanted; no replica comes.
+/// A block that is added is known, with its stamp and the number of replicas wanted; no replica
+/// comes.
 pub fn added_block_is_known()
     ensures { law.added_block_is_known }
 {}
@@ -49,7 +51,7 @@ pub fn deleted_block_is_stray()
     ensures { law.deleted_block_is_stray }
 {}
 
-/// A block with a new stamp has no good replica, and no transfer of it is on its way; other tags stay.
+/// A block with a new stamp has no good replica, and no pending transfer; other tags stay.
 pub fn restamped_block_has_no_good_replica()
     ensures { law.restamped_block_has_no_good_replica }
 {}
@@ -69,7 +71,8 @@ pub fn corrupt_replica_is_bad()
     ensures { law.corrupt_replica_is_bad }
 {}
 
-/// The transfers to a storage of what its full report names have arrived; all others are on their way still.
+/// The transfers to a storage of the blocks that its full report names have arrived; all others
+/// stay pending.
 pub fn report_ends_transfers()
     ensures { law.report_ends_transfers }
 {}
@@ -79,7 +82,8 @@ pub fn received_ends_transfer()
     ensures { law.received_ends_transfer }
 {}
 
-/// A full report leaves the replicas on other storages of blocks that it does not name, those of its own node included.
+/// A full report keeps the replicas on other storages of blocks that it does not name, those of its
+/// own node included.
 pub fn report_leaves_unnamed_blocks()
     ensures { law.report_leaves_unnamed_blocks }
 {}

@@ -8,23 +8,23 @@ pub fn first_state_is_lawful()
     ensures { law.first_state_is_lawful }
 {}
 
-/// An event that nothing refuses leaves a lawful state lawful, whatever event it is.
+/// An event that nothing refuses keeps a lawful state lawful, whatever event it is.
 pub fn event_keeps_lawful()
     ensures { law.event_keeps_lawful }
 {}
 
-/// A round that nothing refuses leaves a lawful state lawful: each chosen copy goes to a known storage and is of a known
-/// block, and only good replicas are put in excess.
+/// A round that nothing refuses keeps a lawful state lawful: each chosen copy goes to a known
+/// storage and is of a known block, and only good replicas are put in excess.
 pub fn round_keeps_lawful()
     ensures { law.round_keeps_lawful }
 {}
 
-/// A call that is refused leaves the state as it was.
+/// A refused call keeps the state.
 pub fn refusal_leaves_state()
     ensures { law.refusal_leaves_state }
 {}
 
-/// A call of any kind leaves a lawful state lawful: an event, a round, a query, refused or not.
+/// A call of any kind keeps a lawful state lawful: an event, a round, a query, refused or not.
 pub fn call_keeps_lawful()
     ensures { law.call_keeps_lawful }
 {}
@@ -34,12 +34,13 @@ pub fn calls_lead_to_lawful()
     ensures { law.calls_lead_to_lawful }
 {}
 
-/// The same where memory may lack: whatever the calls may answer, the state that they leave is lawful.
+/// The same if memory is limited: whatever the calls may answer, the next state is lawful.
 pub fn answered_calls_lead_to_lawful()
     ensures { law.answered_calls_lead_to_lawful }
 {}
 
-/// Every list of calls, whatever numbers they bring, leads to a state that is lawful but for the sizes of its numbers.
+/// Every list of calls, whatever numbers they bring, leads to a state that is lawful but for the
+/// sizes of its numbers.
 pub fn calls_lead_to_orderly()
     ensures { law.calls_lead_to_orderly }
 {}
@@ -49,7 +50,7 @@ pub fn answered_calls_lead_to_orderly()
     ensures { law.answered_calls_lead_to_orderly }
 {}
 
-/// After every list of calls: what is on its way to a storage is not there yet, whatever its tag.
+/// After every list of calls: a pending transfer's replica is not there yet, whatever its tag.
 pub fn transfers_are_still_to_come()
     ensures { law.transfers_are_still_to_come }
 {}

@@ -1,15 +1,16 @@
-//! Laws of events: what the definitions of `bm_base` come to, over every state, every lawful state or every list of calls.
+//! Laws of events: consequences of the definitions of `bm_base`, for every state, every lawful
+//! state or every list of calls.
 //!
 //! - `lawful`, `plain_words`: what holds of every state that calls lead to
-//! - `calls`: what each kind of call leaves of a state
-//! - `changes`, `reports`: what each event changes, and what it leaves
+//! - `calls`: the state after each kind of call
+//! - `changes`, `reports`: what each event changes, and what it keeps
 //! - `runs`: full reports whose entries are runs of block numbers
-//! - `draining`: nodes that are to be taken away
+//! - `draining`: decommissioning
 //! - `queries`: what queries list
 //! - `shards`: the parts into which blocks are cut by their numbers
 //!
-//! The definitions say what each call does; a slip in one of them makes a law false. No function here does anything: its
-//! contract is the law.
+//! The definitions state the effect of each call; a slip in one of them makes a law false. No
+//! function here computes anything: its contract is the law.
 #![tactic(auto)]
 
 pub mod calls;

@@ -1,9 +1,10 @@
-// What queries list: just what is held, and all of it.
+// Queries list exactly what is held.
 #![tactic(auto)]
 
 ghost use Rattle.laws_of_events.specs.Queries as law;
 
-/// The list of all replicas has a replica of a block, a storage and a tag just where such a one is held.
+/// The list of all replicas has a replica of a block, a storage and a tag exactly if such a one is
+/// held.
 pub fn replicas_are_held()
     ensures { law.replicas_are_held }
 {}
@@ -28,13 +29,14 @@ pub fn places_are_good()
     ensures { law.places_are_good }
 {}
 
-/// In a lawful state the missing blocks are the known blocks of which no replica is good and not in excess, be it on a node that
-/// drains or not.
+/// In a lawful state the missing blocks are the known blocks without a replica that is good and not
+/// in excess, be it on a node that drains or not.
 pub fn missing_have_no_usable_replica()
     ensures { law.missing_have_no_usable_replica }
 {}
 
-/// Each list rises, so that nothing stands in it twice: replicas by block and then by storage, blocks and storages by number.
+/// Each list is strictly ascending, so it has no duplicates: replicas by block and then by storage,
+/// blocks and storages by number.
 pub fn lists_rise()
     ensures { law.lists_rise }
 {}

@@ -9,18 +9,21 @@ pub fn report_tells_all()
     ensures { law.report_tells_all }
 {}
 
-/// After a full report a query for the storage's blocks answers the named numbers, each once and rising.
+/// After a full report a query for the storage's blocks answers the named numbers, each once,
+/// ascending.
 pub fn report_is_what_is_asked()
     ensures { law.report_is_what_is_asked }
 {}
 
-/// Of several entries that name a number the last one decides: by its stamp the replica is good or stale; bad if it was bad, and
-/// stray where the block is not known. It is in excess just where it was and is good, and it is not ordered to be deleted.
+/// Of several entries that name a number the last one decides: by its stamp the replica is good or
+/// stale; bad if it was bad, and stray where the block is not known. It is in excess just where it
+/// was and is good, and it is not ordered to be deleted.
 pub fn last_entry_decides()
     ensures { law.last_entry_decides }
 {}
 
-/// The same full report again changes nothing that is held, and answers that no replica came or went.
+/// The same full report again changes no block and no replica, and answers that no replica came or
+/// went.
 pub fn second_report_changes_nothing()
     ensures { law.second_report_changes_nothing }
 {}
@@ -32,12 +35,12 @@ pub fn report_in_parts()
     ensures { law.report_in_parts }
 {}
 
-/// A full report leaves the replicas on the storages of other nodes as they were, marks included.
+/// A full report keeps the replicas on the storages of other nodes, marks included.
 pub fn report_leaves_other_nodes()
     ensures { law.report_leaves_other_nodes }
 {}
 
-/// A received replica leaves the replicas on the storages of other nodes as they were, marks included.
+/// A received replica keeps the replicas on the storages of other nodes, marks included.
 pub fn received_leaves_other_nodes()
     ensures { law.received_leaves_other_nodes }
 {}

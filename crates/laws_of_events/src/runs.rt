@@ -8,22 +8,24 @@ pub fn runs_name_their_numbers()
     ensures { law.runs_name_their_numbers }
 {}
 
-/// A report names as many numbers, repeats counted, as the sum over its runs says by which it may be too long.
+/// The count of numbers in a report, repeats counted, is the sum over its runs that limits its
+/// length.
 pub fn numbers_are_counted()
     ensures { law.numbers_are_counted }
 {}
 
-/// Two reports that tell the same stamp last of each number leave the same state and answer the same, whatever their runs.
+/// Two reports that agree on the last stamp of each number have the same next state and answer,
+/// whatever their runs.
 pub fn what_is_told_last_counts()
     ensures { law.what_is_told_last_counts }
 {}
 
-/// So do two reports that tell the same numbers and stamps in the same order, in whatever runs.
+/// So do two reports with the same numbers and stamps in the same order, in whatever runs.
 pub fn same_told_is_alike()
     ensures { law.same_told_is_alike }
 {}
 
-/// A report in runs leaves what the same report leaves with an entry for each number, and answers the same.
+/// A report in runs has the same next state and answer as the report with an entry for each number.
 pub fn runs_are_alike_one_by_one()
     ensures { law.runs_are_alike_one_by_one }
 {}
@@ -33,7 +35,8 @@ pub fn run_may_be_cut()
     ensures { law.run_may_be_cut }
 {}
 
-/// A run that ends before it begins names nothing: without it the report leaves and answers the same.
+/// A run that ends before it begins names nothing: without it the next state and the answer are the
+/// same.
 pub fn backward_run_names_none()
     ensures { law.backward_run_names_none }
 {}

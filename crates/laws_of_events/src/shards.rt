@@ -13,22 +13,24 @@ pub fn every_number_has_its_shard()
     ensures { law.every_number_has_its_shard }
 {}
 
-/// The parts give back the whole: holdings with the same parts are the same, however many shards there are.
+/// The parts determine the whole: holdings with the same parts are the same, however many shards
+/// there are.
 pub fn parts_give_back_whole()
     ensures { law.parts_give_back_whole }
 {}
 
-/// An event on one block leaves the parts of all other shards as they were.
+/// An event on one block keeps the parts of all other shards.
 pub fn event_changes_one_part()
     ensures { law.event_changes_one_part }
 {}
 
-/// Every event changes each part as it would change whole holdings, once it is told of the part's own blocks alone.
+/// Every event changes each part as it would change whole holdings, with the reported blocks of the
+/// part alone.
 pub fn parts_change_by_themselves()
     ensures { law.parts_change_by_themselves }
 {}
 
-/// How many replicas come and go by an event in the parts adds up to how many come and go in the whole.
+/// The numbers of replicas that come and go by an event in the parts add up to those in the whole.
 pub fn parts_answers_add_up()
     ensures { law.parts_answers_add_up }
 {}

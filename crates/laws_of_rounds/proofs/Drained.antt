@@ -1,4 +1,5 @@
--- What rounds make of draining nodes: they copy from them first, put nothing on them, and leave their replicas as they are.
+-- What rounds make of draining nodes: they copy from them first, put nothing on them, and leave
+-- their replicas as they are.
 use Rattle.std.specs.Prelude.{◌≡◌, ℕ, ◌≤◌, ◌⊎◌, Bool, true, false, ◌&&◌, ◌==◌, nat_lt, if◌then◌else◌, List, ◌∷◌, ◌++◌, map, filter, length, count_by, Some}
 use Rattle.std.specs.Option.{option_map_or}
 use Rattle.std.specs.Ordering.{nat_cmp, ordering_then}

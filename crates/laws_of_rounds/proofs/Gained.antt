@@ -1,4 +1,5 @@
--- How many replicas are live once a round is obeyed: those that were, and the targets of the copies.
+-- How many replicas are live once a round is obeyed: those that were, and the targets of the
+-- copies.
 use Rattle.std.specs.Prelude.{◌≡◌, ℕ, ◌+◌, ◌≤◌, ◌⊎◌, Bool, true, false, not, ◌&&◌, ◌||◌, ◌==◌, List, [], ◌∷◌, ◌++◌, map, filter, length, Option, Some, None}
 use Rattle.std.specs.Option.{option_map_or}
 use Rattle.std.specs.Ordering.{eq_by_cmp}

@@ -1,4 +1,5 @@
--- What is live once a round is obeyed: the targets of its copies, each on a node of its own, beside what was live.
+-- What is live once a round is obeyed: the targets of its copies, each on a node of its own, beside
+-- what was live.
 use Rattle.std.specs.Prelude.{◌≡◌, true, false, ◌==◌, List, [], ◌∷◌, ◌++◌, Option, Some, None, is_some}
 use Rattle.std.specs.Option.{option_map_or}
 use Rattle.std.proofs.Common.{refl, sym, ap, subst, ◌∙◌}

@@ -1,4 +1,5 @@
--- What is live while the nodes obey a round: a replica that no command touches stays usable, and each copy that arrives is.
+-- What is live while the nodes obey a round: a replica that no command touches stays usable, and
+-- each copy that arrives is.
 use Rattle.std.specs.Prelude.{◌≡◌, ℕ, Bool, true, false, not, ◌&&◌, ◌==◌, if◌then◌else◌, List, [], ◌∷◌, Option, Some, None, is_some, option_map}
 use Rattle.std.specs.Option.{option_map_or}
 use Rattle.std.specs.Ordering.{eq_by_cmp}

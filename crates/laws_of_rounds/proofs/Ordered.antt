@@ -1,4 +1,5 @@
--- No call makes a replica usable whose delete was commanded: it is usable again once it is reported, and then the command is forgotten.
+-- No call makes a replica usable whose delete was commanded: it is usable again once it is
+-- reported, and then the command is forgotten.
 use Rattle.std.specs.Prelude.{◌≡◌, ℕ, Bool, true, false, not, ◌&&◌, ◌==◌, ◌⊎◌, if◌then◌else◌, List, [], ◌∷◌, map, Option, Some, None, is_some, option_and_then}
 use Rattle.std.specs.Ordering.{eq_by_cmp}
 use Rattle.std.proofs.Common.{cond, refl, sym, ap, subst, ◌∙◌}

@@ -1,4 +1,5 @@
--- Copies of one block go to different nodes: said of each two that a round chooses, and of each two that it commands.
+-- Copies of one block go to different nodes: said of each two that a round chooses, and of each two
+-- that it commands.
 use Rattle.std.specs.Prelude.{◌≡◌, ℕ, ◌⊎◌, Bool, true, false, List, [], ◌∷◌, ◌++◌, map, filter, flat_map}
 use Rattle.std.proofs.Common.{cond, sym, refl, ap, subst, ◌∙◌, inl, inr}
 use Rattle.std.proofs.lemmas.Bool.{true≢false, or_parts}

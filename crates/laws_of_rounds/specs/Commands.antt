@@ -18,8 +18,8 @@ abbrev pub EachNodeItsOwn : Type 0
 EachNodeItsOwn =
     (M : State) → All (λ k. All (λ t. node_of M.cluster t.source ≡ Some k.node) k.transfers × All (λ d. node_of M.cluster d.storage ≡ Some k.node) k.deletes) (whole_round M).0.nodes
 
--- of the transfers that a node is commanded that does not drain, those of blocks of other levels than the highest are among the
--- first two
+-- of the transfers that a node is commanded that does not drain, those of blocks of other levels
+-- than the highest are among the first two
 abbrev pub FirstTwoOfANode : Type 0
 FirstTwoOfANode =
     (M : State) → All (λ k. drains M.cluster k.node ≡ false → (front back : List Transfer) (t : Transfer) → k.transfers ≡ front ++ t ∷ back
@@ -45,7 +45,8 @@ abbrev pub CommandedTransferIsPending : Type 0
 CommandedTransferIsPending =
     (M : State) (t : Transfer) → IsTransferCommanded M t → get (after_round M).holdings.pending (replica_at t.block t.target) ≡ Some (M.round + 1)
 
--- A round changes the marks of replicas and the transfers on their way, and counts itself; it changes no tag, no block and no node.
+-- A round changes the marks of replicas and the transfers on their way, and counts itself; it
+-- changes no tag, no block and no node.
 abbrev pub RoundChangesNoTag : Type 0
 RoundChangesNoTag = (M : State) (q : ReplicaId) → option_map (λ m. m.tag) (get (after_round M).holdings.replicas q) ≡ option_map (λ m. m.tag) (get M.holdings.replicas q)
 

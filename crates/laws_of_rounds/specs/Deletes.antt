@@ -26,14 +26,15 @@ OnlyGoodReplicaIsNotDeleted M =
     → ((t : ℕ) (m : Marks) → get M.holdings.replicas (replica_at b t) ≡ Some m → m.tag ≡ Good → t ≡ s)
     → IsDeleteCommanded M (replica_at b s) → ⊥
 
--- Where a round commands the delete of a replica of a known block, another replica of the block is live after the round, and the
--- round does not command its delete.
+-- Where a round commands the delete of a replica of a known block, another replica of the block is
+-- live after the round, and the round does not command its delete.
 abbrev pub LastGoodReplicaStays : State → Type 0
 LastGoodReplicaStays M =
     (b s : ℕ) (i : BlockInfo) → get M.holdings.blocks b ≡ Some i → IsDeleteCommanded M (replica_at b s)
     → (t : ℕ) × (has (live_after M b) t ≡ true) × (IsDeleteCommanded M (replica_at b t) → ⊥) × (t ≡ s → ⊥)
 
--- More than that: as many replicas of the block as are wanted are live after the round, and one at least is wanted.
+-- More than that: as many replicas of the block as are wanted are live after the round, and one at
+-- least is wanted.
 abbrev pub EnoughStayLive : State → Type 0
 EnoughStayLive M =
     (b s : ℕ) (i : BlockInfo) → get M.holdings.blocks b ≡ Some i → IsDeleteCommanded M (replica_at b s)
@@ -79,7 +80,8 @@ IsToBeDeleted M q m =
     (is_stray m.tag ≡ true) ⊎ ((m.excess ≡ true)
     ⊎ ((is_corrupt m.tag ≡ true) × ((i : BlockInfo) × (get M.holdings.blocks q.block ≡ Some i) × (i.repl ≤ length (live_marked M q.block)))))
 
--- What is to be deleted is commanded to be deleted, but where its node is commanded as many deletes as the limit says.
+-- What is to be deleted is commanded to be deleted, but where its node is commanded as many deletes
+-- as the limit says.
 abbrev pub OnlyTheLimitDefers : State → Type 0
 OnlyTheLimitDefers M =
     (q : ReplicaId) (m : Marks) (n : ℕ) → 1 ≤ M.limits.invalidate
@@ -88,14 +90,16 @@ OnlyTheLimitDefers M =
 
 -- Over every list of calls.
 
--- a replica whose delete was commanded, and which was not reported since, is neither live nor drained
+-- a replica whose delete was commanded, and which was not reported since, is neither live nor
+-- drained
 abbrev pub OrderedReplicaIsNotUsable : Type 0
 OrderedReplicaIsNotUsable =
     (config : Config) (ks : List Call) (q : ReplicaId) (m : Marks)
     → get (state_after (first_state config) ks).holdings.replicas q ≡ Some m → m.ordered ≡ true → is_usable m ≡ false
 
--- Where a round commands the delete of a replica of a known block, a replica of the block is left that is good and not in
--- excess, on a node that does not drain, and of which no round has commanded the delete, neither this one nor an earlier one.
+-- Where a round commands the delete of a replica of a known block, a replica of the block is left
+-- that is good and not in excess, on a node that does not drain, and of which no round has
+-- commanded the delete, neither this one nor an earlier one.
 abbrev pub GoodReplicaIsLeftByAllRounds : Type 0
 GoodReplicaIsLeftByAllRounds =
     (config : Config) (ks : List Call) (b s : ℕ) (i : BlockInfo)

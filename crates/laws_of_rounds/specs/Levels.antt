@@ -11,7 +11,8 @@ use Rattle.bm_base.specs.Levels.{level, level_of}
 use Rattle.bm_base.specs.Queries.{missing_blocks}
 use Rattle.bm_base.specs.Events.{set_replication}
 
--- How much a block is in need of replicas, told from its level: not at all where it has none, and most where no replica is left.
+-- How much a block is in need of replicas, told from its level: not at all where it has none, and
+-- most where no replica is left.
 abbrev pub need : Option Level → ℕ
 need None = 0
 need (Some BadlyDistributed) = 1
@@ -64,8 +65,9 @@ RaisedReplicationIsNoLessNeed =
     (C : Cluster) (H : Holdings) (b more : ℕ) (i : BlockInfo) → get H.blocks b ≡ Some i → i.repl ≤ more
     → need (level C H b) ≤ need (level C (set_replication H b more) b)
 
--- One live replica more stands on the racks of the others or on one more; live replicas stand on one rack at least. As many may
--- be drained then as before, or more or fewer, as where a drained one becomes live.
+-- One live replica more stands on the racks of the others or on one more; live replicas stand on
+-- one rack at least. As many may be drained then as before, or more or fewer, as where a drained
+-- one becomes live.
 abbrev pub OneReplicaMoreIsNoMoreNeed : Type 0
 OneReplicaMoreIsNoMoreNeed =
     (live drained drained_then repl racks more_racks : ℕ) (multi : Bool) → (1 ≤ live → 1 ≤ racks) → racks ≤ more_racks

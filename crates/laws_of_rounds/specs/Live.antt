@@ -7,14 +7,15 @@ use Rattle.bm_base.specs.State.{Cluster, Holdings, replica_at}
 use Rattle.bm_base.specs.Lists.{has, has_repeats}
 use Rattle.bm_base.specs.Replicas.{live, drained, sources_of, is_usable, is_draining, storages_where, usable}
 
--- a storage stands among a block's live ones exactly where its replica of the block is good and not in excess, and its node does
--- not drain
+-- a storage stands among a block's live ones exactly where its replica of the block is good and not
+-- in excess, and its node does not drain
 abbrev pub LiveIsGoodNotInExcessAndNotDraining : Type 0
 LiveIsGoodNotInExcessAndNotDraining =
     (C : Cluster) (H : Holdings) (b s : ℕ)
     → (has (live C H b) s ≡ true) ↔ ((m : Marks) × (get H.replicas (replica_at b s) ≡ Some m) × (m.tag ≡ Good) × (m.excess ≡ false) × (is_draining C s ≡ false))
 
--- and among its drained ones exactly where the replica is good and not in excess, and the node drains
+-- and among its drained ones exactly where the replica is good and not in excess, and the node
+-- drains
 abbrev pub DrainedIsGoodNotInExcessAndDraining : Type 0
 DrainedIsGoodNotInExcessAndDraining =
     (C : Cluster) (H : Holdings) (b s : ℕ)

@@ -1,4 +1,5 @@
--- Laws of obedience: what a round leads to where the nodes do what it commands, in whatever order, and nothing else happens.
+-- Laws of obedience: what a round leads to where the nodes do what it commands, in whatever order,
+-- and nothing else happens.
 use Rattle.std.specs.Prelude.{◌≡◌, ℕ, ◌+◌, ◌⊎◌, true, List, [], ◌∷◌, ◌++◌, map, length, count_by, ◌==◌}
 use Rattle.std.specs.List.{All}
 use Rattle.bm_base.specs.declared.event.Event.{Event}
@@ -12,7 +13,8 @@ use Rattle.bm_base.specs.Refusals.{refusal_of, calls_spent}
 use Rattle.bm_base.specs.Calls.{after_event}
 use Rattle.bm_base.specs.NextRound.{IsAmong, IsTransferCommanded, transfers_commanded, deletes_commanded, after_round, live_after}
 
--- what is told once a transfer is obeyed: its target has received the block, with the transfer's stamp
+-- what is told once a transfer is obeyed: its target has received the block, with the transfer's
+-- stamp
 abbrev pub copied : Transfer → Event
 copied t = Received t.target t.block t.stamp
 
@@ -24,7 +26,8 @@ erased d = Deleted d.storage d.block
 abbrev pub Obeys : State → Event → Type 0
 Obeys M e = ((t : Transfer) × IsTransferCommanded M t × (e ≡ copied t)) ⊎ ((d : Delete) × IsAmong (deletes_commanded M) d × (e ≡ erased d))
 
--- Nothing is told but that commands of the next round are obeyed: all of them or some, in any order, each once or more often.
+-- Nothing is told but that commands of the next round are obeyed: all of them or some, in any
+-- order, each once or more often.
 abbrev pub OnlyObeys : State → List Event → Type 0
 OnlyObeys M es = All (Obeys M) es
 
@@ -69,6 +72,7 @@ TargetBecomesLive = (M : State) (es : List Event) (t : Transfer) → ObeysAll M 
 abbrev pub copies_commanded : State → ℕ → ℕ
 copies_commanded M b = count_by (λ t. t.block == b) (transfers_commanded M)
 
--- So a block has then as many live replicas as after the round, and one more for each copy of it that the round commands.
+-- So a block has then as many live replicas as after the round, and one more for each copy of it
+-- that the round commands.
 abbrev pub EachCopyIsGained : Type 0
 EachCopyIsGained = (M : State) (es : List Event) (b : ℕ) → ObeysAll M es → length (live_obeying M es b) ≡ length (live_after M b) + copies_commanded M b

@@ -15,7 +15,8 @@ after_rounds (suc n) M = after_round (after_rounds n M)
 abbrev pub NoDeleteTwice : Type 0
 NoDeleteTwice = (M : State) (n : ℕ) (q : ReplicaId) → IsDeleteCommanded M q → IsDeleteCommanded (after_rounds n (after_round M)) q → ⊥
 
--- Of the rounds after that of t, the one behind n others chooses no copy of the block to the target's node, while n + 1 is below `pend`.
+-- Of the rounds after that of t, the one behind n others chooses no copy of the block to the
+-- target's node, while n + 1 is below `pend`.
 abbrev pub NoTransferTwice : Type 0
 NoTransferTwice =
     (M : State) (n : ℕ) (t u : Transfer) → n + 1 < M.limits.pend → IsTransferCommanded M t → IsTransferCommanded (after_rounds n (after_round M)) u

@@ -11,8 +11,8 @@ use Rattle.bm_base.specs.Replicas.{rack_of, is_draining}
 use Rattle.bm_base.specs.Excess.{started}
 use Rattle.bm_base.specs.NextRound.{live_unmarked, live_marked, live_after, drained_unmarked, drained_marked, drained_after}
 
--- Before a round marks, live are the good replicas on nodes that do not drain, but those in excess of which the delete was
--- commanded.
+-- Before a round marks, live are the good replicas on nodes that do not drain, but those in excess
+-- of which the delete was commanded.
 abbrev pub LiveBeforeMarking : Type 0
 LiveBeforeMarking =
     (M : State) (b s : ℕ)
@@ -45,7 +45,8 @@ RoundLeavesEnoughLive =
 abbrev pub MarkingMakesNoneLive : Type 0
 MarkingMakesNoneLive = (M : State) (b s : ℕ) → has (live_marked M b) s ≡ true → has (live_unmarked M b) s ≡ true
 
--- Where two live replicas of a block share a rack once the round has marked, each rack that had a live one has one still.
+-- Where two live replicas of a block share a rack once the round has marked, each rack that had a
+-- live one has one still.
 abbrev pub LastOfRackStays : State → Type 0
 LastOfRackStays M =
     (b s t u : ℕ) → has (live_unmarked M b) s ≡ true
@@ -54,13 +55,15 @@ LastOfRackStays M =
 
 -- Marks.
 
--- A round marks none on a node that drains: what is in excess there once it has marked was so before, with its delete commanded.
+-- A round marks none on a node that drains: what is in excess there once it has marked was so
+-- before, with its delete commanded.
 abbrev pub NoneOnADrainingNodeIsMarked : Type 0
 NoneOnADrainingNodeIsMarked =
     (M : State) (q : ReplicaId) (n : Marks) → is_draining M.cluster q.storage ≡ true → get (started M).holdings.replicas q ≡ Some n → n.excess ≡ true
     → (m : Marks) × (get M.holdings.replicas q ≡ Some m) × (m.excess ≡ true) × (m.ordered ≡ true)
 
--- So what is drained before a round marks stays drained through the round, and no other replica becomes it.
+-- So what is drained before a round marks stays drained through the round, and no other replica
+-- becomes it.
 abbrev pub DrainedStayDrained : Type 0
 DrainedStayDrained = (M : State) (b : ℕ) → (drained_marked M b ≡ drained_unmarked M b) × (drained_after M b ≡ drained_unmarked M b)
 

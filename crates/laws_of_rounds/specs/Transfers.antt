@@ -1,4 +1,5 @@
--- Laws of transfers. A round chooses transfers one after another; `front` are those chosen before one, `back` those after it.
+-- Laws of transfers. A round chooses transfers one after another; `front` are those chosen before
+-- one, `back` those after it.
 use Rattle.std.specs.Prelude.{◌≡◌, ℕ, ◌+◌, ◌*◌, ◌≤◌, ◌⊎◌, ◌==◌, true, false, if◌then◌else◌, List, ◌∷◌, ◌++◌, length, sum_by, count_by, Some, IsSome, ◌<◌}
 use Rattle.std.specs.List.{All}
 use Rattle.bm_base.specs.declared.replica.BlockInfo.{BlockInfo}
@@ -27,14 +28,16 @@ AtMostWorkANode = (M : State) → length (transfers_commanded M) ≤ M.limits.wo
 
 -- Sources.
 
--- a transfer is of a known block, with its stamp, and its source holds a live replica of it or a drained one
+-- a transfer is of a known block, with its stamp, and its source holds a live replica of it or a
+-- drained one
 abbrev pub SourceIsLiveOrDrained : Type 0
 SourceIsLiveOrDrained =
     ForEachTransfer (λ M _ t. ((has (live_marked M t.block) t.source ≡ true) ⊎ (has (drained_marked M t.block) t.source ≡ true))
     × ((i : BlockInfo) × (get M.holdings.blocks t.block ≡ Some i) × (t.stamp ≡ i.stamp)))
 
--- A drained replica is the source before every live one: where the source of a transfer is on a node that does not drain, the node
--- of each drained replica of the block is the source of four transfers of the round already.
+-- A drained replica is the source before every live one: where the source of a transfer is on a
+-- node that does not drain, the node of each drained replica of the block is the source of four
+-- transfers of the round already.
 abbrev pub DrainedSourceGoesFirst : Type 0
 DrainedSourceGoesFirst =
     ForEachTransfer (λ M front t. (s n : ℕ) → has (drained_marked M t.block) s ≡ true → node_of M.cluster s ≡ Some n
@@ -46,7 +49,8 @@ AtMostFourFromANode = (M : State) → All (λ k. length k.transfers ≤ 4) (whol
 
 -- Targets.
 
--- the node of the target does not drain, has no replica of the block of any tag, is the target of no transfer of it on its way, and of no other of it in the round
+-- the node of the target does not drain, has no replica of the block of any tag, is the target of
+-- no transfer of it on its way, and of no other of it in the round
 pub record IsFreshNode (M : State) (front : List Transfer) (t : Transfer) : Type 0 where
   pub known : (n : ℕ) × (node_of M.cluster t.target ≡ Some n)
   pub not_draining : is_draining M.cluster t.target ≡ false
@@ -69,15 +73,16 @@ SentFits =
 
 -- Blocks.
 
--- how many transfers the next round chooses for a block, and how many are on their way as it chooses
+-- how many transfers the next round chooses for a block, and how many are on their way as it
+-- chooses
 abbrev pub copies_chosen : State → ℕ → ℕ
 copies_chosen M b = count_by (λ t. t.block == b) (transfers_chosen M)
 
 abbrev pub copies_on_their_way : State → ℕ → ℕ
 copies_on_their_way M b = count_by (λ e. e.0.block == b) (entries (started M).holdings.pending)
 
--- A block that gets transfers in a round has with them, its live replicas and those on their way no more than are wanted; or it
--- has enough, on one rack, none is on its way, and it gets one.
+-- A block that gets transfers in a round has with them, its live replicas and those on their way no
+-- more than are wanted; or it has enough, on one rack, none is on its way, and it gets one.
 abbrev pub NoMoreThanLacks : Type 0
 NoMoreThanLacks =
     (M : State) (b : ℕ) (i : BlockInfo) → get M.holdings.blocks b ≡ Some i → 1 ≤ copies_chosen M b
@@ -90,7 +95,8 @@ SecondRack =
     ForEachTransfer (λ M _ t. level M.cluster (started M).holdings t.block ≡ Some BadlyDistributed
     → (s r : ℕ) → has (live_marked M t.block) s ≡ true → rack_of M.cluster s ≡ Some r → rack_of M.cluster t.target ≡ Some r → ⊥)
 
--- Of two transfers that a round chooses, the first is of the more urgent level, or of the same level and of the lesser or the same block.
+-- Of two transfers that a round chooses, the first is of the more urgent level, or of the same
+-- level and of the lesser or the same block.
 abbrev pub MostUrgentFirst : Type 0
 MostUrgentFirst =
     (M : State) (front middle back : List Transfer) (t u : Transfer) (l k : Level) → transfers_chosen M ≡ front ++ t ∷ (middle ++ u ∷ back)

@@ -1,24 +1,25 @@
-// Which replicas a round commands to delete. The first laws say that no round takes a block's last good replica.
+// The deletes that a round commands. The first laws say that no round takes a block's last good
+// replica.
 ghost use Rattle.bm_base.specs.AllStates.{InLawfulStates, AfterAllCalls};
 ghost use Rattle.laws_of_rounds.specs.Deletes as law;
 
-/// No round commands the delete of a block's last good replica: in a lawful state a round does not command the delete of the only
-/// good replica of a known block, in excess or not.
+/// No round commands the delete of a block's last good replica: in a lawful state a round does not
+/// command the delete of the only good replica of a known block, in excess or not.
 pub fn only_good_replica_is_not_deleted()
     ensures lawful { InLawfulStates law.OnlyGoodReplicaIsNotDeleted }
     ensures reached { AfterAllCalls law.OnlyGoodReplicaIsNotDeleted }
 {}
 
-/// More than that: in a lawful state, where a round commands the delete of a replica of a known block, another replica of the
-/// block is live after the round, that is, good and not in excess, on a node that does not drain, and the round does not command
-/// its delete.
+/// More than that: if a round in a lawful state commands the delete of a replica of a known block,
+/// another replica of the block is live after the round: good and not in excess, on a node that
+/// does not drain. The round does not command its delete.
 pub fn last_good_replica_stays()
     ensures lawful { InLawfulStates law.LastGoodReplicaStays }
     ensures reached { AfterAllCalls law.LastGoodReplicaStays }
 {}
 
-/// And more: in a lawful state, where a round commands the delete of a replica of a known block, as many replicas of the
-/// block as are wanted are live after the round, and one at least is wanted.
+/// And more: if a round in a lawful state commands the delete of a replica of a known block, as
+/// many replicas of the block as are wanted are live after the round, and one at least is wanted.
 pub fn enough_stay_live()
     ensures lawful { InLawfulStates law.EnoughStayLive }
     ensures reached { AfterAllCalls law.EnoughStayLive }
@@ -39,38 +40,41 @@ pub fn only_stray_excess_or_corrupt_is_deleted()
     ensures { law.OnlyWhatMayBeDeleted }
 {}
 
-/// A round commands the delete of a corrupt replica only where as many replicas of its block as are wanted are live.
+/// A round commands the delete of a corrupt replica only if as many replicas of its block as are
+/// wanted are live.
 pub fn corrupt_waits_for_live()
     ensures lawful { InLawfulStates law.CorruptWaitsForLive }
     ensures reached { AfterAllCalls law.CorruptWaitsForLive }
 {}
 
-/// A round commands the delete of no replica of which it was commanded before, unless the replica was reported since.
+/// A round does not command a delete again, unless the replica was reported since.
 pub fn none_is_ordered_again()
     ensures { law.NoneIsOrderedAgain }
 {}
 
-/// A round commands each node at most as many deletes as the limit says.
+/// A round commands each node at most as many deletes as the limit.
 pub fn at_most_invalidate_a_node()
     ensures { law.AtMostInvalidateANode }
 {}
 
-/// In a lawful state, each replica that is stray, in excess, or corrupt with enough of its block live, is commanded to be deleted,
-/// unless it is ordered already, or its node is commanded as many deletes as the limit says, which is one at least.
+/// In a lawful state, the delete of each replica that is stray, in excess, or corrupt with enough
+/// of its block live, is commanded, unless it is ordered already, or its node gets as many deletes
+/// as the limit, which is one at least.
 pub fn only_the_limit_defers()
     ensures lawful { InLawfulStates law.OnlyTheLimitDefers }
     ensures reached { AfterAllCalls law.OnlyTheLimitDefers }
 {}
 
-/// Whatever calls were made, a replica of which a round commanded the delete, and which was not reported since, is neither live
-/// nor drained.
+/// Whatever calls were made, a replica whose delete a round commanded, and which was not reported
+/// since, is neither live nor drained.
 pub fn ordered_replica_is_not_usable()
     ensures { law.OrderedReplicaIsNotUsable }
 {}
 
-/// Whatever calls were made, where a round commands the delete of a replica of a known block, a replica of the block is left that
-/// is good and not in excess, on a node that does not drain, and of which no round has commanded the delete since it was reported
-/// last. It is said of the states that are lawful, as all are that calls lead to.
+/// Whatever calls were made: if a round commands the delete of a replica of a known block, a
+/// replica of the block remains that is good and not in excess, on a node that does not drain, and
+/// whose delete no round has commanded since its last report. This law is stated for lawful states,
+/// as all states are that calls lead to.
 pub fn good_replica_is_left_by_all_rounds()
     ensures { law.GoodReplicaIsLeftByAllRounds }
 {}

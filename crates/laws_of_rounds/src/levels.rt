@@ -2,36 +2,39 @@
 ghost use Rattle.bm_base.specs.AllStates.{InLawfulStates, AfterAllCalls};
 ghost use Rattle.laws_of_rounds.specs.Levels as law;
 
-/// A block that is not known has no level. A known one has one level or none, since `level` is a function.
+/// An unknown block has no level. A known one has one level or none, since `level` is a function.
 pub fn unknown_block_has_no_level()
     ensures { law.UnknownBlockHasNoLevel }
 {}
 
-/// In a lawful state a known block has level 4 exactly where no replica of it is live, and none is drained.
+/// In a lawful state a known block has level 4 exactly where no replica of it is live, and none is
+/// drained.
 pub fn level_four_is_no_usable_replica()
     ensures lawful { InLawfulStates law.LevelFourIsNoUsableReplica }
     ensures reached { AfterAllCalls law.LevelFourIsNoUsableReplica }
 {}
 
-/// In a lawful state a known block with no live replica, but a drained one, has level 0, and so is not missing.
+/// In a lawful state a known block with no live replica, but a drained one, has level 0, and so is
+/// not missing.
 pub fn only_drained_is_level_zero()
     ensures lawful { InLawfulStates law.OnlyDrainedIsLevelZero }
     ensures reached { AfterAllCalls law.OnlyDrainedIsLevelZero }
 {}
 
-/// In a lawful state a known block has level 3 exactly where two or more replicas are wanted, as many are live, all of these stand
-/// on one rack, and the alive nodes stand on two racks or more.
+/// In a lawful state a known block has level 3 exactly if two or more replicas are wanted, as many
+/// are live, all of these are on one rack, and the alive nodes are on two racks or more.
 pub fn level_three_is_one_rack()
     ensures lawful { InLawfulStates law.LevelThreeIsOneRack }
     ensures reached { AfterAllCalls law.LevelThreeIsOneRack }
 {}
 
-/// In a lawful state a known block has level 0, 1, 2 or 4 exactly where fewer replicas are live than are wanted.
+/// In a lawful state a known block has level 0, 1, 2 or 4 exactly where fewer replicas are live
+/// than are wanted.
 pub fn short_of_replicas_is_level_zero_one_two_or_four()
     ensures { law.ShortOfReplicas }
 {}
 
-/// A block of which more replicas are wanted is in no less need of them.
+/// With more wanted replicas a block is in no less need of them.
 pub fn more_wanted_is_no_less_need()
     ensures { law.MoreWantedIsNoLessNeed }
 {}
@@ -41,8 +44,8 @@ pub fn raised_replication_is_no_less_need()
     ensures { law.RaisedReplicationIsNoLessNeed }
 {}
 
-/// A block with one live replica more is in no more need of replicas, whatever becomes of its drained ones. It is said of the
-/// counts.
+/// A block with one more live replica is in no more need of replicas, whatever becomes of its
+/// drained ones. This law is stated for the counts.
 pub fn one_replica_more_is_no_more_need()
     ensures { law.OneReplicaMoreIsNoMoreNeed }
 {}

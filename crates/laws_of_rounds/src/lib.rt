@@ -1,7 +1,7 @@
-//! What the definitions of levels and rounds in `bm_base` mean: laws over every lawful state, in the subject's own words.
-//!
-//! Everything else is proved to those definitions, so a slip there would be proved through the whole product. No function here
-//! does anything: its contract is the law.
+//! The meaning of the definitions of levels and rounds in `bm_base`: laws over every lawful state,
+//! in the subject's own words. Everything else is proved against those definitions, so a slip there
+//! would be proved through the whole product. No function here computes anything: its contract is
+//! the law.
 #![tactic(auto)]
 
 pub mod commands;

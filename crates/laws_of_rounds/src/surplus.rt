@@ -2,8 +2,9 @@
 ghost use Rattle.bm_base.specs.AllStates.{InLawfulStates, AfterAllCalls};
 ghost use Rattle.laws_of_rounds.specs.Surplus as law;
 
-/// Before a round marks, live are the good replicas on nodes that do not drain, but those in excess of which the delete was
-/// commanded: what an earlier round marked and did not command counts again.
+/// Before a round marks, the live replicas are the good ones on nodes that do not drain, but those
+/// in excess whose delete was commanded: what an earlier round marked and did not command counts
+/// again.
 pub fn live_before_marking()
     ensures { law.LiveBeforeMarking }
 {}
@@ -13,8 +14,8 @@ pub fn drained_before_marking()
     ensures { law.DrainedBeforeMarking }
 {}
 
-/// Once a round has marked, a known block has at most as many live replicas as are wanted. Those in excess that were ordered keep
-/// their marks, and are not live.
+/// Once a round has marked, a known block has at most as many live replicas as are wanted. Those in
+/// excess that were ordered keep their marks, and are not live.
 pub fn at_most_replication_is_live()
     ensures { law.AtMostReplicationIsLive }
 {}
@@ -29,13 +30,15 @@ pub fn marking_makes_none_live()
     ensures { law.MarkingMakesNoneLive }
 {}
 
-/// In a lawful state a round marks no block's last live replica on a rack while another rack has two or more of them.
+/// In a lawful state a round marks no block's last live replica on a rack while another rack has
+/// two or more of them.
 pub fn last_of_rack_stays()
     ensures lawful { InLawfulStates law.LastOfRackStays }
     ensures reached { AfterAllCalls law.LastOfRackStays }
 {}
 
-/// A round leaves of each known block as many live replicas as are wanted, or all of them where there are no more than that.
+/// A round keeps as many live replicas of each known block as are wanted, or all of them if there
+/// are no more than that.
 pub fn round_leaves_enough_live()
     ensures { law.RoundLeavesEnoughLive }
 {}
@@ -45,7 +48,8 @@ pub fn none_on_a_draining_node_is_marked()
     ensures { law.NoneOnADrainingNodeIsMarked }
 {}
 
-/// What is drained as a round begins to mark stays drained through the round, and nothing else becomes it.
+/// A replica that is drained as a round begins to mark stays drained through the round, and no
+/// other becomes drained.
 pub fn drained_stay_drained()
     ensures { law.DrainedStayDrained }
 {}

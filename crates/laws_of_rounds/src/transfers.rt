@@ -1,4 +1,5 @@
-// Which copies a round commands, from where and where to. A round chooses its transfers one after another.
+// The copies that a round commands, with source and target. A round chooses its transfers one after
+// another.
 ghost use Rattle.laws_of_rounds.specs.Transfers as law;
 
 /// A round commands at most `work` transfers for each alive node.
@@ -6,7 +7,8 @@ pub fn at_most_work_a_node()
     ensures { law.AtMostWorkANode }
 {}
 
-/// Each transfer is of a known block, with its stamp, from a storage that holds a live replica of it or a drained one.
+/// Each transfer is of a known block, with its stamp, from a storage with a live or drained replica
+/// of it.
 pub fn source_is_live_or_drained()
     ensures { law.SourceIsLiveOrDrained }
 {}
@@ -21,8 +23,9 @@ pub fn at_most_four_from_a_node()
     ensures { law.AtMostFourFromANode }
 {}
 
-/// A transfer's target stands on an alive node that does not drain, that has no replica of the block of any tag, to which no
-/// transfer of the block is on its way, and which is the target of no other transfer of the block in the round.
+/// A transfer's target is on an alive node that does not drain, that has no replica of the block of
+/// any tag and no pending transfer of it, and that is the target of no other transfer of the block
+/// in the round.
 pub fn target_is_on_fresh_node()
     ensures { law.TargetIsOnFreshNode }
 {}
@@ -37,8 +40,9 @@ pub fn sent_fits()
     ensures { law.SentFits }
 {}
 
-/// A block never gets more transfers in a round than it lacks replicas, those on their way counted as there; one that has enough
-/// of them, but on one rack, gets one, and only where none is on its way.
+/// A block never gets more transfers in a round than it lacks replicas, with the pending ones
+/// counted as there; one that has enough of them, but on one rack, gets one, and only if none is
+/// pending.
 pub fn no_more_than_lacks()
     ensures { law.NoMoreThanLacks }
 {}
@@ -48,7 +52,8 @@ pub fn second_rack()
     ensures { law.SecondRack }
 {}
 
-/// A round chooses transfers by level, 0 before 1 before 2 before 3, and at one level by the number of the block.
+/// A round chooses transfers by level, 0 before 1 before 2 before 3, and at one level by the number
+/// of the block.
 pub fn most_urgent_first()
     ensures { law.MostUrgentFirst }
 {}

@@ -1,4 +1,4 @@
--- What a call on a handle comes to: its code, and what is kept behind the handle.
+-- The result of a call on a handle: its code, and the handle's state.
 use Rattle.std.specs.Prelude.{◌≡◌, ◌<◌, ◌⊎◌, ℕ, true, IsTrue, List, [], length, Option, Some, None}
 use Rattle.bm_base.specs.declared.config.Config.{Config}
 use Rattle.bm_base.specs.declared.call.Call.{Call}
@@ -20,7 +20,7 @@ use Rattle.puljemrod.specs.declared.codes.TheConstants.{MEMORY, CLOSED, NO_TEXT}
 use Rattle.puljemrod.specs.declared.options.Options.{Options}
 use Rattle.puljemrod.specs.declared.kept.Kept.{Kept}
 
--- one worker, and the rest as the options say
+-- one worker, and the rest by the options
 abbrev pub config_of : Options → Config
 config_of o = record { shards = o.shards; workers = 1; work = o.work; invalidate = o.invalidate; pend = o.pend; first_round = o.first_round; first_call = o.first_call }
 
@@ -49,7 +49,7 @@ abbrev pub IsOpened : Options → ℕ → Option Kept → Type 0
 IsOpened o code now = ((code ≡ 0) × (config_refusal (config_of o) ≡ None) × (k : Kept) × (now ≡ Some k) × IsFirst (config_of o) k)
     ⊎ ((now ≡ None) × (r : Refusal) × (code ≡ refusal_number r) × Refuses (config_refusal (config_of o)) true r)
 
--- What is asked for is done: the answer is kept, and its text is not made.
+-- The call is done: its answer is stored, and its text is not made.
 pub record IsAsked (M : State) (asks : Asked) (k : Kept) : Type 0 where
   pub state : k.manager ≡ asked_next M asks
   pub number : k.number ≡ number_of (answer_to M asks)
@@ -57,49 +57,51 @@ pub record IsAsked (M : State) (asks : Asked) (k : Kept) : Type 0 where
   pub no_text : k.text.items ≡ []
   pub no_memory : k.number ≡ MEMORY → ⊥
 
--- a line is answered as the definition says, and the state is the one after it
+-- a line is answered by the definition, and the state is the next one
 pub record IsAnswered (M : State) (line : List ℕ) (k : Kept) : Type 0 where
   pub state : k.manager ≡ line_next M line
   pub number : k.number ≡ line_number M line
   pub text : last_text k ≡ line_text M line
   pub no_memory : k.number ≡ MEMORY → ⊥
 
--- The text can be copied out, and the code is the number of the answer; or memory was refused for the text, and what
--- can be copied out is as before.
+-- The text can be copied out, and the code is the number of the answer; or memory was refused for
+-- the text, and the text that can be copied out is as before.
 abbrev pub IsTold : List ℕ → Kept → ℕ → ℕ → Type 0
 IsTold before k code len = ((code ≡ k.number) × (k.answer ≡ None) × (len ≡ length k.text.items)) ⊎ ((code ≡ NO_TEXT) × (len ≡ 0) × (k.text.items ≡ before))
 
--- A call on a line: memory was refused for a line that is not too long, and nothing is changed; or the line is answered.
+-- A call on a line: memory was refused for a line that is not too long, and nothing changed; or the
+-- line is answered.
 abbrev pub IsLine : Kept → List ℕ → Kept → ℕ → ℕ → Type 0
 IsLine k line now code len = ((code ≡ MEMORY) × (now ≡ k) × (len ≡ 0) × (asked line ≡ Long → ⊥)) ⊎ (IsAnswered k.manager line now × IsTold [] now code len)
 
--- the call is made as the definition says
+-- the call is made by the definition
 abbrev pub IsMade : Kept → Call → Kept → ℕ → Type 0
 IsMade k c now code = IsAsked k.manager (Asks c) now × (code ≡ now.number)
 
--- A call by its own function: memory was refused, which may only be where the call takes memory and nothing else refuses
--- it, and nothing is changed; or the call is made.
+-- A call by its own function: memory was refused, which is possible only if the call takes memory
+-- and nothing else refuses it, and nothing changed; or the call is made.
 abbrev pub IsCall : Kept → Call → Kept → ℕ → Type 0
 IsCall k c now code = ((code ≡ MEMORY) × (now ≡ k) × IsTrue (may_lack_memory step k.manager c)) ⊎ IsMade k c now code
 
--- The same of an event with a list, which is copied first: memory may be refused for the copy, whatever the event.
+-- The same for an event with a list, which is copied first: memory may be refused for the copy,
+-- whatever the event.
 abbrev pub IsListed : Kept → Call → Kept → ℕ → Type 0
 IsListed k c now code = ((code ≡ MEMORY) × (now ≡ k)) ⊎ IsMade k c now code
 
--- The same of a heartbeat, whose list is copied into memory that the handle keeps: memory may be refused only where that is
--- too small for the list.
+-- The same of a heartbeat, whose list is copied into memory that the handle keeps: memory may be
+-- refused only where that is too small for the list.
 abbrev pub IsBeat : Kept → ℕ → List Remaining → Kept → ℕ → Type 0
 IsBeat k node rs now code = ((code ≡ MEMORY) × (now ≡ k) × (k.spare < length rs)) ⊎ IsMade k (Apply (Heartbeat node rs)) now code
 
--- The text of the last answer is asked for: state and answer stay as they are. A text that is made already is not refused,
--- and where memory is refused nothing is changed.
+-- The text of the last answer is requested: state and answer stay as they are. A text that is made
+-- already is not refused, and if memory is refused nothing changes.
 pub record IsText (k now : Kept) (code len : ℕ) : Type 0 where
   pub state : now.manager ≡ k.manager
   pub number : now.number ≡ k.number
   pub text : last_text now ≡ last_text k
   pub told : ((code ≡ k.number) × (now.answer ≡ None) × (len ≡ length now.text.items)) ⊎ ((code ≡ NO_TEXT) × (len ≡ 0) × (now ≡ k) × (k.answer ≡ None → ⊥))
 
--- what a call makes of a closed handle, whose length of an answer stays as it was, and of an open one
+-- the effect of a call on a closed handle, which keeps the length of an answer, and on an open one
 
 abbrev pub AfterLine : Option Kept → List ℕ → Option Kept → ℕ → ℕ → ℕ → Type 0
 AfterLine None line now code before len = (code ≡ CLOSED) × (now ≡ None) × (len ≡ before)

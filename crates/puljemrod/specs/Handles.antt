@@ -9,7 +9,7 @@ use Rattle.std.specs.Global.{Global}
 use Rattle.std_heap.specs.contracts.GlobalAllocator.TheImpl.{ghosts}
 use Rattle.puljemrod.specs.contracts.kept.Kept.{the_row}
 
--- a box of what is kept, or nothing
+-- a box of the handle's state, or nothing
 abbrev pub handle_owns : Global → Ptr → Option the_row.Denot → Fml
 handle_owns alloc p None = ftrue
 handle_owns alloc p (Some x) = box_owns (ghosts.dealloc_token alloc) the_row p x

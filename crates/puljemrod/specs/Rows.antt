@@ -1,4 +1,4 @@
--- Items of lists as C has them, and what they stand for.
+-- Items of lists as C has them, and what they represent.
 use Rattle.std.specs.Prelude.{ℕ}
 use Rattle.bm_base.specs.declared.event.Entry.{Entry}
 use Rattle.bm_base.specs.declared.event.Remaining.{Remaining}

@@ -1,4 +1,4 @@
--- What a question tells: a number that is told, or the length of a list that is kept.
+-- The answer of a question: a number, or the length of a stored list.
 use Rattle.std.specs.Prelude.{ℕ, true, length, if◌then◌else◌, ◌==◌, ◌≡◌, Option, Some, None}
 use Rattle.bm_base.specs.declared.level.Level.{Level}
 use Rattle.bm_base.specs.declared.call.Call.{Call}
@@ -34,7 +34,7 @@ abbrev pub told_in : Option Kept → ℕ
 told_in None = 0
 told_in (Some k) = told_by_answer k.answer
 
--- A question: where its call is accepted, what it tells is what the kept answer has; else that is as it was.
+-- A question: if its call is accepted, its result is the stored answer's; else that is as it was.
 pub record AfterQuestion (old : Option Kept) (c : Call) (now : Option Kept) (code before after : ℕ) : Type 0 where
   pub called : AfterCall old c now code
   pub told : after ≡ (if code == 0 then told_in now else before)

@@ -12,5 +12,5 @@ pub const OPEN: u32 = 33;
 /// The line is answered, and memory was refused for the text of its answer.
 pub const NO_TEXT: u32 = 34;
 
-/// What is told of a block that is in no queue.
+/// The level of a block that is in no queue.
 pub const NO_LEVEL: u64 = 5;

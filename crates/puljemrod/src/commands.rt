@@ -144,8 +144,8 @@ fn count_deletes(nodes: &[NodeCommands]) -> u64
     count
 }
 
-/// Copies the commands to copy from one on, as far as they and the array go, and returns how many it
-/// copied.
+/// Copies the copy commands from an index on, up to the end of the list or of the array, and
+/// returns how many it copied.
 #[unsafe(no_mangle)]
 pub extern "C" fn puljemrod_copies(
     alloc: Global,

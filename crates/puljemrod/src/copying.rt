@@ -1,7 +1,7 @@
 // Items of a list, copied out as rows of C.
 ghost use Rattle.std.specs.Prelude.{◌≡◌, ◌++◌, ◌≤◌, length, map, take, drop, min};
 
-/// A row for an item, beside what all items have in common.
+/// A row for an item.
 pub trait Row<C, T>: Copy {
     ghost row_of: { C → T → Self };
 

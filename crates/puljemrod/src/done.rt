@@ -1,4 +1,4 @@
-// What the kept answer to an event says.
+// The stored answer to an event.
 ghost use Rattle.std.specs.Prelude.{◌≡◌, ◌^◌, ◌/◌, ◌%◌, None, Some};
 ghost use Rattle.puljemrod.specs.declared.codes.TheConstants.{CLOSED};
 ghost use Rattle.puljemrod.specs.declared.kept.Kept.{Kept};

@@ -82,7 +82,7 @@ pub extern "C" fn puljemrod_heartbeat(
     code
 }
 
-/// A new block, of which `repl` replicas are wanted.
+/// A new block, with `repl` wanted replicas.
 #[unsafe(no_mangle)]
 pub extern "C" fn puljemrod_add_block(
     alloc: Global,

@@ -9,7 +9,7 @@ use std::alloc::Global;
 use std::marker::Model;
 use std::{mem, ptr};
 
-/// A box of what is kept, or none, as a pointer that C may hold. C never follows it.
+/// A box of the handle's state, or none, as a pointer that C may hold. C never follows it.
 #[repr(C)]
 #[derive(Drop)]
 pub struct Handle {
@@ -75,7 +75,7 @@ impl Slot {
         }
     }
 
-    /// Takes what is kept, which closes the slot; `None` where it was closed.
+    /// Takes the state out, which closes the slot; `None` if it was closed.
     pub fn take(&mut self, alloc: Global) -> Option<Box<Kept>>
         ensures some { IfSome result (λ b. self.old.handle.kept ≡ Some b.value) }
         ensures none { IfNone result (self.old.handle.kept ≡ None) }

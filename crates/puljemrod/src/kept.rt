@@ -113,8 +113,8 @@ fn answer_asked(alloc: Global, kept: &mut Kept, asked: Asked) -> Result<(), Allo
     Ok(())
 }
 
-/// Makes the text of the last answer, if it is not made, and returns the number of the answer and the
-/// length of the text.
+/// Makes the text of the last answer, unless it is made already, and returns the number of the
+/// answer and the length of the text.
 pub fn make_text(alloc: Global, kept: &mut Kept, answer_len: &mut usize) -> u32
     ensures { IsText kept.old kept.new result answer_len.new }
 {

@@ -1,8 +1,10 @@
-//! What C may call: a manager behind a handle, by lines of the tool, and by functions for events, rounds
-//! and questions. `bindings/c/puljemrod.h` declares it, and says what the caller owes.
+//! The static library for C: a manager behind a handle, by lines of the tool, and by functions for
+//! events, rounds and questions. `bindings/c/puljemrod.h` declares it, and states the caller's
+//! duties.
 //!
-//! Each call returns a code: 0, the number of a refusal, or one of `codes`. No call starts a thread or
-//! waits. `specs/Calls` defines what a call comes to, and the other files of `specs` what it tells.
+//! Each call returns a code: 0, the number of a refusal, or one of `codes`. No call starts a thread
+//! or waits. `specs/Calls` defines the result of a call, and the other files of `specs` the
+//! answers.
 #![tactic(auto)]
 
 ghost use Rattle.std.specs.Prelude.{◌≡◌, ◌++◌, None, Some, length, take, drop, min};
@@ -71,7 +73,8 @@ pub extern "C" fn puljemrod_line(
     code
 }
 
-/// Makes the text of the last answer, if it is not made; returns the code of the call that was answered.
+/// Makes the text of the last answer, unless it is made already; returns the code of the answered
+/// call.
 #[unsafe(no_mangle)]
 pub extern "C" fn puljemrod_text(alloc: Global, slot: &mut Slot, answer_len: &mut usize) -> u32
     ensures { AfterText slot.old.handle.kept slot.new.handle.kept result answer_len.old answer_len.new }
@@ -84,8 +87,8 @@ pub extern "C" fn puljemrod_text(alloc: Global, slot: &mut Slot, answer_len: &mu
     code
 }
 
-/// Copies the text of the last answer from a byte on, as far as it and the buffer go, and returns how
-/// many bytes it copied.
+/// Copies the text of the last answer from a byte on, up to the end of the text or of the buffer,
+/// and returns how many bytes it copied.
 #[unsafe(no_mangle)]
 pub extern "C" fn puljemrod_answer(
     alloc: Global,

@@ -75,8 +75,8 @@ impl Row<(), StorageId> for u64 {
     }
 }
 
-/// Copies the replicas of the kept list from one on, as far as they and the array go, and returns how
-/// many it copied.
+/// Copies the replicas of the stored list from an index on, up to the end of the list or of the
+/// array, and returns how many it copied.
 #[unsafe(no_mangle)]
 pub extern "C" fn puljemrod_replica_rows(
     alloc: Global,
@@ -98,7 +98,7 @@ pub extern "C" fn puljemrod_replica_rows(
     count
 }
 
-/// The same of the blocks and storages of the kept list.
+/// The same for the blocks and storages of the stored list.
 #[unsafe(no_mangle)]
 pub extern "C" fn puljemrod_pair_rows(
     alloc: Global,
@@ -120,7 +120,7 @@ pub extern "C" fn puljemrod_pair_rows(
     count
 }
 
-/// The same of the numbers of the kept list, of blocks or of storages.
+/// The same for the numbers of the stored list, of blocks or of storages.
 #[unsafe(no_mangle)]
 pub extern "C" fn puljemrod_number_rows(
     alloc: Global,

@@ -4,8 +4,8 @@ ghost use Rattle.puljemrod.specs.Calls.{config_of};
 
 use bm_base::Config;
 
-/// The fields of [`bm_base::Config`] but the workers, of which there is one, and the secret by which
-/// tables hash.
+/// The fields of [`bm_base::Config`] but the workers, of which there is one, and the secret by
+/// which tables hash.
 #[repr(C)]
 #[derive(Clone, Copy)]
 pub struct Options {

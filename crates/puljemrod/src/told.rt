@@ -1,4 +1,4 @@
-// What the kept answer tells by a number.
+// Answers that are a number.
 ghost use Rattle.std.specs.Prelude.{◌≡◌};
 ghost use Rattle.puljemrod.specs.Telling.{level_or_none, told_by, told_by_answer, told_in};
 

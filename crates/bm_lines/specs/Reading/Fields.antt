@@ -49,7 +49,8 @@ abbrev pub entry_from : Option ℕ → Option ℕ → Option Stamp → Option En
 entry_from (Some from) (Some to) (Some stamp) = Some (record { from = from; to = to; stamp = stamp })
 entry_from _ _ _ = None
 
--- three numbers, a block, its generation and its length; or four, the first and the last block of a run before these
+-- three numbers, a block, its generation and its length; or four, the first and the last block of a
+-- run before these
 abbrev pub entry_among : List Data → Option Entry
 entry_among (id ∷ generation ∷ len ∷ []) = entry_from (number_in id) (number_in id) (stamp_from (number_in generation) (number_in len))
 entry_among (from ∷ to ∷ generation ∷ len ∷ []) = entry_from (number_in from) (number_in to) (stamp_from (number_in generation) (number_in len))

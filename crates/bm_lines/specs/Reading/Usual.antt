@@ -1,4 +1,4 @@
--- What the fields behind an op ask for, where they stand as a line is written.
+-- The call that the fields after an op ask for, in canonical form.
 use Rattle.std.specs.Prelude.{◌≡◌, ℕ, true, List, ◌++◌, codes}
 use Rattle.bm_base.specs.declared.call.Call.{Call}
 use Rattle.bm_lines.specs.declared.reading.op.Op.{Op}

@@ -10,7 +10,7 @@ use serde_json::Value;
 
 /// What a list of a line's object holds.
 pub trait Item: Drop + Sized {
-    /// The item that a value stands for, if it stands for one.
+    /// The item that a value represents, if it represents one.
     ghost item_in: { Data → Option Self };
 
     fn from_value(value: &Value) -> Option<Self>
@@ -38,8 +38,8 @@ impl Item for Remaining {
     }
 }
 
-/// Three numbers, a block, its generation and its length; or four, the first and the last block of a
-/// run before these.
+/// Three numbers, a block, its generation and its length; or four, the first and the last block of
+/// a run before these.
 impl Item for Entry {
     ghost item_in = { entry_in };
 

@@ -1,5 +1,5 @@
-// The fields of a line's object that are lists: `None` where there is no such field, where it is no
-// array, or where an item of it is none of the list.
+// The fields of a line's object that are lists: `None` without such a field, if it is no array, or
+// if an element of it is no item of the list.
 ghost use Rattle.std.specs.Prelude.{◌≡◌, IfOk, option_map, option_and_then, map, vec_items};
 ghost use Rattle.serde_json.specs.Find.{as_array, get};
 ghost use Rattle.serde_json.specs.View.{view, items_view};
@@ -31,7 +31,7 @@ fn array_field<'v>(value: &'v Value, name: &str) -> Option<&'v Vec<Value>>
     value.get(name).and_then(Value::as_array)
 }
 
-/// The items that these values stand for, if each stands for one.
+/// The items that these values represent, if each represents one.
 fn items_of<T: Item>(alloc: Global, values: &[Value]) -> Result<Option<Vec<T>>, AllocError>
     ensures { IfOk result
         (λ o. option_map vec_items o ≡ each T.item_in (map view values.now)) }

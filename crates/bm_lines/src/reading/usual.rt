@@ -1,4 +1,5 @@
-// Lines as `line_of` writes them, read with no value in between. Whatever else a line may be is left to `serde_json`.
+// Lines as `line_of` writes them, read with no value in between. Whatever else a line may be is
+// left to `serde_json`.
 ghost use Rattle.std.specs.Prelude.{◌≡◌, ◌++◌, true, IfSome, codes};
 ghost use Rattle.bm_lines.specs.Asking.{has_op, line_text};
 ghost use Rattle.bm_lines.specs.Fitting.{FitsWhole};
@@ -14,8 +15,8 @@ use super::usual_numbers::after;
 use bm_base::Call;
 use std::alloc::{AllocError, Global};
 
-/// The call that a line asks for, where the line stands as `line_of` writes it and its op is one of those that come often. `None` says
-/// nothing of a line.
+/// The call that a line asks for, if the line is in canonical form, as `line_of` writes it, with a
+/// frequent op. `None` implies nothing about a line.
 pub fn usual_call(alloc: Global, line: &[u8]) -> Result<Option<Call>, AllocError>
     ensures text { IfFound result (λ k. line.now ≡ line_text k) }
     ensures fits { IfFound result FitsWhole }
@@ -30,7 +31,7 @@ pub fn usual_call(alloc: Global, line: &[u8]) -> Result<Option<Call>, AllocError
     }
 }
 
-/// The op that these bytes begin with, and what stands behind its quote.
+/// The op that these bytes begin with, and the bytes after its quote.
 #[inline(always)]
 fn op_then(bytes: &[u8]) -> Option<(Op, &[u8])>
     ensures { IfSome result (λ p. bytes.now ≡ (op_text p.0 ++ codes "\"") ++ p.1.now) }

@@ -1,4 +1,5 @@
-// The fields of the usual calls, in the order in which they are written: each up to the end of the line.
+// The fields of the canonical calls, in the order in which they are written: each up to the end of
+// the line.
 ghost use Rattle.std.specs.Prelude.{◌≡◌, ◌++◌, true, IfSome, codes};
 ghost use Rattle.bm_base.specs.Fitting.{FitsStamp};
 ghost use Rattle.bm_lines.specs.Asking.{stamp_text};
@@ -143,7 +144,7 @@ pub fn heartbeat(alloc: Global, fields: &[u8]) -> Result<Option<Call>, AllocErro
     })))
 }
 
-/// The fields of a stamp, and what stands behind them.
+/// The fields of a stamp, and the bytes after them.
 #[inline(always)]
 fn stamp_then(fields: &[u8]) -> Option<(Stamp, &[u8])>
     ensures text { IfSome result (λ p. fields.now ≡ stamp_text p.0 ++ p.1.now) }

@@ -17,7 +17,7 @@ impl UsualItem for Entry {
     }
 }
 
-/// The entry that these bytes begin with, and what is behind it.
+/// The entry that these bytes begin with, and the bytes after it.
 fn entry_then(bytes: &[u8]) -> Option<(Entry, &[u8])>
     ensures text { IfSome result (λ p. bytes.now ≡ entry_text p.0 ++ p.1.now) }
     ensures fits { IfSome result (λ p. FitsEntry p.0) }

@@ -14,14 +14,14 @@ pub trait UsualItem: Drop + Sized {
     /// Whether its numbers fit their types.
     ghost is_fit: { Self → Type 0 };
 
-    /// The item that these bytes begin with, and what is behind it.
+    /// The item that these bytes begin with, and the bytes after it.
     fn item_then(bytes: &[u8]) -> Option<(Self, &[u8])>
         ensures text { IfSome result (λ p. bytes.now ≡ written p.0 ++ p.1.now) }
         ensures fits { IfSome result (λ p. is_fit p.0) }
         ensures shorter { IfSome result (λ p. length p.1.now < length bytes.now) };
 }
 
-/// The list field of this name, and what is behind it.
+/// The list field of this name, and the bytes after it.
 pub fn list_then<'l, T: UsualItem>(
     alloc: Global,
     fields: &'l [u8],
@@ -43,7 +43,7 @@ pub fn list_then<'l, T: UsualItem>(
     Ok(Some((items, end)))
 }
 
-/// What is behind the name and the bracket of a list field.
+/// The bytes after the name and the bracket of a list field.
 #[inline(always)]
 fn begin_list<'l>(fields: &'l [u8], name: &[u8]) -> Option<&'l [u8]>
     ensures { IfSome result (λ list. fields.now
@@ -54,7 +54,7 @@ fn begin_list<'l>(fields: &'l [u8], name: &[u8]) -> Option<&'l [u8]>
     after(behind, b"\":[")
 }
 
-/// Items with commas between them, and what is behind them.
+/// Items with commas between them, and the bytes after them.
 fn items_then<'l, T: UsualItem>(
     alloc: Global,
     list: &'l [u8],

@@ -2,7 +2,7 @@
 ghost use Rattle.std.specs.Prelude.{◌≡◌, ◌+◌, ◌++◌, ◌<◌, ◌≤◌, ◌^◌, IfSome, decimal, length, take};
 ghost use Rattle.std.specs.Str.Parse.{digits_value, AllDigits};
 
-/// What stands behind this text, where it begins with it.
+/// The bytes after this text, if they begin with it.
 #[inline(always)]
 pub fn after<'l>(bytes: &'l [u8], text: &[u8]) -> Option<&'l [u8]>
     ensures text { IfSome result (λ rest. bytes.now ≡ text.now ++ rest.now) }
@@ -12,7 +12,7 @@ pub fn after<'l>(bytes: &'l [u8], text: &[u8]) -> Option<&'l [u8]>
     bytes.strip_prefix(text)
 }
 
-/// The number of 64 bits behind this text, and what stands behind it.
+/// The number of 64 bits after this text, and the bytes after it.
 #[inline(always)]
 pub fn number_then<'l>(bytes: &'l [u8], text: &[u8]) -> Option<(u64, &'l [u8])>
     ensures text { IfSome result (λ p. bytes.now ≡ text.now ++ (decimal p.0 ++ p.1.now)) }
@@ -22,7 +22,7 @@ pub fn number_then<'l>(bytes: &'l [u8], text: &[u8]) -> Option<(u64, &'l [u8])>
     number(after(bytes, text)?)
 }
 
-/// The number of 32 bits behind this text, and what stands behind it.
+/// The number of 32 bits after this text, and the bytes after it.
 #[inline(always)]
 pub fn small_then<'l>(bytes: &'l [u8], text: &[u8]) -> Option<(u32, &'l [u8])>
     ensures text { IfSome result (λ p. bytes.now ≡ text.now ++ (decimal p.0 ++ p.1.now)) }
@@ -33,7 +33,7 @@ pub fn small_then<'l>(bytes: &'l [u8], text: &[u8]) -> Option<(u32, &'l [u8])>
     Some((small, rest))
 }
 
-/// The number that these bytes begin with, with no zero before it, and what stands behind it.
+/// The number that these bytes begin with, with no leading zero, and the bytes after it.
 pub fn number(bytes: &[u8]) -> Option<(u64, &[u8])>
     ensures text { IfSome result (λ p. bytes.now ≡ decimal p.0 ++ p.1.now) }
     ensures fits { IfSome result (λ p. p.0 < 2 ^ 64) }

@@ -17,7 +17,7 @@ impl UsualItem for Remaining {
     }
 }
 
-/// What remains on the storage that these bytes begin with, and what is behind it.
+/// The remaining bytes of a storage that these bytes begin with, and the bytes after them.
 #[tactic(auto, unfolding(crate::specs::Asking::remaining_text))]
 fn remaining_then(bytes: &[u8]) -> Option<(Remaining, &[u8])>
     ensures text { IfSome result (λ p. bytes.now ≡ remaining_text p.0 ++ p.1.now) }

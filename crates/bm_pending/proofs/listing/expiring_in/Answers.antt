@@ -35,7 +35,7 @@ loop-block-preserved c =
     ∙ sym (append-nil (keys_of (filter old (map deref_pair c.loop-block.yielded))))
     ∙ sym (keys-passed_more deref_pair old c.loop-block.yielded (c.in-Some.block, c.in-Some.targets) false is)
 
--- the blocks that were gone over are all that there are
+-- the loop has visited all blocks
 numbers_are : (c : goal.In_ok-sort) → c.loop-block.numbers.items ≡ keys_of (filter (has_old c.args.pend c.args.round) c.args.blocks.now.entries)
 numbers_are c =
     let end = YieldsList-end (YieldsList-from_rest c.args.blocks.now.entries (c.into_iter-block-iterator.ensures.into_iter_gives ∙ c.iter-block-items.ensures.rest)) c.loop-block.yielded _ c.loop-block.yielded_by _ _ c.in-None.is c.next.ensures.steps in

@@ -4,7 +4,7 @@ use Rattle.bm_base.specs.Choices.{transfers_over, sources_by, holders_by, barred
 use Rattle.bm_round.specs.Counted.{IsCounted}
 use Rattle.bm_round.proofs.transfers.choose_copies.Given as goal
 
--- the copies that are left make of what is chosen what all copies make of what was chosen
+-- the remaining copies lead from the present choice to the choice that all copies make
 abbrev pub invariant-loop-copy : goal.invariant-loop-copy
 invariant-loop-copy l =
     let C = l.topology.cluster in

@@ -5,7 +5,7 @@ use Rattle.bm_topo.specs.Named.{named}
 use Rattle.bm_topo.specs.Keys.{HasSmallKeys}
 use Rattle.bm_topo.proofs.tables.add_storages.Given as goal
 
--- what is left makes of the table what all of them make of the first; and there is room for it
+-- the rest takes the table to what all of them make of the first one; and there is capacity for it
 abbrev pub invariant-loop-storage : goal.invariant-loop-storage
 invariant-loop-storage l = record {
   storages : insert_all l.storages.map (named l.node (drop l.storage-index l.its_own)) ≡ insert_all l.initial.storages.map (named l.node l.its_own);

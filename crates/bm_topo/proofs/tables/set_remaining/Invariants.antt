@@ -3,7 +3,7 @@ use Rattle.bm_base.specs.Events.{set_remaining}
 use Rattle.bm_base.specs.Table.{capacity}
 use Rattle.bm_topo.proofs.tables.set_remaining.Given as goal
 
--- what is left makes of the table what all of it makes of the first
+-- the rest takes the table to what all of it makes of the first one
 abbrev pub invariant-loop-told : goal.invariant-loop-told
 invariant-loop-told l = record {
   after : set_remaining l.storages.map (drop l.told-index l.remaining) ≡ set_remaining l.initial.storages.map l.remaining;

@@ -4,7 +4,8 @@ use Rattle.bm_base.specs.Answering.{MayAnswerAll, state_left_by}
 use Rattle.bm_base.specs.Calls.{step}
 use Rattle.bm_manager.proofs.manager.Manager.answer_all_by.Given as goal
 
--- the answers so far, and any that the calls left may give, are answers that all the calls may give, and leave what they leave
+-- the answers so far, with any that the remaining calls may give, are answers that all the calls
+-- may give, with the same last state
 abbrev pub invariant-loop-call : goal.invariant-loop-call
 invariant-loop-call g l =
     record {

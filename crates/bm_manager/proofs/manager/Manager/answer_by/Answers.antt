@@ -1,4 +1,5 @@
--- One call against the definition: an answer is that of the step, a refusal the step's or want of memory.
+-- One call against the definition: an answer is that of the step, a refusal the step's or out of
+-- memory.
 use Rattle.std.proofs.Common.{ap, sym, subst, ◌∙◌, refl}
 use Rattle.bm_base.specs.declared.call.Answer.TheVariants as answer
 use Rattle.bm_base.specs.Answering.{MayAnswer, state_left}

@@ -2,6 +2,6 @@ use Rattle.std.proofs.Common.{take}
 use Rattle.bm_pending.proofs.OwnCounts.{HasCounted}
 use Rattle.bm_pending.proofs.pending.PendingTransfers.reserve_own.Given as goal
 
--- the transfers before this place were counted, and there is room for them
+-- the transfers before this index were counted, and there is capacity for them
 abbrev pub invariant-loop-transfer : goal.invariant-loop-transfer
 invariant-loop-transfer l = HasCounted l.part l.fn.self l.self l.counts.entries (take l.transfer-index l.transfers)

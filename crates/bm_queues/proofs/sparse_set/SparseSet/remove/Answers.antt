@@ -16,7 +16,7 @@ overflow_cast-place c =
 pub returns-in-Some-clause-same : goal.returns-in-Some-clause-same
 returns-in-Some-clause-same c absent = absurd (absent (among_here c.args.slot c.args.self.now.slots c.in-Some.place c.in-Some.ensures.found.0 c.in-Some.ensures.found.1))
 
--- what is left of the members
+-- the remaining members
 left : (c : goal.After-swap_remove) → c.swap_remove.new.self.items ≡ swap_remove c.self.inside.order.items c.in-Some.place c.args.slot
 left c =
     let order = c.self.inside.order.items in
