@@ -5,8 +5,8 @@ use Rattle.bm_base.specs.declared.call.Answer.{Answer}
 use Rattle.bm_base.specs.declared.call.Answer.TheVariants as answer
 use Rattle.bm_base.specs.declared.refusal.Refusal.{Refusal}
 use Rattle.bm_base.specs.declared.refusal.Refusal.TheVariants as refusal
-use Rattle.bm_base.specs.Answering.{wants_memory}
-use Rattle.bm_base.specs.Refusals.{refusal_number}
+use Rattle.bm_base.specs.Machine.Answering.{wants_memory}
+use Rattle.bm_base.specs.Machine.Refusals.{refusal_number}
 use Rattle.bm_answers.specs.declared.line_answer.LineAnswer.TheVariants.{Answered}
 use Rattle.bm_answers.specs.OneLine.{number_of}
 

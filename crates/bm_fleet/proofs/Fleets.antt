@@ -9,11 +9,11 @@ use Rattle.bm_base.specs.declared.event.Event.TheVariants.{AddBlock, DeleteBlock
 use Rattle.bm_base.specs.declared.event.Done.{Done}
 use Rattle.bm_base.specs.declared.refusal.Refusal.{Refusal}
 use Rattle.bm_base.specs.declared.refusal.Refusal.TheVariants.{Memory}
-use Rattle.bm_base.specs.State.{Cluster, Holdings}
-use Rattle.bm_base.specs.Events.{change_cluster, change_holdings}
-use Rattle.bm_base.specs.Refusals.{first_of, block_checks}
-use Rattle.bm_base.specs.Calls.{done}
-use Rattle.bm_base.specs.Answering.{Refuses, takes_memory}
+use Rattle.bm_base.specs.Machine.State.{Cluster, Holdings}
+use Rattle.bm_base.specs.Machine.Events.{change_cluster, change_holdings}
+use Rattle.bm_base.specs.Machine.Refusals.{first_of, block_checks}
+use Rattle.bm_base.specs.Machine.Calls.{done}
+use Rattle.bm_base.specs.Machine.Answering.{Refuses, takes_memory}
 use Rattle.bm_parts.specs.Parts.{block_of, change_part}
 use Rattle.bm_parts.specs.Whole.{EachPart, done_of_all}
 use Rattle.bm_parts.proofs.Changing.{whole_changes_by_event, done_adds_up}

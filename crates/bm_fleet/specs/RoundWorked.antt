@@ -3,7 +3,7 @@ use Rattle.std.specs.Prelude.{◌≡◌, ◌<◌, ◌+◌, ◌^◌, ℕ, List, S
 use Rattle.bm_base.specs.declared.refusal.Refusal.TheVariants.{Memory}
 use Rattle.bm_base.specs.declared.round.RoundPart.{RoundPart}
 use Rattle.bm_base.specs.declared.round.Chosen.{Chosen}
-use Rattle.bm_base.specs.State.{Cluster}
+use Rattle.bm_base.specs.Machine.State.{Cluster}
 use Rattle.bm_base.specs.RoundParts.{round_on_part}
 use Rattle.bm_shard.specs.Seen.{Seen, IsReadyForRound}
 use Rattle.bm_shard.specs.Standing.{StandsIn, next_part}

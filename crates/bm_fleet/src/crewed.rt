@@ -1,10 +1,10 @@
 // What the workers do with one shard for an event.
 ghost use Rattle.std.specs.Prelude.{◌≡◌, ◌<◌, ◌^◌, None, IfErr, OnOk};
-ghost use Rattle.bm_base.specs.Replicas.{is_multi_rack};
-ghost use Rattle.bm_base.specs.Events.{change_cluster};
-ghost use Rattle.bm_base.specs.Refusals.{first_of, cluster_checks, block_checks};
-ghost use Rattle.bm_base.specs.Calls.{done};
-ghost use Rattle.bm_base.specs.Answering.{Refuses, takes_memory};
+ghost use Rattle.bm_base.specs.Machine.Replicas.{is_multi_rack};
+ghost use Rattle.bm_base.specs.Machine.Events.{change_cluster};
+ghost use Rattle.bm_base.specs.Machine.Refusals.{first_of, cluster_checks, block_checks};
+ghost use Rattle.bm_base.specs.Machine.Calls.{done};
+ghost use Rattle.bm_base.specs.Machine.Answering.{Refuses, takes_memory};
 ghost use Rattle.bm_parts.specs.Parts.{block_of, change_part};
 ghost use Rattle.bm_shard.specs.Seen.{IsReadyFor};
 ghost use Rattle.bm_shard.specs.Standing.{StandsIn, IsSameButRoom};

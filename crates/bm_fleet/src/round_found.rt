@@ -2,10 +2,10 @@
 ghost use Rattle.std.specs.Prelude.{◌≡◌, None, IsSome, map, false, IfOk, IfErr};
 ghost use Rattle.std.specs.List.{All};
 ghost use Rattle.bm_base.specs.declared.refusal.Refusal.TheVariants.{Memory};
-ghost use Rattle.bm_base.specs.State.{limits_of};
-ghost use Rattle.bm_base.specs.Answering.{IfFound};
-ghost use Rattle.bm_base.specs.Lists.{has_repeats};
-ghost use Rattle.bm_base.specs.Configuration.{config_refusal};
+ghost use Rattle.bm_base.specs.Machine.State.{limits_of};
+ghost use Rattle.bm_base.specs.Machine.Answering.{IfFound};
+ghost use Rattle.bm_base.specs.Maps.Lists.{has_repeats};
+ghost use Rattle.bm_base.specs.Machine.Configuration.{config_refusal};
 ghost use Rattle.bm_base.specs.Choices as choices;
 ghost use Rattle.bm_fleet.specs.RoundWorked.{CanFind};
 ghost use Rattle.bm_fleet.specs.RoundChosen.{next_parts, next_parts_before, HasExcess, IsChosen};

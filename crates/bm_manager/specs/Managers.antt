@@ -1,9 +1,9 @@
 -- What holds of the parts of a manager: its configuration, its cluster, its shards and its two numbers.
 use Rattle.std.specs.Prelude.{◌≡◌, ℕ, None}
 use Rattle.bm_base.specs.declared.config.Config.{Config}
-use Rattle.bm_base.specs.State.{Cluster, Holdings, State, limits_of}
-use Rattle.bm_base.specs.Configuration.{config_refusal}
-use Rattle.bm_base.specs.Lawful.{IsLawful}
+use Rattle.bm_base.specs.Machine.State.{Cluster, Holdings, State, limits_of}
+use Rattle.bm_base.specs.Machine.Configuration.{config_refusal}
+use Rattle.bm_base.specs.Promises.Lawful.{IsLawful}
 use Rattle.bm_fleet.specs.Whole.{Whole, StandsIn, HasTaken}
 
 -- the state that they are

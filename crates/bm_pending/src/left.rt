@@ -1,6 +1,6 @@
 // The targets of a block that a round leaves on their way.
 ghost use Rattle.std.specs.Prelude.{◌≡◌, count_by, not, IfOk};
-ghost use Rattle.bm_base.specs.Excess.{is_expired};
+ghost use Rattle.bm_base.specs.Machine.Excess.{is_expired};
 ghost use Rattle.bm_pending.specs.Inside.{storages_left};
 
 use crate::targets::is_expired;

@@ -2,7 +2,7 @@
 use Rattle.std.specs.Prelude.{◌≡◌, ℕ, Bool, true, false, List, Option, Some, None}
 use Rattle.std.specs.declared.cmp.Ordering.{Ordering}
 use Rattle.std.specs.Ordering.{is_lt}
-use Rattle.bm_base.specs.Lists.{has}
+use Rattle.bm_base.specs.Maps.Lists.{has}
 
 -- In the order R, of the numbers xs, those that pass p: what was found is one of the numbers and passes, and none that passes goes before it; nothing was found just where none passes.
 abbrev pub IsLeastOf : (ℕ → ℕ → Ordering) → (ℕ → Bool) → List ℕ → Option ℕ → Type 0

@@ -1,7 +1,7 @@
 -- Going over a list of slots by the slot behind each.
 use Rattle.std.proofs.Common.{◌≡◌, ◌≢◌, ◌⊎◌, ℕ, zero, suc, ◌<◌, ◌≤◌, List, [], ◌∷◌, length, Option, inl, inr, subst, sym, ap, ◌∙◌, refl, arith}
 use Rattle.std.proofs.lemmas.Bool.{eq-eqb, ne_eqb}
-use Rattle.bm_base.specs.SlotLists.{Among, Distinct, first_of, slot_after}
+use Rattle.bm_maps.specs.SlotLists.{Among, Distinct, first_of, slot_after}
 use Rattle.bm_queues.specs.Links.{walk}
 
 -- by a function that gives the slot behind each of the slots, all are visited, in their order

@@ -1,8 +1,8 @@
 -- How links stand for lists of slots. A cell is a head, numbered from 0 on, or a slot, numbered behind the k heads: slot x is
 -- cell k + x. `next` holds for each cell the slot behind it, `back` for each slot the cell before it, if it is in a list.
 use Rattle.std.specs.Prelude.{◌≡◌, ℕ, zero, suc, ◌+◌, ◌<◌, ◌≤◌, List, [], ◌∷◌, length, Option, Some, None, slice_index_or, slice_set}
-use Rattle.bm_base.specs.SlotLinks.{end_of_links}
-use Rattle.bm_base.specs.SlotLists.{Among, Distinct}
+use Rattle.bm_maps.specs.SlotLinks.{end_of_links}
+use Rattle.bm_maps.specs.SlotLists.{Among, Distinct}
 
 abbrev pub link_at : List (Option ℕ) → ℕ → Option ℕ
 link_at links i = slice_index_or links i None

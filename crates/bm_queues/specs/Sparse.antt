@@ -1,6 +1,6 @@
 -- How a dense list of slots, and a place for each slot, stand for a set.
 use Rattle.std.specs.Prelude.{◌≡◌, ℕ, ◌+◌, ◌<◌, ◌≤◌, List, length, slice_index_or}
-use Rattle.bm_base.specs.SlotLinks.{end_of_links}
+use Rattle.bm_maps.specs.SlotLinks.{end_of_links}
 
 -- The slots of the list are the members. The place of a slot that is none may be any number, also that of a member.
 pub record AreSparse (order places : List ℕ) (capacity : ℕ) : Type 0 where

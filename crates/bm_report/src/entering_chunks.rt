@@ -3,7 +3,7 @@
 // The cost of a report is waiting for memory: so the marks of a chunk's blocks are read first, in reads that do not wait for one
 // another, and the moves and links that follow find the blocks' entries near.
 ghost use Rattle.std.specs.Prelude.{◌≡◌, ◌≤◌, ◌<◌, ◌+◌, ◌≢◌, ◌∷◌, [], ℕ, ◌⊎◌, length, map, slice_get, slice_index_or, vec_len, vec_capacity, true, false, None, Some};
-ghost use Rattle.bm_base.specs.SlotLists.{Among};
+ghost use Rattle.bm_maps.specs.SlotLists.{Among};
 ghost use Rattle.bm_arena.specs.Contents.{block_at, slot_of, marks_at, HasHead, HasRoom};
 ghost use Rattle.bm_report.specs.declared.types.Named.{Named};
 ghost use Rattle.bm_arena.specs.Holding.{replicas_of};

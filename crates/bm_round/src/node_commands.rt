@@ -2,7 +2,7 @@
 ghost use Rattle.std.specs.Prelude.{◌≡◌, filter, IfOk, IfErr};
 ghost use Rattle.std.specs.List.{All};
 ghost use Rattle.bm_base.specs.declared.refusal.Refusal.TheVariants.{Memory};
-ghost use Rattle.bm_base.specs.Rounds as rounds;
+ghost use Rattle.bm_base.specs.Machine.Rounds as rounds;
 ghost use Rattle.bm_round.specs.Commanded as commanded;
 
 use crate::groups::Groups;
@@ -14,7 +14,7 @@ use std::alloc::{AllocError, Global};
 /// its storages, in the order in which they stand. Nodes come by rising number, those without a command not; what is chosen for a
 /// storage that is not of the cluster is commanded to none. `Memory` where a growth of a list is refused; nothing else is refused.
 /// Looks at each transfer and each delete once, by two binary searches, and at no node where there is neither.
-#[tactic(auto, unfolding(bm_base::specs::Rounds::commands_of))]
+#[tactic(auto, unfolding(bm_base::specs::Machine::Rounds::commands_of))]
 pub fn commands(
     alloc: Global,
     round: u64,

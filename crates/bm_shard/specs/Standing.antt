@@ -1,7 +1,7 @@
 -- What holds of a shard beside the cluster in which it stands.
 use Rattle.std.specs.Prelude.{◌≡◌, ◌+◌}
 use Rattle.bm_base.specs.declared.round.RoundPart.{RoundPart}
-use Rattle.bm_base.specs.State.{Cluster}
+use Rattle.bm_base.specs.Machine.State.{Cluster}
 use Rattle.bm_base.specs.RoundParts.{round_part}
 use Rattle.bm_parts.specs.PlacedLaws.{IsPlaced}
 use Rattle.bm_shard.specs.Seen.{Seen}

@@ -1,7 +1,7 @@
 // Of the transfers that were chosen of all shards, those of a shard's own blocks.
 ghost use Rattle.std.specs.Prelude.{◌≡◌, ◌<◌, ◌≤◌, ℕ, ◌==◌, length, filter, map};
-ghost use Rattle.bm_base.specs.Map.{insert_all};
-ghost use Rattle.bm_base.specs.State.{replica_at};
+ghost use Rattle.bm_base.specs.Maps.Map.{insert_all};
+ghost use Rattle.bm_base.specs.Machine.State.{replica_at};
 ghost use Rattle.bm_base.specs.RoundParts.{own_transfers};
 ghost use Rattle.bm_pending.specs.OnTheWay.{room};
 

@@ -1,7 +1,7 @@
 -- The lists that a locator was told of: those that the value before had, and then the one that was told last.
 use Rattle.std.specs.Prelude.{List, [], ◌∷◌, ◌++◌, Option, Some, None}
 use Rattle.core.specs.declared.snapshot.Snapshot.{Snapshot}
-use Rattle.bm_base.specs.Versions.{Version}
+use Rattle.bm_base.specs.Promises.Versions.{Version}
 use Rattle.bm_view.specs.History.{versions}
 use Rattle.bm_view.specs.Rule.{Evidence}
 

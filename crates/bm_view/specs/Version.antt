@@ -1,6 +1,6 @@
 -- What is asked of a version, and where its rows put a block.
 use Rattle.std.specs.Prelude.{ℕ, ◌<◌, List, [], ◌∷◌, if◌then◌else◌, ◌==◌, AllPairs}
-use Rattle.bm_base.specs.Versions.{Row, Version}
+use Rattle.bm_base.specs.Promises.Versions.{Row, Version}
 
 -- the block numbers rise, so none comes twice
 abbrev pub RisesById : List Row → Type 0

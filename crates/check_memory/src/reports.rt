@@ -1,6 +1,6 @@
 // Full reports: the first one of a storage names the blocks of a run, whose entries and room are there when it is applied.
 ghost use Rattle.std.specs.Prelude.{◌≡◌, [], None, Some, OnOk};
-ghost use Rattle.bm_base.specs.State.{Cluster};
+ghost use Rattle.bm_base.specs.Machine.State.{Cluster};
 ghost use Rattle.bm_arena.specs.Contents.{block_at, empty_block, marks_at};
 ghost use Rattle.bm_report.specs.Expanded.{IsPrepared};
 ghost use Rattle.bm_arena.specs.Holding.{replicas_of};

@@ -1,7 +1,7 @@
 // What each event changes, and what it leaves.
 #![tactic(auto)]
 
-ghost use Rattle.bm_base.specs.AllStates.{InLawfulStates, AfterAllCalls};
+ghost use Rattle.bm_base.specs.Promises.AllStates.{InLawfulStates, AfterAllCalls};
 ghost use Rattle.laws_of_events.specs.Changes as law;
 
 /// A node that registers is there with its rack and its storages, on which nothing remains yet; all else stays.

@@ -1,7 +1,7 @@
 // Nodes that are to be taken away: they drain until each of their blocks has enough replicas elsewhere.
 #![tactic(auto)]
 
-ghost use Rattle.bm_base.specs.AllStates.{InLawfulStates, AfterAllCalls};
+ghost use Rattle.bm_base.specs.Promises.AllStates.{InLawfulStates, AfterAllCalls};
 ghost use Rattle.laws_of_events.specs.Draining as law;
 
 /// A node that is told to drain drains; whether another does stays.

@@ -1,5 +1,5 @@
 // Which replicas a round commands to delete. The first laws say that no round takes a block's last good replica.
-ghost use Rattle.bm_base.specs.AllStates.{InLawfulStates, AfterAllCalls};
+ghost use Rattle.bm_base.specs.Promises.AllStates.{InLawfulStates, AfterAllCalls};
 ghost use Rattle.laws_of_rounds.specs.Deletes as law;
 
 /// No round commands the delete of a block's last good replica: in a lawful state a round does not command the delete of the only

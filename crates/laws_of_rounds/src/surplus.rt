@@ -1,5 +1,5 @@
 // Which live replicas a round marks as being too many.
-ghost use Rattle.bm_base.specs.AllStates.{InLawfulStates, AfterAllCalls};
+ghost use Rattle.bm_base.specs.Promises.AllStates.{InLawfulStates, AfterAllCalls};
 ghost use Rattle.laws_of_rounds.specs.Surplus as law;
 
 /// Before a round marks, live are the good replicas on nodes that do not drain, but those in excess of which the delete was

@@ -1,5 +1,5 @@
 // Nodes that drain: their replicas count no more and are copied to other nodes, until they can be taken away.
-#![tactic(auto, unfolding(bm_base::specs::Runs::run_of))]
+#![tactic(auto, unfolding(crate::specs::Runs::run_of))]
 
 ghost use Rattle.worked_examples.specs.Draining as example;
 

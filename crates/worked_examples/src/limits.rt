@@ -1,5 +1,5 @@
 // How many nodes, storages, and entries and numbers of a report there may be.
-#![tactic(auto, unfolding(bm_base::specs::Runs::run_of))]
+#![tactic(auto, unfolding(crate::specs::Runs::run_of))]
 
 ghost use Rattle.worked_examples.specs.Limits as example;
 

@@ -1,6 +1,6 @@
 use Rattle.std.proofs.Common.{arith, ◌∙◌, ap}
 use Rattle.bm_base.specs.Shards.{shard_of}
-use Rattle.bm_base.specs.Refusals.{first_of}
+use Rattle.bm_base.specs.Machine.Refusals.{first_of}
 use Rattle.bm_fleet.proofs.OneOf.{at_end, at_place, stands_at}
 use Rattle.bm_fleet.proofs.one_shard.change_own.Goals as goal
 
