@@ -5,12 +5,12 @@ use Rattle.bm_base.specs.declared.call.Answer.{Answer}
 use Rattle.bm_base.specs.declared.call.Answer.TheVariants as answer
 use Rattle.bm_base.specs.declared.refusal.Refusal.{Refusal}
 use Rattle.bm_base.specs.declared.refusal.Refusal.TheVariants as refusal
-use Rattle.bm_base.specs.Answering.{wants_memory}
+use Rattle.bm_base.specs.Answering.{is_out_of_memory}
 use Rattle.bm_base.specs.Refusals.{refusal_number}
 use Rattle.bm_answers.specs.declared.line_answer.LineAnswer.TheVariants.{Answered}
 use Rattle.bm_answers.specs.OneLine.{number_of}
 
-of_refusal : (r : Refusal) → wants_memory (answer.Refused r) ≡ false → refusal_number r ≡ 14 → ⊥
+of_refusal : (r : Refusal) → is_out_of_memory (answer.Refused r) ≡ false → refusal_number r ≡ 14 → ⊥
 of_refusal refusal.UnknownNode w e = omega (arith, e)
 of_refusal refusal.NodeKnown w e = omega (arith, e)
 of_refusal refusal.UnknownStorage w e = omega (arith, e)
@@ -27,7 +27,7 @@ of_refusal refusal.CallsSpent w e = omega (arith, e)
 of_refusal refusal.Memory w e = absurd (cc w)
 of_refusal refusal.BadConfig w e = omega (arith, e)
 
-pub not_14 : (k : Call) (a : Answer) → wants_memory a ≡ false → number_of (Answered k a) ≡ 14 → ⊥
+pub not_14 : (k : Call) (a : Answer) → is_out_of_memory a ≡ false → number_of (Answered k a) ≡ 14 → ⊥
 not_14 k (answer.Done d) w e = omega (arith, e)
 not_14 k (answer.Commanded cs) w e = omega (arith, e)
 not_14 k (answer.Replicas rs) w e = omega (arith, e)

@@ -2,7 +2,7 @@
 ghost use Rattle.std.specs.Iterator.{YieldsFirst, item_count};
 
 use crate::links;
-use crate::types::Entry;
+use crate::types::BlockEntry;
 use bm_base::{NO_LINK, SlotLink};
 use slab::Slab;
 use std::marker::Model;
@@ -10,7 +10,7 @@ use std::marker::Model;
 /// The slots of a storage's list that are left. A contract sees it as the list of those slots. Takes no memory.
 #[derive(Drop)]
 pub struct Walk<'a> {
-    pub(crate) slots: &'a Slab<Entry>,
+    pub(crate) slots: &'a Slab<BlockEntry>,
     pub(crate) storage: u32,
     pub(crate) next: SlotLink,
     // No more slots than these are left.

@@ -6,27 +6,27 @@
 //! `grow_to`, `ready_block` and `ready_report`.
 #![tactic(auto)]
 
-mod around;
-mod bare_entries;
 mod block_events;
-mod count;
+mod classification;
+mod classified_chunks;
+mod cluster_after;
 mod draining_nodes;
 mod first_slots;
 mod four_lists;
-mod judging;
-mod judging_chunks;
-mod judging_slots;
-mod kept;
-mod leaving_storages;
-mod leveled;
-mod listed;
-mod marking;
-mod one_list;
-mod racks;
+mod level_index;
+mod leveled_blocks;
+mod listed_replicas;
+mod lost_storages;
+mod mark_changes;
+mod rack_changes;
+mod reclassification;
+mod replica_count;
 mod reports;
-mod round_begins;
-mod round_ends;
-mod unsettled;
+mod round_end;
+mod round_start;
+mod storage_list;
+mod unsettled_slots;
+mod unused_entries;
 
-pub use kept::KeptLevels;
-pub use leveled::LeveledBlocks;
+pub use level_index::LevelIndex;
+pub use leveled_blocks::LeveledBlocks;

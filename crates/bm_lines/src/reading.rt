@@ -1,16 +1,16 @@
 // A line as a call: read by its bytes where it is in canonical form, else by the value that `serde_json` reads of it.
 
 mod call;
+mod canonical;
+mod canonical_calls;
+mod canonical_entries;
+mod canonical_lists;
+mod canonical_numbers;
+mod canonical_remaining;
 mod fields;
 mod items;
 mod lists;
 mod op;
-mod usual;
-mod usual_calls;
-mod usual_entries;
-mod usual_lists;
-mod usual_numbers;
-mod usual_remaining;
 
 pub use call::call_of;
-pub use usual::usual_call;
+pub use canonical::canonical_call;

@@ -9,7 +9,7 @@ ghost use Rattle.bm_base.specs.Answering.{checked, Refuses, takes_memory};
 
 use bm_base::{Config, Done, Event, HashSecret, Refusal};
 use bm_crew::Gate;
-use bm_fleet::{CallingThread, Fleet, Threaded, Workers};
+use bm_shards::{AllShards, CallingThread, Threaded, Workers};
 use bm_topo::Topology;
 use std::alloc::Global;
 use std::marker::Model;
@@ -37,7 +37,7 @@ pub struct Manager {
     pub(crate) alloc: Global,
     pub(crate) config: Config,
     pub(crate) topology: Topology,
-    pub(crate) fleet: Fleet,
+    pub(crate) shards: AllShards,
     pub(crate) round: u64,
     pub(crate) calls: u64,
 }
@@ -51,9 +51,9 @@ impl Model for Manager {
 
     ghost coded = { coded_state };
 
-    ghost view = { λ m. state_of m.config m.topology.cluster m.fleet.holdings m.round m.calls };
+    ghost view = { λ m. state_of m.config m.topology.cluster m.shards.holdings m.round m.calls };
 
-    ghost invariant = { λ m. IsManager m.config m.topology.cluster m.fleet m.round m.calls };
+    ghost invariant = { λ m. IsManager m.config m.topology.cluster m.shards m.round m.calls };
 }
 
 impl Manager {
@@ -83,7 +83,7 @@ impl Manager {
             alloc,
             config,
             topology: Topology::new(alloc)?,
-            fleet: Fleet::new(alloc, &config, secret)?,
+            shards: AllShards::new(alloc, &config, secret)?,
             round: config.first_round,
             calls: config.first_call,
         })
@@ -109,7 +109,7 @@ impl Manager {
         ensures unchanged { OnErr result (self.new ≡ self.old) }
     {
         let workers = Threaded::new(rt, gate, self.config.workers as usize);
-        self.apply_by(&workers, event)
+        self.apply_with(&workers, event)
     }
 
     /// [`Manager::apply`] by the calling thread alone, however many workers are configured: it needs
@@ -122,12 +122,12 @@ impl Manager {
             (Refuses (refusal_of self.old event.now) (takes_memory event.now)) }
         ensures unchanged { OnErr result (self.new ≡ self.old) }
     {
-        self.apply_by(&CallingThread, event)
+        self.apply_with(&CallingThread, event)
     }
 
     /// Takes one event by these workers.
     #[tactic(auto, unfolding(bm_base::specs::Calls::after_event, bm_base::specs::Calls::done_by))]
-    pub(crate) fn apply_by<W: Workers>(
+    pub(crate) fn apply_with<W: Workers>(
         &mut self,
         workers: &W,
         event: &Event,
@@ -143,7 +143,7 @@ impl Manager {
         event.fits();
         let multi = self.topology.multi_after(event);
         self.topology.prepare(event)?;
-        match self.fleet.change(workers, event, &self.topology, multi) {
+        match self.shards.change(workers, event, &self.topology, multi) {
             Ok(done) => {
                 self.topology.commit(event);
                 self.calls += 1;
@@ -162,7 +162,7 @@ impl Manager {
     /// block at most; a replica is stray just where its block is not known; only good ones are in excess; what is on its way is of a
     /// known block; there are at most `MAX_NODES` nodes and `MAX_STORAGES` storages, and of each block 1 to `MAX_REPLICATION`
     /// replicas are wanted; and the numbers fit their types.
-    pub fn lawful(&self)
+    pub fn show_invariant(&self)
         ensures { IsLawful self.now }
     {
         let _ = &self.config;
@@ -178,7 +178,7 @@ impl Manager {
         ensures blocks { OnOk result (first_of (block_checks self.now.holdings event.now) ≡ None) }
     {
         self.topology.check(event)?;
-        self.fleet.check(event)?;
+        self.shards.check(event)?;
         if self.calls == u64::MAX {
             return Err(Refusal::CallsSpent);
         }

@@ -5,10 +5,10 @@
 #![tactic(auto)]
 
 mod by_block;
-mod left;
-mod listing;
-mod own;
+mod own_transfers;
 mod pending;
+mod remaining;
 mod targets;
+mod transfer_lists;
 
 pub use pending::PendingTransfers;

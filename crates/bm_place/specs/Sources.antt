@@ -12,7 +12,7 @@ use Rattle.bm_base.specs.State.{Cluster}
 use Rattle.bm_base.specs.Lists.{has}
 use Rattle.bm_base.specs.Replicas.{node_of, has_storage, is_draining}
 use Rattle.bm_base.specs.Transfers.{node_number, source_rank, stream_limit}
-use Rattle.bm_place.specs.declared.source.Source.{Source}
+use Rattle.bm_place.specs.declared.source.SourceRow.{SourceRow}
 use Rattle.bm_place.specs.Tables.{table}
 
 -- what a table of sources says
@@ -43,17 +43,17 @@ unfoldable pub with_one_from : ℕ → Senders → Senders
 with_one_from s S = option_map_or (λ n. record S { counts = revise_at S.counts n (λ k. k + 1) }) (get S.nodes s) S
 
 -- a storage as a source, where `streams` says of how many transfers its node is the source
-abbrev pub source_at : Cluster → (ℕ → ℕ) → ℕ → Source
+abbrev pub source_at : Cluster → (ℕ → ℕ) → ℕ → SourceRow
 source_at C streams s = record { is_drained = is_draining C s; streams = streams s; node = node_number C s; storage = s }
 
 -- which goes before which: the same on rows as `source_cmp`
-abbrev pub cmp_sources : Source → Source → Ordering
+abbrev pub cmp_sources : SourceRow → SourceRow → Ordering
 cmp_sources s t =
     ordering_then (nat_cmp (source_rank s.is_drained) (source_rank t.is_drained))
     (ordering_then (nat_cmp s.streams t.streams) (ordering_then (nat_cmp s.node t.node) (nat_cmp s.storage t.storage)))
 
 -- whether its node may be the source of one more transfer at a level: the same on rows as the test of `least_source_by`
-abbrev pub may_send : Level → Source → Bool
+abbrev pub may_send : Level → SourceRow → Bool
 may_send urgency s = nat_lt s.streams (stream_limit urgency s.is_drained)
 
 -- where one of the storages stands on a node that drains and is the source of fewer than four transfers, what was found stands on

@@ -11,8 +11,8 @@ unfoldable pub table : {X : Type 0} → (ℕ → X) → List ℕ → Map by_numb
 table f ks = insert_all empty (listed f ks)
 
 -- 0 for each number: nothing was sent yet
-abbrev pub nothing_yet : ℕ → ℕ
-nothing_yet = λ _. 0
+abbrev pub none_sent : ℕ → ℕ
+none_sent = λ _. 0
 
 -- the count at a number; 0 where none stands
 unfoldable pub count_at : Map by_number ℕ → ℕ → ℕ

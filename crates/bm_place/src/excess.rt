@@ -4,18 +4,18 @@ ghost use Rattle.bm_base.specs.declared.refusal.Refusal.TheVariants.{Memory};
 ghost use Rattle.bm_base.specs.Excess as excess;
 ghost use Rattle.bm_base.specs.Lists.{has_repeats};
 
-use crate::compared::{Holder, fill_holders, push_of_few};
-use crate::pass::{count_racks, push_in_order, sort_holders};
+use crate::comparison::{Holder, fill_holders, push_by_comparison};
+use crate::sorted_excess::{count_racks, push_in_order, sort_holders};
 use bm_base::{NumberMap, Refusal, StorageId};
 use bm_topo::Topology;
 use std::alloc::{AllocError, Global};
 
 /// Up to this number of live replicas, each is compared with the others, which takes less time than to sort them and count their racks.
-const FEW: usize = 8;
+const COMPARE_AT_MOST: usize = 8;
 
 /// Room for the choice of what is in excess, used again from block to block.
 #[derive(Drop)]
-pub struct ExcessRoom {
+pub struct ExcessScratch {
     /// Where few are live: those that are left, looked up. Where more are: all, in order.
     holders: Vec<Holder>,
     /// Where more are: those that had their rack for themselves when the pass reached them.
@@ -24,10 +24,10 @@ pub struct ExcessRoom {
     racks: NumberMap<usize>,
 }
 
-impl ExcessRoom {
+impl ExcessScratch {
     /// Room for none. Takes no memory.
-    pub fn new(alloc: Global) -> ExcessRoom {
-        ExcessRoom {
+    pub fn new(alloc: Global) -> ExcessScratch {
+        ExcessScratch {
             holders: Vec::new(alloc),
             kept: Vec::new(alloc),
             racks: NumberMap::new(alloc),
@@ -54,7 +54,7 @@ pub fn excess_of(
     ensures refused { IfErr result (λ e. e ≡ Memory) }
 {
     let mut chosen = Vec::new(alloc);
-    let mut room = ExcessRoom::new(alloc);
+    let mut room = ExcessScratch::new(alloc);
     fill_excess(&mut chosen, &mut room, live, repl, topology)?;
     Ok(chosen)
 }
@@ -66,7 +66,7 @@ pub fn excess_of(
 /// before. `Memory` where such a growth is refused; what `into` holds then is not said.
 pub fn fill_excess(
     into: &mut Vec<StorageId>,
-    room: &mut ExcessRoom,
+    room: &mut ExcessScratch,
     live: &[StorageId],
     repl: u32,
     topology: &Topology,
@@ -81,16 +81,16 @@ pub fn fill_excess(
     if surplus == 0 {
         return Ok(());
     }
-    if live.len() <= FEW {
-        return Ok(push_of_few(into, &mut room.holders, live, surplus, topology)?);
+    if live.len() <= COMPARE_AT_MOST {
+        return Ok(push_by_comparison(into, &mut room.holders, live, surplus, topology)?);
     }
-    Ok(push_of_many(into, room, live, surplus, topology)?)
+    Ok(push_by_sorting(into, room, live, surplus, topology)?)
 }
 
 /// Appends the `surplus` first of these storages in the order of choice: sorts them and passes over them once.
-fn push_of_many(
+fn push_by_sorting(
     into: &mut Vec<StorageId>,
-    room: &mut ExcessRoom,
+    room: &mut ExcessScratch,
     live: &[StorageId],
     surplus: usize,
     topology: &Topology,

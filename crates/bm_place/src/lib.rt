@@ -6,20 +6,20 @@
 //! cluster, and a list names a storage once.
 #![tactic(auto)]
 
-mod compared;
+mod best_targets;
+mod comparison;
 mod excess;
-mod few;
-mod foremost;
-mod pass;
-mod scheduled;
-mod seats;
+mod node_storages;
+mod replica_spread;
+mod scheduled_bytes;
+mod sorted_excess;
 mod source;
-mod standing;
 mod streams;
 mod target;
+mod up_to_two;
 
-pub use excess::{ExcessRoom, excess_of, fill_excess};
-pub use scheduled::Scheduled;
+pub use excess::{ExcessScratch, excess_of, fill_excess};
+pub use scheduled_bytes::Scheduled;
 pub use source::least_source;
 pub use streams::Streams;
 pub use target::least_target;

@@ -2,7 +2,7 @@
 -- cell k + x. `next` holds for each cell the slot behind it, `back` for each slot the cell before it, if it is in a list.
 use Rattle.std.specs.Prelude.{◌≡◌, ℕ, zero, suc, ◌+◌, ◌<◌, ◌≤◌, List, [], ◌∷◌, length, Option, Some, None, slice_index_or, slice_set}
 use Rattle.bm_base.specs.SlotLinks.{end_of_links}
-use Rattle.bm_base.specs.SlotLists.{Among, Distinct}
+use Rattle.bm_base.specs.SlotLists.{IsMember, Distinct}
 
 abbrev pub link_at : List (Option ℕ) → ℕ → Option ℕ
 link_at links i = slice_index_or links i None
@@ -29,9 +29,9 @@ pub record HoldLists (k : ℕ) (next back : List (Option ℕ)) (lists : ℕ → 
   pub chain : (l : ℕ) → l < k → Chain k (link_at next) (link_at back) l (lists l)
   -- these two follow, and are kept at hand: a list has no slot twice, and a slot is in one list at most
   pub distinct : (l : ℕ) → l < k → Distinct (lists l)
-  pub once : (l m x : ℕ) → l < k → m < k → Among x (lists l) → Among x (lists m) → l ≡ m
+  pub once : (l m x : ℕ) → l < k → m < k → IsMember x (lists l) → IsMember x (lists m) → l ≡ m
   -- a slot that links back is in a list
-  pub complete : (x c : ℕ) → link_at back x ≡ Some c → (l : ℕ) × (l < k) × Among x (lists l)
+  pub complete : (x c : ℕ) → link_at back x ≡ Some c → (l : ℕ) × (l < k) × IsMember x (lists l)
   -- a slot in no list links nowhere
   pub clear : (x : ℕ) → link_at back x ≡ None → link_at next (k + x) ≡ None
 

@@ -1,6 +1,6 @@
 -- What a contract sees of a set of slots.
 use Rattle.std.specs.Prelude.{◌≡◌, ℕ, ◌+◌, ◌<◌, ◌≤◌, if◌then◌else◌, nat_lt, List, length, Option}
-use Rattle.bm_base.specs.SlotLists.{Among, Distinct, first_of, slot_after}
+use Rattle.bm_base.specs.SlotLists.{IsMember, Distinct, first_of, slot_after}
 use Rattle.bm_base.specs.SlotLinks.{end_of_links}
 use Rattle.bm_queues.specs.Links.{AreLinks, list_from, walk}
 
@@ -20,7 +20,7 @@ with_room v room = record v { room = if nat_lt v.room room then room else v.room
 -- what holds of a set after every call
 pub record IsLawful (v : Members) : Type 0 where
   pub distinct : Distinct v.slots
-  pub below : (slot : ℕ) → Among slot v.slots → slot < v.room
+  pub below : (slot : ℕ) → IsMember slot v.slots → slot < v.room
   -- links can name all slots that there is room for
   pub small : v.room + 1 ≤ end_of_links
 

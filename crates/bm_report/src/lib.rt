@@ -8,25 +8,25 @@
 //! What an arena holds as blocks and replicas is said by two finite maps.
 #![tactic(auto)]
 
-mod aborting;
-mod applying;
-mod by_number;
-mod entering;
-mod entering_chunks;
+mod aborted_report;
 mod first_of_part;
+mod full_report;
 mod look_up;
-mod marking;
 mod notices;
+mod replica_capacity;
 mod report;
-mod room_for_replica;
-mod sister_storages;
-mod sweeping;
-mod tally;
+mod report_counts;
+mod reported_block;
+mod reported_chunks;
+mod reported_marks;
+mod sibling_storages;
+mod sweep;
 mod types;
-mod without_report;
+mod uncached_numbers;
+mod uncached_report;
 
-pub use aborting::abort;
+pub use aborted_report::abort;
 pub use notices::{apply_deleted, apply_received};
 pub use report::Report;
 pub use types::Applied;
-pub use without_report::{apply_full, ready};
+pub use uncached_report::{apply_full, ready};

@@ -42,8 +42,8 @@ abbrev pub deletes_of_all : List NodeCommands → List Delete
 deletes_of_all ks = flat_map (λ k. k.deletes) ks
 
 -- they stand by rising number of their nodes, each node once
-abbrev pub RiseByNode : List NodeCommands → Type 0
-RiseByNode ks = T (is_sorted nat_cmp (map (λ k. (k.node, k)) ks))
+abbrev pub AscendByNode : List NodeCommands → Type 0
+AscendByNode ks = T (is_sorted nat_cmp (map (λ k. (k.node, k)) ks))
 
 -- the node is told something
 abbrev pub HasCommands : NodeCommands → Type 0

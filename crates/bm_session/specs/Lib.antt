@@ -1,6 +1,6 @@
 -- The definitions of a run: what is written for the lines of an input, and what stands written where the run ends.
 pub mod Ends
-pub mod Counted
+pub mod FaultCounts
 pub mod Text
 pub mod Starting
 pub mod Progress

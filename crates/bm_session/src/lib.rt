@@ -4,16 +4,16 @@
 //!
 //! `run` is the whole of it. `specs/` says which text answers an input (`Text`), what was written
 //! where a run ends early (`Outcome`), and how readers and writers count their failures (`Ends`,
-//! `Counted`).
+//! `FaultCounting`).
 #![tactic(auto)]
 
-mod ends;
 mod fault;
+mod fault_counting;
 mod limits;
 mod reply;
 mod session;
 mod whole_run;
 
-pub use ends::{Counted, Sink, Source};
 pub use fault::{Fault, Summary};
+pub use fault_counting::{FaultCounting, Sink, Source};
 pub use whole_run::run;

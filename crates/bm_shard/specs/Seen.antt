@@ -9,18 +9,18 @@ use Rattle.bm_base.specs.declared.event.Event.TheVariants.{AddBlock, Received, F
 use Rattle.bm_base.specs.declared.round.Chosen.{Chosen}
 use Rattle.bm_base.specs.Map.{Map, by_number}
 use Rattle.bm_base.specs.State.{Holdings}
-use Rattle.bm_base.specs.Entries.{Told, expanded}
-use Rattle.bm_base.specs.SlotLists.{Among}
+use Rattle.bm_base.specs.Entries.{ReportedBlock, expanded}
+use Rattle.bm_base.specs.SlotLists.{IsMember}
 use Rattle.bm_base.specs.RoundParts.{own_transfers}
-use Rattle.bm_parts.specs.Parts.{told_of}
+use Rattle.bm_parts.specs.Parts.{reported_of}
 
 -- What was looked up, of a storage: what is told of the one number of a notice, or of the numbers of a full report.
 pub data LookUp : Type 0 where
-  NoticeOf : (storage : ℕ) → (told : List Told) → LookUp
-  ReportOf : (storage : ℕ) → (told : List Told) → LookUp
+  NoticeOf : (storage : ℕ) → (told : List ReportedBlock) → LookUp
+  ReportOf : (storage : ℕ) → (told : List ReportedBlock) → LookUp
 
 -- What was made ready. Only the calls that make it and the calls that need it read it.
-pub record Room : Type 0 where
+pub record Reserved : Type 0 where
   -- the numbers that have an entry
   pub entries : List ℕ
   -- the storages that have a list
@@ -39,21 +39,21 @@ pub record Seen : Type 0 where
   pub pend : ℕ
   -- the level of each known block that has one, as it is kept
   pub levels : Map by_number Level
-  pub room : Room
+  pub room : Reserved
 
 -- what was made ready suffices for an event; what other events change takes no memory
 unfoldable pub IsReadyFor : Event → Seen → Type 0
-IsReadyFor (AddBlock b stamp repl) S = Among b S.room.entries
+IsReadyFor (AddBlock b stamp repl) S = IsMember b S.room.entries
 IsReadyFor (Received s b stamp) S = S.room.report ≡ Some (NoticeOf s (record { id = b; stamp = stamp } ∷ []))
-IsReadyFor (FullReport s es) S = S.room.report ≡ Some (ReportOf s (told_of S.part.index S.part.shards (expanded es)))
+IsReadyFor (FullReport s es) S = S.room.report ≡ Some (ReportOf s (reported_of S.part.index S.part.shards (expanded es)))
 IsReadyFor _ S = Unit {0}
 
 -- whether an event needs something made ready, so that its preparation may be refused memory
-abbrev pub takes_room : Event → Bool
-takes_room (AddBlock b stamp repl) = true
-takes_room (Received s b stamp) = true
-takes_room (FullReport s es) = true
-takes_room _ = false
+abbrev pub needs_reservation : Event → Bool
+needs_reservation (AddBlock b stamp repl) = true
+needs_reservation (Received s b stamp) = true
+needs_reservation (FullReport s es) = true
+needs_reservation _ = false
 
 -- and for what was chosen in a round: each block has room for its transfers
 unfoldable pub IsReadyForRound : Chosen → Seen → Type 0

@@ -6,15 +6,15 @@
 //! [`Shard::round_ready`] takes the memory, [`Shard::round_commit`] ends it.
 #![tactic(auto)]
 
-mod arriving;
-mod asking;
-mod checking;
-mod clusters;
-mod committing;
-mod one_block;
+mod arrived_transfers;
+mod block_events;
+mod checks;
+mod cluster_events;
+mod commit;
 mod own_transfers;
-mod preparing;
-mod receiving;
+mod preparation;
+mod queries;
+mod reported_replicas;
 mod rounds;
 mod shard;
 

@@ -2,8 +2,8 @@
 ghost use Rattle.std.specs.Prelude.{◌≡◌, ◌<◌, ℕ, IfOk, IfErr};
 ghost use Rattle.bm_base.specs.declared.refusal.Refusal.TheVariants.{Memory};
 ghost use Rattle.bm_base.specs.State.{Cluster, empty_holdings};
-ghost use Rattle.bm_shard.specs.Bare.{HasNoneBare};
-ghost use Rattle.bm_shard.specs.Standing.{StandsIn};
+ghost use Rattle.bm_shard.specs.Unused.{HasNoUnused};
+ghost use Rattle.bm_shard.specs.UpToDate.{IsUpToDate};
 
 use bm_base::{BlockId, Config, HashSecret, Part, Refusal, StorageId};
 use bm_levels::LeveledBlocks;
@@ -14,7 +14,7 @@ use std::marker::Model;
 
 /// What the last `prepare` made ready.
 #[derive(Clone, Copy)]
-pub(crate) enum Prepared {
+pub(crate) enum PreparedEvent {
     Nothing,
     /// An entry of a number.
     Entry(BlockId),
@@ -27,14 +27,14 @@ pub(crate) enum Prepared {
 /// One shard: the blocks of the numbers `index` modulo `shards`, their replicas, their transfers, and the level of each block.
 ///
 /// A contract sees the holdings of the definitions, cut to the shard, and the levels as they are kept. That the levels are those of a cluster is a fact
-/// about both (`StandsIn`), which each call hands on to the next.
+/// about both (`IsUpToDate`), which each call hands on to the next.
 #[derive(Drop)]
 pub struct Shard {
     pub(crate) alloc: Global,
     pub(crate) blocks: LeveledBlocks,
     pub(crate) pending: PendingTransfers,
     pub(crate) report: Report,
-    pub(crate) prepared: Prepared,
+    pub(crate) prepared: PreparedEvent,
     pub(crate) part: Part,
     pub(crate) round: u64,
     pub(crate) pend: u32,
@@ -76,8 +76,8 @@ impl Shard {
             (λ s. s.part ≡ record { index = index; shards = config.now.shards }) }
         ensures round { IfOk result (λ s. s.round ≡ config.now.first_round) }
         ensures pend { IfOk result (λ s. s.pend ≡ config.now.pend) }
-        ensures standing { IfOk result (λ s. (C : Cluster) → StandsIn C s) }
-        ensures bare { IfOk result (λ s. HasNoneBare s) }
+        ensures standing { IfOk result (λ s. (C : Cluster) → IsUpToDate C s) }
+        ensures bare { IfOk result (λ s. HasNoUnused s) }
         ensures refused { IfErr result (λ e. e ≡ Memory) }
     {
         Shard::with_secret(alloc, index, config, HashSecret::none())
@@ -96,18 +96,18 @@ impl Shard {
             (λ s. s.part ≡ record { index = index; shards = config.now.shards }) }
         ensures round { IfOk result (λ s. s.round ≡ config.now.first_round) }
         ensures pend { IfOk result (λ s. s.pend ≡ config.now.pend) }
-        ensures standing { IfOk result (λ s. (C : Cluster) → StandsIn C s) }
-        ensures bare { IfOk result (λ s. HasNoneBare s) }
+        ensures standing { IfOk result (λ s. (C : Cluster) → IsUpToDate C s) }
+        ensures bare { IfOk result (λ s. HasNoUnused s) }
         ensures refused { IfErr result (λ e. e ≡ Memory) }
     {
         let blocks = LeveledBlocks::new(alloc, secret)?;
-        blocks.arena().lawful();
+        blocks.arena().show_invariant();
         Ok(Shard {
             alloc,
             blocks,
             pending: PendingTransfers::new(alloc, secret),
             report: Report::new(alloc),
-            prepared: Prepared::Nothing,
+            prepared: PreparedEvent::Nothing,
             part: Part {
                 index,
                 shards: config.shards,

@@ -10,7 +10,7 @@
 ghost use Rattle.std.specs.Prelude.{◌≡◌, ◌<◌, ◌++◌, ◌∷◌, [], List, length};
 ghost use mathlib.Core.List.{IsPrefix};
 ghost use Rattle.logbook.specs.Pages.{nib, may_write};
-ghost use Rattle.bm_view.specs.declared.journal.Entry.{Entry};
+ghost use Rattle.bm_view.specs.declared.journal.JournalEntry.{JournalEntry};
 ghost use Rattle.bm_view.specs.Version.{opening};
 ghost use Rattle.bm_view.specs.Journal.{opening_log, word_of};
 
@@ -20,7 +20,7 @@ use logbook::{Gain, Offer, Pen, Plain, Play, Rule, Seen, Start, Word};
 use std::marker::Model;
 
 /// An entry of the journal. No value of it is made.
-pub struct Entry {
+pub struct JournalEntry {
     /// Whether the version was shown, and not only proposed.
     pub done: bool,
     pub table: Table,
@@ -28,20 +28,20 @@ pub struct Entry {
 
 /// An entry, and what it was written with. No value of it is made. A number is the key of a cell of `logbook`, which a
 /// pen of that key writes.
-pub struct Line {
+pub struct JournalLine {
     /// The pen of the first line of this journal.
     pub first: u64,
     /// The pen that wrote this line. It is used up.
     pub by: u64,
     /// The pen that writes the next line of this journal.
     pub next: u64,
-    pub entry: Entry,
+    pub entry: JournalEntry,
 }
 
 /// The rule of `logbook`: a pen that wrote a line is used up.
 pub struct JournalRule;
 
-impl Rule<Line, u64> for JournalRule {
+impl Rule<JournalLine, u64> for JournalRule {
     ghost use base.Fml.{ftrue};
     ghost use Rattle.std.specs.Prelude.{[]};
     ghost use Rattle.bm_view.specs.Journal.{IsKept};
@@ -62,7 +62,7 @@ impl Rule<Line, u64> for JournalRule {
 /// A step hands nothing over.
 pub struct NoGain;
 
-impl Gain<Line, u64> for NoGain {
+impl Gain<JournalLine, u64> for NoGain {
     ghost use base.Fml.{ftrue};
 
     ghost after = { λ names about answer. ftrue };
@@ -71,7 +71,7 @@ impl Gain<Line, u64> for NoGain {
 /// The step that gives a pen.
 pub struct Reserve;
 
-impl Play<Line, u64> for Reserve {
+impl Play<JournalLine, u64> for Reserve {
     ghost use Rattle.bm_view.specs.Journal.{Reserves};
 
     ghost then = { Reserves };
@@ -80,7 +80,7 @@ impl Play<Line, u64> for Reserve {
 /// The step that writes a line, and uses its pen up.
 pub struct Enter;
 
-impl Play<Line, u64> for Enter {
+impl Play<JournalLine, u64> for Enter {
     ghost use Rattle.bm_view.specs.Journal.{Enters};
 
     ghost then = { Enters };
@@ -88,8 +88,8 @@ impl Play<Line, u64> for Enter {
 
 /// What a line is to say. It has one byte, for proofs alone.
 #[derive(Drop)]
-pub struct Wanted {
-    first: Snapshot<Word<Line, u64, JournalRule>>,
+pub struct LineContent {
+    first: Snapshot<Word<JournalLine, u64, JournalRule>>,
     by: Snapshot<Pen>,
     next: Snapshot<Pen>,
     done: bool,
@@ -99,7 +99,7 @@ pub struct Wanted {
 /// A step asks for the line that is wanted.
 pub struct AsWanted;
 
-impl Plain<Wanted, Line, u64> for AsWanted {
+impl Plain<LineContent, JournalLine, u64> for AsWanted {
     ghost use Rattle.std.specs.Prelude.{None};
 
     ghost ask = { λ w. record {
@@ -115,7 +115,7 @@ impl Plain<Wanted, Line, u64> for AsWanted {
 /// A step that writes nothing asks for nothing in particular.
 pub struct AsNothing;
 
-impl Plain<(), Line, u64> for AsNothing {
+impl Plain<(), JournalLine, u64> for AsNothing {
     ghost use Rattle.std.specs.Prelude.{None};
     ghost use Rattle.bm_view.specs.Version.{opening};
     ghost use Rattle.bm_view.specs.Journal.{proposed};
@@ -128,7 +128,7 @@ impl Plain<(), Line, u64> for AsNothing {
 /// How a journal began: a token that takes no bytes. Of two of one journal, one begins the other.
 #[derive(Drop)]
 pub struct Evidence {
-    seen: Seen<Line, u64, JournalRule>,
+    seen: Seen<JournalLine, u64, JournalRule>,
 }
 
 impl Model for Evidence {
@@ -155,9 +155,9 @@ impl Evidence {
     }
 
     /// For proofs alone: both begin one journal.
-    pub fn meet(&self, other: &Evidence)
+    pub fn show_one_journal(&self, other: &Evidence)
         requires { other.now.home ≡ self.now.home }
-        ensures { (both : List Entry) × IsPrefix self.now.log both × IsPrefix other.now.log both }
+        ensures { (both : List JournalEntry) × IsPrefix self.now.log both × IsPrefix other.now.log both }
     {
         let mut both = self.seen.again();
         both.learn(&other.seen);
@@ -168,10 +168,10 @@ impl Evidence {
 #[derive(Drop)]
 pub struct Journal {
     /// The word that steps of `logbook` are taken on. Its value says nothing. It lies here alone, so no thread shares it.
-    head: Word<Line, u64, JournalRule>,
+    head: Word<JournalLine, u64, JournalRule>,
     /// The word of the first pen: it names the journal.
-    first: Word<Line, u64, JournalRule>,
-    seen: Seen<Line, u64, JournalRule>,
+    first: Word<JournalLine, u64, JournalRule>,
+    seen: Seen<JournalLine, u64, JournalRule>,
     /// What writes the next line.
     pen: Pen,
 }
@@ -197,14 +197,18 @@ impl Model for Journal {
 
 // A new pen, and the word that it may write. Whoever asks gets one.
 fn new_pen(
-    head: &Word<Line, u64, JournalRule>,
-    seen: &Seen<Line, u64, JournalRule>,
-) -> (Pen, Word<Line, u64, JournalRule>)
+    head: &Word<JournalLine, u64, JournalRule>,
+    seen: &Seen<JournalLine, u64, JournalRule>,
+) -> (Pen, Word<JournalLine, u64, JournalRule>)
     requires { head.now ≡ word_of seen.now.book }
     ensures pen { (result.0.book ≡ seen.now.book) × (result.0.nib ≡ nib may_write result.1.key 0) }
 {
     let mut seen = seen.again();
-    let mut offer: Offer<Line, u64, JournalRule, NoGain> = seen.plain::<NoGain, (), AsNothing>(&());
+    let mut offer: Offer<JournalLine, u64, JournalRule, NoGain> = seen.plain::<
+        NoGain,
+        (),
+        AsNothing,
+    >(&());
     let mut pen = seen.no_pen();
     head.compare_exchange::<Reserve, NoGain>(0, 0, &mut seen, &mut offer, &mut pen);
     let word = Word::tracked(0, &mut pen);
@@ -247,16 +251,16 @@ impl Journal {
             ++ record { done = done; table = table.now } ∷ [] }
     {
         let (next, _word) = new_pen(&self.head, &self.seen);
-        let wanted = Wanted {
+        let wanted = LineContent {
             first: Snapshot::of(&self.first),
             by: Snapshot::of(&self.pen),
             next: Snapshot::of(&next),
             done,
             table: Snapshot::of(table),
         };
-        let mut offer: Offer<Line, u64, JournalRule, NoGain> = self
+        let mut offer: Offer<JournalLine, u64, JournalRule, NoGain> = self
             .seen
-            .plain::<NoGain, Wanted, AsWanted>(&wanted);
+            .plain::<NoGain, LineContent, AsWanted>(&wanted);
         self.head
             .compare_exchange::<Enter, NoGain>(0, 0, &mut self.seen, &mut offer, &mut self.pen);
         self.pen = next;

@@ -18,6 +18,7 @@
 
 mod count;
 mod journal;
+mod learnt_lists;
 mod locator;
 mod open;
 mod publisher;
@@ -25,7 +26,6 @@ mod receipt;
 mod rule;
 mod shown;
 mod table;
-mod told;
 
 pub use locator::{Located, Locator};
 pub use open::open_view;

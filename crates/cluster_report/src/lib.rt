@@ -32,7 +32,6 @@
 #![tactic(auto)]
 
 pub mod book;
-pub mod counting;
 pub mod fault;
 pub mod levels;
 pub mod nodes;
@@ -41,6 +40,7 @@ pub mod reading;
 pub mod report;
 mod run;
 pub mod session;
+pub mod tag_counts;
 mod text;
 pub mod text_parts;
 pub mod transfers;

@@ -44,7 +44,7 @@ impl Transfers {
 
     /// Forgets the copies that an accepted event takes away, where the cluster is as it was before it. An event that takes some away costs
     /// a look at each.
-    #[tactic(auto, unfolding(bm_base::specs::Events::change_holdings, bm_base::specs::Events::without_storages, bm_base::specs::Events::begun_to_drain, bm_base::specs::Events::add_block, bm_base::specs::Events::delete_block, bm_base::specs::Events::without_pending, bm_base::specs::Events::revise_block, bm_base::specs::Events::set_replication, bm_base::specs::Events::restamp, bm_base::specs::Events::enter, bm_base::specs::Events::remove_replica, bm_base::specs::Events::make_bad, bm_base::specs::Events::report, bm_base::specs::Refusals::cluster_checks))]
+    #[tactic(auto, unfolding(bm_base::specs::Events::change_holdings, bm_base::specs::Events::without_storages, bm_base::specs::Events::begin_drain, bm_base::specs::Events::add_block, bm_base::specs::Events::delete_block, bm_base::specs::Events::without_pending, bm_base::specs::Events::change_marks_of_block, bm_base::specs::Events::set_replication, bm_base::specs::Events::restamp, bm_base::specs::Events::enter, bm_base::specs::Events::remove_replica, bm_base::specs::Events::make_bad, bm_base::specs::Events::report, bm_base::specs::Refusals::cluster_checks))]
     pub fn take_event(&mut self, topology: &Topology, event: &Event)
         requires { first_of (cluster_checks topology.now.cluster event.now) ≡ None }
         ensures copies { (H : Holdings) → self.old.copies ≡ H.pending

@@ -25,9 +25,9 @@
 //! Ends with status 1 where memory or a write is refused, and with status 2 where the words ask for nothing that there is.
 #![tactic(auto)]
 
-mod awaited;
+mod awaited_copies;
+mod block_counts;
 mod corrupt;
-mod counting;
 pub mod counts;
 mod csv;
 mod datanodes;
@@ -40,7 +40,7 @@ mod losses;
 mod misuse;
 mod options;
 mod orders;
-mod placing;
+mod placement;
 mod plan;
 mod scale;
 mod shape;

@@ -9,8 +9,8 @@ use Rattle.bm_base.specs.declared.call.Answer.{Answer}
 use Rattle.bm_base.specs.State.{State, first_state}
 use Rattle.bm_base.specs.Refusals.{refusal_of, round_refusal}
 use Rattle.bm_base.specs.Rounds.{whole_round}
-use Rattle.bm_base.specs.Calls.{step, after_event, counted, state_after}
-use Rattle.bm_base.specs.Answering.{is_refused, MayAnswerAll, state_left_by}
+use Rattle.bm_base.specs.Calls.{step, after_event, count_call, state_after}
+use Rattle.bm_base.specs.Answering.{is_refused, MayAnswerAll, state_after_answers}
 use Rattle.bm_base.specs.Lawful.{IsLawful, IsOrderly}
 use Rattle.bm_base.specs.Fitting.{HasFittingStart, FitsEvent, FitsCall, FitCalls}
 
@@ -24,7 +24,7 @@ event_keeps_lawful = (M : State) (e : Event) → IsLawful M → FitsEvent e → 
 
 -- an accepted round
 abbrev pub round_keeps_lawful : Type 0
-round_keeps_lawful = (M : State) → IsLawful M → round_refusal M ≡ None → IsLawful (counted (whole_round M).1)
+round_keeps_lawful = (M : State) → IsLawful M → round_refusal M ≡ None → IsLawful (count_call (whole_round M).1)
 
 -- a call that is refused
 abbrev pub refusal_leaves_state : Type 0
@@ -41,7 +41,7 @@ calls_lead_to_lawful = (c : Config) (ks : List Call) → HasFittingStart c → F
 -- any calls with any answers that they may give, want of memory among them
 abbrev pub answered_calls_lead_to_lawful : Type 0
 answered_calls_lead_to_lawful =
-    (c : Config) (ks : List Call) (answers : List Answer) → HasFittingStart c → FitCalls ks → MayAnswerAll step (first_state c) ks answers → IsLawful (state_left_by step (first_state c) ks answers)
+    (c : Config) (ks : List Call) (answers : List Answer) → HasFittingStart c → FitCalls ks → MayAnswerAll step (first_state c) ks answers → IsLawful (state_after_answers step (first_state c) ks answers)
 
 -- Whatever numbers calls bring, the state that they lead to is lawful but for the sizes of its numbers.
 
@@ -50,7 +50,7 @@ calls_lead_to_orderly = (c : Config) (ks : List Call) → IsOrderly (state_after
 
 abbrev pub answered_calls_lead_to_orderly : Type 0
 answered_calls_lead_to_orderly =
-    (c : Config) (ks : List Call) (answers : List Answer) → MayAnswerAll step (first_state c) ks answers → IsOrderly (state_left_by step (first_state c) ks answers)
+    (c : Config) (ks : List Call) (answers : List Answer) → MayAnswerAll step (first_state c) ks answers → IsOrderly (state_after_answers step (first_state c) ks answers)
 
 -- what is on its way to a storage is not there yet, whatever its tag
 abbrev pub IsStillToCome : State → Type 0

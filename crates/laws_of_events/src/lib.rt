@@ -1,6 +1,6 @@
 //! Laws of events: what the definitions of `bm_base` come to, over every state, every lawful state or every list of calls.
 //!
-//! - `lawful`, `plain_words`: what holds of every state that calls lead to
+//! - `show_invariant`, `plain_words`: what holds of every state that calls lead to
 //! - `calls`: what each kind of call leaves of a state
 //! - `changes`, `reports`: what each event changes, and what it leaves
 //! - `runs`: full reports whose entries are runs of block numbers

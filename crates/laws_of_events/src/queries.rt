@@ -35,6 +35,6 @@ pub fn missing_have_no_usable_replica()
 {}
 
 /// Each list rises, so that nothing stands in it twice: replicas by block and then by storage, blocks and storages by number.
-pub fn lists_rise()
-    ensures { law.lists_rise }
+pub fn lists_ascend()
+    ensures { law.lists_ascend }
 {}

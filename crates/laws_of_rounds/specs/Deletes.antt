@@ -12,7 +12,7 @@ use Rattle.bm_base.specs.Map.{get}
 use Rattle.bm_base.specs.State.{State, replica_at, first_state}
 use Rattle.bm_base.specs.Lists.{has}
 use Rattle.bm_base.specs.Replicas.{is_usable, is_stray, is_corrupt, node_of, is_draining}
-use Rattle.bm_base.specs.Excess.{started}
+use Rattle.bm_base.specs.Excess.{state_at_choice}
 use Rattle.bm_base.specs.Rounds.{whole_round}
 use Rattle.bm_base.specs.Calls.{state_after}
 use Rattle.bm_base.specs.NextRound.{IsAmong, IsDeleteCommanded, after_round, live_marked, live_after, drained_after}
@@ -52,7 +52,7 @@ DrainedReplicaIsNotDeleted = (M : State) (b t : ℕ) → has (drained_after M b)
 -- a replica that a round may command to delete, by its marks once the round has marked
 pub record MayBeDeleted (M : State) (q : ReplicaId) : Type 0 where
   pub marks : Marks
-  pub is_there : get (started M).holdings.replicas q ≡ Some marks
+  pub is_there : get (state_at_choice M).holdings.replicas q ≡ Some marks
   pub not_ordered : marks.ordered ≡ false
   pub kind : (is_stray marks.tag ≡ true) ⊎ ((marks.excess ≡ true) ⊎ (is_corrupt marks.tag ≡ true))
 
@@ -62,7 +62,7 @@ OnlyWhatMayBeDeleted = (M : State) (q : ReplicaId) → IsDeleteCommanded M q →
 -- a corrupt one only where as many of its block as are wanted are live
 abbrev pub CorruptWaitsForLive : State → Type 0
 CorruptWaitsForLive M =
-    (q : ReplicaId) (m : Marks) → IsDeleteCommanded M q → get (started M).holdings.replicas q ≡ Some m → is_corrupt m.tag ≡ true
+    (q : ReplicaId) (m : Marks) → IsDeleteCommanded M q → get (state_at_choice M).holdings.replicas q ≡ Some m → is_corrupt m.tag ≡ true
     → (i : BlockInfo) × (get M.holdings.blocks q.block ≡ Some i) × (i.repl ≤ length (live_marked M q.block))
 
 -- what was ordered before the round is not commanded again
@@ -83,7 +83,7 @@ IsToBeDeleted M q m =
 abbrev pub OnlyTheLimitDefers : State → Type 0
 OnlyTheLimitDefers M =
     (q : ReplicaId) (m : Marks) (n : ℕ) → 1 ≤ M.limits.invalidate
-    → get (started M).holdings.replicas q ≡ Some m → m.ordered ≡ false → IsToBeDeleted M q m → node_of M.cluster q.storage ≡ Some n
+    → get (state_at_choice M).holdings.replicas q ≡ Some m → m.ordered ≡ false → IsToBeDeleted M q m → node_of M.cluster q.storage ≡ Some n
     → IsDeleteCommanded M q ⊎ ((k : NodeCommands) × IsAmong (whole_round M).0.nodes k × (k.node ≡ n) × (M.limits.invalidate ≤ length k.deletes))
 
 -- Over every list of calls.

@@ -1,7 +1,7 @@
 use Rattle.bm_base.specs.Lawful.{IsOrderly}
 use Rattle.bm_base.specs.State.{State}
-use Rattle.bm_base.proofs.Orderly.{calls_orderly}
-use Rattle.bm_base.proofs.Rounding.{orderly}
+use Rattle.bm_base.proofs.OrderlyStates.{calls_orderly}
+use Rattle.bm_base.proofs.LawfulRounds.{orderly}
 use Rattle.laws_of_rounds.proofs.Told.{chosen_told}
 use Rattle.laws_of_rounds.specs.Commands.{ChosenTransferIsCommanded}
 use Rattle.laws_of_rounds.proofs.commands.chosen_transfer_is_commanded.Goals as goal

@@ -1,9 +1,9 @@
 use Rattle.bm_base.specs.Lawful.{IsOrderly}
 use Rattle.bm_base.specs.State.{State, replica_at}
-use Rattle.bm_base.proofs.Kept.{enough_stay}
-use Rattle.bm_base.proofs.Orderly.{calls_orderly}
-use Rattle.bm_base.proofs.Rounding.{orderly}
-use Rattle.bm_base.proofs.Tested.{tested}
+use Rattle.bm_base.proofs.LiveAfterRound.{enough_stay}
+use Rattle.bm_base.proofs.OrderlyStates.{calls_orderly}
+use Rattle.bm_base.proofs.LawfulRounds.{orderly}
+use Rattle.bm_base.proofs.CommandedDeletes.{tested}
 use Rattle.laws_of_rounds.specs.Deletes.{EnoughStayLive}
 use Rattle.laws_of_rounds.proofs.deletes.enough_stay_live.Goals as goal
 

@@ -1,6 +1,0 @@
-use Rattle.bm_fleet.specs.RoundWorked.{HasTakenRound}
-use Rattle.bm_fleet.proofs.Told.{all_told}
-use Rattle.bm_fleet.proofs.calling_thread.CallingThreadWorkers.commit_round_all.Goals as goal
-
-pub returns-clause-each : goal.returns-clause-each
-returns-clause-each c = all_told _ (HasTakenRound c.args.topology.now.cluster c.args.chosen.now) (λ i x y h. h) _ _ c.run_alone.ensures.each

@@ -1,0 +1,104 @@
+// Many blocks judged anew, some at a time: reads of memory that do not depend on one another do not wait for one another.
+ghost use Rattle.std.specs.Prelude.{◌≡◌, ◌<◌, ◌≤◌, ℕ, length, slice_get, slice_index_or, Some, true};
+ghost use Rattle.std.specs.Option.{option_map_or};
+ghost use Rattle.bm_arena.specs.Contents.{block_at};
+ghost use Rattle.bm_levels.specs.IndexedLevels.{HasCapacityForEach, KeepsCapacity, HaveStatuses, IsSameOutside};
+ghost use Rattle.bm_levels.specs.ClusterAfter.{AreStatusesAfter, AreClassifiedAfter};
+
+use crate::classification::{BlockStatus, are_equal, classify};
+use crate::cluster_after::ClusterAfter;
+use crate::level_index::LevelIndex;
+use bm_arena::{Arena, Slot};
+
+/// So many blocks are judged together.
+pub(crate) const CHUNK: usize = 64;
+
+/// What was not judged.
+const NOT_CLASSIFIED: BlockStatus = BlockStatus {
+    level: None,
+    is_settled: true,
+};
+
+/// How many replicas the blocks at the slots of a chunk have. A read is so short that the processor has many cache misses under
+/// way at once; a judgement is too long for that, and finds the blocks' entries near.
+fn read_counts_ahead(arena: &Arena, chunk: &[Slot]) -> [usize; CHUNK]
+    requires { length chunk.now ≤ 64 }
+    ensures { (i slot : ℕ) → slice_get chunk.now i ≡ Some slot
+        → slice_index_or result i 0
+        ≡ option_map_or (λ b. length b.replicas) (block_at arena.now slot) 0 }
+{
+    let mut counts = [0; CHUNK];
+    for (place, slot) in chunk.iter().enumerate() {
+        counts[place] = arena.triplet_count(*slot);
+    }
+    counts
+}
+
+/// Judges the blocks at the slots of a chunk.
+fn classify_chunk(
+    arena: &Arena,
+    chunk: &[Slot],
+    cluster_after: &ClusterAfter<'_>,
+) -> [BlockStatus; CHUNK]
+    requires { length chunk.now ≤ 64 }
+    ensures { AreStatusesAfter cluster_after.now arena.now chunk.now result }
+{
+    let counts = read_counts_ahead(arena, chunk);
+    let mut status = [NOT_CLASSIFIED; CHUNK];
+    for (place, slot) in chunk.iter().enumerate() {
+        status[place] = classify(arena, *slot, counts[place], cluster_after);
+    }
+    status
+}
+
+impl LevelIndex {
+    /// Judges the blocks at these slots anew.
+    pub(crate) fn classify_all(
+        &mut self,
+        arena: &Arena,
+        slots: &[Slot],
+        cluster_after: &ClusterAfter<'_>,
+    )
+        requires room { HasCapacityForEach self.old slots.now }
+        ensures status { AreClassifiedAfter cluster_after.now arena.now slots.now self.new }
+        ensures others { IsSameOutside slots.now self.old self.new }
+        ensures room { KeepsCapacity self.old self.new }
+    {
+        let mut rest = slots;
+        while !rest.is_empty() {
+            let (chunk, behind) = rest.split_at(rest.len().min(CHUNK));
+            self.reclassify_chunk(arena, chunk, cluster_after);
+            rest = behind;
+        }
+    }
+
+    /// Judges the blocks at the slots of a chunk anew: each is judged and what is kept of it looked at before anything changes.
+    fn reclassify_chunk(&mut self, arena: &Arena, chunk: &[Slot], cluster_after: &ClusterAfter<'_>)
+        requires few { length chunk.now ≤ 64 }
+        requires room { HasCapacityForEach self.old chunk.now }
+        ensures status { AreClassifiedAfter cluster_after.now arena.now chunk.now self.new }
+        ensures others { IsSameOutside chunk.now self.old self.new }
+        ensures room { KeepsCapacity self.old self.new }
+    {
+        let status = classify_chunk(arena, chunk, cluster_after);
+        if self.keeps_all(chunk, status.as_slice()) {
+            return;
+        }
+        for (place, slot) in chunk.iter().enumerate() {
+            self.set_status(*slot, status[place]);
+        }
+    }
+
+    /// Whether the blocks at the slots of a chunk were judged as is kept of them. All are looked at, whatever comes out of the first.
+    fn keeps_all(&self, chunk: &[Slot], status: &[BlockStatus]) -> bool
+        requires few { length chunk.now ≤ length status.now }
+        requires room { HasCapacityForEach self.now chunk.now }
+        ensures { result ≡ true → HaveStatuses self.now chunk.now status.now }
+    {
+        let mut are_kept = true;
+        for (place, slot) in chunk.iter().enumerate() {
+            are_kept &= are_equal(self.status_at(*slot), status[place]);
+        }
+        are_kept
+    }
+}

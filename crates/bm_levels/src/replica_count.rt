@@ -1,0 +1,90 @@
+// What the replicas of one block come to, counted one after another.
+ghost use Rattle.std.specs.Prelude.{◌≡◌, ◌<◌, ◌-◌, ◌^◌};
+ghost use Rattle.bm_levels.specs.Status as status;
+ghost use Rattle.bm_levels.specs.ReplicaCounts as counted;
+ghost use Rattle.bm_levels.specs.ClusterAfter.{rack_after, drains_after};
+
+use crate::cluster_after::ClusterAfter;
+use bm_base::{Marks, Rack, StorageId};
+
+/// What the replicas of a block come to, as far as they were looked at.
+#[derive(Clone, Copy)]
+pub(crate) struct Count {
+    pub live: usize,
+    pub drained: usize,
+    /// The rack of the first live replica that stands on one.
+    pub first: Option<Rack>,
+    /// Whether another rack was seen behind it.
+    pub is_spread: bool,
+    /// All are good, not in excess and not ordered to be deleted.
+    pub is_good_and_unmarked: bool,
+}
+
+impl Count {
+    pub(crate) fn none() -> Count
+        ensures { result ≡ counted.none }
+    {
+        Count {
+            live: 0,
+            drained: 0,
+            first: None,
+            is_spread: false,
+            is_good_and_unmarked: true,
+        }
+    }
+
+    /// One more replica.
+    #[inline]
+    #[tactic(auto, unfolding(crate::specs::ReplicaCounts::count_replica))]
+    pub(crate) fn add(&mut self, cluster_after: &ClusterAfter<'_>, storage: StorageId, marks: Marks)
+        requires live { self.old.live < 2 ^ 64 - 1 }
+        requires drained { self.old.drained < 2 ^ 64 - 1 }
+        ensures { self.new ≡ counted.count_replica (rack_after cluster_after.now) (drains_after cluster_after.now)
+            self.old storage marks }
+    {
+        self.is_good_and_unmarked = self.is_good_and_unmarked && is_good_and_unmarked(marks);
+        if !marks.is_usable() {
+            return;
+        }
+        let Some(spot) = cluster_after.spot_of(storage) else {
+            self.live += 1;
+            return;
+        };
+        if spot.drains {
+            self.drained += 1;
+            return;
+        }
+        self.live += 1;
+        self.add_rack(spot.rack);
+    }
+
+    /// A live replica stands on this rack.
+    #[tactic(auto, unfolding(crate::specs::ReplicaCounts::count_rack))]
+    fn add_rack(&mut self, rack: Rack)
+        ensures { self.new ≡ counted.count_rack self.old rack }
+    {
+        match self.first {
+            None => self.first = Some(rack),
+            Some(first) => self.is_spread = self.is_spread || rack != first,
+        }
+    }
+
+    /// On how many racks the live ones stand: none, one, or two for more.
+    #[tactic(auto, unfolding(crate::specs::ReplicaCounts::racks_of))]
+    pub(crate) fn racks(&self) -> usize
+        ensures { result ≡ counted.racks_of self.now }
+    {
+        if self.is_spread {
+            2
+        } else {
+            usize::from(self.first.is_some())
+        }
+    }
+}
+
+/// Whether a replica is good, not in excess and not ordered to be deleted.
+pub(crate) fn is_good_and_unmarked(marks: Marks) -> bool
+    ensures { result ≡ status.is_good_and_unmarked marks }
+{
+    marks.is_usable() && !marks.ordered
+}

@@ -1,0 +1,31 @@
+-- What a contract sees of the transfers on their way.
+-- Source: Hadoop 2's PendingReplicationBlocks.
+use Rattle.std.specs.Prelude.{ℕ, ◌==◌, nat_eq, List, map, filter}
+use Rattle.std.specs.Option.{unwrap_or}
+use Rattle.std.specs.Map.{lookup}
+use Rattle.bm_base.specs.declared.replica.ReplicaId.{ReplicaId}
+use Rattle.bm_base.specs.Map.{Map, entries}
+use Rattle.bm_base.specs.State.{by_replica}
+use Rattle.bm_base.specs.Excess.{is_expired}
+
+pub record PendingMap : Type 0 where
+  -- by block and target, the round in which the transfer was commanded
+  pub map : Map by_replica ℕ
+  -- for how many more transfers of a block there is room
+  pub rooms : List (ℕ × ℕ)
+
+-- how many more transfers of the block need no memory
+abbrev pub room : PendingMap → ℕ → ℕ
+room p b = unwrap_or (lookup (nat_eq b) p.rooms) 0
+
+-- the blocks with room or a transfer, at their places
+abbrev pub blocks_in : PendingMap → List ℕ
+blocks_in p = map (λ e. e.0) p.rooms
+
+-- the targets of a block's transfers, rising
+abbrev pub targets_of : PendingMap → ℕ → List ℕ
+targets_of p b = map (λ e. e.0.storage) (filter (λ e. e.0.block == b) (entries p.map))
+
+-- the transfers that are given up as round r begins, by block and then by target
+abbrev pub expired_of : ℕ → ℕ → Map by_replica ℕ → List ReplicaId
+expired_of pend r m = map (λ e. e.0) (filter (λ e. is_expired pend r e.1) (entries m))

@@ -1,0 +1,15 @@
+pub mod CrewPromises
+pub mod OneMore
+pub mod NewShards
+pub mod SameShards
+pub mod ShardLists
+pub mod OneOf
+pub mod FromAll
+pub mod Findings
+pub mod Choices
+pub mod RoundsTaken
+pub mod Joins
+pub mod PartLists
+pub mod RoundEnd
+pub mod Questions
+pub mod Heartbeats

@@ -1,0 +1,17 @@
+use Rattle.std.proofs.Common.{◌∙◌, sym}
+use Rattle.bm_shards.proofs.FromAll.{same_shards, all_answers, answer_refused}
+use Rattle.bm_shards.proofs.answers.gather_answers.Goals as goal
+
+pub returns-in-Ok : goal.returns-in-Ok
+returns-in-Ok g c f ss each = record {
+  shards = c.split_answers.ensures.shards ∙ same_shards f ss _ each;
+  answers = c.split_answers.ensures.answers ∙ all_answers f ss _ each (sym c.split_answers.ensures.outcome ∙ c.in-Ok.is);
+  refused = tt;
+}
+
+pub returns-in-Err : goal.returns-in-Err
+returns-in-Err g c f ss each = record {
+  shards = c.split_answers.ensures.shards ∙ same_shards f ss _ each;
+  answers = tt;
+  refused = answer_refused f ss _ _ each (sym c.split_answers.ensures.outcome ∙ c.in-Err.is);
+}

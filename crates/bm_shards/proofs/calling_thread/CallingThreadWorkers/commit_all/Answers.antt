@@ -1,0 +1,9 @@
+use Rattle.bm_shards.specs.Worked.{IsCommitted}
+use Rattle.bm_shards.proofs.CrewPromises.{all_told}
+use Rattle.bm_shards.proofs.calling_thread.CallingThreadWorkers.commit_all.Goals as goal
+
+pub run_alone-requires-clause-accepts : goal.run_alone-requires-clause-accepts
+run_alone-requires-clause-accepts c k d lt = (c.requires.cluster, (c.requires.every, (c.requires.multi, c.requires.shards k d lt)))
+
+pub returns-clause-each : goal.returns-clause-each
+returns-clause-each c = all_told _ (IsCommitted c.args.topology.now.cluster c.args.event.now) (λ i x y h. h) _ _ c.run_alone.ensures.each

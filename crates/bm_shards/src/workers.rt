@@ -1,0 +1,123 @@
+// Who works the shards.
+ghost use Rattle.std.specs.Prelude.{◌≡◌, ◌<◌, ◌≤◌, None, vec_len};
+ghost use Rattle.std.specs.List.{All, AllZip};
+ghost use Rattle.bm_base.specs.Replicas.{is_multi_rack};
+ghost use Rattle.bm_base.specs.Events.{change_cluster};
+ghost use Rattle.bm_base.specs.Refusals.{first_of, cluster_checks};
+ghost use Rattle.bm_parts.specs.Before.{part_before};
+ghost use Rattle.bm_parts.specs.Parts.{block_of};
+ghost use Rattle.bm_shard.specs.UpToDate.{next_part};
+ghost use Rattle.bm_shards.specs.FromShards.{HasAnswered};
+ghost use Rattle.bm_shards.specs.Rows.{rows_of};
+ghost use Rattle.bm_shards.specs.Worked.{Accepts, IsPrepared, CanCommit, IsCommitted};
+ghost use Rattle.bm_shards.specs.RoundWorked.{CanFind, HasPart, IsPreparedForRound, CanCommitRound, HasTakenRound};
+
+use crate::answers::Answered;
+use crate::event_work::{CommittedShard, PreparedShard};
+use crate::table::Rows;
+use bm_base::{Chosen, Event, RoundPart};
+use bm_crew::Ready;
+use bm_parts::merge::Key;
+use bm_shard::Shard;
+use bm_topo::Topology;
+
+/// Works all shards, by a crew of threads or by the calling thread alone. No answer depends on
+/// which.
+///
+/// Each kind of work has a method of its own: the checker takes no method of a trait that is
+/// generic over the work and sends it to other threads.
+pub trait Workers {
+    /// The number of workers, the calling thread among them.
+    fn count(&self) -> usize
+        ensures { 0 < result };
+
+    /// Prepares all shards. Each is as it was but for room; it is ready for the event, or it was
+    /// refused.
+    fn prepare_all(
+        &self,
+        ready: Ready<Shard, PreparedShard>,
+        shards: Vec<(u32, Shard)>,
+        event: &Event,
+        topology: &Topology,
+    ) -> Vec<(u32, PreparedShard)>
+        requires room { vec_len shards ≤ ready.room }
+        requires cluster { first_of (cluster_checks topology.now.cluster event.now) ≡ None }
+        requires blocks { All (Accepts event.now) shards.items }
+        ensures len { vec_len result ≡ vec_len shards }
+        ensures each { AllZip (IsPrepared event.now) shards.items result.items };
+
+    /// Changes all shards by an event on no block for which each is ready. Refuses nothing.
+    fn commit_all(
+        &self,
+        ready: Ready<Shard, CommittedShard>,
+        shards: Vec<(u32, Shard)>,
+        event: &Event,
+        topology: &Topology,
+        multi: bool,
+    ) -> Vec<(u32, CommittedShard)>
+        requires room { vec_len shards ≤ ready.room }
+        requires cluster { first_of (cluster_checks topology.now.cluster event.now) ≡ None }
+        requires every { block_of event.now ≡ None }
+        requires multi { multi ≡ is_multi_rack (change_cluster topology.now.cluster event.now) }
+        requires shards { All (CanCommit topology.now.cluster event.now) shards.items }
+        ensures len { vec_len result ≡ vec_len shards }
+        ensures each { AllZip (IsCommitted topology.now.cluster event.now) shards.items
+            result.items };
+
+    /// Finds what each shard has for its next round, with the wishes before a bound. No shard
+    /// changes.
+    fn find_all(
+        &self,
+        ready: Ready<Shard, Answered<RoundPart>>,
+        shards: Vec<(u32, Shard)>,
+        round: u64,
+        topology: &Topology,
+        bound: Option<Key>,
+    ) -> Vec<(u32, Answered<RoundPart>)>
+        requires room { vec_len shards ≤ ready.room }
+        requires shards { All (CanFind topology.now.cluster round) shards.items }
+        ensures len { vec_len result ≡ vec_len shards }
+        ensures each { AllZip
+            (HasAnswered (λ S. part_before bound (next_part topology.now.cluster S))) shards.items
+            result.items };
+
+    /// Prepares all shards for a round. Each is as it was but for room; it is ready for the round,
+    /// or it was refused.
+    fn prepare_round_all(
+        &self,
+        ready: Ready<Shard, PreparedShard>,
+        shards: Vec<(u32, Shard)>,
+        parts: &[RoundPart],
+        chosen: &Chosen,
+        topology: &Topology,
+    ) -> Vec<(u32, PreparedShard)>
+        requires room { vec_len shards ≤ ready.room }
+        requires shards { All (HasPart topology.now.cluster parts.now) shards.items }
+        ensures len { vec_len result ≡ vec_len shards }
+        ensures each { AllZip (IsPreparedForRound chosen.now) shards.items result.items };
+
+    /// Takes the next round in each shard, each of which is ready for it. Refuses nothing.
+    fn commit_round_all(
+        &self,
+        ready: Ready<Shard, Shard>,
+        shards: Vec<(u32, Shard)>,
+        parts: &[RoundPart],
+        chosen: &Chosen,
+        topology: &Topology,
+    ) -> Vec<(u32, Shard)>
+        requires room { vec_len shards ≤ ready.room }
+        requires shards { All (CanCommitRound topology.now.cluster parts.now chosen.now) shards.items }
+        ensures len { vec_len result ≡ vec_len shards }
+        ensures each { AllZip (HasTakenRound topology.now.cluster chosen.now) shards.items
+            result.items };
+
+    /// Asks each shard for its rows. No shard changes.
+    fn rows_of_all(
+        &self,
+        ready: Ready<Shard, Answered<Rows>>,
+        shards: Vec<(u32, Shard)>,
+    ) -> Vec<(u32, Answered<Rows>)>
+        requires room { vec_len shards ≤ ready.room }
+        ensures len { vec_len result ≡ vec_len shards }
+        ensures each { AllZip (HasAnswered rows_of) shards.items result.items };
+}

@@ -1,0 +1,57 @@
+// A NameNode's loop: one turn of it, and what each DataNode is told.
+ghost use Rattle.std.specs.Prelude.{◌≡◌, ◌==◌, false, fold, All, Contains, IfOk, IfErr, IfSome, IfNone, OnOk};
+ghost use Rattle.bm_base.specs.Calls.{after_event, count_call};
+ghost use Rattle.bm_base.specs.Rounds.{whole_round};
+ghost use Rattle.bm_base.specs.Sparing.{SparesLastGood};
+ghost use Rattle.callers.specs.Turns.{StopsAt};
+
+use bm_base::{Commands, Event, NodeCommands, NodeId, Refusal};
+use bm_crew::NoGate;
+use bm_manager::Manager;
+use std::sync::Wait;
+use std::thread::Threads;
+
+/// Takes what was told since the last turn, one event after another, and then a round. The DataNodes are to do what it
+/// commands, see [`for_node`]; what they have done is told in a later turn.
+///
+/// It stops at the first refusal. Then the events before it are taken, and no other.
+pub fn turn<R: Threads + Wait + Sync>(
+    rt: &R,
+    manager: &mut Manager,
+    told: &[Event],
+) -> Result<Commands, Refusal>
+    ensures commands { IfOk result
+        (λ k. k ≡ (whole_round (fold after_event manager.old told.now)).0) }
+    ensures state { OnOk result
+        (manager.new ≡ count_call (whole_round (fold after_event manager.old told.now)).1) }
+    ensures last_good { IfOk result
+        (λ k. SparesLastGood (fold after_event manager.old told.now) k) }
+    ensures stopped { IfErr result (λ e. StopsAt manager.old told.now e manager.new) }
+{
+    for event in told {
+        manager.apply(rt, &NoGate, event)?;
+    }
+    manager.round(rt, &NoGate)
+}
+
+/// What a round commands one DataNode; the reply to its next heartbeat may carry it. `None` where that is nothing.
+pub fn for_node(commands: &Commands, node: NodeId) -> Option<&NodeCommands>
+    ensures its_own { IfSome result (λ k. k.now.node ≡ node) }
+    ensures commanded { IfSome result (λ k. Contains commands.now.nodes k.now) }
+    ensures nothing { IfNone result (All (λ k. (k.node == node) ≡ false) commands.now.nodes) }
+{
+    own_part(commands.nodes.as_slice(), node)
+}
+
+fn own_part(nodes: &[NodeCommands], node: NodeId) -> Option<&NodeCommands>
+    ensures its_own { IfSome result (λ k. k.now.node ≡ node) }
+    ensures commanded { IfSome result (λ k. Contains nodes.now k.now) }
+    ensures nothing { IfNone result (All (λ k. (k.node == node) ≡ false) nodes.now) }
+{
+    for told in nodes {
+        if told.node == node {
+            return Some(told);
+        }
+    }
+    None
+}

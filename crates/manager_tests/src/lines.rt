@@ -1,5 +1,0 @@
-// What no clause says: that with memory to spare a line is written and read, and that the definitions say what docs/FORMATS.md says.
-// Each line is written by hand from the table there.
-mod reading;
-mod usual;
-mod written;
