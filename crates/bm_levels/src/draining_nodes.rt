@@ -16,7 +16,7 @@ use bm_topo::Topology;
 
 impl LeveledBlocks {
     /// A node begins or ceases to drain: the blocks with a replica on its storages are judged anew. Nothing that is held changes.
-    /// Takes no memory. A look at each storage of the cluster, and at the blocks on those of the node.
+    /// Takes no memory. A look at each of the blocks on the storages of the node.
     pub fn set_draining(&mut self, topology: &Topology, node: NodeId, drains: bool)
         ensures arena { self.new.arena ≡ self.old.arena }
         ensures levels { AreLevels topology.now.cluster self.old
@@ -40,12 +40,8 @@ impl KeptLevels {
         ensures each { AreJudgedOfNode around.now node arena.now self.old self.new }
         ensures room { KeepsRoom self.old self.new }
     {
-        for place in 0..around.topology.storage_count() {
-            if let Some(storage) = around.topology.storage_at(place) {
-                if around.topology.has_storage(node, storage) {
-                    self.judge_list(arena, storage, around);
-                }
-            }
+        for storage in around.topology.storages_of(node) {
+            self.judge_list(arena, *storage, around);
         }
     }
 

@@ -102,15 +102,11 @@ impl LeveledBlocks {
         let mut removed = 0;
         let mut four = Four::one(StorageId(0));
         let mut count = 0usize;
-        for place in 0..around.topology.storage_count() {
-            if let Some(storage) = around.topology.storage_at(place) {
-                if around.topology.has_storage(node, storage) {
-                    four.follow(storage, count == 0);
-                    count = (count + 1) % 4;
-                    if count == 0 {
-                        removed += self.clear_four(around, node, &four);
-                    }
-                }
+        for storage in around.topology.storages_of(node) {
+            four.follow(*storage, count == 0);
+            count = (count + 1) % 4;
+            if count == 0 {
+                removed += self.clear_four(around, node, &four);
             }
         }
         if count > 0 {

@@ -39,8 +39,7 @@ impl LeveledBlocks {
 
     /// The replicas on all storages of a node leave, and their lists; answers how many. `multi` says whether the alive nodes stand on two
     /// racks or more without it: where they did not before, or no longer do, all blocks are judged anew, else those that lose a replica.
-    /// Entries with neither block nor replica go. Takes no memory. A look at each storage of the cluster, and one step for each of the
-    /// replicas.
+    /// Entries with neither block nor replica go. Takes no memory. One step for each of the replicas.
     pub fn forget_node(&mut self, topology: &Topology, node: NodeId, multi: bool) -> u128
         requires multi { multi
             ≡ replicas.is_multi_rack (events.without_node topology.now.cluster node) }
@@ -80,12 +79,8 @@ impl LeveledBlocks {
         ensures levels { KeepsLevelsAround around.now self.old self.new }
     {
         let mut removed = self.clear_abreast(around, node);
-        for place in 0..around.topology.storage_count() {
-            if let Some(storage) = around.topology.storage_at(place) {
-                if around.topology.has_storage(node, storage) {
-                    removed += self.clear(around, storage) as u128;
-                }
-            }
+        for storage in around.topology.storages_of(node) {
+            removed += self.clear(around, *storage) as u128;
         }
         removed
     }

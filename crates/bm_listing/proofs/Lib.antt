@@ -7,5 +7,4 @@ pub mod Owned
 pub mod OnStorage
 pub mod AtSlot
 pub mod Waiting
-pub mod ByPlace
 pub mod KnownBlocks

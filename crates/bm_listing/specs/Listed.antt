@@ -49,9 +49,9 @@ waits_at C a storage slot = option_map_or is_usable (marks_at a slot storage) fa
 abbrev pub waits_on : Cluster → Contents → ℕ → Bool
 waits_on C a storage = list_any (waits_at C a storage) (list_of a storage)
 
--- whether a block of a storage of a node that drains does
-abbrev pub waits_for : Cluster → Contents → ℕ → ℕ → Bool
-waits_for C a n storage = (has_storage C n storage && is_draining C storage) && waits_on C a storage
+-- whether a block of a storage does, and the node of the storage drains
+abbrev pub waits_for : Cluster → Contents → ℕ → Bool
+waits_for C a storage = is_draining C storage && waits_on C a storage
 
 -- of these slots, those of known blocks, each with the block's number
 abbrev pub known_on : Contents → List ℕ → List (ℕ × ℕ)

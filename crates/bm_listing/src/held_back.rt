@@ -1,5 +1,6 @@
 // Whether a block holds a node back.
 ghost use Rattle.std.specs.Prelude.{◌≡◌, ℕ, length};
+ghost use Rattle.std.specs.List.{list_any};
 ghost use Rattle.bm_base.specs.Map.{Map};
 ghost use Rattle.bm_base.specs.State.{by_replica};
 ghost use Rattle.bm_base.specs.Replicas as replicas;
@@ -73,15 +74,21 @@ fn waits_on(topology: &Topology, arena: &Arena, storage: StorageId) -> bool
     false
 }
 
-/// Whether a block of a storage of the node does, and the node drains.
-fn waits_for(topology: &Topology, arena: &Arena, node: NodeId, storage: StorageId) -> bool
-    ensures { result ≡ waits_for topology.now.cluster arena.now node storage }
+/// Whether a block of a storage does, and the node of the storage drains.
+fn waits_for(topology: &Topology, arena: &Arena, storage: StorageId) -> bool
+    ensures { result ≡ waits_for topology.now.cluster arena.now storage }
 {
-    if topology.has_storage(node, storage) && topology.is_draining(storage) {
-        waits_on(topology, arena, storage)
-    } else {
-        false
-    }
+    let is_draining = topology.is_draining(storage);
+    is_draining && waits_on(topology, arena, storage)
+}
+
+/// Whether a block of one of these storages does.
+fn any_waits(topology: &Topology, arena: &Arena, storages: &[StorageId]) -> bool
+    ensures { result ≡ list_any (waits_for topology.now.cluster arena.now) storages.now }
+{
+    storages
+        .iter()
+        .any(|storage| waits_for(topology, arena, *storage))
 }
 
 /// Whether a block holds a node back: it has a drained replica there, and fewer live ones than are wanted. Walks the lists of the
@@ -93,12 +100,5 @@ pub fn is_held_back(blocks: &LeveledBlocks, topology: &Topology, node: NodeId) -
     blocks.lawful();
     let arena = blocks.arena();
     arena.lawful();
-    for place in 0..topology.storage_count() {
-        if let Some(storage) = topology.storage_at(place) {
-            if waits_for(topology, arena, node, storage) {
-                return true;
-            }
-        }
-    }
-    false
+    any_waits(topology, arena, topology.storages_of(node))
 }

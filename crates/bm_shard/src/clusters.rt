@@ -18,8 +18,7 @@ use bm_topo::Topology;
 
 impl Shard {
     /// A node leaves with its storages: their replicas and the transfers to them leave. `multi` says whether the alive nodes stand on
-    /// two racks or more without it. A look at each storage of the cluster, one step for each of the replicas, and one pass over the
-    /// transfers for each storage of the node.
+    /// two racks or more without it. One step for each of the replicas, and one pass over the transfers.
     pub(crate) fn forget_node(&mut self, topology: &Topology, node: NodeId, multi: bool) -> Done
         requires multi { multi
             ≡ replicas.is_multi_rack (events.without_node topology.now.cluster node) }
@@ -161,13 +160,7 @@ fn drop_transfers_to(pending: &mut PendingTransfers, topology: &Topology, node: 
         ≡ keep pending.old.map
         (λ q _. not (replicas.has_storage topology.now.cluster node q.storage)) }
 {
-    for place in 0..topology.storage_count() {
-        if let Some(storage) = topology.storage_at(place) {
-            if topology.has_storage(node, storage) {
-                drop_transfers_on(pending, storage);
-            }
-        }
-    }
+    pending.drop_storages(topology.storages_of(node));
 }
 
 /// The transfers to a storage leave.

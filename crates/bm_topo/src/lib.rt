@@ -1,6 +1,7 @@
 //! The cluster: which DataNodes are alive, on which racks they stand, which storages they have and how much is free there.
 #![tactic(auto)]
 
+mod by_node;
 mod changes;
 mod checks;
 mod likely_places;

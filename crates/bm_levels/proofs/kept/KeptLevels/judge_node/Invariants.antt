@@ -7,10 +7,10 @@ use Rattle.bm_levels.proofs.Places.{HaveGone}
 use Rattle.bm_levels.proofs.kept.KeptLevels.judge_node.Given as goal
 
 -- the slots on the storages at the first places are judged, and there is room for all
-pub record AreJudgedSoFar (l : goal.Live-loop-place) : Type 0 where
+pub record AreJudgedSoFar (l : goal.Live-loop-storage) : Type 0 where
   pub each : (slot : ℕ) → IsJudgedAround l.around (block_at l.arena slot) l.self slot
-      ⊎ (IsSameAt l.initial.self l.self slot × HaveGone l.around.topology.now.cluster l.node (λ s. Among slot (list_of l.arena s) → ⊥) l.place)
+      ⊎ (IsSameAt l.initial.self l.self slot × HaveGone l.storage-items (λ s. Among slot (list_of l.arena s) → ⊥) l.storage-index)
   pub room : (bound : ℕ) → HasRoomFor l.initial.self bound → HasRoomFor l.self bound
 
-abbrev pub invariant-loop-place : goal.invariant-loop-place
-invariant-loop-place l = AreJudgedSoFar l
+abbrev pub invariant-loop-storage : goal.invariant-loop-storage
+invariant-loop-storage l = AreJudgedSoFar l

@@ -5,13 +5,13 @@ use Rattle.bm_levels.specs.Around.{is_on_node, KeepsLevelsAround}
 use Rattle.bm_levels.proofs.leveled.LeveledBlocks.clear_abreast.Given as goal
 
 -- so many have left
-pub record AreLeaving (l : goal.Live-loop-place) : Type 0 where
+pub record AreLeaving (l : goal.Live-loop-storage) : Type 0 where
   pub left : IsLeaving (is_on_node l.around l.node) l.initial.self.arena l.self.arena l.removed
-  pub few : l.removed ≤ l.place * (2 ^ 66 + 256)
+  pub few : l.removed ≤ l.storage-index * (2 ^ 66 + 256)
   pub next : l.count < 4
   pub bare : MakesNoneBare l.initial.self.arena l.self.arena
   pub fewer : MakesNoHead l.initial.self.arena l.self.arena
   pub levels : KeepsLevelsAround l.around l.initial.self l.self
 
-abbrev pub invariant-loop-place : goal.invariant-loop-place
-invariant-loop-place l = AreLeaving l
+abbrev pub invariant-loop-storage : goal.invariant-loop-storage
+invariant-loop-storage l = AreLeaving l

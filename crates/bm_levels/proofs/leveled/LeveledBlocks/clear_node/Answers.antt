@@ -1,17 +1,14 @@
-use Rattle.std.proofs.Common.{◌≡◌, ◌≤◌, [], arith}
-use Rattle.bm_base.specs.Map.{len}
+use Rattle.std.proofs.Common.{◌≡◌, ◌≤◌, [], length, arith, sym, ◌∙◌}
 use Rattle.bm_arena.specs.Contents.{list_of, HasHead}
 use Rattle.bm_levels.proofs.Places.{gone_all}
 use Rattle.bm_levels.proofs.leveled.LeveledBlocks.clear_node.Goals as goal
 
 pub returns-clause-none : goal.returns-clause-none
-returns-clause-none c =
-    let C = c.args.around.now.topology.now.cluster in
-    let past : len C.storages ≤ c.loop-place.place = omega (arith, c.loop-place-test.false, c.storage_count-place-end.ensures.count) in
-    gone_all C c.args.node (λ s. list_of c.loop-place.self.arena s ≡ []) c.loop-place.place past c.loop-place.invariant.none
+returns-clause-none c s own =
+    let items = c.storages_of-storage-items in
+    gone_all items.result.now (λ s. list_of c.loop-storage.self.arena s ≡ []) c.loop-storage.storage-index (omega (arith, c.loop-storage-test.false)) c.loop-storage.invariant.none s (items.ensures.each s ∙ own)
 
 pub returns-clause-heads : goal.returns-clause-heads
-returns-clause-heads c =
-    let C = c.args.around.now.topology.now.cluster in
-    let past : len C.storages ≤ c.loop-place.place = omega (arith, c.loop-place-test.false, c.storage_count-place-end.ensures.count) in
-    gone_all C c.args.node (λ s. HasHead c.loop-place.self.arena s → ⊥) c.loop-place.place past c.loop-place.invariant.heads
+returns-clause-heads c s own =
+    let items = c.storages_of-storage-items in
+    gone_all items.result.now (λ s. HasHead c.loop-storage.self.arena s → ⊥) c.loop-storage.storage-index (omega (arith, c.loop-storage-test.false)) c.loop-storage.invariant.heads s (items.ensures.each s ∙ own)
