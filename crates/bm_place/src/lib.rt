@@ -12,7 +12,6 @@ mod few;
 mod foremost;
 mod pass;
 mod scheduled;
-mod seats;
 mod source;
 mod standing;
 mod streams;

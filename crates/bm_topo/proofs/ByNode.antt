@@ -7,11 +7,11 @@ use Rattle.std.proofs.Common.{length-drop, ◌≡◌, ◌≤◌, ◌<◌, ◌+�
 use Rattle.std.proofs.lemmas.Bool.{eqb-true}
 use Rattle.std.proofs.lemmas.Bool.Decides.{nat_tests}
 use Rattle.std.proofs.Math.Seq.{drop-append_seam, take-append_seam}
-use Rattle.std.proofs.lemmas.List.{append-nil, length-map, take-append-drop, take-append-le, drop-append-le, drop-take, take_more_set, take-set-le, length-take-le}
+use Rattle.std.proofs.lemmas.List.{append-nil, length-map, length_push, take_all, take_more, take-append-drop, take-append-le, drop-append-le, drop-take, take_more_set, take-set-le, length-take-le}
 use Rattle.std.proofs.lemmas.List.Edits.{length-insert}
 use Rattle.std.proofs.lemmas.Slice.{take-put_mid}
 use Rattle.std.proofs.lemmas.List.Sorted.{IsNonDecreasingBy-insert, IsNonDecreasingBy-short}
-use Rattle.std.proofs.Math.ListN.{set, length-set}
+use Rattle.std.proofs.Math.ListN.{set, length-set, get_or-map}
 use borrow.Rule.Slice.PartMut.{put_mid, mid_of}
 use Rattle.bm_base.specs.declared.storage.StorageInfo.{StorageInfo}
 use Rattle.bm_base.specs.declared.event.Remaining.{Remaining}
@@ -26,6 +26,7 @@ use Rattle.bm_base.proofs.Listed.{filter_append, has_filter, length_filter-le}
 use Rattle.bm_base.proofs.MapLaws.{entries-revise}
 use Rattle.bm_base.proofs.Maps.{each_key}
 use Rattle.bm_base.proofs.Sets.{has_keys}
+use Rattle.bm_topo.proofs.SpotTable.{entry_there, same_count}
 use Rattle.bm_topo.specs.ByNode.{node_in, AreByNode, AreAllByNode}
 
 -- Elements before and from a place on.
@@ -64,10 +65,6 @@ rotated front mid ys s e long is =
     let n : length mid - 1 ≡ length front = omega (arith, long) in
     is ∙ (λ i. drop (n i) (e i) ++ take (n i) (e i)) ∙ (λ i. drop-append_seam front (s ∷ []) i ++ take-append_seam front (s ∷ []) i)
 
-longer : (xs : List ℕ) (s : ℕ) → length (xs ++ s ∷ []) ≡ length xs + 1
-longer [] s = refl
-longer (x ∷ xs) s = ap suc (longer xs s)
-
 pub inserted : (xs ys : List ℕ) (n place k s : ℕ) → place ≤ n → n < length xs → place + k ≡ n + 1
     → ys ≡ drop (length (mid_of place k (set xs n s)) - 1) (mid_of place k (set xs n s)) ++ take (length (mid_of place k (set xs n s)) - 1) (mid_of place k (set xs n s))
     → take (n + 1) (put_mid place k (set xs n s) ys) ≡ insert (take n xs) place s
@@ -76,7 +73,7 @@ inserted xs ys n place k s within fits ends is =
     let long : length (take n xs) ≡ n = length-take-le n xs (omega (arith, fits)) in
     let mid : mid_of place k zs ≡ drop place (take n xs) ++ s ∷ [] =
     sym (drop-take place k zs) ∙ ap (λ m. drop place (take m zs)) ends ∙ ap (drop place) (take_more_set xs n s fits) ∙ drop-append-le place (take n xs) (s ∷ []) (omega (arith, long, within)) in
-    let turned : ys ≡ s ∷ drop place (take n xs) = rotated (drop place (take n xs)) (mid_of place k zs) ys s mid (ap length mid ∙ longer (drop place (take n xs)) s) is in
+    let turned : ys ≡ s ∷ drop place (take n xs) = rotated (drop place (take n xs)) (mid_of place k zs) ys s mid (ap length mid ∙ length_push (drop place (take n xs)) s) is in
     let many : length ys ≡ length (drop place (take n xs)) + 1 = ap length turned ∙ (omega arith) in
     let rest : length (drop place (take n xs)) ≡ n - place = length-drop place (take n xs) ∙ ap (λ m. m - place) long in
     let front : take place xs ≡ take place (take n xs) = ap (take place) (sym (take-append-drop n xs)) ∙ take-append-le place (take n xs) (drop n xs) (omega (arith, long, within)) in
@@ -159,8 +156,43 @@ one_more storages ks ss s place n at within parts h =
     record {
       in_order = in_order_with (node_in storages) ks ss s place within point h.in_order;
       each = λ m. each_with (node_in storages) ks ss s place within point m (h.each m);
-      many = length-insert ss place s within ∙ ap (λ k. k + 1) h.many ∙ sym (longer ks s);
+      many = length-insert ss place s within ∙ ap (λ k. k + 1) h.many ∙ sym (length_push ks s);
     }
+
+-- What a loop over the entries of a table knows of the one at its place.
+
+node_there : (m : Map by_number StorageInfo) (s : ℕ) (i : StorageInfo) → get m s ≡ Some i → node_in m s ≡ i.node
+unfolding node_in
+node_there m s i is = ap (λ o. option_map_or (λ (x : StorageInfo). x.node) o 0) is
+
+pub count_keys : (m : Map by_number StorageInfo) → length (keys m) ≡ len m
+unfolding keys len
+count_keys m = length-map (entries m) (λ e. e.0)
+
+module _ (m : Map by_number StorageInfo) (es : List (ℕ × StorageInfo)) (i : ℕ) (is : es ≡ entries m) where
+  next_key : (e : ℕ × StorageInfo) → i < length es → e ≡ get_or es i e → take (i + 1) (keys m) ≡ take i (keys m) ++ e.0 ∷ []
+  unfolding keys
+  next_key e below read =
+      let many : length (map (λ (x : ℕ × StorageInfo). x.0) (entries m)) ≡ length es = length-map (entries m) (λ (x : ℕ × StorageInfo). x.0) ∙ ap length (sym is) in
+      take_more (map (λ (x : ℕ × StorageInfo). x.0) (entries m)) i e.0 (omega (arith, many, below))
+      ∙ ap (λ k. take i (map (λ (x : ℕ × StorageInfo). x.0) (entries m)) ++ k ∷ [])
+      (get_or-map (λ (x : ℕ × StorageInfo). x.0) (entries m) i e ∙ ap (λ (x : ℕ × StorageInfo). x.0) (ap (λ xs. get_or xs i e) (sym is) ∙ sym read))
+
+  pub placed : (ss new : List ℕ) (e : ℕ × StorageInfo) (place : ℕ) → i < length es → e ≡ get_or es i e → place ≤ length ss
+      → (IsNonDecreasingBy (node_in m) ss → IsPartitionPoint (λ t. nat_le (node_in m t) e.1.node ≡ true) (λ t. nat_le (node_in m t) e.1.node ≡ false) ss place)
+      → new ≡ insert ss place e.0 → AreByNode m (take i (keys m)) ss → AreByNode m (take (i + 1) (keys m)) new
+  placed ss new e place below read within parts made h =
+      let node = node_there m e.0 e.1 (entry_there m es i e is below read) in
+      subst (λ xs. AreByNode m xs new) (sym (next_key e below read)) (subst (AreByNode m (take i (keys m) ++ e.0 ∷ [])) (sym made) (one_more m (take i (keys m)) ss e.0 place e.1.node node within (parts h.in_order) h))
+
+  pub room_left : (ss : List ℕ) (bound : ℕ) → i < length es → len m ≤ bound → AreByNode m (take i (keys m)) ss → length ss < bound
+  room_left ss bound below few h =
+      let count = same_count m es is in
+      let long = length-take-le i (keys m) (omega (arith, count, count_keys m, below)) in
+      omega (arith, h.many, long, count, below, few)
+
+  pub all_placed : (ss : List ℕ) → length es ≤ i → AreByNode m (take i (keys m)) ss → AreAllByNode m ss
+  all_placed ss past h = let count = same_count m es is in subst (λ xs. AreByNode m xs ss) (take_all i (keys m) (omega (arith, count, count_keys m, past))) h
 
 -- the storages of a node in a table are those of the node in the cluster
 known_own : (C : Cluster) (n s : ℕ) → contains_key C.storages s ≡ true → (node_in C.storages s == n) ≡ has_storage C n s
@@ -189,8 +221,7 @@ own_each C n s = has_filter (has_storage C n) (keys C.storages) s ∙ ap (λ b. 
         and_true false = refl
 
 pub own_few : (C : Cluster) (n : ℕ) → length (filter (has_storage C n) (keys C.storages)) ≤ len C.storages
-unfolding keys len
-own_few C n = let few = length_filter-le (has_storage C n) (keys C.storages) in omega (arith, few, length-map (entries C.storages) (λ e. e.0))
+own_few C n = let few = length_filter-le (has_storage C n) (keys C.storages) in omega (arith, few, count_keys C.storages)
 
 -- A heartbeat moves no storage.
 
@@ -202,13 +233,13 @@ node_read m s = by (get m s)
     by None = refl
     by (Some i) = refl
 
-same_firsts : (f : ℕ → StorageInfo → StorageInfo) (es : List (ℕ × StorageInfo)) → map (λ e. e.0) (map (λ e. (e.0, f e.0 e.1)) es) ≡ map (λ e. e.0) es
+same_firsts : (f : ℕ → StorageInfo → StorageInfo) (es : List (ℕ × StorageInfo)) → map (λ (e : ℕ × StorageInfo). e.0) (map (λ (e : ℕ × StorageInfo). (e.0, f e.0 e.1)) es) ≡ map (λ (e : ℕ × StorageInfo). e.0) es
 same_firsts f [] = refl
 same_firsts f (e ∷ es) = ap (λ xs. e.0 ∷ xs) (same_firsts f es)
 
 keys-revised : (m : Map by_number StorageInfo) (f : ℕ → StorageInfo → StorageInfo) → keys (revise m f) ≡ keys m
 unfolding keys
-keys-revised m f = ap (map (λ e. e.0)) (entries-revise m f) ∙ same_firsts f (entries m)
+keys-revised m f = ap (map (λ (e : ℕ × StorageInfo). e.0)) (entries-revise by_number m f) ∙ same_firsts f (entries m)
 
 keys-told : (rs : List Remaining) (m : Map by_number StorageInfo) → keys (set_remaining m rs) ≡ keys m
 unfolding revise_at

@@ -1,5 +1,5 @@
 // The storages of the cluster, sorted by node: so those of one node stand side by side.
-ghost use Rattle.std.specs.Prelude.{◌≡◌, ◌≤◌, ◌<◌, ◌==◌, true, false, [], length, filter, nat_le};
+ghost use Rattle.std.specs.Prelude.{◌≡◌, ◌≤◌, ◌<◌, ◌+◌, ◌==◌, true, false, [], length, take, filter, nat_le};
 ghost use Rattle.std.specs.List.{insert};
 ghost use Rattle.std.specs.List.Sorted.{IsNonDecreasingBy, IsPartitionPoint};
 ghost use Rattle.bm_base.specs.Map as map;
@@ -12,6 +12,7 @@ use std::marker::Model;
 
 /// Storages sorted by node, those of a node by ascending number. It has a place for each storage that there can be, so that a change
 /// of the cluster takes no memory for it.
+#[derive(Drop)]
 pub(crate) struct StoragesByNode {
     storages: [StorageId; MAX_STORAGES],
     len: usize,
@@ -96,10 +97,20 @@ impl StoragesByNode {
         requires within { place ≤ length self.old }
         ensures { self.new ≡ insert self.old place storage }
     {
-        self.storages[self.len] = storage;
-        self.storages[place..self.len + 1].rotate_right(1);
+        insert_behind(&mut self.storages, self.len, place, storage);
         self.len += 1;
     }
+}
+
+/// Inserts a storage at a place among the first ones, or behind them.
+fn insert_behind(all: &mut [StorageId], count: usize, place: usize, storage: StorageId)
+    requires room { count < length all.old }
+    requires within { place ≤ count }
+    ensures first { take (count + 1) all.new ≡ insert (take count all.old) place storage }
+    ensures len { length all.new ≡ length all.old }
+{
+    all[count] = storage;
+    all[place..count + 1].rotate_right(1);
 }
 
 /// The node of a storage; 0 of one that the table does not have.

@@ -98,7 +98,7 @@ fn choose_sources(live: &[StorageId], topology: &Topology, streams: &mut Streams
 fn choose_targets(
     live: &[StorageId],
     topology: &Topology,
-    scheduled: &mut Scheduled,
+    scheduled: &mut Scheduled<'_>,
     tally: &mut Tally,
 )
     requires { scheduled.old ≡ target_table topology.now.cluster (λ _. 0) }

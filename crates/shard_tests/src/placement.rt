@@ -668,7 +668,7 @@ fn fill(
     rt: &impl Abort,
     alloc: Global,
     topology: &Topology,
-    scheduled: &mut Scheduled,
+    scheduled: &mut Scheduled<'_>,
     target: u32,
     len: u64,
 )

@@ -37,7 +37,7 @@ fn copy_by(
     stamp: Stamp,
     topology: &Topology,
     streams: &Streams,
-    scheduled: &Scheduled,
+    scheduled: &Scheduled<'_>,
 ) -> Option<Transfer>
     requires streams { streams.now ≡ senders_with topology.now.cluster [] }
     requires scheduled { scheduled.now ≡ targets_with topology.now.cluster [] }

@@ -1,5 +1,6 @@
-use Rattle.std.proofs.Common.{◌≡◌, ◌+◌, None, arith, ap, sym, subst, ◌∙◌}
+use Rattle.std.proofs.Common.{◌≡◌, ◌+◌, ℕ, None, arith, ap, sym, subst, ◌∙◌}
 use Rattle.std.proofs.lemmas.List.{length-map}
+use Rattle.bm_base.specs.declared.storage.StorageInfo.{StorageInfo}
 use Rattle.bm_base.specs.declared.event.Event.TheVariants.{Register}
 use Rattle.bm_base.specs.Map.{insert, insert_all, remove, len}
 use Rattle.bm_base.specs.Events.{register}
@@ -27,7 +28,7 @@ set-requires c =
     let few = (registration_is_new C c.args.node c.args.rack c.args.storages.now accepted).few_storages in
     let new = named c.args.node c.args.storages.now in
     let more = len_insert_all c.self.inside.storages.map new in
-    let many = length-map c.args.storages.now (λ s. (s, record { node = c.args.node; remaining = 0 })) in
+    let many = length-map {B = ℕ × StorageInfo} c.args.storages.now (λ s. (s, record { node = c.args.node; remaining = 0 })) in
     let after = ap len c.add_storages.ensures.after in
     record { few = omega (arith, few, more, many, after); small = c.add_storages.ensures.small c.self.invariant.0.storage_ids }
 
@@ -40,7 +41,7 @@ invariant_of-self c =
     let draining = c.remove.ensures.after ∙ ap (remove c.self.inside.draining.map) (c.from-3.ensures ∙ c.node.view_is) in (
       sound-joined c.self.inside.nodes.map c.self.inside.racks.map _ _ c.self.inside.draining.map _ c.self.inside.storages.map _ c.args.node c.args.rack c.count_on-count.result c.args.storages.now (omega arith) accepted count nodes racks draining
           c.add_storages.ensures.after c.add_storages.ensures.small c.self.invariant.0,
-      none_set _ c.self.inside.spots c.self.invariant.1.0.whole,
+      none_set _ c.self.inside.spots c.self.invariant.1.whole,
       c.set.ensures,
     )
 

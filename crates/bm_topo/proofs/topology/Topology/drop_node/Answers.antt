@@ -13,7 +13,7 @@ pub invariant_of-self : goal.invariant_of-self
 invariant_of-self c =
     let left = c.remove.ensures.after ∙ ap (remove c.self.inside.draining.map) (c.from.ensures ∙ c.node.view_is) in (
       sound-kept _ _ c.self.inside.draining.map _ c.self.inside.storages.map _ c.args.node c.drop_storages.ensures.after left c.self.invariant.0,
-      none_set _ c.self.inside.spots c.self.invariant.1.0.whole,
+      none_set _ c.self.inside.spots c.self.invariant.1.whole,
       c.set.ensures,
     )
 

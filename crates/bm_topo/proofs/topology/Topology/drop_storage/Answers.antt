@@ -8,7 +8,7 @@ use Rattle.bm_topo.proofs.Sounding.{sound-removed}
 use Rattle.bm_topo.proofs.topology.Topology.drop_storage.Goals as goal
 
 pub invariant_of-self : goal.invariant_of-self
-invariant_of-self c = (sound-removed _ _ _ c.self.inside.storages.map _ c.from.result c.remove.ensures.after c.self.invariant.0, none_set _ c.self.inside.spots c.self.invariant.1.0.whole, c.set.ensures)
+invariant_of-self c = (sound-removed _ _ _ c.self.inside.storages.map _ c.from.result c.remove.ensures.after c.self.invariant.0, none_set _ c.self.inside.spots c.self.invariant.1.whole, c.set.ensures)
 
 pub set-requires : goal.set-requires
 set-requires c =

@@ -1,4 +1,4 @@
-use Rattle.std.proofs.Common.{◌≡◌, List, ℕ, length, filter, ap, arith, ◌∙◌}
+use Rattle.std.proofs.Common.{List, ℕ, length, filter, ap, arith, ◌∙◌}
 use Rattle.bm_base.specs.Lists.{has}
 use Rattle.bm_base.specs.Map.{keys}
 use Rattle.bm_base.specs.Replicas.{has_storage}
