@@ -1,9 +1,13 @@
 -- The storages of a node, one after another.
-use Rattle.std.specs.Prelude.{◌≡◌, ℕ, suc, ◌+◌, ◌<◌, ◌≤◌, ◌==◌, ◌||◌, Bool, true, false, List, [], ◌∷◌, length}
-use Rattle.std.proofs.Common.{get_or, refl, sym, subst, arith, inl, inr, eqb-true}
+use Rattle.std.specs.Prelude.{◌≡◌, ◌⊎◌, ℕ, zero, suc, ◌+◌, ◌<◌, ◌≤◌, ◌==◌, ◌||◌, Bool, true, false, List, [], ◌∷◌, length, Option}
+use Rattle.std.proofs.Common.{get_or, refl, sym, ap, subst, ◌∙◌, arith, inl, inr, eqb-true}
 use Rattle.std.proofs.lemmas.Bool.{cases_eq, false≢true}
 use Rattle.bm_base.specs.Lists.{has}
+use Rattle.bm_base.specs.SlotLists.{Among}
 use Rattle.bm_base.proofs.Listed.{or_left, or_right, same_again}
+use Rattle.bm_arena.specs.Contents.{Contents, block_at, list_of}
+use Rattle.bm_levels.specs.Kept.{Kept, IsJudged, IsSameAt}
+use Rattle.bm_levels.proofs.Keeping.{judged_still, same_chain}
 
 -- a number of a list has a place
 has_place : (ss : List ℕ) (s : ℕ) → has ss s ≡ true → (i : ℕ) × (i < length ss) × (get_or ss i 0 ≡ s)
@@ -14,10 +18,19 @@ has_place (x ∷ xs) s e = by (x == s) refl e (λ later. has_place xs s later)
     by true same _ rest = (0, omega arith, eqb-true x s same)
     by false _ later rest = let r = rest later in (suc r.0, omega (arith, r.1), r.2)
 
-pub has_at : (ss : List ℕ) (i : ℕ) → i < length ss → has ss (get_or ss i 0) ≡ true
+has_at : (ss : List ℕ) (i : ℕ) → i < length ss → has ss (get_or ss i 0) ≡ true
 has_at [] i lt = absurd (omega (arith, lt))
-has_at (x ∷ xs) 0 lt = or_left (x == x) (has xs x) (same_again x)
+has_at (x ∷ xs) zero lt = or_left (x == x) (has xs x) (same_again x)
 has_at (x ∷ xs) (suc i) lt = or_right (x == get_or xs i 0) (has xs (get_or xs i 0)) (has_at xs i (omega (arith, lt)))
+
+-- what is read at a place, whatever is read past the last one
+read_at : (ss : List ℕ) (i d : ℕ) → i < length ss → get_or ss i d ≡ get_or ss i 0
+read_at [] i d lt = absurd (omega (arith, lt))
+read_at (x ∷ xs) zero d lt = refl
+read_at (x ∷ xs) (suc i) d lt = read_at xs i d (omega (arith, lt))
+
+pub own_at : (ss : List ℕ) (i s : ℕ) → i < length ss → s ≡ get_or ss i s → has ss s ≡ true
+own_at ss i s lt is = ap (has ss) (is ∙ read_at ss i s lt) ∙ has_at ss i lt
 
 module _ (ss : List ℕ) (P : ℕ → Type 0) where
   -- those at the first places have gone
@@ -28,8 +41,21 @@ module _ (ss : List ℕ) (P : ℕ → Type 0) where
   gone_all place past h s there = let k = has_place ss s there in subst P k.2 (h k.0 (omega (arith, k.1, past)))
 
 -- one more has gone, and those before it still have
-pub gone_more : (ss : List ℕ) (P Q : ℕ → Type 0) (place : ℕ) → HaveGone ss P place → ((s : ℕ) → P s → Q s) → Q (get_or ss place 0) → HaveGone ss Q (place + 1)
-gone_more ss P Q place h still here i lt = elim (cases_eq i place) [
-  | inl same ↦ subst (λ k. Q (get_or ss k 0)) (sym same) here
+pub gone_more : (ss : List ℕ) (P Q : ℕ → Type 0) (place s : ℕ) → place < length ss → s ≡ get_or ss place s → HaveGone ss P place → ((t : ℕ) → P t → Q t) → Q s → HaveGone ss Q (place + 1)
+gone_more ss P Q place s below is h still here i lt = elim (cases_eq i place) [
+  | inl same ↦ subst Q (is ∙ read_at ss place s below ∙ ap (λ k. get_or ss k 0) (sym same)) here
   | inr differs ↦ still (get_or ss i 0) (h i (omega (arith, lt, differs)))
+]
+
+-- the slots on one storage more are judged
+pub judged_next : (rack : ℕ → Option ℕ) (draining : ℕ → Bool) (multi : Bool) (a : Contents) (ss : List ℕ) (place s slot : ℕ) (K L M : Kept) → place < length ss → s ≡ get_or ss place s
+    → IsJudged rack draining multi (block_at a slot) L slot ⊎ (IsSameAt K L slot × HaveGone ss (λ t. Among slot (list_of a t) → ⊥) place)
+    → IsJudged rack draining multi (block_at a slot) M slot ⊎ (IsSameAt L M slot × (Among slot (list_of a s) → ⊥))
+    → IsJudged rack draining multi (block_at a slot) M slot ⊎ (IsSameAt K M slot × HaveGone ss (λ t. Among slot (list_of a t) → ⊥) (place + 1))
+judged_next rack draining multi a ss place s slot K L M below is before after = elim after [
+  | inl judged ↦ inl judged
+  | inr same ↦ elim before [
+    | inl was ↦ inl (judged_still rack draining multi (block_at a slot) L M slot was same.0)
+    | inr was ↦ inr (same_chain K L M slot was.0 same.0, gone_more ss (λ t. Among slot (list_of a t) → ⊥) (λ t. Among slot (list_of a t) → ⊥) place s below is was.1 (λ t h. h) same.1)
+  ]
 ]

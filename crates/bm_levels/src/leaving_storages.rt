@@ -80,7 +80,8 @@ impl LeveledBlocks {
     {
         let mut removed = self.clear_abreast(around, node);
         for storage in around.topology.storages_of(node) {
-            removed += self.clear(around, *storage) as u128;
+            let count = self.clear(around, *storage);
+            removed += count as u128;
         }
         removed
     }

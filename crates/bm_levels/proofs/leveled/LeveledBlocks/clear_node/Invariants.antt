@@ -8,7 +8,7 @@ use Rattle.bm_levels.proofs.leveled.LeveledBlocks.clear_node.Given as goal
 
 -- the storages at the first places have left
 pub record AreLeaving (l : goal.Live-loop-storage) : Type 0 where
-  pub left : IsLeaving (is_on_node l.around l.node) l.fn.self.arena l.self.arena l.removed
+  pub left : IsLeaving (is_on_node l.around l.fn.node) l.fn.self.arena l.self.arena l.removed
   pub none : HaveGone l.storage-items (λ s. list_of l.self.arena s ≡ []) l.storage-index
   pub heads : HaveGone l.storage-items (λ s. HasHead l.self.arena s → ⊥) l.storage-index
   pub bare : MakesNoneBare l.fn.self.arena l.self.arena
