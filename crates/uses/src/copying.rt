@@ -36,7 +36,7 @@ fn copy_by(
     block: BlockId,
     stamp: Stamp,
     topology: &Topology,
-    streams: &Streams,
+    streams: &Streams<'_>,
     scheduled: &Scheduled<'_>,
 ) -> Option<Transfer>
     requires streams { streams.now ≡ senders_with topology.now.cluster [] }

@@ -1,5 +1,5 @@
 use Rattle.std.specs.Prelude.{filter_map}
-use Rattle.std.proofs.Common.{◌+◌, ℕ, drop, get_or, Some, sym, ap, ◌∙◌}
+use Rattle.std.proofs.Common.{◌+◌, ℕ, drop, Some, sym, ap, ◌∙◌}
 use Rattle.std.proofs.lemmas.Option.{slice_get-get_or}
 use Rattle.bm_base.specs.Map.{get}
 use Rattle.bm_place.specs.Foremost.{cmp_alike, are_alike, better_of}
@@ -14,11 +14,11 @@ loop-storage-preserved c =
     let rows = c.args.rows.now.map in
     let xs = c.args.near.now in
     let i = c.loop-storage.storage-index in
-    let e = get_or xs i 0 in
+    let e = c.storage-item.result in
     let b = c.loop-storage.best in
     let f = λ (s : ℕ). get rows s in
-    let at = slice_get-get_or xs i 0 c.loop-storage-test.true in
-    let best = c.better_of-best.ensures ∙ ap (better_of b t) (c.get.ensures ∙ ap (get rows) c.from.ensures) in
+    let at = slice_get-get_or xs i e c.loop-storage-test.true ∙ ap Some (sym c.storage-item.is) in
+    let best = c.better_of-best.ensures ∙ ap (better_of b t) (c.get.ensures ∙ ap (get rows) (c.from.ensures ∙ c.storage.view_is)) in
     ap (λ b. scan cmp_alike (λ c. are_alike c t) (Some b) (filter_map f (drop (i + 1) xs))) best
     ∙ sym (scan-more t b (f e) (filter_map f (drop (i + 1) xs)))
     ∙ ap (λ ys. scan cmp_alike (λ c. are_alike c t) (Some b) (filter_map f ys)) (sym (drop-next xs i e at))
