@@ -7,7 +7,7 @@ use Rattle.bm_base.specs.declared.replica.Replica.{Replica}
 use Rattle.bm_base.specs.declared.replica.BlockInfo.{BlockInfo}
 use Rattle.bm_base.specs.Map.{Map, entries}
 use Rattle.bm_base.specs.State.{Cluster, by_replica}
-use Rattle.bm_base.specs.Replicas.{is_corrupt, is_usable, is_live_on, has_storage, is_draining}
+use Rattle.bm_base.specs.Replicas.{is_corrupt, is_usable, is_live_on, is_draining}
 use Rattle.bm_arena.specs.Triplets.{Block}
 use Rattle.bm_arena.specs.Contents.{Contents, block_at, slot_of, marks_at, list_of}
 use Rattle.bm_arena.specs.Holding.{info_at, id_at}

@@ -1,12 +1,11 @@
 -- What is true of a table of storages and its foremost targets, when it is made.
-use Rattle.std.specs.Prelude.{◌⊎◌, ◌==◌, option_map, option_and_then}
+use Rattle.std.specs.Prelude.{◌⊎◌, option_map, option_and_then}
 use Rattle.std.specs.List.Sorted.{IsPermutation}
 use Rattle.std.specs.Option.{option_map_or}
 use Rattle.std.specs.Ordering.{eq_by_cmp, nat_cmp}
 use Rattle.std.specs.FinMap.{find, is_sorted}
 use Rattle.std.specs.FinMap.Entries.{below_all}
 use Rattle.std.proofs.Common.{◌≡◌, ◌≤◌, ℕ, Bool, true, false, cond, List, [], ◌∷◌, map, Option, Some, None, is_some, refl, inl, inr, sym, ap, subst, ◌∙◌, T, arith}
-use Rattle.std.proofs.lemmas.Bool.{eq-eqb}
 use Rattle.std.proofs.lemmas.List.Sorted.{IsPermutation-sym}
 use Rattle.std.proofs.lemmas.Option.{same_Some, cond_some, none-some}
 use Rattle.bm_base.specs.Conjunction.{first, second}
@@ -14,13 +13,13 @@ use Rattle.bm_base.specs.Lists.{has}
 use Rattle.bm_base.specs.Map.{Map, by_number, empty, get, entries, keys}
 use Rattle.bm_base.specs.declared.storage.StorageInfo.{StorageInfo}
 use Rattle.bm_base.specs.State.{Cluster}
-use Rattle.bm_base.specs.Replicas.{has_storage, node_of, rack_of, is_draining, drains}
+use Rattle.bm_base.specs.Replicas.{node_of, rack_of, is_draining, drains}
 use Rattle.bm_base.proofs.Each.{Each, each_then}
 use Rattle.bm_base.proofs.Maps.{each_entry, each_found, key_itself}
 use Rattle.bm_base.proofs.MapLaws.{find_below}
 use Rattle.bm_place.specs.declared.scheduled.Target.{Target}
 use Rattle.bm_place.specs.Targets.{target_at, target_table}
-use Rattle.bm_place.specs.Foremost.{AreOf, IsAmong, AreForemost, IsKept, StandsFor, are_alike, with_firsts, firsts_of, AreFirstsInOrder}
+use Rattle.bm_place.specs.Foremost.{IsAmong, AreForemost, IsKept, StandsFor, are_alike, with_firsts, firsts_of, AreFirstsInOrder}
 use Rattle.bm_place.proofs.Tables.{get-table, has-keys}
 use Rattle.bm_place.proofs.Alike.{IsLike, like, alike}
 use Rattle.bm_place.proofs.Covering.{AreFirst, covered}
@@ -31,6 +30,11 @@ pub among_mapped : {X Y : Type 0} (f : X → Y) (xs : List X) (y : Y) → IsAmon
 among_mapped f [] y none = absurd none
 among_mapped f (x ∷ xs) y (inl e) = (x, inl refl, e)
 among_mapped f (x ∷ xs) y (inr there) = let h = among_mapped f xs y there in (h.0, inr h.1, h.2)
+
+pub among_map : {X Y : Type 0} (f : X → Y) (xs : List X) (x : X) → IsAmong xs x → IsAmong (map f xs) (f x)
+among_map f [] x none = absurd none
+among_map f (y ∷ xs) x (inl e) = inl (ap f e)
+among_map f (y ∷ xs) x (inr there) = inr (among_map f xs x there)
 
 each_among : {X : Type 0} (P : X → Type 0) (xs : List X) (x : X) → Each P xs → IsAmong xs x → P x
 each_among P [] x h none = absurd none
@@ -165,10 +169,3 @@ kept_made C rows cs made are =
         let b = (row t.storage t (among_rows rows at_storage t there_t)).0 in
         (λ i. are_alike (sym a i) (sym b i))
         ∙ alike (target_at C (λ _. 0) s.storage) (target_at C (λ _. 0) t.storage) (alike_on C s.storage t.storage (ap (λ (t : Target). t.node) a ∙ same ∙ ap (λ (t : Target). t.node) (sym b)))
-
-pub of_cluster_made : (C : Cluster) (rows : Map by_number Target) → rows ≡ target_table C (λ _. 0) → AreOf C rows
-unfolding has_storage
-of_cluster_made C rows made s t is =
-    let r = row_made C s t (ap (λ m. get m s) (sym made) ∙ is) in
-    let n = on_node C s r.1 in
-    (n.0, ap (λ (u : Target). u.node) (sym r.0) ∙ n.1, ap (λ o. option_map_or (λ m. m == n.0) o false) n.1 ∙ eq-eqb n.0 n.0 refl)

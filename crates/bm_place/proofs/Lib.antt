@@ -7,6 +7,7 @@ pub mod Alike
 pub mod Scanning
 pub mod Keeping
 pub mod Among
+pub mod Seating
 pub mod Renewing
 pub mod Fewer
 pub mod Walking

@@ -12,15 +12,14 @@ use Rattle.bm_base.proofs.Maps.{get_revised}
 use Rattle.bm_base.proofs.Ties.{number_tie}
 use Rattle.bm_base.proofs.Replacing.{no_change}
 use Rattle.bm_place.specs.declared.scheduled.Target.{Target}
-use Rattle.bm_base.specs.Lists.{has}
-use Rattle.bm_base.specs.Replicas.{has_storage}
-use Rattle.bm_base.specs.State.{Cluster}
+use Rattle.bm_place.specs.declared.seats.Seat.{Seat}
 use Rattle.bm_place.specs.Targets.{room_on}
+use Rattle.bm_place.specs.Seats.{seat_of, AreSeated}
 use Rattle.bm_place.specs.Scan.{scan}
-use Rattle.bm_place.specs.Foremost.{AreOf, IsAmong, IsKept, StandsFor, are_alike, goes_before, cmp_alike, put_back}
+use Rattle.bm_place.specs.Foremost.{IsAmong, IsKept, StandsFor, are_alike, goes_before, cmp_alike, put_back}
 use Rattle.bm_place.proofs.Alike.{IsLike, like, alike, like_back, like_then, like_itself, less_room, ranks}
 use Rattle.bm_place.proofs.Scanning.{found}
-use Rattle.bm_place.proofs.Among.{made_among, of_made, has_among}
+use Rattle.bm_place.proofs.Seating.{made_among, of_made}
 use Rattle.bm_place.proofs.NonePasses.{none_passes}
 use Rattle.bm_place.proofs.Ordered.{without, among_put, put_among, of_without, here_or_without, among_at, apart_without, only_alike, put_in_order}
 
@@ -182,41 +181,42 @@ module _ (rows : Map by_number Target) (target len : ℕ) where
             };
       }
 
-  -- each row is of its storage of the cluster still
-  pub still_of : (C : Cluster) → AreOf C rows → AreOf C added
-  still_of C placed s t is =
-      let h = row_before s t is in
-      let n = placed s h.0 h.1 in
-      (n.0, ap (λ (u : Target). u.node) (sym h.2) ∙ (like_before (s == target) h.0).node ∙ n.1, n.2)
+  -- the storages stay where they are seated
+  pub seated_added : (seats : List Seat) → AreSeated rows seats → AreSeated added seats
+  seated_added seats seated s t is = let h = row_before s t is in subst (λ t. IsAmong seats (seat_of t)) h.2 (by (s == target) h.0 (seated s h.0 h.1))
+    where
+      by : (b : Bool) (x : Target) → IsAmong seats (seat_of x) → IsAmong seats (seat_of (cond b (sent_more len x) x))
+      by true x h = h
+      by false x h = h
 
 -- the same of what is equal to these, where the best is sought among the storages of the node
-pub kept_renewed : (C : Cluster) (old new : Map by_number Target) (target len : ℕ) (cs ds : List Target) (near : List ℕ) (row best : Target) (place : ℕ) → IsKept old cs → IfSome (get old target) (λ t. len + t.scheduled ≤ t.remaining)
-    → new ≡ revise_at old target (sent_more len) → get new target ≡ Some row → position (λ c. c.storage == target) cs ≡ Some place → AreOf C new → ((n s : ℕ) → row.node ≡ Some n → has near s ≡ has_storage C n s)
-    → scan cmp_alike (λ c. are_alike c row) (Some row) (filter_map (λ s. get new s) near) ≡ Some best → ds ≡ put_back best place cs → IsKept new ds
-kept_renewed C old new target len cs ds near row best place kept fits made there placed of_cluster nearby is put =
+pub kept_renewed : (old new : Map by_number Target) (target len : ℕ) (cs ds : List Target) (seats near : List Seat) (row best : Target) (place : ℕ) → IsKept old cs → IfSome (get old target) (λ t. len + t.scheduled ≤ t.remaining)
+    → new ≡ revise_at old target (sent_more len) → get new target ≡ Some row → position (λ c. c.storage == target) cs ≡ Some place → AreSeated new seats → ((e : Seat) → IsAmong seats e → e.node ≡ row.node → IsAmong near e)
+    → scan cmp_alike (λ c. are_alike c row) (Some row) (filter_map (λ e. get new e.storage) near) ≡ Some best → ds ≡ put_back best place cs → IsKept new ds
+kept_renewed old new target len cs ds seats near row best place kept fits made there placed seated nearby is put =
     let p = position-Some (λ (c : Target). c.storage == target) cs place row placed in
     let c = get_or cs place row in
     subst (λ m. IsKept m ds) (sym made)
-    (subst (IsKept (added old target len)) (sym put) (kept_added old target len cs kept fits place row c best (ap (λ m. get m target) (sym made) ∙ there) (slice_get-get_or cs place row p.0) (eqb-true c.storage target p.1) ts part all (ap (λ m. scan cmp_alike (λ c. are_alike c row) (Some row) (filter_map (λ s. get m s) near)) (sym made) ∙ is)))
+    (subst (IsKept (added old target len)) (sym put) (kept_added old target len cs kept fits place row c best (ap (λ m. get m target) (sym made) ∙ there) (slice_get-get_or cs place row p.0) (eqb-true c.storage target p.1) ts part all (ap (λ m. scan cmp_alike (λ c. are_alike c row) (Some row) (filter_map (λ (e : Seat). get m e.storage) near)) (sym made) ∙ is)))
   where
     rows : Map by_number Target
     rows = added old target len
 
     ts : List Target
-    ts = filter_map (λ s. get rows s) near
+    ts = filter_map (λ (e : Seat). get rows e.storage) near
 
     stands_at : (s : ℕ) (t : Target) → get rows s ≡ Some t → t.storage ≡ s
     stands_at s t e = at_storage old target len cs kept fits s t e
 
     part : (t : Target) → IsAmong ts t → get rows t.storage ≡ Some t
     part t h =
-        let e = of_made (λ s. get rows s) near t h in
-        ap (get rows) (stands_at e.0 t e.1) ∙ e.1
+        let e = of_made (λ (e : Seat). get rows e.storage) near t h in
+        ap (get rows) (stands_at e.0.storage t e.1) ∙ e.1
 
     all : (s : ℕ) (t : Target) → get rows s ≡ Some t → are_alike t row ≡ true → IsAmong ts t
     all s t e same =
-        let n = of_cluster s t (ap (λ m. get m s) made ∙ e) in
-        made_among (λ s. get rows s) near s t (has_among near s (nearby n.0 s (sym (like t row same).node ∙ n.1) ∙ n.2)) e
+        let seat = subst (λ m. AreSeated m seats) made seated s t e in
+        made_among (λ (e : Seat). get rows e.storage) near (seat_of t) t (nearby (seat_of t) seat (like t row same).node) (ap (get rows) (stands_at s t e) ∙ e)
 
 -- where the target is not among the foremost, or is unknown
 pub kept_same : (old new : Map by_number Target) (target len : ℕ) (cs : List Target) → IsKept old cs → IfSome (get old target) (λ t. len + t.scheduled ≤ t.remaining) → new ≡ revise_at old target (sent_more len)

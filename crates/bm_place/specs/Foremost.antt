@@ -6,8 +6,6 @@ use Rattle.std.specs.Bool.{beq}
 use Rattle.std.specs.List.Sorted.{IsPermutation, IsSorted}
 use Rattle.std.specs.Option.{option_eq, option_map_or}
 use Rattle.bm_base.specs.Map.{Map, by_number, empty, entries, get, insert, values}
-use Rattle.bm_base.specs.State.{Cluster}
-use Rattle.bm_base.specs.Replicas.{has_storage}
 use Rattle.bm_place.specs.declared.scheduled.Target.{Target}
 use Rattle.bm_place.specs.Targets.{room_on}
 
@@ -99,12 +97,3 @@ pub record IsKept (rows : Map by_number Target) (cs : List Target) : Type 0 wher
   pub at_storage : (s : ℕ) (t : Target) → get rows s ≡ Some t → t.storage ≡ s
   pub within : (s : ℕ) (t : Target) → get rows s ≡ Some t → t.scheduled ≤ t.remaining
   pub foremost : AreForemost rows cs
-
--- each row is of a storage of the cluster, and names its node
-abbrev pub AreOf : Cluster → Map by_number Target → Type 0
-AreOf C rows = (s : ℕ) (t : Target) → get rows s ≡ Some t → (n : ℕ) × (t.node ≡ Some n) × (has_storage C n s ≡ true)
-
--- What is true of a table of the storages of a cluster, and its foremost targets.
-pub record IsIndexed (C : Cluster) (rows : Map by_number Target) (cs : List Target) : Type 0 where
-  pub kept : IsKept rows cs
-  pub of_cluster : AreOf C rows

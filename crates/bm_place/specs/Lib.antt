@@ -11,4 +11,5 @@ pub mod Standing
 pub mod Candidates
 pub mod Compared
 pub mod Foremost
+pub mod Seats
 pub mod Pass

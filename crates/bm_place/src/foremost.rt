@@ -7,6 +7,7 @@ ghost use Rattle.bm_place.specs.Scan as scanned;
 ghost use Rattle.bm_place.specs.Targets as targets;
 
 use crate::scheduled::Target;
+use crate::seats::Seat;
 use bm_base::{NumberMap, StorageId};
 use std::alloc::{AllocError, Global};
 
@@ -71,13 +72,13 @@ fn sort_targets(targets: &mut Vec<Target>)
 }
 
 /// Of a target and the rows of some storages the one of the target's node that goes before the others. Looks up each storage once.
-pub fn foremost_beside(target: Target, rows: &NumberMap<Target>, near: &[StorageId]) -> Target
+pub fn foremost_beside(target: Target, rows: &NumberMap<Target>, near: &[Seat]) -> Target
     ensures { scanned.scan nodes.cmp_alike (λ c. nodes.are_alike c target) (Some target)
-        (filter_map (λ s. table.get rows.now.map s) near.now) ≡ Some result }
+        (filter_map (λ e. table.get rows.now.map e.storage) near.now) ≡ Some result }
 {
     let mut best = target;
-    for storage in near {
-        best = better_of(&best, &target, rows.get(u64::from(storage.0)));
+    for seat in near {
+        best = better_of(&best, &target, rows.get(u64::from(seat.storage.0)));
     }
     best
 }

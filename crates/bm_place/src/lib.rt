@@ -12,6 +12,7 @@ mod few;
 mod foremost;
 mod pass;
 mod scheduled;
+mod seats;
 mod source;
 mod standing;
 mod streams;

@@ -1,5 +1,5 @@
 // What is sent to each storage in a round.
-ghost use Rattle.std.specs.Prelude.{◌≡◌, ◌≤◌, ◌+◌, ◌==◌, if◌then◌else◌, ℕ, List, [], ◌∷◌, ◌++◌, Some, IfOk, IfErr};
+ghost use Rattle.std.specs.Prelude.{◌≡◌, ◌≤◌, ◌+◌, ◌==◌, false, if◌then◌else◌, ℕ, List, [], ◌∷◌, ◌++◌, IfOk, IfErr};
 ghost use Rattle.std.specs.Option.{IfSome};
 ghost use Rattle.bm_base.specs.declared.refusal.Refusal.TheVariants.{Memory};
 ghost use Rattle.bm_base.specs.declared.commands.Transfer.{Transfer};
@@ -9,12 +9,12 @@ ghost use Rattle.bm_base.specs.Transfers as transfers;
 ghost use Rattle.bm_place.specs.Tables.{nothing_yet};
 ghost use Rattle.bm_place.specs.Targets as targets;
 ghost use Rattle.bm_place.specs.Found.{HasRoomFor, with_sent, targets_with};
-ghost use Rattle.bm_base.specs.Lists as lists;
-ghost use Rattle.bm_base.specs.Replicas.{has_storage};
-ghost use Rattle.bm_place.specs.Foremost.{AreForemost, IsKept, AreOf};
+ghost use Rattle.bm_place.specs.Foremost.{AreForemost, IsKept};
+ghost use Rattle.bm_place.specs.Seats.{AreSeated, AreByNode};
 ghost use Rattle.bm_place.specs.declared.scheduled.Target.{Target};
 
 use crate::foremost::{foremost_beside, foremost_of, place_of, put_back};
+use crate::seats::{Seat, seats_near, seats_of};
 use bm_base::{NodeId, NumberMap, Rack, Refusal, StorageId};
 use bm_topo::Topology;
 use std::alloc::{AllocError, Global};
@@ -33,19 +33,20 @@ pub struct Target {
 
 /// How many bytes are sent to each storage in a round, beside where it stands.
 ///
-/// Made once for a round: it knows nothing of transfers of earlier rounds. A
+/// Made once for a round: it keeps what the cluster was when it was made, and knows nothing of transfers of earlier rounds. A
 /// contract sees a table with a row for each storage: the storage, its node and rack, whether the node drains, its remaining
 /// bytes and the bytes that are sent to it. Beside these rows it keeps what saves going over all of them.
 #[derive(Drop)]
-pub struct Scheduled<'a> {
-    topology: &'a Topology,
+pub struct Scheduled {
     pub(crate) rows: NumberMap<Target>,
     /// Of the storages of each node the one with most room, and of these the least: no other is the target of a copy. They stand in
     /// this order too, so that the first that will do is the target.
     foremost: Vec<Target>,
+    /// All storages, sorted by their nodes.
+    seats: Vec<Seat>,
 }
 
-impl<'a> Model for Scheduled<'a> {
+impl Model for Scheduled {
     ghost use Rattle.std.specs.Coded.{coded_ℕ};
     ghost use Rattle.bm_base.specs.Map.{Map, by_number};
     ghost use Rattle.bm_base.specs.MapCode.{code};
@@ -58,26 +59,28 @@ impl<'a> Model for Scheduled<'a> {
 
     ghost view = { λ s. s.rows.map };
 
-    ghost use Rattle.bm_place.specs.Foremost.{IsIndexed};
+    ghost use Rattle.bm_place.specs.Seats.{IsIndexed};
 
-    ghost invariant = { λ s. IsIndexed s.topology.now.cluster s.rows.map s.foremost.items };
+    ghost invariant = { λ s. IsIndexed s.rows.map s.foremost.items s.seats.items };
 }
 
-impl<'a> Scheduled<'a> {
+impl Scheduled {
     /// Nothing is sent yet to any storage of the cluster. `Memory` where a growth of the tables is refused. Goes over the
-    /// storages of the cluster once, by a few look-ups each, and sorts one of each node by room.
-    pub fn new(alloc: Global, topology: &'a Topology) -> Result<Scheduled<'a>, Refusal>
+    /// storages of the cluster once, by a few look-ups each, and sorts them by their nodes, and one of each node by room.
+    pub fn new(alloc: Global, topology: &Topology) -> Result<Scheduled, Refusal>
         ensures none_yet { IfOk result
             (λ t. t ≡ targets.target_table topology.now.cluster nothing_yet) }
         ensures of_transfers { IfOk result (λ t. t ≡ targets_with topology.now.cluster []) }
         ensures refused { IfErr result (λ e. e ≡ Memory) }
     {
         let rows = rows_of(alloc, topology)?;
-        let foremost = foremost_of(alloc, rows.entries())?;
+        let listed = rows.entries();
+        let foremost = foremost_of(alloc, listed)?;
+        let seats = seats_of(alloc, listed)?;
         Ok(Scheduled {
-            topology,
             rows,
             foremost,
+            seats,
         })
     }
 
@@ -94,7 +97,7 @@ impl<'a> Scheduled<'a> {
             → self.old ≡ targets_with C chosen → self.new ≡ targets_with C (chosen ++ t ∷ []) }
     {
         add_to(&mut self.rows, target, len);
-        renew(&mut self.foremost, &self.rows, self.topology, target);
+        renew(&mut self.foremost, &self.rows, &self.seats, target);
     }
 
     /// The foremost storage of each node: of its storages the one with most room, and of these the least. In this order too.
@@ -134,35 +137,20 @@ fn add_to(rows: &mut NumberMap<Target>, target: StorageId, len: u64)
 
 /// The foremost storages, where more bytes were sent to one: in its place comes what is foremost on its node now, and moves back
 /// behind those that go before it. Any other storage of the node goes before none of them still.
-fn renew(
-    foremost: &mut Vec<Target>,
-    rows: &NumberMap<Target>,
-    topology: &Topology,
-    target: StorageId,
-)
+fn renew(foremost: &mut Vec<Target>, rows: &NumberMap<Target>, seats: &[Seat], target: StorageId)
     ensures { (old : map.Map map.by_number Target) (len : ℕ)
         → IsKept old foremost.old.items → HasRoomFor old len target
         → rows.now.map ≡ with_sent old target len
-        → AreOf topology.now.cluster rows.now.map
+        → AreSeated rows.now.map seats.now → AreByNode seats.now
         → IsKept rows.now.map foremost.new.items }
 {
     let Some(place) = place_of(foremost, target) else {
         return;
     };
     if let Some(row) = rows.get(u64::from(target.0)) {
-        let best = foremost_beside(row, rows, storages_near(row.node, topology));
+        let near = seats_near(seats, row.node);
+        let best = foremost_beside(row, rows, near);
         put_back(foremost, place, &best);
-    }
-}
-
-/// The storages of a node, if there is one.
-fn storages_near(node: Option<NodeId>, topology: &Topology) -> &[StorageId]
-    ensures { (n s : ℕ) → node ≡ Some n
-        → lists.has result.now s ≡ has_storage topology.now.cluster n s }
-{
-    match node {
-        Some(node) => topology.storages_of(node),
-        None => &[],
     }
 }
 

@@ -32,7 +32,7 @@ pub fn least_target(
     len: u64,
     level: Level,
     topology: &Topology,
-    scheduled: &Scheduled<'_>,
+    scheduled: &Scheduled,
 ) -> Option<StorageId>
     ensures found { (sent : ℕ → ℕ) → scheduled.now ≡ targets.target_table topology.now.cluster sent
         → IsFoundTarget topology.now.cluster scheduled.now sent level held.now barred.now len
@@ -53,7 +53,7 @@ fn least_fitting(
     len: u64,
     level: Level,
     topology: &Topology,
-    scheduled: &Scheduled<'_>,
+    scheduled: &Scheduled,
 ) -> Option<StorageId>
     ensures { (sent : ℕ → ℕ) → scheduled.now ≡ targets.target_table topology.now.cluster sent
         → result ≡ transfers.least_target_by topology.now.cluster sent level held.now

@@ -14,10 +14,10 @@ use std::alloc::Global;
 
 /// The transfers chosen so far, with what they count to.
 #[derive(Drop)]
-pub(crate) struct ChosenSoFar<'a> {
+pub(crate) struct ChosenSoFar {
     pub transfers: Vec<Transfer>,
-    pub streams: Streams<'a>,
-    pub scheduled: Scheduled<'a>,
+    pub streams: Streams,
+    pub scheduled: Scheduled,
     /// Of the present wish: the storages from which a copy may be made; those that hold a live replica of the block or will; and those on whose
     /// nodes no copy of it may be put. All three are emptied and filled anew for each wish, so that they take memory only where
     /// one is longer than all before.
@@ -26,9 +26,9 @@ pub(crate) struct ChosenSoFar<'a> {
     pub barred: Vec<StorageId>,
 }
 
-impl<'a> ChosenSoFar<'a> {
+impl ChosenSoFar {
     /// Nothing is chosen yet.
-    pub fn new(alloc: Global, topology: &'a Topology) -> Result<ChosenSoFar<'a>, Refusal>
+    pub fn new(alloc: Global, topology: &Topology) -> Result<ChosenSoFar, Refusal>
         ensures nothing { IfOk result (λ c. c.transfers.items ≡ []) }
         ensures counted { IfOk result (IsCounted topology.now.cluster) }
         ensures refused { IfErr result (λ e. e ≡ Memory) }

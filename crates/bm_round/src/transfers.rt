@@ -51,7 +51,7 @@ fn choose_copies(
     wish: &Wish,
     topology: &Topology,
     config: &Config,
-    choice: &mut ChosenSoFar<'_>,
+    choice: &mut ChosenSoFar,
 ) -> Result<(), Refusal>
     requires counted { IsCounted topology.now.cluster choice.old }
     requires fresh { targets_of choice.old.transfers.items wish.now.block ≡ [] }
@@ -77,7 +77,7 @@ fn next_copy(
     wish: &Wish,
     topology: &Topology,
     config: &Config,
-    choice: &ChosenSoFar<'_>,
+    choice: &ChosenSoFar,
 ) -> Option<Transfer>
     requires counted { IsCounted topology.now.cluster choice.now }
     requires sources { choice.now.sources.items ≡ choices.sources_by wish.now }

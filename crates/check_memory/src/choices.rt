@@ -67,7 +67,7 @@ fn choose<R: Eprint>(
     alloc: Global,
     live: &[StorageId],
     topology: &Topology,
-    streams: &mut Streams<'_>,
+    streams: &mut Streams,
     tally: &mut Tally,
 ) -> Result<(), Refusal>
     requires { streams.old ≡ sender_table topology.now.cluster (λ _. 0) }
@@ -81,12 +81,7 @@ fn choose<R: Eprint>(
 }
 
 /// The first storage is the source, and then the next, where there is one.
-fn choose_sources(
-    live: &[StorageId],
-    topology: &Topology,
-    streams: &mut Streams<'_>,
-    tally: &mut Tally,
-)
+fn choose_sources(live: &[StorageId], topology: &Topology, streams: &mut Streams, tally: &mut Tally)
     requires { streams.old ≡ sender_table topology.now.cluster (λ _. 0) }
 {
     let first = least_source(live, Level::Highest, topology, streams);
@@ -103,7 +98,7 @@ fn choose_sources(
 fn choose_targets(
     live: &[StorageId],
     topology: &Topology,
-    scheduled: &mut Scheduled<'_>,
+    scheduled: &mut Scheduled,
     tally: &mut Tally,
 )
     requires { scheduled.old ≡ target_table topology.now.cluster (λ _. 0) }

@@ -408,7 +408,7 @@ static SOURCES: [Source<'static>; 12] = [
 ];
 
 /// One transfer more from a storage, which may send it at the highest level.
-fn send(rt: &impl Abort, topology: &Topology, streams: &mut Streams<'_>, source: StorageId)
+fn send(rt: &impl Abort, topology: &Topology, streams: &mut Streams, source: StorageId)
     requires { (sends : ℕ → ℕ) × (streams.old ≡ sender_table topology.now.cluster sends) }
     ensures { (sends : ℕ → ℕ) × (streams.new ≡ sender_table topology.now.cluster sends) }
 {
@@ -668,7 +668,7 @@ fn fill(
     rt: &impl Abort,
     alloc: Global,
     topology: &Topology,
-    scheduled: &mut Scheduled<'_>,
+    scheduled: &mut Scheduled,
     target: u32,
     len: u64,
 )

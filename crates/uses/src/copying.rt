@@ -36,8 +36,8 @@ fn copy_by(
     block: BlockId,
     stamp: Stamp,
     topology: &Topology,
-    streams: &Streams<'_>,
-    scheduled: &Scheduled<'_>,
+    streams: &Streams,
+    scheduled: &Scheduled,
 ) -> Option<Transfer>
     requires streams { streams.now ≡ senders_with topology.now.cluster [] }
     requires scheduled { scheduled.now ≡ targets_with topology.now.cluster [] }

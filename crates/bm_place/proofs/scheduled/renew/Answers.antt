@@ -5,18 +5,18 @@ use Rattle.bm_place.proofs.Renewing.{kept_renewed, kept_same, kept_unknown}
 use Rattle.bm_place.proofs.scheduled.renew.Goals as goal
 
 pub returns-in_default : goal.returns-in_default
-returns-in_default c old len kept fits is of_cluster =
+returns-in_default c old len kept fits is seated by_node =
     let none : position (λ (t : Target). t.storage == c.args.target) c.args.foremost.now.items ≡ None = sym (c.in_default.ensures ∙ ap (position (λ (t : Target). t.storage == c.args.target)) c.deref.ensures.value) in
     kept_same old c.args.rows.now.map c.args.target len c.args.foremost.now.items kept fits is none
 
 pub returns-in-Some-get : goal.returns-in-Some-get
-returns-in-Some-get c old len kept fits is of_cluster =
+returns-in-Some-get c old len kept fits is seated by_node =
     let row = c.in-Some-get.row in
     let place : position (λ (t : Target). t.storage == c.args.target) c.args.foremost.now.items ≡ Some c.in-Some.place = sym (c.in-Some.ensures ∙ ap (position (λ (t : Target). t.storage == c.args.target)) c.deref.ensures.value) in
     let there = sym (c.get.ensures ∙ ap (get c.args.rows.now.map) (c.from.ensures ∙ c.target.view_is)) ∙ c.in-Some-get.is in
-    kept_renewed c.args.topology.now.cluster old c.args.rows.now.map c.args.target len c.args.foremost.now.items c.put_back.new.foremost.items c.storages_near.result.now row c.foremost_beside-best.result c.in-Some.place kept fits is
-    there place of_cluster c.storages_near.ensures c.foremost_beside-best.ensures c.put_back.ensures
+    kept_renewed old c.args.rows.now.map c.args.target len c.args.foremost.now.items c.put_back.new.foremost.items c.args.seats.now c.seats_near-near.result.now row c.foremost_beside-best.result c.in-Some.place kept fits is
+    there place seated (c.seats_near-near.ensures by_node) c.foremost_beside-best.ensures c.put_back.ensures
 
 pub returns-in_default-get : goal.returns-in_default-get
-returns-in_default-get c old len kept fits is of_cluster =
+returns-in_default-get c old len kept fits is seated by_node =
     kept_unknown old c.args.rows.now.map c.args.target len c.args.foremost.now.items kept is (sym (c.get.ensures ∙ ap (get c.args.rows.now.map) (c.from.ensures ∙ c.target.view_is)) ∙ c.in_default-get.is)
