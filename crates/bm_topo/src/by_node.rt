@@ -10,8 +10,8 @@ ghost use Rattle.bm_topo.specs.ByNode.{node_in, AreAllByNode};
 use bm_base::{MAX_STORAGES, NodeId, NumberMap, StorageId, StorageInfo};
 use std::marker::Model;
 
-/// Storages sorted by node, those of a node by ascending number. It has a place for each storage that there can be, so that a change
-/// of the cluster takes no memory for it.
+/// Storages sorted by node, those of a node by ascending number. It has a place for each storage
+/// that there can be, so that a change of the cluster takes no memory for it.
 #[derive(Drop)]
 pub(crate) struct StoragesByNode {
     storages: [StorageId; MAX_STORAGES],
@@ -43,7 +43,7 @@ impl StoragesByNode {
         }
     }
 
-    /// Holds the storages of a table from now on. Inserts each by binary search, and takes no memory.
+    /// Holds the storages of a table from now on. Inserts each by binary search. Takes no memory.
     pub(crate) fn set(&mut self, storages: &NumberMap<StorageInfo>)
         requires few { map.len storages.now.map ≤ MAX_STORAGES }
         requires small { HasSmallKeys storages.now.map }
@@ -69,7 +69,8 @@ impl StoragesByNode {
         &rest[..count]
     }
 
-    /// How many of these are of this node or a lesser one: behind them comes the next storage of the node.
+    /// How many of these are of this node or a lesser one: the next storage of the node comes behind
+    /// them.
     fn place_of(&self, node: NodeId, storages: &NumberMap<StorageInfo>) -> usize
         ensures within { result ≤ length self.now }
         ensures parted { IsNonDecreasingBy (node_in storages.now.map) self.now → IsPartitionPoint
