@@ -1,10 +1,12 @@
 // Events on the cluster, as they change a shard. None takes memory.
-ghost use Rattle.std.specs.Prelude.{◌≡◌, ◌<◌, ◌^◌, ◌==◌, ◌&&◌, not, None, if◌then◌else◌};
+ghost use Rattle.std.specs.Prelude.{◌≡◌, ◌<◌, ◌^◌, ◌==◌, ◌&&◌, ℕ, List, not, None, if◌then◌else◌};
 ghost use Rattle.bm_base.specs.Map.{keep};
+ghost use Rattle.bm_base.specs.State.{Cluster};
 ghost use Rattle.bm_base.specs.Replicas as replicas;
 ghost use Rattle.bm_base.specs.Events as events;
 ghost use Rattle.bm_base.specs.Refusals.{first_of, cluster_checks};
 ghost use Rattle.bm_base.specs.declared.event.Event.TheVariants as event_of;
+ghost use Rattle.bm_base.specs.declared.event.Remaining.{Remaining};
 ghost use Rattle.bm_parts.specs.PlacedLaws.{IsPlaced};
 ghost use Rattle.bm_shard.specs.Bare.{HasNoneBare};
 ghost use Rattle.bm_shard.specs.Left.{HasNoLists};
@@ -12,7 +14,7 @@ ghost use Rattle.bm_shard.specs.Changed.{HasChanged};
 
 use crate::one_block::NOTHING;
 use crate::shard::{Prepared, Shard};
-use bm_base::{Done, NodeId, Rack, Remaining, StorageId};
+use bm_base::{Done, NodeId, StorageId};
 use bm_pending::PendingTransfers;
 use bm_topo::Topology;
 
@@ -80,30 +82,20 @@ impl Shard {
         NOTHING
     }
 
-    /// A node is there with its storages, which hold nothing yet. `multi` says whether the alive nodes stand on two racks or more with it.
-    pub(crate) fn register(
-        &mut self,
-        topology: &Topology,
-        node: NodeId,
-        rack: Rack,
-        storages: &[StorageId],
-        multi: bool,
-    ) -> Done
-        requires cluster { first_of
-            (cluster_checks topology.now.cluster (event_of.Register node rack storages.now))
-            ≡ None }
-        requires multi { multi
-            ≡ replicas.is_multi_rack (events.register topology.now.cluster node rack storages.now) }
+    /// A node registers with its storages, which hold nothing yet. `multi` says whether the alive nodes are on two racks or more with it.
+    pub(crate) fn register(&mut self, topology: &Topology, multi: bool) -> Done
         requires placed { IsPlaced topology.now.cluster self.old.holdings }
         requires none { HasNoneBare self.old }
-        ensures changed { HasChanged topology.now.cluster
-            (events.register topology.now.cluster node rack storages.now) self.old self.new
+        ensures changed { (node rack : ℕ) (storages : List ℕ)
+            → first_of (cluster_checks topology.now.cluster (event_of.Register node rack storages))
+            ≡ None
+            → multi
+            ≡ replicas.is_multi_rack (events.register topology.now.cluster node rack storages)
+            → HasChanged topology.now.cluster
+            (events.register topology.now.cluster node rack storages) self.old self.new
             self.old.holdings result }
         ensures bare { HasNoneBare self.new }
     {
-        let _ = node;
-        let _ = rack;
-        let _ = storages;
         self.prepared = Prepared::Nothing;
         topology.lawful();
         self.blocks.lawful();
@@ -113,16 +105,13 @@ impl Shard {
         NOTHING
     }
 
-    /// A node tells how many bytes remain on its storages: nothing changes.
-    pub(crate) fn hear(&mut self, topology: &Topology, remaining: &[Remaining]) -> Done
+    /// A node reports how many bytes remain on its storages: nothing changes.
+    pub(crate) fn hear(&mut self) -> Done
         requires none { HasNoneBare self.old }
-        ensures changed { HasChanged topology.now.cluster
-            (events.heartbeat topology.now.cluster remaining.now) self.old self.new
-            self.old.holdings result }
+        ensures changed { (C : Cluster) (remaining : List Remaining) → HasChanged C
+            (events.heartbeat C remaining) self.old self.new self.old.holdings result }
         ensures bare { HasNoneBare self.new }
     {
-        let _ = topology;
-        let _ = remaining;
         self.prepared = Prepared::Nothing;
         self.blocks.lawful();
         self.blocks.arena().lawful();
