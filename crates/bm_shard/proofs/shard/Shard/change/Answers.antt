@@ -119,7 +119,11 @@ unfolding change_cluster change_holdings IsReadyFor
 returns-in-FullReport-clause-changed c = subst (λ e. Changes c.args.topology.now.cluster c.args.self.now c.report.new.self c.report.result e) (sym c.in-FullReport.is) (c.report.ensures.changed _ (subst (λ e. IsReadyFor e c.args.self.now) c.in-FullReport.is c.requires.ready))
 
 pub returns-in-Register-clause-few : goal.returns-in-Register-clause-few
-returns-in-Register-clause-few c none = none_few c.args.self.now.holdings c.register.result (registered c).done
+unfolding change_cluster
+returns-in-Register-clause-few c none =
+    none_few c.args.self.now.holdings c.register.result
+    (c.register.ensures.changed _ _ _ (subst (λ e. first_of (cluster_checks c.args.topology.now.cluster e) ≡ None) c.in-Register.is c.requires.cluster)
+    (c.requires.multi ∙ ap (λ e. is_multi_rack (change_cluster c.args.topology.now.cluster e)) c.in-Register.is)).done
 
 pub returns-in-Heartbeat-clause-few : goal.returns-in-Heartbeat-clause-few
 returns-in-Heartbeat-clause-few c none = none_few c.args.self.now.holdings c.hear.result (c.hear.ensures.changed c.args.topology.now.cluster []).done
