@@ -4,7 +4,9 @@ ghost use Rattle.cluster_lost.specs.Losses.{are_losses};
 
 use crate::fault::Fault;
 use crate::loss::{Kind, Loss};
+use crate::named::{nodes_named, rack_named, storage_named};
 use bm_base::{Event, NodeId, Rack, StorageId};
+use cluster_input::loaded::Loaded;
 use cluster_report::book::Book;
 use cluster_report::nodes::all_nodes;
 use std::alloc::{AllocError, Global};
@@ -27,10 +29,10 @@ impl Lost {
     }
 
     /// What these losses name.
-    pub fn named(alloc: Global, book: &Book, losses: &[Loss<'_>]) -> Result<Lost, Fault> {
+    pub fn named(alloc: Global, loaded: &Loaded, losses: &[Loss<'_>]) -> Result<Lost, Fault> {
         let mut lost = Lost::new(alloc);
         for loss in losses {
-            lost.add(alloc, book, *loss)?;
+            lost.add(alloc, loaded, *loss)?;
         }
         Ok(lost)
     }
@@ -44,43 +46,32 @@ impl Lost {
         Ok(lost)
     }
 
-    fn add(&mut self, alloc: Global, book: &Book, loss: Loss<'_>) -> Result<(), Fault> {
-        let Ok(number) = loss.name.parse::<u32>() else {
-            return Err(Fault::Unknown(loss.kind));
-        };
+    fn add(&mut self, alloc: Global, loaded: &Loaded, loss: Loss<'_>) -> Result<(), Fault> {
         match loss.kind {
-            Kind::Rack => self.add_rack(alloc, book, Rack(number)),
+            Kind::Rack => {
+                let nodes = nodes_in(alloc, loaded, loss.name)?;
+                add_all(&mut self.nodes, nodes.as_slice(), loss.kind)
+            }
             Kind::Node => {
-                let node = known_node(book, NodeId(number), loss.kind)?;
-                push_once(&mut self.nodes, node)?;
-                Ok(())
+                let nodes = nodes_named(alloc, loaded, loss.name)?;
+                add_all(&mut self.nodes, nodes.as_slice(), loss.kind)
             }
             Kind::Drain => {
-                let node = known_node(book, NodeId(number), loss.kind)?;
-                push_once(&mut self.drained, node)?;
+                let nodes = nodes_named(alloc, loaded, loss.name)?;
+                add_all(&mut self.drained, nodes.as_slice(), loss.kind)
+            }
+            Kind::Storage => self.add_storage(loaded, loss.name),
+        }
+    }
+
+    fn add_storage(&mut self, loaded: &Loaded, name: &str) -> Result<(), Fault> {
+        match storage_named(loaded, name) {
+            Some(storage) if loaded.session.book.topology.knows_storage(storage) => {
+                push_once(&mut self.storages, storage)?;
                 Ok(())
             }
-            Kind::Storage => self.add_storage(book, StorageId(number)),
+            _ => Err(Fault::Unknown(Kind::Storage)),
         }
-    }
-
-    fn add_rack(&mut self, alloc: Global, book: &Book, rack: Rack) -> Result<(), Fault> {
-        let nodes = nodes_on(alloc, book, rack)?;
-        if nodes.is_empty() {
-            return Err(Fault::Unknown(Kind::Rack));
-        }
-        for node in &nodes {
-            push_once(&mut self.nodes, *node)?;
-        }
-        Ok(())
-    }
-
-    fn add_storage(&mut self, book: &Book, storage: StorageId) -> Result<(), Fault> {
-        if !book.topology.knows_storage(storage) {
-            return Err(Fault::Unknown(Kind::Storage));
-        }
-        push_once(&mut self.storages, storage)?;
-        Ok(())
     }
 
     /// First the nodes that drain, then the storages that fail, then the nodes that die, so that each is known when its event comes.
@@ -105,11 +96,23 @@ pub fn nodes_on(alloc: Global, book: &Book, rack: Rack) -> Result<Vec<NodeId>, A
         .collect(alloc)
 }
 
-fn known_node(book: &Book, node: NodeId, kind: Kind) -> Result<NodeId, Fault> {
-    match book.topology.node_drains(node) {
-        Some(_) => Ok(node),
-        None => Err(Fault::Unknown(kind)),
+/// The alive nodes of the rack of this name.
+fn nodes_in(alloc: Global, loaded: &Loaded, name: &str) -> Result<Vec<NodeId>, AllocError> {
+    match rack_named(loaded, name) {
+        Some(rack) => nodes_on(alloc, &loaded.session.book, rack),
+        None => Ok(Vec::new(alloc)),
     }
+}
+
+/// Adds these nodes, of which a name has to name at least one.
+fn add_all(nodes: &mut Vec<NodeId>, named: &[NodeId], kind: Kind) -> Result<(), Fault> {
+    if named.is_empty() {
+        return Err(Fault::Unknown(kind));
+    }
+    for node in named {
+        push_once(nodes, *node)?;
+    }
+    Ok(())
 }
 
 fn push_once<T: Copy + PartialEq>(items: &mut Vec<T>, item: T) -> Result<(), AllocError> {
