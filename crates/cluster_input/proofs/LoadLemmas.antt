@@ -1,0 +1,51 @@
+-- What is known after a text was read, where the bytes of its reader are known.
+use Rattle.std.proofs.Common.{◌≡◌, ℕ, Bool, List, Option, Some, None, IfSome, Ok, sym, ap, subst, ◌∙◌}
+use Rattle.std.specs.Fmt.{option_append}
+use Rattle.bm_base.specs.State.{State}
+use Rattle.bm_lines.specs.Lines.{lines_of}
+use Rattle.cluster_report.specs.Reading.{after_lines}
+use Rattle.fsck_import.specs.CallsFor.{calls_for}
+use Rattle.fsck_import.specs.Importing.{HasBlocks}
+use Rattle.fsck_import.specs.Reading.{reading_of}
+use Rattle.fsck_import.specs.declared.reading.Reading.{Reading}
+use Rattle.cluster_input.specs.ClusterNames.{names_of}
+use Rattle.cluster_input.specs.Inputs.{AreTaken, IsAfter, IsRead, accepts, accepts_as}
+use Rattle.cluster_input.specs.Kinds.{are_lines, IsHeadOf}
+use Rattle.cluster_input.specs.Making.{Makes}
+use Rattle.cluster_input.specs.declared.loaded.Loaded.{Loaded}
+
+-- what holds of the head and the rest, read as one, holds of the text
+through_head : (known left whole : Option (List ℕ)) (head : List ℕ) (b : Bool) (P : Bool → List ℕ → Type 0) → b ≡ are_lines head
+    → IfSome known (λ text. IsHeadOf text head left) → whole ≡ option_append (Some head) left → IfSome whole (P b)
+    → IfSome known (λ text. P (are_lines text) text)
+through_head None left whole head b P is h e p = tt
+through_head (Some text) left whole head b P is h e p =
+    let all : whole ≡ Some text = e ∙ ap (option_append (Some head)) h.left_is ∙ ap Some (sym h.begins.parts) in
+    subst (λ c. P c text) (is ∙ h.begins.alike) (subst (λ w. IfSome w (P b)) all p)
+
+pub after_through : (known left whole : Option (List ℕ)) (head : List ℕ) (b : Bool) (start : Reading) (remaining : ℕ) (old new : Loaded)
+    → b ≡ are_lines head → IfSome known (λ text. IsHeadOf text head left) → whole ≡ option_append (Some head) left
+    → IfSome whole (λ text. IsAfter b start remaining text old new) → IfSome known (λ text. IsAfter (are_lines text) start remaining text old new)
+after_through known left whole head b start remaining old new is h e after =
+    through_head known left whole head b (λ c text. IsAfter c start remaining text old new) is h e after
+
+pub accepts_through : (known left whole : Option (List ℕ)) (head : List ℕ) (b all : Bool) (M : State)
+    → b ≡ are_lines head → IfSome known (λ text. IsHeadOf text head left) → whole ≡ option_append (Some head) left
+    → IfSome whole (λ text. all ≡ accepts_as b M text) → IfSome known (λ text. all ≡ accepts M text)
+accepts_through known left whole head b all M is h e says =
+    through_head known left whole head b (λ c text. all ≡ accepts_as c M text) is h e says
+
+-- a text of fsck was read, and its calls were made
+pub is_read : (known : Option (List ℕ)) (start read : Reading) (remaining : ℕ) (old new : Loaded)
+    → IfSome known (λ text. reading_of start text ≡ Ok read) → IfSome known (λ text. HasBlocks start text read)
+    → Makes (calls_for read.cluster remaining) old.session.manager new.session.manager → new.names ≡ names_of read.cluster
+    → new.files ≡ read.listing.files → IfSome known (λ text. IsRead start remaining text old new)
+is_read None start read remaining old new told blocks makes names files = tt
+is_read (Some text) start read remaining old new told blocks makes names files =
+    record { read = read; told = told; makes = makes; blocks = blocks; names = names; files = files }
+
+-- lines were read, and nothing but the session changed
+pub are_taken : (known : Option (List ℕ)) (old new : Loaded) → IfSome known (λ text. new.session.manager ≡ after_lines old.session.manager (lines_of text))
+    → new.names ≡ old.names → new.files ≡ old.files → IfSome known (λ text. AreTaken text old new)
+are_taken None old new state names files = tt
+are_taken (Some text) old new state names files = record { state = state; names = names; files = files }
