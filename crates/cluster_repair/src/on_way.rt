@@ -1,25 +1,27 @@
 // Copies on their way, by when they arrive.
+ghost use Rattle.std.specs.Prelude.{◌≡◌, nat_lt, filter, IfOk, OnOk};
+
 use bm_base::Transfer;
 use std::alloc::{AllocError, Global};
 use std::collections::HashSet;
 
 /// A copy that was commanded and has not arrived.
 #[derive(Clone, Copy)]
-struct Sent {
+pub struct Sent {
     /// In microseconds.
-    arrival: u64,
+    pub arrival: u64,
     /// Which it is of all copies, in the order of their commands.
-    order: u64,
-    transfer: Transfer,
+    pub order: u64,
+    pub transfer: Transfer,
 }
 
 /// The copies on their way.
 #[derive(Drop)]
 pub struct OnWay {
-    sent: Vec<Sent>,
+    pub sent: Vec<Sent>,
     /// Their blocks and targets.
-    places: HashSet<(u64, u32)>,
-    next: u64,
+    pub places: HashSet<(u64, u32)>,
+    pub next: u64,
 }
 
 impl OnWay {
@@ -59,19 +61,17 @@ impl OnWay {
     }
 
     /// Takes out what has arrived by now, by arrival and then by command.
-    pub fn take_due(&mut self, alloc: Global, now: u64) -> Result<Vec<Transfer>, AllocError> {
-        let mut due = Vec::new(alloc);
-        for sent in &self.sent {
-            if sent.arrival <= now {
-                due.push(*sent)?;
-            }
-        }
+    pub fn take_due(&mut self, alloc: Global, now: u64) -> Result<Vec<Sent>, AllocError>
+        ensures { OnOk result (self.new.sent.items
+            ≡ filter (λ s. nat_lt now s.arrival) self.old.sent.items) }
+    {
+        let mut due = due_by(alloc, self.sent.as_slice(), now)?;
         due.sort_by_key(|sent| (sent.arrival, sent.order))?;
-        self.sent.retain(|sent| now < sent.arrival);
         for sent in &due {
             let _ = self.places.remove(&place_of(&sent.transfer));
         }
-        transfers_of(alloc, due.as_slice())
+        self.sent = left_by(alloc, self.sent.as_slice(), now)?;
+        Ok(due)
     }
 }
 
@@ -80,10 +80,27 @@ fn place_of(transfer: &Transfer) -> (u64, u32) {
     (transfer.block.0, transfer.target.0)
 }
 
-fn transfers_of(alloc: Global, sent: &[Sent]) -> Result<Vec<Transfer>, AllocError> {
-    let mut transfers = Vec::new(alloc);
+fn due_by(alloc: Global, sent: &[Sent], now: u64) -> Result<Vec<Sent>, AllocError> {
+    let mut due = Vec::new(alloc);
     for one in sent {
-        transfers.push(one.transfer)?;
+        if one.arrival <= now {
+            due.push(*one)?;
+        }
     }
-    Ok(transfers)
+    Ok(due)
+}
+
+fn left_by(alloc: Global, sent: &[Sent], now: u64) -> Result<Vec<Sent>, AllocError>
+    ensures { IfOk result (λ v. v.items ≡ filter (λ s. nat_lt now s.arrival) sent.now) }
+{
+    sent.iter()
+        .filter(|one| arrives_after(one, now))
+        .copied()
+        .collect(alloc)
+}
+
+fn arrives_after(sent: &Sent, now: u64) -> bool
+    ensures { result ≡ nat_lt now sent.now.arrival }
+{
+    now < sent.arrival
 }

@@ -1,4 +1,8 @@
 // Why blocks stay as they are.
+ghost use Rattle.std.specs.Prelude.{IfOk};
+ghost use Rattle.std.specs.List.{All};
+ghost use Rattle.cluster_repair.specs.Rows.{HasItsLevel};
+
 use crate::free::FreeBytes;
 use bm_base::{BlockId, Level, NodeId, Rack, Refusal, Replica, StorageId};
 use bm_topo::Topology;
@@ -10,7 +14,8 @@ use std::alloc::Global;
 pub enum Reason {
     /// No replica can be copied.
     NoSource,
-    /// Each node that does not drain holds a replica; or, if all live replicas are on one rack, each on other racks.
+    /// Each node that does not drain holds a replica; or, if all live replicas are on one rack, each
+    /// on other racks.
     NoTarget,
     /// No storage of such a node has as many free bytes as the block is long.
     NoSpace,
@@ -25,31 +30,45 @@ pub struct Unmended {
 }
 
 /// Of each of these blocks that has a level, why it stays as it is.
+#[tactic(auto, using(crate::proofs::Reach::unmended_and))]
 pub fn unmended_of(
     alloc: Global,
     session: &Session,
     free: &FreeBytes,
-    blocks: &[BlockId],
-) -> Result<Vec<Unmended>, Refusal> {
+    blocks: &[u64],
+) -> Result<Vec<Unmended>, Refusal>
+    ensures { IfOk result (λ v. All (HasItsLevel session.now.manager) v.items) }
+{
     let replicas = session.manager.replicas()?;
     let mut found = Vec::new(alloc);
-    for block in blocks {
-        if let Some(level) = session.manager.level(*block)? {
-            let own = replicas_of(replicas.as_slice(), *block);
-            let place = Place {
-                topology: &session.book.topology,
-                replicas: own,
-                length: session.book.blocks.len_of(*block),
-                level,
-            };
+    for number in blocks {
+        let block = BlockId(*number);
+        if let Some(level) = session.manager.level(block)? {
+            let reason = reason_of(session, free, replicas.as_slice(), block, level);
             found.push(Unmended {
-                block: *block,
+                block,
                 level,
-                reason: place.reason(free),
+                reason,
             })?;
         }
     }
     Ok(found)
+}
+
+fn reason_of(
+    session: &Session,
+    free: &FreeBytes,
+    replicas: &[Replica],
+    block: BlockId,
+    level: Level,
+) -> Reason {
+    let place = Place {
+        topology: &session.book.topology,
+        replicas: replicas_of(replicas, block),
+        length: session.book.blocks.len_of(block),
+        level,
+    };
+    place.reason(free)
 }
 
 /// The replicas of a block among all, which come by block.
@@ -74,19 +93,16 @@ impl Place<'_> {
         if matches!(self.level, Level::NoUsableReplica) {
             return Reason::NoSource;
         }
-        let mut has_target = false;
-        let mut has_space = false;
-        for storage in free.storages() {
+        let mut reason = Reason::NoTarget;
+        for storage in &free.storages {
             if self.may_take(*storage) {
-                has_target = true;
-                has_space = has_space || self.length <= free.of(*storage);
+                if self.length <= free.of(*storage) {
+                    return Reason::NoTarget;
+                }
+                reason = Reason::NoSpace;
             }
         }
-        if has_target && !has_space {
-            Reason::NoSpace
-        } else {
-            Reason::NoTarget
-        }
+        reason
     }
 
     /// Whether a copy on the storage would count, free bytes aside.
