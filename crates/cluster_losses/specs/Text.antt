@@ -15,12 +15,12 @@ change_line what before after = what ++ (codes " before " ++ (decimal before ++ 
 -- the blocks at each level, before and after
 unfoldable pub levels_text : LevelCounts → LevelCounts → List ℕ
 levels_text before after =
-    change_line (codes "highest") before.highest after.highest
-    ++ (change_line (codes "very_under_replicated") before.very_under_replicated after.very_under_replicated
-    ++ (change_line (codes "under_replicated") before.under_replicated after.under_replicated
-    ++ (change_line (codes "badly_distributed") before.badly_distributed after.badly_distributed
-    ++ (change_line (codes "missing") before.missing after.missing
-    ++ change_line (codes "none") before.none after.none))))
+    change_line (codes "level highest") before.highest after.highest
+    ++ (change_line (codes "level very_under_replicated") before.very_under_replicated after.very_under_replicated
+    ++ (change_line (codes "level under_replicated") before.under_replicated after.under_replicated
+    ++ (change_line (codes "level badly_distributed") before.badly_distributed after.badly_distributed
+    ++ (change_line (codes "level missing") before.missing after.missing
+    ++ change_line (codes "level none") before.none after.none))))
 
 -- the end of a line: the file of a block and its index there, if they are known
 abbrev pub end_with : Option (List ℕ × ℕ) → List ℕ

@@ -1,56 +1,55 @@
-//! What is lost with racks, nodes and storages: reads lines of the line tool or a text of `hdfs fsck`, makes their calls on one manager,
-//! and writes how the cluster stands without what is lost, with no round between.
+//! What is lost with racks, nodes and storages: reads lines of the line tool or a text of `hdfs
+//! fsck`, makes their calls on one manager, and writes how the cluster stands without what is lost,
+//! with no round between. It may go on with rounds until nothing more is copied.
 //!
 //! ```text
 //! puljemrod_cluster what-if --lose rack:1 cluster.jsonl
 //! puljemrod_cluster what-if --lose rack:/rack7 --nodes nodes.txt fsck.txt
 //! ```
 //!
-//! The answer has a line for each fact (docs/WHAT_IF.md). For `each-rack` and `each-node` it is a table: each is lost alone, and comes
-//! back before the next.
+//! The answer has a line for each fact (docs/WHAT_IF.md). For `each-rack` and `each-node` it is a
+//! table: each is lost alone, and comes back before the next.
 //!
-//! Ends with status 0; with status 1 where a line was refused, a name is not of the cluster, or a read, a write or memory failed; and
-//! with status 2 where the words ask for nothing that there is.
+//! Ends with status 0; with status 1 where a line was refused, a name is not of the cluster, or a
+//! read, a write or memory failed; and with status 2 where the words ask for nothing that there is.
 #![tactic(auto)]
 
 mod answers;
 mod each;
 pub mod events;
 pub mod fault;
-mod free;
 mod help;
 mod lacking;
-mod links;
 pub mod losing;
 pub mod loss;
 mod named;
-mod on_way;
 mod options;
-mod reasons;
-mod repair;
+mod repair_picture;
 mod repair_text;
 mod set_back;
 pub mod standing;
 mod text;
-mod watch;
 pub mod without;
 
 ghost use Rattle.cluster_report.specs.Sessions.{IsInStep};
 
 use answers::answer_to_losses;
+use bm_base::NodeId;
 use clap::Error;
 use clap::error::ErrorKind;
 use cluster_input::loaded::Loaded;
+use cluster_input::options::files_of;
 use cluster_input::sources::load;
-use cluster_simulation::picture_text;
+use cluster_progress::Progress;
+use cluster_repair::reasons::unmended_of;
+use cluster_repair::repair::{Pace, repair};
 use each::{nodes_of, racks_of, table_of};
 use fault::Fault;
 use losing::Lost;
 use loss::{Kind, Loss, Question};
 use options::{Asked, asked_of, matches_of};
-use reasons::unmended_of;
-use repair::{Pace, mend};
-use repair_text::write_mended;
+use repair_picture::picture_of;
+use repair_text::write_repair;
 use std::alloc::Global;
 use std::io;
 use std::io::Write;
@@ -68,8 +67,8 @@ const MISUSED: u8 = 2;
 /// The program's name, in what it says.
 const PROGRAM: &str = "what-if";
 
-/// Answers what the words of a command line ask, the program's name first, on standard output, with refused lines on `notes`. The result
-/// is the exit status.
+/// Answers what the words of a command line ask, the program's name first, on standard output, with
+/// refused lines on `notes`. The result is the exit status.
 pub fn losses_by_words<
     R: Input + Print + Eprint + Files + AllocGlobal + Threads + Wait + Sync,
     N: Print,
@@ -83,7 +82,7 @@ pub fn losses_by_words<
         Ok(asked) => asked,
         Err(error) => return say_error(rt, &error),
     };
-    match load(rt, notes, PROGRAM, &asked.input) {
+    match load(rt, notes, PROGRAM, &asked.input, files_of(&matches)) {
         Some((mut loaded, all_accepted)) => {
             let status = answer(rt, &mut loaded, &asked);
             if all_accepted { status } else { FAULTED }
@@ -110,14 +109,20 @@ fn say_fault<R: Eprint>(rt: &R, fault: Fault) -> u8 {
 fn answer<R: Print + Eprint + AllocGlobal + Threads + Wait + Sync>(
     rt: &R,
     loaded: &mut Loaded,
-    asked: &Asked<'_, '_>,
+    asked: &Asked<'_>,
 ) -> u8
     requires { IsInStep loaded.old.session }
 {
-    let text = match text_for(rt, rt.alloc(), loaded, asked) {
-        Ok(text) => text,
-        Err(fault) => return say_fault(rt, fault),
-    };
+    let mut progress = Progress::new(asked.shows_progress);
+    let text = text_for(rt, rt.alloc(), loaded, asked, &mut progress);
+    progress.end(rt);
+    match text {
+        Ok(text) => write_answer(rt, &text),
+        Err(fault) => say_fault(rt, fault),
+    }
+}
+
+fn write_answer<R: Print + Eprint>(rt: &R, text: &String) -> u8 {
     match write_flushed(&mut io::writer(rt), text.as_bytes()) {
         Ok(()) => DONE,
         Err(error) if error.kind() == io::ErrorKind::BrokenPipe => FAULTED,
@@ -133,16 +138,19 @@ fn write_flushed<W: Write>(writer: &mut W, text: &[u8]) -> io::Result<()> {
     writer.flush()
 }
 
-fn text_for<H: Threads + Wait + Sync>(
-    rt: &H,
+fn text_for<R: Eprint + Threads + Wait + Sync>(
+    rt: &R,
     alloc: Global,
     loaded: &mut Loaded,
-    asked: &Asked<'_, '_>,
+    asked: &Asked<'_>,
+    progress: &mut Progress,
 ) -> Result<String, Fault>
     requires { IsInStep loaded.old.session }
 {
     match &asked.question {
-        Question::Losses(losses) => losses_text(rt, alloc, loaded, asked, losses.as_slice()),
+        Question::Losses(losses) => {
+            losses_text(rt, alloc, loaded, asked, losses.as_slice(), progress)
+        }
         Question::EachRack => {
             let parts = racks_of(alloc, &loaded.session.book)?;
             table_of(rt, alloc, loaded, Kind::Rack, parts.as_slice())
@@ -155,12 +163,13 @@ fn text_for<H: Threads + Wait + Sync>(
 }
 
 /// What is lost with all of these.
-fn losses_text<H: Threads + Wait + Sync>(
-    rt: &H,
+fn losses_text<R: Eprint + Threads + Wait + Sync>(
+    rt: &R,
     alloc: Global,
     loaded: &mut Loaded,
-    asked: &Asked<'_, '_>,
+    asked: &Asked<'_>,
     losses: &[Loss<'_>],
+    progress: &mut Progress,
 ) -> Result<String, Fault>
     requires { IsInStep loaded.old.session }
 {
@@ -170,39 +179,45 @@ fn losses_text<H: Threads + Wait + Sync>(
     let events = lost.events(alloc)?;
     let answer = answer_to_losses(rt, alloc, loaded, events.as_slice(), asked.most)?;
     text.push_str(answer.as_str())?;
-    match asked.pace {
-        Some(pace) => mended_text(rt, alloc, loaded, asked, pace, &lost, text),
-        None => Ok(text),
+    let Some(pace) = asked.pace else {
+        return Ok(text);
+    };
+    let drained = lost.drained.as_slice();
+    if asked.is_picture {
+        return repair_picture(rt, alloc, loaded, pace, drained, progress);
     }
+    let repair = repair_text(rt, alloc, loaded, pace, drained, asked.most, progress)?;
+    text.push_str(repair.as_str())?;
+    Ok(text)
 }
 
-/// The answer, and behind it what is mended; or a picture of that.
-fn mended_text<H: Threads + Wait + Sync>(
-    rt: &H,
+/// What is copied again, as lines.
+fn repair_text<R: Eprint + Threads + Wait + Sync>(
+    rt: &R,
     alloc: Global,
     loaded: &mut Loaded,
-    asked: &Asked<'_, '_>,
     pace: Pace,
-    lost: &Lost,
-    mut text: String,
+    drained: &[NodeId],
+    most: usize,
+    progress: &mut Progress,
 ) -> Result<String, Fault> {
-    let mended = mend(rt, alloc, &mut loaded.session, pace, lost.drained.as_slice())?;
-    if asked.is_picture {
-        let below = format!(in alloc;
-            "a round every {} s, {} bytes a second",
-            pace.interval, pace.bandwidth
-        )?;
-        let rows = mended.rows.as_slice();
-        return Ok(picture_text(
-            alloc,
-            "What is lost is copied again",
-            below.as_str(),
-            None,
-            rows,
-        )?);
-    }
-    let free = &mended.free;
-    let unmended = unmended_of(alloc, &loaded.session, free, mended.unmended.as_slice())?;
-    write_mended(&mut text, loaded, pace, &mended, unmended.as_slice(), asked.most)?;
+    let done = repair(rt, alloc, &mut loaded.session, pace, drained, progress)?;
+    let free = &done.datanodes.free;
+    let unmended = unmended_of(alloc, &loaded.session, free, done.watch.blocks.as_slice())?;
+    let mut text = String::new(alloc);
+    write_repair(&mut text, loaded, pace, &done, unmended.as_slice(), most)?;
     Ok(text)
+}
+
+/// What is copied again, as a picture.
+fn repair_picture<R: Eprint + Threads + Wait + Sync>(
+    rt: &R,
+    alloc: Global,
+    loaded: &mut Loaded,
+    pace: Pace,
+    drained: &[NodeId],
+    progress: &mut Progress,
+) -> Result<String, Fault> {
+    let done = repair(rt, alloc, &mut loaded.session, pace, drained, progress)?;
+    Ok(picture_of(alloc, pace, done.rows.rows.as_slice())?)
 }

@@ -1,10 +1,10 @@
 // The options of the program.
 use crate::help::{EXAMPLES, wrong_question, wrong_value};
 use crate::loss::{Question, question_of};
-use crate::repair::Pace;
 use clap::{Arg, ArgAction, ArgMatches, Command, Error, value_parser};
 use cluster_input::options as input;
 use cluster_input::options::with_input;
+use cluster_repair::repair::Pace;
 use cluster_report::options::with;
 use std::alloc::{AllocError, Global};
 
@@ -13,8 +13,8 @@ pub const MOST_NAMED: usize = 10;
 
 /// What the words of a command line ask for.
 #[derive(Drop)]
-pub struct Asked<'m, 'a> {
-    pub input: input::Asked<'m, 'a>,
+pub struct Asked<'a> {
+    pub input: input::Asked<'a>,
     pub question: Question<'a>,
     /// How fast it is mended, if that is asked for.
     pub pace: Option<Pace>,
@@ -22,20 +22,18 @@ pub struct Asked<'m, 'a> {
     pub is_picture: bool,
     /// How many of each list are named at most.
     pub most: usize,
+    pub shows_progress: bool,
 }
 
-/// The words of a command line, the program's name first. An `Err` is a request for help, a command line that is refused, or out of
-/// memory.
+/// The words of a command line, the program's name first. An `Err` is a request for help, a command
+/// line that is refused, or out of memory.
 pub fn matches_of<'a>(alloc: Global, words: &'a [String]) -> Result<ArgMatches<'a>, Error> {
     let command = command(alloc)?;
     command.try_get_matches_from(words)
 }
 
 /// What the words ask for.
-pub fn asked_of<'m, 'a>(
-    alloc: Global,
-    matches: &'m ArgMatches<'a>,
-) -> Result<Asked<'m, 'a>, Error> {
+pub fn asked_of<'a>(alloc: Global, matches: &ArgMatches<'a>) -> Result<Asked<'a>, Error> {
     let Some(input) = input::asked_of(matches) else {
         return Err(wrong_value(alloc)?);
     };
@@ -60,6 +58,7 @@ pub fn asked_of<'m, 'a>(
         pace,
         is_picture,
         most,
+        shows_progress: matches.get_flag("progress") && !matches.get_flag("quiet"),
     })
 }
 
@@ -84,33 +83,41 @@ fn pace_in(matches: &ArgMatches<'_>) -> Option<Pace> {
 
 /// The command line.
 pub fn command<'a>(alloc: Global) -> Result<Command<'a>, AllocError> {
-    let command = program(alloc)
-        .arg(several(
-            alloc,
-            "lose",
-            "WHAT",
-            "rack:NAME, node:HOST, storage:NAME, each-rack or each-node, the last two alone",
-        ))?
-        .arg(several(alloc, "drain", "HOST", "a node that is to be taken away"))?
-        .arg(flag(alloc, "all").help("names all lost files and blocks, not the first ten"))?
-        .arg(flag(alloc, "mend").help("goes on in rounds until nothing more is copied"))?
-        .arg(flag(alloc, "svg").help("with --mend: a picture of the rounds"))?
-        .arg(number(
-            alloc,
-            "bandwidth",
-            "50",
-            100_000,
-            "with --mend: megabytes a second that a node sends, and receives, 1 to 100,000",
-        ))?
-        .arg(number(
-            alloc,
-            "interval",
-            "3",
-            3_600,
-            "with --mend: seconds from round to round, 1 to 3,600",
-        ))?;
+    let command = with_losses(alloc, program(alloc))?;
+    let command = with_repair(alloc, command)?;
+    let command = with(command, flag(alloc, "quiet").help("shows no progress on standard error"))?;
+    // For a caller that knows standard error to be a terminal.
+    let command = with(command, flag(alloc, "progress").hide(true))?;
     let command = with_input(alloc, command)?;
     Ok(command.after_help(EXAMPLES))
+}
+
+/// The command with what is lost.
+fn with_losses<'a>(alloc: Global, command: Command<'a>) -> Result<Command<'a>, AllocError> {
+    let lose = several(alloc, "lose", "WHAT").help(
+        "rack:NAME, node:HOST, storage:ID, each-rack or each-node, the last two alone",
+    );
+    let drain = several(alloc, "drain", "HOST")
+        .help("a node that is to be taken away; may be given several times");
+    let all = flag(alloc, "all").help("names all lost files and blocks, not the first ten");
+    let command = with(command, lose)?;
+    let command = with(command, drain)?;
+    with(command, all)
+}
+
+/// The command with how it is repaired.
+fn with_repair<'a>(alloc: Global, command: Command<'a>) -> Result<Command<'a>, AllocError> {
+    let mend = flag(alloc, "mend").help("goes on in rounds until nothing more is copied");
+    let svg = flag(alloc, "svg").help("with --mend: a picture of the rounds");
+    let bandwidth = number(alloc, "bandwidth", "50", 100_000).help(
+        "with --mend: megabytes a second that a node sends, and receives, 1 to 100,000",
+    );
+    let interval = number(alloc, "interval", "3", 3_600)
+        .help("with --mend: seconds from round to round, 1 to 3,600");
+    let command = with(command, mend)?;
+    let command = with(command, svg)?;
+    let command = with(command, bandwidth)?;
+    with(command, interval)
 }
 
 fn program<'a>(alloc: Global) -> Command<'a> {
@@ -119,12 +126,11 @@ fn program<'a>(alloc: Global) -> Command<'a> {
 }
 
 /// An option that may occur several times.
-fn several<'a>(alloc: Global, name: &'a str, value: &'a str, help: &'a str) -> Arg<'a> {
+fn several<'a>(alloc: Global, name: &'a str, value: &'a str) -> Arg<'a> {
     new_arg(alloc, name)
         .action(ArgAction::Append)
         .long(name)
         .value_name(value)
-        .help(help)
 }
 
 fn flag<'a>(alloc: Global, name: &'a str) -> Arg<'a> {
@@ -137,14 +143,12 @@ fn number<'a>(
     name: &'a str,
     standard: &'a str,
     most: u32,
-    help: &'a str,
 ) -> Arg<'a> {
     new_arg(alloc, name)
         .action(ArgAction::Set)
         .long(name)
         .value_name("N")
         .default_value(standard)
-        .help(help)
         .value_parser(value_parser!(u32).range(1..=i64::from(most)))
 }
 

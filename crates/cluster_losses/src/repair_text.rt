@@ -1,41 +1,44 @@
-// What was mended, as text.
-use crate::reasons::{Reason, Unmended};
-use crate::repair::{MICROS, Mended, Pace};
+// What is copied again, as text.
+ghost use Rattle.std.specs.Prelude.{◌<◌};
+
 use crate::text::{write_end, write_node};
 use cluster_input::loaded::Loaded;
 use cluster_pages::text::first_of;
 use cluster_pages::text_parts::level_word;
+use cluster_repair::links::MICROS;
+use cluster_repair::reasons::{Reason, Unmended};
+use cluster_repair::repair::{Pace, Repair};
+use cluster_repair::rows::Row;
 use cluster_report::text_parts::write_count;
-use cluster_simulation::counts::Counts;
 use std::alloc::AllocError;
 
-/// At most so many rows of the table are written.
+/// At most this number of rows of the table is written, and the last.
 const MOST_ROWS: usize = 40;
 
-/// The table of rounds, and what comes out, with at most so many of the blocks that stay as they are.
-pub fn write_mended(
+/// The table of rounds, and what comes out, with at most `most` of the blocks that stay as they are.
+pub fn write_repair(
     text: &mut String,
     loaded: &Loaded,
     pace: Pace,
-    mended: &Mended,
+    repair: &Repair,
     unmended: &[Unmended],
     most: usize,
 ) -> Result<(), AllocError> {
     let interval = pace.interval;
     let bandwidth = pace.bandwidth;
-    writeln!(
-        text,
-        "model: a round every {interval} s; each node sends and receives {bandwidth} bytes a second"
-    )?;
-    write_table(text, pace, mended.rows.as_slice())?;
-    write_count(text, "rounds", mended.rows.len() as u128)?;
-    if mended.left > 0 {
-        write_count(text, "stopped with copies on way", mended.left as u128)?;
+    write!(text, "model: a round every {interval} s; ")?;
+    writeln!(text, "each node sends and receives {bandwidth} bytes a second")?;
+    write_table(text, pace, repair.rows.rows.as_slice())?;
+    write_count(text, "rounds", u128::from(repair.rounds))?;
+    let left = repair.datanodes.on_way.len();
+    if left > 0 {
+        write_count(text, "stopped with copies on way", left as u128)?;
     }
-    write_count(text, "seconds", u128::from(seconds(mended.last_arrival)))?;
-    write_count(text, "copies", u128::from(mended.copies))?;
-    write_count(text, "bytes copied", mended.bytes)?;
-    write_retirements(text, loaded, pace, mended)?;
+    let seconds = seconds(repair.datanodes.last_arrival);
+    write_count(text, "seconds", u128::from(seconds))?;
+    write_count(text, "copies", u128::from(repair.datanodes.copies))?;
+    write_count(text, "bytes copied", repair.datanodes.bytes)?;
+    write_retirements(text, loaded, pace, repair)?;
     write_unmended(text, loaded, unmended, most)
 }
 
@@ -44,7 +47,7 @@ fn seconds(micros: u64) -> u64 {
     micros.div_ceil(MICROS)
 }
 
-fn write_table(text: &mut String, pace: Pace, rows: &[Counts]) -> Result<(), AllocError> {
+fn write_table(text: &mut String, pace: Pace, rows: &[Row]) -> Result<(), AllocError> {
     write!(text, "{:>8} {:>10} ", "round", "seconds")?;
     write!(
         text,
@@ -52,7 +55,7 @@ fn write_table(text: &mut String, pace: Pace, rows: &[Counts]) -> Result<(), All
         "highest", "very_under_replicated", "under_replicated", "badly_distributed", "missing"
     )?;
     writeln!(text, "{:>9} {:>9}", "commanded", "on_way")?;
-    let step = rows.len().div_ceil(MOST_ROWS).max(1);
+    let step = step_for(rows.len());
     let last = rows.len().saturating_sub(1);
     for (at, row) in rows.iter().enumerate() {
         if at % step == 0 || at == last {
@@ -62,32 +65,44 @@ fn write_table(text: &mut String, pace: Pace, rows: &[Counts]) -> Result<(), All
     Ok(())
 }
 
-fn write_row(text: &mut String, pace: Pace, row: &Counts) -> Result<(), AllocError> {
+/// The least power of two by which at most `MOST_ROWS` rows are written.
+fn step_for(rows: usize) -> usize
+    ensures { 0 < result }
+{
+    for step in [1usize, 2, 4, 8] {
+        if rows.div_ceil(step) <= MOST_ROWS {
+            return step;
+        }
+    }
+    16
+}
+
+fn write_row(text: &mut String, pace: Pace, row: &Row) -> Result<(), AllocError> {
     let round = row.round;
     let at = u64::from(round.saturating_sub(1)).saturating_mul(u64::from(pace.interval));
     write!(text, "{round:>8} {at:>10} ")?;
     write!(
         text,
         "{:>9} {:>21} {:>16} {:>17} {:>9} ",
-        row.highest,
-        row.very_under_replicated,
-        row.under_replicated,
-        row.badly_distributed,
-        row.missing
+        row.levels.highest,
+        row.levels.very_under_replicated,
+        row.levels.under_replicated,
+        row.levels.badly_distributed,
+        row.levels.missing
     )?;
-    writeln!(text, "{:>9} {:>9}", row.copies, row.pending)
+    writeln!(text, "{:>9} {:>9}", row.commanded, row.on_way)
 }
 
 fn write_retirements(
     text: &mut String,
     loaded: &Loaded,
     pace: Pace,
-    mended: &Mended,
+    repair: &Repair,
 ) -> Result<(), AllocError> {
-    for retirement in &mended.retirements {
+    for retirement in &repair.retirements {
         text.push_str("node ")?;
         write_node(text, loaded, retirement.node)?;
-        match retirement.round {
+        match retirement.rounds {
             Some(past) => {
                 let at = u64::from(past).saturating_mul(u64::from(pace.interval));
                 write!(text, " retired after {past} rounds, {at} seconds\n")?;

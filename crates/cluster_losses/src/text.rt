@@ -94,27 +94,27 @@ fn write_levels(
     ensures { OnOk result (string_bytes text.new ≡ string_bytes text.old
         ++ levels_text before.now after.now) }
 {
-    write_change(text, "highest", before.highest, after.highest)?;
+    write_change(text, "level highest", before.highest, after.highest)?;
     write_change(
         text,
-        "very_under_replicated",
+        "level very_under_replicated",
         before.very_under_replicated,
         after.very_under_replicated,
     )?;
     write_change(
         text,
-        "under_replicated",
+        "level under_replicated",
         before.under_replicated,
         after.under_replicated,
     )?;
     write_change(
         text,
-        "badly_distributed",
+        "level badly_distributed",
         before.badly_distributed,
         after.badly_distributed,
     )?;
-    write_change(text, "missing", before.missing, after.missing)?;
-    write_change(text, "none", before.none, after.none)
+    write_change(text, "level missing", before.missing, after.missing)?;
+    write_change(text, "level none", before.none, after.none)
 }
 
 #[tactic(auto, unfolding(crate::specs::Text::change_line))]
