@@ -21,7 +21,7 @@ pub fn wrong_question(alloc: Global) -> Result<Error, AllocError> {
     let mut command = command(alloc)?;
     command.error(
         ErrorKind::ValueValidation,
-        "--lose takes rack:NAME, node:HOST, storage:NAME, each-rack and each-node, the last two \
+        "--lose takes rack:NAME, node:HOST, storage:ID, each-rack and each-node, the last two \
          alone and without --mend; at least one --lose or --drain is wanted; --svg needs --mend",
     )
 }

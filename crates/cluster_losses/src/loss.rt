@@ -88,7 +88,7 @@ fn losses_of<'a>(
     Ok(Some(Question::Losses(losses)))
 }
 
-/// What `rack:NAME`, `node:NAME` or `storage:NAME` names.
+/// What `rack:NAME`, `node:HOST` or `storage:ID` names.
 fn loss_of(word: &str) -> Option<Loss<'_>> {
     let (kind, name) = word.split_once(':')?;
     let kind = match kind {

@@ -12,7 +12,7 @@ use cluster_repair::rows::Row;
 use cluster_report::text_parts::write_count;
 use std::alloc::AllocError;
 
-/// At most this number of rows of the table is written, and the last.
+/// At most this number of rows of the table is written before the last.
 const MOST_ROWS: usize = 40;
 
 /// The table of rounds, and what comes out, with at most `most` of the blocks that stay as they are.
@@ -65,12 +65,12 @@ fn write_table(text: &mut String, pace: Pace, rows: &[Row]) -> Result<(), AllocE
     Ok(())
 }
 
-/// The least power of two by which at most `MOST_ROWS` rows are written.
+/// The least power of two by which at most `MOST_ROWS` rows come before the last.
 fn step_for(rows: usize) -> usize
     ensures { 0 < result }
 {
     for step in [1usize, 2, 4, 8] {
-        if rows.div_ceil(step) <= MOST_ROWS {
+        if rows.saturating_sub(1).div_ceil(step) <= MOST_ROWS {
             return step;
         }
     }

@@ -7,7 +7,7 @@ ghost use Rattle.cluster_repair.specs.Rows.{IsRowAfter, is_on_stride};
 use cluster_report::levels::LevelCounts;
 use std::alloc::{AllocError, Global};
 
-/// When there are more rows than this, every second goes.
+/// There are at most this number of rows: before one more comes, every second goes.
 const MOST_KEPT: usize = 256;
 
 /// What a round leaves.
@@ -51,10 +51,10 @@ impl Rows {
         ensures { OnOk result ((M : State) → All (IsRowAfter M) self.old.rows.items
             → IsRowAfter M row → All (IsRowAfter M) self.new.rows.items) }
     {
-        self.rows.push(row)?;
-        if self.rows.len() > MOST_KEPT {
+        if self.rows.len() >= MOST_KEPT {
             self.thin(alloc)?;
         }
+        self.rows.push(row)?;
         Ok(())
     }
 
