@@ -1,12 +1,37 @@
 -- The text of an answer: a line for each fact. A line ends with the byte 10.
-use Rattle.std.specs.Prelude.{ℕ, ◌×◌, Bool, true, false, nat_le, nat_eq, if◌then◌else◌, List, [], ◌++◌, Option, Some, None, codes, decimal, length, take}
+use Rattle.std.specs.Prelude.{ℕ, ◌×◌, Bool, true, false, nat_le, nat_eq, if◌then◌else◌, List, [], ◌++◌, Option, Some, None, unwrap_or, codes, decimal, length, take}
 use Rattle.std.specs.List.{flat_map}
+use Rattle.bm_base.specs.Map.{get}
+use Rattle.bm_base.specs.State.{Cluster}
+use Rattle.cluster_names.specs.Rows.{name_or_number}
+use Rattle.cluster_names.specs.declared.names.Names.{Names}
 use Rattle.cluster_names.specs.FileTable.{FileTable, path_of}
 use Rattle.cluster_report.specs.Text.{count_line}
 use Rattle.cluster_report.specs.declared.levels.LevelCounts.{LevelCounts}
 use Rattle.cluster_pages.specs.Text.{file_line}
 use Rattle.cluster_pages.specs.declared.at_risk.FileRow.{FileRow}
+use Rattle.cluster_losses.specs.declared.losing.Lost.{Lost}
 use Rattle.cluster_losses.specs.declared.standing.Standing.{Standing}
+
+-- a node that is lost or drained, with its rack
+unfoldable pub node_words : List ℕ → Names → ℕ → ℕ → List ℕ
+node_words what names n rack =
+    what ++ (codes " node " ++ (name_or_number [] names.nodes n ++ (codes " rack " ++ (name_or_number [] names.racks rack ++ codes "\n"))))
+
+-- the same, where the cluster has the rack of the node
+abbrev pub node_line : List ℕ → Names → Cluster → ℕ → List ℕ
+node_line what names C n = node_words what names n (unwrap_or (get C.nodes n) 0)
+
+-- a storage that is lost
+unfoldable pub storage_line : Names → ℕ → List ℕ
+storage_line names s = codes "lose storage " ++ (name_or_number [] names.storages s ++ codes "\n")
+
+-- all that is lost or drained, by name
+unfoldable pub lost_text : Names → Cluster → Lost → List ℕ
+lost_text names C lost =
+    flat_map (node_line (codes "drain") names C) lost.drained
+    ++ (flat_map (storage_line names) lost.storages
+    ++ flat_map (node_line (codes "lose") names C) lost.nodes)
 
 -- what is counted, before the losses and after them
 unfoldable pub change_line : List ℕ → ℕ → ℕ → List ℕ

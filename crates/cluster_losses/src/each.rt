@@ -228,8 +228,8 @@ fn name_of(
 ) -> Result<String, AllocError> {
     let mut name = String::new(alloc);
     match kind {
-        Kind::Rack => write_rack(&mut name, loaded, Rack(number))?,
-        _ => write_node(&mut name, loaded, NodeId(number))?,
+        Kind::Rack => write_rack(&mut name, &loaded.names, Rack(number))?,
+        _ => write_node(&mut name, &loaded.names, NodeId(number))?,
     }
     Ok(name)
 }

@@ -1,15 +1,24 @@
 // What the names of a command line name: by the names of the cluster, or by number if it has none.
+ghost use Rattle.std.specs.Prelude.{◌≡◌, ◌<◌, length};
+ghost use Rattle.cluster_names.specs.Rows.{number_of};
+
 use bm_base::{NodeId, Rack, StorageId};
 use cluster_input::loaded::Loaded;
 use cluster_names::NameTable;
 use cluster_report::nodes::all_nodes;
 use std::alloc::{AllocError, Global};
 
-pub fn rack_named(loaded: &Loaded, name: &str) -> Option<Rack> {
+pub fn rack_named(loaded: &Loaded, name: &str) -> Option<Rack>
+    ensures { 0 < length loaded.now.names.racks
+        → result ≡ number_of loaded.now.names.racks name.now }
+{
     Some(Rack(number_named(&loaded.names.racks, name)?))
 }
 
-pub fn storage_named(loaded: &Loaded, name: &str) -> Option<StorageId> {
+pub fn storage_named(loaded: &Loaded, name: &str) -> Option<StorageId>
+    ensures { 0 < length loaded.now.names.storages
+        → result ≡ number_of loaded.now.names.storages name.now }
+{
     Some(StorageId(number_named(&loaded.names.storages, name)?))
 }
 
@@ -42,8 +51,10 @@ fn is_on_host(loaded: &Loaded, node: NodeId, host: &str) -> bool {
 }
 
 /// The number that has this name. If nothing of the kind is named, the number is the name.
-fn number_named(names: &NameTable, name: &str) -> Option<u32> {
-    if names.len() > 0 {
+fn number_named(names: &NameTable, name: &str) -> Option<u32>
+    ensures { 0 < length names.now → result ≡ number_of names.now name.now }
+{
+    if 0 < names.len() {
         return names.number(name);
     }
     match name.parse::<u32>() {

@@ -101,7 +101,7 @@ fn write_retirements(
 ) -> Result<(), AllocError> {
     for retirement in &repair.retirements {
         text.push_str("node ")?;
-        write_node(text, loaded, retirement.node)?;
+        write_node(text, &loaded.names, retirement.node)?;
         match retirement.rounds {
             Some(past) => {
                 let at = u64::from(past).saturating_mul(u64::from(pace.interval));

@@ -1,14 +1,15 @@
 // The answer as text: a line for each fact.
-ghost use Rattle.std.specs.Prelude.{◌≡◌, ◌++◌, IfOk, OnOk, nat_le, codes, option_map, string_bytes};
+ghost use Rattle.std.specs.Prelude.{◌≡◌, ◌++◌, [], IfOk, OnOk, nat_le, codes, option_map, option_copied, string_bytes};
 ghost use Rattle.std.specs.List.{flat_map};
-ghost use Rattle.cluster_losses.specs.Text.{change_line, levels_text, end_with, block_line, blocks_text, files_text, yes_or_no, fits_line, copies_text, answer_text};
+ghost use Rattle.cluster_names.specs.Rows.{shown, name_or_number};
+ghost use Rattle.cluster_losses.specs.Text.{node_words, node_line, storage_line, lost_text, change_line, levels_text, end_with, block_line, blocks_text, files_text, yes_or_no, fits_line, copies_text, answer_text};
 
 use crate::losing::Lost;
 use crate::standing::Standing;
 use crate::without::Outcome;
 use bm_base::{BlockId, NodeId, Rack, StorageId};
 use cluster_input::loaded::Loaded;
-use cluster_names::Files;
+use cluster_names::{Files, Names};
 use cluster_pages::at_risk::{AtRisk, FileRow};
 use cluster_pages::text::first_of;
 use cluster_pages::text_parts::write_files;
@@ -17,14 +18,42 @@ use cluster_report::text_parts::write_count;
 use std::alloc::{AllocError, Global};
 
 /// What is lost, as the cluster is before.
-pub fn write_lost(text: &mut String, loaded: &Loaded, lost: &Lost) -> Result<(), AllocError> {
+#[tactic(auto, unfolding(crate::specs::Text::lost_text))]
+pub fn write_lost(text: &mut String, loaded: &Loaded, lost: &Lost) -> Result<(), AllocError>
+    ensures { OnOk result (string_bytes text.new ≡ string_bytes text.old
+        ++ lost_text loaded.now.names loaded.now.session.book.topology.cluster lost.now) }
+{
     write_nodes(text, "drain", loaded, lost.drained.as_slice())?;
-    for storage in &lost.storages {
-        text.push_str("lose storage ")?;
-        write_storage(text, loaded, *storage)?;
-        text.push_str("\n")?;
-    }
+    write_storages(text, &loaded.names, lost.storages.as_slice())?;
     write_nodes(text, "lose", loaded, lost.nodes.as_slice())
+}
+
+fn write_storages(
+    text: &mut String,
+    names: &Names,
+    storages: &[StorageId],
+) -> Result<(), AllocError>
+    ensures { OnOk result (string_bytes text.new ≡ string_bytes text.old
+        ++ flat_map (storage_line names.now) storages.now) }
+{
+    for storage in storages {
+        write_storage_line(text, names, *storage)?;
+    }
+    Ok(())
+}
+
+#[tactic(auto, unfolding(crate::specs::Text::storage_line))]
+fn write_storage_line(
+    text: &mut String,
+    names: &Names,
+    storage: StorageId,
+) -> Result<(), AllocError>
+    ensures { OnOk result (string_bytes text.new ≡ string_bytes text.old
+        ++ storage_line names.now storage) }
+{
+    text.push_str("lose storage ")?;
+    write_name(text, names.storage(storage), storage.0)?;
+    text.push_str("\n")
 }
 
 fn write_nodes(
@@ -32,32 +61,57 @@ fn write_nodes(
     what: &str,
     loaded: &Loaded,
     nodes: &[NodeId],
-) -> Result<(), AllocError> {
+) -> Result<(), AllocError>
+    ensures { OnOk result (string_bytes text.new ≡ string_bytes text.old
+        ++ flat_map (node_line what.now loaded.now.names
+        loaded.now.session.book.topology.cluster) nodes.now) }
+{
     for node in nodes {
-        write!(text, "{what} node ")?;
-        write_node(text, loaded, *node)?;
-        text.push_str(" rack ")?;
-        write_rack(text, loaded, loaded.session.book.rack_of(*node))?;
-        text.push_str("\n")?;
+        let rack = loaded.session.book.rack_of(*node);
+        write_node_line(text, what, &loaded.names, *node, rack)?;
     }
     Ok(())
 }
 
+#[tactic(auto, unfolding(crate::specs::Text::node_words))]
+fn write_node_line(
+    text: &mut String,
+    what: &str,
+    names: &Names,
+    node: NodeId,
+    rack: Rack,
+) -> Result<(), AllocError>
+    ensures { OnOk result (string_bytes text.new ≡ string_bytes text.old
+        ++ node_words what.now names.now node rack) }
+{
+    write!(text, "{what} node ")?;
+    write_name(text, names.host(node), node.0)?;
+    text.push_str(" rack ")?;
+    write_name(text, names.rack(rack), rack.0)?;
+    text.push_str("\n")
+}
+
 /// The name of a node, or its number.
-pub fn write_node(text: &mut String, loaded: &Loaded, node: NodeId) -> Result<(), AllocError> {
-    write_name(text, loaded.names.host(node), node.0)
+pub fn write_node(text: &mut String, names: &Names, node: NodeId) -> Result<(), AllocError>
+    ensures { OnOk result (string_bytes text.new ≡ string_bytes text.old
+        ++ name_or_number [] names.now.nodes node) }
+{
+    write_name(text, names.host(node), node.0)
 }
 
 /// The name of a rack, or its number.
-pub fn write_rack(text: &mut String, loaded: &Loaded, rack: Rack) -> Result<(), AllocError> {
-    write_name(text, loaded.names.rack(rack), rack.0)
+pub fn write_rack(text: &mut String, names: &Names, rack: Rack) -> Result<(), AllocError>
+    ensures { OnOk result (string_bytes text.new ≡ string_bytes text.old
+        ++ name_or_number [] names.now.racks rack) }
+{
+    write_name(text, names.rack(rack), rack.0)
 }
 
-fn write_storage(text: &mut String, loaded: &Loaded, storage: StorageId) -> Result<(), AllocError> {
-    write_name(text, loaded.names.storage(storage), storage.0)
-}
-
-fn write_name(text: &mut String, name: Option<&str>, number: u32) -> Result<(), AllocError> {
+/// A name, or the number of what has none.
+fn write_name(text: &mut String, name: Option<&str>, number: u32) -> Result<(), AllocError>
+    ensures { OnOk result (string_bytes text.new ≡ string_bytes text.old
+        ++ shown (option_copied name.entry) [] number) }
+{
     match name {
         Some(name) => text.push_str(name),
         None => write!(text, "{number}"),
