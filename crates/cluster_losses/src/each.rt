@@ -1,6 +1,8 @@
 // A table: each rack or each node is lost alone, and comes back.
-ghost use Rattle.std.specs.Prelude.{OnOk};
+ghost use Rattle.std.specs.Prelude.{map, IfOk, OnOk};
 ghost use Rattle.cluster_report.specs.Sessions.{IsInStep};
+ghost use Rattle.cluster_losses.specs.Events.{death};
+ghost use Rattle.cluster_losses.specs.Answers.{IsOutcome, HasLostFiles};
 
 use crate::fault::Fault;
 use crate::losing::{Lost, nodes_on};
@@ -111,7 +113,10 @@ fn row_of<H: Threads + Wait + Sync>(
     part: &Part,
 ) -> Result<Row, Fault>
     requires { IsInStep session.old }
-    ensures { OnOk result (IsInStep session.new) }
+    ensures outcome { IfOk result (λ r.
+        IsOutcome session.old.manager (map death part.now.nodes) r.without) }
+    ensures files { IfOk result (λ r. HasLostFiles files.now r) }
+    ensures in_step { OnOk result (IsInStep session.new) }
 {
     let lost = Lost::of_nodes(alloc, part.nodes.as_slice())?;
     let losses = lost.events(alloc)?;

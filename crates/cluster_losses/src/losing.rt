@@ -1,6 +1,7 @@
 // The events by which racks, nodes and storages are lost.
-ghost use Rattle.std.specs.Prelude.{◌≡◌, true, IfOk, OnOk};
+ghost use Rattle.std.specs.Prelude.{◌≡◌, ◌++◌, [], true, map, IfOk, OnOk};
 ghost use Rattle.cluster_lost.specs.Losses.{are_losses};
+ghost use Rattle.cluster_losses.specs.Events.{death, failure, drain, events_of};
 
 use crate::fault::Fault;
 use crate::loss::{Kind, Loss};
@@ -20,7 +21,11 @@ pub struct Lost {
 }
 
 impl Lost {
-    fn new(alloc: Global) -> Lost {
+    fn new(alloc: Global) -> Lost
+        ensures drained { result.drained.items ≡ [] }
+        ensures storages { result.storages.items ≡ [] }
+        ensures nodes { result.nodes.items ≡ [] }
+    {
         Lost {
             drained: Vec::new(alloc),
             storages: Vec::new(alloc),
@@ -38,11 +43,11 @@ impl Lost {
     }
 
     /// These nodes.
-    pub fn of_nodes(alloc: Global, nodes: &[NodeId]) -> Result<Lost, AllocError> {
+    pub fn of_nodes(alloc: Global, nodes: &[NodeId]) -> Result<Lost, AllocError>
+        ensures { IfOk result (λ it. events_of it ≡ map death nodes.now) }
+    {
         let mut lost = Lost::new(alloc);
-        for node in nodes {
-            lost.nodes.push(*node)?;
-        }
+        lost.nodes = nodes.iter().copied().collect(alloc)?;
         Ok(lost)
     }
 
@@ -74,9 +79,11 @@ impl Lost {
         }
     }
 
-    /// First the nodes that drain, then the storages that fail, then the nodes that die, so that each is known when its event comes.
+    /// First the nodes that drain, then the storages that fail, then the nodes that die, so that
+    /// each is known when its event comes.
     pub fn events(&self, alloc: Global) -> Result<Vec<Event>, AllocError>
-        ensures { IfOk result (λ v. are_losses v.items ≡ true) }
+        ensures events { IfOk result (λ v. v.items ≡ events_of self.now) }
+        ensures losses { IfOk result (λ v. are_losses v.items ≡ true) }
     {
         let mut events = Vec::new(alloc);
         add_drains(&mut events, self.drained.as_slice())?;
@@ -126,7 +133,9 @@ fn push_once<T: Copy + PartialEq>(items: &mut Vec<T>, item: T) -> Result<(), All
 #[tactic(auto, using(crate::proofs::Steps::losses_and))]
 fn add_drains(events: &mut Vec<Event>, nodes: &[NodeId]) -> Result<(), AllocError>
     requires { are_losses events.old.items ≡ true }
-    ensures { OnOk result (are_losses events.new.items ≡ true) }
+    ensures events { OnOk result (events.new.items
+        ≡ events.old.items ++ map drain nodes.now) }
+    ensures losses { OnOk result (are_losses events.new.items ≡ true) }
 {
     for node in nodes {
         events.push(Event::Drain { node: *node })?;
@@ -137,7 +146,9 @@ fn add_drains(events: &mut Vec<Event>, nodes: &[NodeId]) -> Result<(), AllocErro
 #[tactic(auto, using(crate::proofs::Steps::losses_and))]
 fn add_failures(events: &mut Vec<Event>, storages: &[StorageId]) -> Result<(), AllocError>
     requires { are_losses events.old.items ≡ true }
-    ensures { OnOk result (are_losses events.new.items ≡ true) }
+    ensures events { OnOk result (events.new.items
+        ≡ events.old.items ++ map failure storages.now) }
+    ensures losses { OnOk result (are_losses events.new.items ≡ true) }
 {
     for storage in storages {
         events.push(Event::StorageFailed { storage: *storage })?;
@@ -148,7 +159,9 @@ fn add_failures(events: &mut Vec<Event>, storages: &[StorageId]) -> Result<(), A
 #[tactic(auto, using(crate::proofs::Steps::losses_and))]
 fn add_deaths(events: &mut Vec<Event>, nodes: &[NodeId]) -> Result<(), AllocError>
     requires { are_losses events.old.items ≡ true }
-    ensures { OnOk result (are_losses events.new.items ≡ true) }
+    ensures events { OnOk result (events.new.items
+        ≡ events.old.items ++ map death nodes.now) }
+    ensures losses { OnOk result (are_losses events.new.items ≡ true) }
 {
     for node in nodes {
         events.push(Event::Dead { node: *node })?;
