@@ -14,8 +14,8 @@ use Rattle.cluster_input.specs.Kinds.{are_lines}
 use Rattle.cluster_input.specs.Making.{Makes}
 use Rattle.cluster_input.specs.declared.loaded.Loaded.{Loaded}
 
--- A text of fsck was read: the calls for its cluster were made and accepted, and nothing else changed the manager; racks, nodes, storages
--- and files have the names of the text.
+-- A text of fsck was read: the calls for its cluster were made and accepted, and nothing else
+-- changed the manager; racks, nodes, storages and files have the names of the text.
 pub record IsRead (start : Reading) (remaining : ℕ) (text : List ℕ) (old new : Loaded) : Type 0 where
   pub read : Reading
   pub told : reading_of start text ≡ Ok read

@@ -53,9 +53,10 @@ impl Loaded {
         })
     }
 
-    /// Takes a text, which holds lines of the tool or is one of fsck, and makes its calls. Whether all were accepted: a line that is
-    /// refused is noted by its number, and a refused call for a text of fsck is a fault. `start` is how a text of fsck is read, and
-    /// `remaining` the number of free bytes on each storage whose node's are not known.
+    /// Takes a text, which holds lines of the tool or is one of fsck, and makes its calls. Whether
+    /// all were accepted: a line that is refused is noted by its number, and a refused call for a
+    /// text of fsck is a fault. `start` is how a text of fsck is read, and `remaining` the number
+    /// of free bytes on each storage whose node's are not known.
     pub fn take_text<R: BufRead, N: Write, H: Threads + Wait + Sync>(
         &mut self,
         rt: &H,

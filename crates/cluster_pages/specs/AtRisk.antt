@@ -37,7 +37,8 @@ rows_without counts rows = filter (λ r. nat_eq (get_or counts r.file 0) 0) rows
 abbrev pub highest_of : List Leveled → List ℕ
 highest_of urgent = map (λ l. l.block) (all_at Highest urgent)
 
--- The lost files have a missing block. The endangered ones have a block at the highest level, and are not lost.
+-- The lost files have a missing block. The endangered ones have a block at the highest level, and
+-- are not lost.
 pub record AreAtRisk (f : FileTable) (missing : List ℕ) (urgent : List Leveled) (risk : AtRisk) : Type 0 where
   pub missing_counts : List ℕ
   pub missing_counted : AreCounts f missing missing_counts

@@ -72,11 +72,7 @@ fn is_highest(found: &Leveled) -> bool
 }
 
 /// How many of these blocks are in each file.
-fn count_by_file(
-    alloc: Global,
-    files: &Files,
-    blocks: &[BlockId],
-) -> Result<Vec<usize>, AllocError>
+fn count_by_file(alloc: Global, files: &Files, blocks: &[BlockId]) -> Result<Vec<usize>, AllocError>
     ensures { IfOk result (λ counts. AreCounts files.now blocks.now counts.items) }
 {
     let mut counts = vec![in alloc; 0usize; files.file_count()]?;
