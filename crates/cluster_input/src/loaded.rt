@@ -1,5 +1,6 @@
 // A cluster from its text.
-ghost use Rattle.std.specs.Prelude.{◌≡◌, [], IfOk, IfSome, OnOk};
+ghost use Rattle.std.specs.Prelude.{◌≡◌, [], Some, IfOk, IfSome, OnOk};
+ghost use Rattle.std.specs.Fmt.{option_append};
 ghost use Rattle.bm_base.specs.State.{first_state};
 ghost use Rattle.cluster_names.specs.FileTable.{no_blocks};
 ghost use Rattle.cluster_report.specs.Sessions.{IsInStep};
@@ -73,12 +74,35 @@ impl Loaded {
         ensures in_step { OnOk result (IsInStep self.new.session) }
     {
         let mut head = Vec::new(self.session.alloc);
-        if let Err(fault) = read_head(reader, &mut head) {
-            drop(start);
-            return Err(fault);
+        match read_head(reader, &mut head) {
+            Ok(()) => self.take_behind(rt, start, remaining, head.as_slice(), reader, notes),
+            Err(fault) => {
+                drop(start);
+                Err(fault)
+            }
         }
-        let holds_lines = are_lines(head.as_slice());
-        let mut whole = head.as_slice().chain(reader);
+    }
+
+    /// Takes a text whose head was read.
+    fn take_behind<R: BufRead, N: Write, H: Threads + Wait + Sync>(
+        &mut self,
+        rt: &H,
+        start: Reading,
+        remaining: u64,
+        head: &[u8],
+        reader: &mut R,
+        notes: &mut N,
+    ) -> Result<bool, Fault>
+        requires { IsInStep self.old.session }
+        ensures state { OnOk result (IfSome (option_append (Some head.now) (R.remaining reader.old))
+            (λ text. IsAfter (are_lines head.now) start remaining text self.old self.new)) }
+        ensures accepted { IfOk result (λ all.
+            IfSome (option_append (Some head.now) (R.remaining reader.old)) (λ text.
+            all ≡ accepts_as (are_lines head.now) self.old.session.manager text)) }
+        ensures in_step { OnOk result (IsInStep self.new.session) }
+    {
+        let holds_lines = are_lines(head);
+        let mut whole = head.chain(reader);
         self.take_kind(rt, holds_lines, start, remaining, &mut whole, notes)
     }
 

@@ -8,12 +8,7 @@ use Rattle.std.proofs.lemmas.List.{get_or-set_other, get_or-replicate, length-se
 use Rattle.std.proofs.lemmas.List.Sums.{count_by_more_yes, count_by_more_no, count_by-le-length}
 use Rattle.cluster_names.specs.FileTable.{FileTable, place_of}
 use Rattle.cluster_names.specs.declared.files.FilePlace.{FilePlace}
-use Rattle.cluster_pages.specs.AtRisk.{AreCounts, is_in, with_one}
-
--- a block in this place is counted
-abbrev pub with_place : Option FilePlace → List ℕ → List ℕ
-with_place None counts = counts
-with_place (Some p) counts = with_one counts p.file
+use Rattle.cluster_pages.specs.AtRisk.{AreCounts, is_in, with_one, with_place}
 
 module _ (counts : List ℕ) (i : ℕ) where
   one_all : (b : Bool) → length (cond b (set counts i (min (get_or counts i 0 + 1) (2 ^ 64 - 1))) counts) ≡ length counts

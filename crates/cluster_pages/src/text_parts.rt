@@ -349,5 +349,8 @@ fn write_file_line(
 pub fn path_at(files: &Files, file: usize) -> &str
     ensures { result.now ≡ option_map_or (λ path. path) (slice_get files.now.paths file) [] }
 {
-    files.path(file).unwrap_or("")
+    match files.path(file) {
+        Some(path) => path,
+        None => "",
+    }
 }
