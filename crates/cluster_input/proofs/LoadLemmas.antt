@@ -1,6 +1,7 @@
 -- What is known after a text was read, where the bytes of its reader are known.
 use Rattle.std.proofs.Common.{◌≡◌, ℕ, Bool, List, Option, Some, None, IfSome, Ok, sym, ap, subst, ◌∙◌}
 use Rattle.std.specs.Fmt.{option_append}
+use Rattle.std.specs.Io.KnownBytes.{Appends}
 use Rattle.bm_base.specs.State.{State}
 use Rattle.bm_lines.specs.Lines.{lines_of}
 use Rattle.cluster_report.specs.Reading.{after_lines}
@@ -9,7 +10,7 @@ use Rattle.fsck_import.specs.Importing.{HasBlocks}
 use Rattle.fsck_import.specs.Reading.{reading_of}
 use Rattle.fsck_import.specs.declared.reading.Reading.{Reading}
 use Rattle.cluster_input.specs.ClusterNames.{names_of}
-use Rattle.cluster_input.specs.Inputs.{AreTaken, IsAfter, IsRead, accepts, accepts_as}
+use Rattle.cluster_input.specs.Inputs.{AreTaken, IsAfter, IsRead, accepts, accepts_as, notes_as, notes_on}
 use Rattle.cluster_input.specs.Kinds.{are_lines, IsHeadOf}
 use Rattle.cluster_input.specs.Making.{Makes}
 use Rattle.cluster_input.specs.declared.loaded.Loaded.{Loaded}
@@ -42,6 +43,15 @@ pub accepts_through : (known left : Option (List ℕ)) (head shown : List ℕ) (
 accepts_through known left head shown all M e h says =
     through_head known left shown (λ b text. all ≡ accepts_as b M text)
     (subst (λ xs. IfSome known (λ text. IsHeadOf text xs left)) (sym e) h) says
+
+pub notes_through : (known left : Option (List ℕ)) (head shown : List ℕ) (M : State) (old new : Option (List ℕ))
+    → shown ≡ head
+    → IfSome known (λ text. IsHeadOf text head left)
+    → IfSome (option_append (Some shown) left) (λ text. Appends old new (notes_as (are_lines shown) M text))
+    → IfSome known (λ text. Appends old new (notes_on M text))
+notes_through known left head shown M old new e h noted =
+    through_head known left shown (λ b text. Appends old new (notes_as b M text))
+    (subst (λ xs. IfSome known (λ text. IsHeadOf text xs left)) (sym e) h) noted
 
 -- a text of fsck was read, and its calls were made
 pub is_read : (known : Option (List ℕ)) (start read : Reading) (remaining : ℕ) (old new : Loaded)

@@ -66,6 +66,8 @@ impl<'w, I, R> WatchedReader<'w, I, R> {
 }
 
 impl<I: Read, R: Eprint> Read for WatchedReader<'_, I, R> {
+    ghost remaining = { λ r. I.remaining r.inner };
+
     fn read(&mut self, buf: &mut [u8]) -> io::Result<usize> {
         match self.inner.read(buf) {
             Ok(given) => {
@@ -95,6 +97,8 @@ impl<'w, W, R> NoteWriter<'w, W, R> {
 }
 
 impl<W: Write, R: Eprint> Write for NoteWriter<'_, W, R> {
+    ghost contents = { λ w. W.contents w.inner };
+
     fn write(&mut self, buf: &[u8]) -> io::Result<usize> {
         self.meter.clear(self.rt);
         self.inner.write(buf)

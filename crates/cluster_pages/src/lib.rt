@@ -49,7 +49,6 @@ pub mod text;
 pub mod text_parts;
 
 ghost use Rattle.cluster_report.specs.Sessions.{IsInStep};
-ghost use Rattle.cluster_pages.specs.Output.{StandsAs};
 
 use clap::Error;
 use clap::error::ErrorKind;
@@ -58,9 +57,10 @@ use cluster_input::options::{asked_of, files_of};
 use cluster_input::sources::load;
 use json::standing_json;
 use options::{Form, form_of, matches_of, wrong_value};
-use output::{Standing, standing_of, standing_text, write_flushed};
+use output::{PrintFault, Standing, print_report, standing_of, write_flushed};
 use page::standing_page;
-use std::alloc::{AllocError, Global};
+use std::alloc::Global;
+use std::io::Write;
 use std::rt::Files;
 use std::sync::Wait;
 use std::thread::Threads;
@@ -128,9 +128,6 @@ fn report_on<R: Print + Eprint + Files + AllocGlobal>(
     let Ok(standing) = standing_of(alloc, loaded) else {
         return say_memory(rt);
     };
-    let Ok(text) = text_by(alloc, loaded, form, &standing) else {
-        return say_memory(rt);
-    };
     let is_page_written = match form.page {
         Some(path) => write_page(rt, loaded, form.most, &standing, path),
         None => true,
@@ -138,36 +135,43 @@ fn report_on<R: Print + Eprint + Files + AllocGlobal>(
     if !is_page_written {
         return FAULTED;
     }
-    match write_flushed(&mut io::writer(rt), text.as_bytes()) {
+    let mut writer = io::writer(rt);
+    let printed = if form.is_json {
+        print_json(alloc, &mut writer, loaded, form.most, &standing)
+    } else {
+        print_report(alloc, &mut writer, loaded, form.most, &standing)
+    };
+    match printed {
         Ok(()) => DONE,
-        Err(error) => say_write_fault(rt, &error),
+        Err(fault) => say_print_fault(rt, &fault),
     }
 }
 
-/// Says why the report could not be written; nothing where its reader went away.
-fn say_write_fault<R: Eprint>(rt: &R, error: &io::Error) -> u8 {
-    if error.kind() != io::ErrorKind::BrokenPipe {
-        let _ = rt.eprintln(format_args!("{PROGRAM}: write fault: {error}"));
+/// Says why the report was not printed; nothing where its reader went away.
+fn say_print_fault<R: Eprint>(rt: &R, fault: &PrintFault) -> u8 {
+    let is_unread = match fault {
+        PrintFault::Write(error) => error.kind() == io::ErrorKind::BrokenPipe,
+        PrintFault::Memory => false,
+    };
+    if !is_unread {
+        let _ = rt.eprintln(format_args!("{PROGRAM}: {fault}"));
     }
     FAULTED
 }
 
-fn text_by(
+/// Prints the report as one JSON value on a line.
+fn print_json<W: Write>(
     alloc: Global,
+    writer: &mut W,
     loaded: &Loaded,
-    form: &Form<'_>,
+    most: usize,
     standing: &Standing,
-) -> Result<String, AllocError>
-    requires { StandsAs loaded.now standing.now }
-{
-    if !form.is_json {
-        return standing_text(alloc, loaded, form.most, standing);
-    }
-    let Ok(mut text) = standing_json(alloc, loaded, form.most, standing) else {
-        return Err(AllocError);
+) -> Result<(), PrintFault> {
+    let Ok(mut text) = standing_json(alloc, loaded, most, standing) else {
+        return Err(PrintFault::Memory);
     };
     text.push_str("\n")?;
-    Ok(text)
+    write_flushed(writer, text.as_bytes())
 }
 
 /// Writes the page to a file, and says why it could not.
