@@ -104,8 +104,13 @@ class Known:
         return {path: count for path, count in found.items() if path not in lost}
 
 
+def per_mille(part, total):
+    return part * 1000 // total if total else 0
+
+
 def share(part, total):
-    tenths = part * 1000 // total if total else 0
+    """In per cent, to a tenth."""
+    tenths = per_mille(part, total)
     return f"{tenths // 10}.{tenths % 10}%"
 
 
@@ -156,14 +161,19 @@ def text_of(known, most=FIRST):
 
 def json_of(known, most=FIRST):
     """The same as a value of JSON."""
-    state = known.state
+    state, all_replicas = known.state, len(known.state.replicas)
 
     def amount(blocks):
         return dict(zip(("count", "bytes"), known.amount(blocks)))
 
+    def parts(groups):
+        total = sum(map(len, groups.values()))
+        return {name: {**amount(it), "per_mille": per_mille(len(it), total)} for name, it in groups.items()}
+
     def holding(storages):
         count, size = known.amount(known.held(storages))
-        return {"replicas": count, "bytes": size, "remaining": known.free(storages)}
+        part = per_mille(count, all_replicas)
+        return {"replicas": count, "bytes": size, "per_mille": part, "remaining": known.free(storages)}
 
     def placed(block):
         path, index = known.places.get(block, (None, None))
@@ -191,10 +201,10 @@ def json_of(known, most=FIRST):
         "calls": state.calls,
         "rounds": state.last_round,
         "nodes": [node_of(node) for node in sorted(state.nodes)],
-        "blocks": {**amount(state.blocks), "levels": {name: amount(it) for name, it in known.levels().items()}},
+        "blocks": {**amount(state.blocks), "levels": parts(known.levels())},
         "replicas": {
             **amount(block for block, _ in state.replicas),
-            **{tag: amount(it) for tag, it in known.tags().items()},
+            **parts(known.tags()),
         },
         "excess": sum(it.excess for it in state.replicas.values()),
         "transfers": len(state.pending),

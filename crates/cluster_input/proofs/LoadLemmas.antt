@@ -1,6 +1,7 @@
 -- What is known after a text was read, where the bytes of its reader are known.
 use Rattle.std.proofs.Common.{◌≡◌, ℕ, Bool, List, Option, Some, None, IfSome, Ok, sym, ap, subst, ◌∙◌}
 use Rattle.std.specs.Fmt.{option_append}
+use Rattle.std.specs.Io.KnownBytes.{Appends}
 use Rattle.bm_base.specs.State.{State}
 use Rattle.bm_lines.specs.Lines.{lines_of}
 use Rattle.cluster_report.specs.Reading.{after_lines}
@@ -9,31 +10,48 @@ use Rattle.fsck_import.specs.Importing.{HasBlocks}
 use Rattle.fsck_import.specs.Reading.{reading_of}
 use Rattle.fsck_import.specs.declared.reading.Reading.{Reading}
 use Rattle.cluster_input.specs.ClusterNames.{names_of}
-use Rattle.cluster_input.specs.Inputs.{AreTaken, IsAfter, IsRead, accepts, accepts_as}
+use Rattle.cluster_input.specs.Inputs.{AreTaken, IsAfter, IsRead, accepts, accepts_as, notes_as, notes_on}
 use Rattle.cluster_input.specs.Kinds.{are_lines, IsHeadOf}
 use Rattle.cluster_input.specs.Making.{Makes}
 use Rattle.cluster_input.specs.declared.loaded.Loaded.{Loaded}
 
 -- what holds of the head and the rest, read as one, holds of the text
-through_head : (known left whole : Option (List ℕ)) (head : List ℕ) (b : Bool) (P : Bool → List ℕ → Type 0) → b ≡ are_lines head
-    → IfSome known (λ text. IsHeadOf text head left) → whole ≡ option_append (Some head) left → IfSome whole (P b)
+through_head : (known left : Option (List ℕ)) (head : List ℕ) (P : Bool → List ℕ → Type 0)
+    → IfSome known (λ text. IsHeadOf text head left)
+    → IfSome (option_append (Some head) left) (P (are_lines head))
     → IfSome known (λ text. P (are_lines text) text)
-through_head None left whole head b P is h e p = tt
-through_head (Some text) left whole head b P is h e p =
-    let all : whole ≡ Some text = e ∙ ap (option_append (Some head)) h.left_is ∙ ap Some (sym h.begins.parts) in
-    subst (λ c. P c text) (is ∙ h.begins.alike) (subst (λ w. IfSome w (P b)) all p)
+through_head None left head P h p = tt
+through_head (Some text) left head P h p =
+    let all : option_append (Some head) left ≡ Some text =
+    ap (option_append (Some head)) h.left_is ∙ ap Some (sym h.begins.parts) in
+    subst (λ c. P c text) h.begins.alike (subst (λ w. IfSome w (P (are_lines head))) all p)
 
-pub after_through : (known left whole : Option (List ℕ)) (head : List ℕ) (b : Bool) (start : Reading) (remaining : ℕ) (old new : Loaded)
-    → b ≡ are_lines head → IfSome known (λ text. IsHeadOf text head left) → whole ≡ option_append (Some head) left
-    → IfSome whole (λ text. IsAfter b start remaining text old new) → IfSome known (λ text. IsAfter (are_lines text) start remaining text old new)
-after_through known left whole head b start remaining old new is h e after =
-    through_head known left whole head b (λ c text. IsAfter c start remaining text old new) is h e after
+pub after_through : (known left : Option (List ℕ)) (head shown : List ℕ) (start : Reading) (remaining : ℕ) (old new : Loaded)
+    → shown ≡ head
+    → IfSome known (λ text. IsHeadOf text head left)
+    → IfSome (option_append (Some shown) left) (λ text. IsAfter (are_lines shown) start remaining text old new)
+    → IfSome known (λ text. IsAfter (are_lines text) start remaining text old new)
+after_through known left head shown start remaining old new e h after =
+    through_head known left shown (λ b text. IsAfter b start remaining text old new)
+    (subst (λ xs. IfSome known (λ text. IsHeadOf text xs left)) (sym e) h) after
 
-pub accepts_through : (known left whole : Option (List ℕ)) (head : List ℕ) (b all : Bool) (M : State)
-    → b ≡ are_lines head → IfSome known (λ text. IsHeadOf text head left) → whole ≡ option_append (Some head) left
-    → IfSome whole (λ text. all ≡ accepts_as b M text) → IfSome known (λ text. all ≡ accepts M text)
-accepts_through known left whole head b all M is h e says =
-    through_head known left whole head b (λ c text. all ≡ accepts_as c M text) is h e says
+pub accepts_through : (known left : Option (List ℕ)) (head shown : List ℕ) (all : Bool) (M : State)
+    → shown ≡ head
+    → IfSome known (λ text. IsHeadOf text head left)
+    → IfSome (option_append (Some shown) left) (λ text. all ≡ accepts_as (are_lines shown) M text)
+    → IfSome known (λ text. all ≡ accepts M text)
+accepts_through known left head shown all M e h says =
+    through_head known left shown (λ b text. all ≡ accepts_as b M text)
+    (subst (λ xs. IfSome known (λ text. IsHeadOf text xs left)) (sym e) h) says
+
+pub notes_through : (known left : Option (List ℕ)) (head shown : List ℕ) (M : State) (old new : Option (List ℕ))
+    → shown ≡ head
+    → IfSome known (λ text. IsHeadOf text head left)
+    → IfSome (option_append (Some shown) left) (λ text. Appends old new (notes_as (are_lines shown) M text))
+    → IfSome known (λ text. Appends old new (notes_on M text))
+notes_through known left head shown M old new e h noted =
+    through_head known left shown (λ b text. Appends old new (notes_as b M text))
+    (subst (λ xs. IfSome known (λ text. IsHeadOf text xs left)) (sym e) h) noted
 
 -- a text of fsck was read, and its calls were made
 pub is_read : (known : Option (List ℕ)) (start read : Reading) (remaining : ℕ) (old new : Loaded)

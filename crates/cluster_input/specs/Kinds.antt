@@ -1,4 +1,5 @@
--- Lines of the tool or a text of fsck: by the first byte that is not blank. An opening brace is 123.
+-- Lines of the tool or a text of fsck: by the first byte that is not blank. An opening brace is
+-- 123.
 use Rattle.std.specs.Prelude.{◌≡◌, ℕ, ◌==◌, ◌||◌, Bool, true, not, List, ◌++◌, Option, Some, None}
 use Rattle.std.specs.List.{find}
 

@@ -13,7 +13,8 @@ use fsck_import::writing::{entries_of, heartbeat, parts_of, register};
 use std::sync::Wait;
 use std::thread::Threads;
 
-/// Makes the calls that make a manager know a cluster. `remaining` is the number of free bytes on each storage whose node's are not known.
+/// Makes the calls that make a manager know a cluster. `remaining` is the number of free bytes on
+/// each storage whose node's are not known.
 pub fn make_calls<H: Threads + Wait + Sync>(
     rt: &H,
     session: &mut Session,
@@ -160,11 +161,7 @@ fn make_reports<H: Threads + Wait + Sync>(
 }
 
 /// The replicas on a storage: as many as fit into a report, and then each of the others.
-fn make_row<H: Threads + Wait + Sync>(
-    rt: &H,
-    session: &mut Session,
-    row: &Row,
-) -> Result<(), Fault>
+fn make_row<H: Threads + Wait + Sync>(rt: &H, session: &mut Session, row: &Row) -> Result<(), Fault>
     requires { IsInStep session.old }
     ensures made { OnOk result (Makes (reports row.now)
         session.old.manager session.new.manager) }

@@ -1,12 +1,15 @@
 // A cluster from its text.
-ghost use Rattle.std.specs.Prelude.{◌≡◌, [], IfOk, IfSome, OnOk};
+ghost use Rattle.std.specs.Prelude.{◌≡◌, [], Some, IfOk, IfSome, OnOk};
+ghost use Rattle.std.specs.Fmt.{option_append};
+ghost use Rattle.std.specs.Io.KnownBytes.{Appends};
 ghost use Rattle.bm_base.specs.State.{first_state};
+ghost use Rattle.bm_lines.specs.Lines.{lines_of};
 ghost use Rattle.cluster_names.specs.FileTable.{no_blocks};
 ghost use Rattle.cluster_report.specs.Sessions.{IsInStep};
-ghost use Rattle.cluster_report.specs.Reading.{SaysIfAccepted};
+ghost use Rattle.cluster_report.specs.Reading.{SaysIfAccepted, notes_text};
 ghost use Rattle.cluster_input.specs.ClusterNames.{no_names};
 ghost use Rattle.cluster_input.specs.Kinds.{are_lines};
-ghost use Rattle.cluster_input.specs.Inputs.{IsAfter, IsRead, AreTaken, accepts, accepts_as};
+ghost use Rattle.cluster_input.specs.Inputs.{IsAfter, IsRead, AreTaken, accepts, accepts_as, notes_as, notes_on};
 
 use crate::calls::make_calls;
 use crate::fault::Fault;
@@ -53,9 +56,10 @@ impl Loaded {
         })
     }
 
-    /// Takes a text, which holds lines of the tool or is one of fsck, and makes its calls. Whether all were accepted: a line that is
-    /// refused is noted by its number, and a refused call for a text of fsck is a fault. `start` is how a text of fsck is read, and
-    /// `remaining` the number of free bytes on each storage whose node's are not known.
+    /// Takes a text, which holds lines of the tool or is one of fsck, and makes its calls. Whether
+    /// all were accepted: a line that is refused is noted by its number, and a refused call for a
+    /// text of fsck is a fault. `start` is how a text of fsck is read, and `remaining` the number
+    /// of free bytes on each storage whose node's are not known.
     pub fn take_text<R: BufRead, N: Write, H: Threads + Wait + Sync>(
         &mut self,
         rt: &H,
@@ -69,15 +73,45 @@ impl Loaded {
             IsAfter (are_lines text) start remaining text self.old self.new)) }
         ensures accepted { IfOk result (λ all. IfSome (R.remaining reader.old) (λ text.
             all ≡ accepts self.old.session.manager text)) }
+        ensures notes { OnOk result (IfSome (R.remaining reader.old) (λ text.
+            Appends (N.contents notes.old) (N.contents notes.new)
+            (notes_on self.old.session.manager text))) }
         ensures in_step { OnOk result (IsInStep self.new.session) }
     {
         let mut head = Vec::new(self.session.alloc);
-        if let Err(fault) = read_head(reader, &mut head) {
-            drop(start);
-            return Err(fault);
+        match read_head(reader, &mut head) {
+            Ok(()) => self.take_behind(rt, start, remaining, head.as_slice(), reader, notes),
+            Err(fault) => {
+                drop(start);
+                Err(fault)
+            }
         }
-        let holds_lines = are_lines(head.as_slice());
-        let mut whole = head.as_slice().chain(reader);
+    }
+
+    /// Takes a text whose head was read.
+    fn take_behind<R: BufRead, N: Write, H: Threads + Wait + Sync>(
+        &mut self,
+        rt: &H,
+        start: Reading,
+        remaining: u64,
+        head: &[u8],
+        reader: &mut R,
+        notes: &mut N,
+    ) -> Result<bool, Fault>
+        requires { IsInStep self.old.session }
+        ensures state { OnOk result (IfSome (option_append (Some head.now) (R.remaining reader.old))
+            (λ text. IsAfter (are_lines head.now) start remaining text self.old self.new)) }
+        ensures accepted { IfOk result (λ all.
+            IfSome (option_append (Some head.now) (R.remaining reader.old)) (λ text.
+            all ≡ accepts_as (are_lines head.now) self.old.session.manager text)) }
+        ensures notes { OnOk result
+            (IfSome (option_append (Some head.now) (R.remaining reader.old)) (λ text.
+            Appends (N.contents notes.old) (N.contents notes.new)
+            (notes_as (are_lines head.now) self.old.session.manager text))) }
+        ensures in_step { OnOk result (IsInStep self.new.session) }
+    {
+        let holds_lines = are_lines(head);
+        let mut whole = head.chain(reader);
         self.take_kind(rt, holds_lines, start, remaining, &mut whole, notes)
     }
 
@@ -96,6 +130,9 @@ impl Loaded {
             IsAfter holds_lines start remaining text self.old self.new)) }
         ensures accepted { IfOk result (λ all. IfSome (R.remaining reader.old) (λ text.
             all ≡ accepts_as holds_lines self.old.session.manager text)) }
+        ensures notes { OnOk result (IfSome (R.remaining reader.old) (λ text.
+            Appends (N.contents notes.old) (N.contents notes.new)
+            (notes_as holds_lines self.old.session.manager text))) }
         ensures in_step { OnOk result (IsInStep self.new.session) }
     {
         if holds_lines {
@@ -118,6 +155,9 @@ impl Loaded {
             AreTaken text self.old self.new)) }
         ensures accepted { IfOk result (λ all.
             SaysIfAccepted all self.old.session.manager (R.remaining reader.old)) }
+        ensures notes { OnOk result (IfSome (R.remaining reader.old) (λ text.
+            Appends (N.contents notes.old) (N.contents notes.new)
+            (notes_text 1 self.old.session.manager (lines_of text)))) }
         ensures in_step { OnOk result (IsInStep self.new.session) }
     {
         let alloc = self.session.alloc;

@@ -1,6 +1,6 @@
 // The options by which a cluster is read: the same for each word that reads one.
 use bm_base::Config;
-use clap::{Arg, ArgAction, ArgMatches, Command};
+use clap::{Arg, ArgAction, ArgMatches, Command, value_parser};
 use cluster_report::options::{NUMBERS, argument, config_from, with};
 use fsck_import::options::{Values, values_of};
 use std::alloc::{AllocError, Global};
@@ -13,6 +13,8 @@ pub struct Asked<'a> {
     pub values: Values,
     /// The report on DataNodes, if one is named.
     pub nodes: Option<&'a str>,
+    /// The length of the input, if its progress is to be shown.
+    pub input_bytes: Option<u64>,
 }
 
 /// An option with a value, for a text of fsck.
@@ -58,7 +60,8 @@ pub fn with_input<'a>(alloc: Global, command: Command<'a>) -> Result<Command<'a>
     for number in &NUMBERS {
         command = with(command, argument(alloc, number))?;
     }
-    Ok(command)
+    let command = with(command, quiet(alloc))?;
+    with(command, progress(alloc))
 }
 
 fn files<'a>(alloc: Global) -> Arg<'a> {
@@ -76,6 +79,23 @@ fn text_option<'a>(alloc: Global, option: &TextOption) -> Arg<'a> {
         .help(option.help)
 }
 
+fn quiet<'a>(alloc: Global) -> Arg<'a> {
+    new_arg(alloc, "quiet")
+        .action(ArgAction::SetTrue)
+        .long("quiet")
+        .help("shows no progress on standard error")
+}
+
+/// For a caller that knows standard error to be a terminal, and the length of the input.
+fn progress<'a>(alloc: Global) -> Arg<'a> {
+    new_arg(alloc, "progress")
+        .action(ArgAction::Set)
+        .long("progress")
+        .value_name("BYTES")
+        .hide(true)
+        .value_parser(value_parser!(u64))
+}
+
 fn new_arg<'a>(alloc: Global, name: &'a str) -> Arg<'a> {
     Arg::new(alloc, name)
 }
@@ -91,7 +111,15 @@ pub fn asked_of<'a>(matches: &ArgMatches<'a>) -> Option<Asked<'a>> {
         config: config_from(matches),
         values,
         nodes: matches.get_str("nodes"),
+        input_bytes: input_bytes_of(matches),
     })
+}
+
+fn input_bytes_of(matches: &ArgMatches<'_>) -> Option<u64> {
+    if matches.get_flag("quiet") {
+        return None;
+    }
+    matches.get_one::<u64>("progress")
 }
 
 /// The files that the words name, one after another; `None` is standard input.

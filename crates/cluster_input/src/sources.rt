@@ -5,9 +5,10 @@ ghost use Rattle.cluster_report.specs.Sessions.{IsInStep};
 use crate::fault::Fault;
 use crate::loaded::Loaded;
 use crate::options::Asked;
+use crate::watched::{Meter, NoteWriter, WatchedReader};
 use fsck_cluster::Cluster;
-use fsck_import::say_text_notes;
 use fsck_import::reading::{Reading, read_nodes};
+use fsck_import::say_text_notes;
 use std::alloc::Global;
 use std::fs::File;
 use std::io;
@@ -16,8 +17,18 @@ use std::rt::Files;
 use std::sync::Wait;
 use std::thread::Threads;
 
-/// Loads the cluster of these files, or of standard input where there is none, and says whether every call was accepted. Refused lines go
-/// to `notes`; why nothing was loaded is said on standard error, after the name of the program.
+/// What reading needs to speak: the name of the program for its messages, and the progress, which
+/// each message takes away first.
+#[derive(Drop)]
+struct Console<'c, R> {
+    rt: &'c R,
+    program: &'c str,
+    meter: &'c Meter,
+}
+
+/// Loads the cluster of these files, or of standard input where there is none. The result has
+/// whether every call was accepted. Refused lines go to `notes`; standard error says why nothing
+/// was loaded, after the name of the program.
 pub fn load<R: Input + Eprint + Files + AllocGlobal + Threads + Wait + Sync, N: Print>(
     rt: &R,
     notes: &N,
@@ -27,89 +38,111 @@ pub fn load<R: Input + Eprint + Files + AllocGlobal + Threads + Wait + Sync, N: 
 ) -> Option<(Loaded, bool)>
     ensures { IfSome result (λ p. IsInStep p.0.session) }
 {
-    let alloc: Global = rt.alloc();
-    let mut told = io::writer(notes);
-    let nodes = nodes_of(rt, program, asked)?;
-    let mut loaded = match Loaded::new(alloc, &asked.config) {
+    let meter = Meter::new(asked.input_bytes);
+    let console = Console {
+        rt,
+        program,
+        meter: &meter,
+    };
+    let nodes = nodes_of(&console, asked)?;
+    let mut loaded = match Loaded::new(rt.alloc(), &asked.config) {
         Ok(loaded) => loaded,
         Err(fault) => {
             drop(nodes);
-            return said(rt, program, &fault);
+            return said(&console, None, &fault, None);
         }
     };
-    let start = Reading::new(
-        alloc,
-        nodes,
-        asked.values.skips,
-        asked.values.unclear,
-        true,
-    );
+    let start = start_of(rt.alloc(), nodes, asked);
+    let mut writer = NoteWriter::new(io::writer(notes), rt, &meter);
     let all_accepted = match files {
-        None => take_input(rt, program, &mut loaded, start, asked, &mut told),
-        Some(paths) => take_files(rt, program, &mut loaded, start, asked, paths, &mut told),
+        None => take_input(&console, &mut loaded, start, asked, &mut writer),
+        Some(paths) => take_files(&console, &mut loaded, start, asked, paths, &mut writer),
     };
     let all_accepted = all_accepted?;
+    meter.clear(rt);
     if let Some(notes) = &loaded.notes {
         say_text_notes(rt, asked.values.unclear, notes);
     }
     Some((loaded, all_accepted))
 }
 
-/// Says a fault; nothing was loaded.
-fn said<R: Eprint, T>(rt: &R, program: &str, fault: &Fault) -> Option<T>
+/// Nothing was read; these nodes are known.
+fn start_of(alloc: Global, nodes: Cluster, asked: &Asked<'_>) -> Reading {
+    Reading::new(alloc, nodes, asked.values.skips, asked.values.unclear, true)
+}
+
+/// Says a fault of a file or of standard input, with the system's words for a read that failed.
+/// Nothing was loaded.
+fn said<R: Eprint, T>(
+    console: &Console<'_, R>,
+    path: Option<&str>,
+    fault: &Fault,
+    error: Option<io::Error>,
+) -> Option<T>
     ensures { result ≡ None }
 {
-    let _ = rt.eprintln(format_args!("{program}: {fault}"));
+    let (rt, program) = (console.rt, console.program);
+    console.meter.clear(rt);
+    let reason = if matches!(fault, Fault::Read) {
+        error
+    } else {
+        None
+    };
+    let _ = match (path, reason) {
+        (Some(path), Some(error)) => {
+            rt.eprintln(format_args!("{program}: {path}: {fault}: {error}"))
+        }
+        (Some(path), None) => rt.eprintln(format_args!("{program}: {path}: {fault}")),
+        (None, Some(error)) => rt.eprintln(format_args!("{program}: {fault}: {error}")),
+        (None, None) => rt.eprintln(format_args!("{program}: {fault}")),
+    };
     None
 }
 
-/// Says a fault of a file.
-fn said_of<R: Eprint, T>(rt: &R, program: &str, path: &str, fault: &Fault) -> Option<T>
-    ensures { result ≡ None }
-{
-    let _ = rt.eprintln(format_args!("{program}: {path}: {fault}"));
-    None
-}
-
-/// The nodes of the report on DataNodes, if one is named.
+/// The nodes of the report on DataNodes, if one is named. It is no part of the progress.
 fn nodes_of<R: Eprint + Files + AllocGlobal>(
-    rt: &R,
-    program: &str,
+    console: &Console<'_, R>,
     asked: &Asked<'_>,
 ) -> Option<Cluster> {
-    let alloc: Global = rt.alloc();
+    let alloc: Global = console.rt.alloc();
     let Some(path) = asked.nodes else {
         return Some(Cluster::new(alloc));
     };
-    let mut reader = opened(rt, program, path)?;
+    let meter = Meter::new(None);
+    let mut reader = opened(console, &meter, path)?;
     match read_nodes(alloc, &mut reader) {
         Ok(nodes) => Some(nodes),
-        Err(fault) => said_of(rt, program, path, &Fault::from(fault)),
+        Err(fault) => {
+            let fault = Fault::from(fault);
+            said(console, Some(path), &fault, reader.get_ref().error())
+        }
     }
 }
 
 /// A file, opened for reading. Where it cannot be, the system's reason is said.
-fn opened<R: Eprint + Files + AllocGlobal>(
-    rt: &R,
-    program: &str,
+fn opened<'c, R: Eprint + Files + AllocGlobal>(
+    console: &Console<'c, R>,
+    meter: &'c Meter,
     path: &str,
-) -> Option<BufReader<R::File>> {
-    match File::open(rt, path) {
-        Ok(file) => match BufReader::new(rt.alloc(), file) {
-            Ok(reader) => Some(reader),
-            Err(_) => said_of(rt, program, path, &Fault::Memory),
-        },
+) -> Option<BufReader<WatchedReader<'c, R::File, R>>> {
+    let (rt, program) = (console.rt, console.program);
+    let file = match File::open(rt, path) {
+        Ok(file) => file,
         Err(error) => {
+            console.meter.clear(rt);
             let _ = rt.eprintln(format_args!("{program}: {path}: {error}"));
-            None
+            return None;
         }
+    };
+    match BufReader::new(rt.alloc(), WatchedReader::new(file, rt, meter)) {
+        Ok(reader) => Some(reader),
+        Err(_) => said(console, Some(path), &Fault::Memory, None),
     }
 }
 
 /// Takes standard input.
 fn take_input<R: Input + Eprint + AllocGlobal + Threads + Wait + Sync, W: Write>(
-    rt: &R,
-    program: &str,
+    console: &Console<'_, R>,
     loaded: &mut Loaded,
     start: Reading,
     asked: &Asked<'_>,
@@ -118,20 +151,21 @@ fn take_input<R: Input + Eprint + AllocGlobal + Threads + Wait + Sync, W: Write>
     requires { IsInStep loaded.old.session }
     ensures { IfSome result (λ all. IsInStep loaded.new.session) }
 {
-    let Ok(mut reader) = BufReader::new(rt.alloc(), rt.reader()) else {
+    let rt = console.rt;
+    let input = WatchedReader::new(rt.reader(), rt, console.meter);
+    let Ok(mut reader) = BufReader::new(rt.alloc(), input) else {
         drop(start);
-        return said(rt, program, &Fault::Memory);
+        return said(console, None, &Fault::Memory, None);
     };
     match loaded.take_text(rt, start, asked.values.remaining, &mut reader, notes) {
         Ok(all_accepted) => Some(all_accepted),
-        Err(fault) => said(rt, program, &fault),
+        Err(fault) => said(console, None, &fault, reader.get_ref().error()),
     }
 }
 
 /// Takes these files, one after another.
 fn take_files<R: Eprint + Files + AllocGlobal + Threads + Wait + Sync, W: Write>(
-    rt: &R,
-    program: &str,
+    console: &Console<'_, R>,
     loaded: &mut Loaded,
     start: Reading,
     asked: &Asked<'_>,
@@ -145,14 +179,13 @@ fn take_files<R: Eprint + Files + AllocGlobal + Threads + Wait + Sync, W: Write>
         drop(start);
         return Some(true);
     };
-    let first = take_first(rt, program, loaded, start, asked, path, notes);
-    take_others(rt, program, loaded, first, others, notes)
+    let first = take_first(console, loaded, start, asked, path, notes);
+    take_others(console, loaded, first, others, notes)
 }
 
 /// Takes the first file, which may be a text of fsck.
 fn take_first<R: Eprint + Files + AllocGlobal + Threads + Wait + Sync, W: Write>(
-    rt: &R,
-    program: &str,
+    console: &Console<'_, R>,
     loaded: &mut Loaded,
     start: Reading,
     asked: &Asked<'_>,
@@ -162,20 +195,25 @@ fn take_first<R: Eprint + Files + AllocGlobal + Threads + Wait + Sync, W: Write>
     requires { IsInStep loaded.old.session }
     ensures { IfSome result (λ all. IsInStep loaded.new.session) }
 {
-    let Some(mut reader) = opened(rt, program, path) else {
+    let Some(mut reader) = opened(console, console.meter, path) else {
         drop(start);
         return None;
     };
-    match loaded.take_text(rt, start, asked.values.remaining, &mut reader, notes) {
+    match loaded.take_text(
+        console.rt,
+        start,
+        asked.values.remaining,
+        &mut reader,
+        notes,
+    ) {
         Ok(all_accepted) => Some(all_accepted),
-        Err(fault) => said_of(rt, program, path, &fault),
+        Err(fault) => said(console, Some(path), &fault, reader.get_ref().error()),
     }
 }
 
 /// Takes the other files, which hold lines of the tool, unless there was a fault before.
 fn take_others<R: Eprint + Files + AllocGlobal + Threads + Wait + Sync, W: Write>(
-    rt: &R,
-    program: &str,
+    console: &Console<'_, R>,
     loaded: &mut Loaded,
     before: Option<bool>,
     paths: &[&str],
@@ -186,15 +224,14 @@ fn take_others<R: Eprint + Files + AllocGlobal + Threads + Wait + Sync, W: Write
 {
     let mut all_accepted = before?;
     for path in paths {
-        let is_accepted = take_other(rt, program, loaded, path, notes)?;
+        let is_accepted = take_other(console, loaded, path, notes)?;
         all_accepted = all_accepted && is_accepted;
     }
     Some(all_accepted)
 }
 
 fn take_other<R: Eprint + Files + AllocGlobal + Threads + Wait + Sync, W: Write>(
-    rt: &R,
-    program: &str,
+    console: &Console<'_, R>,
     loaded: &mut Loaded,
     path: &str,
     notes: &mut W,
@@ -202,13 +239,15 @@ fn take_other<R: Eprint + Files + AllocGlobal + Threads + Wait + Sync, W: Write>
     requires { IsInStep loaded.old.session }
     ensures { IfSome result (λ all. IsInStep loaded.new.session) }
 {
-    let mut reader = opened(rt, program, path)?;
-    match loaded.take_lines(rt, &mut reader, notes) {
+    let mut reader = opened(console, console.meter, path)?;
+    match loaded.take_lines(console.rt, &mut reader, notes) {
         Ok(true) => Some(true),
         Ok(false) => {
+            let (rt, program) = (console.rt, console.program);
+            console.meter.clear(rt);
             let _ = rt.eprintln(format_args!("{program}: the lines above are of {path}"));
             Some(false)
         }
-        Err(fault) => said_of(rt, program, path, &fault),
+        Err(fault) => said(console, Some(path), &fault, reader.get_ref().error()),
     }
 }

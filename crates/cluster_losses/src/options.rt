@@ -58,7 +58,7 @@ pub fn asked_of<'a>(alloc: Global, matches: &ArgMatches<'a>) -> Result<Asked<'a>
         pace,
         is_picture,
         most,
-        shows_progress: matches.get_flag("progress") && !matches.get_flag("quiet"),
+        shows_progress: input.input_bytes.is_some(),
     })
 }
 
@@ -85,9 +85,6 @@ fn pace_in(matches: &ArgMatches<'_>) -> Option<Pace> {
 pub fn command<'a>(alloc: Global) -> Result<Command<'a>, AllocError> {
     let command = with_losses(alloc, program(alloc))?;
     let command = with_repair(alloc, command)?;
-    let command = with(command, flag(alloc, "quiet").help("shows no progress on standard error"))?;
-    // For a caller that knows standard error to be a terminal.
-    let command = with(command, flag(alloc, "progress").hide(true))?;
     let command = with_input(alloc, command)?;
     Ok(command.after_help(EXAMPLES))
 }

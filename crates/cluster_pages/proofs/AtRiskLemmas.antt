@@ -8,12 +8,7 @@ use Rattle.std.proofs.lemmas.List.{get_or-set_other, get_or-replicate, length-se
 use Rattle.std.proofs.lemmas.List.Sums.{count_by_more_yes, count_by_more_no, count_by-le-length}
 use Rattle.cluster_names.specs.FileTable.{FileTable, place_of}
 use Rattle.cluster_names.specs.declared.files.FilePlace.{FilePlace}
-use Rattle.cluster_pages.specs.AtRisk.{AreCounts, is_in, with_one}
-
--- a block in this place is counted
-abbrev pub with_place : Option FilePlace → List ℕ → List ℕ
-with_place None counts = counts
-with_place (Some p) counts = with_one counts p.file
+use Rattle.cluster_pages.specs.AtRisk.{AreCounts, is_in, with_one, with_place}
 
 module _ (counts : List ℕ) (i : ℕ) where
   one_all : (b : Bool) → length (cond b (set counts i (min (get_or counts i 0 + 1) (2 ^ 64 - 1))) counts) ≡ length counts
@@ -37,14 +32,12 @@ none_counted f = record { all = length-replicate (length f.paths) 0; each = λ f
 -- one more block is counted
 pub counted_more : (f : FileTable) (blocks old new : List ℕ) (i : ℕ) → i < length blocks → i < 2 ^ 64 - 1 → AreCounts f (take i blocks) old
     → new ≡ with_place (place_of f (get_or blocks i 0)) old → AreCounts f (take (i + 1) blocks) new
-counted_more f blocks old new i lt fits so_far e = by (place_of f b) refl e
+counted_more f blocks old new i lt fits so_far e = by (place_of f (get_or blocks i 0)) refl e
   where
-    b : ℕ = get_or blocks i 0
-
     few : (file : ℕ) → file < length f.paths → get_or old file 0 < 2 ^ 64 - 1
     few file at = omega (arith, so_far.each file at, count_by-le-length (is_in f file) (take i blocks), length-take i blocks, fits)
 
-    here : (p : FilePlace) → place_of f b ≡ Some p → (file : ℕ) → file < length f.paths → (same : Bool) → (p.file == file) ≡ same
+    here : (p : FilePlace) → place_of f (get_or blocks i 0) ≡ Some p → (file : ℕ) → file < length f.paths → (same : Bool) → (p.file == file) ≡ same
         → get_or (with_one old p.file) file 0 ≡ count_by (is_in f file) (take (i + 1) blocks)
     here p is file at true same =
         let this : p.file ≡ file = eqb-true p.file file same in
@@ -59,7 +52,7 @@ counted_more f blocks old new i lt fits so_far e = by (place_of f b) refl e
         ∙ so_far.each file at
         ∙ sym (count_by_more_no (is_in f file) blocks i 0 lt (ap (λ o. option_map_or (λ q. q.file == file) o false) is ∙ other))
 
-    by : (o : Option FilePlace) → place_of f b ≡ o → new ≡ with_place o old → AreCounts f (take (i + 1) blocks) new
+    by : (o : Option FilePlace) → place_of f (get_or blocks i 0) ≡ o → new ≡ with_place o old → AreCounts f (take (i + 1) blocks) new
     by None is same = record {
       all = ap length same ∙ so_far.all;
       each = λ file at.

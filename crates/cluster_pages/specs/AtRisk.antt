@@ -1,9 +1,10 @@
 -- The files of blocks that are missing, or one failure away from that.
-use Rattle.std.specs.Prelude.{◌≡◌, ℕ, ◌+◌, ◌-◌, ◌^◌, ◌<◌, ◌==◌, min, set, Bool, false, if◌then◌else◌, nat_eq, nat_lt, List, map, filter, length, get_or, count_by}
+use Rattle.std.specs.Prelude.{◌≡◌, ℕ, ◌+◌, ◌-◌, ◌^◌, ◌<◌, ◌==◌, min, set, Bool, false, if◌then◌else◌, nat_eq, nat_lt, Option, Some, None, List, map, filter, length, get_or, count_by}
 use Rattle.std.specs.Option.{option_map_or}
 use Rattle.std.specs.List.{enumerate_from}
 use Rattle.bm_base.specs.declared.level.Level.TheVariants.{Highest}
 use Rattle.cluster_names.specs.FileTable.{FileTable, place_of}
+use Rattle.cluster_names.specs.declared.files.FilePlace.{FilePlace}
 use Rattle.cluster_report.specs.Levels.{all_at}
 use Rattle.cluster_report.specs.declared.levels.Leveled.{Leveled}
 use Rattle.cluster_pages.specs.declared.at_risk.AtRisk.{AtRisk}
@@ -12,6 +13,11 @@ use Rattle.cluster_pages.specs.declared.at_risk.FileRow.{FileRow}
 -- one more is counted at an index, if there is such an index
 abbrev pub with_one : List ℕ → ℕ → List ℕ
 with_one counts i = if nat_lt i (length counts) then set counts i (min (get_or counts i 0 + 1) (2 ^ 64 - 1)) else counts
+
+-- a block is counted of which this is the place
+abbrev pub with_place : Option FilePlace → List ℕ → List ℕ
+with_place None counts = counts
+with_place (Some p) counts = with_one counts p.file
 
 -- whether a block is in the file of this index
 abbrev pub is_in : FileTable → ℕ → ℕ → Bool
@@ -37,7 +43,8 @@ rows_without counts rows = filter (λ r. nat_eq (get_or counts r.file 0) 0) rows
 abbrev pub highest_of : List Leveled → List ℕ
 highest_of urgent = map (λ l. l.block) (all_at Highest urgent)
 
--- The lost files have a missing block. The endangered ones have a block at the highest level, and are not lost.
+-- The lost files have a missing block. The endangered ones have a block at the highest level, and
+-- are not lost.
 pub record AreAtRisk (f : FileTable) (missing : List ℕ) (urgent : List Leveled) (risk : AtRisk) : Type 0 where
   pub missing_counts : List ℕ
   pub missing_counted : AreCounts f missing missing_counts

@@ -157,7 +157,8 @@ cluster_text names r =
     ++ (count_line (codes "nodes") (length r.nodes)
     ++ flat_map (node_text names (all_replicas r.tags)) r.nodes))
 
--- how many replicas are in excess and how many copies on their way, and the first of the blocks that want copies
+-- how many replicas are in excess and how many copies on their way, and the first of the blocks
+-- that want copies
 unfoldable pub work_text : FileTable → ℕ → Report → Text
 work_text f most r =
     count_line (codes "excess") r.excess

@@ -1,10 +1,10 @@
 // The files of blocks that are missing, or one failure away from that.
 ghost use Rattle.std.specs.Prelude.{◌≡◌, ◌==◌, nat_eq, get_or, IfOk};
 ghost use Rattle.bm_base.specs.Levels.{is_at};
-ghost use Rattle.cluster_pages.specs.AtRisk.{AreAtRisk, AreCounts, highest_of, rows_of, rows_without, with_one};
+ghost use Rattle.cluster_pages.specs.AtRisk.{AreAtRisk, AreCounts, highest_of, rows_of, rows_without, with_one, with_place};
 
 use bm_base::{BlockId, Items, Level};
-use cluster_names::Files;
+use cluster_names::{FilePlace, Files};
 use cluster_report::levels::Leveled;
 use std::alloc::{AllocError, Global};
 
@@ -72,20 +72,23 @@ fn is_highest(found: &Leveled) -> bool
 }
 
 /// How many of these blocks are in each file.
-fn count_by_file(
-    alloc: Global,
-    files: &Files,
-    blocks: &[BlockId],
-) -> Result<Vec<usize>, AllocError>
+fn count_by_file(alloc: Global, files: &Files, blocks: &[BlockId]) -> Result<Vec<usize>, AllocError>
     ensures { IfOk result (λ counts. AreCounts files.now blocks.now counts.items) }
 {
     let mut counts = vec![in alloc; 0usize; files.file_count()]?;
     for block in blocks {
-        if let Some(place) = files.place_of(*block) {
-            add_one(counts.as_mut_slice(), place.file);
-        }
+        count_place(counts.as_mut_slice(), files.place_of(*block));
     }
     Ok(counts)
+}
+
+/// Counts a block of which this is the place; nothing where it has none.
+fn count_place(counts: &mut [usize], place: Option<FilePlace>)
+    ensures { counts.new ≡ with_place place counts.old }
+{
+    if let Some(place) = place {
+        add_one(counts, place.file);
+    }
 }
 
 /// Counts one more at an index; nothing where there is none.

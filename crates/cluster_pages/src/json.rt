@@ -3,7 +3,7 @@ use crate::at_risk::{AtRisk, FileRow};
 use crate::output::Standing;
 use crate::text::{all_block_bytes, all_blocks, all_replica_bytes, all_replicas, first_of};
 use crate::text_parts::{
-    bytes_on, level_word, path_at, remaining_on, replicas_on, state_word,
+    bytes_on, level_word, path_at, remaining_on, replicas_on, state_word, thousandths,
 };
 use bm_base::BlockId;
 use cluster_input::loaded::Loaded;
@@ -39,6 +39,7 @@ struct NodeJson<'a> {
     state: &'a str,
     replicas: u128,
     bytes: u128,
+    per_mille: u128,
     remaining: u128,
     storages: Vec<StorageJson<'a>>,
 }
@@ -49,6 +50,7 @@ struct StorageJson<'a> {
     name: Option<&'a str>,
     replicas: usize,
     bytes: u128,
+    per_mille: u128,
     remaining: u64,
 }
 
@@ -56,6 +58,7 @@ struct StorageJson<'a> {
 struct AmountJson {
     count: usize,
     bytes: u128,
+    per_mille: u128,
 }
 
 #[derive(Drop, Serialize)]
@@ -124,7 +127,12 @@ pub fn standing_json(
     let value = ReportJson {
         calls: report.calls,
         rounds: report.round,
-        nodes: nodes_of(alloc, &loaded.names, report.nodes.as_slice())?,
+        nodes: nodes_of(
+            alloc,
+            &loaded.names,
+            all_replicas(&report.tags),
+            report.nodes.as_slice(),
+        )?,
         blocks: blocks_of(&report.levels, &report.level_bytes),
         replicas: replicas_of(&report.tags, &report.tag_bytes),
         excess: report.excess,
@@ -148,6 +156,7 @@ pub fn standing_json(
 fn nodes_of<'a>(
     alloc: Global,
     names: &'a Names,
+    all: u128,
     rows: &[NodeRow],
 ) -> Result<Vec<NodeJson<'a>>, AllocError> {
     let mut nodes = Vec::new(alloc);
@@ -161,8 +170,9 @@ fn nodes_of<'a>(
             state: state_word(row.state),
             replicas: replicas_on(storages),
             bytes: bytes_on(storages),
+            per_mille: thousandths(replicas_on(storages), all),
             remaining: remaining_on(storages),
-            storages: storages_of(alloc, names, storages)?,
+            storages: storages_of(alloc, names, all, storages)?,
         };
         nodes.push(node)?;
     }
@@ -172,6 +182,7 @@ fn nodes_of<'a>(
 fn storages_of<'a>(
     alloc: Global,
     names: &'a Names,
+    all: u128,
     rows: &[StorageRow],
 ) -> Result<Vec<StorageJson<'a>>, AllocError> {
     let mut storages = Vec::new(alloc);
@@ -181,42 +192,54 @@ fn storages_of<'a>(
             name: names.storage(row.storage),
             replicas: row.replicas,
             bytes: row.bytes,
+            per_mille: thousandths(row.replicas as u128, all),
             remaining: row.remaining,
         })?;
     }
     Ok(storages)
 }
 
-fn amount(count: usize, bytes: u128) -> AmountJson {
-    AmountJson { count, bytes }
+/// A count, its bytes, and its part of the total.
+fn amount(count: usize, bytes: u128, total: u128) -> AmountJson {
+    AmountJson {
+        count,
+        bytes,
+        per_mille: thousandths(count as u128, total),
+    }
 }
 
 fn blocks_of(levels: &LevelCounts, bytes: &LevelBytes) -> BlocksJson {
     BlocksJson {
         count: all_blocks(levels),
         bytes: all_block_bytes(bytes),
-        levels: LevelsJson {
-            highest: amount(levels.highest, bytes.highest),
-            very_under_replicated: amount(
-                levels.very_under_replicated,
-                bytes.very_under_replicated,
-            ),
-            under_replicated: amount(levels.under_replicated, bytes.under_replicated),
-            badly_distributed: amount(levels.badly_distributed, bytes.badly_distributed),
-            missing: amount(levels.missing, bytes.missing),
-            none: amount(levels.none, bytes.none),
-        },
+        levels: levels_of(levels, bytes, all_blocks(levels)),
+    }
+}
+
+fn levels_of(levels: &LevelCounts, bytes: &LevelBytes, all: u128) -> LevelsJson {
+    LevelsJson {
+        highest: amount(levels.highest, bytes.highest, all),
+        very_under_replicated: amount(
+            levels.very_under_replicated,
+            bytes.very_under_replicated,
+            all,
+        ),
+        under_replicated: amount(levels.under_replicated, bytes.under_replicated, all),
+        badly_distributed: amount(levels.badly_distributed, bytes.badly_distributed, all),
+        missing: amount(levels.missing, bytes.missing, all),
+        none: amount(levels.none, bytes.none, all),
     }
 }
 
 fn replicas_of(tags: &TagCounts, bytes: &TagBytes) -> ReplicasJson {
+    let all = all_replicas(tags);
     ReplicasJson {
-        count: all_replicas(tags),
+        count: all,
         bytes: all_replica_bytes(bytes),
-        good: amount(tags.good, bytes.good),
-        stale: amount(tags.stale, bytes.stale),
-        bad: amount(tags.bad, bytes.bad),
-        stray: amount(tags.stray, 0),
+        good: amount(tags.good, bytes.good, all),
+        stale: amount(tags.stale, bytes.stale, all),
+        bad: amount(tags.bad, bytes.bad, all),
+        stray: amount(tags.stray, 0, all),
     }
 }
 

@@ -1,6 +1,6 @@
 // The options of a report.
-use clap::{Arg, ArgAction, ArgMatches, Command, Error};
 use clap::error::ErrorKind;
+use clap::{Arg, ArgAction, ArgMatches, Command, Error};
 use cluster_input::options::{WRONG_VALUE, with_input};
 use cluster_report::options::with;
 use std::alloc::{AllocError, Global};
@@ -27,8 +27,8 @@ pub struct Form<'a> {
     pub page: Option<&'a str>,
 }
 
-/// The words of a command line, the program's name first. An `Err` is a request for help, a command line that is refused, or out of
-/// memory.
+/// The words of a command line, the program's name first. An `Err` is a request for help, a command
+/// line that is refused, or out of memory.
 pub fn matches_of<'a>(alloc: Global, words: &'a [String]) -> Result<ArgMatches<'a>, Error> {
     let command = command(alloc)?;
     command.try_get_matches_from(words)
@@ -48,7 +48,14 @@ pub fn form_of<'a>(matches: &ArgMatches<'a>) -> Form<'a> {
 
 fn command<'a>(alloc: Global) -> Result<Command<'a>, AllocError> {
     let command = Command::new(alloc, "report").about("Prints how a cluster stands");
-    let command = with(command, flag(alloc, "all", "names all blocks and files, not the first ten of each list"))?;
+    let command = with(
+        command,
+        flag(
+            alloc,
+            "all",
+            "names all blocks and files, not the first ten of each list",
+        ),
+    )?;
     let command = with(command, flag(alloc, "json", "prints one JSON value"))?;
     let command = with(command, page(alloc))?;
     let command = with_input(alloc, command)?;

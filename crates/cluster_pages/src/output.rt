@@ -2,7 +2,7 @@
 ghost use Rattle.std.specs.Prelude.{◌≡◌, IfOk, IfErr, OnOk, string_bytes};
 ghost use Rattle.std.specs.Io.KnownBytes.{Appends};
 ghost use Rattle.cluster_report.specs.Sessions.{IsInStep};
-ghost use Rattle.cluster_pages.specs.Output.{IsReportOn, StandsAs};
+ghost use Rattle.cluster_pages.specs.Output.{IsReportOn, IsWriteFault, PrintsReport, StandsAs, WritesNothing};
 
 use crate::at_risk::{AtRisk, files_at_risk};
 use crate::text::report_text;
@@ -11,6 +11,7 @@ use cluster_report::report::{Report, report_of};
 use std::alloc::{AllocError, Global};
 use std::io;
 use std::io::Write;
+use thiserror::Error;
 
 /// How a cluster stands, and its files at risk.
 #[derive(Drop)]
@@ -19,7 +20,7 @@ pub struct Standing {
     pub risk: AtRisk,
 }
 
-/// How a loaded cluster stands. What the manager refuses here is refused for want of memory.
+/// How a loaded cluster stands. The manager refuses only what is out of memory here.
 pub fn standing_of(alloc: Global, loaded: &Loaded) -> Result<Standing, AllocError>
     requires { IsInStep loaded.now.session }
     ensures { IfOk result (λ s. StandsAs loaded.now s) }
@@ -36,7 +37,7 @@ pub fn standing_of(alloc: Global, loaded: &Loaded) -> Result<Standing, AllocErro
     Ok(Standing { report, risk })
 }
 
-/// The text of a report, with at most so many blocks and files of each list.
+/// The text of a report, with at most this number of blocks and files of each list.
 pub fn standing_text(
     alloc: Global,
     loaded: &Loaded,
@@ -56,8 +57,57 @@ pub fn standing_text(
     )
 }
 
-/// Writes all of it, and flushes.
-pub fn write_flushed<W: Write>(writer: &mut W, text: &[u8]) -> Result<(), io::Error>
+/// Why a report is not printed, or an unknown part of it where a write failed.
+#[derive(Clone, Copy, Debug, Error)]
+pub enum PrintFault {
+    #[error("memory fault")]
+    Memory,
+    /// A write or the flush failed.
+    #[error("write fault: {0}")]
+    Write(io::Error),
+}
+
+impl From<AllocError> for PrintFault {
+    ghost use Rattle.std.specs.Prelude.{◌≡◌};
+    ghost use Rattle.cluster_pages.specs.declared.output.PrintFault.TheVariants.{Memory};
+
+    ghost from_gives = { λ _ e. e ≡ Memory };
+
+    fn from(_error: AllocError) -> Self {
+        PrintFault::Memory
+    }
+}
+
+/// Prints the lines of a report, with at most this number of blocks and files of each list. Nothing
+/// is written before all of the text was made.
+pub fn print_report<W: Write>(
+    alloc: Global,
+    writer: &mut W,
+    loaded: &Loaded,
+    most: usize,
+    standing: &Standing,
+) -> Result<(), PrintFault>
+    requires { StandsAs loaded.now standing.now }
+    ensures text { OnOk result (PrintsReport loaded.now most
+        (W.contents writer.old) (W.contents writer.new)) }
+    ensures nothing_written { IfErr result (λ f. WritesNothing f writer.old writer.new) }
+{
+    let text = standing_text(alloc, loaded, most, standing)?;
+    write_flushed(writer, text.as_bytes())
+}
+
+/// Writes all of a text, and flushes.
+pub fn write_flushed<W: Write>(writer: &mut W, text: &[u8]) -> Result<(), PrintFault>
+    ensures ok { OnOk result (Appends (W.contents writer.old) (W.contents writer.new) text.now) }
+    ensures err { IfErr result IsWriteFault }
+{
+    match write_all(writer, text) {
+        Ok(()) => Ok(()),
+        Err(error) => Err(PrintFault::Write(error)),
+    }
+}
+
+fn write_all<W: Write>(writer: &mut W, text: &[u8]) -> io::Result<()>
     ensures { OnOk result (Appends (W.contents writer.old) (W.contents writer.new) text.now) }
 {
     writer.write_all(text)?;

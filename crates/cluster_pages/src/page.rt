@@ -1,18 +1,18 @@
-// The report as one page that stands alone: tables, and bars drawn within it.
+// The report as one page that stands alone: tables, bars and a chart, all within it.
 use crate::at_risk::FileRow;
+use crate::chart::write_chart;
 use crate::output::Standing;
 use crate::page_parts::{
-    write_amount_row, write_bytes, write_cell, write_escaped, write_number_cell, write_share_cell,
+    write_amount_row, write_bytes, write_cell, write_escaped, write_host, write_number_cell,
+    write_rack, write_share_cell,
 };
 use crate::text::{all_blocks, all_replicas, first_of};
-use crate::text_parts::{
-    bytes_on, level_word, path_at, remaining_on, replicas_on, state_word,
-};
-use bm_base::{BlockId, NodeId, Rack};
+use crate::text_parts::{bytes_on, level_word, path_at, remaining_on, replicas_on, state_word};
+use bm_base::BlockId;
 use cluster_input::loaded::Loaded;
 use cluster_names::{Files, Names};
 use cluster_report::levels::Leveled;
-use cluster_report::nodes::NodeRow;
+use cluster_report::nodes::{NodeRow, StorageRow};
 use cluster_report::report::Report;
 use std::alloc::{AllocError, Global};
 
@@ -35,9 +35,14 @@ td.n, th.n { font-variant-numeric: tabular-nums; text-align: right; white-space:
 td.path { overflow-wrap: anywhere; min-width: 12rem; }\n\
 td.bar { min-width: 6rem; width: 30%; }\n\
 svg { display: block; height: .9rem; margin-top: .2rem; width: 100%; }\n\
+svg.chart { border-bottom: 1px solid #8888; height: 12rem; }\n\
 svg rect { fill: #3b7dd8; }\n\
 svg rect.all { fill: #8883; }\n\
 svg rect.bad { fill: #c8452f; }\n\
+i { background: #3b7dd8; display: inline-block; height: .8em; width: .8em; }\n\
+i.all { background: #8885; }\n\
+details { margin: 1rem 0; }\n\
+summary { cursor: pointer; }\n\
 p.none { opacity: .75; }\n\
 </style>\n</head>\n<body>\n<h1>How the cluster stands</h1>\n";
 
@@ -57,6 +62,7 @@ pub fn standing_page(
     write_levels(&mut text, report)?;
     write_tags(&mut text, report)?;
     write_nodes(&mut text, &loaded.names, report)?;
+    write_storages(&mut text, &loaded.names, report.nodes.as_slice())?;
     write_files(&mut text, &loaded.files, most, standing)?;
     write_missing(&mut text, &loaded.files, most, report.missing.as_slice())?;
     write_urgent(&mut text, &loaded.files, most, report.urgent.as_slice())?;
@@ -72,7 +78,11 @@ fn write_summary(text: &mut String, files: &Files, standing: &Standing) -> Resul
     write_fact(text, "blocks", all_blocks(&report.levels))?;
     write_fact(text, "replicas", all_replicas(&report.tags))?;
     write_fact(text, "missing blocks", report.levels.missing as u128)?;
-    write_fact(text, "blocks that want copies", report.urgent.as_slice().len() as u128)?;
+    write_fact(
+        text,
+        "blocks that want copies",
+        report.urgent.as_slice().len() as u128,
+    )?;
     if files.file_count() > 0 {
         let lost = standing.risk.lost.as_slice().len();
         let endangered = standing.risk.endangered.as_slice().len();
@@ -134,7 +144,14 @@ fn write_levels(text: &mut String, report: &Report) -> Result<(), AllocError> {
         all,
         false,
     )?;
-    write_amount_row(text, "none: enough replicas", levels.none, bytes.none, all, false)?;
+    write_amount_row(
+        text,
+        "none: enough replicas",
+        levels.none,
+        bytes.none,
+        all,
+        false,
+    )?;
     end_table(text)
 }
 
@@ -157,7 +174,8 @@ fn write_nodes(text: &mut String, names: &Names, report: &Report) -> Result<(), 
     for row in report.nodes.as_slice() {
         write_node(text, names, row)?;
     }
-    end_table(text)
+    end_table(text)?;
+    write_chart(text, names, report.nodes.as_slice())
 }
 
 fn write_node(text: &mut String, names: &Names, row: &NodeRow) -> Result<(), AllocError> {
@@ -180,24 +198,50 @@ fn write_node(text: &mut String, names: &Names, row: &NodeRow) -> Result<(), All
     text.push_str("</tr>\n")
 }
 
-fn write_rack(text: &mut String, names: &Names, rack: Rack) -> Result<(), AllocError> {
-    match names.rack(rack) {
-        Some(name) => write_escaped(text, name),
-        None => {
-            let number = rack.0;
-            write!(text, "{number}")
-        }
+const STORAGE_HEADS: &str = "<th>node</th><th>storage</th><th class=\"n\">replicas</th>\
+<th class=\"n\">bytes</th><th class=\"n\">free</th><th>filled</th>";
+
+/// The storages, in a part of the page that opens when it is asked for.
+fn write_storages(text: &mut String, names: &Names, nodes: &[NodeRow]) -> Result<(), AllocError> {
+    text.push_str("<details><summary>Storages of the nodes</summary>\n")?;
+    begin_table(text, "Storages", STORAGE_HEADS)?;
+    for node in nodes {
+        write_storages_of(text, names, node)?;
     }
+    end_table(text)?;
+    text.push_str("</details>\n")
 }
 
-fn write_host(text: &mut String, names: &Names, node: NodeId) -> Result<(), AllocError> {
-    match names.host(node) {
-        Some(name) => write_escaped(text, name),
+fn write_storages_of(text: &mut String, names: &Names, node: &NodeRow) -> Result<(), AllocError> {
+    for row in node.storages.as_slice() {
+        text.push_str("<tr><td>")?;
+        write_host(text, names, node.node)?;
+        text.push_str("</td>")?;
+        write_storage(text, names, row)?;
+        text.push_str("</tr>\n")?;
+    }
+    Ok(())
+}
+
+/// The cells of a storage behind that of its node.
+fn write_storage(text: &mut String, names: &Names, row: &StorageRow) -> Result<(), AllocError> {
+    text.push_str("<td class=\"path\">")?;
+    match names.storage(row.storage) {
+        Some(name) => write_escaped(text, name)?,
         None => {
-            let number = node.0;
-            write!(text, "{number}")
+            let number = row.storage.0;
+            write!(text, "{number}")?;
         }
     }
+    text.push_str("</td>")?;
+    write_number_cell(text, row.replicas as u128)?;
+    let remaining = u128::from(row.remaining);
+    text.push_str("<td class=\"n\">")?;
+    write_bytes(text, row.bytes)?;
+    text.push_str("</td><td class=\"n\">")?;
+    write_bytes(text, remaining)?;
+    text.push_str("</td>")?;
+    write_share_cell(text, row.bytes, row.bytes.saturating_add(remaining), false)
 }
 
 /// The files at risk; nothing where no file is known.
@@ -210,7 +254,13 @@ fn write_files(
     if files.file_count() == 0 {
         return Ok(());
     }
-    write_file_table(text, "Lost files", files, most, standing.risk.lost.as_slice())?;
+    write_file_table(
+        text,
+        "Lost files",
+        files,
+        most,
+        standing.risk.lost.as_slice(),
+    )?;
     write_file_table(
         text,
         "Endangered files",
@@ -256,7 +306,11 @@ fn write_missing(
     most: usize,
     blocks: &[BlockId],
 ) -> Result<(), AllocError> {
-    begin_table(text, "Missing blocks", "<th class=\"n\">block</th><th>file</th>")?;
+    begin_table(
+        text,
+        "Missing blocks",
+        "<th class=\"n\">block</th><th>file</th>",
+    )?;
     for block in first_of(blocks, most) {
         text.push_str("<tr>")?;
         write_number_cell(text, u128::from(block.0))?;

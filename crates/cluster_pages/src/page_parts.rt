@@ -1,5 +1,7 @@
 // Cells and bars of a page.
 use crate::text_parts::thousandths;
+use bm_base::{NodeId, Rack};
+use cluster_names::Names;
 use std::alloc::AllocError;
 
 /// A text, with the five characters that HTML gives a meaning written by their names.
@@ -50,6 +52,28 @@ fn write_in_unit(text: &mut String, below: u128, unit: &str) -> Result<(), Alloc
     write!(text, "{whole}.{tenth} {unit}")
 }
 
+/// The name of a rack, or its number where it has none.
+pub fn write_rack(text: &mut String, names: &Names, rack: Rack) -> Result<(), AllocError> {
+    match names.rack(rack) {
+        Some(name) => write_escaped(text, name),
+        None => {
+            let number = rack.0;
+            write!(text, "{number}")
+        }
+    }
+}
+
+/// The name of a node, or its number where it has none.
+pub fn write_host(text: &mut String, names: &Names, node: NodeId) -> Result<(), AllocError> {
+    match names.host(node) {
+        Some(name) => write_escaped(text, name),
+        None => {
+            let number = node.0;
+            write!(text, "{number}")
+        }
+    }
+}
+
 /// A row with a count, its bytes, its part of the total in per cent, and that as a bar.
 pub fn write_amount_row(
     text: &mut String,
@@ -59,13 +83,19 @@ pub fn write_amount_row(
     total: u128,
     is_bad: bool,
 ) -> Result<(), AllocError> {
-    write!(text, "<tr><td>{what}</td><td class=\"n\">{count}</td><td class=\"n\">")?;
+    write!(
+        text,
+        "<tr><td>{what}</td><td class=\"n\">{count}</td><td class=\"n\">"
+    )?;
     write_bytes(text, bytes)?;
     text.push_str("</td>")?;
     let part = thousandths(count as u128, total);
     let whole = part / 10;
     let tenth = part % 10;
-    write!(text, "<td class=\"n\">{whole}.{tenth}%</td><td class=\"bar\">")?;
+    write!(
+        text,
+        "<td class=\"n\">{whole}.{tenth}%</td><td class=\"bar\">"
+    )?;
     write_bar(text, part, is_bad)?;
     text.push_str("</td></tr>\n")
 }
@@ -87,7 +117,7 @@ fn write_bar(text: &mut String, thousandths: u128, is_bad: bool) -> Result<(), A
     let class = if is_bad { "bad" } else { "part" };
     write!(
         text,
-        "<svg viewBox=\"0 0 1000 10\" preserveAspectRatio=\"none\" role=\"img\"><rect class=\"all\" \
+        "<svg viewBox=\"0 0 1000 10\" preserveAspectRatio=\"none\" aria-hidden=\"true\"><rect class=\"all\" \
          width=\"1000\" height=\"10\"/><rect class=\"{class}\" width=\"{thousandths}\" height=\"10\"/></svg>"
     )
 }

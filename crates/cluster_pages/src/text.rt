@@ -13,7 +13,8 @@ use cluster_report::report::Report;
 use cluster_report::text_parts::write_count;
 use std::alloc::{AllocError, Global};
 
-/// The text of a report: a line for each fact. Of each list of blocks or files at most so many are named.
+/// The text of a report: a line for each fact. Of each list of blocks or files at most so many are
+/// named.
 #[tactic(auto, unfolding(crate::specs::Text::report_text))]
 pub fn report_text(
     alloc: Global,

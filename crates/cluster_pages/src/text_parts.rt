@@ -77,12 +77,7 @@ pub fn write_nodes(
 
 /// A node, and then its storages.
 #[tactic(auto, unfolding(crate::specs::Text::node_text))]
-fn write_node(
-    text: &mut String,
-    names: &Names,
-    all: u128,
-    row: &NodeRow,
-) -> Result<(), AllocError>
+fn write_node(text: &mut String, names: &Names, all: u128, row: &NodeRow) -> Result<(), AllocError>
     ensures { OnOk result (string_bytes text.new ≡ string_bytes text.old
         ++ node_text names.now all row.now) }
 {
@@ -241,11 +236,7 @@ fn write_storage_line(
     )
 }
 
-pub fn write_missing(
-    text: &mut String,
-    files: &Files,
-    blocks: &[BlockId],
-) -> Result<(), AllocError>
+pub fn write_missing(text: &mut String, files: &Files, blocks: &[BlockId]) -> Result<(), AllocError>
     ensures { OnOk result (string_bytes text.new ≡ string_bytes text.old
         ++ flat_map (missing_line files.now) blocks.now) }
 {
@@ -276,11 +267,7 @@ fn write_end(text: &mut String, place: Option<(&str, u64)>) -> Result<(), AllocE
     }
 }
 
-pub fn write_urgent(
-    text: &mut String,
-    files: &Files,
-    blocks: &[Leveled],
-) -> Result<(), AllocError>
+pub fn write_urgent(text: &mut String, files: &Files, blocks: &[Leveled]) -> Result<(), AllocError>
     ensures { OnOk result (string_bytes text.new ≡ string_bytes text.old
         ++ flat_map (urgent_line files.now) blocks.now) }
 {
@@ -362,5 +349,8 @@ fn write_file_line(
 pub fn path_at(files: &Files, file: usize) -> &str
     ensures { result.now ≡ option_map_or (λ path. path) (slice_get files.now.paths file) [] }
 {
-    files.path(file).unwrap_or("")
+    match files.path(file) {
+        Some(path) => path,
+        None => "",
+    }
 }

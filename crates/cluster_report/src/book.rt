@@ -1,4 +1,5 @@
-// What the manager cannot be asked: its nodes and storages, the copies on their way, and the lengths of blocks.
+// What the manager cannot be asked: its nodes and storages, the copies on their way, and the
+// lengths of blocks.
 ghost use Rattle.std.specs.Prelude.{◌≡◌, IfOk, OnOk, OnErr, unwrap_or};
 ghost use Rattle.bm_base.specs.Map as map;
 ghost use Rattle.bm_base.specs.State.{Cluster, Holdings, empty_cluster};
@@ -60,8 +61,8 @@ impl Book {
         }
     }
 
-    /// The manager accepted an event. Its transfers cost a look at each copy that is on its way, where the event takes any away; the
-    /// rest at most a look at each node and each storage.
+    /// The manager accepted an event. Its transfers cost a look at each copy that is on its way,
+    /// where the event takes any away; the rest at most a look at each node and each storage.
     pub fn take_event(&mut self, event: &Event) -> Result<(), AllocError>
         requires { first_of (cluster_checks self.old.topology.cluster event.now) ≡ None }
         ensures cluster { OnOk result (self.new.topology.cluster

@@ -1,4 +1,5 @@
-// The stamp and the wanted replicas of each known block. The manager answers no question about them.
+// The stamp and the wanted replicas of each known block. The manager answers no question about
+// them.
 ghost use Rattle.std.specs.Prelude.{◌≡◌, ℕ, nat_eq, sum_by, Some, None, OnOk, if◌then◌else◌};
 ghost use Rattle.bm_base.specs.Map as map_of;
 ghost use Rattle.bm_base.specs.State.{Cluster, Holdings};

@@ -53,7 +53,8 @@ fn count_stray(replicas: &[Replica]) -> usize
     replicas.iter().filter(|replica| is_stray(replica)).count()
 }
 
-/// The bytes of the replicas of each tag but the stray ones, of which no length is known: a replica has the length of its block.
+/// The bytes of the replicas of each tag but the stray ones, of which no length is known: a replica
+/// has the length of its block.
 #[derive(Clone, Copy)]
 pub struct TagBytes {
     pub good: u128,
@@ -112,8 +113,9 @@ fn len_if(catalogue: &Catalogue, replica: &Replica, counts: bool) -> u64
     }
 }
 
-/// The numbers of the blocks of these replicas but the stray ones, of neighbours that are equal one. So of all replicas, which come by
-/// block, each known block that has a replica is there once, and they rise.
+/// The numbers of the blocks of these replicas but the stray ones, of neighbours that are equal
+/// one. So of all replicas, which come by block, each known block that has a replica is there once,
+/// and they rise.
 pub fn held_blocks(alloc: Global, replicas: &[Replica]) -> Result<Vec<u64>, AllocError>
     ensures { IfOk result (λ v. v.items ≡ blocks_held replicas.now) }
 {

@@ -68,7 +68,8 @@ fn level_in(manager: &Manager, block: BlockId) -> Option<Level>
     }
 }
 
-/// How many of these blocks are at each level, and beside them so many missing ones, in five looks at each. Takes no memory.
+/// How many of these blocks are at each level, and beside them so many missing ones, in five looks
+/// at each. Takes no memory.
 pub fn count_levels(levels: &[Leveled], missing: usize) -> LevelCounts
     ensures { result ≡ levels_counted levels.now missing }
 {
@@ -166,7 +167,8 @@ fn is_at(found: Option<Level>, urgency: Level) -> bool
     }
 }
 
-/// Those of these blocks that want a copy and have one to copy from, by level and then in their order.
+/// Those of these blocks that want a copy and have one to copy from, by level and then in their
+/// order.
 pub fn urgent_first(alloc: Global, levels: &[Leveled]) -> Result<Vec<Leveled>, AllocError>
     ensures { IfOk result (λ v. v.items ≡ urgent_first levels.now) }
 {

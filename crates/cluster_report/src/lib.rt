@@ -1,7 +1,8 @@
-//! How a cluster stands after calls: a manager, a book of what it cannot be asked, the lines of an input that ask for calls, and what is
-//! counted at the end.
+//! How a cluster stands after calls: a manager, a book of what it cannot be asked, the lines of an
+//! input that ask for calls, and what is counted at the end.
 //!
-//! A line that asks for no call, or whose call is refused, is noted with its number, and the others are taken.
+//! A line that asks for no call, or whose call is refused, is noted with its number, and the others
+//! are taken.
 #![tactic(auto)]
 
 pub mod book;

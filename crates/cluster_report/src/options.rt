@@ -75,7 +75,8 @@ pub fn config_from(matches: &ArgMatches<'_>) -> Config {
     }
 }
 
-/// The number that was found for an option; `standard` where none was found, which a default value rules out.
+/// The number that was found for an option; `standard` where none was found, which a default value
+/// rules out.
 fn number_in(matches: &ArgMatches<'_>, name: &str, standard: u32) -> u32 {
     matches.get_one::<u32>(name).unwrap_or(standard)
 }
