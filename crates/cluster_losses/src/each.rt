@@ -225,12 +225,7 @@ fn write_row(
 }
 
 /// The name of a row.
-fn name_of(
-    alloc: Global,
-    loaded: &Loaded,
-    kind: Kind,
-    number: u32,
-) -> Result<String, AllocError> {
+fn name_of(alloc: Global, loaded: &Loaded, kind: Kind, number: u32) -> Result<String, AllocError> {
     let mut name = String::new(alloc);
     match kind {
         Kind::Rack => write_rack(&mut name, &loaded.names, Rack(number))?,

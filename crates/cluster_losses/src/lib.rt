@@ -42,7 +42,7 @@ use cluster_input::options::files_of;
 use cluster_input::sources::load;
 use cluster_progress::Progress;
 use cluster_repair::reasons::unmended_of;
-use cluster_repair::repair::{Pace, repair};
+use cluster_repair::repair::{Pace, repair_cluster};
 use each::{nodes_of, racks_of, table_of};
 use fault::Fault;
 use losing::Lost;
@@ -184,15 +184,15 @@ fn losses_text<R: Eprint + Threads + Wait + Sync>(
     };
     let drained = lost.drained.as_slice();
     if asked.is_picture {
-        return repair_picture(rt, alloc, loaded, pace, drained, progress);
+        return picture_for(rt, alloc, loaded, pace, drained, progress);
     }
-    let repair = repair_text(rt, alloc, loaded, pace, drained, asked.most, progress)?;
+    let repair = lines_for(rt, alloc, loaded, pace, drained, asked.most, progress)?;
     text.push_str(repair.as_str())?;
     Ok(text)
 }
 
 /// What is copied again, as lines.
-fn repair_text<R: Eprint + Threads + Wait + Sync>(
+fn lines_for<R: Eprint + Threads + Wait + Sync>(
     rt: &R,
     alloc: Global,
     loaded: &mut Loaded,
@@ -201,7 +201,7 @@ fn repair_text<R: Eprint + Threads + Wait + Sync>(
     most: usize,
     progress: &mut Progress,
 ) -> Result<String, Fault> {
-    let done = repair(rt, alloc, &mut loaded.session, pace, drained, progress)?;
+    let done = repair_cluster(rt, alloc, &mut loaded.session, pace, drained, progress)?;
     let free = &done.datanodes.free;
     let unmended = unmended_of(alloc, &loaded.session, free, done.watch.blocks.as_slice())?;
     let mut text = String::new(alloc);
@@ -210,7 +210,7 @@ fn repair_text<R: Eprint + Threads + Wait + Sync>(
 }
 
 /// What is copied again, as a picture.
-fn repair_picture<R: Eprint + Threads + Wait + Sync>(
+fn picture_for<R: Eprint + Threads + Wait + Sync>(
     rt: &R,
     alloc: Global,
     loaded: &mut Loaded,
@@ -218,6 +218,6 @@ fn repair_picture<R: Eprint + Threads + Wait + Sync>(
     drained: &[NodeId],
     progress: &mut Progress,
 ) -> Result<String, Fault> {
-    let done = repair(rt, alloc, &mut loaded.session, pace, drained, progress)?;
+    let done = repair_cluster(rt, alloc, &mut loaded.session, pace, drained, progress)?;
     Ok(picture_of(alloc, pace, done.rows.rows.as_slice())?)
 }

@@ -94,8 +94,9 @@ fn with_losses<'a>(alloc: Global, command: Command<'a>) -> Result<Command<'a>, A
     let lose = several(alloc, "lose", "WHAT").help(
         "rack:NAME, node:HOST, storage:ID, each-rack or each-node, the last two alone",
     );
-    let drain = several(alloc, "drain", "HOST")
-        .help("a node that is to be taken away; may be given several times");
+    let drain = several(alloc, "drain", "HOST").help(
+        "a node that is to be taken away; may be given several times",
+    );
     let all = flag(alloc, "all").help("names all lost files and blocks, not the first ten");
     let command = with(command, lose)?;
     let command = with(command, drain)?;
@@ -109,8 +110,9 @@ fn with_repair<'a>(alloc: Global, command: Command<'a>) -> Result<Command<'a>, A
     let bandwidth = number(alloc, "bandwidth", "50", 100_000).help(
         "with --mend: megabytes a second that a node sends, and receives, 1 to 100,000",
     );
-    let interval = number(alloc, "interval", "3", 3_600)
-        .help("with --mend: seconds from round to round, 1 to 3,600");
+    let interval = number(alloc, "interval", "3", 3_600).help(
+        "with --mend: seconds from round to round, 1 to 3,600",
+    );
     let command = with(command, mend)?;
     let command = with(command, svg)?;
     let command = with(command, bandwidth)?;
@@ -118,8 +120,9 @@ fn with_repair<'a>(alloc: Global, command: Command<'a>) -> Result<Command<'a>, A
 }
 
 fn program<'a>(alloc: Global) -> Command<'a> {
-    Command::new(alloc, "what-if")
-        .about("Prints what is lost with racks, nodes and storages of a cluster")
+    Command::new(alloc, "what-if").about(
+        "Prints what is lost with racks, nodes and storages of a cluster",
+    )
 }
 
 /// An option that may occur several times.
@@ -135,12 +138,7 @@ fn flag<'a>(alloc: Global, name: &'a str) -> Arg<'a> {
 }
 
 /// An option with a whole number from 1 to `most`.
-fn number<'a>(
-    alloc: Global,
-    name: &'a str,
-    standard: &'a str,
-    most: u32,
-) -> Arg<'a> {
+fn number<'a>(alloc: Global, name: &'a str, standard: &'a str, most: u32) -> Arg<'a> {
     new_arg(alloc, name)
         .action(ArgAction::Set)
         .long(name)

@@ -27,7 +27,10 @@ pub fn write_repair(
     let interval = pace.interval;
     let bandwidth = pace.bandwidth;
     write!(text, "model: a round every {interval} s; ")?;
-    writeln!(text, "each node sends and receives {bandwidth} bytes a second")?;
+    writeln!(
+        text,
+        "each node sends and receives {bandwidth} bytes a second"
+    )?;
     write_table(text, pace, repair.rows.rows.as_slice())?;
     write_count(text, "rounds", u128::from(repair.rounds))?;
     let left = repair.datanodes.on_way.len();

@@ -1,5 +1,5 @@
 -- How calls lead from one state to another, and rows that came on the way.
-use Rattle.std.proofs.Common.{◌≡◌, ◌∙◌, ◌++◌, List, [], ◌∷◌, ◌×◌, Option, None, refl, sym, ap}
+use Rattle.std.proofs.Common.{◌≡◌, ◌∙◌, ◌++◌, ℕ, List, [], ◌∷◌, ◌×◌, Option, None, refl, sym, ap}
 use Rattle.std.specs.List.{All, filter}
 use Rattle.std.proofs.lemmas.List.Elements.{All-nil, All-push, All-filter}
 use Rattle.bm_base.specs.declared.event.Event.{Event}
@@ -52,7 +52,7 @@ no_rows M = All-nil (IsRowAfter M)
 pub rows_and : (M : State) (rows : List Row) (row : Row) → All (IsRowAfter M) rows → IsRowAfter M row → All (IsRowAfter M) (rows ++ row ∷ [])
 rows_and M rows row all one = All-push (IsRowAfter M) rows row all one
 
-pub rows_among : (M : State) (rows : List Row) (stride : _) → All (IsRowAfter M) rows → All (IsRowAfter M) (filter (λ r. is_on_stride r.round stride) rows)
+pub rows_among : (M : State) (rows : List Row) (stride : ℕ) → All (IsRowAfter M) rows → All (IsRowAfter M) (filter (λ r. is_on_stride r.round stride) rows)
 rows_among M rows stride all = All-filter (λ r. is_on_stride r.round stride) (IsRowAfter M) rows all
 
 pub unmended_and : (M : State) (us : List Unmended) (u : Unmended) → All (HasItsLevel M) us → HasItsLevel M u → All (HasItsLevel M) (us ++ u ∷ [])

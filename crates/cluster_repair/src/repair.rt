@@ -67,7 +67,7 @@ struct Facts<'a> {
 /// Takes rounds until nothing is on its way and a round commands nothing. Copies that were commanded
 /// before never come: the manager gives them up.
 #[tactic(auto, using(crate::proofs::Reach::reached_at_once, crate::proofs::Reach::no_rows))]
-pub fn repair<R: Eprint + Threads + Wait + Sync>(
+pub fn repair_cluster<R: Eprint + Threads + Wait + Sync>(
     rt: &R,
     alloc: Global,
     session: &mut Session,
