@@ -2,7 +2,7 @@
 use cluster_repair::repair::Pace;
 use cluster_repair::rows::Row;
 use cluster_simulation::counts::Counts;
-use cluster_simulation::picture_text;
+use cluster_simulation::svg::picture_text;
 use std::alloc::{AllocError, Global};
 
 /// The picture of these rows.

@@ -60,7 +60,6 @@ use std::io;
 use std::io::Write;
 use std::sync::Wait;
 use std::thread::Threads;
-pub use svg::picture_text;
 use svg::svg_text;
 
 const DONE: u8 = 0;
