@@ -68,16 +68,20 @@ fn write_table(text: &mut String, pace: Pace, rows: &[Row]) -> Result<(), AllocE
     Ok(())
 }
 
-/// The least power of two by which at most `MOST_ROWS` rows come before the last.
+/// The least power of two by which at most `MOST_ROWS` rows come before the last; at most 8.
 fn step_for(rows: usize) -> usize
     ensures { 0 < result }
 {
-    for step in [1usize, 2, 4, 8] {
-        if rows.saturating_sub(1).div_ceil(step) <= MOST_ROWS {
-            return step;
-        }
+    let others = rows.saturating_sub(1);
+    if others <= MOST_ROWS {
+        1
+    } else if others <= 2 * MOST_ROWS {
+        2
+    } else if others <= 4 * MOST_ROWS {
+        4
+    } else {
+        8
     }
-    16
 }
 
 fn write_row(text: &mut String, pace: Pace, row: &Row) -> Result<(), AllocError> {
