@@ -2,6 +2,7 @@
 ghost use Rattle.std.specs.Prelude.{◌≡◌, ℕ, ◌+◌, ◌-◌, min, nat_eq, OnOk, if◌then◌else◌};
 ghost use Rattle.cluster_repair.specs.Sending.{most, free_on};
 
+use crate::numbers::put;
 use bm_base::{Event, Items, NodeId, Remaining, StorageId};
 use bm_topo::Topology;
 use cluster_report::nodes::{all_nodes, all_storages};
@@ -32,9 +33,7 @@ impl FreeBytes {
         let mut free = HashMap::new(alloc);
         for storage in &storages {
             let remaining = topology.remaining(*storage).unwrap_or(0);
-            if free.insert(storage.0, remaining).is_err() {
-                return Err(AllocError);
-            }
+            put(&mut free, storage.0, remaining)?;
         }
         Ok(FreeBytes {
             storages,
@@ -67,14 +66,12 @@ impl FreeBytes {
         self.put(storage, left)
     }
 
+    #[tactic(auto, using(crate::proofs::Numbers::number_put))]
     fn put(&mut self, storage: StorageId, bytes: u64) -> Result<(), AllocError>
         ensures { OnOk result ((s : ℕ) → free_on self.new s
             ≡ (if nat_eq storage s then bytes else free_on self.old s)) }
     {
-        match self.free.insert(storage.0, bytes) {
-            Ok(_) => Ok(()),
-            Err(_) => Err(AllocError),
-        }
+        put(&mut self.free, storage.0, bytes)
     }
 
     /// What a node reports.

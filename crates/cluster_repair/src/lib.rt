@@ -10,6 +10,7 @@
 pub mod datanodes;
 pub mod free;
 pub mod links;
+mod numbers;
 pub mod on_way;
 pub mod reasons;
 pub mod repair;

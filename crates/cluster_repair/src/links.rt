@@ -1,8 +1,8 @@
 // When copies arrive: a model. Each node sends one copy at a time and receives one at a time.
-ghost use Rattle.std.specs.Prelude.{◌≡◌, ℕ, nat_eq, Some, IfOk, OnOk, if◌then◌else◌};
-ghost use Rattle.std.specs.HashMap.{get};
+ghost use Rattle.std.specs.Prelude.{◌≡◌, ℕ, nat_eq, IfOk, if◌then◌else◌};
 ghost use Rattle.cluster_repair.specs.Sending.{micros_for, sends_until, receives_until, arrival};
 
+use crate::numbers::put;
 use bm_base::NodeId;
 use std::alloc::{AllocError, Global};
 use std::collections::HashMap;
@@ -30,6 +30,7 @@ impl Links {
 
     /// When a copy arrives that is commanded now: it starts once its source sends no other copy and
     /// its target receives none.
+    #[tactic(auto, using(crate::proofs::Numbers::number_put))]
     pub fn send(
         &mut self,
         source: NodeId,
@@ -48,8 +49,8 @@ impl Links {
         let receives_until = self.receives_until(target);
         let start = now.max(sends_until).max(receives_until);
         let end = start.saturating_add(micros_for(self.bandwidth, bytes));
-        put(&mut self.sending, source, end)?;
-        put(&mut self.receiving, target, end)?;
+        put(&mut self.sending, source.0, end)?;
+        put(&mut self.receiving, target.0, end)?;
         Ok(end)
     }
 
@@ -66,20 +67,10 @@ impl Links {
     }
 }
 
-fn put(times: &mut HashMap<u32, u64>, node: NodeId, time: u64) -> Result<(), AllocError>
-    ensures { OnOk result ((n : ℕ) → get nat_eq times.new n
-        ≡ (if nat_eq node n then Some time else get nat_eq times.old n)) }
-{
-    match times.insert(node.0, time) {
-        Ok(_) => Ok(()),
-        Err(_) => Err(AllocError),
-    }
-}
-
 /// How long this number of bytes takes, rounded up.
 fn micros_for(bandwidth: u64, bytes: u64) -> u64
     ensures { result ≡ micros_for bandwidth bytes }
 {
     let micros = (u128::from(bytes) * 1_000_000).div_ceil(u128::from(bandwidth.max(1)));
-    u64::try_from(micros).unwrap_or(u64::MAX)
+    micros.min(u128::from(u64::MAX)) as u64
 }

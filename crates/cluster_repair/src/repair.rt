@@ -66,7 +66,7 @@ struct Facts<'a> {
 
 /// Takes rounds until nothing is on its way and a round commands nothing. Copies that were commanded
 /// before never come: the manager gives them up.
-#[tactic(auto, using(crate::proofs::Reach::reached_at_once, crate::proofs::Reach::no_rows))]
+#[tactic(auto, using(crate::proofs::Reach::reached_on_way, crate::proofs::Reach::rows_on_way))]
 pub fn repair_cluster<R: Eprint + Threads + Wait + Sync>(
     rt: &R,
     alloc: Global,
@@ -146,7 +146,7 @@ impl Repair {
 
     /// One round: DataNodes report what they have done and what is free, and the manager commands.
     /// Whether there is more to come.
-    #[tactic(auto, using(crate::proofs::Reach::reached_by_round, crate::proofs::Reach::reached_on))]
+    #[tactic(auto, using(crate::proofs::Reach::goes_by_round))]
     fn take_round<H: Threads + Wait + Sync>(
         &mut self,
         rt: &H,
@@ -171,6 +171,7 @@ impl Repair {
     }
 
     /// Adds the row of a round, if it has one.
+    #[tactic(auto, using(crate::proofs::Reach::row_noted))]
     fn note_row(
         &mut self,
         alloc: Global,

@@ -39,6 +39,7 @@ impl Watch {
     }
 
     /// Counts the blocks at each level, by a question for each, and forgets those that have none.
+    #[tactic(auto, using(crate::proofs::Reach::counted_by))]
     pub fn count(&mut self, alloc: Global, manager: &Manager) -> Result<LevelCounts, Refusal>
         ensures { IfOk result (AreCounts manager.now) }
     {
