@@ -66,7 +66,7 @@ impl FreeBytes {
         self.put(storage, left)
     }
 
-    #[tactic(auto, using(crate::proofs::Numbers::number_put))]
+    #[tactic(auto, using(crate::proofs::NumberLemmas::number_put))]
     fn put(&mut self, storage: StorageId, bytes: u64) -> Result<(), AllocError>
         ensures { OnOk result ((s : ℕ) → free_on self.new s
             ≡ (if nat_eq storage s then bytes else free_on self.old s)) }

@@ -30,7 +30,7 @@ impl Links {
 
     /// When a copy arrives that is commanded now: it starts once its source sends no other copy and
     /// its target receives none.
-    #[tactic(auto, using(crate::proofs::Numbers::number_put))]
+    #[tactic(auto, using(crate::proofs::NumberLemmas::number_put))]
     pub fn send(
         &mut self,
         source: NodeId,
