@@ -1,7 +1,8 @@
 -- How calls lead from one state to another, and rows that came on the way.
-use Rattle.std.proofs.Common.{◌≡◌, ◌∙◌, ◌++◌, ℕ, List, [], ◌∷◌, ◌×◌, Option, None, refl, sym, ap, subst, map, length}
-use Rattle.std.specs.List.{All, filter}
-use Rattle.std.proofs.lemmas.List.Elements.{All-nil, All-push, All-filter}
+use Rattle.std.proofs.Common.{◌≡◌, ◌∙◌, ◌++◌, ℕ, List, [], ◌∷◌, Option, Some, None, refl, sym, ap, subst, map, length}
+use Rattle.std.specs.List.{filter}
+use Rattle.bm_base.specs.Levels.{level}
+use Rattle.std.proofs.lemmas.List.Elements.{All-nil, All-same, All-push, All-filter}
 use Rattle.bm_base.specs.declared.event.Event.{Event}
 use Rattle.bm_base.specs.declared.refusal.Refusal.{Refusal}
 use Rattle.bm_base.specs.declared.call.Call.{Call}
@@ -17,7 +18,7 @@ use Rattle.cluster_report.specs.declared.levels.Leveled.{Leveled}
 use Rattle.cluster_report.specs.declared.levels.LevelCounts.{LevelCounts}
 use Rattle.cluster_repair.specs.declared.rows.Row.{Row}
 use Rattle.cluster_repair.specs.declared.reasons.Unmended.{Unmended}
-use Rattle.cluster_repair.specs.Rows.{IsReached, AreCounts, IsRowAfter, GoesOn, HasItsLevel, is_on_stride}
+use Rattle.cluster_repair.specs.Rows.{IsReached, AreCounts, IsRowAfter, AreRowsAfter, GoesOn, HaveTheirLevels, is_on_stride}
 
 state_after-append : (M : State) (calls more : List Call) → state_after M (calls ++ more) ≡ state_after (state_after M calls) more
 state_after-append M [] more = refl
@@ -50,17 +51,26 @@ reached_by_round M N accepted after = record {
 pub reached_event : (L M N : State) (e : Event) → IsReached L M → refusal_of M e ≡ None → N ≡ after_event M e → IsReached L N
 reached_event L M N e first accepted after = reached_on L M N first (reached_by_event M N e accepted after)
 
-pub no_rows : (M : State) → All (IsRowAfter M) []
-no_rows M = All-nil (IsRowAfter M)
+pub no_rows : (M : State) → AreRowsAfter M []
+no_rows M = record { all = All-nil (IsRowAfter M) }
 
-pub rows_and : (M : State) (rows : List Row) (row : Row) → All (IsRowAfter M) rows → IsRowAfter M row → All (IsRowAfter M) (rows ++ row ∷ [])
-rows_and M rows row all one = All-push (IsRowAfter M) rows row all one
+pub rows_and : (M : State) (rows new : List Row) (row : Row) → new ≡ rows ++ row ∷ [] → AreRowsAfter M rows → IsRowAfter M row → AreRowsAfter M new
+rows_and M rows new row is before one = record { all = All-same (IsRowAfter M) new _ is (All-push (IsRowAfter M) rows row before.all one) }
 
-pub rows_among : (M : State) (rows : List Row) (stride : ℕ) → All (IsRowAfter M) rows → All (IsRowAfter M) (filter (λ r. is_on_stride r.round stride) rows)
-rows_among M rows stride all = All-filter (λ r. is_on_stride r.round stride) (IsRowAfter M) rows all
+pub rows_among : (M : State) (rows new : List Row) (stride : ℕ) → new ≡ filter (λ r. is_on_stride r.round stride) rows → AreRowsAfter M rows
+    → AreRowsAfter M new
+rows_among M rows new stride is before = record {
+  all = All-same (IsRowAfter M) new _ is (All-filter (λ r. is_on_stride r.round stride) (IsRowAfter M) rows before.all);
+}
 
-pub unmended_and : (M : State) (us : List Unmended) (u : Unmended) → All (HasItsLevel M) us → HasItsLevel M u → All (HasItsLevel M) (us ++ u ∷ [])
-unmended_and M us u all one = All-push (HasItsLevel M) us u all one
+pub none_unmended : (M : State) (us : List Unmended) → us ≡ [] → HaveTheirLevels M us
+none_unmended M us is = record { all = All-same (λ u. level M.cluster M.holdings u.block ≡ Some u.level) us [] is (All-nil (λ u. level M.cluster M.holdings u.block ≡ Some u.level)) }
+
+pub unmended_and : (M : State) (us new : List Unmended) (u : Unmended) → new ≡ us ++ u ∷ [] → HaveTheirLevels M us
+    → level M.cluster M.holdings u.block ≡ Some u.level → HaveTheirLevels M new
+unmended_and M us new u is before one = record {
+  all = All-same (λ u. level M.cluster M.holdings u.block ≡ Some u.level) new _ is (All-push (λ u. level M.cluster M.holdings u.block ≡ Some u.level) us u before.all one);
+}
 
 pub goes_on_at_once : (M : State) (rows : List Row) → GoesOn M M rows rows
 goes_on_at_once M rows = record {
@@ -76,7 +86,7 @@ goes_on L M N old mid new first second = record {
 
 -- the way of rounds that goes on by calls, a round, and a row
 pub goes_by_round : (L M N : State) (old new : List Row) → IsReached L M → round_refusal M ≡ None → N ≡ counted (whole_round M).1
-    → ((A : State) → IsReached A N → All (IsRowAfter A) old → All (IsRowAfter A) new) → GoesOn L N old new
+    → ((A : State) → IsReached A N → AreRowsAfter A old → AreRowsAfter A new) → GoesOn L N old new
 goes_by_round L M N old new first accepted after noted = record {
   reached = reached_on L M N first (reached_by_round M N accepted after);
   rows = λ A a all. noted A (reached_on A L N a (reached_on L M N first (reached_by_round M N accepted after))) all;
@@ -85,11 +95,11 @@ goes_by_round L M N old new first accepted after noted = record {
 pub reached_on_way : (M N : State) (old new : List Row) → GoesOn M N old new → IsReached M N
 reached_on_way M N old new on = on.reached
 
-pub rows_on_way : (M N : State) (old new : List Row) → GoesOn M N old new → old ≡ [] → All (IsRowAfter M) new
-rows_on_way M N old new on none = on.rows M (reached_at_once M) (subst (λ rows. All (IsRowAfter M) rows) (sym none) (no_rows M))
+pub rows_on_way : (M N : State) (old new : List Row) → GoesOn M N old new → old ≡ [] → AreRowsAfter M new
+rows_on_way M N old new on none = on.rows M (reached_at_once M) (subst (λ rows. AreRowsAfter M rows) (sym none) (no_rows M))
 
 pub row_noted : (M N : State) (old new : List Row) (row : Row) → AreCounts N row.levels
-    → ((A : State) → All (IsRowAfter A) old → IsRowAfter A row → All (IsRowAfter A) new) → IsReached M N → All (IsRowAfter M) old → All (IsRowAfter M) new
+    → ((A : State) → AreRowsAfter A old → IsRowAfter A row → AreRowsAfter A new) → IsReached M N → AreRowsAfter M old → AreRowsAfter M new
 row_noted M N old new row counts noted reached all = noted M all (record { state = N; reached = reached; counts = counts })
 
 pub counted_by : (M : State) (blocks missing : List ℕ) (levels : List Leveled) (c : LevelCounts) → levels ≡ map (leveled M.cluster M.holdings) blocks

@@ -27,14 +27,18 @@ pub record IsRowAfter (M : State) (row : Row) : Type 0 where
   pub reached : IsReached M state
   pub counts : AreCounts state row.levels
 
+-- each of these rows has it after some calls from one state
+pub record AreRowsAfter (M : State) (rows : List Row) : Type 0 where
+  pub all : All (IsRowAfter M) rows
+
 -- Some calls lead from one state to another, and the rows that came are what the manager answered on the way.
 pub record GoesOn (M N : State) (old new : List Row) : Type 0 where
   pub reached : IsReached M N
-  pub rows : (A : State) → IsReached A M → All (IsRowAfter A) old → All (IsRowAfter A) new
+  pub rows : (A : State) → IsReached A M → AreRowsAfter A old → AreRowsAfter A new
 
--- a block has the level that the manager answers
-abbrev pub HasItsLevel : State → Unmended → Type 0
-HasItsLevel M u = level M.cluster M.holdings u.block ≡ Some u.level
+-- each of these blocks has the level that the manager answers
+pub record HaveTheirLevels (M : State) (us : List Unmended) : Type 0 where
+  pub all : All (λ u. level M.cluster M.holdings u.block ≡ Some u.level) us
 
 -- whether a round is one of 1, 1 + stride and so on
 abbrev pub is_on_stride : ℕ → ℕ → Bool

@@ -67,7 +67,8 @@ impl DataNodes {
         report_copies(rt, alloc, manager, &mut self.on_way, now)?;
         report_deletes(rt, manager, self.deletes.as_slice())?;
         self.free_deleted(blocks)?;
-        report_free(rt, alloc, manager, &self.free)
+        report_free(rt, alloc, manager, &self.free)?;
+        Ok(())
     }
 
     /// The bytes of deleted replicas are free again.

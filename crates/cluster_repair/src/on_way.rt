@@ -67,11 +67,15 @@ impl OnWay {
     {
         let mut due = due_by(alloc, self.sent.as_slice(), now)?;
         due.sort_by_key(|sent| (sent.arrival, sent.order))?;
-        for sent in &due {
-            let _ = self.places.remove(&place_of(&sent.transfer));
-        }
+        forget(&mut self.places, due.as_slice());
         self.sent = left_by(alloc, self.sent.as_slice(), now)?;
         Ok(due)
+    }
+}
+
+fn forget(places: &mut HashSet<(u64, u32)>, sent: &[Sent]) {
+    for one in sent {
+        let _ = places.remove(&place_of(&one.transfer));
     }
 }
 

@@ -1,7 +1,6 @@
 // Why blocks stay as they are.
-ghost use Rattle.std.specs.Prelude.{IfOk};
-ghost use Rattle.std.specs.List.{All};
-ghost use Rattle.cluster_repair.specs.Rows.{HasItsLevel};
+ghost use Rattle.std.specs.Prelude.{IfOk, OnOk};
+ghost use Rattle.cluster_repair.specs.Rows.{HaveTheirLevels};
 
 use crate::free::FreeBytes;
 use bm_base::{BlockId, Level, NodeId, Rack, Refusal, Replica, StorageId};
@@ -30,29 +29,51 @@ pub struct Unmended {
 }
 
 /// Of each of these blocks that has a level, why it stays as it is.
-#[tactic(auto, using(crate::proofs::Reach::unmended_and))]
+#[tactic(auto, using(crate::proofs::Reach::none_unmended))]
 pub fn unmended_of(
     alloc: Global,
     session: &Session,
     free: &FreeBytes,
     blocks: &[u64],
 ) -> Result<Vec<Unmended>, Refusal>
-    ensures { IfOk result (λ v. All (HasItsLevel session.now.manager) v.items) }
+    ensures { IfOk result (λ v. HaveTheirLevels session.now.manager v.items) }
 {
     let replicas = session.manager.replicas()?;
     let mut found = Vec::new(alloc);
     for number in blocks {
-        let block = BlockId(*number);
-        if let Some(level) = session.manager.level(block)? {
-            let reason = reason_of(session, free, replicas.as_slice(), block, level);
-            found.push(Unmended {
-                block,
-                level,
-                reason,
-            })?;
-        }
+        add_unmended(
+            &mut found,
+            session,
+            free,
+            replicas.as_slice(),
+            BlockId(*number),
+        )?;
     }
     Ok(found)
+}
+
+/// Adds a block, if it has a level.
+#[tactic(auto, using(crate::proofs::Reach::unmended_and))]
+fn add_unmended(
+    found: &mut Vec<Unmended>,
+    session: &Session,
+    free: &FreeBytes,
+    replicas: &[Replica],
+    block: BlockId,
+) -> Result<(), Refusal>
+    requires { HaveTheirLevels session.now.manager found.old.items }
+    ensures { OnOk result (HaveTheirLevels session.now.manager found.new.items) }
+{
+    let Some(level) = session.manager.level(block)? else {
+        return Ok(());
+    };
+    let reason = reason_of(session, free, replicas, block, level);
+    found.push(Unmended {
+        block,
+        level,
+        reason,
+    })?;
+    Ok(())
 }
 
 fn reason_of(

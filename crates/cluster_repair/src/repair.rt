@@ -1,8 +1,7 @@
 // Rounds until nothing more is copied.
 ghost use Rattle.std.specs.Prelude.{◌≡◌, [], IfOk, OnOk};
-ghost use Rattle.std.specs.List.{All};
 ghost use Rattle.bm_base.specs.State.{State};
-ghost use Rattle.cluster_repair.specs.Rows.{IsReached, IsRowAfter, GoesOn};
+ghost use Rattle.cluster_repair.specs.Rows.{IsReached, AreRowsAfter, GoesOn};
 
 use crate::datanodes::DataNodes;
 use crate::links::MICROS;
@@ -66,7 +65,7 @@ struct Facts<'a> {
 
 /// Takes rounds until nothing is on its way and a round commands nothing. Copies that were commanded
 /// before never come: the manager gives them up.
-#[tactic(auto, using(crate::proofs::Reach::reached_on_way, crate::proofs::Reach::rows_on_way))]
+#[tactic(auto, using(crate::proofs::Reach::reached_on_way))]
 pub fn repair_cluster<R: Eprint + Threads + Wait + Sync>(
     rt: &R,
     alloc: Global,
@@ -77,7 +76,7 @@ pub fn repair_cluster<R: Eprint + Threads + Wait + Sync>(
 ) -> Result<Repair, Refusal>
     ensures state { OnOk result (IsReached session.old.manager session.new.manager) }
     ensures rows { IfOk result (λ r.
-        All (IsRowAfter session.old.manager) r.rows.rows.items) }
+        AreRowsAfter session.old.manager r.rows.rows.items) }
 {
     let mut repair = Repair::new(alloc, session, pace, drained)?;
     let book = &session.book;
@@ -180,8 +179,8 @@ impl Repair {
         goes_on: bool,
     ) -> Result<(), Refusal>
         ensures { OnOk result ((M : State) → IsReached M manager.now
-            → All (IsRowAfter M) self.old.rows.rows.items
-            → All (IsRowAfter M) self.new.rows.rows.items) }
+            → AreRowsAfter M self.old.rows.rows.items
+            → AreRowsAfter M self.new.rows.rows.items) }
     {
         let is_last = !goes_on || self.rounds == MOST_ROUNDS;
         if !is_last && !self.rows.is_due(self.rounds) {

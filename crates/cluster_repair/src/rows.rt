@@ -1,8 +1,7 @@
 // What rounds leave: a row for every round, or for every second, fourth and so on of many.
 ghost use Rattle.std.specs.Prelude.{◌≡◌, [], filter, IfOk, OnOk};
-ghost use Rattle.std.specs.List.{All};
 ghost use Rattle.bm_base.specs.State.{State};
-ghost use Rattle.cluster_repair.specs.Rows.{IsRowAfter, is_on_stride};
+ghost use Rattle.cluster_repair.specs.Rows.{IsRowAfter, AreRowsAfter, is_on_stride};
 
 use cluster_report::levels::LevelCounts;
 use std::alloc::{AllocError, Global};
@@ -48,8 +47,8 @@ impl Rows {
     /// Adds the row of a round.
     #[tactic(auto, using(crate::proofs::Reach::rows_and))]
     pub fn push(&mut self, alloc: Global, row: Row) -> Result<(), AllocError>
-        ensures { OnOk result ((M : State) → All (IsRowAfter M) self.old.rows.items
-            → IsRowAfter M row → All (IsRowAfter M) self.new.rows.items) }
+        ensures { OnOk result ((M : State) → AreRowsAfter M self.old.rows.items
+            → IsRowAfter M row → AreRowsAfter M self.new.rows.items) }
     {
         if self.rows.len() >= MOST_KEPT {
             self.thin(alloc)?;
@@ -61,8 +60,8 @@ impl Rows {
     /// Drops every second row.
     #[tactic(auto, using(crate::proofs::Reach::rows_among))]
     fn thin(&mut self, alloc: Global) -> Result<(), AllocError>
-        ensures { OnOk result ((M : State) → All (IsRowAfter M) self.old.rows.items
-            → All (IsRowAfter M) self.new.rows.items) }
+        ensures { OnOk result ((M : State) → AreRowsAfter M self.old.rows.items
+            → AreRowsAfter M self.new.rows.items) }
     {
         let stride = self.stride.saturating_mul(2);
         self.rows = rows_on(alloc, self.rows.as_slice(), stride)?;
