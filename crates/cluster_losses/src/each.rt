@@ -105,6 +105,7 @@ pub fn table_of<H: Threads + Wait + Sync>(
 }
 
 /// Loses one of them.
+#[tactic(auto, using(crate::proofs::Outcomes::outcome_of, crate::proofs::Outcomes::lost_files_of))]
 fn row_of<H: Threads + Wait + Sync>(
     rt: &H,
     alloc: Global,
