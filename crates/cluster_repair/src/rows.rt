@@ -50,10 +50,20 @@ impl Rows {
         ensures { OnOk result ((M : State) → AreRowsAfter M self.old.rows.items
             → IsRowAfter M row → AreRowsAfter M self.new.rows.items) }
     {
-        if self.rows.len() >= MOST_KEPT {
-            self.thin(alloc)?;
-        }
+        self.make_room(alloc)?;
         self.rows.push(row)?;
+        Ok(())
+    }
+
+    /// Drops every second row if there are too many for one more.
+    fn make_room(&mut self, alloc: Global) -> Result<(), AllocError>
+        ensures { OnOk result ((M : State) → AreRowsAfter M self.old.rows.items
+            → AreRowsAfter M self.new.rows.items) }
+    {
+        if self.rows.len() < MOST_KEPT {
+            return Ok(());
+        }
+        self.thin(alloc)?;
         Ok(())
     }
 
