@@ -45,7 +45,6 @@ impl Rows {
     }
 
     /// Adds the row of a round.
-    #[tactic(auto, using(crate::proofs::Reach::rows_and))]
     pub fn push(&mut self, alloc: Global, row: Row) -> Result<(), AllocError>
         ensures { OnOk result ((M : State) → AreRowsAfter M self.old.rows.items
             → IsRowAfter M row → AreRowsAfter M self.new.rows.items) }

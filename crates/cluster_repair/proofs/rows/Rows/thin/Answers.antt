@@ -1,4 +1,4 @@
-use Rattle.std.proofs.Common.{◌≡◌, ◌∙◌, ap}
+use Rattle.std.proofs.Common.{◌∙◌, ap}
 use Rattle.std.specs.List.{filter}
 use Rattle.cluster_repair.specs.Rows.{is_on_stride}
 use Rattle.cluster_repair.proofs.Reach.{rows_among}
