@@ -1,5 +1,5 @@
 -- Calls that were made, one list after another.
-use Rattle.std.proofs.Common.{◌≡◌, ◌<◌, ℕ, ◌+◌, suc, zero, Bool, true, false, cond, ◌||◌, List, [], ◌∷◌, ◌++◌, Option, None, map, filter, take, drop, length, get_or, option_to_list, slice_get, arith, refl, sym, ap, ◌∙◌, subst, append-nil}
+use Rattle.std.proofs.Common.{◌≡◌, ◌<◌, ℕ, ◌+◌, suc, zero, Bool, true, false, cond, ◌||◌, List, [], ◌∷◌, ◌++◌, Option, Some, None, map, filter, take, drop, length, get_or, option_to_list, slice_get, arith, refl, sym, ap, ◌∙◌, subst, append-nil}
 use Rattle.std.specs.List.{flat_map, list_any}
 use Rattle.std.proofs.Math.Seq.{take-suc}
 use Rattle.std.proofs.lemmas.Option.{slice_get_past}
@@ -14,6 +14,7 @@ use Rattle.bm_base.specs.declared.call.Answer.{Answer}
 use Rattle.bm_base.specs.State.{State}
 use Rattle.bm_base.specs.Calls.{step, answers, state_after}
 use Rattle.bm_base.specs.Answering.{is_refused}
+use Rattle.bm_lines.specs.Print.{answer_text}
 use Rattle.cluster_report.specs.Reading.{told_of}
 use Rattle.fsck_cluster.specs.declared.rows.Held.{Held}
 use Rattle.fsck_cluster.specs.declared.rows.Row.{Row}
@@ -47,12 +48,12 @@ made_more calls more a b c first second =
           ∙ neither _ _ first.accepted then.accepted;
     }
 
+none_only : (b : Bool) (text : List ℕ) → cond b (Some text) None ≡ None → b ≡ false
+none_only true text e = cc
+none_only false text e = refl
+
 not_told : (k : Call) (a : Answer) → told_of k a ≡ None → is_refused a ≡ false
-not_told k a e = by (is_refused a) e
-  where
-    by : (b : Bool) → (cond b _ None) ≡ None → b ≡ false
-    by true e = cc
-    by false e = refl
+not_told k a e = none_only (is_refused a) (answer_text k a) e
 
 -- a call of which nothing is told
 pub one_made : (k : Call) (M N : State) → N ≡ (step M k).1 → None ≡ told_of k (step M k).0 → Makes (k ∷ []) M N

@@ -54,11 +54,7 @@ pub fn load<R: Input + Eprint + Files + AllocGlobal + Threads + Wait + Sync, N: 
     };
     let start = start_of(rt.alloc(), nodes, asked);
     let mut writer = NoteWriter::new(io::writer(notes), rt, &meter);
-    let all_accepted = match files {
-        None => take_input(&console, &mut loaded, start, asked, &mut writer),
-        Some(paths) => take_files(&console, &mut loaded, start, asked, paths, &mut writer),
-    };
-    let all_accepted = all_accepted?;
+    let all_accepted = take_all(&console, &mut loaded, start, asked, files, &mut writer)?;
     meter.clear(rt);
     if let Some(notes) = &loaded.notes {
         say_text_notes(rt, asked.values.unclear, notes);
@@ -108,8 +104,7 @@ fn nodes_of<R: Eprint + Files + AllocGlobal>(
     let Some(path) = asked.nodes else {
         return Some(Cluster::new(alloc));
     };
-    let meter = Meter::new(None);
-    let mut reader = opened(console, &meter, path)?;
+    let mut reader = opened(console, None, path)?;
     match read_nodes(alloc, &mut reader) {
         Ok(nodes) => Some(nodes),
         Err(fault) => {
@@ -119,24 +114,50 @@ fn nodes_of<R: Eprint + Files + AllocGlobal>(
     }
 }
 
-/// A file, opened for reading. Where it cannot be, the system's reason is said.
+/// A file, opened for reading.
 fn opened<'c, R: Eprint + Files + AllocGlobal>(
     console: &Console<'c, R>,
-    meter: &'c Meter,
+    meter: Option<&'c Meter>,
     path: &str,
 ) -> Option<BufReader<WatchedReader<'c, R::File, R>>> {
-    let (rt, program) = (console.rt, console.program);
-    let file = match File::open(rt, path) {
-        Ok(file) => file,
+    let alloc: Global = console.rt.alloc();
+    let file = file_at(console, path)?;
+    let watched = WatchedReader::new(file, console.rt, meter);
+    let Ok(reader) = BufReader::new(alloc, watched) else {
+        let _: Option<()> = said(console, Some(path), &Fault::Memory, None);
+        return None;
+    };
+    Some(reader)
+}
+
+/// Opens a file. Where it cannot be, the system's reason is said.
+fn file_at<R: Eprint + Files>(console: &Console<'_, R>, path: &str) -> Option<R::File> {
+    match File::open(console.rt, path) {
+        Ok(file) => Some(file),
         Err(error) => {
+            let (rt, program) = (console.rt, console.program);
             console.meter.clear(rt);
             let _ = rt.eprintln(format_args!("{program}: {path}: {error}"));
-            return None;
+            None
         }
-    };
-    match BufReader::new(rt.alloc(), WatchedReader::new(file, rt, meter)) {
-        Ok(reader) => Some(reader),
-        Err(_) => said(console, Some(path), &Fault::Memory, None),
+    }
+}
+
+/// Takes these files, or standard input where there is none.
+fn take_all<R: Input + Eprint + Files + AllocGlobal + Threads + Wait + Sync, W: Write>(
+    console: &Console<'_, R>,
+    loaded: &mut Loaded,
+    start: Reading,
+    asked: &Asked<'_>,
+    files: Option<&[&str]>,
+    notes: &mut W,
+) -> Option<bool>
+    requires { IsInStep loaded.old.session }
+    ensures { IfSome result (λ all. IsInStep loaded.new.session) }
+{
+    match files {
+        None => take_input(console, loaded, start, asked, notes),
+        Some(paths) => take_files(console, loaded, start, asked, paths, notes),
     }
 }
 
@@ -152,7 +173,7 @@ fn take_input<R: Input + Eprint + AllocGlobal + Threads + Wait + Sync, W: Write>
     ensures { IfSome result (λ all. IsInStep loaded.new.session) }
 {
     let rt = console.rt;
-    let input = WatchedReader::new(rt.reader(), rt, console.meter);
+    let input = WatchedReader::new(rt.reader(), rt, Some(console.meter));
     let Ok(mut reader) = BufReader::new(rt.alloc(), input) else {
         drop(start);
         return said(console, None, &Fault::Memory, None);
@@ -195,7 +216,7 @@ fn take_first<R: Eprint + Files + AllocGlobal + Threads + Wait + Sync, W: Write>
     requires { IsInStep loaded.old.session }
     ensures { IfSome result (λ all. IsInStep loaded.new.session) }
 {
-    let Some(mut reader) = opened(console, console.meter, path) else {
+    let Some(mut reader) = opened(console, Some(console.meter), path) else {
         drop(start);
         return None;
     };
@@ -239,7 +260,7 @@ fn take_other<R: Eprint + Files + AllocGlobal + Threads + Wait + Sync, W: Write>
     requires { IsInStep loaded.old.session }
     ensures { IfSome result (λ all. IsInStep loaded.new.session) }
 {
-    let mut reader = opened(console, console.meter, path)?;
+    let mut reader = opened(console, Some(console.meter), path)?;
     match loaded.take_lines(console.rt, &mut reader, notes) {
         Ok(true) => Some(true),
         Ok(false) => {

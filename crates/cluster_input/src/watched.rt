@@ -40,17 +40,18 @@ impl Meter {
     }
 }
 
-/// A reader whose bytes are counted. It keeps the error of the last read that failed.
+/// A reader whose bytes a meter counts, if there is one. It keeps the error of the last read that
+/// failed.
 #[derive(Drop)]
 pub struct WatchedReader<'w, I, R> {
     inner: I,
     rt: &'w R,
-    meter: &'w Meter,
+    meter: Option<&'w Meter>,
     error: Option<io::Error>,
 }
 
 impl<'w, I, R> WatchedReader<'w, I, R> {
-    pub fn new(inner: I, rt: &'w R, meter: &'w Meter) -> WatchedReader<'w, I, R> {
+    pub fn new(inner: I, rt: &'w R, meter: Option<&'w Meter>) -> WatchedReader<'w, I, R> {
         WatchedReader {
             inner,
             rt,
@@ -71,7 +72,9 @@ impl<I: Read, R: Eprint> Read for WatchedReader<'_, I, R> {
     fn read(&mut self, buf: &mut [u8]) -> io::Result<usize> {
         match self.inner.read(buf) {
             Ok(given) => {
-                self.meter.take(self.rt, given);
+                if let Some(meter) = self.meter {
+                    meter.take(self.rt, given);
+                }
                 Ok(given)
             }
             Err(error) => {

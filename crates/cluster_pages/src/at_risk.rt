@@ -1,5 +1,5 @@
 // The files of blocks that are missing, or one failure away from that.
-ghost use Rattle.std.specs.Prelude.{◌≡◌, ◌==◌, nat_eq, get_or, IfOk};
+ghost use Rattle.std.specs.Prelude.{◌≡◌, get_or, replicate, IfOk};
 ghost use Rattle.bm_base.specs.Levels.{is_at};
 ghost use Rattle.cluster_pages.specs.AtRisk.{AreAtRisk, AreCounts, highest_of, rows_of, rows_without, with_one, with_place};
 
@@ -75,19 +75,25 @@ fn is_highest(found: &Leveled) -> bool
 fn count_by_file(alloc: Global, files: &Files, blocks: &[BlockId]) -> Result<Vec<usize>, AllocError>
     ensures { IfOk result (λ counts. AreCounts files.now blocks.now counts.items) }
 {
-    let mut counts = vec![in alloc; 0usize; files.file_count()]?;
+    let mut counts = no_counts(alloc, files.file_count())?;
     for block in blocks {
-        count_place(counts.as_mut_slice(), files.place_of(*block));
+        count_place(&mut counts, files.place_of(*block));
     }
     Ok(counts)
 }
 
+fn no_counts(alloc: Global, files: usize) -> Result<Vec<usize>, AllocError>
+    ensures { IfOk result (λ counts. counts.items ≡ replicate files 0) }
+{
+    vec![in alloc; 0usize; files]
+}
+
 /// Counts a block of which this is the place; nothing where it has none.
-fn count_place(counts: &mut [usize], place: Option<FilePlace>)
-    ensures { counts.new ≡ with_place place counts.old }
+fn count_place(counts: &mut Vec<usize>, place: Option<FilePlace>)
+    ensures { counts.new.items ≡ with_place place counts.old.items }
 {
     if let Some(place) = place {
-        add_one(counts, place.file);
+        add_one(counts.as_mut_slice(), place.file);
     }
 }
 
