@@ -145,7 +145,6 @@ impl Repair {
 
     /// One round: DataNodes report what they have done and what is free, and the manager commands.
     /// Whether there is more to come.
-    #[tactic(auto, using(crate::proofs::Reach::goes_by_round))]
     fn take_round<H: Threads + Wait + Sync>(
         &mut self,
         rt: &H,
