@@ -123,7 +123,7 @@ impl Repair {
         })
     }
 
-    #[tactic(auto, using(crate::proofs::Reach::goes_on_at_once, crate::proofs::Reach::goes_on))]
+    #[tactic(auto, using(crate::proofs::Reach::goes_on_at_once))]
     fn take_rounds<R: Eprint + Threads + Wait + Sync>(
         &mut self,
         rt: &R,
