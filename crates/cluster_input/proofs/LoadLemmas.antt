@@ -1,5 +1,5 @@
 -- What is known after a text was read, where the bytes of its reader are known.
-use Rattle.std.proofs.Common.{◌≡◌, ℕ, Bool, List, Option, Some, None, IfSome, Ok, sym, ap, subst, ◌∙◌}
+use Rattle.std.proofs.Common.{◌≡◌, ℕ, Bool, true, List, [], Option, Some, None, IfSome, Ok, refl, sym, ap, subst, ◌∙◌, append-nil}
 use Rattle.std.specs.Fmt.{option_append}
 use Rattle.std.specs.Io.KnownBytes.{Appends}
 use Rattle.bm_base.specs.State.{State}
@@ -67,3 +67,13 @@ pub are_taken : (known : Option (List ℕ)) (old new : Loaded) → IfSome known 
     → new.names ≡ old.names → new.files ≡ old.files → IfSome known (λ text. AreTaken text old new)
 are_taken None old new state names files = tt
 are_taken (Some text) old new state names files = record { state = state; names = names; files = files }
+
+-- each call for a text of fsck is accepted, and it has no notes
+pub all_accepted_of : (known : Option (List ℕ)) → IfSome known (λ text. true ≡ true)
+all_accepted_of None = tt
+all_accepted_of (Some text) = refl
+
+pub nothing_noted : (known noted : Option (List ℕ)) → IfSome known (λ text. Appends noted noted [])
+nothing_noted None noted = tt
+nothing_noted (Some text) None = tt
+nothing_noted (Some text) (Some xs) = sym (append-nil xs)

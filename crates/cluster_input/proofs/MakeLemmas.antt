@@ -78,6 +78,32 @@ pub adds_more : {A : Type 0} (f : A → Call) (xs : List A) (i : ℕ) (a b c : S
 adds_more f xs i a b c first second =
     subst (λ calls. Makes calls a c) (sym (ap (map f) (take_more xs i) ∙ map-append f (take i xs) (option_to_list (slice_get xs i)))) (made_more _ _ a b c first second)
 
+-- with the call for the element at an index of a loop
+pub called_next : {A : Type 0} (f : A → Call) (xs : List A) (i : ℕ) (d : A) (k : Call) (a b c : State)
+    → i < length xs
+    → k ≡ f (get_or xs i d)
+    → Makes (map f (take i xs)) a b
+    → Makes (k ∷ []) b c
+    → Makes (map f (take (i + 1) xs)) a c
+called_next f xs i d k a b c lt is first second =
+    let next : suc i ≡ i + 1 = omega arith in
+    let taken : take i xs ++ get_or xs i d ∷ [] ≡ take (i + 1) xs = sym (take-suc xs i d lt) ∙ ap (λ n. take n xs) next in
+    subst (λ ys. Makes (map f ys) a c) taken
+    (subst (λ calls. Makes calls a c) (sym (map-append f (take i xs) (get_or xs i d ∷ [])))
+    (made_more (map f (take i xs)) (f (get_or xs i d) ∷ []) a b c first (subst (λ j. Makes (j ∷ []) b c) is second)))
+
+-- the same, where the loop goes through a slice of the list
+pub called_at : {A : Type 0} (f : A → Call) (xs items : List A) (i : ℕ) (d : A) (k : Call) (a b c : State)
+    → items ≡ xs
+    → i < length items
+    → k ≡ f (get_or items i d)
+    → Makes (map f (take i xs)) a b
+    → Makes (k ∷ []) b c
+    → Makes (map f (take (i + 1) xs)) a c
+called_at f xs items i d k a b c e lt is first second =
+    subst (λ ys. Makes (map f (take (i + 1) ys)) a c) e
+    (called_next f items i d k a b c lt is (subst (λ ys. Makes (map f (take i ys)) a b) (sym e) first) second)
+
 filter-push : {A : Type 0} (t : A → Bool) (xs : List A) (x : A) → filter t (xs ++ x ∷ []) ≡ filter t xs ++ filter t (x ∷ [])
 filter-push t [] x = refl
 filter-push t (y ∷ xs) x = by (t y) (filter-push t xs x)
@@ -91,6 +117,20 @@ pub kept_more : {A : Type 0} (f : A → Call) (t : A → Bool) (xs : List A) (x 
     → Makes (map f (filter t (x ∷ []))) b c → Makes (map f (filter t (xs ++ x ∷ []))) a c
 kept_more f t xs x a b c first second =
     subst (λ calls. Makes calls a c) (sym (ap (map f) (filter-push t xs x) ∙ map-append f (filter t xs) (filter t (x ∷ [])))) (made_more _ _ a b c first second)
+
+-- the same for the element at an index of a loop
+pub kept_at : {A : Type 0} (f : A → Call) (t : A → Bool) (xs items : List A) (i : ℕ) (d : A) (a b c : State)
+    → items ≡ xs
+    → i < length items
+    → Makes (map f (filter t (take i xs))) a b
+    → Makes (map f (filter t (get_or items i d ∷ []))) b c
+    → Makes (map f (filter t (take (i + 1) xs))) a c
+kept_at f t xs items i d a b c e lt first second =
+    let next : suc i ≡ i + 1 = omega arith in
+    let taken : take i items ++ get_or items i d ∷ [] ≡ take (i + 1) items = sym (take-suc items i d lt) ∙ ap (λ n. take n items) next in
+    subst (λ ys. Makes (map f (filter t (take (i + 1) ys))) a c) e
+    (subst (λ ys. Makes (map f (filter t ys)) a c) taken
+    (kept_more f t (take i items) (get_or items i d) a b c (subst (λ ys. Makes (map f (filter t (take i ys))) a b) (sym e) first) second))
 
 rows_more : {A : Type 0} (f : A → List Call) (xs : List A) (x : A) (a b c : State) → Makes (flat_map f xs) a b → Makes (f x) b c
     → Makes (flat_map f (xs ++ x ∷ [])) a c

@@ -31,7 +31,6 @@ pub fn make_calls<H: Threads + Wait + Sync>(
 }
 
 /// Nodes with their storages, what is free there, and blocks.
-#[tactic(auto, using(crate::proofs::MakeLemmas::made_more))]
 fn make_before<H: Threads + Wait + Sync>(
     rt: &H,
     session: &mut Session,
@@ -49,7 +48,6 @@ fn make_before<H: Threads + Wait + Sync>(
 }
 
 /// Replicas, those of them that are corrupt, and nodes that are decommissioned.
-#[tactic(auto, using(crate::proofs::MakeLemmas::made_more))]
 fn make_after<H: Threads + Wait + Sync>(
     rt: &H,
     session: &mut Session,
@@ -65,7 +63,6 @@ fn make_after<H: Threads + Wait + Sync>(
     make_drains(rt, session, cluster)
 }
 
-#[tactic(auto, using(crate::proofs::MakeLemmas::made_more))]
 fn make_registers<H: Threads + Wait + Sync>(
     rt: &H,
     session: &mut Session,
@@ -83,7 +80,6 @@ fn make_registers<H: Threads + Wait + Sync>(
     Ok(())
 }
 
-#[tactic(auto, using(crate::proofs::MakeLemmas::made_more))]
 fn make_heartbeats<H: Threads + Wait + Sync>(
     rt: &H,
     session: &mut Session,
@@ -177,7 +173,6 @@ fn make_row<H: Threads + Wait + Sync>(rt: &H, session: &mut Session, row: &Row) 
     make_received(rt, session, StorageId(row.number), rest)
 }
 
-#[tactic(auto, using(crate::proofs::MakeLemmas::made_more))]
 fn make_received<H: Threads + Wait + Sync>(
     rt: &H,
     session: &mut Session,
@@ -200,7 +195,6 @@ fn make_received<H: Threads + Wait + Sync>(
     Ok(())
 }
 
-#[tactic(auto, using(crate::proofs::MakeLemmas::made_more))]
 fn make_corrupt<H: Threads + Wait + Sync>(
     rt: &H,
     session: &mut Session,
@@ -221,7 +215,6 @@ fn make_corrupt<H: Threads + Wait + Sync>(
     Ok(())
 }
 
-#[tactic(auto, using(crate::proofs::MakeLemmas::kept_more))]
 fn make_drains<H: Threads + Wait + Sync>(
     rt: &H,
     session: &mut Session,

@@ -1,2 +1,3 @@
 -- Lemmas.
 pub mod AtRiskLemmas
+pub mod OutputLemmas

@@ -1,5 +1,5 @@
 -- The report on a loaded cluster.
-use Rattle.std.specs.Prelude.{◌≡◌, ℕ, ⊤, ⊥, List, Option}
+use Rattle.std.specs.Prelude.{◌≡◌, ℕ, ⊤, List, Option}
 use Rattle.std.specs.Io.KnownBytes.{Appends}
 use Rattle.cluster_input.specs.declared.loaded.Loaded.{Loaded}
 use Rattle.cluster_report.specs.Reports.{report_of}
@@ -31,7 +31,3 @@ pub record PrintsReport (loaded : Loaded) (most : ℕ) (old new : Option (List �
 abbrev pub WritesNothing : {W : Type 0} → PrintFault → W → W → Type 0
 WritesNothing fault.Memory old new = new ≡ old
 WritesNothing (fault.Write error) old new = ⊤
-
-abbrev pub IsWriteFault : PrintFault → Type 0
-IsWriteFault fault.Memory = ⊥
-IsWriteFault (fault.Write error) = ⊤

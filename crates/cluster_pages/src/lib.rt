@@ -171,7 +171,10 @@ fn print_json<W: Write>(
         return Err(PrintFault::Memory);
     };
     text.push_str("\n")?;
-    write_flushed(writer, text.as_bytes())
+    match write_flushed(writer, text.as_bytes()) {
+        Ok(()) => Ok(()),
+        Err(error) => Err(PrintFault::Write(error)),
+    }
 }
 
 /// Writes the page to a file, and says why it could not.

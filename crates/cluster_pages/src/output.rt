@@ -2,7 +2,7 @@
 ghost use Rattle.std.specs.Prelude.{◌≡◌, IfOk, IfErr, OnOk, string_bytes};
 ghost use Rattle.std.specs.Io.KnownBytes.{Appends};
 ghost use Rattle.cluster_report.specs.Sessions.{IsInStep};
-ghost use Rattle.cluster_pages.specs.Output.{IsReportOn, IsWriteFault, PrintsReport, StandsAs, WritesNothing};
+ghost use Rattle.cluster_pages.specs.Output.{IsReportOn, PrintsReport, StandsAs, WritesNothing};
 
 use crate::at_risk::{AtRisk, files_at_risk};
 use crate::text::report_text;
@@ -38,6 +38,7 @@ pub fn standing_of(alloc: Global, loaded: &Loaded) -> Result<Standing, AllocErro
 }
 
 /// The text of a report, with at most this number of blocks and files of each list.
+#[tactic(auto, using(crate::proofs::OutputLemmas::reported))]
 pub fn standing_text(
     alloc: Global,
     loaded: &Loaded,
@@ -80,6 +81,7 @@ impl From<AllocError> for PrintFault {
 
 /// Prints the lines of a report, with at most this number of blocks and files of each list. Nothing
 /// is written before all of the text was made.
+#[tactic(auto, using(crate::proofs::OutputLemmas::printed))]
 pub fn print_report<W: Write>(
     alloc: Global,
     writer: &mut W,
@@ -93,21 +95,14 @@ pub fn print_report<W: Write>(
     ensures nothing_written { IfErr result (λ f. WritesNothing f writer.old writer.new) }
 {
     let text = standing_text(alloc, loaded, most, standing)?;
-    write_flushed(writer, text.as_bytes())
-}
-
-/// Writes all of a text, and flushes.
-pub fn write_flushed<W: Write>(writer: &mut W, text: &[u8]) -> Result<(), PrintFault>
-    ensures ok { OnOk result (Appends (W.contents writer.old) (W.contents writer.new) text.now) }
-    ensures err { IfErr result IsWriteFault }
-{
-    match write_all(writer, text) {
+    match write_flushed(writer, text.as_bytes()) {
         Ok(()) => Ok(()),
         Err(error) => Err(PrintFault::Write(error)),
     }
 }
 
-fn write_all<W: Write>(writer: &mut W, text: &[u8]) -> io::Result<()>
+/// Writes all of a text, and flushes.
+pub fn write_flushed<W: Write>(writer: &mut W, text: &[u8]) -> io::Result<()>
     ensures { OnOk result (Appends (W.contents writer.old) (W.contents writer.new) text.now) }
 {
     writer.write_all(text)?;

@@ -32,7 +32,7 @@ dd { font-size: 1.3rem; margin: 0; overflow-wrap: anywhere; }\n\
 table { border-collapse: collapse; width: 100%; }\n\
 th, td { border-bottom: 1px solid #8884; padding: .3rem .6rem .3rem 0; text-align: left; vertical-align: top; }\n\
 td.n, th.n { font-variant-numeric: tabular-nums; text-align: right; white-space: nowrap; }\n\
-td.path { overflow-wrap: anywhere; min-width: 12rem; }\n\
+td.path { overflow-wrap: anywhere; min-width: 12rem; width: 60%; }\n\
 td.bar { min-width: 6rem; width: 30%; }\n\
 svg { display: block; height: .9rem; margin-top: .2rem; width: 100%; }\n\
 svg.chart { border-bottom: 1px solid #8888; height: 12rem; }\n\
