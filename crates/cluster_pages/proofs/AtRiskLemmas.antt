@@ -30,14 +30,14 @@ pub none_counted : (f : FileTable) → AreCounts f [] (replicate (length f.paths
 none_counted f = record { all = length-replicate (length f.paths) 0; each = λ file lt. get_or-replicate (length f.paths) file 0 0 lt }
 
 -- one more block is counted
-pub counted_more : (f : FileTable) (blocks old new : List ℕ) (i : ℕ) → i < length blocks → i < 2 ^ 64 - 1 → AreCounts f (take i blocks) old
-    → new ≡ with_place (place_of f (get_or blocks i 0)) old → AreCounts f (take (i + 1) blocks) new
-counted_more f blocks old new i lt fits so_far e = by (place_of f (get_or blocks i 0)) refl e
+pub counted_more : (f : FileTable) (blocks old new : List ℕ) (i d : ℕ) → i < length blocks → i < 2 ^ 64 - 1 → AreCounts f (take i blocks) old
+    → new ≡ with_place (place_of f (get_or blocks i d)) old → AreCounts f (take (i + 1) blocks) new
+counted_more f blocks old new i d lt fits so_far e = by (place_of f (get_or blocks i d)) refl e
   where
     few : (file : ℕ) → file < length f.paths → get_or old file 0 < 2 ^ 64 - 1
     few file at = omega (arith, so_far.each file at, count_by-le-length (is_in f file) (take i blocks), length-take i blocks, fits)
 
-    here : (p : FilePlace) → place_of f (get_or blocks i 0) ≡ Some p → (file : ℕ) → file < length f.paths → (same : Bool) → (p.file == file) ≡ same
+    here : (p : FilePlace) → place_of f (get_or blocks i d) ≡ Some p → (file : ℕ) → file < length f.paths → (same : Bool) → (p.file == file) ≡ same
         → get_or (with_one old p.file) file 0 ≡ count_by (is_in f file) (take (i + 1) blocks)
     here p is file at true same =
         let this : p.file ≡ file = eqb-true p.file file same in
@@ -46,18 +46,18 @@ counted_more f blocks old new i lt fits so_far e = by (place_of f (get_or blocks
         ∙ one_here old p.file inside (subst (λ j. get_or old j 0 < 2 ^ 64 - 1) (sym this) (few file at))
         ∙ ap (λ j. get_or old j 0 + 1) this
         ∙ ap (λ n. n + 1) (so_far.each file at)
-        ∙ sym (count_by_more_yes (is_in f file) blocks i 0 lt (ap (λ o. option_map_or (λ q. q.file == file) o false) is ∙ same))
+        ∙ sym (count_by_more_yes (is_in f file) blocks i d lt (ap (λ o. option_map_or (λ q. q.file == file) o false) is ∙ same))
     here p is file at false other =
         one_there old p.file file (eqb-false p.file file other) (nat_lt p.file (length old))
         ∙ so_far.each file at
-        ∙ sym (count_by_more_no (is_in f file) blocks i 0 lt (ap (λ o. option_map_or (λ q. q.file == file) o false) is ∙ other))
+        ∙ sym (count_by_more_no (is_in f file) blocks i d lt (ap (λ o. option_map_or (λ q. q.file == file) o false) is ∙ other))
 
-    by : (o : Option FilePlace) → place_of f (get_or blocks i 0) ≡ o → new ≡ with_place o old → AreCounts f (take (i + 1) blocks) new
+    by : (o : Option FilePlace) → place_of f (get_or blocks i d) ≡ o → new ≡ with_place o old → AreCounts f (take (i + 1) blocks) new
     by None is same = record {
       all = ap length same ∙ so_far.all;
       each = λ file at.
           ap (λ xs. get_or xs file 0) same ∙ so_far.each file at
-          ∙ sym (count_by_more_no (is_in f file) blocks i 0 lt (ap (λ o. option_map_or (λ q. q.file == file) o false) is));
+          ∙ sym (count_by_more_no (is_in f file) blocks i d lt (ap (λ o. option_map_or (λ q. q.file == file) o false) is));
     }
     by (Some p) is same = record {
       all = ap length same ∙ one_all old p.file (nat_lt p.file (length old)) ∙ so_far.all;
