@@ -140,7 +140,8 @@ uint32_t puljemrod_close(puljemrod *handle);
  * are read while the call runs, and not kept.
  *
  * PULJEMROD_MEMORY comes only where nothing else refuses the event, but for puljemrod_register,
- * puljemrod_heartbeat and puljemrod_full_report: their lists are copied first. It never comes from
+ * puljemrod_heartbeat and puljemrod_full_report: their lists are copied first, that of a heartbeat
+ * into memory kept from earlier ones, if it is large enough. It never comes from
  * puljemrod_delete_block, puljemrod_set_replication, puljemrod_restamp, puljemrod_deleted and
  * puljemrod_corrupt, which take no memory. */
 
