@@ -3,7 +3,7 @@
 
 ghost use Rattle.laws_of_events.specs.Queries as law;
 
-/// The list of all replicas has a replica of a block, a storage and a tag exactly if such a one is
+/// The list of all replicas has one of a given block, storage and tag exactly if such a replica is
 /// held.
 pub fn replicas_are_held()
     ensures { law.replicas_are_held }
