@@ -18,7 +18,7 @@ use Rattle.bm_base.specs.Fitting.{HasFittingStart, FitsEvent, FitsCall, FitCalls
 abbrev pub first_state_is_lawful : Type 0
 first_state_is_lawful = (c : Config) → HasFittingStart c → IsLawful (first_state c)
 
--- an accepted event keeps a lawful state lawful
+-- an accepted event whose numbers fit keeps a lawful state lawful
 abbrev pub event_keeps_lawful : Type 0
 event_keeps_lawful = (M : State) (e : Event) → IsLawful M → FitsEvent e → refusal_of M e ≡ None → IsLawful (after_event M e)
 
@@ -30,15 +30,15 @@ round_keeps_lawful = (M : State) → IsLawful M → round_refusal M ≡ None →
 abbrev pub refusal_leaves_state : Type 0
 refusal_leaves_state = (M : State) (k : Call) → IsTrue (is_refused (step M k).0) → (step M k).1 ≡ M
 
--- any call keeps a lawful state lawful
+-- any call whose numbers fit keeps a lawful state lawful
 abbrev pub call_keeps_lawful : Type 0
 call_keeps_lawful = (M : State) (k : Call) → IsLawful M → FitsCall k → IsLawful (step M k).1
 
--- any calls lead to a lawful state, if memory never runs out
+-- calls whose numbers fit lead to a lawful state, if memory never runs out
 abbrev pub calls_lead_to_lawful : Type 0
 calls_lead_to_lawful = (c : Config) (ks : List Call) → HasFittingStart c → FitCalls ks → IsLawful (state_after (first_state c) ks)
 
--- any calls lead to a lawful state, with any answers that they may give, out of memory included
+-- such calls lead to a lawful state with any answers that they may give, out of memory included
 abbrev pub answered_calls_lead_to_lawful : Type 0
 answered_calls_lead_to_lawful =
     (c : Config) (ks : List Call) (answers : List Answer) → HasFittingStart c → FitCalls ks → MayAnswerAll step (first_state c) ks answers → IsLawful (state_left_by step (first_state c) ks answers)

@@ -43,7 +43,7 @@ one_of t = record { from = t.id; to = t.id; stamp = t.stamp }
 abbrev pub runs_are_alike_one_by_one : Type 0
 runs_are_alike_one_by_one = (M : State) (s : ℕ) (es : List Entry) → AreAlike M s es (map one_of (expanded es))
 
--- a run may be cut in two behind number m
+-- a run may be cut in two after number m
 abbrev pub run_may_be_cut : Type 0
 run_may_be_cut =
     (M : State) (s : ℕ) (front : List Entry) (e : Entry) (behind : List Entry) (m : ℕ) → e.from ≤ m + 1 → m ≤ e.to

@@ -58,7 +58,7 @@ pub fn no_transfer_to_draining()
 {}
 
 /// A node is retired exactly if it drains and each known block that has a usable replica on it,
-/// good and not in excess, has as many live replicas as are wanted.
+/// good and not in excess, has at least the wanted number of live replicas.
 pub fn retired_is_said_plainly()
     ensures { law.retired_is_said_plainly }
 {}

@@ -30,7 +30,7 @@ pub fn places_are_good()
 {}
 
 /// In a lawful state the missing blocks are the known blocks without a replica that is good and not
-/// in excess, be it on a node that drains or not.
+/// in excess, whether its node drains or not.
 pub fn missing_have_no_usable_replica()
     ensures { law.missing_have_no_usable_replica }
 {}

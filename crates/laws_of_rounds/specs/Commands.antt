@@ -45,7 +45,7 @@ abbrev pub CommandedTransferIsPending : Type 0
 CommandedTransferIsPending =
     (M : State) (t : Transfer) → IsTransferCommanded M t → get (after_round M).holdings.pending (replica_at t.block t.target) ≡ Some (M.round + 1)
 
--- A round changes the marks of replicas, the pending transfers and its own number. It changes no
+-- A round changes the marks of replicas, the pending transfers and the round number. It changes no
 -- tag, no block and no node.
 abbrev pub RoundChangesNoTag : Type 0
 RoundChangesNoTag = (M : State) (q : ReplicaId) → option_map (λ m. m.tag) (get (after_round M).holdings.replicas q) ≡ option_map (λ m. m.tag) (get M.holdings.replicas q)

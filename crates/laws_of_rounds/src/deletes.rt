@@ -52,7 +52,7 @@ pub fn none_is_ordered_again()
     ensures { law.NoneIsOrderedAgain }
 {}
 
-/// A round commands each node at most as many deletes as the limit.
+/// A round commands each node at most `invalidate` deletes.
 pub fn at_most_invalidate_a_node()
     ensures { law.AtMostInvalidateANode }
 {}

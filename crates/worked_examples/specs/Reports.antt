@@ -1,4 +1,4 @@
--- What notices and full block reports make of replicas.
+-- The replicas after notices and full block reports.
 use Rattle.std.specs.Prelude.{List, [], ◌∷◌, ◌++◌}
 use Rattle.bm_base.specs.declared.call.Call.{Call}
 use Rattle.bm_base.specs.declared.call.Answer.{Answer}

@@ -1,4 +1,4 @@
-// What notices and full block reports make of replicas.
+// The replicas after notices and full block reports.
 #![tactic(auto, unfolding(bm_base::specs::Runs::run_of))]
 
 ghost use Rattle.worked_examples.specs.Reports as example;
