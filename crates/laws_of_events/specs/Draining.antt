@@ -91,7 +91,7 @@ no_transfer_to_draining =
 -- Taking a node away.
 
 -- a node is retired exactly if it drains and each known block that has a usable replica on it has
--- enough live ones
+-- at least the wanted number of live ones
 abbrev pub retired_is_said_plainly : Type 0
 retired_is_said_plainly =
     (C : Cluster) (H : Holdings) (n : ℕ)

@@ -14,7 +14,8 @@ use Rattle.bm_base.specs.Answering.{is_refused, MayAnswerAll, state_left_by}
 use Rattle.bm_base.specs.Lawful.{IsLawful, IsOrderly}
 use Rattle.bm_base.specs.Fitting.{HasFittingStart, FitsEvent, FitsCall, FitCalls}
 
--- the first state of every configuration is lawful, whether the configuration is allowed or not
+-- the first state of every configuration whose first numbers fit is lawful, even if the
+-- configuration is not allowed
 abbrev pub first_state_is_lawful : Type 0
 first_state_is_lawful = (c : Config) → HasFittingStart c → IsLawful (first_state c)
 

@@ -37,8 +37,8 @@ pub fn first_replica_makes_a_block_the_first_to_copy()
     ensures { example.first_replica_makes_a_block_the_first_to_copy }
 {}
 
-/// A node on a second rack may put a block in need, if all its live replicas are on the rack that
-/// was the only one.
+/// A node on a second rack may put a block in need, if all live replicas of the block are on the
+/// rack that was the only one.
 pub fn second_rack_may_raise_need()
     ensures { example.second_rack_may_raise_need }
 {}
