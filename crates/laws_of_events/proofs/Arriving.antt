@@ -1,4 +1,4 @@
--- What is on its way to a storage is not there yet.
+-- The target of a pending transfer has no replica of the block yet.
 use Rattle.std.proofs.Common.{◌≡◌, ℕ, ◌*◌, Bool, true, false, cond, not, ◌&&◌, ◌||◌, Option, Some, None, is_some, List, [], ◌∷◌, ◌++◌, map, filter, length, option_to_list, refl, sym, ap, subst, ◌∙◌, ◌⊎◌, inl, inr, eq-eqb, eqb-true, true≢false}
 use Rattle.std.specs.Prelude.{◌==◌, nat_le}
 use Rattle.std.specs.Option.{option_map_or}
@@ -66,7 +66,7 @@ any_chosen g f p (x ∷ xs) h =
 
 -- A target's node has no replica of the block.
 
--- whether storage s stands on the node of t
+-- whether storage s is on the node of t
 abbrev on_node : Cluster → ℕ → ℕ → Bool
 on_node C s t = option_map_or (λ n. has_storage C n s) (node_of C t) false
 
@@ -128,17 +128,17 @@ each_absent : (limits : RoundLimits) (C : Cluster) (H : Holdings) → Each (IsAb
 unfolding transfers
 each_absent limits C H = absent_from limits C H [] (wishes C H) tt
 
--- Holdings in which what is on its way is not there.
+-- Holdings in which the target of each pending transfer has no replica of the block.
 
 abbrev Coming : Holdings → Type 0
 Coming H = (p : ReplicaId) → is_some (get H.pending p) ≡ true → get H.replicas p ≡ None
 
--- a key that is not there after all
+-- a key that is absent from the larger of two maps is absent from the smaller
 absent : {X : Type 0} (z w : Option X) → (is_some z ≡ true → is_some w ≡ true) → w ≡ None → z ≡ None
 absent None w f e = refl
 absent (Some x) w f e = absurd (true≢false (sym (f refl) ∙ ap is_some e))
 
--- nothing comes, neither replicas nor transfers
+-- the property stays if no replica and no transfer is added
 fewer : (H G : Holdings) → Coming H → ((p : ReplicaId) → is_some (get G.replicas p) ≡ true → is_some (get H.replicas p) ≡ true) → ((p : ReplicaId) → is_some (get G.pending p) ≡ true → is_some (get H.pending p) ≡ true) → Coming G
 fewer H G C r t p e = absent (get G.replicas p) (get H.replicas p) (r p) (C p (t p e))
 

@@ -1,4 +1,4 @@
--- What a query for a storage's blocks answers after a full report.
+-- The answer of a query for a storage's blocks after a full report.
 use Rattle.std.proofs.Common.{◌≡◌, ℕ, Bool, true, false, cond, ◌&&◌, ◌||◌, Option, Some, is_some, List, [], ◌∷◌, map, filter, refl, sym, ap, subst, ◌∙◌, T, Ordering, Less, Equal, Greater, is_lt, eqb-true}
 use Rattle.std.specs.Prelude.{◌==◌}
 use Rattle.std.specs.Ordering.{eq_by_cmp, nat_cmp, ordering_then}
@@ -88,7 +88,7 @@ module _ (s : ℕ) where
       ap (λ bs. is_some (find nat_cmp b (marked_all bs))) (blocks_head e es) ∙ found_head b e.0.block e.1 (e.0.storage == s) (blocks_in es) (find replica_cmp (replica_at b s) es) (found_blocks b es)
       ∙ ap (λ u. is_some (cond u (Some e.1) (find replica_cmp (replica_at b s) es))) (ap (λ u. (b == e.0.block) && u) (eqb_turned e.0.storage s) ∙ sym (replica_tie (replica_at b s) e.0))
 
--- Each number of a list once.
+-- The distinct numbers of a list.
 
 known_or : (b c : Bool) (z : Option (Unit {0})) → (b || is_some (cond c (Some tt) z)) ≡ ((c || b) || is_some z)
 known_or true true z = refl
@@ -106,7 +106,7 @@ or_false : (b : Bool) → (b || false) ≡ b
 or_false true = refl
 or_false false = refl
 
--- a storage's blocks, where it is told which they are
+-- the answer of the query, if exactly the blocks in xs have a replica on the storage
 blocks_are : (H : Holdings) (s : ℕ) (xs : List ℕ) → ((b : ℕ) → contains_key H.replicas (replica_at b s) ≡ has xs b) → blocks_on H s ≡ distinct xs
 unfolding blocks_on distinct keys entries get
 blocks_are H s xs told =

@@ -1,4 +1,4 @@
--- No event clears what was bad.
+-- No event clears a bad tag.
 use Rattle.std.proofs.Common.{◌≡◌, ℕ, Bool, true, false, not, Some, is_some, refl, sym, ap, ◌∙◌, eqb-true}
 use Rattle.std.specs.Prelude.{◌==◌, if◌then◌else◌}
 use Rattle.std.specs.Ordering.{eq_by_cmp}
@@ -20,7 +20,7 @@ use Rattle.laws_of_events.proofs.ReportLaws.{report_leaves_bad, received_leaves_
 use Rattle.laws_of_events.specs.Changes as law
 use Rattle.laws_of_events.specs.Reports.{IsBadIn}
 
--- what stays as it was stays bad
+-- a bad replica whose marks stay is bad
 same_bad : (H : Holdings) (m : Map by_replica Marks) (p : ReplicaId) → ((k : Marks) → get m p ≡ Some k → get H.replicas p ≡ Some k) → IsBadIn H p → is_some (get m p) ≡ true
     → (k : Marks) × (get m p ≡ Some k) × (k.tag ≡ Bad)
 same_bad H m p was bad is =
@@ -29,7 +29,7 @@ same_bad H m p was bad is =
     let same : k.0 ≡ bad.0 = (cc) in
     (k.0, k.1, ap (λ x. x.tag) same ∙ bad.2)
 
--- marks revised so that a bad one stays bad
+-- a bad replica is still bad after a revision that keeps bad tags
 revised_bad : (H : Holdings) (f : ReplicaId → Marks → Marks) (p : ReplicaId) → ((k : Marks) → k.tag ≡ Bad → (f p k).tag ≡ Bad) → IsBadIn H p → is_some (get (revise H.replicas f) p) ≡ true
     → (k : Marks) × (get (revise H.replicas f) p ≡ Some k) × (k.tag ≡ Bad)
 revised_bad H f p stays bad is =
@@ -43,7 +43,7 @@ if_bad : (t : Bool) (m k : Marks) → m.tag ≡ Bad → k.tag ≡ Bad → (if t 
 if_bad true m k e h = e
 if_bad false m k e h = h
 
--- of another block than one that is gone
+-- a bad replica of another block than the deleted one stays bad
 if_elsewhere : (t : Bool) (m k : Marks) → t ≡ false → k.tag ≡ Bad → (if t then m else k).tag ≡ Bad
 if_elsewhere true m k e h = cc
 if_elsewhere false m k e h = h

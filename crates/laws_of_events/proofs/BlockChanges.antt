@@ -28,7 +28,7 @@ use Rattle.bm_parts.proofs.OneBlock.{others_stay}
 use Rattle.laws_of_events.specs.Changes as law
 use Rattle.laws_of_events.specs.Reports.{held_after, numbers_of}
 
--- Of another block everything stays.
+-- An event on one block keeps everything of any other.
 
 held_is : (M : State) (e : Event) → held_after M e ≡ change_holdings M.cluster M.holdings e
 unfolding after_event
@@ -49,7 +49,7 @@ marked b f q m = if q.block == b then f m else m
 marked_here : (m : Map by_replica Marks) (b : ℕ) (f : Marks → Marks) (s : ℕ) → get (revise m (marked b f)) (replica_at b s) ≡ option_map f (get m (replica_at b s))
 marked_here m b f s = get-revise m (marked b f) (replica_at b s) ∙ (λ i. option_map (λ k. if eq-eqb b b refl i then f k else k) (get m (replica_at b s)))
 
--- a block's replicas, marked anew
+-- a block keeps its replicas when their marks are revised
 all_marked : (H G : Holdings) (b : ℕ) (f : Marks → Marks) (R : Marks → Marks → Type 0) → ((m : Marks) → R m (f m)) → G.replicas ≡ revise H.replicas (marked b f) → law.AreMarked b H G R
 all_marked H G b f R how is s =
     let now : get G.replicas (replica_at b s) ≡ option_map f (get H.replicas (replica_at b s)) = ap (λ m. get m (replica_at b s)) is ∙ marked_here H.replicas b f s in
@@ -66,7 +66,7 @@ block_deleted M b = record {
   none_pending = none_sent M.holdings b;
 }
 
--- the information of a known block
+-- the revised information of a known block
 info_here : (m : Map by_number BlockInfo) (b : ℕ) (f : BlockInfo → BlockInfo) (i : BlockInfo) → get m b ≡ Some i → get (revise_at m b f) b ≡ Some (f i)
 unfolding revise_at
 info_here m b f i e =
@@ -115,7 +115,7 @@ replica_found_bad M s b =
     let here = found_at m p p true (key_itself by_replica p) in
     ((λ k e. here ∙ ap (option_map as_bad) e), (λ none. here ∙ ap (option_map as_bad) none), (λ q other. found_at m p q false (not_tied by_replica q p other) ∙ as_it_was (get m q)), refl)
 
--- Transfers on their way.
+-- Pending transfers.
 
 reported_pending : (M : State) (s : ℕ) (es : List Entry) (p : ReplicaId) (t : Bool) → ((p.storage == s) && is_named (expanded es) p.block) ≡ t
     → get (held_after M (FullReport s es)).pending p ≡ option_and_then (λ x. cond (not t) (Some x) None) (get M.holdings.pending p)
@@ -136,7 +136,7 @@ pub transfer_received : law.received_ends_transfer
 unfolding after_event change_holdings enter
 transfer_received M s b stamp = (get_taken M.holdings.pending (replica_at b s), (λ p other. get_left M.holdings.pending (replica_at b s) p other))
 
--- Unnamed blocks.
+-- Blocks that a report does not name.
 
 unnamed_stays : (C : Cluster) (H : Holdings) (s : ℕ) (ts : List Told) (p : ReplicaId) → p.storage ≢ s → is_named ts p.block ≡ false → stays_by C H s ts p ≡ true
 unfolding leaves_by_report

@@ -1,4 +1,4 @@
--- What each kind of call leaves of a state.
+-- The state after each kind of call.
 use Rattle.std.proofs.Common.{◌≡◌, ℕ, true, false, Option, Some, None, List, refl, ap, ◌∙◌}
 use Rattle.std.specs.Prelude.{if◌then◌else◌, option_map}
 use Rattle.bm_base.specs.declared.replica.ReplicaId.{ReplicaId}
@@ -41,7 +41,7 @@ query_leaves M (call.Retired n) h = either M (node_refusal M.cluster n) _
 query_leaves M call.Calls h = refl
 query_leaves M call.Rounds h = refl
 
--- where nothing refuses
+-- the next state if nothing refuses
 not_refused : (M : State) (o : Option Refusal) (next : Answer × State) → o ≡ None → (refused_or M o next).1 ≡ next.1
 not_refused M o next e = ap (λ r. (refused_or M r next).1) e
 
@@ -55,7 +55,7 @@ event_counted M e none =
     let is = event_step M e none in
     (record { calls = ap (λ N. N.calls) is; limits = ap (λ N. N.limits) is }, ap (λ N. N.round) is)
 
--- Tags through a round.
+-- A round keeps tags.
 
 tagged : (m : Map by_replica Marks) (f : ReplicaId → Marks → Marks) → ((p : ReplicaId) (k : Marks) → (f p k).tag ≡ k.tag) → (p : ReplicaId) → option_map (λ k. k.tag) (get (revise m f) p) ≡ option_map (λ k. k.tag) (get m p)
 tagged m f same p = ap (option_map (λ k. k.tag)) (get-revise m f p) ∙ by_value (get m p)

@@ -1,4 +1,4 @@
--- What an event answers adds up.
+-- The answer of an event adds up.
 use Rattle.std.proofs.Common.{◌≡◌, ◌+◌, Bool, true, false, cond, not, ◌&&◌, Option, Some, None, is_some, List, [], ◌∷◌, map, length, refl, sym, ap, subst, ◌∙◌, T, arith, Ordering}
 use Rattle.std.specs.Prelude.{option_and_then}
 use Rattle.std.specs.Ordering.{eq_by_cmp, is_lt}
@@ -43,7 +43,7 @@ same_unit (Some x) None e = cc
 same_unit (Some x) (Some y) e = refl
 
 module _ {K X Y : Type 0} {o : Order K} where
-  -- maps with the same keys are as long
+  -- maps with the same keys have the same length
   pub same_len : (m : Map o X) (n : Map o Y) → ((q : K) → contains_key m q ≡ contains_key n q) → len m ≡ len n
   unfolding len entries get
   same_len m n same =
@@ -55,7 +55,7 @@ module _ {K X Y : Type 0} {o : Order K} where
 abbrev Replicas : Type 0
 Replicas = Map by_replica Marks
 
--- those of m that n has too
+-- the entries of m whose keys n has too
 abbrev shared : Replicas → Replicas → Replicas
 shared m n = keep m (λ q _. contains_key n q)
 

@@ -1,4 +1,4 @@
--- What events change of which nodes drain, and what a node that begins to drain changes.
+-- Which nodes drain after an event, and what else changes when a node begins or ceases to drain.
 use Rattle.std.proofs.Common.{◌≡◌, ◌≢◌, ℕ, Bool, true, false, cond, Option, Some, None, is_some, refl, sym, ap, ◌∙◌}
 use Rattle.std.specs.Prelude.{if◌then◌else◌}
 use Rattle.std.specs.Ordering.{eq_by_cmp, nat_cmp}
@@ -59,7 +59,7 @@ others_leave M (FullReport s es) e = refl
 
 -- What else changes.
 
--- with the same replicas none came or went
+-- no replica came or went if the replicas are the same
 none_came : (H G : Holdings) → G.replicas ≡ H.replicas → done H G ≡ record { added = 0; removed = 0 }
 unfolding done
 none_came H G e = (λ i. record { added = new_replicas H.replicas (e i); removed = new_replicas (e i) H.replicas }) ∙ none_done H
@@ -79,9 +79,9 @@ pub undrain_takes : law.undrain_takes_nothing
 unfolding after_event done_by change_cluster change_holdings undrain
 undrain_takes M n = (record { nodes = refl; storages = refl; blocks = refl; replicas = refl; round = refl }, refl, none_came M.holdings M.holdings refl)
 
--- Changes of nothing.
+-- Events that change nothing.
 
--- a member that is put again, and one that is taken out and was not there
+-- adding a member again, and removing one that is absent, changes nothing
 put_again : (d : Set by_number) (n : ℕ) → contains_key d n ≡ true → insert d n tt ≡ d
 put_again d n there = same_map (insert d n tt) d (λ q. get-insert d n tt q ∙ by_tie q (eq_by_cmp nat_cmp q n) refl)
   where

@@ -34,7 +34,7 @@ listed H test =
       (λ h. any_map test show (entries H.replicas) ∙ passes_entry H.replicas (λ e. test (show e)) h.0 h.1.0 h.1.1 h.1.2),
     )
 
--- Those whose marks pass.
+-- Replicas whose marks pass a test.
 
 same_replica : (p q : ReplicaId) → ((q.block == p.block) && (q.storage == p.storage)) ≡ true → q ≡ p
 same_replica p q e = let h = and_parts (q.block == p.block) (q.storage == p.storage) e in λ i. record { block = eqb-true q.block p.block h.0 i; storage = eqb-true q.storage p.storage h.1 i }
@@ -91,7 +91,7 @@ blocks_listed H s b =
       (λ h. let m = there (get H.replicas (replica_at b s)) h in same ∙ passes_entry H.replicas passes (replica_at b s) m.0 m.1 (and_from (s == s) (b == b) (eq-eqb s s refl) (eq-eqb b b refl))),
     )
 
--- where a block's replicas pass
+-- the storages of a block's replicas that pass a test
 module _ (test : ℕ → Marks → Bool) (H : Holdings) (b s : ℕ) where
   abbrev passing : ReplicaId × Marks → Bool
   passing e = ((e.0.block == b) && test e.0.storage e.1) && (e.0.storage == s)
@@ -119,8 +119,8 @@ places_listed H b s = (
 
 -- Missing blocks.
 
--- the level of a block of which at least one replica is wanted is that of a missing one just where
--- none is usable
+-- a block of which at least one replica is wanted has the level of a missing block exactly if no
+-- replica is usable
 no_usable_level : (n d repl racks : ℕ) (multi : Bool) → is_at NoUsableReplica (level_of n d repl racks multi) ≡ true → (n ≡ 0) × (d ≡ 0)
 unfolding level_of
 no_usable_level n d repl racks multi h = by_enough (nat_le repl n) (nat_lt 1 repl && (racks == 1) && multi) h

@@ -20,7 +20,7 @@ use Rattle.bm_base.proofs.Maps.{get_here, get_other, get_taken, get_left}
 use Rattle.bm_base.proofs.Clusters.{is_on, eqb_turned}
 use Rattle.laws_of_events.specs.Changes as law
 
--- A node comes.
+-- A node registers.
 
 abbrev pub new_or : Bool → ℕ → Option StorageInfo → Option StorageInfo
 new_or b n z = if b then Some (record { node = n; remaining = 0 }) else z
@@ -59,7 +59,7 @@ gone_there gone m p e = get-keep m (λ q _. not (gone q.storage)) p ∙ none_sta
 pub still_there : {X : Type 0} (gone : ℕ → Bool) (m : Map by_replica X) (p : ReplicaId) → gone p.storage ≡ false → get (kept_where gone m) p ≡ get m p
 still_there gone m p e = get-keep m (λ q _. not (gone q.storage)) p ∙ all_stays (not (gone p.storage)) (get m p) (ap not e)
 
--- whether a storage is one of the node
+-- a storage of the node, by the test of the definitions
 pub on_it : (C : Cluster) (n s : ℕ) → law.IsOn C n s → has_storage C n s ≡ true
 on_it C n s h = is_on C n s h.0 h.1 ∙ eq-eqb h.0.node n h.2
 
@@ -125,7 +125,7 @@ untold r true z e = cc
 untold r false None e = refl
 untold r false (Some i) e = refl
 
--- storages that are not told of
+-- storages that the heartbeat does not name stay
 others_left : (m : Map by_number StorageInfo) (rs : List Remaining) (s : ℕ) → has (map (λ q. q.storage) rs) s ≡ false → get (set_remaining m rs) s ≡ get m s
 others_left m [] s h = refl
 others_left m (r ∷ rs) s h =

@@ -24,7 +24,7 @@ alive_node C L s known =
     let rack = there (get C.nodes i.0.node) (L.alive s i.0 i.1) in
     (i.0, rack.0, i.1, rack.1)
 
--- storages of one node that are no sisters are the same
+-- two storages of one node that are not siblings are the same
 same_by : (t : Bool) → (not t && true) ≡ false → t ≡ true
 same_by true e = refl
 same_by false e = cc

@@ -45,10 +45,10 @@ pub held_received : (M : State) (s b : ℕ) (stamp : Stamp) → law.held_after M
 unfolding after_event change_holdings
 held_received M s b stamp = refl
 
--- Which replicas are there.
+-- Which replicas exist.
 
 module _ (C : Cluster) (H : Holdings) (s : ℕ) (ts : List Told) where
-  -- on the storage only named ones stay
+  -- no replica of a block that is not named stays on the storage
   leaves_here : (b : ℕ) → is_named ts b ≡ false → stays_by C H s ts (replica_at b s) ≡ false
   unfolding leaves_by_report
   leaves_here b e = rw (eq-eqb s s refl, e) refl
@@ -71,7 +71,7 @@ tells_all M s es b = ap (λ G. contains_key G.replicas (replica_at b s)) (held_r
 not_past : (b n : ℕ) → (nat_le (b + 1) b && nat_lt b n) ≡ false
 not_past b n = grind (arith, nat_tests)
 
--- what is told last of a number of a run
+-- the last stamp that is reported for a number of a run
 around : (front : List Entry) (e : Entry) (behind : List Entry) (b : ℕ) → e.from ≤ b → b ≤ e.to → has (law.numbers_of behind) b ≡ false → last_stamp (expanded (front ++ (e ∷ behind))) b ≡ Some e.stamp
 unfolding expanded
 around front e behind b low high h =
@@ -253,7 +253,7 @@ pub received_there : law.received_is_there
 received_there M s b stamp =
     (entered M.holdings (replica_at b s) stamp, ap (λ G. get G.replicas (replica_at b s)) (held_received M s b stamp) ∙ entered_there M.cluster M.holdings (replica_at b s) stamp, told_marks M.holdings (replica_at b s) stamp)
 
--- What was bad.
+-- Bad replicas.
 
 known_since_bad : (C : Cluster) (H : Holdings) → IsLawfulHoldings C H → (p : ReplicaId) → law.IsBadIn H p → (i : BlockInfo) × (get H.blocks p.block ≡ Some i)
 known_since_bad C H L p bad =

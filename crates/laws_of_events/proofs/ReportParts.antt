@@ -32,7 +32,7 @@ use Rattle.laws_of_events.proofs.Reporting.{last_is, put_or, reported_here, repo
 use Rattle.laws_of_events.specs.Reports as law
 use Rattle.laws_of_events.specs.Runs.{last_stamp}
 
--- What a list with one more replica lists.
+-- Lists with one more replica.
 
 last_other : (ts : List Told) (t : Told) (b : ℕ) → (t.id == b) ≡ false → last_stamp (ts ++ (t ∷ [])) b ≡ last_stamp ts b
 last_other [] t b e = ap (λ c. if c then Some t.stamp else None) e
@@ -211,7 +211,7 @@ module _ (C : Cluster) (H : Holdings) (s : ℕ) (ts : List Told) (t : Told) (non
         | false ↦ λ x. more_elsewhere q (eqb-false q.storage s x)
       ] refl
 
-  -- transfers
+  -- pending transfers
   on_way : (us : List Told) (q : ReplicaId) → get (report C H s us).pending q ≡ staying (not ((q.storage == s) && is_named us q.block)) (get H.pending q)
   unfolding report
   on_way us q = get-keep H.pending (λ q _. not ((q.storage == s) && is_named us q.block)) q

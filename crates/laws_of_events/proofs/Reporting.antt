@@ -1,4 +1,4 @@
--- What is held after a full report, replica by replica.
+-- The replicas after a full report, one by one.
 use Rattle.std.proofs.Common.{◌≡◌, ◌≢◌, ℕ, Bool, true, false, cond, ◌&&◌, ◌||◌, Option, Some, None, is_some, List, [], ◌∷◌, ◌++◌, map, refl, ap, ◌∙◌, eqb-true, eq-eqb, ne_eqb}
 use Rattle.std.specs.Prelude.{◌==◌, if◌then◌else◌}
 use Rattle.std.specs.Option.{option_or, option_map_or}
@@ -20,7 +20,7 @@ use Rattle.bm_base.proofs.Maps.{get_insert_all_elsewhere}
 use Rattle.bm_base.proofs.Entering.{stays_by}
 use Rattle.laws_of_events.specs.Runs.{last_stamp}
 
--- the numbers that are told of
+-- the reported numbers
 abbrev ids : List Told → List ℕ
 ids ts = map (λ t. t.id) ts
 
@@ -52,7 +52,7 @@ either_here None true stamp e h = refl
 either_here None false stamp e h = cc
 either_here (Some x) b stamp e h = cc
 
--- what is told of a number behind which it is not named is told last
+-- the last stamp of a number that no later entry names
 pub last_is : (front : List Told) (e : Told) (behind : List Told) → has (ids behind) e.id ≡ false → last_stamp (front ++ (e ∷ behind)) e.id ≡ Some e.stamp
 last_is [] e behind h = either_here (last_stamp behind e.id) (e.id == e.id) e.stamp (none_named behind e.id (named_since behind e.id ∙ named_numbers behind e.id ∙ h)) (eq-eqb e.id e.id refl)
 last_is (x ∷ front) e behind h = ap (λ o. option_or o (if x.id == e.id then Some x.stamp else None)) (last_is front e behind h)
@@ -61,7 +61,7 @@ module _ (C : Cluster) (H : Holdings) (s : ℕ) where
   abbrev put : Told → ReplicaId × Marks
   put e = (replica_at e.id s, entered H (replica_at e.id s) e.stamp)
 
-  -- what is put for a number, and else what is there
+  -- the marks after a report: new ones for a reported number, else those that were there
   abbrev pub put_or : ℕ → Option Stamp → Option Marks → Option Marks
   put_or b o z = option_map_or (λ t. Some (entered H (replica_at b s) t)) o z
 

@@ -36,7 +36,7 @@ draining_at : (C : Cluster) (n s : ℕ) → has_storage C n s ≡ true → is_dr
 unfolding has_storage is_draining
 draining_at C n s h = ap (λ z. option_map_or (drains C) z false) (node_at (node_of C s) n h)
 
--- What the query says.
+-- The answer of the query.
 
 second_fails : (a b : Bool) → (a && not b) ≡ false → a ≡ true → b ≡ true
 second_fails true true e h = refl
@@ -53,7 +53,7 @@ module _ (C : Cluster) (H : Holdings) (n : ℕ) where
   unfolding has_enough_live
   enough_is b i e = ap (λ z. option_map_or (λ i. nat_le i.repl (length (live C H b))) z false) e
 
-  -- an entry of a replica of the block that is drained on the node
+  -- the entry is of a drained replica of the block on the node
   abbrev drained_there : ℕ → ReplicaId × Marks → Bool
   drained_there b e = ((e.0.block == b) && is_drained_on C e.0.storage e.1) && has_storage C n e.0.storage
 
@@ -91,7 +91,7 @@ module _ (C : Cluster) (H : Holdings) (n : ℕ) where
         any_drained b ∙ passes_entry H.replicas (drained_there b) (replica_at b s) m is (and_from ((b == b) && is_drained_on C s m) (has_storage C n s) (and_from (b == b) (is_drained_on C s m) (eq-eqb b b refl) here) on) in
         leb-true i.repl (length (live C H b)) (sym (enough_is b i info) ∙ second_fails (list_any (has_storage C n) (drained C H b)) (has_enough_live C H b) (sym (held_back_is b) ∙ none_holds_back b i info) some)
 
-  -- by what is said plainly nothing holds the node back
+  -- no block holds the node back if each that has a usable replica there has enough live ones
   unheld : ((b s : ℕ) (i : BlockInfo) (m : Marks) → get H.blocks b ≡ Some i → has_storage C n s ≡ true → get H.replicas (replica_at b s) ≡ Some m → is_usable m ≡ true → i.repl ≤ length (live C H b))
       → list_any (is_held_back_by C H n) (keys H.blocks) ≡ true → ⊥
   unheld plain h =
@@ -114,7 +114,7 @@ said_plainly C H n = (
       (false_from_ne_true (list_any (is_held_back_by C H n) (keys H.blocks)) (unheld C H n (λ b s i m info on is usable. h.1 b s i info (is_on_it C n s on) (m, is, usable_marks m usable)))))),
 )
 
--- What is left by the node's death.
+-- The state after the node's death.
 
 module _ (C : Cluster) (H : Holdings) (n : ℕ) (retired : is_retired C H n ≡ true) where
   abbrev left : Holdings

@@ -1,4 +1,4 @@
--- The lists of queries rise.
+-- The lists of queries are strictly ascending.
 use Rattle.std.proofs.Common.{◌≡◌, ℕ, zero, suc, ◌<◌, Bool, true, false, cond, ◌&&◌, List, [], ◌∷◌, map, filter, length, AllPairs, inl, inr, refl, sym, subst, ◌∙◌, map-id, T, Ordering, Less, Equal, Greater, is_lt, eqb-true, arith}
 use Rattle.bm_parts.specs.QueryLaws.{replica_key}
 use Rattle.std.specs.Prelude.{◌==◌, slice_index_or}
@@ -19,7 +19,7 @@ use Rattle.bm_base.specs.Queries.{all_replicas, replicas_where, missing_blocks, 
 use Rattle.bm_base.proofs.Each.{Each, each_mapped, each_then, each_filtered, each_passing, each_both}
 use Rattle.laws_of_events.specs.Queries as law
 
--- each item is before those behind it
+-- each item is before all later ones
 abbrev Rise : {X : Type 0} → (X → X → Type 0) → List X → Type 0
 Rise B [] = Unit {0}
 Rise B (x ∷ xs) = Each (B x) xs × Rise B xs
@@ -40,7 +40,7 @@ rise_mapped : {X Y : Type 0} (B : X → X → Type 0) (D : Y → Y → Type 0) (
 rise_mapped B D f g [] h = tt
 rise_mapped B D f g (x ∷ xs) h = (each_mapped (D (f x)) f xs (each_then (B x) (λ y. D (f x) (f y)) xs h.0 (g x)), rise_mapped B D f g xs h.1)
 
--- a filter leaves the order, and what it leaves passes
+-- a filter keeps the order, and all that it keeps passes
 abbrev BothPass : {X : Type 0} → (X → Bool) → (X → X → Type 0) → X → X → Type 0
 BothPass p B x y = (p x ≡ true) × (p y ≡ true) × B x y
 
@@ -52,7 +52,7 @@ rise_filtered : {X : Type 0} (B : X → X → Type 0) (p : X → Bool) (xs : Lis
 rise_filtered B p [] h = tt
 rise_filtered B p (x ∷ xs) h = passing_head B p x (p x) (filter p xs) refl (each_passing p xs) (each_filtered (B x) p xs h.0) (rise_filtered B p xs h.1)
 
--- Entries rise.
+-- Entries are ascending.
 
 less : (r : Ordering) → T (is_lt r) → r ≡ Less
 less Less h = refl
@@ -96,7 +96,7 @@ where_rise test H =
     rise_pairs law.IsBefore (replicas_where test H)
     (rise_mapped (BothPass p (λ e f. law.IsBefore e.0 f.0)) law.IsBefore (λ e. e.0) (λ e f h. h.2) (filter p (entries H.replicas)) (rise_filtered (λ e f. law.IsBefore e.0 f.0) p (entries H.replicas) (replicas_rise H)))
 
--- of one storage, and of one block
+-- replicas of one storage are ordered by block, those of one block by storage
 block_rises : (p q : ReplicaId) → law.IsBefore p q → p.storage ≡ q.storage → p.block < q.block
 block_rises p q (inl lt) e = lt
 block_rises p q (inr h) e = absurd (let lt = h.1 in omega (arith, lt, e))

@@ -47,7 +47,7 @@ named es b = (
 pub numbers_counted : law.numbers_are_counted
 numbers_counted es = length-map (expanded es) (λ (t : Told). t.id) ∙ length-expanded es
 
--- Reports of which the same is told last.
+-- Reports with the same last stamp of each number.
 
 module _ (C : Cluster) (H : Holdings) (s : ℕ) (ts us : List Told) (same : (b : ℕ) → law.last_stamp ts b ≡ law.last_stamp us b) where
   same_named : (b : ℕ) → is_named ts b ≡ is_named us b

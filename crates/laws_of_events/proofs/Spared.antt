@@ -1,4 +1,4 @@
--- No transfer is on its way to a node that drains.
+-- No pending transfer goes to a node that drains.
 use Rattle.std.proofs.Common.{◌≡◌, ◌≢◌, ℕ, ◌*◌, Bool, true, false, not, Option, Some, None, is_some, List, [], ◌∷◌, ◌++◌, filter, length, option_to_list, refl, sym, ap, ◌∙◌, true≢false, eq-eqb}
 use Rattle.std.specs.Prelude.{◌==◌, nat_le, if◌then◌else◌, option_map}
 use Rattle.std.specs.Option.{option_map_or}
@@ -47,7 +47,7 @@ off_by : (C : Cluster) (s : ℕ) (z : Option ℕ) → node_of C s ≡ z → ((n 
 off_by C s None e h = refl
 off_by C s (Some n) e h = h n e
 
--- off a node that drains, where the node that it has does not
+-- a storage does not drain if its node, if it has one, does not
 off_where : (C : Cluster) (s : ℕ) → ((n : ℕ) → node_of C s ≡ Some n → drains C n ≡ false) → is_draining C s ≡ false
 unfolding is_draining
 off_where C s h = off_by C s (node_of C s) refl h
@@ -63,7 +63,7 @@ out_of_it d n m none = by_answer (contains_key (remove d n) m) refl
     by_answer true e = absurd (true≢false (sym (known_before d n m e).1 ∙ none))
     by_answer false e = refl
 
--- What events leave.
+-- Storages that do not drain after events.
 
 registered_still : (C : Cluster) (n rack : ℕ) (ss : List ℕ) (s : ℕ) → is_draining C s ≡ false → is_draining (register C n rack ss) s ≡ false
 unfolding register drains node_of
@@ -97,12 +97,12 @@ undrained_still : (C : Cluster) (n s : ℕ) → is_draining C s ≡ false → is
 unfolding undrain drains node_of
 undrained_still C n s off = off_where (undrain C n) s (λ m e. out_of_it C.draining n m (node_off C s m off e))
 
--- another node begins to drain
+-- the node that begins to drain is another
 drained_still : (C : Cluster) (n s : ℕ) → is_draining C s ≡ false → ((m : ℕ) → node_of C s ≡ Some m → m ≢ n) → is_draining (drain C n) s ≡ false
 unfolding drain drains node_of
 drained_still C n s off other = off_where (drain C n) s (λ m e. ap is_some (get_other C.draining n tt m (other m e)) ∙ node_off C s m off e)
 
--- Holdings whose transfers go to no node that drains.
+-- Holdings without a pending transfer to a node that drains.
 abbrev Spares : Cluster → Holdings → Type 0
 Spares C H = (p : ReplicaId) → is_some (get H.pending p) ≡ true → is_draining C p.storage ≡ false
 

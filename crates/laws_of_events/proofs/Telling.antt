@@ -1,4 +1,4 @@
--- What is told of a replica decides its marks.
+-- The marks of a replica that is reported or received.
 use Rattle.std.proofs.Common.{◌≡◌, Bool, true, false, ◌&&◌, Option, Some, None, refl, sym, ap, ◌∙◌, eqb-true, eq-eqb}
 use Rattle.std.specs.Prelude.{◌==◌, if◌then◌else◌}
 use Rattle.std.specs.Option.{option_map_or}
@@ -58,7 +58,7 @@ same_stamps a b e =
 stamps_same : (a b : Stamp) → a ≡ b → same_stamp a b ≡ true
 stamps_same a b e = and_from (a.generation == b.generation) (a.len == b.len) (eq-eqb a.generation b.generation (ap (λ s. s.generation) e)) (eq-eqb a.len b.len (ap (λ s. s.len) e))
 
--- the tag, where it was bad or not and this is what is known of the block
+-- the tag by whether the replica was bad, by its stamp and by what is known of the block
 abbrev pub tag_where : Bool → Stamp → Option BlockInfo → Tag
 tag_where bad stamp z = option_map_or (λ i. if bad then Bad else if same_stamp stamp i.stamp then Good else Stale) z Stray
 
@@ -66,7 +66,7 @@ tag_is : (H : Holdings) (p : ReplicaId) (stamp : Stamp) → (entered H p stamp).
 unfolding entered entered_tag
 tag_is H p stamp = refl
 
--- the tag, where this is what is known
+-- the tag of a replica is `tag_where` of what is known
 tag_with : (H : Holdings) (p : ReplicaId) (stamp : Stamp) (bad : Bool) (z : Option BlockInfo) → was_bad H p ≡ bad → get H.blocks p.block ≡ z → (entered H p stamp).tag ≡ tag_where bad stamp z
 tag_with H p stamp bad z e f = tag_is H p stamp ∙ (λ i. tag_where (e i) stamp (f i))
 

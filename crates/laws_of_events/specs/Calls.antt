@@ -1,4 +1,4 @@
--- What each kind of call leaves of a state.
+-- The state after each kind of call.
 use Rattle.std.specs.Prelude.{◌≡◌, ◌+◌, Bool, true, false, IsTrue, option_map, None}
 use Rattle.bm_base.specs.declared.replica.ReplicaId.{ReplicaId}
 use Rattle.bm_base.specs.declared.event.Event.{Event}
@@ -19,16 +19,16 @@ is_query _ = true
 abbrev pub query_leaves_state : Type 0
 query_leaves_state = (M : State) (k : Call) → IsTrue (is_query k) → (step M k).1 ≡ M
 
--- one call more is counted, and the configured limits stay
+-- one more call is counted, and the configured limits stay
 pub record IsCounted (M N : State) : Type 0 where
   pub calls : N.calls ≡ M.calls + 1
   pub limits : N.limits ≡ M.limits
 
--- an event is no round
+-- an accepted event is counted, and keeps the round number
 abbrev pub event_is_counted : Type 0
 event_is_counted = (M : State) (e : Event) → refusal_of M e ≡ None → IsCounted M (step M (call.Apply e)).1 × ((step M (call.Apply e)).1.round ≡ M.round)
 
--- a round changes neither the cluster nor a block, and brings, takes or tags no replica
+-- a round keeps the cluster and the blocks, and no replica comes, goes or gets another tag
 pub record IsNextRound (M N : State) : Type 0 where
   pub counted : IsCounted M N
   pub round : N.round ≡ M.round + 1
@@ -39,8 +39,8 @@ pub record IsNextRound (M N : State) : Type 0 where
 abbrev pub round_is_counted : Type 0
 round_is_counted = (M : State) → round_refusal M ≡ None → IsNextRound M (step M call.Round).1
 
--- Where memory may lack, a refused answer of whatever kind leaves the state, and any other is that
--- of the step.
+-- If memory is limited: a refusal of any kind keeps the state, and any other answer, with the next
+-- state, is the step's.
 
 abbrev pub refused_answer_leaves_state : Type 0
 refused_answer_leaves_state = (M : State) (k : Call) (a : Answer) → MayAnswer step M k a → IsTrue (is_refused a) → state_left step M k a ≡ M

@@ -1,4 +1,4 @@
--- What each event changes, and what it leaves.
+-- What each event changes, and what it keeps.
 use Rattle.std.specs.Prelude.{◌≡◌, ◌≢◌, ℕ, ◌+◌, true, false, IsTrue, IsSome, List, ◌∷◌, ◌++◌, map, Some, None}
 use Rattle.bm_base.specs.declared.replica.ReplicaId.{ReplicaId}
 use Rattle.bm_base.specs.declared.replica.Tag.TheVariants.{Good, Stale, Bad, Stray}
@@ -22,22 +22,23 @@ cluster_after M e = (after_event M e).cluster
 
 -- All events.
 
--- what an event answers: so many replicas more and so many fewer are there
+-- the answer of an event adds up: after it there are `added` more replicas, and `removed` fewer
 abbrev pub counts_add_up : Type 0
 counts_add_up = (M : State) (e : Event) → len (held_after M e).replicas + (done_by M e).removed ≡ len M.holdings.replicas + (done_by M e).added
 
--- what was bad stays so, as long as the replica is there and its block is known
+-- a bad replica stays bad as long as it exists and its block is known
 abbrev pub no_event_clears_bad : State → Type 0
 no_event_clears_bad M =
     (e : Event) (p : ReplicaId) → IsBadIn M.holdings p → IsSome (get (held_after M e).replicas p) → IsTrue (contains_key (held_after M e).blocks p.block) → IsBadIn (held_after M e) p
 
--- An event on one block leaves all that is held of another.
+-- An event on one block keeps everything of any other.
 abbrev pub event_leaves_other_blocks : Type 0
 event_leaves_other_blocks = (M : State) (e : Event) (b c : ℕ) → block_of e ≡ Some b → c ≢ b → IsSameOf c M.holdings (held_after M e)
 
 -- Nodes and storages.
 
--- a node came with these storages, on which nothing remains yet
+-- a node was added with these storages, which have no remaining bytes yet; other nodes, other
+-- storages and all holdings stay
 pub record NodeCame (M N : State) (n rack : ℕ) (ss : List ℕ) : Type 0 where
   pub node : get N.cluster.nodes n ≡ Some rack
   pub other_nodes : (m : ℕ) → m ≢ n → get N.cluster.nodes m ≡ get M.cluster.nodes m
@@ -48,7 +49,8 @@ pub record NodeCame (M N : State) (n rack : ℕ) (ss : List ℕ) : Type 0 where
 abbrev pub registered_node_is_there : Type 0
 registered_node_is_there = (M : State) (n rack : ℕ) (ss : List ℕ) → NodeCame M (after_event M (Register n rack ss)) n rack ss
 
--- what was on a storage that is there no more is gone, and the rest is as it was
+-- the storages of `left` are gone with their replicas and the transfers to them; blocks, and what
+-- other storages have, stay
 pub record StoragesLeft (M N : State) (left : ℕ → Type 0) : Type 0 where
   pub storages : (s : ℕ) → left s → get N.cluster.storages s ≡ None
   pub other_storages : (s : ℕ) → (left s → ⊥) → get N.cluster.storages s ≡ get M.cluster.storages s
@@ -62,7 +64,7 @@ pub record StoragesLeft (M N : State) (left : ℕ → Type 0) : Type 0 where
 abbrev pub IsOn : Cluster → ℕ → ℕ → Type 0
 IsOn C n s = (i : StorageInfo) × (get C.storages s ≡ Some i) × (i.node ≡ n)
 
--- a node leaves with all that is on its storages
+-- a dead node leaves with its storages, their replicas and the transfers to them
 abbrev pub dead_node_leaves : Type 0
 dead_node_leaves =
     (M : State) (n : ℕ)
@@ -70,14 +72,14 @@ dead_node_leaves =
     × ((m : ℕ) → m ≢ n → get (cluster_after M (Dead n)).nodes m ≡ get M.cluster.nodes m)
     × StoragesLeft M (after_event M (Dead n)) (IsOn M.cluster n)
 
--- a storage leaves, and its node stays
+-- a failed storage leaves, and its node stays
 abbrev pub failed_storage_leaves : Type 0
 failed_storage_leaves =
     (M : State) (s : ℕ)
     → ((cluster_after M (StorageFailed s)).nodes ≡ M.cluster.nodes)
     × StoragesLeft M (after_event M (StorageFailed s)) (λ t. t ≡ s)
 
--- of several values for a storage the last one counts
+-- of several values for one storage the last one counts
 abbrev pub last_heartbeat_counts : Type 0
 last_heartbeat_counts =
     (M : State) (n : ℕ) (front : List Remaining) (r : Remaining) (behind : List Remaining) (i : StorageInfo) → get M.cluster.storages r.storage ≡ Some i → has (map (λ q. q.storage) behind) r.storage ≡ false
@@ -95,14 +97,14 @@ added_block_is_known =
     × ((held_after M (AddBlock b stamp repl)).replicas ≡ M.holdings.replicas)
     × ((held_after M (AddBlock b stamp repl)).pending ≡ M.holdings.pending)
 
--- all of a block's replicas, marked anew: which are there stays
+-- a block keeps its replicas, and R relates the marks of each before and after
 abbrev pub AreMarked : ℕ → Holdings → Holdings → (Marks → Marks → Type 0) → Type 0
 AreMarked b H G R =
     (s : ℕ)
     → (get H.replicas (replica_at b s) ≡ None → get G.replicas (replica_at b s) ≡ None)
     × ((m : Marks) → get H.replicas (replica_at b s) ≡ Some m → (k : Marks) × (get G.replicas (replica_at b s) ≡ Some k) × R m k)
 
--- a deleted block is not known, its replicas are stray and no transfer of it is on its way
+-- a deleted block is not known, its replicas are stray, and no transfer of it is pending
 pub record BlockDeleted (H G : Holdings) (b : ℕ) : Type 0 where
   pub unknown : get G.blocks b ≡ None
   pub stray : AreMarked b H G (λ m k. (k.tag ≡ Stray) × (k.excess ≡ false) × (k.ordered ≡ m.ordered))
@@ -111,7 +113,7 @@ pub record BlockDeleted (H G : Holdings) (b : ℕ) : Type 0 where
 abbrev pub deleted_block_is_stray : Type 0
 deleted_block_is_stray = (M : State) (b : ℕ) → BlockDeleted M.holdings (held_after M (DeleteBlock b)) b
 
--- a block with a new stamp has no good replica, and no transfer of it is on its way
+-- a block with a new stamp has no good replica, and no pending transfer
 pub record BlockRestamped (H G : Holdings) (b : ℕ) (stamp : Stamp) : Type 0 where
   pub known : (i : BlockInfo) → get H.blocks b ≡ Some i → get G.blocks b ≡ Some (record { stamp = stamp; repl = i.repl })
   pub none_good : AreMarked b H G (λ m k. (m.tag ≡ Good → k.tag ≡ Stale) × (m.tag ≢ Good → k.tag ≡ m.tag) × (k.excess ≡ false) × (k.ordered ≡ m.ordered))
@@ -129,7 +131,7 @@ replication_is_set =
 
 -- Replicas.
 
--- a deleted replica is gone; the others, and the transfers on their way, stay
+-- a deleted replica is gone; all others, and the pending transfers, stay
 abbrev pub deleted_replica_is_gone : Type 0
 deleted_replica_is_gone =
     (M : State) (s b : ℕ)
@@ -137,7 +139,8 @@ deleted_replica_is_gone =
     × ((p : ReplicaId) → p ≢ replica_at b s → get (held_after M (Deleted s b)).replicas p ≡ get M.holdings.replicas p)
     × ((held_after M (Deleted s b)).pending ≡ M.holdings.pending)
 
--- a corrupt replica is bad and not in excess; none comes, and the others stay
+-- a corrupt replica is bad and not in excess; none comes, and all others, and the pending
+-- transfers, stay
 abbrev pub corrupt_replica_is_bad : Type 0
 corrupt_replica_is_bad =
     (M : State) (s b : ℕ)
@@ -146,8 +149,8 @@ corrupt_replica_is_bad =
     × ((p : ReplicaId) → p ≢ replica_at b s → get (held_after M (Corrupt s b)).replicas p ≡ get M.holdings.replicas p)
     × ((held_after M (Corrupt s b)).pending ≡ M.holdings.pending)
 
--- the transfers to a storage of what its report names have arrived; the others are on their way
--- still
+-- the transfers to a storage of the blocks that its report names have arrived; all others stay
+-- pending
 abbrev pub report_ends_transfers : Type 0
 report_ends_transfers =
     (M : State) (s : ℕ) (es : List Entry)
@@ -161,8 +164,8 @@ received_ends_transfer =
     → (get (held_after M (Received s b stamp)).pending (replica_at b s) ≡ None)
     × ((p : ReplicaId) → p ≢ replica_at b s → get (held_after M (Received s b stamp)).pending p ≡ get M.holdings.pending p)
 
--- a report leaves the replicas on other storages of blocks that it does not name, also of its own
--- node
+-- a report keeps the replicas on other storages of blocks that it does not name, those of its own
+-- node included
 abbrev pub report_leaves_unnamed_blocks : Type 0
 report_leaves_unnamed_blocks =
     (M : State) (s : ℕ) (es : List Entry) (p : ReplicaId) → p.storage ≢ s → has (numbers_of es) p.block ≡ false → get (held_after M (FullReport s es)).replicas p ≡ get M.holdings.replicas p

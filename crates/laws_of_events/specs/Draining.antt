@@ -21,7 +21,7 @@ use Rattle.laws_of_events.specs.Queries.{IsHeld}
 
 -- Which nodes drain.
 
--- an event leaves node n draining or not, as said, and every other node as it was
+-- after an event node n drains exactly if `now`, and other nodes drain as before
 abbrev pub LeavesDraining : State → Event → ℕ → Bool → Type 0
 LeavesDraining M e n now = (drains (cluster_after M e) n ≡ now) × ((m : ℕ) → m ≢ n → drains (cluster_after M e) m ≡ drains M.cluster m)
 
@@ -37,7 +37,7 @@ registered_node_does_not_drain = (M : State) (n rack : ℕ) (ss : List ℕ) → 
 abbrev pub dead_node_does_not_drain : Type 0
 dead_node_does_not_drain = (M : State) (n : ℕ) → LeavesDraining M (Dead n) n false
 
--- whether an event is about which nodes there are, or drain
+-- whether an event may change which nodes exist or drain
 abbrev pub is_of_a_node : Event → Bool
 is_of_a_node (Register n rack ss) = true
 is_of_a_node (Dead n) = true
@@ -50,7 +50,7 @@ other_events_leave_draining = (M : State) (e : Event) → is_of_a_node e ≡ fal
 
 -- What else the two events change.
 
--- all but which nodes drain and which transfers are on their way
+-- nodes, storages, blocks, replicas and the round number stay
 pub record LeavesTheRest (M N : State) : Type 0 where
   pub nodes : N.cluster.nodes ≡ M.cluster.nodes
   pub storages : N.cluster.storages ≡ M.cluster.storages
@@ -58,7 +58,7 @@ pub record LeavesTheRest (M N : State) : Type 0 where
   pub replicas : N.holdings.replicas ≡ M.holdings.replicas
   pub round : N.round ≡ M.round
 
--- of a node that does not drain yet just the transfers to its storages leave
+-- when a node begins to drain, exactly the pending transfers to its storages are dropped
 abbrev pub drain_takes_transfers : Type 0
 drain_takes_transfers =
     (M : State) (n : ℕ)
@@ -74,7 +74,7 @@ undrain_takes_nothing =
     × (held_after M (Undrain n) ≡ M.holdings)
     × (done_by M (Undrain n) ≡ record { added = 0; removed = 0 })
 
--- only the number of calls changes
+-- Only the number of calls changes.
 
 abbrev pub second_drain_changes_nothing : Type 0
 second_drain_changes_nothing = (M : State) (n : ℕ) → IsTrue (drains M.cluster n) → after_event M (Drain n) ≡ counted M
@@ -82,7 +82,7 @@ second_drain_changes_nothing = (M : State) (n : ℕ) → IsTrue (drains M.cluste
 abbrev pub idle_undrain_changes_nothing : Type 0
 idle_undrain_changes_nothing = (M : State) (n : ℕ) → drains M.cluster n ≡ false → after_event M (Undrain n) ≡ counted M
 
--- in no state that calls lead to is a transfer on its way to a node that drains
+-- after every list of calls, no pending transfer goes to a node that drains
 abbrev pub no_transfer_to_draining : Type 0
 no_transfer_to_draining =
     (c : Config) (ks : List Call) (p : ReplicaId)
@@ -90,8 +90,8 @@ no_transfer_to_draining =
 
 -- Taking a node away.
 
--- a node is retired where it drains and each known block that has a usable replica on it has as
--- many live ones as are wanted
+-- a node is retired exactly if it drains and each known block that has a usable replica on it has
+-- at least the wanted number of live ones
 abbrev pub retired_is_said_plainly : Type 0
 retired_is_said_plainly =
     (C : Cluster) (H : Holdings) (n : ℕ)
@@ -99,8 +99,8 @@ retired_is_said_plainly =
     ↔ (IsTrue (drains C n)
     × ((b s : ℕ) (i : BlockInfo) → get H.blocks b ≡ Some i → IsOn C n s → IsHeld H (replica_at b s) (λ m. (m.tag ≡ Good) × (m.excess ≡ false)) → i.repl ≤ length (live C H b)))
 
--- Where the query answers yes, the node may die: each block has the live replicas that it had, one
--- of which too few are live has all its usable ones too, and none is missing that was not.
+-- If the query answers yes, the node may die: each block keeps its live replicas, a block with too
+-- few live ones keeps all its usable ones, and no further block is missing.
 pub record NothingIsMissed (M N : State) : Type 0 where
   pub live_stay : (b : ℕ) → live N.cluster N.holdings b ≡ live M.cluster M.holdings b
   pub usable_stay : (b : ℕ) (i : BlockInfo) → get M.holdings.blocks b ≡ Some i → length (live M.cluster M.holdings b) < i.repl → usable N.holdings b ≡ usable M.holdings b

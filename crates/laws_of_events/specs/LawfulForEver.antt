@@ -14,36 +14,37 @@ use Rattle.bm_base.specs.Answering.{is_refused, MayAnswerAll, state_left_by}
 use Rattle.bm_base.specs.Lawful.{IsLawful, IsOrderly}
 use Rattle.bm_base.specs.Fitting.{HasFittingStart, FitsEvent, FitsCall, FitCalls}
 
--- of every configuration, allowed or not
+-- the first state of every configuration whose first numbers fit is lawful, even if the
+-- configuration is not allowed
 abbrev pub first_state_is_lawful : Type 0
 first_state_is_lawful = (c : Config) → HasFittingStart c → IsLawful (first_state c)
 
--- an accepted event
+-- an accepted event whose numbers fit keeps a lawful state lawful
 abbrev pub event_keeps_lawful : Type 0
 event_keeps_lawful = (M : State) (e : Event) → IsLawful M → FitsEvent e → refusal_of M e ≡ None → IsLawful (after_event M e)
 
--- an accepted round
+-- an accepted round keeps a lawful state lawful
 abbrev pub round_keeps_lawful : Type 0
 round_keeps_lawful = (M : State) → IsLawful M → round_refusal M ≡ None → IsLawful (counted (whole_round M).1)
 
--- a call that is refused
+-- a refused call keeps the state
 abbrev pub refusal_leaves_state : Type 0
 refusal_leaves_state = (M : State) (k : Call) → IsTrue (is_refused (step M k).0) → (step M k).1 ≡ M
 
--- any call
+-- any call whose numbers fit keeps a lawful state lawful
 abbrev pub call_keeps_lawful : Type 0
 call_keeps_lawful = (M : State) (k : Call) → IsLawful M → FitsCall k → IsLawful (step M k).1
 
--- any calls, where memory never lacks
+-- calls whose numbers fit lead to a lawful state, if memory never runs out
 abbrev pub calls_lead_to_lawful : Type 0
 calls_lead_to_lawful = (c : Config) (ks : List Call) → HasFittingStart c → FitCalls ks → IsLawful (state_after (first_state c) ks)
 
--- any calls with any answers that they may give, want of memory among them
+-- such calls lead to a lawful state with any answers that they may give, out of memory included
 abbrev pub answered_calls_lead_to_lawful : Type 0
 answered_calls_lead_to_lawful =
     (c : Config) (ks : List Call) (answers : List Answer) → HasFittingStart c → FitCalls ks → MayAnswerAll step (first_state c) ks answers → IsLawful (state_left_by step (first_state c) ks answers)
 
--- Whatever numbers calls bring, the state that they lead to is lawful but for the sizes of its
+-- Whatever numbers calls bring, they lead to a state that is lawful but for the sizes of its
 -- numbers.
 
 abbrev pub calls_lead_to_orderly : Type 0
@@ -53,7 +54,7 @@ abbrev pub answered_calls_lead_to_orderly : Type 0
 answered_calls_lead_to_orderly =
     (c : Config) (ks : List Call) (answers : List Answer) → MayAnswerAll step (first_state c) ks answers → IsOrderly (state_left_by step (first_state c) ks answers)
 
--- what is on its way to a storage is not there yet, whatever its tag
+-- the target of a pending transfer has no replica of the block, of any tag
 abbrev pub IsStillToCome : State → Type 0
 IsStillToCome M = (p : ReplicaId) → IsSome (get M.holdings.pending p) → get M.holdings.replicas p ≡ None
 

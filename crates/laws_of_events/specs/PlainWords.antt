@@ -1,5 +1,4 @@
--- What holds after every list of calls, said with no word of the state machine but the state
--- itself.
+-- What holds after every list of calls, in no terms of the state machine but the state itself.
 use Rattle.std.specs.Prelude.{◌≡◌, ◌≢◌, ℕ, ◌≤◌, IsTrue, IsSome, List, Some, None}
 use Rattle.bm_base.specs.declared.config.Config.{Config}
 use Rattle.bm_base.specs.declared.call.Call.{Call}
@@ -13,23 +12,23 @@ use Rattle.bm_base.specs.Map.{get, len}
 use Rattle.bm_base.specs.State.{Cluster, Holdings, State, first_state}
 use Rattle.bm_base.specs.Calls.{state_after}
 
--- the storage is there, on a node that is there
+-- the storage exists, on an alive node
 abbrev pub IsOnAliveNode : Cluster → ℕ → Type 0
 IsOnAliveNode C s = (i : StorageInfo) × (rack : ℕ) × (get C.storages s ≡ Some i) × (get C.nodes i.node ≡ Some rack)
 
 pub record IsSound (C : Cluster) (H : Holdings) : Type 0 where
   pub replicas_alive : (p : ReplicaId) → IsSome (get H.replicas p) → IsOnAliveNode C p.storage
   pub transfers_alive : (p : ReplicaId) → IsSome (get H.pending p) → IsOnAliveNode C p.storage
-  -- a node that drains is there, and no transfer is on its way to it
+  -- a node that drains is alive, and no pending transfer goes to it
   pub draining_alive : (n : ℕ) → IsSome (get C.draining n) → IsSome (get C.nodes n)
   pub draining_spared : (p : ReplicaId) (i : StorageInfo) → IsSome (get H.pending p) → get C.storages p.storage ≡ Some i → get C.draining i.node ≡ None
-  -- two replicas of a block on one node are the same
+  -- a node has at most one replica of a block
   pub one_on_a_node : (p q : ReplicaId) (i j : StorageInfo) → IsSome (get H.replicas p) → IsSome (get H.replicas q) → p.block ≡ q.block → get C.storages p.storage ≡ Some i → get C.storages q.storage ≡ Some j → i.node ≡ j.node → p ≡ q
   pub stray_unknown : (p : ReplicaId) (m : Marks) → get H.replicas p ≡ Some m → m.tag ≡ Stray → get H.blocks p.block ≡ None
   pub others_known : (p : ReplicaId) (m : Marks) → get H.replicas p ≡ Some m → m.tag ≢ Stray → IsSome (get H.blocks p.block)
   pub excess_good : (p : ReplicaId) (m : Marks) → get H.replicas p ≡ Some m → IsTrue m.excess → m.tag ≡ Good
   pub transfers_known : (p : ReplicaId) → IsSome (get H.pending p) → IsSome (get H.blocks p.block)
-  -- what is on its way to a storage is not there yet
+  -- the target of a pending transfer has no replica of the block yet
   pub transfers_to_come : (p : ReplicaId) → IsSome (get H.pending p) → get H.replicas p ≡ None
   pub nodes : len C.nodes ≤ MAX_NODES
   pub storages : len C.storages ≤ MAX_STORAGES

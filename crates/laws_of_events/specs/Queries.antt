@@ -1,4 +1,4 @@
--- What queries list: just what is held, and all of it.
+-- Queries list exactly what is held.
 use Rattle.std.specs.Prelude.{◌≡◌, ℕ, ◌<◌, AllPairs, Bool, false, ◌&&◌, ◌==◌, ◌↔◌, ◌⊎◌, IsTrue, IsSome, List, Some}
 use Rattle.bm_parts.specs.QueryLaws.{replica_key}
 use Rattle.std.specs.List.{list_any}
@@ -13,7 +13,7 @@ use Rattle.bm_base.specs.State.{Cluster, Holdings, replica_at}
 use Rattle.bm_base.specs.Queries.{all_replicas, corrupt_replicas, excess_replicas, missing_blocks, blocks_on, places}
 use Rattle.bm_base.specs.Lawful.{IsLawfulHoldings}
 
--- a replica is held, with such marks
+-- a replica is held, with marks that satisfy P
 abbrev pub IsHeld : Holdings → ReplicaId → (Marks → Type 0) → Type 0
 IsHeld H p P = (m : Marks) × (get H.replicas p ≡ Some m) × P m
 
@@ -21,7 +21,7 @@ IsHeld H p P = (m : Marks) × (get H.replicas p ≡ Some m) × P m
 abbrev pub lists : List ReplicaId → ReplicaId → Bool
 lists ids p = list_any (λ q. (q.block == p.block) && (q.storage == p.storage)) ids
 
--- a replica that passes a test, whatever test, is listed just where such a replica is held
+-- whatever the test, the list has a replica that passes it exactly if such a one is held
 abbrev pub replicas_are_held : Type 0
 replicas_are_held =
     (H : Holdings) (test : Replica → Bool)
@@ -33,26 +33,26 @@ corrupt_are_stale_or_bad = (H : Holdings) (p : ReplicaId) → IsTrue (lists (cor
 abbrev pub excess_are_marked : Type 0
 excess_are_marked = (H : Holdings) (p : ReplicaId) → IsTrue (lists (excess_replicas H) p) ↔ IsHeld H p (λ m. IsTrue m.excess)
 
--- of any tag
+-- the blocks on a storage are those of all its replicas, of any tag
 abbrev pub blocks_on_are_held : Type 0
 blocks_on_are_held = (H : Holdings) (s b : ℕ) → IsTrue (has (blocks_on H s) b) ↔ IsSome (get H.replicas (replica_at b s))
 
--- in excess or not
+-- the places of a block are the storages of its good replicas, in excess or not
 abbrev pub places_are_good : Type 0
 places_are_good = (H : Holdings) (b s : ℕ) → IsTrue (has (places H b) s) ↔ IsHeld H (replica_at b s) (λ m. m.tag ≡ Good)
 
--- a known block of which no replica is good and not in excess, on whatever node
+-- a known block without a replica that is good and not in excess, on any node
 abbrev pub IsMissing : Holdings → ℕ → Type 0
 IsMissing H b = (i : BlockInfo) × (get H.blocks b ≡ Some i) × ((s : ℕ) → IsHeld H (replica_at b s) (λ m. (m.tag ≡ Good) × (m.excess ≡ false)) → ⊥)
 
 abbrev pub missing_have_no_usable_replica : Type 0
 missing_have_no_usable_replica = (C : Cluster) (H : Holdings) → IsLawfulHoldings C H → (b : ℕ) → IsTrue (has (missing_blocks C H) b) ↔ IsMissing H b
 
--- a replica before another: by block, then by storage
+-- the order of replicas: by block, then by storage
 abbrev pub IsBefore : ReplicaId → ReplicaId → Type 0
 IsBefore p q = (p.block < q.block) ⊎ ((p.block ≡ q.block) × (p.storage < q.storage))
 
--- each list rises, so that nothing stands in it twice
+-- each list is strictly ascending, so it has no duplicates
 pub record ListsRise (C : Cluster) (H : Holdings) : Type 0 where
   pub replicas : AllPairs (λ q r. IsBefore (replica_key q) (replica_key r)) (all_replicas H)
   pub corrupt : AllPairs IsBefore (corrupt_replicas H)

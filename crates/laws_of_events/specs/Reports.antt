@@ -1,4 +1,4 @@
--- What a full report and a received replica leave.
+-- The state after a full report, and after a received notice.
 use Rattle.std.specs.Prelude.{◌≡◌, ◌≢◌, ℕ, ◌+◌, ◌≤◌, false, IsTrue, IsSome, List, [], ◌∷◌, ◌++◌, map, length, Some, None}
 use Rattle.bm_base.specs.declared.replica.ReplicaId.{ReplicaId}
 use Rattle.bm_base.specs.declared.replica.Tag.TheVariants.{Good, Stale, Bad, Stray}
@@ -16,7 +16,7 @@ use Rattle.bm_base.specs.Entries.{Told, expanded}
 use Rattle.bm_base.specs.State.{Cluster, Holdings, State, replica_at}
 use Rattle.bm_base.specs.Calls.{done_by, after_event}
 
--- what the state holds after an event
+-- the holdings after an event
 abbrev pub held_after : State → Event → Holdings
 held_after M e = (after_event M e).holdings
 
@@ -30,13 +30,13 @@ IsBadIn H p = (m : Marks) × (get H.replicas p ≡ Some m) × (m.tag ≡ Bad)
 abbrev pub IsExcessIn : Holdings → ReplicaId → Type 0
 IsExcessIn H p = (m : Marks) × (get H.replicas p ≡ Some m) × IsTrue m.excess
 
--- The marks of a replica that was told of with this stamp, where H is what was held before.
+-- The marks of a replica that is reported or received with this stamp. H is what was held before.
 pub record HasToldMarks (H : Holdings) (p : ReplicaId) (stamp : Stamp) (m : Marks) : Type 0 where
   pub stray : get H.blocks p.block ≡ None → m.tag ≡ Stray
   pub bad : (i : BlockInfo) → get H.blocks p.block ≡ Some i → IsBadIn H p → m.tag ≡ Bad
   pub good : (i : BlockInfo) → get H.blocks p.block ≡ Some i → (IsBadIn H p → ⊥) → stamp ≡ i.stamp → m.tag ≡ Good
   pub stale : (i : BlockInfo) → get H.blocks p.block ≡ Some i → (IsBadIn H p → ⊥) → stamp ≢ i.stamp → m.tag ≡ Stale
-  -- it stays in excess where it is good, and it may be ordered to be deleted anew
+  -- It stays in excess if it is good. Its delete is not ordered, so a round may command it again.
   pub excess : m.tag ≡ Good → IsExcessIn H p → IsTrue m.excess
   pub no_new_excess : IsTrue m.excess → (m.tag ≡ Good) × IsExcessIn H p
   pub not_ordered : m.ordered ≡ false
@@ -45,7 +45,7 @@ pub record HasToldMarks (H : Holdings) (p : ReplicaId) (stamp : Stamp) (m : Mark
 abbrev pub report_tells_all : Type 0
 report_tells_all = (M : State) (s : ℕ) (es : List Entry) (b : ℕ) → contains_key (held_after M (FullReport s es)).replicas (replica_at b s) ≡ has (numbers_of es) b
 
--- and a query for the storage's blocks answers each of these numbers once, rising
+-- a query for the storage's blocks answers each of these numbers once, ascending
 abbrev pub report_is_what_is_asked : Type 0
 report_is_what_is_asked = (M : State) (s : ℕ) (es : List Entry) → blocks_on (held_after M (FullReport s es)) s ≡ distinct (numbers_of es)
 
@@ -55,15 +55,15 @@ last_entry_decides =
     (M : State) (s : ℕ) (front : List Entry) (e : Entry) (behind : List Entry) (b : ℕ) → e.from ≤ b → b ≤ e.to → has (numbers_of behind) b ≡ false
     → (m : Marks) × (get (held_after M (FullReport s (front ++ (e ∷ behind)))).replicas (replica_at b s) ≡ Some m) × HasToldMarks M.holdings (replica_at b s) e.stamp m
 
--- the same report again changes nothing that is held, and answers that no replica came or went
+-- the same report again changes no holdings, and answers that no replica came or went
 abbrev pub second_report_changes_nothing : Type 0
 second_report_changes_nothing =
     (M : State) (s : ℕ) (es : List Entry)
     → (held_after (after_event M (FullReport s es)) (FullReport s es) ≡ held_after M (FullReport s es))
     × (done_by (after_event M (FullReport s es)) (FullReport s es) ≡ record { added = 0; removed = 0 })
 
--- the state after a received notice for each of these replicas on storage s, one after another,
--- where none is refused
+-- the state after a received notice for each of these replicas on storage s, one after another, if
+-- none is refused
 abbrev pub after_each_received : State → ℕ → List Told → State
 after_each_received M s [] = M
 after_each_received M s (t ∷ ts) = after_each_received (after_event M (Received s t.id t.stamp)) s ts
@@ -77,11 +77,12 @@ report_in_parts =
     (M : State) (s : ℕ) (front behind : List Entry) → ((b : ℕ) → IsTrue (has (numbers_of behind) b) → get M.holdings.replicas (replica_at b s) ≡ None)
     → after_each_received (after_event M (FullReport s front)) s (expanded behind) ≡ record (after_event M (FullReport s (front ++ behind))) { calls = M.calls + 1 + length (expanded behind) }
 
--- two storages that are not of one node
+-- two different storages that are not of one node
 abbrev pub AreApart : Cluster → ℕ → ℕ → Type 0
 AreApart C s t = (t ≢ s) × ((i j : StorageInfo) → get C.storages s ≡ Some i → get C.storages t ≡ Some j → i.node ≢ j.node)
 
--- where nothing is told of other nodes, their replicas stay, marks included
+-- a report keeps the replicas on the storages of other nodes, marks included, and so does a
+-- received notice
 abbrev pub report_leaves_other_nodes : Type 0
 report_leaves_other_nodes =
     (M : State) (s : ℕ) (es : List Entry) (p : ReplicaId) → AreApart M.cluster s p.storage → get (held_after M (FullReport s es)).replicas p ≡ get M.holdings.replicas p
@@ -90,13 +91,13 @@ abbrev pub received_leaves_other_nodes : Type 0
 received_leaves_other_nodes =
     (M : State) (s b : ℕ) (stamp : Stamp) (p : ReplicaId) → AreApart M.cluster s p.storage → get (held_after M (Received s b stamp)).replicas p ≡ get M.holdings.replicas p
 
--- a replica that is received is there, with marks by its stamp
+-- a received replica exists, with marks by its stamp
 abbrev pub received_is_there : Type 0
 received_is_there =
     (M : State) (s b : ℕ) (stamp : Stamp)
     → (m : Marks) × (get (held_after M (Received s b stamp)).replicas (replica_at b s) ≡ Some m) × HasToldMarks M.holdings (replica_at b s) stamp m
 
--- what was bad and is still there is bad
+-- a bad replica that is still there is bad
 abbrev pub LeavesBadBad : State → Event → Type 0
 LeavesBadBad M e = (p : ReplicaId) → IsBadIn M.holdings p → IsSome (get (held_after M e).replicas p) → IsBadIn (held_after M e) p
 

@@ -19,7 +19,7 @@ pub fn round_is_counted()
     ensures { law.round_is_counted }
 {}
 
-/// A refusing answer keeps the state, be it the step's refusal or out of memory.
+/// A refusal keeps the state, whether the step refuses or memory is out.
 pub fn refused_answer_leaves_state()
     ensures { law.refused_answer_leaves_state }
 {}

@@ -46,7 +46,7 @@ pub fn added_block_is_known()
     ensures { law.added_block_is_known }
 {}
 
-/// A deleted block is not known, its replicas are stray, and no transfer of it is on its way.
+/// A deleted block is not known, its replicas are stray, and no transfer of it is pending.
 pub fn deleted_block_is_stray()
     ensures { law.deleted_block_is_stray }
 {}
@@ -77,7 +77,7 @@ pub fn report_ends_transfers()
     ensures { law.report_ends_transfers }
 {}
 
-/// The transfer of a replica that is received has arrived; all others are on their way still.
+/// The transfer of a replica that is received has arrived; all others stay pending.
 pub fn received_ends_transfer()
     ensures { law.received_ends_transfer }
 {}
@@ -88,7 +88,7 @@ pub fn report_leaves_unnamed_blocks()
     ensures { law.report_leaves_unnamed_blocks }
 {}
 
-/// Whatever the event, a replica that was bad is bad as long as it is there and its block is known.
+/// A bad replica stays bad through every event, as long as it exists and its block is known.
 pub fn no_event_clears_bad()
     ensures lawful { InLawfulStates law.no_event_clears_bad }
     ensures reached { AfterAllCalls law.no_event_clears_bad }

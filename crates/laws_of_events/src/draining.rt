@@ -4,22 +4,22 @@
 ghost use Rattle.bm_base.specs.AllStates.{InLawfulStates, AfterAllCalls};
 ghost use Rattle.laws_of_events.specs.Draining as law;
 
-/// After `Drain` the node drains, and no other node changes in that.
+/// After `Drain` the node drains, and other nodes drain as before.
 pub fn node_begins_to_drain()
     ensures { law.node_begins_to_drain }
 {}
 
-/// After `Undrain` the node does not drain, and no other node changes in that.
+/// After `Undrain` the node does not drain, and other nodes drain as before.
 pub fn node_ceases_to_drain()
     ensures { law.node_ceases_to_drain }
 {}
 
-/// A node that registers does not drain; whether another does stays.
+/// A node that registers does not drain, and other nodes drain as before.
 pub fn registered_node_does_not_drain()
     ensures { law.registered_node_does_not_drain }
 {}
 
-/// A node that has died does not drain; whether another does stays.
+/// A dead node does not drain, and other nodes drain as before.
 pub fn dead_node_does_not_drain()
     ensures { law.dead_node_does_not_drain }
 {}
@@ -29,14 +29,14 @@ pub fn other_events_leave_draining()
     ensures { law.other_events_leave_draining }
 {}
 
-/// When a node begins to drain exactly the transfers to its storages leave: nodes, storages,
-/// blocks, replicas and all other transfers stay, and the event answers that no replica came or
-/// went.
+/// When a node begins to drain, exactly the pending transfers to its storages are dropped. Nodes,
+/// storages, blocks, replicas and all other transfers stay, and the event answers that no replica
+/// came or went.
 pub fn drain_takes_transfers()
     ensures { law.drain_takes_transfers }
 {}
 
-/// When a node ceases to drain nothing leaves: nodes, storages, blocks, replicas and transfers
+/// When a node ceases to drain, nothing is dropped: nodes, storages, blocks, replicas and transfers
 /// stay.
 pub fn undrain_takes_nothing()
     ensures { law.undrain_takes_nothing }
@@ -52,13 +52,13 @@ pub fn idle_undrain_changes_nothing()
     ensures { law.idle_undrain_changes_nothing }
 {}
 
-/// After every list of calls: no transfer is on its way to a node that drains.
+/// After every list of calls, no pending transfer goes to a node that drains.
 pub fn no_transfer_to_draining()
     ensures { law.no_transfer_to_draining }
 {}
 
 /// A node is retired exactly if it drains and each known block that has a usable replica on it,
-/// good and not in excess, has as many live replicas as are wanted.
+/// good and not in excess, has at least the wanted number of live replicas.
 pub fn retired_is_said_plainly()
     ensures { law.retired_is_said_plainly }
 {}

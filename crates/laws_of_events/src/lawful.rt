@@ -45,12 +45,13 @@ pub fn calls_lead_to_orderly()
     ensures { law.calls_lead_to_orderly }
 {}
 
-/// The same where memory may lack.
+/// The same if memory is limited.
 pub fn answered_calls_lead_to_orderly()
     ensures { law.answered_calls_lead_to_orderly }
 {}
 
-/// After every list of calls: a pending transfer's replica is not there yet, whatever its tag.
+/// After every list of calls, the target of a pending transfer has no replica of the block, of any
+/// tag.
 pub fn transfers_are_still_to_come()
     ensures { law.transfers_are_still_to_come }
 {}

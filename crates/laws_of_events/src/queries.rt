@@ -3,7 +3,7 @@
 
 ghost use Rattle.laws_of_events.specs.Queries as law;
 
-/// The list of all replicas has a replica of a block, a storage and a tag exactly if such a one is
+/// The list of all replicas has one of a given block, storage and tag exactly if such a replica is
 /// held.
 pub fn replicas_are_held()
     ensures { law.replicas_are_held }
@@ -30,7 +30,7 @@ pub fn places_are_good()
 {}
 
 /// In a lawful state the missing blocks are the known blocks without a replica that is good and not
-/// in excess, be it on a node that drains or not.
+/// in excess, whether its node drains or not.
 pub fn missing_have_no_usable_replica()
     ensures { law.missing_have_no_usable_replica }
 {}

@@ -1,4 +1,4 @@
-// What a full report and a received replica leave.
+// The state after a full report, and after a received notice.
 #![tactic(auto)]
 
 ghost use Rattle.bm_base.specs.AllStates.{InLawfulStates, AfterAllCalls};
@@ -16,8 +16,8 @@ pub fn report_is_what_is_asked()
 {}
 
 /// Of several entries that name a number the last one decides: by its stamp the replica is good or
-/// stale; bad if it was bad, and stray where the block is not known. It is in excess just where it
-/// was and is good, and it is not ordered to be deleted.
+/// stale. But it is stray if its block is unknown, and otherwise bad if it was bad. It is in excess
+/// exactly if it was and is good, and its delete is not ordered.
 pub fn last_entry_decides()
     ensures { law.last_entry_decides }
 {}
@@ -40,12 +40,12 @@ pub fn report_leaves_other_nodes()
     ensures { law.report_leaves_other_nodes }
 {}
 
-/// A received replica keeps the replicas on the storages of other nodes, marks included.
+/// A received notice keeps the replicas on the storages of other nodes, marks included.
 pub fn received_leaves_other_nodes()
     ensures { law.received_leaves_other_nodes }
 {}
 
-/// A replica that is received is there, and its marks are decided as by the last entry of a report.
+/// A received replica exists, with its marks decided as by the last entry of a report.
 pub fn received_is_there()
     ensures { law.received_is_there }
 {}
@@ -56,7 +56,7 @@ pub fn report_leaves_bad_bad()
     ensures reached { AfterAllCalls law.report_leaves_bad_bad }
 {}
 
-/// A replica that was bad and is still there after one was received is bad.
+/// A replica that was bad and is still there after a received notice is bad.
 pub fn received_leaves_bad_bad()
     ensures lawful { InLawfulStates law.received_leaves_bad_bad }
     ensures reached { AfterAllCalls law.received_leaves_bad_bad }

@@ -3,7 +3,7 @@
 
 ghost use Rattle.laws_of_events.specs.Runs as law;
 
-/// A report names just the numbers from the first to the last of each of its runs.
+/// A report names exactly the numbers from the first to the last of each of its runs.
 pub fn runs_name_their_numbers()
     ensures { law.runs_name_their_numbers }
 {}
@@ -30,7 +30,7 @@ pub fn runs_are_alike_one_by_one()
     ensures { law.runs_are_alike_one_by_one }
 {}
 
-/// A run may be cut in two anywhere.
+/// Cutting a run in two anywhere changes neither the next state nor the answer.
 pub fn run_may_be_cut()
     ensures { law.run_may_be_cut }
 {}

@@ -3,12 +3,12 @@
 
 ghost use Rattle.bm_parts.specs.Parts as law;
 
-/// The part of a shard has what the whole has of the shard's numbers, and nothing else.
+/// The part of a shard has exactly what the whole has of the shard's block numbers.
 pub fn cut_gives_parts()
     ensures { law.cut_gives_parts }
 {}
 
-/// Every block number is of one of the shards, however many there are.
+/// Every block number belongs to one of the shards, however many there are.
 pub fn every_number_has_its_shard()
     ensures { law.every_number_has_its_shard }
 {}
@@ -24,8 +24,8 @@ pub fn event_changes_one_part()
     ensures { law.event_changes_one_part }
 {}
 
-/// Every event changes each part as it would change whole holdings, with the reported blocks of the
-/// part alone.
+/// Every event changes each part as if it were the whole, with only the reported blocks of that
+/// part.
 pub fn parts_change_by_themselves()
     ensures { law.parts_change_by_themselves }
 {}

@@ -1,4 +1,4 @@
--- What obeys a round is not refused: it tells of storages that are known.
+-- The notices of obeyed commands are not refused: they name known storages.
 use Rattle.std.specs.Prelude.{◌≡◌, ℕ, true, not, List, [], ◌∷◌, is_some}
 use Rattle.std.proofs.Common.{sym, ap, ◌∙◌, inl, inr}
 use Rattle.bm_base.specs.declared.event.Event.{Event}

@@ -1,4 +1,4 @@
--- What is known of each transfer as it is chosen, behind those that were chosen before it.
+-- What is known of each transfer when it is chosen, after those chosen before it.
 use Rattle.std.specs.Prelude.{◌≡◌, ℕ, zero, suc, ◌*◌, ◌<◌, Bool, true, false, nat_lt, nat_le, if◌then◌else◌, List, [], ◌∷◌, ◌++◌, filter, flat_map, length, replicate, Option, Some, None, is_some, option_map, option_and_then, option_to_list}
 use Rattle.std.specs.Option.{option_map_or}
 use Rattle.std.specs.declared.cmp.Ordering.{Ordering}
@@ -20,7 +20,7 @@ use Rattle.bm_base.proofs.Each.{Each, each_of, each_flat_map}
 use Rattle.bm_base.proofs.Listed.{has_filter, and_first, and_second}
 use Rattle.bm_base.proofs.Surpluses.{least_among}
 
--- what holds of each element, given those before it
+-- P holds of each element, given those before it
 abbrev pub EachAfter : {X : Type 0} → (List X → X → Type 0) → List X → List X → Type 0
 EachAfter P front [] = Unit {0}
 EachAfter P front (x ∷ xs) = P front x × EachAfter P (front ++ x ∷ []) xs
@@ -34,17 +34,17 @@ module _ {X : Type 0} (P : List X → X → Type 0) where
   after_at front [] ys x h = subst (λ zs. P zs x) (sym (append-nil front)) h.0
   after_at front (z ∷ xs) ys x h = subst (λ zs. P zs x) (append_assoc front (z ∷ []) xs) (after_at (front ++ z ∷ []) xs ys x h.1)
 
-  -- at a place of the list
+  -- P holds of each element, at its position in the list
   pub after_split : (xs front back : List X) (x : X) → EachAfter P [] xs → xs ≡ front ++ x ∷ back → P front x
   after_split xs front back x h is = after_at [] front back x (subst (EachAfter P []) is h)
 
 module _ {X : Type 0} where
-  -- what no element breaks holds of the whole
+  -- Q holds of the whole list if no element breaks it
   pub after_whole : (P : List X → X → Type 0) (Q : List X → Type 0) → ((ys : List X) (y : X) → Q ys → P ys y → Q (ys ++ y ∷ [])) → (front xs : List X) → Q front → EachAfter P front xs → Q (front ++ xs)
   after_whole P Q f front [] q h = subst Q (sym (append-nil front)) q
   after_whole P Q f front (x ∷ xs) q h = subst Q (append_assoc front (x ∷ []) xs) (after_whole P Q f (front ++ x ∷ []) xs (f front x q h.0) h.1)
 
--- A wish is of a block at its level.
+-- A requested copy is of a block at its level.
 
 abbrev pub IsOfLevel : Cluster → Holdings → WishedCopy → Type 0
 IsOfLevel C H w = level C H w.block ≡ Some w.urgency
@@ -71,7 +71,7 @@ module _ (C : Cluster) (H : Holdings) where
       (λ urgency _. each_flat_map (λ _. Unit {0}) (IsOfLevel C H) (wishes_for C H urgency) (λ b _. wished_for urgency b) (keys H.blocks) (each_of (λ _. Unit {0}) (keys H.blocks) (λ _. tt)))
       (Highest ∷ VeryUnderReplicated ∷ UnderReplicated ∷ BadlyDistributed ∷ []) (tt, (tt, (tt, (tt, tt))))
 
--- Why a transfer was chosen, behind those of `front`.
+-- Why a transfer was chosen, after those of `front`.
 pub record IsChosenAfter (limits : RoundLimits) (C : Cluster) (H : Holdings) (front : List Transfer) (t : Transfer) : Type 0 where
   pub few : length front < limits.work * len C.nodes
   pub urgency : Level
@@ -131,9 +131,9 @@ module _ (limits : RoundLimits) (C : Cluster) (H : Holdings) where
   unfolding transfers
   each_chosen = chosen_from [] (wishes C H) (each_wish C H) tt
 
--- What a choice tells of the source and the target.
+-- What a choice implies for the source and the target.
 
--- the least of those that pass passes, and is one of them
+-- the least of those that pass a test passes, and is one of them
 pub least_passing : (R : ℕ → ℕ → Ordering) (p : ℕ → Bool) (xs : List ℕ) (x : ℕ) → least R (filter p xs) ≡ Some x → (p x ≡ true) × (has xs x ≡ true)
 least_passing R p xs x e =
     let there = sym (has_filter p xs x) ∙ least_among R (filter p xs) x e in

@@ -1,4 +1,5 @@
--- What is to be deleted and is not commanded stands behind as many others as the limit says.
+-- A replica that is to be deleted, and whose delete is not commanded, comes after at least
+-- `invalidate` others of its node.
 use Rattle.std.specs.Prelude.{◌≡◌, ℕ, zero, suc, ◌+◌, ◌≤◌, ◌⊎◌, Bool, true, false, not, ◌&&◌, ◌||◌, ◌==◌, nat_le, if◌then◌else◌, List, [], ◌∷◌, ◌++◌, map, filter, flat_map, length, take, Some, is_some, option_map}
 use Rattle.std.specs.Option.{option_map_or}
 use Rattle.std.specs.Ordering.{eq_by_cmp}
@@ -32,13 +33,13 @@ use Rattle.laws_of_rounds.proofs.Sending.{storage_is}
 use Rattle.laws_of_rounds.proofs.Told.{no_cons, cons_head, cons_tail, among_cons, among_flat, among_map, among_filter, among_numbers, told_delete}
 use Rattle.bm_base.proofs.Options.{there}
 
--- Places in lists.
+-- Positions in lists.
 
 first_or_rest : {X : Type 0} (y : X) (ys : List X) (x : X) (front back : List X) → y ∷ ys ≡ front ++ x ∷ back → (y ≡ x) ⊎ IsAmong ys x
 first_or_rest y ys x [] back e = inl (cons_head y x ys back e)
 first_or_rest y ys x (z ∷ front) back e = inr (front, back, cons_tail y z ys (front ++ x ∷ back) e)
 
--- one of a list is among the first n, or there are n before it
+-- an item of a list is among its first n, or these are n items
 taken_or_full : {X : Type 0} (n : ℕ) (xs : List X) (x : X) → IsAmong xs x → IsAmong (take n xs) x ⊎ (n ≤ length (take n xs))
 taken_or_full zero xs x h = inr (omega arith)
 taken_or_full (suc n) [] x h = absurd (no_cons h.0 h.1 x h.2)
@@ -52,7 +53,7 @@ taken_or_full (suc n) (y ∷ ys) x h = by_place (first_or_rest y ys x h.0 h.1 h.
     by_place (inl e) rest = inl ([], take n ys, ap (λ z. z ∷ take n ys) e)
     by_place (inr a) rest = more (rest a)
 
--- what a map holds stands in its entries
+-- what a map holds is among its entries
 pub among_found : {K X : Type 0} (o : Order K) (k : K) (v : X) (es : List (K × X)) → find o.cmp k es ≡ Some v → IsAmong es (k, v)
 among_found o k v [] e = absurd (false≢true (ap is_some e))
 among_found o k v (d ∷ es) e = by_key (eq_by_cmp o.cmp k d.0) refl e (among_found o k v es)
@@ -65,7 +66,7 @@ among_replicas : (m : Map by_replica Marks) (q : ReplicaId) (v : Marks) → get 
 unfolding get entries
 among_replicas m q v e = among_found by_replica q v m.list e
 
--- What is to be deleted.
+-- Replicas to delete.
 
 deletable_if : (ordered stray excess corrupt enough : Bool) → ordered ≡ false → (stray ≡ true) ⊎ ((excess ≡ true) ⊎ ((corrupt ≡ true) × (enough ≡ true)))
     → (not ordered && (stray || excess || (corrupt && enough))) ≡ true
@@ -121,7 +122,7 @@ among_deletes : (limits : RoundLimits) (C : Cluster) (H : Holdings) (n : ℕ) (d
 unfolding deletes
 among_deletes limits C H n d alive at = among_flat (deletes_of limits C H) (keys C.nodes) n d (among_numbers (keys C.nodes) n alive) at
 
--- the commands of a node with as many deletes as the limit says
+-- the commands of a node that has `invalidate` deletes or more
 full_node : (limits : RoundLimits) (C : Cluster) (H : Holdings) (r : ℕ) (ts : List Transfer) (n : ℕ) → 1 ≤ limits.invalidate → has (keys C.nodes) n ≡ true → limits.invalidate ≤ length (deletes_of limits C H n)
     → (k : NodeCommands) × IsAmong (commands_of C r ts (deletes limits C H)).nodes k × (k.node ≡ n) × (limits.invalidate ≤ length k.deletes)
 unfolding commands_of node_commands

@@ -1,4 +1,4 @@
--- What rounds make of draining nodes: they copy from them first, put nothing on them, and leave
+-- Rounds and nodes that drain: a round copies from them first, puts nothing on them, and keeps
 -- their replicas as they are.
 use Rattle.std.specs.Prelude.{◌≡◌, ℕ, ◌≤◌, ◌⊎◌, Bool, true, false, ◌&&◌, ◌==◌, nat_lt, if◌then◌else◌, List, ◌∷◌, ◌++◌, map, filter, length, count_by, Some}
 use Rattle.std.specs.Option.{option_map_or}
@@ -35,7 +35,7 @@ use Rattle.laws_of_rounds.proofs.Later.{commanded_chosen}
 
 -- Marks.
 
--- what is chosen as surplus does not stand on a node that drains
+-- a replica that is chosen as surplus is not on a node that drains
 surplus_stays_off : (M : State) (b s : ℕ) → has (surplus_of M b) s ≡ true → is_draining M.cluster s ≡ false
 surplus_stays_off M b s h = ((live_before_is M b s).0 (surplus_live M b s h)).4
 
@@ -55,7 +55,7 @@ none_marked M q n drains found excess =
     by_choice true h m e = absurd (true≢false (sym drains ∙ surplus_stays_off M q.block q.storage h))
     by_choice false h m e = dropped_both m.ordered m refl e
 
--- What is drained stays so.
+-- Drained replicas stay drained.
 
 unmoved : (chosen : Bool) (d : Bool) (m : Marks) → (chosen ≡ true → d ≡ false) → (is_usable (if chosen then record m { excess = true } else m) && d) ≡ (is_usable m && d)
 unmoved false d m off = refl
@@ -92,7 +92,7 @@ drained_as_ended M b = drained_finished M.cluster _ _ _ _ b
 pub drained_stay : (M : State) (b : ℕ) → (drained_marked M b ≡ drained_unmarked M b) × (drained_after M b ≡ drained_unmarked M b)
 drained_stay M b = (drained_as_marked M b, drained_as_ended M b ∙ drained_as_marked M b)
 
--- and none of them is commanded to be deleted
+-- a round commands the delete of no drained replica
 pub drained_kept : (M : State) (b t : ℕ) → has (drained_after M b) t ≡ true → IsTested M (replica_at b t) → ⊥
 drained_kept M b t there h =
     let is = deleted_is M (replica_at b t) h in
@@ -114,7 +114,7 @@ drained_rank : (d : Bool) → source_rank d ≤ 0 → d ≡ true
 drained_rank true h = refl
 drained_rank false h = absurd (omega (arith, h))
 
--- where a drained one may send one more, the source is a drained one
+-- if a source on a node that drains may send one more, the chosen source is on one that drains
 drained_least : (C : Cluster) (front : List Transfer) (urgency : Level) (ss : List ℕ) (s t : ℕ) → least_source C front urgency ss ≡ Some t
     → has ss s ≡ true → is_draining C s ≡ true → nat_lt (streams_from C front s) 4 ≡ true → is_draining C t ≡ true
 unfolding least_source least_source_by source_cmp
@@ -126,7 +126,7 @@ drained_least C front urgency ss s t is there drained few =
     (filter may ss) t is s (has_filter may ss s ∙ ap (λ b. b && has ss s) passes ∙ there) in
     drained_rank (is_draining C t) (subst (λ d. source_rank (is_draining C t) ≤ source_rank d) drained below)
 
--- no node is given more than four, however far the round has come
+-- no node is the source of more than four, however far the round has come
 four_before : (M : State) (front back : List Transfer) (t : Transfer) (n : ℕ) → transfers_chosen M ≡ front ++ t ∷ back → length (filter (λ (u : Transfer). has_storage M.cluster n u.source) front) ≤ 4
 four_before M front back t n is =
     let p : Transfer → Bool = λ u. has_storage M.cluster n u.source in

@@ -1,4 +1,4 @@
--- How many replicas are live once a round is obeyed: those that were, and the targets of the
+-- The number of live replicas once a round is obeyed: those that were live, and the targets of the
 -- copies.
 use Rattle.std.specs.Prelude.{◌≡◌, ℕ, ◌+◌, ◌≤◌, ◌⊎◌, Bool, true, false, not, ◌&&◌, ◌||◌, ◌==◌, List, [], ◌∷◌, ◌++◌, map, filter, length, Option, Some, None}
 use Rattle.std.specs.Option.{option_map_or}
@@ -45,7 +45,7 @@ once_append (x ∷ xs) ys ox oy apart =
     (list_any-append (λ y. y == x) xs ys ∙ or_from (has xs x) (has ys x) once.0 (false_from_ne_true (has ys x) (apart x (or_left (x == x) (has xs x) (same_again x)))))
     (once_append xs ys once.1 oy (λ q h k. apart q (or_right (x == q) (has xs q) h) k))
 
--- what stands among others, each once, is no more than they are
+-- a list without repeats is no longer than another that has all its numbers
 within : (xs ys : List ℕ) → has_repeats xs ≡ false → has_repeats ys ≡ false → ((q : ℕ) → has xs q ≡ true → has ys q ≡ true) → length xs ≤ length ys
 within [] ys ox oy h = omega arith
 within (x ∷ xs) ys ox oy h =
@@ -98,7 +98,7 @@ target_among ts t at =
 abbrev IsCopy : State → ReplicaId → Type 0
 IsCopy M q = (t : Transfer) × IsTransferCommanded M t × (q ≡ replica_at t.block t.target)
 
--- the usable replicas were so after the round, or are copies that it commands
+-- each usable replica was usable after the round, or is a copy that the round commands
 abbrev AddsCopies : State → State → Type 0
 AddsCopies M N = IsBeside M N × ((q : ReplicaId) → IsUsable N.holdings q → IsUsable (after_round M).holdings q ⊎ IsCopy M q)
 
@@ -128,7 +128,7 @@ step_copies M N e h (inr c) =
           h.1 q (left (eq_by_cmp replica_cmp q (replica_at c.0.block c.0.storage)) (get N.holdings.replicas q) (sym (ap (λ o. option_map_or is_usable o false) (get_without M N h.0 c.0 c.1 q)) ∙ there)),
     )
 
--- Once all is obeyed.
+-- The state once all commands are obeyed.
 
 module _ (M : State) (es : List Event) (b : ℕ) (obeyed : ObeysAll M es) where
   each_obeys : Each (Obeys M) es

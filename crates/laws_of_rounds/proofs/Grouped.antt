@@ -1,4 +1,4 @@
--- Keys stand once, so what is chosen node by node is commanded node by node.
+-- Keys do not repeat, so what is chosen node by node is commanded node by node.
 use Rattle.std.specs.Prelude.{◌≡◌, ℕ, ◌≤◌, Bool, true, false, ◌&&◌, ◌||◌, ◌==◌, if◌then◌else◌, List, [], ◌∷◌, ◌++◌, map, filter, flat_map, length, Some, None}
 use Rattle.std.specs.Option.{option_map_or}
 use Rattle.std.specs.List.{All}
@@ -44,7 +44,7 @@ module _ {X : Type 0} where
         eq_at : (a c : ℕ) → a ≡ c → (a == c) ≡ true
         eq_at a c h = ap (λ z. a == z) (sym h) ∙ same_again a
 
-    -- the pieces of one number, taken out of all pieces
+    -- a filter for one number leaves the piece of that number, of the pieces of all
     pub grouped : (n : ℕ) (ns : List ℕ) → has_repeats ns ≡ false → filter (on n) (flat_map f ns) ≡ cond (has ns n) (f n) []
     grouped n [] once = refl
     grouped n (k ∷ ns) once =
@@ -108,7 +108,7 @@ pub all_of_each : {X : Type 0} (P : X → Type 0) (xs : List X) → Each P xs �
 all_of_each P [] h = All-nil P
 all_of_each P (x ∷ xs) h = All-cons P x xs h.0 (all_of_each P xs h.1)
 
--- what holds of the commands of each node
+-- a property of every node's commands holds of all commands of a round
 pub each_node : (C : Cluster) (r : ℕ) (ts : List Transfer) (ds : List Delete) (P : NodeCommands → Type 0) → ((n : ℕ) → P (node_commands C ts ds n)) → Each P (commands_of C r ts ds).nodes
 unfolding commands_of
 each_node C r ts ds P h =

@@ -28,7 +28,7 @@ use Rattle.bm_base.proofs.AfterRound.{marks_after}
 use Rattle.laws_of_rounds.proofs.Reasons.{not_ordered}
 use Rattle.laws_of_rounds.proofs.Sending.{fresh_node}
 
--- What stands in a list.
+-- Members of a list.
 
 among_more : {X : Type 0} (x : X) (xs : List X) (y : X) → IsAmong xs y → IsAmong (x ∷ xs) y
 among_more x xs y h = (x ∷ h.0, h.1, ap (λ zs. x ∷ zs) h.2)
@@ -117,7 +117,7 @@ one_of true false r o = refl
 one_of false true r o = refl
 one_of false false r o = refl
 
--- where all that is inserted has one value
+-- a key's value after one value is inserted for many keys
 get_commanded : (ts : List Transfer) (r : ℕ) (m : Map by_replica ℕ) (q : ReplicaId)
     → get (insert_all m (map (λ t. (key_of t, r)) ts)) q ≡ cond (list_any (λ t. eq_by_cmp replica_cmp q (key_of t)) ts) (Some r) (get m q)
 get_commanded [] r m q = refl
@@ -156,7 +156,7 @@ pending_now M t at =
     ∙ ap (λ b. cond b (Some (M.round + 1)) (get (started M).holdings.pending (key_of t)))
     (ap (list_any (λ u. eq_by_cmp replica_cmp (key_of t) (key_of u))) at.2 ∙ any_among (λ u. eq_by_cmp replica_cmp (key_of t) (key_of u)) at.0 at.1 t (replica_again (key_of t)))
 
--- while a transfer is on its way, none of its block is chosen to its target's node
+-- while a transfer is pending, no transfer of its block is chosen to its target's node
 pub none_chosen : (M : State) (q : ReplicaId) (r : ℕ) (u : Transfer) → get M.holdings.pending q ≡ Some r → (M.round + 1) - r < M.limits.pend → IsAmong (transfers_chosen M) u
     → u.block ≡ q.block → node_of M.cluster q.storage ≡ node_of M.cluster u.target → ⊥
 none_chosen M q r u e young at same node =
@@ -176,7 +176,7 @@ pending_stays M q r e young = pending_after M q ∙ by_any (list_any (λ t. eq_b
         absurd (none_chosen M q r one.0 e young one.1 (ap (λ p. p.block) (sym is)) (ap (λ p. node_of M.cluster p.storage) is))
     by_any false f = pending_started M q r e young
 
--- what rounds leave as it is, and their number
+-- Rounds keep the cluster and the limits, and are counted.
 
 cluster_kept : (M : State) → (after_round M).cluster ≡ M.cluster
 unfolding whole_round started begun
@@ -202,7 +202,7 @@ rounds_counted : (n : ℕ) (M : State) → (after_rounds n M).round ≡ M.round 
 rounds_counted zero M = omega arith
 rounds_counted (suc n) M = let one = round_counted (after_rounds n M) in let rest = rounds_counted n M in omega (arith, one, rest)
 
--- a transfer on its way since the last round stays so for as many rounds
+-- a transfer that the last round commanded is still pending n rounds later, if n is below `pend`
 pending_for : (n : ℕ) (M : State) (q : ReplicaId) → get M.holdings.pending q ≡ Some M.round → n < M.limits.pend → get (after_rounds n M).holdings.pending q ≡ Some M.round
 pending_for zero M q e young = e
 pending_for (suc n) M q e young =

@@ -1,15 +1,17 @@
 -- The lemmas, each with the laws whose proofs cite it. A law's own proof is SUBJECT/LAW/Answers,
--- beside src/SUBJECT.rt. for level_four_is_no_usable_replica, more_wanted_is_no_less_need,
--- one_drained_replica_more_is_no_more_need,
---   one_replica_more_is_no_more_need, only_drained_is_level_zero, raised_replication_is_no_less_need,
---   short_of_replicas_is_level_zero_one_two_or_four, unknown_block_has_no_level
+-- next to src/SUBJECT.rt.
+--
+-- for level_four_is_no_usable_replica, more_wanted_is_no_less_need,
+-- one_drained_replica_more_is_no_more_need, one_replica_more_is_no_more_need,
+-- only_drained_is_level_zero, raised_replication_is_no_less_need,
+-- short_of_replicas_is_level_zero_one_two_or_four, unknown_block_has_no_level
 pub mod Needs
 -- for at_most_invalidate_a_node
 pub mod Grouped
 -- for at_most_replication_is_live, corrupt_waits_for_live, drained_before_marking,
--- live_before_marking, marking_makes_none_live,
---   none_is_ordered_again, only_stray_excess_or_corrupt_is_deleted, ordered_excess_stays, other_excess_is_new,
---   round_leaves_enough_live, surplus_is_marked
+-- live_before_marking, marking_makes_none_live, none_is_ordered_again,
+-- only_stray_excess_or_corrupt_is_deleted, ordered_excess_stays, other_excess_is_new,
+-- round_leaves_enough_live, surplus_is_marked
 pub mod Reasons
 -- for last_of_rack_stays
 pub mod Racked
@@ -27,8 +29,7 @@ pub mod Ordered
 -- for most_urgent_first
 pub mod Urgency
 -- for chosen_transfer_is_commanded, commanded_delete_is_ordered, commanded_transfer_is_pending,
--- each_node_its_own, first_two_of_a_node,
---   ordered_is_commanded, round_keeps_the_rest
+-- each_node_its_own, first_two_of_a_node, ordered_is_commanded, round_keeps_the_rest
 pub mod Told
 -- for ordered_is_commanded
 pub mod Untested
@@ -39,8 +40,7 @@ pub mod OneRack
 -- for drained_stands_once, live_stands_once, sources_are_usable, usable_is_live_or_drained
 pub mod Usable
 -- for drained_replica_is_not_deleted, drained_source_goes_first, drained_stay_drained,
--- no_draining_node_is_a_target,
---   none_on_a_draining_node_is_marked
+-- no_draining_node_is_a_target, none_on_a_draining_node_is_marked
 pub mod Drained
 -- for live_stays_live
 pub mod Obeying
@@ -53,7 +53,7 @@ pub mod Gained
 -- for obedience_is_not_refused
 pub mod Accepted
 
--- On proofs of bm_base alone: Lively (drained_is_good_not_in_excess_and_draining,
--- live_is_good_not_in_excess_and_not_draining),
---   AfterRound (round_changes_no_tag), Kept and Tested (live_replica_is_not_deleted, enough_stay_live, last_good_replica_stays),
---   LastGood and Tested (only_good_replica_is_not_deleted).
+-- These laws cite only proofs of bm_base: Lively (drained_is_good_not_in_excess_and_draining,
+-- live_is_good_not_in_excess_and_not_draining), AfterRound (round_changes_no_tag), Kept and Tested
+-- (live_replica_is_not_deleted, enough_stay_live, last_good_replica_stays), LastGood and Tested
+-- (only_good_replica_is_not_deleted).

@@ -1,4 +1,4 @@
--- How need grows with what is wanted, and falls with what is live.
+-- Need grows with the wanted replicas, and falls with the live ones.
 use Rattle.std.specs.Prelude.{◌≡◌, ℕ, ◌+◌, ◌≤◌, ◌<◌, ◌↔◌, Bool, false, ◌&&◌, length, Some, None, option_and_then, option_map}
 use Rattle.std.proofs.Common.{cond, sym, ap, subst, ◌∙◌, arith}
 use Rattle.std.proofs.lemmas.Bool.Decides.{nat_tests}
@@ -97,7 +97,7 @@ module _ (C : Cluster) (H : Holdings) (b : ℕ) where
       subst (λ l. need l ≤ need (level C (set_replication H b more) b)) (sym (level_known i known))
       (subst (λ l. need (level_of (length (live C H b)) (length (drained C H b)) i.repl (length (racks C (live C H b))) (is_multi_rack C)) ≤ need l) (sym (raised_level more i known)) lower)
 
--- a block of another level than 4 is not missing
+-- a block of level 0 is not missing
 pub not_missing : (C : Cluster) (H : Holdings) (b : ℕ) → level C H b ≡ Some Highest → has (missing_blocks C H) b ≡ false
 unfolding missing_blocks
 not_missing C H b e = has_filter (λ k. is_at NoUsableReplica (level C H k)) (keys H.blocks) b ∙ ap (λ l. is_at NoUsableReplica l && has (keys H.blocks) b) e

@@ -1,5 +1,5 @@
--- What is live once a round is obeyed: the targets of its copies, each on a node of its own, beside
--- what was live.
+-- The live replicas once a round is obeyed: those that were live, and the targets of its copies,
+-- each on a node of its own.
 use Rattle.std.specs.Prelude.{◌≡◌, true, false, ◌==◌, List, [], ◌∷◌, ◌++◌, Option, Some, None, is_some}
 use Rattle.std.specs.Option.{option_map_or}
 use Rattle.std.proofs.Common.{refl, sym, ap, subst, ◌∙◌}

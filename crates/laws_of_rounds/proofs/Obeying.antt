@@ -1,5 +1,5 @@
--- What is live while the nodes obey a round: a replica that no command touches stays usable, and
--- each copy that arrives is.
+-- The live replicas while the nodes obey a round: a replica that no command touches stays usable,
+-- and each copy that arrives is usable.
 use Rattle.std.specs.Prelude.{◌≡◌, ℕ, Bool, true, false, not, ◌&&◌, ◌==◌, if◌then◌else◌, List, [], ◌∷◌, Option, Some, None, is_some, option_map}
 use Rattle.std.specs.Option.{option_map_or}
 use Rattle.std.specs.Ordering.{eq_by_cmp}
@@ -38,7 +38,7 @@ use Rattle.laws_of_rounds.proofs.Told.{same_rest}
 
 -- Marks.
 
--- the replica is there and usable; and it is usable if it is there
+-- the replica exists and is usable; below: it is usable if it exists
 abbrev pub IsUsable : Holdings → ReplicaId → Type 0
 IsUsable H q = option_map_or is_usable (get H.replicas q) false ≡ true
 
@@ -63,7 +63,7 @@ unspoilt_parts (Some m) e = mark_parts m.tag m.excess e
 same_as_itself : (a : Stamp) → same_stamp a a ≡ true
 same_as_itself a = ap (λ b. b && (a.len == a.len)) (same_again a.generation) ∙ same_again a.len
 
--- A replica that is reported with its block's stamp is usable, if what stood there is.
+-- A replica that is reported with its block's stamp is usable, if no unusable one was there before.
 module _ (H : Holdings) (p : ReplicaId) (stamp : Stamp) (i : BlockInfo) (known : get H.blocks p.block ≡ Some i) (same : stamp ≡ i.stamp) (clean : IsUnspoilt H p) where
   not_bad : was_bad H p ≡ false
   unfolding was_bad
@@ -125,7 +125,7 @@ emptied : (b : Bool) (o : Option Marks) → option_map_or is_usable o true ≡ t
 emptied true o e = refl
 emptied false o e = e
 
--- Steps of a state that has the nodes and blocks of before the round.
+-- Steps of a state with the nodes and blocks from before the round.
 
 pub record IsBeside (M N : State) : Type 0 where
   pub cluster : N.cluster ≡ M.cluster
@@ -216,7 +216,7 @@ pub step_usable : (M : State) (q : ReplicaId) → IsSafe M q → (N : State) (e 
 step_usable M q safe N e h (inl c) = subst (λ x. UsableBeside M q (after_event N x)) (sym c.2) (beside_copy M N h.0 c.0, copy_keeps M N h.0 c.0 c.1 q safe h.1)
 step_usable M q safe N e h (inr c) = subst (λ x. UsableBeside M q (after_event N x)) (sym c.2) (beside_erasure M N h.0 c.0, erasure_keeps M N h.0 c.0 c.1 q safe h.1)
 
--- what each event that obeys keeps, they keep together
+-- all events together keep what each event that obeys keeps
 pub through : (M : State) (P : State → Type 0) → ((N : State) (e : Event) → P N → Obeys M e → P (after_event N e)) → (N : State) → P N → (es : List Event) → Each (Obeys M) es → P (after_events N es)
 through M P step N h [] each = h
 through M P step N h (e ∷ es) each = through M P step (after_event N e) (step N e h each.0) es each.1
@@ -231,7 +231,7 @@ step_beside M N e h (inr c) = subst (λ x. IsBeside M (after_event N x)) (sym c.
 pub obeyed_beside : (M : State) (es : List Event) → Each (Obeys M) es → IsBeside M (after_obeying M es)
 obeyed_beside M es each = through M (IsBeside M) (step_beside M) (after_round M) (beside_round M) es each
 
--- What is live.
+-- Live replicas.
 
 passes : (d : Bool) (o : Option Marks) → option_map_or is_usable o false ≡ true → d ≡ false → option_map_or (λ m. is_usable m && not d) o false ≡ true
 passes d None e staying = e
@@ -245,7 +245,7 @@ live_usable C H b s h =
     let is = (live_is C H b s).0 h in
     (ap (λ o. option_map_or is_usable o false) is.1 ∙ ap (λ t. is_good t && not is.0.excess) is.2 ∙ ap not is.3, is.4)
 
--- a replica that is there after the round was there before it
+-- a replica that exists after the round existed before it
 pub there_before : (M : State) (q : ReplicaId) (m : Marks) → get (after_round M).holdings.replicas q ≡ Some m → is_some (get M.holdings.replicas q) ≡ true
 there_before M q m found =
     let was = revised (λ (n : Marks). n.tag) (get M.holdings.replicas q) m.tag (sym (same_tag M q) ∙ ap (option_map (λ (n : Marks). n.tag)) found) in

@@ -1,4 +1,4 @@
--- Where live replicas stand on one rack of several.
+-- Live replicas on one rack of several.
 use Rattle.std.specs.Prelude.{◌≡◌, ℕ, ◌≤◌, ◌↔◌, Bool, true, false, ◌||◌, ◌&&◌, ◌*◌, ◌==◌, nat_lt, nat_le, List, [], ◌∷◌, map, filter_map, length, Option, Some, None, is_some, option_map, option_and_then}
 use Rattle.std.specs.Option.{option_map_or}
 use Rattle.std.proofs.Common.{cond, refl, sym, ap, ◌∙◌, arith}
@@ -27,7 +27,7 @@ use Rattle.laws_of_rounds.proofs.Told.{among_map, has_among, passing_there}
 use Rattle.bm_base.proofs.Options.{there}
 use Rattle.laws_of_rounds.proofs.Deferred.{among_found}
 
--- Lists in which each number stands once.
+-- Lists without repeats.
 
 one_has : (xs : List ℕ) (a b : ℕ) → length xs ≤ 1 → has xs a ≡ true → has xs b ≡ true → a ≡ b
 one_has [] a b h e f = absurd (false≢true e)

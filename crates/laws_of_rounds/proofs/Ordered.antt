@@ -1,4 +1,4 @@
--- No call makes a replica usable whose delete was commanded: it is usable again once it is
+-- No call makes a replica usable whose delete was commanded. It is usable again once it is
 -- reported, and then the command is forgotten.
 use Rattle.std.specs.Prelude.{◌≡◌, ℕ, Bool, true, false, not, ◌&&◌, ◌==◌, ◌⊎◌, if◌then◌else◌, List, [], ◌∷◌, map, Option, Some, None, is_some, option_and_then}
 use Rattle.std.specs.Ordering.{eq_by_cmp}
@@ -41,11 +41,11 @@ use Rattle.bm_base.proofs.Options.{revised}
 use Rattle.bm_base.proofs.AfterRound.{marks_after}
 use Rattle.bm_base.proofs.Lively.{live_is}
 
--- a mark of a replica: where its delete was commanded, it is not usable
+-- a replica whose delete was commanded is not usable
 abbrev pub IsDone : Marks → Type 0
 IsDone m = m.ordered ≡ true → is_usable m ≡ false
 
--- of all marks of a map
+-- this holds of all marks of a map
 abbrev pub AreDone : Map by_replica Marks → Type 0
 AreDone r = (q : ReplicaId) (m : Marks) → get r q ≡ Some m → IsDone m
 
@@ -112,7 +112,7 @@ done_told H s [] r h = h
 done_told H s (t ∷ ts) r h =
     done_told H s ts (insert r (replica_at t.id s) (entered H (replica_at t.id s) t.stamp)) (done_inserted r (replica_at t.id s) (entered H (replica_at t.id s) t.stamp) (done_entered H (replica_at t.id s) t.stamp) h)
 
--- a change of the transfers on their way leaves the marks
+-- a change of the pending transfers keeps the marks
 done_drained : (C : Cluster) (H : Holdings) (n : ℕ) → AreDone H.replicas → AreDone (begun_to_drain C H n).replicas
 unfolding begun_to_drain
 done_drained C H n h =
@@ -150,7 +150,7 @@ dropped_done : (t : Bool) (n : Marks) → n.ordered ≡ t → IsDone n → IsDon
 dropped_done true n is old = old
 dropped_done false n is old = λ e. absurd (true≢false (sym e ∙ is))
 
--- a replica whose delete was commanded before keeps its tag, and its mark where it has one
+-- a replica whose delete was commanded before keeps its tag, and stays in excess if it is
 done_remarked : (chosen : List ℕ) (s : ℕ) (m : Marks) → IsDone m → IsDone (remarked chosen s m)
 done_remarked chosen s m h = with_mark (has chosen s) (unordered_dropped m) (dropped_done m.ordered m refl h)
 
@@ -159,7 +159,7 @@ done_started M h q m e =
     let was = revised (remarked (surplus_of M q.block) q.storage) (get M.holdings.replicas q) m (sym (marks_started M q) ∙ e) in
     subst IsDone was.2 (done_remarked (surplus_of M q.block) q.storage was.0 (h q was.0 was.1))
 
--- what is chosen to be deleted is not usable
+-- a replica whose delete a round chooses is not usable
 chosen_not_usable : (M : State) (q : ReplicaId) (m : Marks) → get (started M).holdings.replicas q ≡ Some m → is_commanded (chosen_deletes_of M) q ≡ true → is_usable m ≡ false
 unfolding is_commanded started begun
 chosen_not_usable M q m e h =

@@ -1,5 +1,5 @@
--- Copies of one block go to different nodes: said of each two that a round chooses, and of each two
--- that it commands.
+-- Any two copies of one block that a round chooses go to different nodes, and so do any two that it
+-- commands.
 use Rattle.std.specs.Prelude.{◌≡◌, ℕ, ◌⊎◌, Bool, true, false, List, [], ◌∷◌, ◌++◌, map, filter, flat_map}
 use Rattle.std.proofs.Common.{cond, sym, refl, ap, subst, ◌∙◌, inl, inr}
 use Rattle.std.proofs.lemmas.Bool.{true≢false, or_parts}
@@ -21,9 +21,9 @@ use Rattle.laws_of_rounds.proofs.Sending.{fresh_node}
 use Rattle.laws_of_rounds.proofs.Later.{each_among, each_is, commanded_chosen}
 use Rattle.laws_of_rounds.proofs.Told.{among_cons, cons_head, cons_tail, has_among, no_cons}
 
--- Two of a list.
+-- Pairs in a list.
 
--- R holds of each two, the earlier one first
+-- R holds of each pair in the list, the earlier item first
 abbrev pub OfTwo : {X : Type 0} → (X → X → Type 0) → List X → Type 0
 OfTwo R [] = Unit {0}
 OfTwo R (x ∷ xs) = Each (R x) xs × OfTwo R xs
@@ -39,7 +39,7 @@ among_parts : {X : Type 0} (x : X) (xs : List X) (y : X) → IsAmong (x ∷ xs) 
 among_parts x xs y ([], back, is) = inl (cons_head x y xs back is)
 among_parts x xs y (z ∷ front, back, is) = inr (front, back, cons_tail x z xs (front ++ y ∷ back) is)
 
--- two that stand in the list are one, or R holds of them
+-- two items of the list are the same, or R holds of them
 one_or_two : {X : Type 0} (R : X → X → Type 0) → ((x y : X) → R x y → R y x) → (xs : List X) (x y : X) → OfTwo R xs → IsAmong xs x → IsAmong xs y → (x ≡ y) ⊎ R x y
 one_or_two R turned [] x y h here there = absurd (no_cons here.0 here.1 x here.2)
 one_or_two R turned (z ∷ xs) x y h here there = by_parts (among_parts z xs x here) (among_parts z xs y there) (one_or_two R turned xs x y h.1)
@@ -65,7 +65,7 @@ of_two_filter R p (x ∷ xs) h =
 
 -- Targets.
 
--- not copies of one block to one node
+-- the two are not copies of one block to one node
 abbrev pub GoApart : Cluster → Transfer → Transfer → Type 0
 GoApart C t u = t.block ≡ u.block → node_of C t.target ≡ node_of C u.target → ⊥
 
@@ -75,7 +75,7 @@ targets_apart M = of_two (GoApart M.cluster) (transfers_chosen M) (λ front back
 turned : (C : Cluster) (t u : Transfer) → GoApart C t u → GoApart C u t
 turned C t u apart is at = apart (sym is) (sym at)
 
--- two copies of a block to one node are one
+-- two commanded copies of one block to one node are the same
 pub one_copy : (M : State) (t u : Transfer) → IsTransferCommanded M t → IsTransferCommanded M u → t.block ≡ u.block → node_of M.cluster t.target ≡ node_of M.cluster u.target → t ≡ u
 one_copy M t u h k same node =
     by_two (one_or_two (GoApart M.cluster) (turned M.cluster) (transfers_chosen M) t u (targets_apart M) (commanded_chosen M t h) (commanded_chosen M u k))
@@ -84,7 +84,7 @@ one_copy M t u h k same node =
     by_two (inl is) = is
     by_two (inr apart) = absurd (apart same node)
 
--- What the nodes are told.
+-- The commands of nodes.
 
 module _ (C : Cluster) (ts : List Transfer) (ds : List Delete) (apart : OfTwo (GoApart C) ts) where
   abbrev told : List ℕ → List Transfer
@@ -102,7 +102,7 @@ module _ (C : Cluster) (ts : List Transfer) (ds : List Delete) (apart : OfTwo (G
       (each_then (IsAmong ns) (λ n. Each (IsOf ns) (node_commands C ts ds n).transfers) ns (each_among ns) (λ n at.
       each_filter_by (IsAmong ts) (λ (t : Transfer). has_storage C n t.source) (IsOf ns) (λ t there on. (there, n, has_among ns n at, on)) ts (each_among ts)))))
 
-  -- a copy from a node beside one from others
+  -- a copy from one node, and one from the other nodes
   across : (n : ℕ) (ns : List ℕ) → has ns n ≡ false → (t u : Transfer) → IsAmong ts t → has_storage C n t.source ≡ true → IsOf ns u → GoApart C t u
   across n ns none t u there on is = by_two (one_or_two (GoApart C) (turned C) ts t u apart there is.0)
     where

@@ -1,4 +1,4 @@
--- Why marking leaves a replica on each rack while another rack has two.
+-- Why marking keeps a live replica on each rack while another rack has two.
 use Rattle.std.specs.Prelude.{◌≡◌, ℕ, zero, suc, ◌+◌, ◌-◌, ◌≤◌, Bool, true, false, not, ◌&&◌, ◌||◌, ◌==◌, nat_lt, if◌then◌else◌, List, [], ◌∷◌, filter, length, Option, Some, None, is_some, option_map, option_and_then}
 use Rattle.std.specs.declared.cmp.Ordering.{Ordering}
 use Rattle.std.specs.Ordering.{is_lt, nat_cmp, ordering_then}
@@ -25,7 +25,7 @@ use Rattle.bm_base.proofs.Surpluses.{kept_of, others, kept_step, chosen_first, l
 use Rattle.bm_base.proofs.Marked.{marked_is, marked_unmarked, unordered_dropped}
 use Rattle.laws_of_rounds.proofs.Reasons.{marks_unmarked, none_unknown, none_made_live}
 
--- The least of a list has the least class, where the class is compared first.
+-- The least of a list has the least class, if the class is compared first.
 
 lt_class : (a b : ℕ) (r : Ordering) → is_lt (ordering_then (nat_cmp a b) r) ≡ true → a ≤ b
 lt_class a b r e = grind (arith, nat_tests)
@@ -37,7 +37,7 @@ module _ (class : ℕ → ℕ) (rest : ℕ → ℕ → Ordering) where
   abbrev by_class : ℕ → ℕ → Ordering
   by_class s t = ordering_then (nat_cmp (class s) (class t)) (rest s t)
 
-  -- at most the class of each of these
+  -- the class of x is at most that of each of these
   abbrev IsBelow : ℕ → List ℕ → Type 0
   IsBelow x xs = (t : ℕ) → has xs t ≡ true → class x ≤ class t
 
@@ -166,7 +166,7 @@ module _ (C : Cluster) where
   abbrev rack_class : List ℕ → ℕ → ℕ
   rack_class candidates s = if has_rack_mate C candidates s then 0 else 1
 
-  -- the first of the surplus has a mate if another candidate has
+  -- the first surplus replica has a mate if another candidate has one
   first_has_mate : (candidates : List ℕ) (x t : ℕ) → least (excess_cmp C candidates) candidates ≡ Some x → has candidates t ≡ true → has_rack_mate C candidates t ≡ true
       → has_rack_mate C candidates x ≡ true
   unfolding excess_cmp
@@ -178,7 +178,7 @@ module _ (C : Cluster) where
       of_class true h = refl
       of_class false h = absurd (omega arith)
 
-  -- The rack of each candidate has one that stays, where one that stays has a mate.
+  -- The rack of each candidate keeps a replica, if one that stays has a mate.
   pub rack_stays : (k : ℕ) (candidates : List ℕ) (s t : ℕ) → has_repeats candidates ≡ false → has candidates s ≡ true → share_rack C s s ≡ true
       → has (kept_of (excess_among C k candidates) candidates) t ≡ true → has_rack_mate C (kept_of (excess_among C k candidates) candidates) t ≡ true
       → list_any (share_rack C s) (kept_of (excess_among C k candidates) candidates) ≡ true
@@ -229,7 +229,7 @@ module _ (C : Cluster) where
                 | false ↦ λ ne. otherwise ne
               ]) refl
 
--- A live replica of a lawful state stands on a rack.
+-- A live replica of a lawful state is on a rack.
 
 is_some_value : {X : Type 0} (p : X → Bool) (o : Option X) → option_map_or p o false ≡ true → (x : X) × (o ≡ Some x)
 is_some_value p None e = absurd (false≢true e)

@@ -37,7 +37,7 @@ not_ordered M q h =
     let was = marks_before M q is.0 is.1 in
     (was.0, was.1, sym (remarked_ordered (surplus_of M q.block) q.storage was.0) ∙ ap (λ m. m.ordered) was.2 ∙ (deleted_marks M q is.0 is.2).0)
 
--- a corrupt replica is not stray, and, as only good ones are in excess, not in excess
+-- a block with enough live replicas is known, and at least its wanted number is live
 enough_known : (M : State) (b : ℕ) → has_enough_live M.cluster (started M).holdings b ≡ true
     → (i : BlockInfo) × (get M.holdings.blocks b ≡ Some i) × (i.repl ≤ length (live_marked M b))
 unfolding has_enough_live started begun marked without_expired without_unordered_excess
@@ -48,7 +48,7 @@ enough_known M b e = by_info (get M.holdings.blocks b) refl e
     by_info None is f = absurd (false≢true f)
     by_info (Some i) is f = (i, is, leb-true i.repl (length (live_marked M b)) f)
 
--- What is chosen as surplus is live.
+-- Replicas that are chosen as surplus are live.
 
 pub none_unknown : (M : State) (b : ℕ) → get M.holdings.blocks b ≡ None → surplus_of M b ≡ []
 unfolding excess_in begun without_expired without_unordered_excess
@@ -81,7 +81,7 @@ dropped_excess : (o : Bool) (m : Marks) → (if o then m else record m { excess 
 dropped_excess true m e = e
 dropped_excess false m e = absurd (false≢true e)
 
--- in a lawful state, what is in excess once a round has marked is good
+-- in a lawful state, a replica that is in excess once a round has marked is good
 excess_good : (M : State) (q : ReplicaId) (n : Marks) → IsOrderly M → get M.holdings.replicas q ≡ Some n → (remarked (surplus_of M q.block) q.storage n).excess ≡ true → is_good n.tag ≡ true
 excess_good M q n lawful found e = by_choice (has (surplus_of M q.block) q.storage) refl e
   where
@@ -121,7 +121,7 @@ pub none_made_live : (M : State) (b s : ℕ) → has (live_marked M b) s ≡ tru
 none_made_live M b s h =
     and_second (not (has (surplus_of M b) s)) (has (live_unmarked M b) s) (sym (ap (λ xs. has xs s) (marked_unmarked M b) ∙ has_filter (λ z. not (has (surplus_of M b) z)) (live_unmarked M b) s) ∙ h)
 
--- those that pass and those that do not are all
+-- those that pass a test and those that do not add up to all
 parts : (p : ℕ → Bool) (xs : List ℕ) → length (filter p xs) + length (filter (λ x. not (p x)) xs) ≡ length xs
 parts p [] = omega arith
 parts p (x ∷ xs) =
@@ -131,7 +131,7 @@ parts p (x ∷ xs) =
       | false ↦ omega (arith, rest)
     ]
 
--- a filter by what each number of the list is tested to
+-- two tests that agree on the numbers of a list filter it alike
 pub filter_same_among : (p q : ℕ → Bool) (xs : List ℕ) → ((x : ℕ) → has xs x ≡ true → p x ≡ q x) → filter p xs ≡ filter q xs
 filter_same_among p q [] f = refl
 filter_same_among p q (x ∷ xs) f =
@@ -220,7 +220,7 @@ dropped_is : (o : Bool) (m : Marks) → is_usable (if o then m else record m { e
 dropped_is true m = refl
 dropped_is false m = refl
 
--- what counts before a round marks, beside a test of the storage
+-- the replicas that count before a round marks, with a test of the storage in addition
 before_where : (on : ℕ → Bool) (M : State) (b s : ℕ)
     → has (storages_where (λ t m. is_usable m && on t) (unmarked M).holdings b) s
     ≡ option_map_or (λ m. (is_good m.tag && not (if m.ordered then m.excess else false)) && on s) (get M.holdings.replicas (replica_at b s)) false

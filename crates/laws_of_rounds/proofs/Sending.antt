@@ -155,7 +155,7 @@ four_a_node M =
     all_of_each (λ (k : NodeCommands). length k.transfers ≤ 4) (whole_round M).0.nodes
     (each_node M.cluster _ (transfers_chosen M) (chosen_deletes_of M) (λ k. length k.transfers ≤ 4) (four_commanded M (chosen_deletes_of M)))
 
--- How many.
+-- Numbers of transfers.
 
 pub few_chosen : (M : State) → length (transfers_chosen M) ≤ M.limits.work * len M.cluster.nodes
 few_chosen M =
@@ -171,7 +171,7 @@ module _ {X : Type 0} (on : ℕ → X → Bool) (apart : (n k : ℕ) (x : X) →
       by_tests true f false g = g ∙ sym (ap (λ a. not a && on k x) f)
       by_tests false f b g = sym (ap (λ a. not a && on k x) f)
 
-  -- the pieces without those of one number, as they are
+  -- taking out the elements of one number keeps the pieces of the others
   rest_of : (n : ℕ) (ns : List ℕ) (xs : List X) → has ns n ≡ false → flat_map (λ k. filter (on k) xs) ns ≡ flat_map (λ k. filter (on k) (filter (λ x. not (on n x)) xs)) ns
   rest_of n [] xs h = refl
   rest_of n (k ∷ ns) xs h =
@@ -190,7 +190,7 @@ module _ {X : Type 0} (on : ℕ → X → Bool) (apart : (n k : ℕ) (x : X) →
         | false ↦ omega (arith, rest)
       ]
 
-  -- in groups there are no more than in all
+  -- the groups together have no more elements than the list
   pub grouped_count : (ns : List ℕ) (xs : List X) → has_repeats ns ≡ false → length (flat_map (λ n. filter (on n) xs) ns) ≤ length xs
   grouped_count [] xs once = omega arith
   grouped_count (n ∷ ns) xs once =
@@ -204,7 +204,7 @@ module _ {X : Type 0} (on : ℕ → X → Bool) (apart : (n k : ℕ) (x : X) →
             omega (arith, long, same, below, all)
       ]) refl once
 
--- the transfers of the nodes that have commands are those of all nodes
+-- the nodes that have commands have no more transfers than all nodes
 commanded_of : (C : Cluster) (ts : List Transfer) (ds : List Delete) (ns : List ℕ)
     → length (flat_map (λ (k : NodeCommands). k.transfers) (filter has_commands (map (node_commands C ts ds) ns))) ≤ length (flat_map (λ n. filter (λ (t : Transfer). has_storage C n t.source) ts) ns)
 unfolding node_commands
@@ -274,7 +274,7 @@ storage_known C u h =
     let found = some_of (get C.storages u) (sym (has_keys C.storages u) ∙ h) in
     (found.0.node, ap (option_map (λ i. i.node)) found.1)
 
--- no storage on the node of a storage that is not barred is barred
+-- no excluded storage is on the node of a storage that is not excluded
 pub not_barred : (C : Cluster) (barred : List ℕ) (u s n : ℕ) → is_barred C barred u ≡ false → node_of C u ≡ Some n → has barred s ≡ true → node_of C s ≡ node_of C u → ⊥
 unfolding is_barred
 not_barred C barred u s n free at there same =

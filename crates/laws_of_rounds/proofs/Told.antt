@@ -1,4 +1,4 @@
--- What nodes are told, in order, and that all that is chosen is told.
+-- The commands of nodes, in order. All that is chosen is commanded.
 use Rattle.std.specs.Prelude.{◌≡◌, ℕ, ◌+◌, ◌≤◌, ◌<◌, ◌⊎◌, Bool, true, false, ◌&&◌, ◌||◌, ◌==◌, if◌then◌else◌, List, [], ◌∷◌, ◌++◌, map, filter, flat_map, length, Option, Some, None, is_some, option_map}
 use Rattle.std.specs.Option.{option_map_or}
 use Rattle.std.specs.List.{All}
@@ -37,7 +37,7 @@ use Rattle.laws_of_rounds.proofs.Sending.{node_is, storage_is, streams_of_node, 
 use Rattle.laws_of_rounds.proofs.Later.{each_among, each_is, commanded_chosen, ordered_by_round, pending_now}
 use Rattle.bm_base.proofs.AfterRound.{marks_after}
 
--- Each node its own.
+-- The commands of a node are for its own storages.
 
 own_of : (C : Cluster) (ts : List Transfer) (ds : List Delete) (n : ℕ)
     → All (λ (t : Transfer). node_of C t.source ≡ Some n) (node_commands C ts ds n).transfers × All (λ (d : Delete). node_of C d.storage ≡ Some n) (node_commands C ts ds n).deletes
@@ -72,7 +72,7 @@ pub no_cons : {X : Type 0} (front back : List X) (x : X) → [] ≡ front ++ x �
 no_cons [] back x e = cc
 no_cons (y ∷ front) back x e = cc
 
--- a place in what passes is a place in all
+-- a position in a filtered list is one in the whole list
 pub unfiltered : {X : Type 0} (p : X → Bool) (xs front back : List X) (x : X) → filter p xs ≡ front ++ x ∷ back
     → (before : List X) × (after : List X) × (xs ≡ before ++ x ∷ after) × (filter p before ≡ front) × (p x ≡ true)
 unfiltered {X = X} p [] front back x e = absurd (no_cons front back x e)
@@ -120,7 +120,7 @@ unfolding whole_round started begun
 first_two M =
     all_of_each (AreFirstTwo M) (whole_round M).0.nodes (each_node M.cluster _ (transfers_chosen M) (chosen_deletes_of M) (AreFirstTwo M) (first_two_of M (chosen_deletes_of M)))
 
--- All that is chosen is told.
+-- All that is chosen is commanded.
 
 among_back : {X : Type 0} (xs ys : List X) (x : X) → IsAmong ys x → IsAmong (xs ++ ys) x
 among_back [] ys x h = h
@@ -263,7 +263,7 @@ ordered_told M q m n before unordered after ordered =
 pub pending_told : (M : State) (t : Transfer) → IsTransferCommanded M t → get (after_round M).holdings.pending (replica_at t.block t.target) ≡ Some (M.round + 1)
 pending_told M t h = pending_now M t (commanded_chosen M t h)
 
--- What a round leaves as it is.
+-- What a round keeps.
 
 pub same_rest : (M : State) → ((after_round M).cluster ≡ M.cluster) × ((after_round M).holdings.blocks ≡ M.holdings.blocks) × ((after_round M).limits ≡ M.limits)
     × ((after_round M).round ≡ M.round + 1) × ((after_round M).calls ≡ M.calls)

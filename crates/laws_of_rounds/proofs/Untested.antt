@@ -1,4 +1,4 @@
--- What the definitions test to be commanded, as the laws say it.
+-- A delete that passes the definitions' test is commanded in the sense of the laws.
 use Rattle.std.specs.Prelude.{◌&&◌, ◌==◌}
 use Rattle.std.proofs.Common.{subst}
 use Rattle.bm_base.specs.declared.replica.ReplicaId.{ReplicaId}

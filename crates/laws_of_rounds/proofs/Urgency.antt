@@ -1,4 +1,4 @@
--- Wishes rise by level and block, and so do the transfers that are chosen for them.
+-- Requested copies ascend by level and block, and so do the transfers that are chosen for them.
 use Rattle.std.specs.Prelude.{◌≡◌, ℕ, zero, suc, ◌≤◌, ◌<◌, ◌⊎◌, Bool, true, false, ◌==◌, nat_lt, if◌then◌else◌, List, [], ◌∷◌, ◌++◌, map, flat_map, replicate, Option, Some, None, option_to_list, T}
 use Rattle.std.specs.Option.{option_map_or}
 use Rattle.std.specs.Ordering.{nat_cmp, is_lt}
@@ -24,11 +24,11 @@ use Rattle.laws_of_rounds.proofs.Choosing.{EachAfter, after_push, after_split, I
 use Rattle.laws_of_rounds.proofs.Later.{each_at}
 use Rattle.laws_of_rounds.proofs.Wished.{of_wish}
 
--- a wish is served before another
+-- a requested copy is served before another
 abbrev IsBefore : WishedCopy → WishedCopy → Type 0
 IsBefore w v = (level_number w.urgency < level_number v.urgency) ⊎ ((w.urgency ≡ v.urgency) × (w.block ≤ v.block))
 
--- in a list each before those behind it
+-- each item of a list is before all later ones
 abbrev Rises : {X : Type 0} → (X → X → Type 0) → List X → Type 0
 Rises R [] = Unit {0}
 Rises R (x ∷ xs) = Each (R x) xs × Rises R xs
@@ -42,7 +42,7 @@ module _ {X : Type 0} (R : X → X → Type 0) where
   rises_replicate zero x h = tt
   rises_replicate (suc n) x h = (each_replicate (R x) n x h, rises_replicate n x h)
 
--- Keys rise.
+-- Keys are ascending.
 
 lt_of : (a b : ℕ) → T (is_lt (nat_cmp a b)) → a < b
 lt_of a b =
@@ -67,7 +67,7 @@ keys_rise : {X : Type 0} (m : Map by_number X) → Rises (λ k n. k < n) (keys m
 unfolding keys entries
 keys_rise m = rising m.list m.sorted
 
--- Wishes rise.
+-- Requested copies are ascending.
 
 abbrev IsFor : Level → ℕ → WishedCopy → Type 0
 IsFor urgency b w = (w.urgency ≡ urgency) × (w.block ≡ b)
@@ -93,7 +93,7 @@ module _ (C : Cluster) (H : Holdings) where
   unfolding wishes_for
   rises_for urgency b = rises_if urgency b (is_at urgency (level C H b)) (get H.blocks b)
 
-  -- a wish for a block before those for greater blocks
+  -- a copy of a block is requested before those of greater blocks
   before_greater : (urgency : Level) (b n : ℕ) (w : WishedCopy) → b < n → IsFor urgency b w → Each (IsBefore w) (wishes_for C H urgency n)
   before_greater urgency b n w lt is =
       each_then (IsFor urgency n) (IsBefore w) (wishes_for C H urgency n) (each_for urgency n) (λ v h. let e = is.1 in let f = h.1 in inr (is.0 ∙ sym h.0, omega (arith, lt, e, f)))
@@ -116,7 +116,7 @@ module _ (C : Cluster) (H : Holdings) where
   lower_before l k lt w v e f =
       inl (subst (λ z. level_number w.urgency < level_number z) (sym f) (subst (λ z. level_number z < level_number k) (sym e) lt))
 
-  -- levels one after another, each of a greater number than the one before
+  -- levels one after another, in ascending order of their numbers
   levels_rise : (ls : List Level) → Rises (λ l k. level_number l < level_number k) ls → Rises IsBefore (flat_map at ls)
   levels_rise [] h = tt
   levels_rise (l ∷ ls) h =
@@ -131,11 +131,11 @@ module _ (C : Cluster) (H : Holdings) where
 
   -- Transfers.
 
-  -- a transfer was chosen for a wish that is served before this one
+  -- a transfer was chosen for a requested copy that is served before this one
   abbrev IsServedBefore : WishedCopy → Transfer → Type 0
   IsServedBefore v t = (w : WishedCopy) × (t.block ≡ w.block) × IsOfLevel C H w × IsBefore w v
 
-  -- the transfers chosen before one are of wishes served before one for its block
+  -- the transfers chosen before one are for requested copies served before that of its block
   abbrev IsInOrder : List Transfer → Transfer → Type 0
   IsInOrder front u = (v : WishedCopy) × (u.block ≡ v.block) × IsOfLevel C H v × Each (IsServedBefore v) front
 

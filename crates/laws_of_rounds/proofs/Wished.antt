@@ -1,4 +1,4 @@
--- A block gets no more transfers than there are wishes for it, and so no more than it lacks.
+-- A block gets no more transfers than copies of it are requested, and so no more than it lacks.
 use Rattle.std.specs.Prelude.{◌≡◌, ℕ, zero, suc, ◌+◌, ◌*◌, ◌≤◌, ◌⊎◌, Bool, true, false, ◌&&◌, ◌==◌, nat_lt, nat_le, if◌then◌else◌, List, [], ◌∷◌, ◌++◌, map, filter, flat_map, length, replicate, count_by, Option, Some, None, is_some, option_map, option_and_then, option_to_list}
 use Rattle.std.specs.Option.{option_map_or}
 use Rattle.std.proofs.Common.{cond, refl, sym, ap, ◌∙◌, arith, inl, inr, append-nil}
@@ -32,7 +32,7 @@ use Rattle.laws_of_rounds.proofs.Sending.{chosen_at, target_parts}
 use Rattle.laws_of_rounds.proofs.Racked.{share_is, share_of}
 use Rattle.bm_base.proofs.Sets.{rack_among}
 
--- Wishes for one block.
+-- Requested copies of one block.
 
 abbrev about : ℕ → WishedCopy → Bool
 about b w = w.block == b
@@ -60,7 +60,7 @@ module _ (C : Cluster) (H : Holdings) where
   apart n k w e f = sym (eqb-true w.block n e) ∙ eqb-true w.block k f
 
   module _ (b : ℕ) (i : BlockInfo) (known : get H.blocks b ≡ Some i) where
-    -- at one level
+    -- the requested copies of the block at one level
     of_level : (urgency : Level) → filter (about b) (flat_map (wishes_for C H urgency) (keys H.blocks)) ≡ wishes_for C H urgency b
     of_level urgency =
         grouped (wishes_for C H urgency) (λ n w. about n w) apart (about_for urgency) b (keys H.blocks) (once_keys H.blocks)
@@ -98,7 +98,7 @@ module _ (C : Cluster) (H : Holdings) where
             ap length (filter_append (about b) (at urgency) rest) ∙ length-append (filter (about b) (at urgency)) (filter (about b) rest)
             ∙ (λ j. length_at urgency j + e j)
 
-    -- as many as its level wants
+    -- the number of requested copies of the block is that for its level
     pub wishes_about : length (filter (about b) (wishes C H)) ≡ option_map_or (λ l. wished_count C H l i.repl b) (level C H b) 0
     wishes_about = sums ∙ by_level (level C H b)
       where
@@ -266,7 +266,8 @@ known_before M b i e = e
 head_count : (t : Transfer) (back : List Transfer) → length (targets_of (t ∷ back) t.block) ≡ 1 + length (targets_of back t.block)
 head_count t back = count_append (t ∷ []) back t.block ∙ ap (λ n. n + length (targets_of back t.block)) (count_one t t.block ∙ ap (λ b. cond b 1 0) (same_again t.block))
 
--- where no other copy of a block is on its way, its target stands on none of its racks
+-- the target is on no rack of the block's live replicas, if no other copy of it is pending or
+-- chosen
 elsewhere : (C : Cluster) (H : Holdings) (front : List Transfer) (b u s : ℕ) → pending_targets H b ≡ [] → targets_of front b ≡ [] → (length (racks C (live C H b)) == 1) ≡ true
     → ((length (racks C (holders_of C H front b)) == 1) && (class_of C (holders_of C H front b) u == 1)) ≡ false → has (live C H b) s ≡ true → share_rack C s u ≡ false
 elsewhere C H front b u s pending targets one off there =

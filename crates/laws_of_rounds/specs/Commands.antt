@@ -1,4 +1,4 @@
--- Laws of what nodes are commanded, and of what stands of it in the state.
+-- Laws of the commands of nodes, and of their effect on the state.
 use Rattle.std.specs.Prelude.{◌≡◌, ◌+◌, ◌<◌, ◌⊎◌, true, false, List, ◌∷◌, ◌++◌, length, Some, option_map}
 use Rattle.std.specs.List.{All}
 use Rattle.bm_base.specs.declared.replica.ReplicaId.{ReplicaId}
@@ -18,35 +18,35 @@ abbrev pub EachNodeItsOwn : Type 0
 EachNodeItsOwn =
     (M : State) → All (λ k. All (λ t. node_of M.cluster t.source ≡ Some k.node) k.transfers × All (λ d. node_of M.cluster d.storage ≡ Some k.node) k.deletes) (whole_round M).0.nodes
 
--- of the transfers that a node is commanded that does not drain, those of blocks of other levels
--- than the highest are among the first two
+-- if a node does not drain, transfers of blocks at other levels than the highest are among its
+-- first two
 abbrev pub FirstTwoOfANode : Type 0
 FirstTwoOfANode =
     (M : State) → All (λ k. drains M.cluster k.node ≡ false → (front back : List Transfer) (t : Transfer) → k.transfers ≡ front ++ t ∷ back
     → (level M.cluster (started M).holdings t.block ≡ Some Highest) ⊎ (length front < 2)) (whole_round M).0.nodes
 
--- what a round chooses it commands
+-- a round commands each transfer that it chooses
 abbrev pub ChosenTransferIsCommanded : State → Type 0
 ChosenTransferIsCommanded M = (t : Transfer) → IsAmong (transfers_chosen M) t → IsTransferCommanded M t
 
--- a delete that is commanded is ordered once the round is over
+-- a delete that a round commands is ordered after the round
 abbrev pub CommandedDeleteIsOrdered : Type 0
 CommandedDeleteIsOrdered =
     (M : State) (q : ReplicaId) → IsDeleteCommanded M q → (m : Marks) × (get (after_round M).holdings.replicas q ≡ Some m) × (m.ordered ≡ true)
 
--- and a delete that was not ordered before a round and is ordered after it, the round commanded
+-- if a delete was not ordered before a round and is after it, the round commanded it
 abbrev pub OrderedIsCommanded : Type 0
 OrderedIsCommanded =
     (M : State) (q : ReplicaId) (m n : Marks) → get M.holdings.replicas q ≡ Some m → m.ordered ≡ false
     → get (after_round M).holdings.replicas q ≡ Some n → n.ordered ≡ true → IsDeleteCommanded M q
 
--- a transfer that is commanded is on its way since the round, once it is over
+-- a transfer that a round commands is pending after the round, with the round's number
 abbrev pub CommandedTransferIsPending : Type 0
 CommandedTransferIsPending =
     (M : State) (t : Transfer) → IsTransferCommanded M t → get (after_round M).holdings.pending (replica_at t.block t.target) ≡ Some (M.round + 1)
 
--- A round changes the marks of replicas and the transfers on their way, and counts itself; it
--- changes no tag, no block and no node.
+-- A round changes the marks of replicas, the pending transfers and the round number. It changes no
+-- tag, no block and no node.
 abbrev pub RoundChangesNoTag : Type 0
 RoundChangesNoTag = (M : State) (q : ReplicaId) → option_map (λ m. m.tag) (get (after_round M).holdings.replicas q) ≡ option_map (λ m. m.tag) (get M.holdings.replicas q)
 

@@ -26,31 +26,31 @@ OnlyGoodReplicaIsNotDeleted M =
     → ((t : ℕ) (m : Marks) → get M.holdings.replicas (replica_at b t) ≡ Some m → m.tag ≡ Good → t ≡ s)
     → IsDeleteCommanded M (replica_at b s) → ⊥
 
--- Where a round commands the delete of a replica of a known block, another replica of the block is
+-- If a round commands the delete of a replica of a known block, another replica of the block is
 -- live after the round, and the round does not command its delete.
 abbrev pub LastGoodReplicaStays : State → Type 0
 LastGoodReplicaStays M =
     (b s : ℕ) (i : BlockInfo) → get M.holdings.blocks b ≡ Some i → IsDeleteCommanded M (replica_at b s)
     → (t : ℕ) × (has (live_after M b) t ≡ true) × (IsDeleteCommanded M (replica_at b t) → ⊥) × (t ≡ s → ⊥)
 
--- More than that: as many replicas of the block as are wanted are live after the round, and one at
--- least is wanted.
+-- More than that: at least the wanted number of the block's replicas are live after the round, and
+-- at least one is wanted.
 abbrev pub EnoughStayLive : State → Type 0
 EnoughStayLive M =
     (b s : ℕ) (i : BlockInfo) → get M.holdings.blocks b ≡ Some i → IsDeleteCommanded M (replica_at b s)
     → (1 ≤ i.repl) × (i.repl ≤ length (live_after M b))
 
--- what is live after a round, the round does not command to delete
+-- a round commands the delete of no replica that is live after it
 abbrev pub LiveReplicaIsNotDeleted : Type 0
 LiveReplicaIsNotDeleted = (M : State) (b t : ℕ) → has (live_after M b) t ≡ true → IsDeleteCommanded M (replica_at b t) → ⊥
 
--- nor what is drained
+-- a round commands the delete of no replica that is drained after it
 abbrev pub DrainedReplicaIsNotDeleted : Type 0
 DrainedReplicaIsNotDeleted = (M : State) (b t : ℕ) → has (drained_after M b) t ≡ true → IsDeleteCommanded M (replica_at b t) → ⊥
 
 -- What is deleted.
 
--- a replica that a round may command to delete, by its marks once the round has marked
+-- a replica whose delete a round may command, by its marks once the round has marked
 pub record MayBeDeleted (M : State) (q : ReplicaId) : Type 0 where
   pub marks : Marks
   pub is_there : get (started M).holdings.replicas q ≡ Some marks
@@ -60,13 +60,13 @@ pub record MayBeDeleted (M : State) (q : ReplicaId) : Type 0 where
 abbrev pub OnlyWhatMayBeDeleted : Type 0
 OnlyWhatMayBeDeleted = (M : State) (q : ReplicaId) → IsDeleteCommanded M q → MayBeDeleted M q
 
--- a corrupt one only where as many of its block as are wanted are live
+-- a corrupt replica is deleted only if at least the wanted number of its block's replicas are live
 abbrev pub CorruptWaitsForLive : State → Type 0
 CorruptWaitsForLive M =
     (q : ReplicaId) (m : Marks) → IsDeleteCommanded M q → get (started M).holdings.replicas q ≡ Some m → is_corrupt m.tag ≡ true
     → (i : BlockInfo) × (get M.holdings.blocks q.block ≡ Some i) × (i.repl ≤ length (live_marked M q.block))
 
--- what was ordered before the round is not commanded again
+-- a delete that was ordered before the round is not commanded again
 abbrev pub NoneIsOrderedAgain : Type 0
 NoneIsOrderedAgain = (M : State) (q : ReplicaId) → IsDeleteCommanded M q → (m : Marks) × (get M.holdings.replicas q ≡ Some m) × (m.ordered ≡ false)
 
@@ -74,21 +74,21 @@ NoneIsOrderedAgain = (M : State) (q : ReplicaId) → IsDeleteCommanded M q → (
 abbrev pub AtMostInvalidateANode : Type 0
 AtMostInvalidateANode = (M : State) → All (λ k. length k.deletes ≤ M.limits.invalidate) (whole_round M).0.nodes
 
--- why a replica that is not ordered is to be deleted, by its marks once the round has marked
+-- why a replica is to be deleted, if that is not ordered already: by its marks once the round has
+-- marked
 abbrev pub IsToBeDeleted : State → ReplicaId → Marks → Type 0
 IsToBeDeleted M q m =
     (is_stray m.tag ≡ true) ⊎ ((m.excess ≡ true)
     ⊎ ((is_corrupt m.tag ≡ true) × ((i : BlockInfo) × (get M.holdings.blocks q.block ≡ Some i) × (i.repl ≤ length (live_marked M q.block)))))
 
--- What is to be deleted is commanded to be deleted, but where its node is commanded as many deletes
--- as the limit says.
+-- The delete of such a replica is commanded, unless its node is commanded the limit of deletes.
 abbrev pub OnlyTheLimitDefers : State → Type 0
 OnlyTheLimitDefers M =
     (q : ReplicaId) (m : Marks) (n : ℕ) → 1 ≤ M.limits.invalidate
     → get (started M).holdings.replicas q ≡ Some m → m.ordered ≡ false → IsToBeDeleted M q m → node_of M.cluster q.storage ≡ Some n
     → IsDeleteCommanded M q ⊎ ((k : NodeCommands) × IsAmong (whole_round M).0.nodes k × (k.node ≡ n) × (M.limits.invalidate ≤ length k.deletes))
 
--- Over every list of calls.
+-- After every list of calls.
 
 -- a replica whose delete was commanded, and which was not reported since, is neither live nor
 -- drained
@@ -97,9 +97,9 @@ OrderedReplicaIsNotUsable =
     (config : Config) (ks : List Call) (q : ReplicaId) (m : Marks)
     → get (state_after (first_state config) ks).holdings.replicas q ≡ Some m → m.ordered ≡ true → is_usable m ≡ false
 
--- Where a round commands the delete of a replica of a known block, a replica of the block is left
--- that is good and not in excess, on a node that does not drain, and of which no round has
--- commanded the delete, neither this one nor an earlier one.
+-- If a round commands the delete of a replica of a known block, a replica of the block remains that
+-- is good and not in excess, on a node that does not drain, and whose delete no round has commanded
+-- since its last report.
 abbrev pub GoodReplicaIsLeftByAllRounds : Type 0
 GoodReplicaIsLeftByAllRounds =
     (config : Config) (ks : List Call) (b s : ℕ) (i : BlockInfo)

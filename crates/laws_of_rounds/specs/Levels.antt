@@ -11,8 +11,8 @@ use Rattle.bm_base.specs.Levels.{level, level_of}
 use Rattle.bm_base.specs.Queries.{missing_blocks}
 use Rattle.bm_base.specs.Events.{set_replication}
 
--- How much a block is in need of replicas, told from its level: not at all where it has none, and
--- most where no replica is left.
+-- How much a block needs replicas, by its level: not at all without a level, and most if no usable
+-- replica is left.
 abbrev pub need : Option Level → ℕ
 need None = 0
 need (Some BadlyDistributed) = 1
@@ -29,18 +29,18 @@ LevelFourIsNoUsableReplica M =
     (b : ℕ) (i : BlockInfo) → get M.holdings.blocks b ≡ Some i
     → (level M.cluster M.holdings b ≡ Some NoUsableReplica) ↔ ((length (live M.cluster M.holdings b) ≡ 0) × (length (drained M.cluster M.holdings b) ≡ 0))
 
--- with no live replica and a drained one a block is the first to be copied, and not missing
+-- a block with no live replica, but a drained one, has level 0, and so is not missing
 abbrev pub OnlyDrainedIsLevelZero : State → Type 0
 OnlyDrainedIsLevelZero M =
     (b : ℕ) (i : BlockInfo) → get M.holdings.blocks b ≡ Some i
     → length (live M.cluster M.holdings b) ≡ 0 → 1 ≤ length (drained M.cluster M.holdings b)
     → (level M.cluster M.holdings b ≡ Some Highest) × (has (missing_blocks M.cluster M.holdings) b ≡ false)
 
--- storages all of which stand on one rack
+-- storages that are all on one rack
 abbrev pub AreOnOneRack : Cluster → List ℕ → Type 0
 AreOnOneRack C ss = (s t : ℕ) → has ss s ≡ true → has ss t ≡ true → rack_of C s ≡ rack_of C t
 
--- two alive nodes stand on two racks
+-- the alive nodes are on two racks or more
 abbrev pub HasTwoRacks : Cluster → Type 0
 HasTwoRacks C = (n : ℕ) × (k : ℕ) × (r : ℕ) × (q : ℕ) × (get C.nodes n ≡ Some r) × (get C.nodes k ≡ Some q) × (r ≡ q → ⊥)
 
@@ -55,7 +55,7 @@ ShortOfReplicas =
     (M : State) (b : ℕ) (i : BlockInfo) → get M.holdings.blocks b ≡ Some i
     → (2 ≤ need (level M.cluster M.holdings b)) ↔ (length (live M.cluster M.holdings b) < i.repl)
 
--- so many are live, on so many racks, and so many drained; `repl` are wanted, and then `more`
+-- with `live` replicas on `racks` racks, and `drained` ones; `repl` are wanted, and then `more`
 abbrev pub MoreWantedIsNoLessNeed : Type 0
 MoreWantedIsNoLessNeed =
     (live drained repl more racks : ℕ) (multi : Bool) → repl ≤ more → need (level_of live drained repl racks multi) ≤ need (level_of live drained more racks multi)
@@ -65,9 +65,8 @@ RaisedReplicationIsNoLessNeed =
     (C : Cluster) (H : Holdings) (b more : ℕ) (i : BlockInfo) → get H.blocks b ≡ Some i → i.repl ≤ more
     → need (level C H b) ≤ need (level C (set_replication H b more) b)
 
--- One live replica more stands on the racks of the others or on one more; live replicas stand on
--- one rack at least. As many may be drained then as before, or more or fewer, as where a drained
--- one becomes live.
+-- One more live replica is on a rack of the others, or on one more rack. Live replicas are on at
+-- least one rack. The number of drained ones may change too, as when a drained one becomes live.
 abbrev pub OneReplicaMoreIsNoMoreNeed : Type 0
 OneReplicaMoreIsNoMoreNeed =
     (live drained drained_then repl racks more_racks : ℕ) (multi : Bool) → (1 ≤ live → 1 ≤ racks) → racks ≤ more_racks

@@ -1,4 +1,4 @@
--- The laws, each a statement that is read aloud.
+-- The laws, each as a statement that a function's contract cites.
 pub mod Levels
 pub mod Live
 pub mod Surplus

@@ -1,4 +1,4 @@
--- What is live, and what is drained: the words in which the other laws speak.
+-- Live and drained replicas: the terms of the other laws.
 use Rattle.std.specs.Prelude.{◌≡◌, ℕ, List, ◌↔◌, true, false, ◌||◌, Some}
 use Rattle.bm_base.specs.declared.replica.Tag.TheVariants.{Good}
 use Rattle.bm_base.specs.declared.replica.Marks.{Marks}
@@ -7,29 +7,29 @@ use Rattle.bm_base.specs.State.{Cluster, Holdings, replica_at}
 use Rattle.bm_base.specs.Lists.{has, has_repeats}
 use Rattle.bm_base.specs.Replicas.{live, drained, sources_of, is_usable, is_draining, storages_where, usable}
 
--- a storage stands among a block's live ones exactly where its replica of the block is good and not
--- in excess, and its node does not drain
+-- a storage is among a block's live ones exactly if its replica of the block is good and not in
+-- excess, and its node does not drain
 abbrev pub LiveIsGoodNotInExcessAndNotDraining : Type 0
 LiveIsGoodNotInExcessAndNotDraining =
     (C : Cluster) (H : Holdings) (b s : ℕ)
     → (has (live C H b) s ≡ true) ↔ ((m : Marks) × (get H.replicas (replica_at b s) ≡ Some m) × (m.tag ≡ Good) × (m.excess ≡ false) × (is_draining C s ≡ false))
 
--- and among its drained ones exactly where the replica is good and not in excess, and the node
--- drains
+-- a storage is among a block's drained ones exactly if its replica of the block is good and not in
+-- excess, and its node drains
 abbrev pub DrainedIsGoodNotInExcessAndDraining : Type 0
 DrainedIsGoodNotInExcessAndDraining =
     (C : Cluster) (H : Holdings) (b s : ℕ)
     → (has (drained C H b) s ≡ true) ↔ ((m : Marks) × (get H.replicas (replica_at b s) ≡ Some m) × (m.tag ≡ Good) × (m.excess ≡ false) × (is_draining C s ≡ true))
 
--- the usable ones are these two together
+-- the usable ones are the live and the drained together
 abbrev pub UsableIsLiveOrDrained : Type 0
 UsableIsLiveOrDrained = (C : Cluster) (H : Holdings) (b s : ℕ) → has (usable H b) s ≡ (has (live C H b) s || has (drained C H b) s)
 
--- copies are made from the usable ones, and from no others
+-- copies are made from the usable replicas, and from no others
 abbrev pub SourcesAreUsable : Type 0
 SourcesAreUsable = (C : Cluster) (H : Holdings) (b s : ℕ) → has (sources_of C H b) s ≡ has (usable H b) s
 
--- a storage stands once among the live ones, and among the drained ones
+-- a storage occurs once among the live ones, and once among the drained ones
 abbrev pub LiveStandsOnce : Type 0
 LiveStandsOnce = (C : Cluster) (H : Holdings) (b : ℕ) → has_repeats (live C H b) ≡ false
 

@@ -1,4 +1,4 @@
--- Laws of rounds one after another, with nothing told between them.
+-- Laws of rounds one after another, with no notice between them.
 use Rattle.std.specs.Prelude.{◌≡◌, ℕ, zero, suc, ◌+◌, ◌<◌}
 use Rattle.bm_base.specs.declared.replica.ReplicaId.{ReplicaId}
 use Rattle.bm_base.specs.declared.commands.Transfer.{Transfer}
@@ -6,17 +6,17 @@ use Rattle.bm_base.specs.State.{State}
 use Rattle.bm_base.specs.Replicas.{node_of}
 use Rattle.bm_base.specs.NextRound.{IsDeleteCommanded, IsTransferCommanded, after_round}
 
--- so many rounds later
+-- the state n rounds later
 abbrev pub after_rounds : ℕ → State → State
 after_rounds zero M = M
 after_rounds (suc n) M = after_round (after_rounds n M)
 
--- a delete is not commanded again however many rounds later
+-- no later round commands a delete again
 abbrev pub NoDeleteTwice : Type 0
 NoDeleteTwice = (M : State) (n : ℕ) (q : ReplicaId) → IsDeleteCommanded M q → IsDeleteCommanded (after_rounds n (after_round M)) q → ⊥
 
--- Of the rounds after that of t, the one behind n others chooses no copy of the block to the
--- target's node, while n + 1 is below `pend`.
+-- The round that is n + 1 rounds after that of t commands no copy of the block to the target's
+-- node, if n + 1 is below `pend`.
 abbrev pub NoTransferTwice : Type 0
 NoTransferTwice =
     (M : State) (n : ℕ) (t u : Transfer) → n + 1 < M.limits.pend → IsTransferCommanded M t → IsTransferCommanded (after_rounds n (after_round M)) u

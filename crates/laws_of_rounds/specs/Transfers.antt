@@ -16,28 +16,28 @@ use Rattle.bm_base.specs.Excess.{started}
 use Rattle.bm_base.specs.Rounds.{whole_round}
 use Rattle.bm_base.specs.NextRound.{IsAmong, IsTransferCommanded, transfers_chosen, transfers_commanded, live_marked, drained_marked}
 
--- what holds of each transfer of the next round, given those chosen before it
+-- a property of each transfer of the next round, given those chosen before it
 abbrev pub ForEachTransfer : (State → List Transfer → Transfer → Type 0) → Type 0
 ForEachTransfer P = (M : State) (front back : List Transfer) (t : Transfer) → transfers_chosen M ≡ front ++ t ∷ back → P M front t
 
--- How many.
+-- Numbers of transfers.
 
--- a round commands no more transfers than `work` for each alive node
+-- a round commands at most `work` transfers for each alive node
 abbrev pub AtMostWorkANode : Type 0
 AtMostWorkANode = (M : State) → length (transfers_commanded M) ≤ M.limits.work * len M.cluster.nodes
 
 -- Sources.
 
--- a transfer is of a known block, with its stamp, and its source holds a live replica of it or a
--- drained one
+-- a transfer is of a known block, with its stamp, and its source holds a live or drained replica of
+-- it
 abbrev pub SourceIsLiveOrDrained : Type 0
 SourceIsLiveOrDrained =
     ForEachTransfer (λ M _ t. ((has (live_marked M t.block) t.source ≡ true) ⊎ (has (drained_marked M t.block) t.source ≡ true))
     × ((i : BlockInfo) × (get M.holdings.blocks t.block ≡ Some i) × (t.stamp ≡ i.stamp)))
 
--- A drained replica is the source before every live one: where the source of a transfer is on a
--- node that does not drain, the node of each drained replica of the block is the source of four
--- transfers of the round already.
+-- A drained replica is the source before every live one: if the source of a transfer is on a node
+-- that does not drain, the node of each drained replica of the block is already the source of four
+-- transfers of the round.
 abbrev pub DrainedSourceGoesFirst : Type 0
 DrainedSourceGoesFirst =
     ForEachTransfer (λ M front t. (s n : ℕ) → has (drained_marked M t.block) s ≡ true → node_of M.cluster s ≡ Some n
@@ -49,8 +49,8 @@ AtMostFourFromANode = (M : State) → All (λ k. length k.transfers ≤ 4) (whol
 
 -- Targets.
 
--- the node of the target does not drain, has no replica of the block of any tag, is the target of
--- no transfer of it on its way, and of no other of it in the round
+-- the target's node does not drain, has no replica of the block of any tag and no pending transfer
+-- of it, and is the target of no other transfer of the block in the round
 pub record IsFreshNode (M : State) (front : List Transfer) (t : Transfer) : Type 0 where
   pub known : (n : ℕ) × (node_of M.cluster t.target ≡ Some n)
   pub not_draining : is_draining M.cluster t.target ≡ false
@@ -61,11 +61,11 @@ pub record IsFreshNode (M : State) (front : List Transfer) (t : Transfer) : Type
 abbrev pub TargetIsOnFreshNode : Type 0
 TargetIsOnFreshNode = ForEachTransfer IsFreshNode
 
--- the target of each transfer that a round commands stands on a node that does not drain
+-- the target of each transfer that a round commands is on a node that does not drain
 abbrev pub NoDrainingNodeIsATarget : Type 0
 NoDrainingNodeIsATarget = (M : State) (t : Transfer) → IsTransferCommanded M t → (n : ℕ) × (node_of M.cluster t.target ≡ Some n) × (drains M.cluster n ≡ false)
 
--- the lengths that are sent to a storage in a round fit what it has remaining
+-- the lengths that a round sends to a storage add up to at most its remaining bytes
 abbrev pub SentFits : Type 0
 SentFits =
     (M : State) (s : ℕ) (i : StorageInfo) → get M.cluster.storages s ≡ Some i
@@ -73,7 +73,7 @@ SentFits =
 
 -- Blocks.
 
--- how many transfers the next round chooses for a block, and how many are on their way as it
+-- the number of transfers that the next round chooses for a block, and of those pending as it
 -- chooses
 abbrev pub copies_chosen : State → ℕ → ℕ
 copies_chosen M b = count_by (λ t. t.block == b) (transfers_chosen M)
@@ -81,15 +81,16 @@ copies_chosen M b = count_by (λ t. t.block == b) (transfers_chosen M)
 abbrev pub copies_on_their_way : State → ℕ → ℕ
 copies_on_their_way M b = count_by (λ e. e.0.block == b) (entries (started M).holdings.pending)
 
--- A block that gets transfers in a round has with them, its live replicas and those on their way no
--- more than are wanted; or it has enough, on one rack, none is on its way, and it gets one.
+-- If a block gets transfers in a round, they are, with its live replicas and its pending transfers,
+-- no more than are wanted. Or it has enough replicas, on one rack, none is pending, and it gets
+-- one.
 abbrev pub NoMoreThanLacks : Type 0
 NoMoreThanLacks =
     (M : State) (b : ℕ) (i : BlockInfo) → get M.holdings.blocks b ≡ Some i → 1 ≤ copies_chosen M b
     → (length (live_marked M b) + copies_on_their_way M b + copies_chosen M b ≤ i.repl)
     ⊎ ((level M.cluster (started M).holdings b ≡ Some BadlyDistributed) × (copies_on_their_way M b ≡ 0) × (copies_chosen M b ≡ 1))
 
--- a badly distributed block, which stands on one rack, gets its copy on another rack
+-- a badly distributed block, which is on one rack, gets its copy on another rack
 abbrev pub SecondRack : Type 0
 SecondRack =
     ForEachTransfer (λ M _ t. level M.cluster (started M).holdings t.block ≡ Some BadlyDistributed

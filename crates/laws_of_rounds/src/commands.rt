@@ -7,9 +7,8 @@ pub fn each_node_its_own()
     ensures { law.EachNodeItsOwn }
 {}
 
-/// Of the transfers that a round commands a node that does not drain, those of blocks of other
-/// levels than the highest are among the first two. A node that drains may be commanded four of any
-/// level.
+/// If a node does not drain, transfers of blocks at other levels than the highest are among the
+/// first two that a round commands it. A node that drains may be commanded four at any level.
 pub fn first_two_of_a_node()
     ensures { law.FirstTwoOfANode }
 {}
@@ -30,7 +29,7 @@ pub fn ordered_is_commanded()
     ensures { law.OrderedIsCommanded }
 {}
 
-/// A transfer that a round commands is on its way once the round is over, since that round.
+/// A transfer that a round commands is pending after the round, with the round's number.
 pub fn commanded_transfer_is_pending()
     ensures { law.CommandedTransferIsPending }
 {}

@@ -18,8 +18,8 @@ pub fn last_good_replica_stays()
     ensures reached { AfterAllCalls law.LastGoodReplicaStays }
 {}
 
-/// And more: if a round in a lawful state commands the delete of a replica of a known block, as
-/// many replicas of the block as are wanted are live after the round, and one at least is wanted.
+/// And more: if a round in a lawful state commands the delete of a replica of a known block, at
+/// least the wanted number of its replicas are live after the round, and at least one is wanted.
 pub fn enough_stay_live()
     ensures lawful { InLawfulStates law.EnoughStayLive }
     ensures reached { AfterAllCalls law.EnoughStayLive }
@@ -30,7 +30,7 @@ pub fn live_replica_is_not_deleted()
     ensures { law.LiveReplicaIsNotDeleted }
 {}
 
-/// Nor of one that is drained after it.
+/// In any state, a round commands the delete of no replica that is drained after it.
 pub fn drained_replica_is_not_deleted()
     ensures { law.DrainedReplicaIsNotDeleted }
 {}
@@ -40,8 +40,8 @@ pub fn only_stray_excess_or_corrupt_is_deleted()
     ensures { law.OnlyWhatMayBeDeleted }
 {}
 
-/// A round commands the delete of a corrupt replica only if as many replicas of its block as are
-/// wanted are live.
+/// A round commands the delete of a corrupt replica only if at least the wanted number of its
+/// block's replicas are live.
 pub fn corrupt_waits_for_live()
     ensures lawful { InLawfulStates law.CorruptWaitsForLive }
     ensures reached { AfterAllCalls law.CorruptWaitsForLive }
@@ -52,14 +52,14 @@ pub fn none_is_ordered_again()
     ensures { law.NoneIsOrderedAgain }
 {}
 
-/// A round commands each node at most as many deletes as the limit.
+/// A round commands each node at most `invalidate` deletes.
 pub fn at_most_invalidate_a_node()
     ensures { law.AtMostInvalidateANode }
 {}
 
-/// In a lawful state, the delete of each replica that is stray, in excess, or corrupt with enough
-/// of its block live, is commanded, unless it is ordered already, or its node gets as many deletes
-/// as the limit, which is one at least.
+/// In a lawful state, a round commands the delete of each replica that is stray, in excess, or
+/// corrupt with enough live replicas of its block. The exceptions are a delete that is ordered
+/// already, and a node that gets the limit of deletes, which is at least one.
 pub fn only_the_limit_defers()
     ensures lawful { InLawfulStates law.OnlyTheLimitDefers }
     ensures reached { AfterAllCalls law.OnlyTheLimitDefers }

@@ -1,4 +1,4 @@
-// How urgently blocks want replicas.
+// How urgently blocks need replicas.
 ghost use Rattle.bm_base.specs.AllStates.{InLawfulStates, AfterAllCalls};
 ghost use Rattle.laws_of_rounds.specs.Levels as law;
 
@@ -7,7 +7,7 @@ pub fn unknown_block_has_no_level()
     ensures { law.UnknownBlockHasNoLevel }
 {}
 
-/// In a lawful state a known block has level 4 exactly where no replica of it is live, and none is
+/// In a lawful state a known block has level 4 exactly if no replica of it is live, and none is
 /// drained.
 pub fn level_four_is_no_usable_replica()
     ensures lawful { InLawfulStates law.LevelFourIsNoUsableReplica }
@@ -21,15 +21,16 @@ pub fn only_drained_is_level_zero()
     ensures reached { AfterAllCalls law.OnlyDrainedIsLevelZero }
 {}
 
-/// In a lawful state a known block has level 3 exactly if two or more replicas are wanted, as many
-/// are live, all of these are on one rack, and the alive nodes are on two racks or more.
+/// In a lawful state a known block has level 3 exactly if two or more replicas are wanted, at least
+/// that number is live, all live ones are on one rack, and the alive nodes are on two racks or
+/// more.
 pub fn level_three_is_one_rack()
     ensures lawful { InLawfulStates law.LevelThreeIsOneRack }
     ensures reached { AfterAllCalls law.LevelThreeIsOneRack }
 {}
 
-/// In a lawful state a known block has level 0, 1, 2 or 4 exactly where fewer replicas are live
-/// than are wanted.
+/// In any state a known block has level 0, 1, 2 or 4 exactly if fewer replicas are live than are
+/// wanted.
 pub fn short_of_replicas_is_level_zero_one_two_or_four()
     ensures { law.ShortOfReplicas }
 {}
@@ -50,7 +51,7 @@ pub fn one_replica_more_is_no_more_need()
     ensures { law.OneReplicaMoreIsNoMoreNeed }
 {}
 
-/// A block with one drained replica more is in no more need of replicas.
+/// A block with one more drained replica is in no more need of replicas.
 pub fn one_drained_replica_more_is_no_more_need()
     ensures { law.OneDrainedReplicaMoreIsNoMoreNeed }
 {}

@@ -1,4 +1,4 @@
-// Live and drained replicas: the words of the other laws.
+// Live and drained replicas: the terms of the other laws.
 ghost use Rattle.laws_of_rounds.specs.Live as law;
 
 /// A storage is among a block's live ones exactly if its replica of the block is good and not in

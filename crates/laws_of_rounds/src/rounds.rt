@@ -6,8 +6,8 @@ pub fn no_delete_twice()
     ensures { law.NoDeleteTwice }
 {}
 
-/// Without notices, a transfer is not commanded again, to whatever storage of the target's node,
-/// until `pend` rounds later.
+/// Without notices, no round commands a transfer again until `pend` rounds later, to whatever
+/// storage of the target's node.
 pub fn no_transfer_twice()
     ensures { law.NoTransferTwice }
 {}

@@ -1,31 +1,31 @@
-// Which live replicas a round marks as being too many.
+// Which live replicas a round marks as excess.
 ghost use Rattle.bm_base.specs.AllStates.{InLawfulStates, AfterAllCalls};
 ghost use Rattle.laws_of_rounds.specs.Surplus as law;
 
-/// Before a round marks, the live replicas are the good ones on nodes that do not drain, but those
-/// in excess whose delete was commanded: what an earlier round marked and did not command counts
-/// again.
+/// Before a round marks, the live replicas are the good ones on nodes that do not drain, except
+/// those in excess whose delete was commanded. What an earlier round marked and did not command
+/// counts again.
 pub fn live_before_marking()
     ensures { law.LiveBeforeMarking }
 {}
 
-/// And drained are those good ones on nodes that drain.
+/// The drained replicas are, by the same rule, the good ones on nodes that drain.
 pub fn drained_before_marking()
     ensures { law.DrainedBeforeMarking }
 {}
 
-/// Once a round has marked, a known block has at most as many live replicas as are wanted. Those in
+/// Once a round has marked, a known block has at most the wanted number of live replicas. Those in
 /// excess that were ordered keep their marks, and are not live.
 pub fn at_most_replication_is_live()
     ensures { law.AtMostReplicationIsLive }
 {}
 
-/// A round marks as many live replicas of a known block as it has beyond those that are wanted.
+/// If a known block has n live replicas more than are wanted, a round marks exactly n of them.
 pub fn surplus_is_marked()
     ensures { law.SurplusIsMarked }
 {}
 
-/// What is live once a round has marked was live before.
+/// A replica that is live once a round has marked was live before.
 pub fn marking_makes_none_live()
     ensures { law.MarkingMakesNoneLive }
 {}
@@ -37,7 +37,7 @@ pub fn last_of_rack_stays()
     ensures reached { AfterAllCalls law.LastOfRackStays }
 {}
 
-/// A round keeps as many live replicas of each known block as are wanted, or all of them if there
+/// A round leaves the wanted number of live replicas of each known block, or all of them if there
 /// are no more than that.
 pub fn round_leaves_enough_live()
     ensures { law.RoundLeavesEnoughLive }
@@ -54,12 +54,12 @@ pub fn drained_stay_drained()
     ensures { law.DrainedStayDrained }
 {}
 
-/// A replica in excess of which the delete was commanded stays in excess as a round marks.
+/// An excess replica whose delete was commanded stays in excess when a round marks.
 pub fn ordered_excess_stays()
     ensures { law.OrderedExcessStays }
 {}
 
-/// What else is in excess once a round has marked was live before it marked.
+/// Any other replica that is in excess once a round has marked was live before.
 pub fn other_excess_is_new()
     ensures { law.OtherExcessIsNew }
 {}

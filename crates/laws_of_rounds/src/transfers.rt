@@ -35,14 +35,13 @@ pub fn no_draining_node_is_a_target()
     ensures { law.NoDrainingNodeIsATarget }
 {}
 
-/// What a round sends to a storage fits what the storage had remaining.
+/// The lengths that a round sends to a storage add up to at most its remaining bytes.
 pub fn sent_fits()
     ensures { law.SentFits }
 {}
 
-/// A block never gets more transfers in a round than it lacks replicas, with the pending ones
-/// counted as there; one that has enough of them, but on one rack, gets one, and only if none is
-/// pending.
+/// A block never gets more transfers in a round than it lacks replicas, with pending ones counted.
+/// A block that has enough of them, but on one rack, gets one, and only if none is pending.
 pub fn no_more_than_lacks()
     ensures { law.NoMoreThanLacks }
 {}

@@ -1,4 +1,5 @@
--- One node brings so many storages that the check for repeats takes too many steps to compute: it is proved instead.
+-- One node brings so many storages that the check for repeats takes too many steps to compute. It
+-- is proved instead.
 use Rattle.std.specs.Prelude.{◌≡◌, ℕ, zero, suc, ◌+◌, ◌-◌, ◌<◌, ◌≤◌, false, nat_le, nat_lt, List, ◌∷◌, ◌++◌, map, length, Option, None}
 use Rattle.std.specs.List.{list_any}
 use Rattle.std.proofs.Common.{refl, ap, ◌∙◌, arith}
@@ -20,7 +21,7 @@ use Rattle.bm_base.specs.Runs.{run_of}
 use Rattle.worked_examples.specs.Script.{usual, registrations, heartbeats, ok}
 use Rattle.worked_examples.specs.Limits.{numbers_down, as_many_as_may_be, past_the_limit, storages_at_the_limit}
 
--- Falling numbers do not repeat.
+-- Descending numbers do not repeat.
 
 none_above : (last k n : ℕ) → last < n → has (numbers_down last k) n ≡ false
 none_above last zero n h = refl
@@ -30,7 +31,7 @@ once_down : (last k : ℕ) → k ≤ last → has_repeats (numbers_down last k) 
 once_down last zero h = refl
 once_down last (suc k) h = rw (none_above (last - 1) k last (omega arith)) (once_down (last - 1) k (omega arith))
 
--- when a register is accepted
+-- a register that passes each check is accepted
 register_accepted : (M : State) (n rack : ℕ) (ss : List ℕ) → knows_node M.cluster n ≡ false → has_repeats ss ≡ false
     → list_any (knows_storage M.cluster) ss ≡ false → nat_le MAX_NODES (len M.cluster.nodes) ≡ false
     → nat_lt MAX_STORAGES (len M.cluster.storages + length ss) ≡ false → nat_le last_number M.calls ≡ false
@@ -38,7 +39,7 @@ register_accepted : (M : State) (n rack : ℕ) (ss : List ℕ) → knows_node M.
 unfolding refusal_of cluster_checks block_checks calls_spent
 register_accepted M n rack ss a b c d e f = rw (a, b, c, d, e, f) refl
 
--- what an accepted event answers, before the answers to the calls behind it
+-- an accepted event answers what it did, and the later calls follow from its state
 accepted_first : (M : State) (e : Event) (ks : List Call) → refusal_of M e ≡ None
     → answers M (call.Apply e ∷ ks) ≡ answer.Done (done_by M e) ∷ answers (after_event M e) ks
 unfolding step
@@ -57,7 +58,7 @@ calls_of script = map (λ l. l.0) script
 abbrev answers_of : List (Call × Answer) → List Answer
 answers_of script = map (λ l. l.1) script
 
--- the four nodes are there
+-- the state with the four nodes
 abbrev four : State
 four = state_after (first_state usual) (calls_of begin)
 

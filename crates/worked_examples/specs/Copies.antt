@@ -6,7 +6,7 @@ use Rattle.bm_base.specs.declared.replica.Tag.TheVariants.{Good}
 use Rattle.bm_base.specs.declared.level.Level.TheVariants.{Highest}
 use Rattle.worked_examples.specs.Script.{◌gives◌, HoldsOnCluster, usual, heartbeat, remaining, add_block, received, level, round, list_replicas, ok, at_level, at_no_level, commands, copies_by, copy, replicas, replica}
 
--- one of three replicas is there, and two copies are commanded
+-- one of three wanted replicas exists, and two copies are commanded
 abbrev pub two_copies : List (Call × Answer)
 two_copies =
     add_block 7 3 gives ok 0 0

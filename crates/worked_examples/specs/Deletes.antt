@@ -6,7 +6,7 @@ use Rattle.bm_base.specs.declared.level.Level.TheVariants.{NoUsableReplica}
 use Rattle.bm_base.specs.declared.refusal.Refusal.TheVariants.{BlockKnown, StillStored, OldGeneration}
 use Rattle.worked_examples.specs.Script.{◌gives◌, HoldsOnCluster, usual, dead, add_block, delete_block, restamp, received, received_version, deleted, corrupt, report, level, round, places, list_corrupt, list_missing, list_excess, ok, at_level, commands, copies_by, copy, deletes_by, delete, blocks, storages, replica_ids, entry, refused}
 
--- a block has a replica more than wanted
+-- a block has one replica more than are wanted
 abbrev pub one_in_excess : List (Call × Answer)
 one_in_excess =
     add_block 7 2 gives ok 0 0

@@ -1,4 +1,5 @@
--- Nodes that drain: their replicas count no more and are copied to other nodes, until they can be taken away.
+-- Nodes that drain: their replicas no longer count as live, and are copied to other nodes until the
+-- node can be taken away.
 use Rattle.std.specs.Prelude.{[], ◌∷◌}
 use Rattle.bm_base.specs.declared.level.Level.TheVariants.{Highest}
 use Rattle.bm_base.specs.declared.refusal.Refusal.TheVariants.{UnknownNode}
@@ -23,7 +24,7 @@ draining_block_is_copied_and_retired = HoldsOnCluster usual (
     ∷ retired 9 gives refused UnknownNode
     ∷ [])
 
--- five blocks, each on three nodes; with work 2 for each of four nodes a round may command eight copies
+-- Five blocks, each on three nodes. With `work` 2 and four nodes, a round may command eight copies.
 abbrev pub draining_node_sends_four : Type 0
 draining_node_sends_four = HoldsOnCluster usual (
     add_block 1 4 gives ok 0 0

@@ -1,4 +1,4 @@
--- How urgently blocks want replicas.
+-- How urgently blocks need replicas.
 use Rattle.std.specs.Prelude.{◌≡◌, true, false, Some, None, List, [], ◌∷◌, ◌++◌}
 use Rattle.bm_base.specs.declared.call.Call.{Call}
 use Rattle.bm_base.specs.declared.call.Answer.{Answer}
@@ -31,7 +31,7 @@ levels_follow_replication = HoldsOnCluster usual (
     ∷ set_replication 6 0 gives refused UnknownBlock
     ∷ [])
 
--- both replicas of a block stand on one of the two racks
+-- both replicas of a block are on one of the two racks
 abbrev pub on_one_rack : List (Call × Answer)
 on_one_rack =
     add_block 7 2 gives ok 0 0
@@ -84,8 +84,8 @@ queue_follows_death = HoldsOnCluster (record usual { invalidate = 1 }) (
     ∷ level 2 gives at_level BadlyDistributed
     ∷ [])
 
--- Levels of counts: how many replicas are live, and how many drained, how many are wanted, on how many racks the live ones stand,
--- and whether nodes stand on several racks.
+-- Levels by counts: of live, drained and wanted replicas, of racks of the live ones, and whether
+-- nodes are on several racks.
 abbrev pub first_replica_makes_a_block_the_first_to_copy : Type 0
 first_replica_makes_a_block_the_first_to_copy =
     (level_of 0 0 3 0 true ≡ Some NoUsableReplica) × (level_of 1 0 3 1 true ≡ Some Highest) × (level_of 0 1 3 0 true ≡ Some Highest)

@@ -1,4 +1,4 @@
--- Worked rows: scripts and their answers, computed by the definitions of the state machine.
+-- Worked examples: scripts and their answers, computed by the definitions of the state machine.
 pub mod Script
 pub mod Levels
 pub mod Copies
@@ -7,5 +7,5 @@ pub mod Reports
 pub mod Refusals
 pub mod Limits
 pub mod Draining
--- Rows of one small cluster.
+-- Choices on one small cluster.
 pub mod Choices

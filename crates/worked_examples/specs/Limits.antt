@@ -1,4 +1,4 @@
--- How many nodes, storages, and entries and numbers of a report there may be.
+-- Limits of nodes, of storages, and of the entries and block numbers of a report.
 use Rattle.std.specs.Prelude.{ℕ, zero, suc, ◌+◌, ◌-◌, List, [], ◌∷◌, ◌++◌, map, replicate}
 use Rattle.std.specs.List.{range_with_len}
 use Rattle.bm_base.specs.declared.replica.Tag.TheVariants.{Good}
@@ -40,8 +40,8 @@ report_of_65536_entries = Holds usual (
     ∷ list_replicas gives replicas (replica 7 11 Good ∷ [])
     ∷ [])
 
--- One number more than the runs of a report may name, and as many as they may. The accepted call is the last that can be
--- counted, so that no number is entered.
+-- The first report names one number more than allowed, the second exactly the allowed number. The
+-- accepted call is the last that can be counted, so no number is entered.
 abbrev pub too_many_numbers_in_a_report : Type 0
 too_many_numbers_in_a_report = Holds (record usual { first_call = 18446744073709551614 }) (
     register 1 1 (11 ∷ []) gives ok 0 0
@@ -49,12 +49,13 @@ too_many_numbers_in_a_report = Holds (record usual { first_call = 18446744073709
     ∷ report 11 (run 1 1048576 1 ∷ []) gives refused CallsSpent
     ∷ [])
 
--- so many numbers down from the last
+-- k numbers, descending from `last`
 abbrev pub numbers_down : ℕ → ℕ → List ℕ
 numbers_down last zero = []
 numbers_down last (suc k) = last ∷ numbers_down (last - 1) k
 
--- with the four of the cluster these are 4,096 storages; they come in falling order, so that the definitions compute
+-- With the four of the cluster these are 4,096 storages. They are in descending order, so that the
+-- definitions compute.
 abbrev pub as_many_as_may_be : List ℕ
 as_many_as_may_be = numbers_down 5092 4092
 

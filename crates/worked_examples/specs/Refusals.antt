@@ -19,7 +19,8 @@ refusals_are_named = HoldsOnCluster usual (
     ∷ storage_failed 11 gives refused UnknownStorage
     ∷ [])
 
--- block 7 is known, and block 8 is not, but has a stray replica; of two checks that fail the first counts
+-- Block 7 is known. Block 8 is unknown, but has a stray replica. Of two checks that fail the first
+-- counts.
 abbrev pub first_failing_check_counts : Type 0
 first_failing_check_counts = HoldsOnCluster usual (
     add_block 7 3 gives ok 0 0
@@ -42,8 +43,8 @@ first_failing_check_counts = HoldsOnCluster usual (
     ∷ count_calls gives number 10
     ∷ [])
 
--- The ten accepted calls at its head are the last that can be counted. From then on each event whose other checks pass is
--- refused as such, any other as ever, and queries are answered.
+-- The first ten accepted calls are the last that can be counted. After them an event or round whose
+-- other checks pass is refused with `CallsSpent`, others as before, and queries are answered.
 abbrev pub spent_calls_are_checked_last : Type 0
 spent_calls_are_checked_last = HoldsOnCluster (record usual { first_call = 18446744073709551605 }) (
     add_block 7 3 gives ok 0 0
@@ -131,7 +132,7 @@ outside_ranges =
     ∷ record usual { pend = 1000001 }
     ∷ []
 
--- the least of each field, and the greatest
+-- the least and the greatest value of each field
 abbrev pub ends_of_ranges : List Config
 ends_of_ranges =
     record { shards = 1; workers = 1; work = 1; invalidate = 1; pend = 1; first_round = 0; first_call = 0 }

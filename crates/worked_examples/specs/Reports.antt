@@ -1,4 +1,4 @@
--- What notices and full block reports make of replicas.
+-- The replicas after notices and full block reports.
 use Rattle.std.specs.Prelude.{List, [], ◌∷◌, ◌++◌}
 use Rattle.bm_base.specs.declared.call.Call.{Call}
 use Rattle.bm_base.specs.declared.call.Answer.{Answer}
@@ -15,7 +15,8 @@ four_lines = Holds usual (
     ∷ places 7 gives storages (11 ∷ [])
     ∷ [])
 
--- a report names block 7 twice, lastly with an old generation, and a block 8 that is not known, but not block 9
+-- A report names block 7 twice, the last time with an old generation, and the unknown block 8, but
+-- not block 9.
 abbrev pub old_generation_last : List (Call × Answer)
 old_generation_last =
     add_block 7 3 gives ok 0 0
@@ -77,7 +78,7 @@ report_ends_with_wrong_stamp = HoldsOnCluster usual (one_in_excess ++ (
     ∷ list_corrupt gives replica_ids ((7, 21) ∷ [])
     ∷ []))
 
--- the entry behind the run tells another generation of one of its blocks
+-- the entry after the run has another generation for one of its blocks
 abbrev pub report_in_runs : Type 0
 report_in_runs = HoldsOnCluster usual (
     add_block 8 3 gives ok 0 0

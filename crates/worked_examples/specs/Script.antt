@@ -1,4 +1,4 @@
--- The words of scripts: calls of a manager, each beside the answer that it gives.
+-- Notation of scripts: calls of a manager, each with the answer that it gives.
 use Rattle.std.specs.Prelude.{◌≡◌, ℕ, true, false, List, [], ◌∷◌, ◌++◌, map, Some, None}
 use Rattle.bm_base.specs.declared.config.Config.{Config}
 use Rattle.bm_base.specs.declared.replica.Stamp.{Stamp}
@@ -20,21 +20,22 @@ use Rattle.bm_base.specs.State.{replica_at}
 use Rattle.bm_base.specs.Configuration.{standard}
 use Rattle.bm_base.specs.Runs.{run_of}
 
--- a call beside its answer
+-- a call with its answer
 infix 68 ◌gives◌
 abbrev pub ◌gives◌ : Call → Answer → Call × Answer
 k gives a = (k, a)
 
--- the calls of a script answer as it says, from the first state of a configuration on
+-- from the first state of a configuration, the calls of a script give the answers in it
 abbrev pub Holds : Config → List (Call × Answer) → Type 0
 Holds config script = run_of config (map (λ l. l.0) script) ≡ map (λ l. l.1) script
 
--- Parts of calls and of answers. Every block is 10 bytes long, and its generation is 1 where none is said.
+-- Parts of calls and of answers. Every block is 10 bytes long, and its generation is 1 unless
+-- another is given.
 
 abbrev pub stamp : ℕ → Stamp
 stamp generation = record { generation = generation; len = 10 }
 
--- the entry of one block, and that of a run of blocks
+-- the entries for one block and for a run of blocks
 abbrev pub entry : ℕ → ℕ → Entry
 entry block generation = record { from = block; to = block; stamp = stamp generation }
 
@@ -55,7 +56,7 @@ copy block source target = record { block = block; stamp = stamp 1; source = sou
 abbrev pub delete : ℕ → ℕ → Delete
 delete storage block = record { storage = storage; block = block }
 
--- what a node is commanded that has transfers alone, or deletes alone
+-- the commands of a node that has only transfers, or only deletes
 abbrev pub copies_by : ℕ → List Transfer → NodeCommands
 copies_by node transfers = record { node = node; transfers = transfers; deletes = [] }
 
@@ -144,11 +145,11 @@ count_rounds = call.Rounds
 
 -- Answers.
 
--- an event was accepted, and so many replicas came and went
+-- an event was accepted, with these numbers of added and removed replicas
 abbrev pub ok : ℕ → ℕ → Answer
 ok added removed = answer.Done (record { added = added; removed = removed })
 
--- a round was accepted: its number, and what it commands the nodes
+-- a round was accepted, with its number and the commands of nodes
 abbrev pub commands : ℕ → List NodeCommands → Answer
 commands number nodes = answer.Commanded (record { round = number; nodes = nodes })
 
@@ -199,7 +200,7 @@ registrations =
     ∷ register 4 2 (41 ∷ []) gives ok 0 0
     ∷ []
 
--- each storage has remaining for 1,000 bytes
+-- each storage has 1,000 bytes remaining
 abbrev pub heartbeats : List (Call × Answer)
 heartbeats =
     heartbeat 1 (remaining 11 1000 ∷ []) gives ok 0 0

@@ -3,19 +3,20 @@
 
 ghost use Rattle.worked_examples.specs.Copies as example;
 
-/// A block with one of three replicas is copied twice: first to the other rack, and then, since both racks will hold it,
-/// to the free storage with the least number.
+/// A block with one of three replicas is copied twice: first to the other rack, and then, since
+/// both racks will hold it, to the lesser of the two storages left.
 pub fn copies_span_two_racks()
     ensures { example.copies_span_two_racks }
 {}
 
-/// Once both copies have been received, the block has no level, and nothing more is commanded.
+/// Once both copies are received, the block has no level, and the next round commands nothing.
 pub fn copies_arrive()
     ensures { example.copies_arrive }
 {}
 
-/// A node that does not drain sends two copies in a round at most, or four of blocks with one live replica; and a round commands `work` copies
-/// at most for each alive node, all nodes together.
+/// A node that does not drain sends at most two copies in a round, or four if their blocks have one
+/// live replica. A round commands at most `work` copies for each alive node, counted over all
+/// nodes.
 pub fn stream_and_work_limits()
     ensures two_streams { example.two_streams_from_each_node }
     ensures four_streams { example.four_streams_for_the_most_urgent }
@@ -27,7 +28,8 @@ pub fn pending_transfer_expires()
     ensures { example.pending_transfer_expires }
 {}
 
-/// Only a storage with room for the block is a target, though it stands on the same rack; the second copy has none.
+/// Only a storage with enough free bytes for the block is a target, even on the same rack. The
+/// second copy has no such storage.
 pub fn targets_need_room()
     ensures { example.targets_need_room }
 {}

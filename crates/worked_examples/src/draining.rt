@@ -1,21 +1,24 @@
-// Nodes that drain: their replicas count no more and are copied to other nodes, until they can be taken away.
+// Nodes that drain: their replicas no longer count as live, and are copied to other nodes until the
+// node can be taken away.
 #![tactic(auto, unfolding(bm_base::specs::Runs::run_of))]
 
 ghost use Rattle.worked_examples.specs.Draining as example;
 
-/// A block whose only replica stands on a node that drains is not missing, but the first to be copied. Once its copy is there
-/// the node is retired. If it drains no more, both replicas count again, and one is too many.
+/// A block whose only replica is on a node that drains is not missing, but the first to be copied.
+/// Once its copy is received, the node is retired. If the node no longer drains, both replicas
+/// count again, and one is surplus.
 pub fn draining_block_is_copied_and_retired()
     ensures { example.draining_block_is_copied_and_retired }
 {}
 
-/// A node that drains is taken as the source first, and sends four copies in a round though their blocks are not the most
-/// urgent ones; the fifth is sent by another.
+/// A source on a node that drains comes first: the node sends four copies in a round, even of
+/// blocks that are not the most urgent. Another node sends the fifth.
 pub fn draining_node_sends_four()
     ensures { example.draining_node_sends_four }
 {}
 
-/// The copy on its way to a node that begins to drain is awaited no more, and is commanded anew to another node.
+/// When a node begins to drain, the pending copy to it is given up, and commanded again to another
+/// node.
 pub fn no_copy_to_a_draining_node()
     ensures { example.no_copy_to_a_draining_node }
 {}

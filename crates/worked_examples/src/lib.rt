@@ -1,7 +1,9 @@
-//! Worked examples: calls of a block manager beside the answers that they give, each computed by the definitions of `bm_base`.
+//! Worked examples: calls of a block manager with the answers that they give, each computed by the
+//! definitions of `bm_base`.
 //!
-//! The answers were worked out by hand from the rules in words. So each example checks the definitions, to which the block
-//! manager is proved. No function here does anything: its contract is the example.
+//! The answers were worked out by hand from the rules in words, so each example checks the
+//! definitions, to which the block manager is proved. No function here computes anything: its
+//! contract is the example.
 #![tactic(auto)]
 
 pub mod choices;
