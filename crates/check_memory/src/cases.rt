@@ -127,9 +127,9 @@ const TWO_COPIED_TWICE: &str = "Commanded(Commands { round: 1, nodes: Items { ve
     source: StorageId(21), target: StorageId(41) }] }, deletes: Items { vec: [] } }] } })";
 
 /// The round before commanded all deletes, and copies of blocks 2 and 3 to storage 31 and of block
-/// 4 to storage 11. Its second copy of block 4 was for node 2, which drains since then. So block 3
-/// lacks one copy: the drained replica is sent to node 1, the only node without one. Block 4 lacks
-/// one copy too, which only node 4 can take.
+/// 4 to storage 11. Its second copy of block 4 was for node 2, which began to drain after that. So
+/// block 3 lacks one copy: the drained replica is sent to node 1, the only node without one. Block
+/// 4 lacks one copy too, which only node 4 can take.
 const TWO_COPIED_ONCE: &str = "Commanded(Commands { round: 2, nodes: Items { vec: [\
     NodeCommands { node: NodeId(2), transfers: Items { vec: [\
     Transfer { block: BlockId(3), stamp: Stamp { generation: Gen(1), len: 10 }, \

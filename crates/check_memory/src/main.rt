@@ -2,8 +2,8 @@
 //! four run, one after the other.
 //!
 //! - `refused [TURNS]`: each call of a manager and of a view that takes memory, with one of its
-//!   allocations refused: the first, the second and so on to number `TURNS` (1 by default). A
-//!   refused call has changed no answer, and is accepted when it is made again.
+//!   allocations refused. Each of the first `TURNS` allocations is refused in turn (1 by default).
+//!   A refused call has changed no answer, and is accepted when it is made again.
 //! - `without`: every call that takes no memory, on tables of all sizes from 1 to 130 entries, so
 //!   that each capacity is once filled to its last entry.
 //! - `limits`: calls at their limits, with ample memory. None of them is refused. One more of each

@@ -7,8 +7,7 @@ use std::random::RandomSource;
 use std::sync::Wait;
 use std::thread::Threads;
 
-/// A script with its answers, worked out by hand. Each line before the script is answered by `ok 0
-/// 0`.
+/// A script with its answers, worked out by hand. The answer to each line before it is `ok 0 0`.
 pub struct Row {
     pub name: &'static str,
     pub config: Config,

@@ -59,8 +59,8 @@ fn run_noted<H: Threads + Wait + RandomSource + Sync>(
 /// What one read gives, what fails, and the numbers of reads, of writes and flushes, of bytes
 /// written and of bytes flushed. The failed read or call is the last one.
 const CASES: [(Pieces, Cause, [usize; 4]); 23] = [
-    // Each answer is flushed before the next line is read: the calls are a write and a flush for
-    // each line, and the flush at the end; the reads are four lines and the end of input.
+    // Each answer is flushed before the next line is read. The calls are a write and a flush for
+    // each line, and the flush at the end. The reads are four lines and the end of input.
     (Pieces::Lines, Cause::Nothing, [5, 9, 34, 34]),
     (Pieces::Lines, Cause::Config, [0, 0, 0, 0]),
     (Pieces::Lines, Cause::Read(0), [1, 0, 0, 0]),

@@ -43,7 +43,7 @@ enum Deed {
     DropHead(u32),
 }
 
-/// The same change many times.
+/// A change that is repeated for many numbers.
 #[derive(Clone, Copy)]
 enum Many {
     /// Adds this number of blocks from 10,000 on, each with a replica on storage 11.
@@ -84,7 +84,8 @@ enum Count {
 /// A change of an arena, or a question to it.
 #[derive(Clone, Copy)]
 enum Step {
-    /// Adds an entry for a block. For the blocks 7, 8 and 9 later steps know the slot.
+    /// Adds an entry for a block. Later steps know the slots of the blocks 7, 8 and 9 by these
+    /// numbers.
     Add(u64),
     Do(Deed),
     DoMany(Many),
@@ -316,7 +317,7 @@ fn one_of_many(
     }
 }
 
-/// `Fine` if each of the changes is.
+/// `Fine` if the change for each number is `Fine`.
 fn done_often(
     rt: &impl Abort,
     alloc: Global,

@@ -1,6 +1,6 @@
-//! Tests of the parts of a shard and of a round: what no clause promises, that no call is refused
-//! while there is memory, and answers that were worked out by hand. They are in a crate of their
-//! own, since each crate is proved once more with its tests.
+//! Tests of the parts of a shard and of a round: what no clause promises, and answers worked out by
+//! hand. No call may be refused while there is memory. They are in a crate of their own, since each
+//! crate is proved once more with its tests.
 #![tactic(auto)]
 
 #[cfg(test)]

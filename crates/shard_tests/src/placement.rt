@@ -542,7 +542,7 @@ static TARGETS: [Target<'static>; 18] = [
         level: Level::Highest,
         chosen: Some(31),
     },
-    // The copy of a badly distributed block goes to another rack.
+    // The copy of a badly distributed block can only go to another rack.
     Target {
         free: FOUR_NODES,
         draining: &[],

@@ -191,7 +191,7 @@ fn one_copy(rt: &impl Abort, alloc: Global) -> Chosen {
     }
 }
 
-/// Gives up the notice of a replica of another block, and of one of block 7 on the copy's target.
+/// Gives up the notice of a replica of an unknown block, and one of block 7 on the copy's target.
 fn give_up_notices(rt: &impl Abort, topology: &Topology, shard: &mut Shard)
     requires standing { StandsIn topology.now.cluster shard.old }
     ensures standing { StandsIn topology.now.cluster shard.new }

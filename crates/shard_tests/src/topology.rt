@@ -1,5 +1,5 @@
-// Each event that no check refuses is accepted with ample memory, and the cluster's answers are
-// those worked out by hand: a table of scenarios, each a list of steps with their expected answers.
+// With ample memory, each event that no check refuses is accepted, and the cluster's answers are
+// those worked out by hand. A table of scenarios, each a list of steps with their expected answers.
 use crate::support::check_step;
 use bm_base::{
     BlockId, Entry, Event, Gen, Items, NodeId, Rack, Refusal, Remaining, Stamp, StorageId,
